@@ -1,0 +1,6 @@
+-- What a refused call leaves of a list that it should extend.
+use Rattle.std.specs.Prelude.{◌≡◌, ℕ, List, length, take}
+
+-- what the old list held stands at the front of the new one
+pub record KeepsFront (old new : List ℕ) : Type 0 where
+  pub front : take (length old) new ≡ old
