@@ -1,0 +1,119 @@
+-- Each written value is read as the same.
+use Rattle.std.proofs.Common.{◌≡◌, ℕ, ◌*◌, ◌^◌, ◌<◌, ◌≤◌, Bool, true, false, cond, List, length, Option, Some, None, Result, Ok, Err, refl, ap, ◌∙◌, sym, arith}
+use Rattle.std.specs.Prelude.{nat_lt, nat_le, ◌==◌, ◌&&◌, ◌||◌}
+use Rattle.std.specs.List.{list_all}
+use Rattle.std.specs.Char.{is_ascii_digit}
+use Rattle.std.specs.Fmt.{decimal}
+use Rattle.std.proofs.lemmas.Fmt.{digits_decimal, digits_value-decimal, decimal_nonempty, length-decimal-le}
+use Rattle.std.proofs.lemmas.Bool.Decides.{nat_tests}
+use Rattle.geotransform.specs.Decimal.{number, number_of}
+use Rattle.geotransform.proofs.Numbers.{own}
+use Rattle.geotransform.specs.declared.types.PixelType.{PixelType}
+use Rattle.geotransform.specs.declared.types.PixelType.TheVariants.{Byte, UInt16, Int16, UInt32, Int32}
+use Rattle.esri_hdr.specs.declared.parts.HdrFault.{HdrFault}
+use Rattle.esri_hdr.specs.declared.parts.HdrFault.TheVariants.{BadValue, Unsupported, Limit}
+use Rattle.esri_hdr.specs.declared.parts.Layout.{Layout}
+use Rattle.esri_hdr.specs.declared.parts.Layout.TheVariants.{Bil, Bip, Bsq}
+use Rattle.lists_and_answers.specs.Answers.{◌>>=◌}
+use Rattle.esri_hdr.specs.Values.{or_fault, at_most, counted, number_in, side_in, bands_in, bits_in, big_in, layout_in, skip_in, signed_in, kind_of, row_in, band_row_in, total_row_in, gap_in, BandRowFits, TotalRowFits, GapFits}
+use Rattle.esri_hdr.specs.Head.{sample_len, IsSide}
+use Rattle.esri_hdr.specs.Text.{order_text, layout_text, sign_text}
+
+tested : (b : Bool) → b ≡ true → (n : ℕ) → cond b (Some n) None ≡ Some n
+tested b h n = ap (λ b. cond b (Some n) None) h
+
+number_of_again : (n : ℕ) → n < 10 ^ 18 → number_of (decimal n) ≡ Some n
+number_of_again n small =
+    let less : n < 2 ^ 64 = omega arith in
+    let some : nat_lt 0 (length (decimal n)) ≡ true = grind (arith, nat_tests, decimal_nonempty n less) in
+    let short : nat_le (length (decimal n)) 18 ≡ true = grind (arith, nat_tests, length-decimal-le 18 n (omega arith) small less) in
+    let digits : list_all is_ascii_digit (decimal n) ≡ true = digits_decimal own n less in
+    let all : (nat_lt 0 (length (decimal n)) && (nat_le (length (decimal n)) 18 && list_all is_ascii_digit (decimal n))) ≡ true = ap (λ b. b && (nat_le (length (decimal n)) 18 && list_all is_ascii_digit (decimal n))) some ∙ ap (λ b. b && list_all is_ascii_digit (decimal n)) short ∙ digits in
+    ap (λ b. cond b (Some (number (decimal n))) None) all ∙ ap Some (digits_value-decimal own n less)
+
+number_again : (n : ℕ) → n < 10 ^ 18 → number_in (decimal n) ≡ Ok n
+number_again n small = ap (or_fault BadValue) (number_of_again n small)
+
+at_most_again : (limit n : ℕ) → n ≤ limit → at_most limit n ≡ Ok n
+at_most_again limit n h = let no : nat_lt limit n ≡ false = grind (arith, nat_tests) in ap (λ b. cond b (Err Limit) (Ok n)) no
+
+counted_again : (limit n : ℕ) → 0 < n → n ≤ limit → counted limit n ≡ Ok n
+counted_again limit n some h = let no : (n == 0) ≡ false = grind (arith, nat_tests) in ap (λ b. cond b (Err BadValue) (at_most limit n)) no ∙ at_most_again limit n h
+
+pub side_again : (n : ℕ) → IsSide n → side_in (decimal n) ≡ Ok n
+unfolding side_in
+side_again n h = ap (λ (x : Result ℕ HdrFault). x >>= counted 4194304) (number_again n (omega arith)) ∙ counted_again 4194304 n h.0 h.1
+
+pub bands_again : (n : ℕ) → (0 < n) × (n ≤ 256) → bands_in (Some (decimal n)) ≡ Ok n
+unfolding bands_in
+bands_again n h = ap (λ (x : Result ℕ HdrFault). x >>= counted 256) (number_again n (omega arith)) ∙ counted_again 256 n h.0 h.1
+
+pub bits_again : (kind : PixelType) → bits_in (Some (decimal (8 * sample_len kind))) ≡ Ok (8 * sample_len kind)
+unfolding bits_in
+bits_again Byte = ap (λ (x : Result ℕ HdrFault). x >>= λ n. cond ((n == 8) || ((n == 16) || (n == 32))) (Ok n) (Err Unsupported)) (number_again 8 (omega arith))
+bits_again UInt16 = ap (λ (x : Result ℕ HdrFault). x >>= λ n. cond ((n == 8) || ((n == 16) || (n == 32))) (Ok n) (Err Unsupported)) (number_again 16 (omega arith))
+bits_again Int16 = ap (λ (x : Result ℕ HdrFault). x >>= λ n. cond ((n == 8) || ((n == 16) || (n == 32))) (Ok n) (Err Unsupported)) (number_again 16 (omega arith))
+bits_again UInt32 = ap (λ (x : Result ℕ HdrFault). x >>= λ n. cond ((n == 8) || ((n == 16) || (n == 32))) (Ok n) (Err Unsupported)) (number_again 32 (omega arith))
+bits_again Int32 = ap (λ (x : Result ℕ HdrFault). x >>= λ n. cond ((n == 8) || ((n == 16) || (n == 32))) (Ok n) (Err Unsupported)) (number_again 32 (omega arith))
+
+pub big_again : (big : Bool) → big_in (Some (order_text big)) ≡ Ok big
+unfolding big_in
+big_again true = refl
+big_again false = refl
+
+pub layout_again : (layout : Layout) → layout_in (Some (layout_text layout)) ≡ Ok layout
+unfolding layout_in
+layout_again Bil = refl
+layout_again Bip = refl
+layout_again Bsq = refl
+
+pub skip_again : (n : ℕ) → n ≤ 2 ^ 40 → skip_in (Some (decimal n)) ≡ Ok n
+unfolding skip_in
+skip_again n h = ap (λ (x : Result ℕ HdrFault). x >>= at_most (2 ^ 40)) (number_again n (omega arith)) ∙ at_most_again (2 ^ 40) n h
+
+abbrev pub is_signed : PixelType → Bool
+is_signed Byte = false
+is_signed UInt16 = false
+is_signed Int16 = true
+is_signed UInt32 = false
+is_signed Int32 = true
+
+pub signed_again : (kind : PixelType) (nodata : Option (List ℕ)) → signed_in (8 * sample_len kind) (Some (sign_text kind)) nodata ≡ Ok (is_signed kind)
+unfolding signed_in
+signed_again Byte nodata = refl
+signed_again UInt16 nodata = refl
+signed_again Int16 nodata = refl
+signed_again UInt32 nodata = refl
+signed_again Int32 nodata = refl
+
+pub kind_again : (kind : PixelType) → kind_of (8 * sample_len kind) (is_signed kind) ≡ kind
+unfolding kind_of
+kind_again Byte = refl
+kind_again UInt16 = refl
+kind_again Int16 = refl
+kind_again UInt32 = refl
+kind_again Int32 = refl
+
+row_again : (least n : ℕ) → least ≤ n → n ≤ 2 ^ 33 → row_in least (Some (decimal n)) ≡ Ok n
+unfolding row_in
+row_again least n h top =
+    let no : nat_lt n least ≡ false = grind (arith, nat_tests) in
+    ap (λ (x : Result ℕ HdrFault). x >>= λ n. cond (nat_lt n least) (Err BadValue) (at_most (2 ^ 33) n)) (number_again n (omega arith)) ∙ ap (λ b. cond b (Err BadValue) (at_most (2 ^ 33) n)) no ∙ at_most_again (2 ^ 33) n top
+
+pub band_row_again : (layout : Layout) (row n : ℕ) → BandRowFits layout row n → band_row_in layout row (Some (decimal n)) ≡ Ok n
+unfolding band_row_in
+band_row_again Bil row n h = row_again row n h.0 h.1
+band_row_again Bip row n h = ap Ok (sym h)
+band_row_again Bsq row n h = ap Ok (sym h)
+
+pub total_row_again : (layout : Layout) (bands row b n : ℕ) → TotalRowFits layout bands row b n → total_row_in layout bands row b (Some (decimal n)) ≡ Ok n
+unfolding total_row_in
+total_row_again Bil bands row b n h = row_again (bands * b) n h.0 h.1
+total_row_again Bip bands row b n h = row_again (row * bands) n h.0 h.1
+total_row_again Bsq bands row b n h = ap Ok (sym h)
+
+pub gap_again : (layout : Layout) (n : ℕ) → GapFits layout n → gap_in layout (Some (decimal n)) ≡ Ok n
+unfolding gap_in
+gap_again Bil n h = ap Ok (sym h)
+gap_again Bip n h = ap Ok (sym h)
+gap_again Bsq n h = skip_again n h

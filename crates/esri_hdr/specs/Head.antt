@@ -1,0 +1,177 @@
+-- The head that a header's text gives, or its first fault.
+use Rattle.std.specs.Prelude.{◌≡◌, ◌<◌, ◌≤◌, ◌⊎◌, IfSome, ℕ, ℤ, pos, neg_ℤ, ◌+ℤ◌, ◌-ℤ◌, ◌*◌, ◌/◌, ◌^◌, Bool, true, ◌&&◌, List, length, Option, Some, None, Result, Ok, Err, nat_lt, if◌then◌else◌, unsigned_abs, int_lt}
+use Rattle.std.specs.Option.{option_map}
+use Rattle.lists_and_answers.specs.Answers.{◌>>=◌}
+use Rattle.geotransform.specs.Decimal.{ticks_of, whole_of, IsRead}
+use Rattle.geotransform.specs.Print.{unit}
+use Rattle.geotransform.specs.Types.{is_in}
+use Rattle.geotransform.specs.Geo.{Transform}
+use Rattle.geotransform.specs.declared.types.Size.{Size}
+use Rattle.geotransform.specs.declared.types.PixelType.{PixelType}
+use Rattle.geotransform.specs.declared.types.PixelType.TheVariants.{Byte, UInt16, Int16, UInt32, Int32}
+use Rattle.esri_hdr.specs.declared.parts.HdrFault.{HdrFault}
+use Rattle.esri_hdr.specs.declared.parts.HdrFault.TheVariants.{MissingKey, BadValue, Limit}
+use Rattle.esri_hdr.specs.declared.parts.Layout.{Layout}
+use Rattle.esri_hdr.specs.declared.parts.RawGeo.{RawGeo}
+use Rattle.esri_hdr.specs.declared.parts.Shape.{Shape}
+use Rattle.esri_hdr.specs.declared.parts.Rows.{Rows}
+use Rattle.esri_hdr.specs.Lines.{Values, last_of}
+use Rattle.esri_hdr.specs.Values.{or_fault, side_in, bands_in, bits_in, big_in, layout_in, skip_in, signed_in, kind_of, band_row_in, total_row_in, gap_in, BandRowFits, TotalRowFits, GapFits}
+use Rattle.esri_hdr.specs.Keys as keys
+
+-- ULXMAP, ULYMAP
+unfoldable pub place_in : Option (List ℕ) → Result (Option ℤ) HdrFault
+place_in None = Ok None
+place_in (Some text) = do
+  v ← or_fault BadValue (ticks_of text)
+  Ok (Some v)
+
+-- XDIM, YDIM
+unfoldable pub step_in : Option (List ℕ) → Result ℤ HdrFault
+step_in None = Ok (pos unit)
+step_in (Some text) = do
+  v ← or_fault BadValue (ticks_of text)
+  if int_lt (pos 0) v then Ok v else Err BadValue
+
+-- whether the half of so many ticks is below 10^12 units in magnitude
+abbrev pub is_half_near : ℤ → Bool
+is_half_near twice = nat_lt (unsigned_abs twice) (2 * (10 ^ 12 * unit))
+
+-- the centre and the sizes of the first pixel, where both its coordinates stand; its outer corner stays below 10^12 units
+unfoldable pub geo_in : Option ℤ → Option ℤ → ℤ → ℤ → Result (Option RawGeo) HdrFault
+geo_in None uly xdim ydim = Ok None
+geo_in (Some ulx) None xdim ydim = Ok None
+geo_in (Some ulx) (Some uly) xdim ydim = if is_half_near (ulx +ℤ ulx -ℤ xdim) && is_half_near (uly +ℤ uly +ℤ ydim) then Ok (Some (record { ulx = ulx; uly = uly; xdim = xdim; ydim = ydim })) else Err BadValue
+
+-- a number, where there is one and the type has it
+abbrev pub when_in : PixelType → Option ℤ → Option ℤ
+when_in kind None = None
+when_in kind (Some n) = if is_in kind n then Some n else None
+
+-- NODATA, any text
+unfoldable pub nodata_in : PixelType → Option (List ℕ) → Option ℤ
+nodata_in kind None = None
+nodata_in kind (Some text) = when_in kind (whole_of text)
+
+-- the keys from NROWS to PIXELTYPE
+unfoldable pub shape_of : Values → Result Shape HdrFault
+shape_of value = do
+  rows ← or_fault MissingKey (value keys.nrows)
+  cols ← or_fault MissingKey (value keys.ncols)
+  h ← side_in rows
+  w ← side_in cols
+  bands ← bands_in (value keys.nbands)
+  bits ← bits_in (value keys.nbits)
+  big ← big_in (value keys.byteorder)
+  layout ← layout_in (value keys.layout)
+  skip ← skip_in (value keys.skipbytes)
+  signed ← signed_in bits (value keys.pixeltype) (value keys.nodata)
+  Ok (record { w = w; h = h; bands = bands; bits = bits; big = big; layout = layout; skip = skip; signed = signed })
+
+-- the bytes of a row of one band
+abbrev pub row_len : Shape → ℕ
+row_len s = s.w * (s.bits / 8)
+
+-- the keys from BANDROWBYTES to BANDGAPBYTES
+unfoldable pub rows_of : Shape → Values → Result Rows HdrFault
+rows_of s value = do
+  band_row ← band_row_in s.layout (row_len s) (value keys.bandrowbytes)
+  total_row ← total_row_in s.layout s.bands (row_len s) band_row (value keys.totalrowbytes)
+  gap ← gap_in s.layout (value keys.bandgapbytes)
+  Ok (record { band_row = band_row; total_row = total_row; gap = gap })
+
+-- the keys from ULXMAP to YDIM
+unfoldable pub geo_of : Values → Result (Option RawGeo) HdrFault
+geo_of value = do
+  ulx ← place_in (value keys.ulxmap)
+  uly ← place_in (value keys.ulymap)
+  xdim ← step_in (value keys.xdim)
+  ydim ← step_in (value keys.ydim)
+  geo_in ulx uly xdim ydim
+
+-- what a head holds
+pub record Head : Type 0 where
+  pub size : Size
+  pub bands : ℕ
+  pub kind : PixelType
+  pub big : Bool
+  pub layout : Layout
+  pub skip : ℕ
+  pub band_row : ℕ
+  pub total_row : ℕ
+  pub gap : ℕ
+  pub nodata : Option ℤ
+  pub geo : Option RawGeo
+
+-- the head of what the keys say
+abbrev pub head_from : Shape → Rows → Option RawGeo → Option (List ℕ) → Head
+head_from s r geo nodata = record { size = record { w = s.w; h = s.h }; bands = s.bands; kind = kind_of s.bits s.signed; big = s.big; layout = s.layout; skip = s.skip; band_row = r.band_row; total_row = r.total_row; gap = r.gap; nodata = nodata_in (kind_of s.bits s.signed) nodata; geo = geo }
+
+-- the head that the values of the keys give, or the first fault
+unfoldable pub head_of : Values → Result Head HdrFault
+head_of value = do
+  s ← shape_of value
+  r ← rows_of s value
+  geo ← geo_of value
+  Ok (head_from s r geo (value keys.nodata))
+
+-- the head that a text gives, or the first fault
+unfoldable pub esri_head : List ℕ → Result Head HdrFault
+esri_head text = if nat_lt 1048576 (length text) then Err Limit else head_of (last_of text)
+
+-- the bytes of a sample
+abbrev pub sample_len : PixelType → ℕ
+sample_len Byte = 1
+sample_len UInt16 = 2
+sample_len Int16 = 2
+sample_len UInt32 = 4
+sample_len Int32 = 4
+
+-- the rules of the row lengths and the gap, by the layout, the number of bands and the bytes of a band's row
+abbrev pub RowsFit : Layout → ℕ → ℕ → Rows → Type 0
+RowsFit layout bands row r = BandRowFits layout row r.band_row × TotalRowFits layout bands row r.band_row r.total_row × GapFits layout r.gap
+
+-- the rules of the centre and the sizes of a pixel
+pub record GeoFits (g : RawGeo) : Type 0 where
+  pub ulx : IsRead g.ulx
+  pub uly : IsRead g.uly
+  pub xdim : IsRead g.xdim
+  pub ydim : IsRead g.ydim
+  pub wide : int_lt (pos 0) g.xdim ≡ true
+  pub high : int_lt (pos 0) g.ydim ≡ true
+  pub left : is_half_near (g.ulx +ℤ g.ulx -ℤ g.xdim) ≡ true
+  pub top : is_half_near (g.uly +ℤ g.uly +ℤ g.ydim) ≡ true
+
+-- a width or a height
+abbrev pub IsSide : ℕ → Type 0
+IsSide n = (0 < n) × (n ≤ 4194304)
+
+-- the rules of a head
+pub record IsHead (h : Head) : Type 0 where
+  pub width : IsSide h.size.w
+  pub height : IsSide h.size.h
+  pub bands : (0 < h.bands) × (h.bands ≤ 256)
+  pub skip : h.skip ≤ 2 ^ 40
+  pub rows : RowsFit h.layout h.bands (h.size.w * sample_len h.kind) (record { band_row = h.band_row; total_row = h.total_row; gap = h.gap })
+  pub nodata : IfSome h.nodata (λ n. is_in h.kind n ≡ true)
+  pub geo : IfSome h.geo GeoFits
+
+-- the rules of what the first keys say
+pub record IsShape (s : Shape) : Type 0 where
+  pub width : IsSide s.w
+  pub height : IsSide s.h
+  pub bands : (0 < s.bands) × (s.bands ≤ 256)
+  pub skip : s.skip ≤ 2 ^ 40
+  pub bits : (s.bits ≡ 8) ⊎ ((s.bits ≡ 16) ⊎ (s.bits ≡ 32))
+
+-- half of a size of a pixel, which is above 0 and even
+abbrev pub half_of : ℤ → ℤ
+half_of size = pos (unsigned_abs size / 2)
+
+-- the geotransform of the pixel whose centre and sizes these are
+abbrev pub placed : RawGeo → Transform
+placed g = record { ox = g.ulx -ℤ half_of g.xdim; oy = g.uly +ℤ half_of g.ydim; dx = g.xdim; dy = neg_ℤ g.ydim }
+
+-- the geotransform of a head that has the centre of its first pixel
+abbrev pub geotransform_of : Head → Option Transform
+geotransform_of h = option_map placed h.geo

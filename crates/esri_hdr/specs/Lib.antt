@@ -1,0 +1,6 @@
+pub mod Keys
+pub mod Faults
+pub mod Lines
+pub mod Values
+pub mod Head
+pub mod Text

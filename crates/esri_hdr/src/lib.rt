@@ -1,0 +1,19 @@
+// ESRI headers of raw rasters, read and written.
+#![tactic(auto)]
+
+pub mod head;
+mod keys;
+pub mod law;
+mod lines;
+pub mod parts;
+pub mod reading;
+#[cfg(test)]
+mod tests;
+mod values;
+pub mod writing;
+
+pub use head::{RawHead, sample_len};
+pub use law::{halves_are_exact, written_reads_back};
+pub use parts::{HdrFault, Layout, RawGeo};
+pub use reading::read;
+pub use writing::write;

@@ -1,0 +1,224 @@
+// What the value of a key means, key by key.
+ghost use Rattle.std.specs.Prelude.{◌⊎◌, ◌≡◌, ℕ, ◌<◌, ◌≤◌, ◌+◌, ◌*◌, ◌/◌, ◌^◌, length, IfOk, List, Option};
+ghost use Rattle.std.specs.Option.{option_map};
+ghost use Rattle.geotransform.specs.Decimal.{number_of};
+ghost use Rattle.esri_hdr.specs.Values.{number_in, number_or, at_most, counted, side_in, bands_in, bits_in, order_of, big_in, layout_in, skip_in, is_negative, signed_in, kind_of, row_in, band_row_in, total_row_in, gap_in, BandRowFits, TotalRowFits, GapFits};
+
+use crate::lines::is_same;
+use crate::parts::{HdrFault, Layout};
+use geotransform::{PixelType, is_negative_decimal, read_number};
+
+fn number_in(text: &[u8]) -> Result<u64, HdrFault>
+    ensures { result ≡ number_in text.now }
+{
+    read_number(text).ok_or(HdrFault::BadValue)
+}
+
+fn number_or(default: u64, text: Option<&[u8]>) -> Result<u64, HdrFault>
+    ensures { result ≡ number_or default (option_map (λ v. v.now) text.entry) }
+{
+    match text {
+        None => Ok(default),
+        Some(text) => number_in(text),
+    }
+}
+
+fn at_most(limit: u64, n: u64) -> Result<u64, HdrFault>
+    ensures value { result ≡ at_most limit n }
+    ensures bound { IfOk result (λ x. x ≤ limit) }
+{
+    if limit < n {
+        Err(HdrFault::Limit)
+    } else {
+        Ok(n)
+    }
+}
+
+fn counted(limit: u32, n: u64) -> Result<u32, HdrFault>
+    ensures value { result ≡ counted limit n }
+    ensures bound { IfOk result (λ x. (0 < x) × (x ≤ limit)) }
+{
+    if n == 0 {
+        return Err(HdrFault::BadValue);
+    }
+    Ok(at_most(limit as u64, n)? as u32)
+}
+
+#[tactic(auto, unfolding(crate::specs::Values::side_in))]
+pub fn side_in(text: &[u8]) -> Result<u32, HdrFault>
+    ensures value { result ≡ side_in text.now }
+    ensures bound { IfOk result (λ n. (0 < n) × (n ≤ 4194304)) }
+{
+    counted(4_194_304, number_in(text)?)
+}
+
+#[tactic(auto, unfolding(crate::specs::Values::bands_in))]
+pub fn bands_in(text: Option<&[u8]>) -> Result<u32, HdrFault>
+    ensures value { result ≡ bands_in (option_map (λ v. v.now) text.entry) }
+    ensures bound { IfOk result (λ n. (0 < n) × (n ≤ 256)) }
+{
+    counted(256, number_or(1, text)?)
+}
+
+#[tactic(auto, unfolding(crate::specs::Values::bits_in))]
+pub fn bits_in(text: Option<&[u8]>) -> Result<u32, HdrFault>
+    ensures value { result ≡ bits_in (option_map (λ v. v.now) text.entry) }
+    ensures bound { IfOk result (λ n. (n ≡ 8) ⊎ ((n ≡ 16) ⊎ (n ≡ 32))) }
+{
+    let n = number_or(8, text)?;
+    if n == 8 || n == 16 || n == 32 {
+        Ok(n as u32)
+    } else {
+        Err(HdrFault::Unsupported)
+    }
+}
+
+fn order_of(c: u8) -> Result<bool, HdrFault>
+    ensures { result ≡ order_of c }
+{
+    match c {
+        b'i' | b'l' => Ok(false),
+        b'm' | b'b' => Ok(true),
+        _ => Err(HdrFault::BadValue),
+    }
+}
+
+#[tactic(auto, unfolding(crate::specs::Values::big_in))]
+pub fn big_in(text: Option<&[u8]>) -> Result<bool, HdrFault>
+    ensures { result ≡ big_in (option_map (λ v. v.now) text.entry) }
+{
+    match text {
+        None => Ok(false),
+        Some([]) => Err(HdrFault::BadValue),
+        Some([first, ..]) => order_of(first.to_ascii_lowercase()),
+    }
+}
+
+#[tactic(auto, unfolding(crate::specs::Values::layout_in))]
+pub fn layout_in(text: Option<&[u8]>) -> Result<Layout, HdrFault>
+    ensures { result ≡ layout_in (option_map (λ v. v.now) text.entry) }
+{
+    let Some(text) = text else {
+        return Ok(Layout::Bil);
+    };
+    if is_same(text, b"BIL") {
+        return Ok(Layout::Bil);
+    }
+    if is_same(text, b"BIP") {
+        return Ok(Layout::Bip);
+    }
+    if is_same(text, b"BSQ") {
+        return Ok(Layout::Bsq);
+    }
+    Err(HdrFault::BadValue)
+}
+
+#[tactic(auto, unfolding(crate::specs::Values::skip_in))]
+pub fn skip_in(text: Option<&[u8]>) -> Result<u64, HdrFault>
+    ensures value { result ≡ skip_in (option_map (λ v. v.now) text.entry) }
+    ensures bound { IfOk result (λ n. n ≤ 2 ^ 40) }
+{
+    at_most(1 << 40, number_or(0, text)?)
+}
+
+fn is_negative(text: Option<&[u8]>) -> bool
+    ensures { result ≡ is_negative (option_map (λ v. v.now) text.entry) }
+{
+    match text {
+        None => false,
+        Some(text) => is_negative_decimal(text),
+    }
+}
+
+#[tactic(auto, unfolding(crate::specs::Values::signed_in))]
+pub fn signed_in(bits: u32, text: Option<&[u8]>, nodata: Option<&[u8]>) -> Result<bool, HdrFault>
+    ensures { result ≡ signed_in bits (option_map (λ v. v.now) text.entry) (option_map (λ v. v.now) nodata.entry) }
+{
+    let Some(text) = text else {
+        return Ok(bits > 8 && is_negative(nodata));
+    };
+    if is_same(text, b"SIGNEDINT") {
+        return if bits == 8 {
+            Err(HdrFault::Unsupported)
+        } else {
+            Ok(true)
+        };
+    }
+    if is_same(text, b"UNSIGNEDINT") {
+        return Ok(false);
+    }
+    if is_same(text, b"FLOAT") {
+        return Err(HdrFault::Unsupported);
+    }
+    Err(HdrFault::BadValue)
+}
+
+#[tactic(auto, unfolding(crate::specs::Values::kind_of))]
+pub fn kind_of(bits: u32, signed: bool) -> PixelType
+    ensures { result ≡ kind_of bits signed }
+{
+    match (bits, signed) {
+        (8, _) => PixelType::Byte,
+        (16, true) => PixelType::Int16,
+        (16, false) => PixelType::UInt16,
+        (_, true) => PixelType::Int32,
+        (_, false) => PixelType::UInt32,
+    }
+}
+
+#[tactic(auto, unfolding(crate::specs::Values::row_in))]
+fn row_in(least: u64, text: Option<&[u8]>) -> Result<u64, HdrFault>
+    ensures value { result ≡ row_in least (option_map (λ v. v.now) text.entry) }
+    ensures bound { IfOk result (λ n. (least ≤ n) × (n ≤ 2 ^ 33)) }
+{
+    let n = number_or(least, text)?;
+    if n < least {
+        return Err(HdrFault::BadValue);
+    }
+    at_most(1 << 33, n)
+}
+
+#[tactic(auto, unfolding(crate::specs::Values::band_row_in))]
+pub fn band_row_in(layout: Layout, row: u64, text: Option<&[u8]>) -> Result<u64, HdrFault>
+    requires { row ≤ 2 ^ 33 }
+    ensures value { result ≡ band_row_in layout row (option_map (λ v. v.now) text.entry) }
+    ensures bound { IfOk result (λ n. n ≤ 2 ^ 33) }
+    ensures fits { IfOk result (BandRowFits layout row) }
+{
+    match layout {
+        Layout::Bil => row_in(row, text),
+        Layout::Bip | Layout::Bsq => Ok(row),
+    }
+}
+
+#[tactic(auto, unfolding(crate::specs::Values::total_row_in))]
+pub fn total_row_in(
+    layout: Layout,
+    bands: u32,
+    row: u64,
+    band_row: u64,
+    text: Option<&[u8]>,
+) -> Result<u64, HdrFault>
+    requires bands { bands ≤ 256 }
+    requires row { row ≤ 2 ^ 33 }
+    requires band_row { band_row ≤ 2 ^ 33 }
+    ensures fits { IfOk result (TotalRowFits layout bands row band_row) }
+    ensures value { result ≡ total_row_in layout bands row band_row (option_map (λ v. v.now) text.entry) }
+{
+    match layout {
+        Layout::Bil => row_in(bands as u64 * band_row, text),
+        Layout::Bip => row_in(row * bands as u64, text),
+        Layout::Bsq => Ok(row),
+    }
+}
+
+#[tactic(auto, unfolding(crate::specs::Values::gap_in))]
+pub fn gap_in(layout: Layout, text: Option<&[u8]>) -> Result<u64, HdrFault>
+    ensures fits { IfOk result (GapFits layout) }
+    ensures value { result ≡ gap_in layout (option_map (λ v. v.now) text.entry) }
+{
+    match layout {
+        Layout::Bil | Layout::Bip => Ok(0),
+        Layout::Bsq => skip_in(text),
+    }
+}

@@ -1,0 +1,5 @@
+pub mod Numbers
+pub mod Written
+pub mod Floors
+pub mod Named
+pub mod RoundTrip

@@ -1,0 +1,6 @@
+pub mod Types
+pub mod Decimal
+pub mod Parts
+pub mod Print
+pub mod Places
+pub mod Geo

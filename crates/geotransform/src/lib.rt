@@ -1,0 +1,21 @@
+// Ticks, decimal texts, types of samples and geotransforms.
+#![tactic(auto)]
+
+pub mod decimal;
+mod faults;
+mod geo;
+mod parts;
+mod places;
+pub mod print;
+#[cfg(test)]
+mod tests;
+pub mod types;
+mod units;
+
+pub use decimal::{is_decimal, is_negative_decimal, read_decimal, read_number, read_whole};
+pub use faults::{PlanFault, Unfit};
+pub use geo::{GeoTransform, corner_is_located};
+pub use places::{floor_is_exact, floor_of, half, half_is_nearest, round16};
+pub use print::{print_decimal, print_short, short_reads_back};
+pub use types::{PixelType, Rect, Sample, Size, clamp, holds, name_reads_back};
+pub use units::Ticks;

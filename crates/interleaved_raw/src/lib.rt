@@ -1,0 +1,12 @@
+// Samples of raw rasters, interleaved by line, by sample or by band.
+#![tactic(auto)]
+
+pub mod laws;
+pub mod places;
+pub mod samples;
+#[cfg(test)]
+mod tests;
+
+pub use esri_hdr::sample_len;
+pub use places::{needed_len, position, stride};
+pub use samples::{decode_run, decode_sample, encode_run};

@@ -1,0 +1,10 @@
+use Rattle.std.proofs.Common.{◌≤◌, take}
+use Rattle.outside.specs.Streams.{Gets, joined}
+use Rattle.outside.proofs.streams.put_all.Given as goal
+
+-- what was put so far
+abbrev pub invariant-loop-part : goal.invariant-loop-part
+invariant-loop-part g l = record {
+  got : Gets (joined (take l.part-index l.parts)) (g.S.Sink.got l.fn.sink) (g.S.Sink.got l.sink);
+  later : g.S.Sink.faults l.fn.sink ≤ g.S.Sink.faults l.sink;
+}

@@ -1,0 +1,9 @@
+pub mod Causes
+pub mod Histories
+pub mod Memory
+pub mod Names
+pub mod Outside
+pub mod Paths
+pub mod Plans
+pub mod Streams
+pub mod Tallies

@@ -1,0 +1,57 @@
+-- Paths and their normal forms, by their parts.
+use Rattle.std.specs.Prelude.{ℕ, ◌≡◌, ◌≤◌, ◌==◌, ◌-◌, Bool, false, not, ◌||◌, List, [], ◌∷◌, ◌++◌, length, take, drop, map, flat_map, codes, bytes_eq, slice_get, Option, Some, None, if◌then◌else◌}
+use Rattle.std.specs.List.{slice_split}
+use denote.Ref.{Bor}
+
+-- the parts that references stand for
+abbrev pub seen : List (Bor (List ℕ)) → List (List ℕ)
+seen parts = map (λ p. p.now) parts
+
+-- it is there, and isn't ..
+abbrev pub is_other : Option (List ℕ) → Bool
+is_other None = false
+is_other (Some part) = not (bytes_eq part (codes ".."))
+
+-- there is a last part, and it isn't ..
+abbrev pub is_kept : List (List ℕ) → Bool
+is_kept parts = is_other (slice_get parts (length parts - 1))
+
+-- Empty parts and . are dropped. A part .. removes the part before it, where that isn't ..; at the front of an absolute path it is dropped, at the front of another it stays.
+abbrev pub with_part : Bool → List (List ℕ) → List ℕ → List (List ℕ)
+with_part absolute parts part = if bytes_eq part [] || bytes_eq part (codes ".") then parts
+    else if not (bytes_eq part (codes "..")) then parts ++ part ∷ []
+    else if is_kept parts then take (length parts - 1) parts
+    else if not absolute then parts ++ codes ".." ∷ [] else parts
+
+-- the parts that stay, of those before and those that follow, in order
+abbrev pub parts_of : Bool → List (List ℕ) → List (List ℕ) → List (List ℕ)
+parts_of absolute before [] = before
+parts_of absolute before (part ∷ parts) = parts_of absolute (with_part absolute before part) parts
+
+-- the text's parts between its slashes
+abbrev pub pieces : List ℕ → List (List ℕ)
+pieces text = slice_split (λ b. b == 47) text
+
+-- a slash before each part
+abbrev pub joined : List (List ℕ) → List ℕ
+joined parts = flat_map (λ p. 47 ∷ p) parts
+
+-- it begins with a slash
+abbrev pub is_absolute : List ℕ → Bool
+is_absolute [] = false
+is_absolute (b ∷ bs) = b == 47
+
+-- the parts with slashes between them, and one at the front of an absolute path; no part at all is / or .
+abbrev pub spelled : Bool → List (List ℕ) → List ℕ
+spelled absolute [] = if absolute then codes "/" else codes "."
+spelled absolute (p ∷ ps) = if absolute then joined (p ∷ ps) else drop 1 (joined (p ∷ ps))
+
+-- the normal form of a path
+unfoldable pub normal : List ℕ → List ℕ
+normal text = spelled (is_absolute text) (parts_of (is_absolute text) [] (pieces text))
+
+-- a text that is the name of a file: in its normal form, and of 1 to 4,096 bytes
+pub record IsName (text : List ℕ) : Type 0 where
+  pub is_normal : normal text ≡ text
+  pub some : 1 ≤ length text
+  pub fits : length text ≤ 4096

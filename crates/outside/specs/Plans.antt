@@ -1,0 +1,67 @@
+-- Which calls of a fake fail.
+use Rattle.std.specs.Prelude.{ℕ, ◌⊎◌, max, List, Contains}
+use Rattle.outside.specs.Causes.{one_more}
+use Rattle.outside.specs.declared.plan.Failing.{Failing}
+use Rattle.outside.specs.declared.plan.Failing.TheVariants.{Call, Of}
+use Rattle.outside.specs.declared.plan.Listed.{Listed}
+use Rattle.outside.specs.declared.plan.Made.{Made}
+use Rattle.outside.specs.declared.plan.Method.{Method}
+use Rattle.outside.specs.declared.plan.Method.TheVariants.{Open, ReadAt, Create, Grow, WriteAt, Append, DraftRead, Publish, Take, Put}
+
+-- the number of calls of a method
+abbrev pub number_of : Made → Method → ℕ
+number_of made Open = made.«open»
+number_of made ReadAt = made.read_at
+number_of made Create = made.create
+number_of made Grow = made.grow
+number_of made WriteAt = made.write_at
+number_of made Append = made.append
+number_of made DraftRead = made.draft_read
+number_of made Publish = made.publish
+number_of made Take = made.take
+number_of made Put = made.put
+
+-- one more call of a method
+abbrev pub counted : Made → Method → Made
+counted made Open = record made { all = one_more made.all; «open» = one_more made.«open» }
+counted made ReadAt = record made { all = one_more made.all; read_at = one_more made.read_at }
+counted made Create = record made { all = one_more made.all; create = one_more made.create }
+counted made Grow = record made { all = one_more made.all; grow = one_more made.grow }
+counted made WriteAt = record made { all = one_more made.all; write_at = one_more made.write_at }
+counted made Append = record made { all = one_more made.all; append = one_more made.append }
+counted made DraftRead = record made { all = one_more made.all; draft_read = one_more made.draft_read }
+counted made Publish = record made { all = one_more made.all; publish = one_more made.publish }
+counted made Take = record made { all = one_more made.all; take = one_more made.take }
+counted made Put = record made { all = one_more made.all; put = one_more made.put }
+
+-- the greater number of two, each by itself
+abbrev pub later_of : Made → Made → Made
+later_of a b = record {
+  all = max a.all b.all;
+  «open» = max a.«open» b.«open»;
+  read_at = max a.read_at b.read_at;
+  create = max a.create b.create;
+  grow = max a.grow b.grow;
+  write_at = max a.write_at b.write_at;
+  append = max a.append b.append;
+  draft_read = max a.draft_read b.draft_read;
+  publish = max a.publish b.publish;
+  take = max a.take b.take;
+  put = max a.put b.put;
+}
+
+-- the list of a plan
+abbrev pub failing_of : Listed → List Failing
+failing_of plan = plan.failing
+
+-- the calls that were made under a plan
+abbrev pub made_of : Listed → Made
+made_of plan = plan.made
+
+-- how many of them failed
+abbrev pub faults_of : Listed → ℕ
+faults_of plan = plan.faults
+
+-- the list has the last call, which was one of this method, by its number among all or among those of the method
+abbrev pub IsPlanned : List Failing → Made → Method → Type 0
+IsPlanned failing made method = Contains failing (Call made.all) ⊎ Contains failing (Of method (number_of made method))

@@ -1,0 +1,59 @@
+// A sink in memory of which no call fails.
+ghost use Rattle.std.specs.Prelude.{◌≡◌, ◌++◌, [], Some, true, IfSome};
+ghost use Rattle.outside.specs.Histories.{bytes_of};
+
+use crate::history::History;
+use crate::{Failed, Sink};
+use std::alloc::Global;
+
+/// A sink of which no call fails: its count of faults is always 0. It tells all that it got, and keeps it in memory as
+/// long as memory isn't refused.
+#[derive(Drop)]
+pub struct CalmSink {
+    bytes: Vec<u8>,
+    whole: bool,
+    history: History<u8, ()>,
+    ghost kept: { whole ≡ true → bytes.items ≡ bytes_of history.items },
+}
+
+// Notes these bytes, one after another.
+fn note(history: &mut History<u8, ()>, bytes: &[u8])
+    ensures { bytes_of history.new.items ≡ bytes_of history.old.items ++ bytes.now }
+{
+    for byte in bytes {
+        *history = history.and(byte, &());
+    }
+}
+
+impl CalmSink {
+    /// A sink that got nothing yet.
+    pub fn new(alloc: Global) -> Self
+        ensures got { ⟦<CalmSink as Sink>⟧.got result ≡ Some [] }
+    {
+        CalmSink {
+            bytes: Vec::new(alloc),
+            whole: true,
+            history: History::new(),
+        }
+    }
+
+    /// All the bytes that it got; None where memory was refused on the way.
+    pub fn got(&self) -> Option<&[u8]>
+        ensures got { IfSome result (λ bytes. ⟦<CalmSink as Sink>⟧.got self.now ≡ Some bytes.now) }
+    {
+        if self.whole { Some(&self.bytes) } else { None }
+    }
+}
+
+impl Sink for CalmSink {
+    ghost got = { λ s. Some (bytes_of s.history.items) };
+
+    ghost faults = { λ _. 0 };
+
+    fn put(&mut self, bytes: &[u8]) -> Result<(), Failed> {
+        let kept = self.bytes.extend_from_slice(bytes).is_ok();
+        self.whole = self.whole && kept;
+        note(&mut self.history, bytes);
+        Ok(())
+    }
+}

@@ -1,0 +1,37 @@
+// The outside of the program: files by name, an input, and sinks.
+#![tactic(auto)]
+
+#[cfg(test)]
+mod calls;
+mod calm_sink;
+mod disk;
+#[cfg(test)]
+mod disk_tests;
+mod folder;
+mod history;
+mod memory;
+mod memory_streams;
+mod name;
+#[cfg(test)]
+mod name_tests;
+mod path;
+mod plan;
+mod standard;
+mod streams;
+mod system;
+mod tally;
+#[cfg(test)]
+mod tests;
+mod text;
+
+pub use calm_sink::CalmSink;
+pub use disk::{DiskDraft, DiskFile, DiskFolder};
+pub use folder::{Failed, Folder, OpenFault, WriteFault};
+pub use memory::{CalmFolder, MemDraft, MemFile, MemFolder, MemoryFolder};
+pub use memory_streams::{CalmInput, MemInput, MemSink, MemoryInput};
+pub use name::{Ext, Name, NameFault, Names};
+pub use plan::{Failing, Listed, Made, Method, Never, Plan};
+pub use standard::{StdInput, StdSink};
+pub use streams::{Input, Sink, put_all};
+pub use tally::Tally;
+pub use text::Text;

@@ -1,0 +1,86 @@
+// Normal forms of paths.
+ghost use Rattle.std.specs.Prelude.{◌≡◌, IfOk, OnOk, string_bytes, []};
+ghost use Rattle.outside.specs.Paths.{seen, with_part, parts_of, pieces, joined, normal, is_kept};
+
+use std::alloc::{AllocError, Global};
+
+// Whether the last part is one that `..` removes.
+fn ends_kept(parts: &[&str]) -> bool
+    ensures { result ≡ is_kept (seen parts.now) }
+{
+    match parts.last() {
+        Some(last) => *last != "..",
+        None => false,
+    }
+}
+
+// Takes one part more.
+#[tactic(auto, using(crate::proofs::PathParts::parts))]
+fn take_part<'a>(absolute: bool, parts: &mut Vec<&'a str>, part: &'a str) -> Result<(), AllocError>
+    ensures ok { OnOk result (seen parts.new.items ≡ with_part absolute (seen parts.old.items) part.now) }
+{
+    if part.is_empty() || part == "." {
+        return Ok(());
+    }
+    if part != ".." {
+        parts.push(part)?;
+        return Ok(());
+    }
+    if ends_kept(parts) {
+        parts.pop();
+        return Ok(());
+    }
+    if !absolute {
+        parts.push("..")?;
+    }
+    Ok(())
+}
+
+// The parts between slashes.
+fn cut(alloc: Global, text: &str) -> Result<Vec<&str>, AllocError>
+    ensures { IfOk result (λ parts. seen parts.items ≡ pieces text.now) }
+{
+    text.split('/').collect(alloc)
+}
+
+// The parts that stay.
+fn normal_parts(alloc: Global, absolute: bool, text: &str) -> Result<Vec<&str>, AllocError>
+    ensures { IfOk result (λ parts. seen parts.items ≡ parts_of absolute [] (pieces text.now)) }
+{
+    let all = cut(alloc, text)?;
+    let mut parts = Vec::new(alloc);
+    for part in &all {
+        take_part(absolute, &mut parts, part)?;
+    }
+    Ok(parts)
+}
+
+// The parts with a slash before each.
+fn join(alloc: Global, parts: &[&str]) -> Result<String, AllocError>
+    ensures { IfOk result (λ text. string_bytes text ≡ joined (seen parts.now)) }
+{
+    let mut text = String::from_str(alloc, "")?;
+    for part in parts {
+        text.push_str("/")?;
+        text.push_str(part)?;
+    }
+    Ok(text)
+}
+
+/// The normal form of a path.
+#[tactic(auto, unfolding(crate::specs::Paths::normal))]
+pub fn normalise(alloc: Global, text: &str) -> Result<String, AllocError>
+    ensures { IfOk result (λ path. string_bytes path ≡ normal text.now) }
+{
+    let absolute = text.as_bytes().first() == Some(&b'/');
+    let parts = normal_parts(alloc, absolute, text)?;
+    if parts.is_empty() {
+        return String::from_str(alloc, if absolute { "/" } else { "." });
+    }
+    let slashed = join(alloc, &parts)?;
+    if absolute {
+        return Ok(slashed);
+    }
+    let (_, rest) = slashed.as_str().split_at(1);
+    String::from_str(alloc, rest)
+}

@@ -1,0 +1,178 @@
+// A folder that counts calls of the one that it holds, and tells what that one tells.
+ghost use Rattle.std.specs.Prelude.{◌≡◌, IfOk};
+ghost use Rattle.outside.specs.Causes.{HasCause, Absorbed, one_more, added};
+ghost use Rattle.outside.specs.Outside.{Opened, IsLong, NotThere, IsView};
+ghost use Rattle.outside.specs.Tallies.{opens_of};
+
+use crate::{Failed, Folder, Name, OpenFault, WriteFault};
+use std::alloc::AllocError;
+
+/// A folder around another. It counts the calls of `open`, `read_at` and `write_at`, its own and those of the views
+/// that it absorbed; each number stands still at 2^64 - 1.
+#[derive(Drop)]
+pub struct Tally<F> {
+    inner: F,
+    opens: u64,
+    reads: u64,
+    writes: u64,
+}
+
+impl<F: Folder> Tally<F> {
+    /// Counts the calls of this folder from now on.
+    pub fn new(inner: F) -> Self
+        ensures names { ⟦<Tally<F> as Folder>⟧.names result ≡ F.names inner }
+        ensures faults { ⟦<Tally<F> as Folder>⟧.faults result ≡ F.faults inner }
+        ensures opens { opens_of result ≡ 0 }
+        ensures reads { ⟦<Tally<F> as Folder>⟧.read_calls result ≡ 0 }
+        ensures writes { ⟦<Tally<F> as Folder>⟧.write_calls result ≡ 0 }
+    {
+        Tally {
+            inner,
+            opens: 0,
+            reads: 0,
+            writes: 0,
+        }
+    }
+
+    /// The number of `open` calls.
+    pub fn opens(&self) -> u64
+        ensures opens { result ≡ opens_of self.now }
+    {
+        self.opens
+    }
+
+    /// The number of `read_at` calls.
+    pub fn reads(&self) -> u64
+        ensures reads { result ≡ ⟦<Tally<F> as Folder>⟧.read_calls self.now }
+    {
+        self.reads
+    }
+
+    /// The number of `write_at` calls.
+    pub fn writes(&self) -> u64
+        ensures writes { result ≡ ⟦<Tally<F> as Folder>⟧.write_calls self.now }
+    {
+        self.writes
+    }
+
+    /// Gives the folder back.
+    pub fn into_inner(self) -> F
+        ensures names { F.names result ≡ ⟦<Tally<F> as Folder>⟧.names self }
+        ensures faults { F.faults result ≡ ⟦<Tally<F> as Folder>⟧.faults self }
+    {
+        let Tally {
+            inner,
+            opens: _,
+            reads: _,
+            writes: _,
+        } = self;
+        inner
+    }
+}
+
+impl<F: Folder> Folder for Tally<F> {
+    type File = F::File;
+
+    type Draft = F::Draft;
+
+    ghost names = { λ s. F.names s.inner };
+
+    ghost faults = { λ s. F.faults s.inner };
+
+    ghost read_calls = { λ s. s.reads };
+
+    ghost write_calls = { λ s. s.writes };
+
+    ghost file_bytes = { λ f. F.file_bytes f };
+
+    ghost file_len = { λ f. F.file_len f };
+
+    ghost draft_name = { λ d. F.draft_name d };
+
+    ghost draft_bytes = { λ d. F.draft_bytes d };
+
+    ghost draft_len = { λ d. F.draft_len d };
+
+    fn open(&mut self, name: &Name) -> Result<F::File, OpenFault>
+        ensures ok { IfOk result (λ file. Opened (F.names self.old.inner) name.now (F.file_bytes file)) }
+        ensures len { IfOk result (λ file. IsLong (F.file_bytes file) (F.file_len file)) }
+        ensures absent { NotThere (F.names self.old.inner) name.now result }
+        ensures names { F.names self.new.inner ≡ F.names self.old.inner }
+        ensures read_calls { self.new.reads ≡ self.old.reads }
+        ensures write_calls { self.new.writes ≡ self.old.writes }
+        ensures cause { HasCause OpenFault.Failed (F.faults self.old.inner) (F.faults self.new.inner) result }
+        ensures opens { opens_of self.new ≡ one_more (opens_of self.old) }
+    {
+        self.opens = self.opens.saturating_add(1);
+        self.inner.open(name)
+    }
+
+    fn len(&self, file: &F::File) -> u64 {
+        self.inner.len(file)
+    }
+
+    fn read_at(&mut self, file: &mut F::File, pos: u64, out: &mut [u8]) -> Result<(), Failed> {
+        self.reads = self.reads.saturating_add(1);
+        self.inner.read_at(file, pos, out)
+    }
+
+    fn create(&mut self, name: &Name) -> Result<F::Draft, WriteFault> {
+        self.inner.create(name)
+    }
+
+    fn grow(&mut self, draft: &mut F::Draft, len: u64) -> Result<(), WriteFault> {
+        self.inner.grow(draft, len)
+    }
+
+    fn write_at(&mut self, draft: &mut F::Draft, pos: u64, bytes: &[u8]) -> Result<(), WriteFault> {
+        self.writes = self.writes.saturating_add(1);
+        self.inner.write_at(draft, pos, bytes)
+    }
+
+    fn append(&mut self, draft: &mut F::Draft, bytes: &[u8]) -> Result<(), WriteFault> {
+        self.inner.append(draft, bytes)
+    }
+
+    fn draft_read(&mut self, draft: &mut F::Draft, pos: u64, out: &mut [u8]) -> Result<(), Failed> {
+        self.inner.draft_read(draft, pos, out)
+    }
+
+    fn publish(&mut self, draft: F::Draft) -> Result<(), WriteFault> {
+        self.inner.publish(draft)
+    }
+
+    fn discard(&mut self, draft: F::Draft) {
+        self.inner.discard(draft)
+    }
+
+    fn fork(&self) -> Result<Self, AllocError>
+        ensures view { IfOk result (λ view. IsView (F.names self.now.inner) (F.names view.inner) (F.faults view.inner) view.reads view.writes) }
+        ensures opens { IfOk result (λ view. opens_of view ≡ 0) }
+    {
+        Ok(Tally {
+            inner: self.inner.fork()?,
+            opens: 0,
+            reads: 0,
+            writes: 0,
+        })
+    }
+
+    fn absorb(&mut self, view: Self)
+        ensures names { F.names self.new.inner ≡ F.names self.old.inner }
+        ensures read_calls { self.new.reads ≡ added self.old.reads view.reads }
+        ensures write_calls { self.new.writes ≡ added self.old.writes view.writes }
+        ensures faults { Absorbed (F.faults self.old.inner) (F.faults view.inner) (F.faults self.new.inner) }
+        ensures opens { opens_of self.new ≡ added (opens_of self.old) (opens_of view) }
+    {
+        let Tally {
+            inner,
+            opens,
+            reads,
+            writes,
+        } = view;
+        self.inner.absorb(inner);
+        self.opens = self.opens.saturating_add(opens);
+        self.reads = self.reads.saturating_add(reads);
+        self.writes = self.writes.saturating_add(writes);
+    }
+}
