@@ -10,7 +10,7 @@ use Rattle.byteorder.specs.Endian.{big_number, little_number, big_bytes, little_
 use Rattle.byteorder.specs.Numbers.{big_number-reads_back, little_number-reads_back, length-bytes_high_first, length-bytes_low_first}
 use Rattle.geotransform.specs.Types.{is_in}
 use Rattle.esri_hdr.specs.Head.{Head, sample_len}
-use Rattle.interleaved_raw.specs.Raw.{stride_of, run_of, sample_at, sample_bytes, number_in, value_of, bits_of, IsBetween, Holds}
+use Rattle.interleaved_raw.specs.Raw.{stride_of, run_of, sample_at, sample_bytes, number_in, value_of, bits_of, IsBetween}
 use Rattle.interleaved_raw.proofs.Bits.{bits_fit, value_again}
 
 before_kept : (a k s p : ℕ) (xs ys : List ℕ) → p + s ≤ a → a ≤ length xs → take s (drop p (put_mid a k xs ys)) ≡ take s (drop p xs)
