@@ -1,0 +1,4 @@
+pub mod Bands
+mod Examples
+pub mod Headers
+pub mod Whole

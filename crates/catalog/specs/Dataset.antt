@@ -1,0 +1,34 @@
+-- What is known of a dataset before its pixels are read.
+use Rattle.std.specs.Prelude.{ℕ, ◌≡◌, ◌<◌, ◌≤◌, List, length, All, Option, IfSome, true}
+use Rattle.geotransform.specs.Geo.{Transform, IsRaster}
+use Rattle.geotransform.specs.Types.{is_in}
+use Rattle.geotransform.specs.declared.types.Size.{Size}
+use Rattle.catalog.specs.declared.kind.BandHead.{BandHead}
+use Rattle.catalog.specs.declared.kind.Kind.{Kind}
+use Rattle.catalog.specs.declared.kind.Kind.TheVariants.{Raw}
+
+-- a dataset: its name and kind, its raster, its bands in order, and the names of its own files
+pub record DatasetHead : Type 0 where
+  pub name : List ℕ
+  pub kind : Kind
+  pub size : Size
+  pub geo : Option Transform
+  pub srs : Option (List ℕ)
+  pub bands : List BandHead
+  pub files : List (List ℕ)
+
+-- the size of the blocks of a kind
+abbrev pub block_of : Kind → Size → Size
+block_of Raw size = record { w = size.w; h = 1 }
+
+-- a band has the blocks of its dataset, and a NODATA of its own type
+pub record IsBandHead (kind : Kind) (size : Size) (band : BandHead) : Type 0 where
+  pub block : band.block ≡ block_of kind size
+  pub nodata : IfSome band.nodata (λ n. is_in band.kind n ≡ true)
+
+-- the limits of a dataset, and what each of its bands keeps
+pub record IsDatasetHead (head : DatasetHead) : Type 0 where
+  pub size : IsRaster head.size
+  pub some_band : 0 < length head.bands
+  pub bands : length head.bands ≤ 256
+  pub each : All (IsBandHead head.kind head.size) head.bands

@@ -1,0 +1,17 @@
+-- The answers that no definition gives.
+use Rattle.std.specs.Prelude.{◌≡◌}
+use Rattle.catalog.specs.declared.faults.WalkFault.{WalkFault}
+use Rattle.catalog.specs.declared.faults.WalkFault.TheVariants.{Absent, NotRecognized, Malformed, Short, FolderFault, Memory}
+
+-- a call of the folder failed, or memory was refused
+abbrev pub IsOutside : WalkFault → Type 0
+IsOutside (Absent name) = ⊥
+IsOutside (NotRecognized name) = ⊥
+IsOutside (Malformed name bad) = ⊥
+IsOutside (Short name needed has) = ⊥
+IsOutside FolderFault = Unit {0}
+IsOutside Memory = Unit {0}
+
+-- memory was refused
+abbrev pub IsMemory : WalkFault → Type 0
+IsMemory fault = fault ≡ Memory

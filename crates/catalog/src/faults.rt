@@ -1,0 +1,56 @@
+// Why a dataset is refused.
+ghost use Rattle.std.specs.Prelude.{◌≡◌};
+ghost use Rattle.catalog.specs.declared.faults.WalkFault.TheVariants as walk_fault;
+
+use esri_hdr::HdrFault;
+use outside::Name;
+use std::alloc::AllocError;
+
+/// What is wrong with a file that was read.
+#[derive(Clone, Copy, Debug, PartialEq, Eq)]
+pub enum Bad {
+    /// The header of raw data has this fault.
+    Hdr(HdrFault),
+    /// The list of input files isn't UTF-8.
+    List,
+}
+
+/// What is counted against a limit.
+#[derive(Clone, Copy, Debug, PartialEq, Eq)]
+pub enum LimitKind {
+    /// The bytes of a name.
+    Name,
+    /// The distinct datasets of a catalog.
+    Files,
+    /// The sources of all mosaics of a catalog.
+    Sources,
+    /// The bytes of a list of input files.
+    List,
+    /// The lines of the input.
+    Points,
+}
+
+/// Why a dataset, or what a walk reaches from it, is refused.
+#[derive(Drop)]
+pub enum WalkFault {
+    /// There is no file of this name.
+    Absent { name: Name },
+    /// The extension of this name is that of no kind of dataset.
+    NotRecognized { name: Name },
+    /// The file of this name isn't of its form.
+    Malformed { name: Name, bad: Bad },
+    /// The file of this name needs so many bytes, and has fewer.
+    Short { name: Name, needed: u64, has: u64 },
+    /// A call of the folder failed.
+    FolderFault,
+    /// Memory was refused.
+    Memory,
+}
+
+impl From<AllocError> for WalkFault {
+    ghost from_gives = { λ _ e. e ≡ walk_fault.Memory };
+
+    fn from(_: AllocError) -> Self {
+        WalkFault::Memory
+    }
+}

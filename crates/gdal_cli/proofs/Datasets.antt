@@ -1,0 +1,28 @@
+-- Commands whose dataset's name tells no kind.
+use Rattle.std.proofs.Common.{◌≡◌, ◌∙◌, ap, subst, sym, ◌⊎◌, inl, inr, ℕ, List, Result, Ok, Err, Option, Some, None}
+use Rattle.catalog.specs.declared.faults.WalkFault.{WalkFault}
+use Rattle.catalog.specs.declared.faults.WalkFault.TheVariants as walk
+use Rattle.catalog.specs.Heads.{kind_in}
+use Rattle.gdal_cli.specs.declared.command.Command.{Command}
+use Rattle.gdal_cli.specs.declared.spoken.WordFault.{WordFault}
+use Rattle.gdal_cli.specs.declared.faults.Fault.{Fault}
+use Rattle.gdal_cli.specs.declared.faults.Fault.TheVariants.{NotRecognized, Memory}
+use Rattle.gdal_cli.specs.Run.{ended, dataset_of, RefusesUnknown, RefusesDataset}
+
+-- a call that ended with a fault was refused so
+refused_so : (result : Result (Unit {0}) Fault) (f : Fault) → ended result ≡ Some f → result ≡ Err f
+refused_so (Ok done) f is = let no : ⊥ = cc in absurd no
+refused_so (Err e) f is = let same : e ≡ f = cc in ap Err same
+
+ends_so : (result : Result (Unit {0}) Fault) (f : Fault) → (result ≡ Err f) ⊎ (result ≡ Err Memory) → (ended result ≡ Some f) ⊎ (ended result ≡ Some Memory)
+ends_so result f (inl is) = inl (ap ended is)
+ends_so result f (inr is) = inr (ap ended is)
+
+-- a command that the words are refuses as its job does
+pub dataset_refused : (words : Result Command WordFault) (command : Command) (result : Result (Unit {0}) Fault) → words ≡ Ok command → RefusesUnknown (dataset_of command.job) result → RefusesDataset words (ended result)
+dataset_refused words command result is unknown = record {
+  always = λ c n same kind.
+      let one : c ≡ command = cc in
+      ends_so result (NotRecognized n) (unknown.always (walk.NotRecognized n) (subst (λ (d : Command). kind_in (dataset_of d.job) ≡ Err (walk.NotRecognized n)) one kind));
+  only = λ n so. (command, is, unknown.only n (refused_so result (NotRecognized n) so));
+}

@@ -1,0 +1,5 @@
+pub mod Datasets
+pub mod Ended
+pub mod Listed
+pub mod Outcomes
+pub mod Said

@@ -1,0 +1,56 @@
+use Rattle.std.proofs.Common.{rules}
+use Rattle.gdal_cli.proofs.texts.put_fault.Goals as goal
+
+pub returns-in-Usage-clause-ok : goal.returns-in-Usage-clause-ok
+returns-in-Usage-clause-ok g c = rw c.in-Usage.is c.put_number.ensures.ok
+
+pub returns-in-Usage-clause-err : goal.returns-in-Usage-clause-err
+returns-in-Usage-clause-err g c = rw c.in-Usage.is c.put_number.ensures.err
+
+pub returns-in-Absent-clause-ok : goal.returns-in-Absent-clause-ok
+returns-in-Absent-clause-ok g c = rw c.in-Absent.is c.put_name.ensures.ok
+
+pub returns-in-Absent-clause-err : goal.returns-in-Absent-clause-err
+returns-in-Absent-clause-err g c = rw c.in-Absent.is c.put_name.ensures.err
+
+pub returns-in-NotRecognized-clause-ok : goal.returns-in-NotRecognized-clause-ok
+returns-in-NotRecognized-clause-ok g c = rw c.in-NotRecognized.is c.put_name-in-NotRecognized.ensures.ok
+
+pub returns-in-NotRecognized-clause-err : goal.returns-in-NotRecognized-clause-err
+returns-in-NotRecognized-clause-err g c = rw c.in-NotRecognized.is c.put_name-in-NotRecognized.ensures.err
+
+pub returns-in-Malformed-clause-ok : goal.returns-in-Malformed-clause-ok
+returns-in-Malformed-clause-ok g c = rw c.in-Malformed.is c.put_malformed.ensures.ok
+
+pub returns-in-Malformed-clause-err : goal.returns-in-Malformed-clause-err
+returns-in-Malformed-clause-err g c = rw c.in-Malformed.is c.put_malformed.ensures.err
+
+pub returns-in-Short-clause-ok : goal.returns-in-Short-clause-ok
+returns-in-Short-clause-ok g c = rw c.in-Short.is c.put_short.ensures.ok
+
+pub returns-in-Short-clause-err : goal.returns-in-Short-clause-err
+returns-in-Short-clause-err g c = rw c.in-Short.is c.put_short.ensures.err
+
+pub returns-in-FolderFault-clause-ok : goal.returns-in-FolderFault-clause-ok
+returns-in-FolderFault-clause-ok g c = rw c.in-FolderFault.is c.put.ensures.ok
+
+pub returns-in-FolderFault-clause-err : goal.returns-in-FolderFault-clause-err
+returns-in-FolderFault-clause-err g c = rw c.in-FolderFault.is c.put.ensures.err
+
+pub returns-in-OutFault-clause-ok : goal.returns-in-OutFault-clause-ok
+returns-in-OutFault-clause-ok g c = rw c.in-OutFault.is c.put-in-OutFault.ensures.ok
+
+pub returns-in-OutFault-clause-err : goal.returns-in-OutFault-clause-err
+returns-in-OutFault-clause-err g c = rw c.in-OutFault.is c.put-in-OutFault.ensures.err
+
+pub returns-in-Memory-clause-ok : goal.returns-in-Memory-clause-ok
+returns-in-Memory-clause-ok g c = rw c.in-Memory.is c.put-in-Memory.ensures.ok
+
+pub returns-in-Memory-clause-err : goal.returns-in-Memory-clause-err
+returns-in-Memory-clause-err g c = rw c.in-Memory.is c.put-in-Memory.ensures.err
+
+pub returns-in-Plan-clause-ok : goal.returns-in-Plan-clause-ok
+returns-in-Plan-clause-ok g c = rw c.in-Plan.is c.put_plan.ensures.ok
+
+pub returns-in-Plan-clause-err : goal.returns-in-Plan-clause-err
+returns-in-Plan-clause-err g c = rw c.in-Plan.is c.put_plan.ensures.err

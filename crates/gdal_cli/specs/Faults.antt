@@ -1,0 +1,78 @@
+-- The faults of a run: where they come from, and how they end it.
+use Rattle.std.specs.Prelude.{ℕ, List, ◌≡◌, ◌≤◌, Option, Some, None, Result, Ok, Err}
+use Rattle.outside.specs.Causes.{Rose}
+use Rattle.catalog.specs.declared.faults.WalkFault.{WalkFault}
+use Rattle.catalog.specs.declared.faults.WalkFault.TheVariants as walk
+use Rattle.info_report.specs.declared.report.ReportFault.{ReportFault}
+use Rattle.info_report.specs.declared.report.ReportFault.TheVariants as report
+use Rattle.gdal_cli.specs.declared.spoken.WordFault.{WordFault}
+use Rattle.gdal_cli.specs.declared.spoken.WordFault.TheVariants as word
+use Rattle.gdal_cli.specs.declared.faults.Fault.{Fault}
+use Rattle.gdal_cli.specs.declared.faults.Fault.TheVariants.{Usage, Absent, NotRecognized, Malformed, Short, Plan, FolderFault, OutFault, Memory}
+
+-- a fault of the words, of a walk and of a report as the run's
+abbrev pub word_fault_of : WordFault → Fault
+word_fault_of (word.Usage n) = Usage n
+word_fault_of word.Memory = Memory
+
+abbrev pub fault_of : WalkFault → Fault
+fault_of (walk.Absent name) = Absent name
+fault_of (walk.NotRecognized name) = NotRecognized name
+fault_of (walk.Malformed name bad) = Malformed name bad
+fault_of (walk.Short name needed has) = Short name needed has
+fault_of walk.FolderFault = FolderFault
+fault_of walk.Memory = Memory
+
+abbrev pub report_fault_of : ReportFault → Fault
+report_fault_of report.OutFault = OutFault
+report_fault_of report.Memory = Memory
+
+-- what the words say, as the run's answer
+abbrev pub by_words : {T : Type 0} → Result T WordFault → Result T Fault
+by_words (Ok x) = Ok x
+by_words (Err f) = Err (word_fault_of f)
+
+-- what a walk finds, as the run's answer
+abbrev pub by_walk : {T : Type 0} → Result T WalkFault → Result T Fault
+by_walk (Ok x) = Ok x
+by_walk (Err f) = Err (fault_of f)
+
+-- a fault that no definition gives: a call of the outside failed, or memory was refused
+abbrev pub IsOutside : Fault → Type 0
+IsOutside (Usage n) = ⊥
+IsOutside (Absent name) = ⊥
+IsOutside (NotRecognized name) = ⊥
+IsOutside (Malformed name bad) = ⊥
+IsOutside (Short name needed has) = ⊥
+IsOutside (Plan fault) = ⊥
+IsOutside FolderFault = Unit {0}
+IsOutside OutFault = Unit {0}
+IsOutside Memory = Unit {0}
+
+-- the status that a fault ends a run with
+abbrev pub fault_status : Fault → ℕ
+fault_status (Usage n) = 1
+fault_status (Absent name) = 1
+fault_status (NotRecognized name) = 1
+fault_status (Malformed name bad) = 1
+fault_status (Short name needed has) = 1
+fault_status (Plan fault) = 1
+fault_status FolderFault = 2
+fault_status OutFault = 2
+fault_status Memory = 3
+
+abbrev pub status_of : Option Fault → ℕ
+status_of None = 0
+status_of (Some fault) = fault_status fault
+
+-- the counts of a folder and an output don't fall, and each has risen where its fault is answered
+pub record HasCauses {T : Type 0} (folder folder_now out out_now : ℕ) (result : Result T Fault) : Type 0 where
+  pub folder_later : folder ≤ folder_now
+  pub out_later : out ≤ out_now
+  pub folder_failed : result ≡ Err FolderFault → Rose folder folder_now
+  pub out_failed : result ≡ Err OutFault → Rose out out_now
+
+-- no fault of the folder or of the output
+pub record HasNoCause {T : Type 0} (result : Result T Fault) : Type 0 where
+  pub not_folder : result ≡ Err FolderFault → ⊥
+  pub not_out : result ≡ Err OutFault → ⊥

@@ -1,0 +1,5 @@
+pub mod Faults
+pub mod Location
+pub mod Run
+pub mod Texts
+pub mod Words

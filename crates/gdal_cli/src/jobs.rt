@@ -1,0 +1,82 @@
+// The commands, from a job to its text.
+ghost use Rattle.std.specs.Prelude.{◌≡◌, ◌⊎◌, ℕ, List, Option, Some, Err, IfErr};
+ghost use Rattle.outside.specs.Outside.{Files};
+ghost use Rattle.gdal_cli.specs.Faults.{HasCauses};
+ghost use Rattle.gdal_cli.specs.Location.{location_in};
+ghost use Rattle.gdal_cli.specs.Run.{Ends, ran_of, info_in, printed_by, dataset_of, RefusesUnknown};
+
+use crate::Fault;
+use crate::command::{BandNumbers, Command, Job};
+use crate::location::{chosen, put_point};
+use catalog::{head_of, open_raw};
+use geotransform::Ticks;
+use info_report::write_info;
+use outside::{Folder, Name, Sink};
+use std::alloc::Global;
+
+// Puts the report of a dataset.
+#[tactic(auto, unfolding(crate::specs::Run::info_in))]
+fn put_info<F: Folder, O: Sink>(
+    alloc: Global,
+    folder: &mut F,
+    out: &mut O,
+    name: &Name,
+    verify: bool,
+) -> Result<(), Fault>
+    ensures told { (m : Files) → F.names folder.old ≡ Some m → Ends (ran_of (info_in m name.now verify)) result (O.got out.old) (O.got out.new) }
+    ensures names { F.names folder.new ≡ F.names folder.old }
+    ensures cause { HasCauses (F.faults folder.old) (F.faults folder.new) (O.faults out.old) (O.faults out.new) result }
+    ensures unknown { RefusesUnknown name.now result }
+{
+    let head = head_of(alloc, folder, name, verify)?;
+    write_info(alloc, &head, out)?;
+    Ok(())
+}
+
+// Puts the values of the chosen bands of a dataset at a point.
+#[tactic(auto, unfolding(crate::specs::Location::location_in))]
+fn put_location<F: Folder, O: Sink>(
+    alloc: Global,
+    folder: &mut F,
+    out: &mut O,
+    name: &Name,
+    x: Ticks,
+    y: Ticks,
+    bands: BandNumbers,
+) -> Result<(), Fault>
+    ensures told { (m : Files) → F.names folder.old ≡ Some m → Ends (ran_of (location_in m name.now x y bands)) result (O.got out.old) (O.got out.new) }
+    ensures names { F.names folder.new ≡ F.names folder.old }
+    ensures cause { HasCauses (F.faults folder.old) (F.faults folder.new) (O.faults out.old) (O.faults out.new) result }
+    ensures unknown { RefusesUnknown name.now result }
+{
+    let mut raw = open_raw(alloc, folder, name)?;
+    let bands = chosen(alloc, raw.head.bands, bands)?;
+    put_point(
+        folder,
+        out,
+        &raw.head,
+        &mut raw.file,
+        x,
+        y,
+        bands.as_slice(),
+    )
+}
+
+/// Does a job, and puts its text.
+pub fn put_job<F: Folder, O: Sink>(
+    alloc: Global,
+    folder: &mut F,
+    out: &mut O,
+    command: Command,
+) -> Result<(), Fault>
+    ensures told { (m : Files) → F.names folder.old ≡ Some m → Ends (ran_of (printed_by command.job m command.verify)) result (O.got out.old) (O.got out.new) }
+    ensures names { F.names folder.new ≡ F.names folder.old }
+    ensures cause { HasCauses (F.faults folder.old) (F.faults folder.new) (O.faults out.old) (O.faults out.new) result }
+    ensures unknown { RefusesUnknown (dataset_of command.job) result }
+{
+    let verify = command.verify;
+    match command.job {
+        Job::Info { name } => put_info(alloc, folder, out, &name, verify),
+        Job::Locate { name, x, y, bands } => put_location(alloc, folder, out, &name, x, y, bands),
+    }
+}

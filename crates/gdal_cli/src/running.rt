@@ -1,0 +1,126 @@
+// A run of the program.
+ghost use Rattle.std.specs.Prelude.{◌≡◌, ◌≤◌, ◌⊎◌, ℕ, List, Option, Some, None, Ok, Err, map, string_bytes};
+ghost use Rattle.outside.specs.Outside.{Files};
+ghost use Rattle.outside.specs.Causes.{Rose};
+ghost use Rattle.outside.specs.Streams.{Gets, GetsPart};
+ghost use Rattle.gdal_cli.specs.Faults.{HasCauses, IsOutside, status_of};
+ghost use Rattle.gdal_cli.specs.Texts.{line_of};
+ghost use Rattle.gdal_cli.specs.Words.{words_of};
+ghost use Rattle.gdal_cli.specs.Run.{Ran, ran_of, run_of, printed_in, Ends, Answers, EndsEarly, Says, RefusesWords, RefusesDataset, ended};
+
+use crate::jobs::put_job;
+use crate::texts::put_fault;
+use crate::words::read_words;
+use crate::{Fault, Outcome};
+use outside::{Folder, Input, Sink};
+use std::alloc::Global;
+use std::thread::Threads;
+
+// Reads the words, and does what they ask for.
+#[tactic(auto, unfolding(crate::specs::Run::printed_in))]
+fn perform<F: Folder, O: Sink>(
+    alloc: Global,
+    words: &[String],
+    folder: &mut F,
+    out: &mut O,
+) -> Result<(), Fault>
+    ensures told { (m : Files) → F.names folder.old ≡ Some m → Ends (ran_of (printed_in m (map string_bytes words.now))) result (O.got out.old) (O.got out.new) }
+    ensures names { F.names folder.new ≡ F.names folder.old }
+    ensures cause { HasCauses (F.faults folder.old) (F.faults folder.new) (O.faults out.old) (O.faults out.new) result }
+    ensures usage { RefusesWords (words_of (map string_bytes words.now)) (ended result) }
+    ensures unknown { RefusesDataset (words_of (map string_bytes words.now)) (ended result) }
+{
+    let command = read_words(alloc, words)?;
+    put_job(alloc, folder, out, command)
+}
+
+fn ended(end: Result<(), Fault>) -> Option<Fault>
+    ensures { result ≡ ended end }
+{
+    end.err()
+}
+
+fn status(fault: &Option<Fault>) -> u8
+    ensures { result ≡ status_of fault.now }
+{
+    match fault {
+        None => 0,
+        Some(
+            Fault::Usage { .. }
+            | Fault::Absent { .. }
+            | Fault::NotRecognized { .. }
+            | Fault::Malformed { .. }
+            | Fault::Short { .. }
+            | Fault::Plan(_),
+        ) => 1,
+        Some(Fault::FolderFault | Fault::OutFault) => 2,
+        Some(Fault::Memory) => 3,
+    }
+}
+
+// The line of the fault, where there is one. A failing stream changes nothing else.
+fn say<E: Sink>(err: &mut E, fault: &Option<Fault>)
+    ensures whole { (Rose (E.faults err.old) (E.faults err.new) → ⊥) → Gets (line_of fault.now) (E.got err.old) (E.got err.new) }
+    ensures part { GetsPart (line_of fault.now) (E.got err.old) (E.got err.new) }
+{
+    if let Some(fault) = fault {
+        let _ = put_fault(err, fault);
+    }
+}
+
+/// Tells how a run ended: puts the line of its fault, where there is one. A failing `err` changes nothing else.
+pub fn tell<E: Sink>(err: &mut E, fault: Option<Fault>) -> Outcome
+    ensures fault { result.fault ≡ fault }
+    ensures status { result.status ≡ status_of fault }
+    ensures whole { (Rose (E.faults err.old) (E.faults err.new) → ⊥) → Gets (line_of fault) (E.got err.old) (E.got err.new) }
+    ensures part { GetsPart (line_of fault) (E.got err.old) (E.got err.new) }
+{
+    say(err, &fault);
+    let status = status(&fault);
+    Outcome { status, fault }
+}
+
+/// Does all that the program does: reads the words behind the program's name, does what they ask
+/// for over the files of the folder, prints on `out`, and tells a fault on `err`. It answers for
+/// every list of words.
+pub fn run<R: Threads + Sync, F: Folder, I: Input, O: Sink, E: Sink>(
+    _rt: &R,
+    alloc: Global,
+    words: &[String],
+    folder: &mut F,
+    input: &mut I,
+    out: &mut O,
+    err: &mut E,
+) -> Outcome
+    // Where the status is 0 or 1, fault, printed text and files are those of the definition.
+    ensures answer { result.status ≤ 1 → (m : Files) → F.names folder.old ≡ Some m → (i : List ℕ) → I.left input.old ≡ Some i
+        → Answers (run_of (map string_bytes words.now) m i) m result.fault (F.names folder.new) (O.got out.old) (O.got out.new) }
+
+    // Where it is 2 or 3, a first part of that text was printed and the first of the files stand.
+    ensures early_end { 2 ≤ result.status → (m : Files) → F.names folder.old ≡ Some m → (i : List ℕ) → I.left input.old ≡ Some i
+        → EndsEarly (run_of (map string_bytes words.now) m i) m (F.names folder.new) (O.got out.old) (O.got out.new) }
+
+    // Nothing is taken from the input.
+    ensures input { input.new ≡ input.old }
+
+    // Each fault has its status, and each of the outside its cause.
+    ensures status { result.status ≡ status_of result.fault }
+    ensures folder_fault { result.fault ≡ Some Fault.FolderFault → Rose (F.faults folder.old) (F.faults folder.new) }
+    ensures out_fault { result.fault ≡ Some Fault.OutFault → Rose (O.faults out.old) (O.faults out.new) }
+
+    // Over every folder, usage and unknown extensions are refused exactly where they stand.
+    ensures usage { RefusesWords (words_of (map string_bytes words.now)) result.fault }
+    ensures not_recognized { RefusesDataset (words_of (map string_bytes words.now)) result.fault }
+
+    // Where nothing failed outside, the fault is that of the definition, or want of memory.
+    ensures complete { (m : Files) → F.names folder.old ≡ Some m → (i : List ℕ) → I.left input.old ≡ Some i
+        → (Rose (F.faults folder.old) (F.faults folder.new) → ⊥) → (Rose (I.faults input.old) (I.faults input.new) → ⊥) → (Rose (O.faults out.old) (O.faults out.new) → ⊥)
+        → (result.fault ≡ (run_of (map string_bytes words.now) m i).fault) ⊎ (result.fault ≡ Some Fault.Memory) }
+
+    // The error stream gets the warnings and the line of the fault, or a first part where it fails.
+    ensures errors { (m : Files) → F.names folder.old ≡ Some m → (i : List ℕ) → I.left input.old ≡ Some i
+        → Says (run_of (map string_bytes words.now) m i) result.fault (E.faults err.old) (E.faults err.new) (E.got err.old) (E.got err.new) }
+{
+    let fault = ended(perform(alloc, words, folder, out));
+    tell(err, fault)
+}

@@ -1,0 +1,55 @@
+// What the words of a command line have said so far.
+use crate::command::BandNumbers;
+use geotransform::Ticks;
+use outside::Name;
+
+/// The command that the first word names.
+#[derive(Clone, Copy, Debug, PartialEq, Eq)]
+pub enum Tool {
+    Info,
+    Locate,
+}
+
+/// What the word before leaves to be said.
+#[derive(Clone, Copy, Debug, PartialEq, Eq)]
+pub enum Awaited {
+    /// Any word.
+    Nothing,
+    /// The number of `-b`.
+    Band,
+    /// The key of `--config`.
+    Key,
+    /// A setting without effect.
+    Setting,
+    /// The setting of DTED_VERIFY_CHECKSUM.
+    Verification,
+}
+
+/// An option's name.
+#[derive(Clone, Copy, Debug, PartialEq, Eq)]
+pub enum OptionWord {
+    Config,
+    Band,
+    ValuesOnly,
+}
+
+/// What the words after the first have said.
+#[derive(Drop)]
+pub struct Spoken {
+    pub awaited: Awaited,
+    pub verify: bool,
+    pub values_only: bool,
+    pub bands: BandNumbers,
+    pub name: Option<Name>,
+    pub x: Option<Ticks>,
+    pub y: Option<Ticks>,
+}
+
+/// Why words are no command.
+#[derive(Clone, Copy, Debug, PartialEq, Eq)]
+pub enum WordFault {
+    /// The word with this number, counted from 0, doesn't fit; the number of words where one is missing.
+    Usage { word: u64 },
+    /// Want of memory.
+    Memory,
+}

@@ -1,0 +1,153 @@
+// The lines of values and of faults.
+ghost use Rattle.std.specs.Prelude.{◌≡◌, ◌++◌, [], ◌∷◌, decimal, ℤ, OnOk, OnErr};
+ghost use Rattle.outside.specs.Streams.{Gets, GetsPart};
+ghost use Rattle.outside.specs.Causes.{FailsWith};
+ghost use Rattle.info_report.specs.Report.{text};
+ghost use Rattle.gdal_cli.specs.Texts.{value_line, hdr_number, form_line, bad_line, plan_line, error_line};
+
+use crate::Fault;
+use catalog::Bad;
+use esri_hdr::HdrFault;
+use geotransform::{PlanFault, Sample};
+use itoa::Buffer;
+use outside::{Failed, Name, Sink, put_all};
+
+// A number between two texts.
+fn put_number<S: Sink>(sink: &mut S, before: &[u8], number: u64, after: &[u8]) -> Result<(), Failed>
+    ensures ok { OnOk result (Gets (text (before.now ∷ decimal number ∷ after.now ∷ [])) (S.got sink.old) (S.got sink.new)) }
+    ensures err { OnErr result (GetsPart (text (before.now ∷ decimal number ∷ after.now ∷ [])) (S.got sink.old) (S.got sink.new)) }
+    ensures cause { FailsWith (S.faults sink.old) (S.faults sink.new) result }
+{
+    let mut buffer = Buffer::new();
+    let digits = buffer.format(number).as_bytes();
+    put_all(sink, &[before, digits, after])
+}
+
+// A name in a line that tells of a file.
+fn put_name<S: Sink>(sink: &mut S, before: &[u8], name: &Name, after: &[u8]) -> Result<(), Failed>
+    ensures ok { OnOk result (Gets (text (before.now ∷ name.now ∷ after.now ∷ [])) (S.got sink.old) (S.got sink.new)) }
+    ensures err { OnErr result (GetsPart (text (before.now ∷ name.now ∷ after.now ∷ [])) (S.got sink.old) (S.got sink.new)) }
+    ensures cause { FailsWith (S.faults sink.old) (S.faults sink.new) result }
+{
+    put_all(sink, &[before, name.as_str().as_bytes(), after])
+}
+
+fn put_short<S: Sink>(sink: &mut S, name: &Name, needed: u64, has: u64) -> Result<(), Failed>
+    ensures ok { OnOk result (Gets (error_line (Fault.Short name.now needed has)) (S.got sink.old) (S.got sink.new)) }
+    ensures err { OnErr result (GetsPart (error_line (Fault.Short name.now needed has)) (S.got sink.old) (S.got sink.new)) }
+    ensures cause { FailsWith (S.faults sink.old) (S.faults sink.new) result }
+{
+    let mut first = Buffer::new();
+    let mut second = Buffer::new();
+    let needed = first.format(needed).as_bytes();
+    let has = second.format(has).as_bytes();
+    let name = name.as_str().as_bytes();
+    put_all(
+        sink,
+        &[
+            b"ERROR 4: ",
+            name,
+            b": needs ",
+            needed,
+            b" bytes, has ",
+            has,
+            b"\n",
+        ],
+    )
+}
+
+fn hdr_number(fault: HdrFault) -> u64
+    ensures { result ≡ hdr_number fault }
+{
+    match fault {
+        HdrFault::MissingKey => 1,
+        HdrFault::BadValue => 2,
+        HdrFault::Unsupported => 3,
+        HdrFault::Limit => 4,
+    }
+}
+
+// The line of a file that isn't of its form, from the word for the form and the number of its fault.
+fn put_form<S: Sink>(sink: &mut S, name: &Name, form: &[u8], number: u64) -> Result<(), Failed>
+    ensures ok { OnOk result (Gets (form_line name.now form.now number) (S.got sink.old) (S.got sink.new)) }
+    ensures err { OnErr result (GetsPart (form_line name.now form.now number) (S.got sink.old) (S.got sink.new)) }
+    ensures cause { FailsWith (S.faults sink.old) (S.faults sink.new) result }
+{
+    let mut buffer = Buffer::new();
+    let number = buffer.format(number).as_bytes();
+    let name = name.as_str().as_bytes();
+    put_all(
+        sink,
+        &[
+            b"ERROR 4: ",
+            name,
+            b": malformed ",
+            form,
+            b" (",
+            number,
+            b")\n",
+        ],
+    )
+}
+
+fn put_malformed<S: Sink>(sink: &mut S, name: &Name, bad: Bad) -> Result<(), Failed>
+    ensures ok { OnOk result (Gets (bad_line name.now bad) (S.got sink.old) (S.got sink.new)) }
+    ensures err { OnErr result (GetsPart (bad_line name.now bad) (S.got sink.old) (S.got sink.new)) }
+    ensures cause { FailsWith (S.faults sink.old) (S.faults sink.new) result }
+{
+    match bad {
+        Bad::Hdr(fault) => put_form(sink, name, b"hdr", hdr_number(fault)),
+        Bad::List => put_form(sink, name, b"list", 1),
+    }
+}
+
+fn put_plan<S: Sink>(sink: &mut S, fault: PlanFault) -> Result<(), Failed>
+    ensures ok { OnOk result (Gets (plan_line fault) (S.got sink.old) (S.got sink.new)) }
+    ensures err { OnErr result (GetsPart (plan_line fault) (S.got sink.old) (S.got sink.new)) }
+    ensures cause { FailsWith (S.faults sink.old) (S.faults sink.new) result }
+{
+    match fault {
+        PlanFault::NoBand(band) => put_number(sink, b"ERROR 5: no band ", u64::from(band), b"\n"),
+        PlanFault::NoGeo => sink.put(b"ERROR 1: no geotransform\n"),
+        PlanFault::EmptyWindow => sink.put(b"ERROR 5: empty window\n"),
+        PlanFault::Limit => sink.put(b"ERROR 6: output too large\n"),
+        PlanFault::Outside => sink.put(b"ERROR 5: window outside the raster\n"),
+        PlanFault::BandCount => sink.put(b"ERROR 6: format takes one band\n"),
+        PlanFault::Unfit => sink.put(b"ERROR 6: raster doesn't fit the format\n"),
+    }
+}
+
+/// Puts a value on a line.
+pub fn put_value<S: Sink>(out: &mut S, value: Sample) -> Result<(), Failed>
+    ensures ok { OnOk result (Gets (value_line value) (S.got out.old) (S.got out.new)) }
+    ensures err { OnErr result (GetsPart (value_line value) (S.got out.old) (S.got out.new)) }
+    ensures cause { FailsWith (S.faults out.old) (S.faults out.new) result }
+{
+    let mut buffer = Buffer::new();
+    let digits = buffer.format(value).as_bytes();
+    put_all(out, &[digits, b"\n"])
+}
+
+/// Puts the line that tells a fault. It takes no memory, so that want of memory can be told too.
+pub fn put_fault<S: Sink>(err: &mut S, fault: &Fault) -> Result<(), Failed>
+    ensures ok { OnOk result (Gets (error_line fault.now) (S.got err.old) (S.got err.new)) }
+    ensures err { OnErr result (GetsPart (error_line fault.now) (S.got err.old) (S.got err.new)) }
+    ensures cause { FailsWith (S.faults err.old) (S.faults err.new) result }
+{
+    match fault {
+        Fault::Usage { word } => put_number(err, b"ERROR 1: word ", *word, b" doesn't fit\n"),
+        Fault::Absent { name } => put_name(err, b"ERROR 4: ", name, b": no such file\n"),
+        Fault::NotRecognized { name } => put_name(
+            err,
+            b"ERROR 4: ",
+            name,
+            b": not recognized as a supported format\n",
+        ),
+        Fault::Malformed { name, bad } => put_malformed(err, name, *bad),
+        Fault::Short { name, needed, has } => put_short(err, name, *needed, *has),
+        Fault::Plan(fault) => put_plan(err, *fault),
+        Fault::FolderFault => err.put(b"ERROR 3: a file call failed\n"),
+        Fault::OutFault => err.put(b"ERROR 3: writing the output failed\n"),
+        Fault::Memory => err.put(b"ERROR 2: out of memory\n"),
+    }
+}

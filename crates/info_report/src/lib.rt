@@ -1,0 +1,14 @@
+// The report of a dataset.
+#![tactic(auto)]
+
+mod bands;
+mod dataset;
+mod pieces;
+mod places;
+mod report;
+#[cfg(test)]
+mod tests;
+#[cfg(test)]
+mod vast;
+
+pub use report::{ReportFault, write_info};

@@ -1,0 +1,145 @@
+use crate::vast::Vast;
+use crate::{ReportFault, write_info};
+use catalog::{BandHead, Head, Kind, head_of};
+use geotransform::{GeoTransform, PixelType, Size, Ticks};
+use lists_and_answers::Items;
+use outside::{CalmFolder, Failing, Listed, MemSink, Name, Never, Text};
+use std::alloc::Global;
+use std::test::*;
+
+// A sink whose first call fails where `fails` is true.
+fn sink(alloc: Global, fails: bool) -> Result<MemSink, Fail> {
+    let mut calls = Items::new(alloc);
+    if fails {
+        calls.push(Failing::Call(1))?;
+    }
+    Ok(MemSink::new(alloc, Listed::new(calls)))
+}
+
+const WORLD: &[u8] = b"BYTEORDER M
+LAYOUT BIL
+NROWS 6000
+NCOLS 4800
+NBANDS 1
+NBITS 16
+BANDROWBYTES 9600
+TOTALROWBYTES 9600
+BANDGAPBYTES 0
+NODATA -9999
+ULXMAP -99.99583333333334
+ULYMAP 89.99583333333334
+XDIM 0.00833333333333
+YDIM 0.00833333333333
+";
+
+const WORLD_REPORT: &[u8] = b"Driver: EHdr
+Files: w100n90.bil
+       w100n90.hdr
+Size is 4800, 6000
+Origin = (-100.000000000000005,90.000000000000005)
+Pixel Size = (0.008333333333330,-0.008333333333330)
+Corner Coordinates:
+Upper Left  (-100.000000000, 90.000000000)
+Lower Left  (-100.000000000, 40.000000000)
+Upper Right (-60.000000000, 90.000000000)
+Lower Right (-60.000000000, 40.000000000)
+Band 1 Block=4800x1 Type=Int16
+  NoData Value=-9999
+";
+
+// The GTOPO30 tile of the published header, over data of its length.
+#[test]
+fn a_tile_of_the_world(rt: HostRuntime) -> Result<(), Fail> {
+    let mut folder = Vast {
+        data: "w100n90.bil",
+        len: 57_600_000,
+        header: "w100n90.hdr",
+        text: WORLD,
+        reads: 0,
+        writes: 0,
+    };
+    let name = Name::read(rt.alloc(), "w100n90.bil")?;
+    let head = head_of(rt.alloc(), &mut folder, &name, false);
+    let mut sink = sink(rt.alloc(), false)?;
+    write_info(rt.alloc(), &head.ok().ok_or("it is a dataset")?, &mut sink)?;
+    assert_eq!(rt; sink.got(), WORLD_REPORT);
+    assert_eq!(rt; folder.reads, 1);
+    Ok(())
+}
+
+// No geotransform, two bands, a NODATA, and a header in upper case.
+#[test]
+fn without_geotransform(rt: HostRuntime) -> Result<(), Fail> {
+    let header = b"nrows 1\nncols 2\nnbands 2\nnodata 9\n";
+    let mut folder = CalmFolder::new(rt.alloc(), Never);
+    let name = Name::read(rt.alloc(), "d/x/../a.BSQ")?;
+    folder.put(&name, &[0; 4])?;
+    folder.put(&Name::read(rt.alloc(), "d/a.HDR")?, header)?;
+    let head = head_of(rt.alloc(), &mut folder, &name, false);
+    let mut sink = sink(rt.alloc(), false)?;
+    write_info(rt.alloc(), &head.ok().ok_or("it is a dataset")?, &mut sink)?;
+    let want = b"Driver: EHdr
+Files: d/a.BSQ
+       d/a.HDR
+Size is 2, 1
+Band 1 Block=2x1 Type=Byte
+  NoData Value=9
+Band 2 Block=2x1 Type=Byte
+  NoData Value=9
+";
+    assert_eq!(rt; sink.got(), want.as_slice());
+    Ok(())
+}
+
+// One pixel with a coordinate system, whose origin is one tick below 0, and with no file.
+fn one_pixel(alloc: Global) -> Result<Head, Fail> {
+    let size = Size { w: 1, h: 1 };
+    let tick = Ticks::new(-1).ok_or("it is small")?;
+    let geo = GeoTransform::new(tick, tick, Ticks::UNIT, tick);
+    let mut bands = Items::new(alloc);
+    bands.push(BandHead {
+        kind: PixelType::UInt32,
+        nodata: None,
+        block: size,
+    })?;
+    Ok(Head {
+        name: Name::read(alloc, "p")?,
+        kind: Kind::Raw,
+        size,
+        geo,
+        srs: Some(Text::new(alloc, "WGS 84")?),
+        bands,
+        files: Items::new(alloc),
+    })
+}
+
+#[test]
+fn a_coordinate_system(rt: HostRuntime) -> Result<(), Fail> {
+    let mut sink = sink(rt.alloc(), false)?;
+    write_info(rt.alloc(), &one_pixel(rt.alloc())?, &mut sink)?;
+    let want = b"Driver: EHdr
+Files: 
+Size is 1, 1
+Coordinate System is:
+WGS 84
+Origin = (0.000000000000000,0.000000000000000)
+Pixel Size = (1.000000000000000,0.000000000000000)
+Corner Coordinates:
+Upper Left  (0.000000000, 0.000000000)
+Lower Left  (0.000000000, 0.000000000)
+Upper Right (1.000000000, 0.000000000)
+Lower Right (1.000000000, 0.000000000)
+Band 1 Block=1x1 Type=UInt32
+";
+    assert_eq!(rt; sink.got(), want.as_slice());
+    Ok(())
+}
+
+#[test]
+fn a_failing_sink(rt: HostRuntime) -> Result<(), Fail> {
+    let mut sink = sink(rt.alloc(), true)?;
+    let answer = write_info(rt.alloc(), &one_pixel(rt.alloc())?, &mut sink);
+    assert_eq!(rt; answer, Err(ReportFault::OutFault));
+    assert!(rt; WORLD_REPORT.starts_with(sink.got()));
+    Ok(())
+}

@@ -1,0 +1,49 @@
+// The program: one for all commands, the first word of which names the command.
+#![tactic(auto)]
+
+use gdal_cli::{Fault, run, tell};
+use outside::{DiskFolder, StdInput, StdSink};
+use std::alloc::AllocError;
+use std::io::ErrorKind;
+use std::process::{self, ExitCode};
+
+// The words behind the program's name. Words that aren't UTF-8 are no command.
+fn read_words(rt: &HostRuntime) -> Result<Vec<String>, Fault> {
+    let all = match std::env::args(rt) {
+        Ok(all) => all,
+        Err(error) => match error.kind() {
+            ErrorKind::OutOfMemory => return Err(Fault::Memory),
+            _ => return Err(Fault::Usage { word: 0 }),
+        },
+    };
+    let mut words = Vec::new(rt.alloc());
+    for word in all.skip(1) {
+        match words.push(word) {
+            Ok(()) => {}
+            Err(refused) => return Err(AllocError::from(refused).into()),
+        }
+    }
+    Ok(words)
+}
+
+fn main(rt: HostRuntime) -> std::io::Result<ExitCode> {
+    let mut err = StdSink::new(rt.stderr());
+    let outcome = match read_words(&rt) {
+        Ok(words) => {
+            let mut folder = DiskFolder::new(rt.clone()?, process::id(rt.process()), rt.alloc());
+            let mut input = StdInput::new(rt.stdin());
+            let mut out = StdSink::new(rt.stdout());
+            run(
+                &rt,
+                rt.alloc(),
+                &words,
+                &mut folder,
+                &mut input,
+                &mut out,
+                &mut err,
+            )
+        }
+        Err(fault) => tell(&mut err, Some(fault)),
+    };
+    Ok(ExitCode::from(outcome.status))
+}
