@@ -7,6 +7,8 @@ mod jobs;
 mod location;
 mod running;
 mod spoken;
+#[cfg(test)]
+mod tests;
 mod texts;
 mod words;
 

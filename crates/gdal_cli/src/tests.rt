@@ -1,0 +1,262 @@
+use crate::{Outcome, run};
+use lists_and_answers::Items;
+use outside::{CalmInput, Failing, Listed, MemFolder, MemSink, Method, Name, Never};
+use std::alloc::Global;
+use std::test::*;
+use std::thread::Threads;
+
+// What a run answered, printed and told.
+#[derive(Drop)]
+struct Said {
+    status: u8,
+    out: String,
+    err: String,
+}
+
+type FileOf<'a> = (&'a str, &'a [u8]);
+
+fn plan(alloc: Global, calls: &[Failing]) -> Result<Listed, Fail> {
+    let mut failing = Items::new(alloc);
+    for call in calls {
+        failing.push(*call)?;
+    }
+    Ok(Listed::new(failing))
+}
+
+fn split(alloc: Global, line: &str) -> Result<Vec<String>, Fail> {
+    let mut words = Vec::new(alloc);
+    for word in line.split_ascii_whitespace() {
+        words.push(String::from_str(alloc, word)?)?;
+    }
+    Ok(words)
+}
+
+fn folder_of(alloc: Global, files: &[FileOf<'_>], calls: &[Failing]) -> Result<MemFolder, Fail> {
+    let mut folder = MemFolder::new(alloc, plan(alloc, calls)?);
+    for (name, bytes) in files {
+        folder.put(&Name::read(alloc, name)?, bytes)?;
+    }
+    Ok(folder)
+}
+
+fn text(alloc: Global, bytes: &[u8]) -> Result<String, Fail> {
+    match std::str::from_utf8(bytes) {
+        Ok(text) => Ok(String::from_str(alloc, text)?),
+        Err(_) => Ok(String::from_str(alloc, "no text")?),
+    }
+}
+
+// A run of these words over these files, whose calls fail as they are listed for the folder and for the output.
+fn run_over<R: Threads + Sync>(
+    rt: &R,
+    alloc: Global,
+    files: &[FileOf<'_>],
+    line: &str,
+    calls: &[Failing],
+    puts: &[Failing],
+) -> Result<Said, Fail> {
+    let words = split(alloc, line)?;
+    let mut folder = folder_of(alloc, files, calls)?;
+    let mut input = CalmInput::new(Vec::new(alloc), Never);
+    let mut out = MemSink::new(alloc, plan(alloc, puts)?);
+    let mut err = MemSink::new(alloc, plan(alloc, &[])?);
+    let Outcome { status, .. } = run(
+        rt,
+        alloc,
+        &words,
+        &mut folder,
+        &mut input,
+        &mut out,
+        &mut err,
+    );
+    Ok(Said {
+        status,
+        out: text(alloc, out.got())?,
+        err: text(alloc, err.got())?,
+    })
+}
+
+const TWELVE: [u8; 12] = [1, 2, 3, 4, 5, 6, 7, 8, 9, 10, 11, 12];
+
+// Two bands of 3 x 2 bytes in three layouts, a raster that is too short, one whose header is refused, one with a
+// NODATA and no geotransform, and one of 16 bits.
+const FILES: [FileOf<'static>; 14] = [
+    ("a.bil", &TWELVE),
+    ("a.hdr", b"NROWS 2\nNCOLS 3\nNBANDS 2\nLAYOUT BIL\n"),
+    ("b.BIP", &TWELVE),
+    ("b.HDR", b"NROWS 2\r\nNCOLS 3\r\nNBANDS 2\r\nLAYOUT BIP\r\n"),
+    ("d/c.bsq", &TWELVE),
+    ("d/c.hdr", b"NROWS 2\nNCOLS 3\nNBANDS 2\nLAYOUT BSQ\n"),
+    ("s.bsq", &[10, 20, 30]),
+    (
+        "s.hdr",
+        b"NROWS 2\nNCOLS 2\nNBANDS 1\nNBITS 8\nLAYOUT BSQ\nBYTEORDER I\n",
+    ),
+    ("m.bil", &TWELVE),
+    ("m.hdr", b"NROWS 1\nNCOLS 1\nPIXELTYPE SIGNEDINT\n"),
+    ("n.bil", &[7, 9]),
+    ("n.hdr", b"NROWS 1\nNCOLS 2\nNODATA 9\n"),
+    ("w.bil", &[255, 254]),
+    (
+        "w.hdr",
+        b"NROWS 1\nNCOLS 1\nNBITS 16\nBYTEORDER M\nPIXELTYPE SIGNEDINT\n",
+    ),
+];
+
+// A line of words, the status, what is printed and what is told.
+type Row<'a> = (&'a str, u8, &'a str, &'a str);
+
+fn try_rows<R: Threads + Sync>(rt: &R, alloc: Global, rows: &[Row<'_>]) -> Result<bool, Fail> {
+    for (line, status, out, err) in rows {
+        let said = run_over(rt, alloc, &FILES, line, &[], &[])?;
+        if said.status != *status || said.out.as_str() != *out || said.err.as_str() != *err {
+            return Ok(false);
+        }
+    }
+    Ok(true)
+}
+
+#[test]
+fn values(rt: HostRuntime) -> Result<(), Fail> {
+    let rows = [
+        ("gdallocationinfo -valonly a.bil 2 1", 0, "9\n12\n", ""),
+        ("gdallocationinfo -valonly b.BIP 2 1", 0, "11\n12\n", ""),
+        (
+            "gdallocationinfo -valonly d/../d/c.bsq 2 1",
+            0,
+            "6\n12\n",
+            "",
+        ),
+        (
+            "gdallocationinfo a.bil -b 2 2.9 -valonly 1.5",
+            0,
+            "12\n",
+            "",
+        ),
+        (
+            "gdallocationinfo -valonly -b 2 -b 1 a.bil 0 0",
+            0,
+            "4\n1\n",
+            "",
+        ),
+        ("gdallocationinfo -valonly a.bil 3 1", 0, "\n", ""),
+        ("gdallocationinfo -valonly a.bil 2 -0.5", 0, "\n", ""),
+        (
+            "gdallocationinfo --config A B -valonly w.bil 0 0",
+            0,
+            "-2\n",
+            "",
+        ),
+        (
+            "gdalinfo n.bil",
+            0,
+            "Driver: EHdr\nFiles: n.bil\n       n.hdr\nSize is 2, 1\nBand 1 Block=2x1 Type=Byte\n  NoData Value=9\n",
+            "",
+        ),
+    ];
+    assert!(rt; try_rows(&rt, rt.alloc(), &rows)?);
+    Ok(())
+}
+
+#[test]
+fn refusals(rt: HostRuntime) -> Result<(), Fail> {
+    let rows = [
+        ("", 1, "", "ERROR 1: word 0 doesn't fit\n"),
+        ("gdalinfo", 1, "", "ERROR 1: word 1 doesn't fit\n"),
+        (
+            "gdalinfo a.bil b.bil",
+            1,
+            "",
+            "ERROR 1: word 2 doesn't fit\n",
+        ),
+        (
+            "gdalinfo --config A",
+            1,
+            "",
+            "ERROR 1: word 3 doesn't fit\n",
+        ),
+        (
+            "gdallocationinfo -valonly a.bil 1 0 7",
+            1,
+            "",
+            "ERROR 1: word 5 doesn't fit\n",
+        ),
+        (
+            "gdallocationinfo a.bil 1 0",
+            1,
+            "",
+            "ERROR 1: word 4 doesn't fit\n",
+        ),
+        (
+            "gdallocationinfo -lifonly a.bil -b x 1 0",
+            1,
+            "",
+            "ERROR 1: word 1 doesn't fit\n",
+        ),
+        (
+            "gdalinfo none.bil",
+            1,
+            "",
+            "ERROR 4: none.bil: no such file\n",
+        ),
+        (
+            "gdalinfo a.tif",
+            1,
+            "",
+            "ERROR 4: a.tif: not recognized as a supported format\n",
+        ),
+        (
+            "gdallocationinfo -valonly s.bsq 1 0",
+            1,
+            "",
+            "ERROR 4: s.bsq: needs 4 bytes, has 3\n",
+        ),
+        (
+            "gdalinfo m.bil",
+            1,
+            "",
+            "ERROR 4: m.hdr: malformed hdr (3)\n",
+        ),
+        (
+            "gdallocationinfo -valonly a.bil -b 3 2 1",
+            1,
+            "",
+            "ERROR 5: no band 3\n",
+        ),
+    ];
+    assert!(rt; try_rows(&rt, rt.alloc(), &rows)?);
+    Ok(())
+}
+
+// Each call of the folder and of the output fails in turn; what was printed is a first part of the text.
+#[test]
+fn failing_calls(rt: HostRuntime) -> Result<(), Fail> {
+    let alloc = rt.alloc();
+    let line = "gdallocationinfo -valonly a.bil 2 1";
+    let prefixes = ["", "", "", "", "9\n"];
+    let mut number = 0u64;
+    for prefix in prefixes {
+        number = number.saturating_add(1);
+        let said = run_over(&rt, alloc, &FILES, line, &[Failing::Call(number)], &[])?;
+        assert_eq!(rt; said.status, 2);
+        assert_eq!(rt; said.out.as_str(), prefix);
+        assert_eq!(rt; said.err.as_str(), "ERROR 3: a file call failed\n");
+    }
+    let printed = ["", "9", "9\n", "9\n12"];
+    let mut put = 0u64;
+    for prefix in printed {
+        put = put.saturating_add(1);
+        let said = run_over(
+            &rt,
+            alloc,
+            &FILES,
+            line,
+            &[],
+            &[Failing::Of(Method::Put, put)],
+        )?;
+        assert_eq!(rt; said.status, 2);
+        assert_eq!(rt; said.out.as_str(), prefix);
+        assert_eq!(rt; said.err.as_str(), "ERROR 3: writing the output failed\n");
+    }
+    Ok(())
+}
