@@ -5,6 +5,7 @@ ghost use Rattle.outside.specs.Outside.{Files};
 ghost use Rattle.outside.specs.Causes.{HasCause};
 ghost use Rattle.outside.specs.Names.{extension_of, is_raw, header_of};
 ghost use Rattle.catalog.specs.Outcomes.{IsOutside, IsMemory};
+ghost use Rattle.catalog.specs.Dataset.{IsDatasetHead};
 ghost use Rattle.catalog.specs.Heads.{raw_band, raw_head, raw_head_in, head_in, IsKnown, RefusesUnknown};
 
 use crate::raw::{header_name, kind_of, open_beside};
@@ -104,6 +105,7 @@ pub fn head_of<F: Folder>(
     verify: bool,
 ) -> Result<Head, WalkFault>
     ensures told { (m : Files) → F.names folder.old ≡ Some m → Gives IsOutside (λ h. h) result (head_in m verify name.now) }
+    ensures valid { IfOk result IsDatasetHead }
     ensures unknown { RefusesUnknown name.now result }
     ensures names { F.names folder.new ≡ F.names folder.old }
     ensures write_calls { F.write_calls folder.new ≡ F.write_calls folder.old }

@@ -4,7 +4,7 @@ ghost use Rattle.std.specs.Option.{option_map};
 ghost use Rattle.esri_hdr.specs.Lines.{lookup};
 ghost use Rattle.geotransform.specs.Decimal.{IsRead};
 ghost use Rattle.geotransform.specs.Types.{is_in};
-ghost use Rattle.esri_hdr.specs.Head.{IsShape, RowsFit, GeoFits, place_in, step_in, geo_in, is_half_near, when_in, nodata_in, shape_of, row_len, rows_of, geo_of, head_from, head_of, esri_head};
+ghost use Rattle.esri_hdr.specs.Head.{IsShape, RowsFit, GeoFits, place_in, step_in, geo_in, is_half_near, when_in, nodata_in, shape_of, row_len, rows_of, geo_of, head_from, head_of, esri_head, IsHead};
 
 use crate::head::RawHead;
 use crate::keys::{
@@ -221,6 +221,7 @@ fn head_of(found: &Found<'_>) -> Result<RawHead, HdrFault>
 #[tactic(auto, unfolding(crate::specs::Head::esri_head))]
 pub fn read(bytes: &[u8]) -> Result<RawHead, HdrFault>
     ensures head { result ≡ esri_head bytes.now }
+    ensures valid { IfOk result IsHead }
 {
     if bytes.len() > 1_048_576 {
         return Err(HdrFault::Limit);

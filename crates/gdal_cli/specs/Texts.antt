@@ -1,13 +1,12 @@
 -- The lines of values and of faults.
 use Rattle.std.specs.Prelude.{ℕ, ℤ, List, [], ◌∷◌, ◌++◌, codes, flat_map, Option, Some, None}
 use Rattle.std.specs.Fmt.{decimal, signed_decimal}
-use Rattle.esri_hdr.specs.declared.parts.HdrFault.{HdrFault}
-use Rattle.esri_hdr.specs.declared.parts.HdrFault.TheVariants as hdr
+use Rattle.esri_hdr.specs.Faults.{fault_number}
 use Rattle.geotransform.specs.declared.faults.PlanFault.{PlanFault}
 use Rattle.geotransform.specs.declared.faults.PlanFault.TheVariants.{NoBand, NoGeo, EmptyWindow, Limit, Outside, BandCount, Unfit}
 use Rattle.catalog.specs.declared.faults.Bad.{Bad}
 use Rattle.catalog.specs.declared.faults.Bad.TheVariants as bad
-use Rattle.info_report.specs.Report.{text}
+use Rattle.lists_and_answers.specs.Texts.{text}
 use Rattle.gdal_cli.specs.declared.faults.Fault.{Fault}
 use Rattle.gdal_cli.specs.declared.faults.Fault.TheVariants.{Usage, Absent, NotRecognized, Malformed, Short, Plan, FolderFault, OutFault, Memory}
 
@@ -15,19 +14,12 @@ use Rattle.gdal_cli.specs.declared.faults.Fault.TheVariants.{Usage, Absent, NotR
 abbrev pub value_line : ℤ → List ℕ
 value_line v = text (signed_decimal v ∷ codes "\n" ∷ [])
 
--- the number of a header's fault
-abbrev pub hdr_number : HdrFault → ℕ
-hdr_number hdr.MissingKey = 1
-hdr_number hdr.BadValue = 2
-hdr_number hdr.Unsupported = 3
-hdr_number hdr.Limit = 4
-
 -- the line of a file that isn't of its form
 abbrev pub form_line : List ℕ → List ℕ → ℕ → List ℕ
 form_line name form number = text (codes "ERROR 4: " ∷ name ∷ codes ": malformed " ∷ form ∷ codes " (" ∷ decimal number ∷ codes ")\n" ∷ [])
 
 abbrev pub bad_line : List ℕ → Bad → List ℕ
-bad_line name (bad.Hdr fault) = form_line name (codes "hdr") (hdr_number fault)
+bad_line name (bad.Hdr fault) = form_line name (codes "hdr") (fault_number fault)
 bad_line name bad.List = form_line name (codes "list") 1
 
 -- the line of what can't be given

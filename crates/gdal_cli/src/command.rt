@@ -1,7 +1,8 @@
 // What the words of a command line ask for.
 ghost use Rattle.std.specs.Prelude.{◌≡◌, ◌≤◌, ◌&&◌, nat_le, if◌then◌else◌, Some, None};
+ghost use Rattle.geotransform.specs.Decimal.{IsRead, ticks_of};
 
-use geotransform::Ticks;
+use geotransform::{Ticks, read_decimal};
 use lists_and_answers::Items;
 use outside::Name;
 use std::marker::Model;
@@ -55,6 +56,46 @@ impl BandNumber {
     }
 }
 
+/// A number of pixels as a decimal text gives it: a multiple of 18 ticks, below 10^12 units in magnitude.
+#[derive(Clone, Copy)]
+pub struct Position {
+    ticks: Ticks,
+}
+
+impl Model for Position {
+    ghost use Rattle.std.specs.Prelude.{ℤ};
+    ghost use Rattle.geotransform.specs.Decimal.{IsRead};
+
+    ghost Value = { ℤ };
+
+    ghost view = { λ p. p.ticks };
+
+    ghost invariant = { λ p. IsRead p.ticks };
+
+    ghost inverse = { λ v. record { ticks = v } };
+}
+
+impl Position {
+    /// The number that a text gives. None comes exactly where it is no decimal text, or one whose value reaches
+    /// 10^12 units.
+    pub fn read(text: &[u8]) -> Option<Position>
+        ensures value { result ≡ ticks_of text.now }
+    {
+        match read_decimal(text) {
+            Some(ticks) => Some(Position { ticks }),
+            None => None,
+        }
+    }
+
+    /// The number in ticks, of which 180,000,000,000,000,000 make a pixel.
+    pub fn get(self) -> Ticks
+        ensures value { result ≡ self }
+        ensures read { IsRead result }
+    {
+        self.ticks
+    }
+}
+
 /// Numbers of bands, in the order in which the words give them.
 pub type BandNumbers = Items<BandNumber>;
 
@@ -65,11 +106,11 @@ pub enum Job {
     Info {
         name: Name,
     },
-    /// The values of the chosen bands, or of all where none is chosen, at a column and a line, both in pixels.
+    /// The values of the chosen bands, or of all where none is chosen, at a column and a line.
     Locate {
         name: Name,
-        x: Ticks,
-        y: Ticks,
+        x: Position,
+        y: Position,
         bands: BandNumbers,
     },
 }

@@ -6,10 +6,9 @@ ghost use Rattle.gdal_cli.specs.Location.{location_in};
 ghost use Rattle.gdal_cli.specs.Run.{Ends, ran_of, info_in, printed_by, dataset_of, RefusesUnknown};
 
 use crate::Fault;
-use crate::command::{BandNumbers, Command, Job};
+use crate::command::{BandNumbers, Command, Job, Position};
 use crate::location::{chosen, put_point};
 use catalog::{head_of, open_raw};
-use geotransform::Ticks;
 use info_report::write_info;
 use outside::{Folder, Name, Sink};
 use std::alloc::Global;
@@ -40,8 +39,8 @@ fn put_location<F: Folder, O: Sink>(
     folder: &mut F,
     out: &mut O,
     name: &Name,
-    x: Ticks,
-    y: Ticks,
+    x: Position,
+    y: Position,
     bands: BandNumbers,
 ) -> Result<(), Fault>
     ensures told { (m : Files) → F.names folder.old ≡ Some m → Ends (ran_of (location_in m name.now x y bands)) result (O.got out.old) (O.got out.new) }

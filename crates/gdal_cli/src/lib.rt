@@ -12,7 +12,7 @@ mod tests;
 mod texts;
 mod words;
 
-pub use command::{BandNumber, BandNumbers, Command, Job};
+pub use command::{BandNumber, BandNumbers, Command, Job, Position};
 pub use faults::{Fault, Outcome};
 pub use running::{run, tell};
 pub use spoken::WordFault;

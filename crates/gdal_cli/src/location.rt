@@ -9,7 +9,7 @@ ghost use Rattle.gdal_cli.specs.Location.{place_within, chosen_in, values_text, 
 ghost use Rattle.gdal_cli.specs.Texts.{value_line};
 
 use crate::Fault;
-use crate::command::{BandNumber, BandNumbers};
+use crate::command::{BandNumber, BandNumbers, Position};
 use crate::texts::put_value;
 use esri_hdr::RawHead;
 use geotransform::{PlanFault, Sample, Ticks, floor_of};
@@ -17,15 +17,12 @@ use interleaved_raw::{decode_sample, position, sample_len};
 use outside::{Failed, Folder, Sink};
 use std::alloc::Global;
 
-/// The ticks of a pixel, where a column or a line is told in pixels.
-const UNIT: i128 = 180_000_000_000_000_000;
-
 // The column or the line in which a number of pixels lies, where the side has it.
-fn place_within(side: u32, place: Ticks) -> Option<u32>
+fn place_within(side: u32, place: Position) -> Option<u32>
     ensures value { result ≡ place_within side place }
     ensures within { IfSome result (λ n. n < side) }
 {
-    let whole = floor_of(place.get(), UNIT);
+    let whole = floor_of(place.get().get(), Ticks::UNIT.get());
     if whole < 0 || whole >= i128::from(side) {
         None
     } else {
@@ -173,8 +170,8 @@ pub fn put_point<F: Folder, O: Sink>(
     out: &mut O,
     head: &RawHead,
     file: &mut F::File,
-    x: Ticks,
-    y: Ticks,
+    x: Position,
+    y: Position,
     bands: &[BandNumber],
 ) -> Result<(), Fault>
     requires long { needed_of head.now ≤ F.file_len file.old }

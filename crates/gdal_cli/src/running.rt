@@ -62,6 +62,7 @@ fn status(fault: &Option<Fault>) -> u8
 fn say<E: Sink>(err: &mut E, fault: &Option<Fault>)
     ensures whole { (Rose (E.faults err.old) (E.faults err.new) → ⊥) → Gets (line_of fault.now) (E.got err.old) (E.got err.new) }
     ensures part { GetsPart (line_of fault.now) (E.got err.old) (E.got err.new) }
+    ensures later { E.faults err.old ≤ E.faults err.new }
 {
     if let Some(fault) = fault {
         let _ = put_fault(err, fault);
@@ -74,6 +75,7 @@ pub fn tell<E: Sink>(err: &mut E, fault: Option<Fault>) -> Outcome
     ensures status { result.status ≡ status_of fault }
     ensures whole { (Rose (E.faults err.old) (E.faults err.new) → ⊥) → Gets (line_of fault) (E.got err.old) (E.got err.new) }
     ensures part { GetsPart (line_of fault) (E.got err.old) (E.got err.new) }
+    ensures later { E.faults err.old ≤ E.faults err.new }
 {
     say(err, &fault);
     let status = status(&fault);
@@ -108,6 +110,11 @@ pub fn run<R: Threads + Sync, F: Folder, I: Input, O: Sink, E: Sink>(
     ensures folder_fault { result.fault ≡ Some Fault.FolderFault → Rose (F.faults folder.old) (F.faults folder.new) }
     ensures out_fault { result.fault ≡ Some Fault.OutFault → Rose (O.faults out.old) (O.faults out.new) }
 
+    // No count of failed calls falls.
+    ensures folder_later { F.faults folder.old ≤ F.faults folder.new }
+    ensures out_later { O.faults out.old ≤ O.faults out.new }
+    ensures err_later { E.faults err.old ≤ E.faults err.new }
+
     // Over every folder, usage and unknown extensions are refused exactly where they stand.
     ensures usage { RefusesWords (words_of (map string_bytes words.now)) result.fault }
     ensures not_recognized { RefusesDataset (words_of (map string_bytes words.now)) result.fault }
@@ -116,6 +123,10 @@ pub fn run<R: Threads + Sync, F: Folder, I: Input, O: Sink, E: Sink>(
     ensures complete { (m : Files) → F.names folder.old ≡ Some m → (i : List ℕ) → I.left input.old ≡ Some i
         → (Rose (F.faults folder.old) (F.faults folder.new) → ⊥) → (Rose (I.faults input.old) (I.faults input.new) → ⊥) → (Rose (O.faults out.old) (O.faults out.new) → ⊥)
         → (result.fault ≡ (run_of (map string_bytes words.now) m i).fault) ⊎ (result.fault ≡ Some Fault.Memory) }
+
+    // Over every folder, the error stream gets the line of the fault, or a first part where it fails.
+    ensures fault_told { (Rose (E.faults err.old) (E.faults err.new) → ⊥) → Gets (line_of result.fault) (E.got err.old) (E.got err.new) }
+    ensures fault_part { GetsPart (line_of result.fault) (E.got err.old) (E.got err.new) }
 
     // The error stream gets the warnings and the line of the fault, or a first part where it fails.
     ensures errors { (m : Files) → F.names folder.old ≡ Some m → (i : List ℕ) → I.left input.old ≡ Some i

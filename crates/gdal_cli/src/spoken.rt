@@ -1,6 +1,5 @@
 // What the words of a command line have said so far.
-use crate::command::BandNumbers;
-use geotransform::Ticks;
+use crate::command::{BandNumbers, Position};
 use outside::Name;
 
 /// The command that the first word names.
@@ -41,8 +40,8 @@ pub struct Spoken {
     pub values_only: bool,
     pub bands: BandNumbers,
     pub name: Option<Name>,
-    pub x: Option<Ticks>,
-    pub y: Option<Ticks>,
+    pub x: Option<Position>,
+    pub y: Option<Position>,
 }
 
 /// Why words are no command.

@@ -2,12 +2,11 @@
 ghost use Rattle.std.specs.Prelude.{◌≡◌, ◌++◌, [], ◌∷◌, decimal, ℤ, OnOk, OnErr};
 ghost use Rattle.outside.specs.Streams.{Gets, GetsPart};
 ghost use Rattle.outside.specs.Causes.{FailsWith};
-ghost use Rattle.info_report.specs.Report.{text};
-ghost use Rattle.gdal_cli.specs.Texts.{value_line, hdr_number, form_line, bad_line, plan_line, error_line};
+ghost use Rattle.lists_and_answers.specs.Texts.{text};
+ghost use Rattle.gdal_cli.specs.Texts.{value_line, form_line, bad_line, plan_line, error_line};
 
 use crate::Fault;
 use catalog::Bad;
-use esri_hdr::HdrFault;
 use geotransform::{PlanFault, Sample};
 use itoa::Buffer;
 use outside::{Failed, Name, Sink, put_all};
@@ -56,17 +55,6 @@ fn put_short<S: Sink>(sink: &mut S, name: &Name, needed: u64, has: u64) -> Resul
     )
 }
 
-fn hdr_number(fault: HdrFault) -> u64
-    ensures { result ≡ hdr_number fault }
-{
-    match fault {
-        HdrFault::MissingKey => 1,
-        HdrFault::BadValue => 2,
-        HdrFault::Unsupported => 3,
-        HdrFault::Limit => 4,
-    }
-}
-
 // The line of a file that isn't of its form, from the word for the form and the number of its fault.
 fn put_form<S: Sink>(sink: &mut S, name: &Name, form: &[u8], number: u64) -> Result<(), Failed>
     ensures ok { OnOk result (Gets (form_line name.now form.now number) (S.got sink.old) (S.got sink.new)) }
@@ -96,7 +84,7 @@ fn put_malformed<S: Sink>(sink: &mut S, name: &Name, bad: Bad) -> Result<(), Fai
     ensures cause { FailsWith (S.faults sink.old) (S.faults sink.new) result }
 {
     match bad {
-        Bad::Hdr(fault) => put_form(sink, name, b"hdr", hdr_number(fault)),
+        Bad::Hdr(fault) => put_form(sink, name, b"hdr", u64::from(fault.number())),
         Bad::List => put_form(sink, name, b"list", 1),
     }
 }

@@ -4,9 +4,9 @@ ghost use Rattle.lists_and_answers.specs.Answers.{Gives};
 ghost use Rattle.outside.specs.Names.{same_letters};
 ghost use Rattle.gdal_cli.specs.Words.{tool_of, option_of, own_option_of, begins_with_dash, may_be_negative, is_positional, band_of, name_of, is_no, setting_of, with_option, with_name, with_x, with_y, behind_name, placed, free, with_band, taken, walked, nothing_said, is_whole, job_of, finished, words_of, IsMemory};
 
-use crate::command::{BandNumber, BandNumbers, Command, Job};
+use crate::command::{BandNumber, BandNumbers, Command, Job, Position};
 use crate::spoken::{Awaited, OptionWord, Spoken, Tool, WordFault};
-use geotransform::{is_decimal, read_decimal, read_number};
+use geotransform::{is_decimal, read_number};
 use outside::{Name, NameFault};
 use std::alloc::Global;
 
@@ -145,7 +145,7 @@ fn with_y(at: u64, mut said: Spoken, word: &str) -> Result<Spoken, WordFault>
     if said.y.is_some() {
         return Err(WordFault::Usage { word: at });
     }
-    match read_decimal(word.as_bytes()) {
+    match Position::read(word.as_bytes()) {
         Some(y) => {
             said.y = Some(y);
             Ok(said)
@@ -160,7 +160,7 @@ fn with_x(at: u64, mut said: Spoken, word: &str) -> Result<Spoken, WordFault>
     if said.x.is_some() {
         return with_y(at, said, word);
     }
-    match read_decimal(word.as_bytes()) {
+    match Position::read(word.as_bytes()) {
         Some(x) => {
             said.x = Some(x);
             Ok(said)

@@ -1,7 +1,8 @@
 -- The report of a dataset, as one text of its head.
-use Rattle.std.specs.Prelude.{ℕ, ℤ, pos, ◌+◌, List, [], ◌∷◌, ◌++◌, codes, flat_map, Option, Some, None}
+use Rattle.std.specs.Prelude.{ℕ, ℤ, pos, ◌+◌, List, [], ◌∷◌, ◌++◌, codes, Option, Some, None}
 use Rattle.std.specs.List.{join_by}
 use Rattle.std.specs.Fmt.{decimal, signed_decimal}
+use Rattle.lists_and_answers.specs.Texts.{text}
 use Rattle.geotransform.specs.Geo.{Transform, corner_of}
 use Rattle.geotransform.specs.Print.{fixed_text}
 use Rattle.geotransform.specs.Types.{name_of}
@@ -10,10 +11,6 @@ use Rattle.catalog.specs.Dataset.{DatasetHead}
 use Rattle.catalog.specs.declared.kind.BandHead.{BandHead}
 use Rattle.catalog.specs.declared.kind.Kind.{Kind}
 use Rattle.catalog.specs.declared.kind.Kind.TheVariants.{Raw}
-
--- these parts, one after another
-abbrev pub text : List (List ℕ) → List ℕ
-text parts = flat_map (λ part. part) parts
 
 -- the driver of a kind
 abbrev pub driver_of : Kind → List ℕ

@@ -26,11 +26,11 @@ fn read_words(rt: &HostRuntime) -> Result<Vec<String>, Fault> {
     Ok(words)
 }
 
-fn main(rt: HostRuntime) -> std::io::Result<ExitCode> {
+fn main(rt: HostRuntime) -> ExitCode {
     let mut err = StdSink::new(rt.stderr());
-    let outcome = match read_words(&rt) {
-        Ok(words) => {
-            let mut folder = DiskFolder::new(rt.clone()?, process::id(rt.process()), rt.alloc());
+    let outcome = match (read_words(&rt), rt.clone()) {
+        (Ok(words), Ok(system)) => {
+            let mut folder = DiskFolder::new(system, process::id(rt.process()), rt.alloc());
             let mut input = StdInput::new(rt.stdin());
             let mut out = StdSink::new(rt.stdout());
             run(
@@ -43,7 +43,8 @@ fn main(rt: HostRuntime) -> std::io::Result<ExitCode> {
                 &mut err,
             )
         }
-        Err(fault) => tell(&mut err, Some(fault)),
+        (Ok(_), Err(_)) => tell(&mut err, Some(Fault::Memory)),
+        (Err(fault), _) => tell(&mut err, Some(fault)),
     };
-    Ok(ExitCode::from(outcome.status))
+    ExitCode::from(outcome.status)
 }

@@ -1,3 +1,4 @@
 pub mod Answers
 pub mod Growth
 pub mod Options
+pub mod Texts

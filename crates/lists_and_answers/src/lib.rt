@@ -2,5 +2,7 @@
 #![tactic(auto)]
 
 mod items;
+#[cfg(test)]
+mod tests;
 
 pub use items::Items;

@@ -6,6 +6,7 @@ use crate::system::{fill_at, is_absent, make_temporary, may_replace, open_regula
 use crate::{Failed, Folder, Name, OpenFault, WriteFault};
 use std::alloc::{AllocError, Global};
 use std::fs::{self, File, OpenFile};
+use std::io::ErrorKind;
 use std::rt::Files;
 
 /// An open file of the system, with the length that it had when it was opened.
@@ -96,6 +97,7 @@ impl<R: Files<File = File> + Clone + Drop + Send> Folder for DiskFolder<R> {
         match open_regular(&self.rt, name.as_str()) {
             Ok((file, len)) => Ok(DiskFile { file, len }),
             Err(e) if is_absent(&e) => Err(OpenFault::Absent),
+            Err(e) if e.kind() == ErrorKind::OutOfMemory => Err(OpenFault::Memory),
             Err(_) => {
                 self.add_fault();
                 Err(OpenFault::Failed)

@@ -1,10 +1,10 @@
 use Rattle.gdal_cli.proofs.texts.put_malformed.Goals as goal
 
 pub returns-in-Hdr-clause-ok : goal.returns-in-Hdr-clause-ok
-returns-in-Hdr-clause-ok g c = rw c.in-Hdr.is (rw c.hdr_number.ensures at c.put_form.ensures.ok)
+returns-in-Hdr-clause-ok g c = rw c.in-Hdr.is (rw (c.from.ensures, c.number.ensures.number) at c.put_form.ensures.ok)
 
 pub returns-in-Hdr-clause-err : goal.returns-in-Hdr-clause-err
-returns-in-Hdr-clause-err g c = rw c.in-Hdr.is (rw c.hdr_number.ensures at c.put_form.ensures.err)
+returns-in-Hdr-clause-err g c = rw c.in-Hdr.is (rw (c.from.ensures, c.number.ensures.number) at c.put_form.ensures.err)
 
 pub returns-in-List-clause-ok : goal.returns-in-List-clause-ok
 returns-in-List-clause-ok g c = rw c.in-List.is c.put_form-in-List.ensures.ok
