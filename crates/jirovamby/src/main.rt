@@ -28,7 +28,8 @@ fn read_words(rt: &HostRuntime) -> Result<Vec<String>, Fault> {
 
 fn main(rt: HostRuntime) -> ExitCode {
     let mut err = StdSink::new(rt.stderr());
-    let outcome = match (read_words(&rt), rt.clone()) {
+    let system: Result<HostRuntime, AllocError> = rt.clone();
+    let outcome = match (read_words(&rt), system) {
         (Ok(words), Ok(system)) => {
             let mut folder = DiskFolder::new(system, process::id(rt.process()), rt.alloc());
             let mut input = StdInput::new(rt.stdin());
