@@ -38,24 +38,34 @@ fn answer(alloc: Global, name: &str, files: &[(&str, &[u8])]) -> Result<String, 
     }
 }
 
+const TWELVE: [u8; 12] = [0; 12];
+
+// A name, the files, and what is said of it.
+type Row<'a> = (&'a str, &'a [(&'a str, &'a [u8])], &'a str);
+
+const ROWS: [Row<'static>; 6] = [
+    ("a.tif", &[], "unknown a.tif"),
+    ("a.bil", &[("a.hdr", HEADER)], "absent a.bil"),
+    ("./a.bil", &[("a.bil", &TWELVE)], "absent a.hdr"),
+    (
+        "a.bil",
+        &[("a.bil", &TWELVE), ("a.hdr", b"")],
+        "malformed a.hdr Hdr(MissingKey)",
+    ),
+    (
+        "a.bil",
+        &[("a.bil", &[0; 11]), ("a.hdr", HEADER)],
+        "short a.bil 12 11",
+    ),
+    ("a.bil", &[("a.bil", &TWELVE), ("a.hdr", HEADER)], ""),
+];
+
 #[test]
 fn refusals(rt: HostRuntime) -> Result<(), Fail> {
     let alloc = rt.alloc();
-    let twelve = [0u8; 12];
-    let data = ("a.bil", twelve.as_slice());
-    let header = ("a.hdr", HEADER);
-    assert_eq!(rt; answer(alloc, "a.tif", &[])?.as_str(), "unknown a.tif");
-    assert_eq!(rt; answer(alloc, "a.bil", &[header])?.as_str(), "absent a.bil");
-    assert_eq!(rt; answer(alloc, "./a.bil", &[data])?.as_str(), "absent a.hdr");
-    assert_eq!(rt;
-        answer(alloc, "a.bil", &[data, ("a.hdr", b"")])?.as_str(),
-        "malformed a.hdr Hdr(MissingKey)"
-    );
-    assert_eq!(rt;
-        answer(alloc, "a.bil", &[("a.bil", &twelve[..11]), header])?.as_str(),
-        "short a.bil 12 11"
-    );
-    assert_eq!(rt; answer(alloc, "a.bil", &[data, header])?.as_str(), "");
+    for (name, files, said) in ROWS {
+        assert_eq!(rt; answer(alloc, name, files)?.as_str(), said);
+    }
     Ok(())
 }
 
