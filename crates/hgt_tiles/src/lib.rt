@@ -2,9 +2,11 @@
 #![tactic(auto)]
 
 pub mod corner;
+pub mod laws;
 pub mod places;
 pub mod samples;
 
-pub use corner::{Corner, HgtFault, read_name};
-pub use places::{side, transform};
+pub use corner::{Corner, HgtFault, name_of, read_name};
+pub use laws::{corner_is_centre, fit_is_exact, name_reads_back, tile_fits};
+pub use places::{fit, side, transform};
 pub use samples::{decode_row, encode_row};
