@@ -1,21 +1,21 @@
 -- Lemmas on the samples of a row.
 use Rattle.std.proofs.Common.{◌≡◌, ℕ, ℤ, ◌+◌, ◌-◌, ◌*◌, ◌<◌, ◌≤◌, ◌^◌, true, List, [], length, take, drop, map, set, get_or, ◌++◌, sym, ap, ◌∙◌, arith, pos, negsuc, ⊎_elim, zero-add}
-use Rattle.std.specs.List.{range_with_len}
+use Rattle.std.specs.List.{range_with_len, flat_map}
 use Rattle.std.specs.Int.{w16, w128, cast_signed, cast_unsigned}
 use mir.Val.{SFits}
 use Rattle.std.proofs.lemmas.Int.{ints}
 use Rattle.std.proofs.lemmas.Bool.Decides.{nat_tests}
 use Rattle.std.proofs.lemmas.Bool.{cases_lt}
-use Rattle.std.proofs.lemmas.List.{take_at, drop_at, length-take-le, drop-take, drop-drop, take-take, take_rest, append-nil}
+use Rattle.std.proofs.lemmas.List.{take_at, drop_at, length-take-le, drop-take, drop-drop, take-take, take_rest, append-nil, flat_map_more, take_more, take_all}
 use Rattle.std.proofs.lemmas.List.Edits.{fill_by_more}
 use Rattle.std.proofs.lemmas.List.FromFn.{fill_by_all, length-map-range_with_len, get_or-map-range_with_len}
-use Rattle.std.proofs.lemmas.Slice.{take-put_mid_below}
+use Rattle.std.proofs.lemmas.Slice.{take-put_mid_below, take-put_mid}
 use borrow.Rule.Slice.PartMut.{put_mid, post_of}
 use Rattle.byteorder.specs.Endian.{big_number, big_bytes}
 use Rattle.byteorder.specs.Numbers.{big_number-reads_back, length-bytes_high_first}
 use Rattle.geotransform.specs.Types.{is_in}
 use Rattle.geotransform.specs.declared.types.PixelType.TheVariants.{Int16}
-use Rattle.hgt_tiles.specs.Samples.{sample_at, sample_bytes, hgt_at, item_of, row_of, line_of, StandsAt}
+use Rattle.hgt_tiles.specs.Samples.{sample_at, sample_bytes, hgt_at, item_of, row_of, row_bytes, line_of, StandsAt}
 
 pub filled : (f : ℕ → ℤ) (xs : List ℤ) (n : ℕ) → length xs ≡ n → ((k : ℕ) → k < n → get_or xs k (pos 0) ≡ f k) → xs ≡ map f (range_with_len 0 n)
 filled f xs n e h = fill_by_all f xs n (pos 0) e h
@@ -84,3 +84,18 @@ written_more old ys i k at n samples is_at within len is_ys is_n fits so_far j b
 
 pub sample_bytes_len : (n : ℤ) → length (sample_bytes n) ≡ 2
 sample_bytes_len n = length-bytes_high_first 2 (cast_unsigned w16 n)
+
+-- the bytes of one more sample stand behind those of the earlier ones
+pub bytes_more : (old ys : List ℕ) (i k at : ℕ) (samples : List ℤ) → at ≡ i * 2 → at ≤ length old → length ys ≡ 2 → ys ≡ sample_bytes (get_or samples i (pos 0)) → i < length samples
+    → take (i * 2) old ≡ row_bytes (take i samples)
+    → take ((i + 1) * 2) (put_mid at k old ys) ≡ row_bytes (take (i + 1) samples)
+bytes_more old ys i k at samples is_at within len is_ys below so_far =
+    take-put_mid at k old ys ((i + 1) * 2) (omega arith) within
+    ∙ ap (λ n. take n old ++ ys) is_at
+    ∙ ap (λ (l : List ℕ). l ++ ys) so_far
+    ∙ ap (λ (l : List ℕ). row_bytes (take i samples) ++ l) is_ys
+    ∙ flat_map_more sample_bytes [] (take i samples) (get_or samples i (pos 0))
+    ∙ ap row_bytes (sym (take_more samples i (pos 0) below))
+
+pub bytes_all : (out : List ℕ) (n : ℕ) (samples : List ℤ) → length out ≡ 2 * length samples → n ≡ length samples → take (n * 2) out ≡ row_bytes (take n samples) → out ≡ row_bytes samples
+bytes_all out n samples len is h = sym (take_all (n * 2) out (omega arith)) ∙ h ∙ ap row_bytes (take_all n samples (omega arith))

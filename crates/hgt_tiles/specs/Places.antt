@@ -30,7 +30,8 @@ tile_transform p side = record {
   ox = degrees p.lon -ℤ pos (spacing side / 2);
   oy = degrees (p.lat +ℤ pos 1) +ℤ pos (spacing side / 2);
   dx = pos (spacing side);
-  dy = neg_ℤ (pos (spacing side)) }
+  dy = neg_ℤ (pos (spacing side));
+}
 
 -- twice the centre of column or line k, which is the middle between its two sides
 abbrev pub twice_centre : ℤ → ℤ → ℤ → ℤ

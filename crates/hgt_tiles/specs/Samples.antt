@@ -1,6 +1,6 @@
 -- The samples of a tile's file.
 use Rattle.std.specs.Prelude.{◌≡◌, ◌≤◌, ℕ, ℤ, ◌+◌, ◌*◌, List, length, map, take, drop}
-use Rattle.std.specs.List.{range_with_len}
+use Rattle.std.specs.List.{range_with_len, flat_map}
 use Rattle.std.specs.Int.{w16, cast_signed, cast_unsigned}
 use Rattle.byteorder.specs.Endian.{big_number, big_bytes}
 
@@ -11,6 +11,10 @@ sample_at bytes = cast_signed w16 (big_number 2 (take 2 bytes))
 -- the two bytes that write a sample
 abbrev pub sample_bytes : ℤ → List ℕ
 sample_bytes n = big_bytes 2 (cast_unsigned w16 n)
+
+-- the bytes that write samples one behind the other
+abbrev pub row_bytes : List ℤ → List ℕ
+row_bytes samples = flat_map sample_bytes samples
 
 -- the sample of a file in column x, line y, counted from the north, where a line has `side` samples
 abbrev pub hgt_at : ℕ → List ℕ → ℕ → ℕ → ℤ

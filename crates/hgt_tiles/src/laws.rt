@@ -1,9 +1,10 @@
 // What holds of every tile.
-ghost use Rattle.std.specs.Prelude.{◌≡◌, ℕ, ◌-◌, ℤ, pos, ◌*ℤ◌, ◌≤ℤ◌, Some};
+ghost use Rattle.std.specs.Prelude.{◌≡◌, ℕ, ◌-◌, ℤ, pos, ◌*ℤ◌, ◌≤ℤ◌, ◌+◌, ◌*◌, List, length, Some};
 ghost use Rattle.geotransform.specs.Geo.{Transform};
 ghost use Rattle.geotransform.specs.declared.types.Size.{Size};
 ghost use Rattle.hgt_tiles.specs.Names.{Place, IsPlace, corner_of, name_of};
 ghost use Rattle.hgt_tiles.specs.Places.{IsSide, IsTile, degrees, tile_of, tile_transform, twice_centre};
+ghost use Rattle.hgt_tiles.specs.Samples.{row_of, line_of, StandsAt};
 
 /// The name that is written of a corner is read as the corner.
 pub fn name_reads_back()
@@ -25,4 +26,9 @@ pub fn fit_is_exact()
 /// A tile fits, and its corner is found again, where it isn't at the north pole or at longitude 180.
 pub fn tile_fits()
     ensures same { (p : Place) (side : ℕ) → IsPlace p → IsSide side → p.lat ≤ℤ pos 89 → p.lon ≤ℤ pos 179 → tile_of (record { w = side; h = side }) (tile_transform p side) ≡ Some p }
+{}
+
+/// Bytes that stand in a file at a column of a line are the samples of that line from there on.
+pub fn row_is_of_the_file()
+    ensures same { (file bytes : List ℕ) (side x y n : ℕ) → length bytes ≡ 2 * n → StandsAt file bytes (2 * (y * side + x)) → row_of bytes n ≡ line_of side file x y n }
 {}

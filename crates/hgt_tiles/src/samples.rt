@@ -4,7 +4,7 @@ ghost use Rattle.std.specs.List.{range_with_len, All};
 ghost use Rattle.std.specs.Int.{w16, cast_signed, cast_unsigned};
 ghost use Rattle.geotransform.specs.Types.{is_in};
 ghost use Rattle.geotransform.specs.declared.types.PixelType.TheVariants.{Int16};
-ghost use Rattle.hgt_tiles.specs.Samples.{sample_at, sample_bytes, hgt_at, item_of, row_of, line_of, StandsAt};
+ghost use Rattle.hgt_tiles.specs.Samples.{sample_at, sample_bytes, hgt_at, item_of, row_of, row_bytes, line_of, StandsAt};
 
 use byteorder::{BigEndian, ByteOrder};
 use geotransform::Sample;
@@ -43,6 +43,8 @@ fn write_sample(n: Sample, bytes: &mut [u8])
 pub fn encode_row(samples: &[Sample], out: &mut [u8])
     requires two { length out.old ≡ 2 * length samples.now }
     requires range { All (λ n. is_in Int16 n ≡ true) samples.now }
+    ensures bytes { out.new ≡ row_bytes samples.now }
+    // they are read as the samples again
     ensures samples { row_of out.new (length samples.now) ≡ samples.now }
 {
     for i in 0..samples.len() {
