@@ -1,16 +1,16 @@
 -- A raster fits exactly where it is a tile.
-use Rattle.std.proofs.Common.{◌≡◌, ℕ, ℤ, ◌+◌, ◌-◌, ◌*◌, ◌<◌, ◌≤◌, ◌<ℤ◌, ◌≤ℤ◌, ◌+ℤ◌, ◌-ℤ◌, ◌*ℤ◌, neg_ℤ, true, false, Bool, ap, ◌∙◌, sym, arith, pos, negsuc, refl, Option, Some, None, cond, ⊎_elim, inl, inr}
-use Rattle.std.specs.Prelude.{int_lt, int_le, nat_le, unsigned_abs, ◌&&◌, ◌||◌, ◌==◌, ◌≢◌}
+use Rattle.std.proofs.Common.{◌≡◌, ℕ, ℤ, ◌+◌, ◌-◌, ◌*◌, ◌≤◌, ◌<ℤ◌, ◌≤ℤ◌, ◌+ℤ◌, ◌-ℤ◌, ◌*ℤ◌, neg_ℤ, true, false, Bool, ap, ◌∙◌, sym, arith, pos, negsuc, refl, Option, Some, None, cond, inl, inr}
+use Rattle.std.specs.Prelude.{unsigned_abs}
 use Rattle.std.proofs.lemmas.Int.{ints}
 use Rattle.std.proofs.lemmas.Bool.Decides.{nat_tests}
 use Rattle.lists_and_answers.specs.Options.{◌>>=◌}
 use Rattle.geotransform.specs.Print.{unit}
-use Rattle.geotransform.specs.Places.{floor_of, IsFloor}
-use Rattle.geotransform.specs.Geo.{Transform, along}
+use Rattle.geotransform.specs.Places.{IsFloor}
+use Rattle.geotransform.specs.Geo.{Transform}
 use Rattle.geotransform.specs.declared.types.Size.{Size}
 use Rattle.geotransform.proofs.Floors.{floor_only}
 use Rattle.hgt_tiles.specs.Names.{Place, IsPlace}
-use Rattle.hgt_tiles.specs.Places.{IsSide, spacing, degrees, tile_transform, twice_centre, side_of_size, degree_near, is_at, in_range, when_between, degree_between, lon_of, lat_of, is_north_up, tile_of, IsAt, IsTile}
+use Rattle.hgt_tiles.specs.Places.{IsSide, spacing, degrees, tile_transform, twice_centre, side_of_size, degree_near, in_range, when_between, degree_between, lon_of, lat_of, is_north_up, tile_of, IsAt, IsTile}
 
 in_range_is : (limit : ℕ) (d e : ℤ) → in_range limit d ≡ Some e → (d ≡ e) × (neg_ℤ (pos limit) ≤ℤ e) × (e <ℤ pos limit)
 in_range_is limit d e h = grind (arith, nat_tests, ints)
