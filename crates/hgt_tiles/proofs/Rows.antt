@@ -1,6 +1,6 @@
 -- Lemmas on the samples of a row.
-use Rattle.std.proofs.Common.{◌≡◌, ℕ, ℤ, ◌+◌, ◌-◌, ◌*◌, ◌<◌, ◌≤◌, ◌^◌, true, List, [], length, take, drop, map, set, get_or, ◌++◌, sym, ap, ◌∙◌, arith, pos, negsuc, ⊎_elim, zero-add}
-use Rattle.std.specs.List.{range_with_len}
+use Rattle.std.proofs.Common.{◌≡◌, ℕ, ℤ, ◌+◌, ◌-◌, ◌*◌, ◌<◌, ◌≤◌, ◌^◌, true, List, [], ◌∷◌, zero, suc, refl, length, take, drop, map, set, get_or, ◌++◌, sym, ap, ◌∙◌, arith, pos, negsuc, ⊎_elim, zero-add}
+use Rattle.std.specs.List.{range_with_len, All}
 use Rattle.std.specs.Int.{w16, w128, cast_signed, cast_unsigned}
 use mir.Val.{SFits}
 use Rattle.std.proofs.lemmas.Int.{ints}
@@ -99,3 +99,20 @@ bytes_more old ys i k at samples is_at within len is_ys below so_far =
 
 pub bytes_all : (out : List ℕ) (n : ℕ) (samples : List ℤ) → length out ≡ 2 * length samples → n ≡ length samples → take (n * 2) out ≡ row_bytes (take n samples) → out ≡ row_bytes samples
 bytes_all out n samples len is h = sym (take_all (n * 2) out (omega arith)) ∙ h ∙ ap row_bytes (take_all n samples (omega arith))
+
+first_item : (n : ℤ) (rest : List ℕ) → is_in Int16 n ≡ true → sample_at (sample_bytes n ++ rest) ≡ n
+first_item n rest fits = ap (λ (l : List ℕ). cast_signed w16 (big_number 2 l)) (take_at (sample_bytes n) rest 2 (sample_bytes_len n)) ∙ sample_again n fits
+
+later_item : (n : ℤ) (rest : List ℕ) (i : ℕ) → item_of (sample_bytes n ++ rest) (suc i) ≡ item_of rest i
+later_item n rest i =
+    let place : suc i * 2 ≡ 2 + i * 2 = omega arith in
+    ap sample_at (ap (λ k. drop k (sample_bytes n ++ rest)) place ∙ sym (drop-drop (i * 2) 2 (sample_bytes n ++ rest)) ∙ ap (drop (i * 2)) (drop_at (sample_bytes n) rest 2 (sample_bytes_len n)))
+
+item_again : (samples : List ℤ) → All (λ n. is_in Int16 n ≡ true) samples → (i : ℕ) → i < length samples → item_of (row_bytes samples) i ≡ get_or samples i (pos 0)
+item_again [] all i less = absurd (omega arith)
+item_again (n ∷ ns) all zero less = first_item n (row_bytes ns) (all 0 (pos 0) (omega arith))
+item_again (n ∷ ns) all (suc i) less = later_item n (row_bytes ns) i ∙ item_again ns (λ k d below. all (suc k) d (omega arith)) i (omega arith)
+
+-- the bytes of samples are read as the samples
+pub row_again : (samples : List ℤ) → All (λ n. is_in Int16 n ≡ true) samples → row_of (row_bytes samples) (length samples) ≡ samples
+row_again samples all = sym (fill_by_all (item_of (row_bytes samples)) samples (length samples) (pos 0) refl (λ k less. sym (item_again samples all k less)))

@@ -1,10 +1,13 @@
 // What holds of every tile.
-ghost use Rattle.std.specs.Prelude.{◌≡◌, ℕ, ◌-◌, ℤ, pos, ◌*ℤ◌, ◌≤ℤ◌, ◌+◌, ◌*◌, List, length, Some};
+ghost use Rattle.std.specs.Prelude.{◌≡◌, ℕ, ◌-◌, ℤ, pos, ◌*ℤ◌, ◌≤ℤ◌, ◌+◌, ◌*◌, List, length, true, Some};
+ghost use Rattle.std.specs.List.{All};
+ghost use Rattle.geotransform.specs.Types.{is_in};
+ghost use Rattle.geotransform.specs.declared.types.PixelType.TheVariants.{Int16};
 ghost use Rattle.geotransform.specs.Geo.{Transform};
 ghost use Rattle.geotransform.specs.declared.types.Size.{Size};
 ghost use Rattle.hgt_tiles.specs.Names.{Place, IsPlace, corner_of, name_of};
 ghost use Rattle.hgt_tiles.specs.Places.{IsSide, IsTile, degrees, tile_of, tile_transform, twice_centre};
-ghost use Rattle.hgt_tiles.specs.Samples.{row_of, line_of, StandsAt};
+ghost use Rattle.hgt_tiles.specs.Samples.{row_of, row_bytes, line_of, StandsAt};
 
 /// The name that is written of a corner is read as the corner.
 pub fn name_reads_back()
@@ -31,4 +34,9 @@ pub fn tile_fits()
 /// Bytes that stand in a file at a column of a line are the samples of that line from there on.
 pub fn row_is_of_the_file()
     ensures same { (file bytes : List ℕ) (side x y n : ℕ) → length bytes ≡ 2 * n → StandsAt file bytes (2 * (y * side + x)) → row_of bytes n ≡ line_of side file x y n }
+{}
+
+/// The bytes that are written of samples are read as the samples.
+pub fn row_reads_back()
+    ensures same { (samples : List ℤ) → All (λ n. is_in Int16 n ≡ true) samples → row_of (row_bytes samples) (length samples) ≡ samples }
 {}

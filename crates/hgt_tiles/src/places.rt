@@ -11,6 +11,9 @@ use geotransform::{GeoTransform, Size, Ticks, Unfit, floor_of};
 /// no tile has that length.
 pub fn side(len: u64) -> Option<u32>
     ensures side { result ≡ side_of_length len }
+    ensures known { IfSome result IsSide }
+    // two bytes for each sample
+    ensures whole { IfSome result (λ side. len ≡ 2 * (side * side)) }
 {
     match len {
         2_884_802 => Some(1201),
@@ -42,7 +45,7 @@ fn degrees(n: i32) -> i128
     n as i128 * Ticks::UNIT.get()
 }
 
-/// Half of that, which is whole.
+/// Half a spacing, which is whole.
 fn half_spacing(side: u32) -> i128
     requires { IsSide side }
     ensures value { result ≡ pos (spacing side / 2) }
