@@ -1,16 +1,15 @@
 -- Lemmas on the samples of a row.
-use Rattle.std.proofs.Common.{◌≡◌, ℕ, ℤ, ◌+◌, ◌-◌, ◌*◌, ◌<◌, ◌≤◌, ◌^◌, true, List, [], ◌∷◌, zero, suc, refl, length, take, drop, map, set, get_or, ◌++◌, sym, ap, ◌∙◌, arith, pos, negsuc, ⊎_elim, zero-add}
+use Rattle.std.proofs.Common.{◌≡◌, ℕ, ℤ, ◌+◌, ◌-◌, ◌*◌, ◌<◌, ◌≤◌, ◌^◌, true, List, [], ◌∷◌, zero, suc, refl, length, take, drop, map, set, get_or, ◌++◌, sym, ap, ◌∙◌, arith, pos, negsuc, zero-add}
 use Rattle.std.specs.List.{range_with_len, All}
 use Rattle.std.specs.Int.{w16, w128, cast_signed, cast_unsigned}
 use mir.Val.{SFits}
 use Rattle.std.proofs.lemmas.Int.{ints}
 use Rattle.std.proofs.lemmas.Bool.Decides.{nat_tests}
-use Rattle.std.proofs.lemmas.Bool.{cases_lt}
-use Rattle.std.proofs.lemmas.List.{take_at, drop_at, length-take-le, drop-take, drop-drop, take-take, take_rest, append-nil, flat_map_more, take_more, take_all}
+use Rattle.std.proofs.lemmas.List.{take_at, drop_at, drop-take, drop-drop, take-take, take_rest, append-nil, flat_map_more, take_more, take_all}
 use Rattle.std.proofs.lemmas.List.Edits.{fill_by_more}
 use Rattle.std.proofs.lemmas.List.FromFn.{fill_by_all, length-map-range_with_len, get_or-map-range_with_len}
-use Rattle.std.proofs.lemmas.Slice.{take-put_mid_below, take-put_mid}
-use borrow.Rule.Slice.PartMut.{put_mid, post_of}
+use Rattle.std.proofs.lemmas.Slice.{take-put_mid}
+use borrow.Rule.Slice.PartMut.{put_mid}
 use Rattle.byteorder.specs.Endian.{big_number}
 use Rattle.byteorder.specs.Numbers.{big_number-reads_back, length-bytes_high_first}
 use Rattle.geotransform.specs.Types.{is_in}
@@ -57,30 +56,9 @@ pub in_fits : (n : ℤ) → is_in Int16 n ≡ true → SFits w128 n
 in_fits (pos n) h = record { sfits = grind (arith, nat_tests, ints) }
 in_fits (negsuc n) h = record { sfits = grind (arith, nat_tests, ints) }
 
-before_kept : (a k p : ℕ) (xs ys : List ℕ) → p + 2 ≤ a → a ≤ length xs → take 2 (drop p (put_mid a k xs ys)) ≡ take 2 (drop p xs)
-before_kept a k p xs ys before within = sym (drop-take p 2 (put_mid a k xs ys)) ∙ ap (drop p) (take-put_mid_below a k xs ys (p + 2) before within) ∙ drop-take p 2 xs
-
-here_put : (a k : ℕ) (xs ys : List ℕ) → a ≤ length xs → length ys ≡ 2 → take 2 (drop a (put_mid a k xs ys)) ≡ ys
-here_put a k xs ys within len = ap (take 2) (drop_at (take a xs) (ys ++ post_of a k xs) a (length-take-le a xs within)) ∙ take_at ys (post_of a k xs) 2 len
-
 -- what was written is read again
 sample_again : (n : ℤ) → is_in Int16 n ≡ true → cast_signed w16 (big_number 2 (sample_bytes n)) ≡ n
 sample_again n within = ap (cast_signed w16) (ap (big_number 2) (sym (append-nil (sample_bytes n))) ∙ big_number-reads_back 2 (cast_unsigned w16 n) [] (bits_fit n within)) ∙ value_again n within
-
--- one more sample stands where it was written, and the earlier ones still do
-pub written_more : (old ys : List ℕ) (i k at : ℕ) (n : ℤ) (samples : List ℤ) → at ≡ i * 2 → at ≤ length old → length ys ≡ 2 → ys ≡ sample_bytes n → n ≡ get_or samples i (pos 0) → is_in Int16 n ≡ true
-    → ((j : ℕ) → j < i → item_of old j ≡ get_or samples j (pos 0))
-    → (j : ℕ) → j < i + 1 → item_of (put_mid at k old ys) j ≡ get_or samples j (pos 0)
-written_more old ys i k at n samples is_at within len is_ys is_n fits so_far j below =
-    ⊎_elim
-    (λ (earlier : j < i). ap (λ (l : List ℕ). cast_signed w16 (big_number 2 l)) (before_kept at k (j * 2) old ys (omega arith) within) ∙ so_far j earlier)
-    (λ (last : i ≤ j).
-    let same : j ≡ i = omega arith in
-    let place : j * 2 ≡ at = ap (λ x. x * 2) same ∙ sym is_at in
-    ap (λ x. sample_at (drop x (put_mid at k old ys))) place
-    ∙ ap (λ (l : List ℕ). cast_signed w16 (big_number 2 l)) (here_put at k old ys within len ∙ is_ys)
-    ∙ sample_again n fits ∙ is_n ∙ ap (λ x. get_or samples x (pos 0)) (sym same))
-    (cases_lt j i)
 
 pub sample_bytes_len : (n : ℤ) → length (sample_bytes n) ≡ 2
 sample_bytes_len n = length-bytes_high_first 2 (cast_unsigned w16 n)
