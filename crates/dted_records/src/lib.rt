@@ -5,8 +5,10 @@ mod fields;
 pub mod head;
 pub mod places;
 pub mod reading;
+pub mod records;
 #[cfg(test)]
 mod tests;
 
 pub use head::{DtedFault, DtedHead};
 pub use reading::read_head;
+pub use records::{check_record, decode_record, record_sum};

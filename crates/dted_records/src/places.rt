@@ -1,5 +1,5 @@
 // Where the records of a file lie, and where its posts lie on the ground.
-ghost use Rattle.std.specs.Prelude.{◌≡◌, ◌<◌, ◌≤◌, ◌^◌, pos, unsigned_abs};
+ghost use Rattle.std.specs.Prelude.{◌≡◌, ◌<◌, ◌≤◌, ◌^◌, pos, ◌+ℤ◌, ◌-ℤ◌, neg_ℤ, unsigned_abs};
 ghost use Rattle.geotransform.specs.Geo.{IsTransform};
 ghost use Rattle.dted_records.specs.Places.{arc, spacing, half_spacing, top_of, placed, record_of, record_len, needed_of};
 
@@ -44,6 +44,29 @@ fn top_of(head: &DtedHead) -> i128
     arc(head.lat) + (head.points - 1) as i128 * spacing(head.lat_step)
 }
 
+fn less(place: i128, half: i128) -> Ticks
+    requires place { unsigned_abs place ≤ 10 ^ 22 }
+    requires half { unsigned_abs half ≤ 10 ^ 17 }
+    ensures { result ≡ place -ℤ half }
+{
+    Ticks::of(place - half)
+}
+
+fn more(place: i128, half: i128) -> Ticks
+    requires place { unsigned_abs place ≤ 10 ^ 22 }
+    requires half { unsigned_abs half ≤ 10 ^ 17 }
+    ensures { result ≡ place +ℤ half }
+{
+    Ticks::of(place + half)
+}
+
+fn negated(step: i128) -> Ticks
+    requires { unsigned_abs step ≤ 10 ^ 17 }
+    ensures { result ≡ neg_ℤ step }
+{
+    Ticks::of(-step)
+}
+
 impl DtedHead {
     /// The geotransform, whose origin is half a spacing west of the westernmost line and half a
     /// spacing north of the north points.
@@ -53,10 +76,10 @@ impl DtedHead {
         ensures kept { IsTransform (placed self.now) }
     {
         GeoTransform {
-            ox: Ticks::of(arc(self.lon) - half(self.lon_step)),
-            oy: Ticks::of(top_of(self) + half(self.lat_step)),
+            ox: less(arc(self.lon), half(self.lon_step)),
+            oy: more(top_of(self), half(self.lat_step)),
             dx: Ticks::of(spacing(self.lon_step)),
-            dy: Ticks::of(-spacing(self.lat_step)),
+            dy: negated(spacing(self.lat_step)),
         }
     }
 
