@@ -1,5 +1,6 @@
 -- Lemmas on the fields and the leading records of a head.
-use Rattle.std.proofs.Common.{◌≡◌, ℕ, suc, zero, ◌+◌, ◌-◌, ◌*◌, ◌^◌, ◌<◌, ◌≤◌, List, length, drop, true, false, Some, rules, arith, refl, ap, ◌∙◌}
+use Rattle.std.proofs.Common.{◌≡◌, ℕ, suc, zero, ◌+◌, ◌-◌, ◌*◌, ◌^◌, ◌<◌, ◌≤◌, List, length, drop, Bool, true, false, Some, rules, arith, refl, ap, ◌∙◌}
+use Rattle.std.specs.Prelude.{if◌then◌else◌}
 use Rattle.std.specs.List.{fold, list_all}
 use Rattle.std.specs.Char.{is_ascii_digit}
 use Rattle.std.proofs.lemmas.Str.Parse.{IsNumeralModel, numerals_by_fold, digits_value_short}
@@ -55,3 +56,13 @@ moved bytes skip seen below is rest =
 -- a leading record is within the bytes
 pub room : (bytes : List ℕ) (skip : ℕ) → is_leading (drop skip bytes) ≡ true → skip ≤ length bytes → skip + 80 ≤ length bytes
 room bytes skip is within = grind (arith, nat_tests, length-drop skip bytes)
+
+-- the leading records have 80 bytes each
+pub leading_bound : (most : ℕ) (bytes : List ℕ) → leading most bytes ≤ 80 * most
+unfolding leading
+leading_bound zero bytes = omega arith
+leading_bound (suc most) bytes = at_most (is_leading bytes) (leading most (drop 80 bytes)) most (leading_bound most (drop 80 bytes))
+  where
+  at_most : (b : Bool) (n most : ℕ) → n ≤ 80 * most → (if b then 80 + n else 0) ≤ 80 * suc most
+  at_most true n most h = omega arith
+  at_most false n most h = omega arith

@@ -3,6 +3,7 @@
 
 mod fields;
 pub mod head;
+pub mod laws;
 pub mod places;
 pub mod reading;
 pub mod records;
