@@ -11,8 +11,8 @@ use Rattle.dted_records.proofs.Heads.{leading_bound}
 long_same : (k n : ℕ) (b : List ℕ) → k ≤ n → nat_le k (length (take n b)) ≡ nat_le k (length b)
 long_same k n b h = ap (nat_le k) (length-take n b) ∙ min_same k n (length b) h
   where
-  min_same : (k n l : ℕ) → k ≤ n → nat_le k (min n l) ≡ nat_le k l
-  min_same k n l h = grind (arith, nat_tests)
+    min_same : (k n l : ℕ) → k ≤ n → nat_le k (min n l) ≡ nat_le k l
+    min_same k n l h = grind (arith, nat_tests)
 
 begins_same : (w : List ℕ) (n : ℕ) (b : List ℕ) → length w ≤ n → begins (take n b) w ≡ begins b w
 begins_same w n b h = ap (pointwise (λ x y. x == y) w) (take-take (length w) n b h)
