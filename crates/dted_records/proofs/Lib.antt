@@ -1,0 +1,4 @@
+pub mod Heads
+pub mod Placed
+pub mod Columns
+pub mod Front

@@ -1,0 +1,4 @@
+pub mod Faults
+pub mod Head
+pub mod Places
+pub mod Records
