@@ -3,7 +3,6 @@ ghost use Rattle.std.specs.Prelude.{[], None};
 
 use outside::{Failed, Folder, Name, OpenFault, WriteFault};
 use std::alloc::AllocError;
-use std::convert::Infallible;
 
 /// The names of two files, the length of the first and the text of the second.
 #[derive(Drop)]
@@ -23,10 +22,14 @@ pub struct VastFile {
     len: u64,
 }
 
+/// What a draft would be, of which this folder gives none.
+#[derive(Clone, Copy)]
+pub struct NoDraft;
+
 impl Folder for Vast {
     type File = VastFile;
 
-    type Draft = Infallible;
+    type Draft = NoDraft;
 
     ghost names = { λ s. None };
 
@@ -74,17 +77,17 @@ impl Folder for Vast {
         Ok(())
     }
 
-    fn create(&mut self, _name: &Name) -> Result<Infallible, WriteFault> {
+    fn create(&mut self, _name: &Name) -> Result<NoDraft, WriteFault> {
         Err(WriteFault::Memory)
     }
 
-    fn grow(&mut self, _draft: &mut Infallible, _len: u64) -> Result<(), WriteFault> {
+    fn grow(&mut self, _draft: &mut NoDraft, _len: u64) -> Result<(), WriteFault> {
         Err(WriteFault::Memory)
     }
 
     fn write_at(
         &mut self,
-        _draft: &mut Infallible,
+        _draft: &mut NoDraft,
         _pos: u64,
         _bytes: &[u8],
     ) -> Result<(), WriteFault> {
@@ -92,24 +95,24 @@ impl Folder for Vast {
         Err(WriteFault::Memory)
     }
 
-    fn append(&mut self, _draft: &mut Infallible, _bytes: &[u8]) -> Result<(), WriteFault> {
+    fn append(&mut self, _draft: &mut NoDraft, _bytes: &[u8]) -> Result<(), WriteFault> {
         Err(WriteFault::Memory)
     }
 
     fn draft_read(
         &mut self,
-        _draft: &mut Infallible,
+        _draft: &mut NoDraft,
         _pos: u64,
         _out: &mut [u8],
     ) -> Result<(), Failed> {
         Ok(())
     }
 
-    fn publish(&mut self, _draft: Infallible) -> Result<(), WriteFault> {
+    fn publish(&mut self, _draft: NoDraft) -> Result<(), WriteFault> {
         Err(WriteFault::Memory)
     }
 
-    fn discard(&mut self, _draft: Infallible) {}
+    fn discard(&mut self, _draft: NoDraft) {}
 
     fn fork(&self) -> Result<Self, AllocError> {
         Ok(Vast {
