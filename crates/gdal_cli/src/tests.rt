@@ -46,6 +46,26 @@ fn text(alloc: Global, bytes: &[u8]) -> Result<String, Fail> {
     }
 }
 
+// A run of these words over a folder, whose output's calls fail as they are listed.
+fn run_in<R: Threads + Sync>(
+    rt: &R,
+    alloc: Global,
+    folder: &mut MemFolder,
+    line: &str,
+    puts: &[Failing],
+) -> Result<Said, Fail> {
+    let words = split(alloc, line)?;
+    let mut input = CalmInput::new(Vec::new(alloc), Never);
+    let mut out = MemSink::new(alloc, plan(alloc, puts)?);
+    let mut err = MemSink::new(alloc, plan(alloc, &[])?);
+    let Outcome { status, .. } = run(rt, alloc, &words, folder, &mut input, &mut out, &mut err);
+    Ok(Said {
+        status,
+        out: text(alloc, out.got())?,
+        err: text(alloc, err.got())?,
+    })
+}
+
 // A run of these words over these files, whose calls fail as they are listed for the folder and for the output.
 fn run_over<R: Threads + Sync>(
     rt: &R,
@@ -55,25 +75,8 @@ fn run_over<R: Threads + Sync>(
     calls: &[Failing],
     puts: &[Failing],
 ) -> Result<Said, Fail> {
-    let words = split(alloc, line)?;
     let mut folder = folder_of(alloc, files, calls)?;
-    let mut input = CalmInput::new(Vec::new(alloc), Never);
-    let mut out = MemSink::new(alloc, plan(alloc, puts)?);
-    let mut err = MemSink::new(alloc, plan(alloc, &[])?);
-    let Outcome { status, .. } = run(
-        rt,
-        alloc,
-        &words,
-        &mut folder,
-        &mut input,
-        &mut out,
-        &mut err,
-    );
-    Ok(Said {
-        status,
-        out: text(alloc, out.got())?,
-        err: text(alloc, err.got())?,
-    })
+    run_in(rt, alloc, &mut folder, line, puts)
 }
 
 const TWELVE: [u8; 12] = [1, 2, 3, 4, 5, 6, 7, 8, 9, 10, 11, 12];
@@ -258,5 +261,19 @@ fn failing_calls(rt: HostRuntime) -> Result<(), Fail> {
         assert_eq!(rt; said.out.as_str(), prefix);
         assert_eq!(rt; said.err.as_str(), "ERROR 3: writing the output failed\n");
     }
+    Ok(())
+}
+
+// The greatest width is read, to its last column.
+#[test]
+fn the_widest_raster(rt: HostRuntime) -> Result<(), Fail> {
+    let alloc = rt.alloc();
+    let mut folder = folder_of(alloc, &[("w.hdr", b"NROWS 1\nNCOLS 4194304\n")], &[])?;
+    let bytes = vec![in alloc; 7u8; 4_194_304]?;
+    folder.put(&Name::read(alloc, "w.bil")?, &bytes)?;
+    let line = "gdallocationinfo -valonly w.bil 4194303 0";
+    let said = run_in(&rt, alloc, &mut folder, line, &[])?;
+    assert_eq!(rt; said.status, 0);
+    assert_eq!(rt; said.out.as_str(), "7\n");
     Ok(())
 }
