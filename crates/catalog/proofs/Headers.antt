@@ -30,4 +30,4 @@ too_long text long = let test : nat_lt 1048576 (length text) ≡ true = grind (a
 
 pub long_header : (m : Files) (name text : List ℕ) → file_in m name ≡ Ok text → 1048576 < length text → header_in m name ≡ Err (Malformed name (Hdr Limit))
 unfolding header_in
-long_header m name text is long = rw is (ap (named name) (too_long text long))
+long_header m name text is long = rw is (ap (named (λ f. Malformed name (Hdr f))) (too_long text long))

@@ -1,4 +1,9 @@
 pub mod Bands
+pub mod Cells
+pub mod Datasets
 mod Examples
 pub mod Headers
+pub mod Numbers
+pub mod Records
+pub mod Walked
 pub mod Whole

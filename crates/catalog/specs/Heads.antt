@@ -1,19 +1,31 @@
 -- What the files of a folder say of a dataset, or its first refusal.
-use Rattle.std.specs.Prelude.{ℕ, ◌≡◌, ◌⊎◌, Bool, List, [], ◌∷◌, length, replicate, nat_lt, Option, Some, None, Result, Ok, Err, ok_or, option_map, if◌then◌else◌}
+use Rattle.std.specs.Prelude.{ℕ, ◌≡◌, ◌⊎◌, Bool, true, false, not, List, [], ◌∷◌, length, nat_lt, Option, Some, None, Result, Ok, Err, ok_or, option_map, option_and_then, if◌then◌else◌}
+use Rattle.std.specs.List.{range_with_len}
 use Rattle.std.specs.FinMap.{get}
 use Rattle.lists_and_answers.specs.Answers.{◌>>=◌}
 use Rattle.outside.specs.Outside.{Files}
-use Rattle.outside.specs.Names.{extension_of, header_of}
+use Rattle.outside.specs.Names.{extension_of, header_of, last_part}
 use Rattle.outside.specs.declared.name.Ext.{Ext}
-use Rattle.outside.specs.declared.name.Ext.TheVariants.{Bil, Bip, Bsq}
+use Rattle.outside.specs.declared.name.Ext.TheVariants.{Bil, Bip, Bsq, Dt0, Dt1, Dt2, Hgt, Asc, Grd, Vrt}
 use Rattle.esri_hdr.specs.declared.parts.HdrFault.{HdrFault}
-use Rattle.esri_hdr.specs.Head.{Head, esri_head, geotransform_of}
-use Rattle.interleaved_raw.specs.Raw.{needed_of}
-use Rattle.catalog.specs.Dataset.{DatasetHead, block_of}
-use Rattle.catalog.specs.declared.kind.BandHead.{BandHead}
+use Rattle.esri_hdr.specs.Head.{Head, esri_head}
+use Rattle.interleaved_raw.specs.Raw as raw
+use Rattle.dted_records.specs.declared.head.DtedFault.{DtedFault}
+use Rattle.dted_records.specs.declared.head.DtedFault.TheVariants.{BadRecord}
+use Rattle.dted_records.specs.Head as dted
+use Rattle.dted_records.specs.Places as dted_places
+use Rattle.dted_records.specs.Records.{is_record}
+use Rattle.hgt_tiles.specs.declared.corner.HgtFault.{HgtFault}
+use Rattle.hgt_tiles.specs.declared.corner.HgtFault.TheVariants.{BadName, BadLength}
+use Rattle.hgt_tiles.specs.Names as hgt_names
+use Rattle.hgt_tiles.specs.Places as hgt_places
+use Rattle.catalog.specs.Dataset.{DatasetHead}
+use Rattle.catalog.specs.Drivers.{Dataset, dataset_of}
+use Rattle.catalog.specs.declared.driver.Found.{Found}
 use Rattle.catalog.specs.declared.kind.Kind.{Kind}
-use Rattle.catalog.specs.declared.kind.Kind.TheVariants.{Raw}
-use Rattle.catalog.specs.declared.faults.Bad.TheVariants.{Hdr}
+use Rattle.catalog.specs.declared.kind.Kind.TheVariants as kinds
+use Rattle.catalog.specs.declared.driver.DriverHead.TheVariants as drivers
+use Rattle.catalog.specs.declared.faults.Bad.TheVariants as bad
 use Rattle.catalog.specs.declared.faults.WalkFault.{WalkFault}
 use Rattle.catalog.specs.declared.faults.WalkFault.TheVariants.{Absent, NotRecognized, Malformed, Short, Memory}
 
@@ -21,68 +33,110 @@ use Rattle.catalog.specs.declared.faults.WalkFault.TheVariants.{Absent, NotRecog
 abbrev pub file_in : Files → List ℕ → Result (List ℕ) WalkFault
 file_in m name = ok_or (get m name) (Absent name)
 
--- the kind of dataset that an extension stands for
-abbrev pub kind_of : Ext → Kind
-kind_of Bil = Raw
-kind_of Bip = Raw
-kind_of Bsq = Raw
+-- the kind of dataset that an extension stands for, where it is read
+abbrev pub kind_of : Ext → Option Kind
+kind_of Bil = Some kinds.Raw
+kind_of Bip = Some kinds.Raw
+kind_of Bsq = Some kinds.Raw
+kind_of Dt0 = Some kinds.Dted
+kind_of Dt1 = Some kinds.Dted
+kind_of Dt2 = Some kinds.Dted
+kind_of Hgt = Some kinds.Hgt
+kind_of Asc = None
+kind_of Grd = None
+kind_of Vrt = None
 
 -- the kind that the extension of a name tells
 abbrev pub kind_in : List ℕ → Result Kind WalkFault
-kind_in name = ok_or (option_map kind_of (extension_of name)) (NotRecognized name)
+kind_in name = ok_or (option_and_then kind_of (extension_of name)) (NotRecognized name)
 
--- a header's fault, under the header's name
-abbrev pub named : List ℕ → Result Head HdrFault → Result Head WalkFault
-named name (Ok head) = Ok head
-named name (Err fault) = Err (Malformed name (Hdr fault))
+-- a fault of a file, under the name of the file
+abbrev pub named : {T E : Type 0} → (E → WalkFault) → Result T E → Result T WalkFault
+named fault (Ok x) = Ok x
+named fault (Err e) = Err (fault e)
+
+-- a file is as long as its head asks
+abbrev pub long_enough : ℕ → List ℕ → List ℕ → Result (Unit {0}) WalkFault
+long_enough needed bytes name = if nat_lt (length bytes) needed then Err (Short name needed (length bytes)) else Ok tt
 
 -- what the header under a name says
 unfoldable pub header_in : Files → List ℕ → Result Head WalkFault
 header_in m name = do
   bytes ← file_in m name
-  named name (esri_head bytes)
+  named (λ f. Malformed name (bad.Hdr f)) (esri_head bytes)
 
--- the data under a name are as long as their header asks
-abbrev pub long_enough : Head → List ℕ → List ℕ → Result (Unit {0}) WalkFault
-long_enough head bytes name = if nat_lt (length bytes) (needed_of head) then Err (Short name (needed_of head) (length bytes)) else Ok tt
-
--- the head of the raw data under a name
-unfoldable pub raw_in : Files → List ℕ → Result Head WalkFault
+-- what is found of the raw data under a name
+unfoldable pub raw_in : Files → List ℕ → Result Found WalkFault
 raw_in m name = do
   bytes ← file_in m name
   head ← header_in m (header_of name)
-  enough ← long_enough head bytes name
+  enough ← long_enough (raw.needed_of head) bytes name
+  Ok (record { driver = drivers.Raw head; length = length bytes })
+
+-- whether the record of a line of a cell isn't whole
+abbrev pub is_broken : dted.Head → List ℕ → ℕ → Bool
+is_broken h bytes line = not (is_record (dted.part (dted_places.record_of h line) (dted_places.record_len h) bytes))
+
+-- the first of some lines of a cell whose record isn't whole
+abbrev pub broken_in : dted.Head → List ℕ → List ℕ → Option ℕ
+broken_in h bytes [] = None
+broken_in h bytes (line ∷ lines) = if is_broken h bytes line then Some line else broken_in h bytes lines
+
+-- no record is found that isn't whole
+abbrev pub all_whole : List ℕ → Option ℕ → Result (Unit {0}) WalkFault
+all_whole name None = Ok tt
+all_whole name (Some line) = Err (Malformed name (bad.Dted (BadRecord line)))
+
+-- each record of a cell is whole, from west to east
+abbrev pub records_whole : dted.Head → List ℕ → List ℕ → Result (Unit {0}) WalkFault
+records_whole h bytes name = all_whole name (broken_in h bytes (range_with_len 0 h.lines))
+
+-- the head of the cell whose bytes stand under a name, which are as many as it asks
+unfoldable pub cell_in : List ℕ → List ℕ → Result dted.Head WalkFault
+cell_in bytes name = do
+  head ← named (λ f. Malformed name (bad.Dted f)) (dted.dted_head bytes)
+  enough ← long_enough (dted_places.needed_of head) bytes name
   Ok head
 
--- the head of raw data, under a name whose extension is known
-unfoldable pub opened_in : Files → List ℕ → Result Head WalkFault
-opened_in m name = do
+-- what is found of the cell under a name; `verify` asks for the sums of its records
+unfoldable pub dted_in : Files → Bool → List ℕ → Result Found WalkFault
+dted_in m verify name = do
+  bytes ← file_in m name
+  head ← cell_in bytes name
+  whole ← (if verify then records_whole head bytes name else Ok tt)
+  Ok (record { driver = drivers.Dted head; length = length bytes })
+
+-- what is found of the tile under a name
+unfoldable pub hgt_in : Files → List ℕ → Result Found WalkFault
+hgt_in m name = do
+  corner ← ok_or (hgt_names.corner_of (last_part name)) (Malformed name (bad.Hgt BadName))
+  bytes ← file_in m name
+  side ← ok_or (hgt_places.side_of_length (length bytes)) (Malformed name (bad.Hgt BadLength))
+  Ok (record { driver = drivers.Hgt side; length = length bytes })
+
+-- what is found of the files of a dataset of this kind
+abbrev pub found_in : Kind → Files → Bool → List ℕ → Result Found WalkFault
+found_in kinds.Raw m verify name = raw_in m name
+found_in kinds.Dted m verify name = dted_in m verify name
+found_in kinds.Hgt m verify name = hgt_in m name
+
+-- the dataset of a name whose kind is known
+unfoldable pub dataset_by : Kind → Files → Bool → List ℕ → Result Dataset WalkFault
+dataset_by kind m verify name = do
+  found ← found_in kind m verify name
+  Ok (dataset_of name found)
+
+-- the dataset of a name, by its own files
+unfoldable pub dataset_in : Files → Bool → List ℕ → Result Dataset WalkFault
+dataset_in m verify name = do
   kind ← kind_in name
-  raw_in m name
+  dataset_by kind m verify name
 
--- a band of raw data
-abbrev pub raw_band : Head → BandHead
-raw_band h = record { kind = h.kind; nodata = h.nodata; block = block_of Raw h.size }
-
--- what the head of raw data under a name says of the dataset
-abbrev pub raw_head : List ℕ → Head → DatasetHead
-raw_head name h = record { name = name; kind = Raw; size = h.size; geo = geotransform_of h; srs = None; bands = replicate h.bands (raw_band h); files = name ∷ header_of name ∷ [] }
-
--- the head of the raw data under a name
-unfoldable pub raw_head_in : Files → List ℕ → Result DatasetHead WalkFault
-raw_head_in m name = do
-  h ← raw_in m name
-  Ok (raw_head name h)
-
--- the head of a dataset whose kind is known
-abbrev pub head_by : Kind → Files → Bool → List ℕ → Result DatasetHead WalkFault
-head_by Raw m verify name = raw_head_in m name
-
--- the head of the dataset under a name; `verify` asks for the sums of DTED records
+-- the head of the dataset of a name; `verify` asks for the sums of DTED records
 unfoldable pub head_in : Files → Bool → List ℕ → Result DatasetHead WalkFault
 head_in m verify name = do
-  kind ← kind_in name
-  head_by kind m verify name
+  d ← dataset_in m verify name
+  Ok d.head
 
 -- the kind of a name isn't what is refused
 abbrev pub IsKnown : {T : Type 0} → Result T WalkFault → Type 0

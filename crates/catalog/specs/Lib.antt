@@ -1,3 +1,6 @@
 pub mod Dataset
+pub mod Drivers
 pub mod Heads
 pub mod Outcomes
+pub mod Pixels
+pub mod Walk

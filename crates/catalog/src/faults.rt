@@ -2,7 +2,9 @@
 ghost use Rattle.std.specs.Prelude.{◌≡◌};
 ghost use Rattle.catalog.specs.declared.faults.WalkFault.TheVariants as walk_fault;
 
+use dted_records::DtedFault;
 use esri_hdr::HdrFault;
+use hgt_tiles::HgtFault;
 use outside::Name;
 use std::alloc::AllocError;
 
@@ -11,6 +13,10 @@ use std::alloc::AllocError;
 pub enum Bad {
     /// The header of raw data has this fault.
     Hdr(HdrFault),
+    /// The head of a DTED cell, or one of its records, has this fault.
+    Dted(DtedFault),
+    /// The name or the length isn't that of a tile.
+    Hgt(HgtFault),
     /// The list of input files isn't UTF-8.
     List,
 }
@@ -41,6 +47,8 @@ pub enum WalkFault {
     Malformed { name: Name, bad: Bad },
     /// The file of this name needs so many bytes, and has fewer.
     Short { name: Name, needed: u64, has: u64 },
+    /// What is counted would pass its limit with this value.
+    Limit { what: LimitKind, value: u64 },
     /// A call of the folder failed.
     FolderFault,
     /// Memory was refused.

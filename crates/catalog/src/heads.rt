@@ -1,20 +1,26 @@
 // The heads of datasets, as their files say.
 ghost use Rattle.std.specs.Prelude.{◌≡◌, [], ◌∷◌, Some, IfOk, IfErr, IsTrue, replicate};
-ghost use Rattle.lists_and_answers.specs.Answers.{Gives};
-ghost use Rattle.outside.specs.Outside.{Files};
-ghost use Rattle.outside.specs.Causes.{HasCause};
 ghost use Rattle.outside.specs.Names.{extension_of, is_raw, header_of};
-ghost use Rattle.catalog.specs.Outcomes.{IsOutside, IsMemory};
+ghost use Rattle.catalog.specs.Outcomes.{IsMemory};
 ghost use Rattle.catalog.specs.Dataset.{IsDatasetHead};
-ghost use Rattle.catalog.specs.Heads.{raw_band, raw_head, raw_head_in, head_in, IsKnown, RefusesUnknown};
+ghost use Rattle.hgt_tiles.specs.Places.{IsSide};
+ghost use Rattle.catalog.specs.Drivers.{raw_band, raw_head, dted_band, dted_head, hgt_band, hgt_head, tile_place, head_told, IsOfKind};
 
-use crate::raw::{header_name, kind_of, open_beside};
-use crate::{BandHead, Bands, Head, Kind, WalkFault};
+use crate::raw::header_name;
+use crate::{BandHead, Bands, DriverHead, Head, Kind, WalkFault};
+use dted_records::DtedHead;
 use esri_hdr::RawHead;
-use geotransform::Size;
+use geotransform::{GeoTransform, PixelType, Sample, Size};
+use hgt_tiles::{read_name, transform};
 use lists_and_answers::Items;
-use outside::{Folder, Name, Names};
+use outside::{Name, Names};
 use std::alloc::{AllocError, Global};
+
+/// The NODATA of a cell: its null elevation.
+const NULL_ELEVATION: Sample = -32_767;
+
+/// The NODATA of a tile.
+const VOID_SAMPLE: Sample = -32_768;
 
 // A band of raw data.
 fn raw_band(head: &RawHead) -> BandHead
@@ -75,43 +81,109 @@ fn raw_head(alloc: Global, name: &Name, head: &RawHead) -> Result<Head, WalkFaul
     })
 }
 
-// The head of the raw data of a name.
-#[tactic(auto, using(crate::proofs::Headers::outside_fails, crate::proofs::Headers::memory_is_outside), unfolding(crate::specs::Heads::raw_head_in))]
-fn raw_head_of<F: Folder>(alloc: Global, folder: &mut F, name: &Name) -> Result<Head, WalkFault>
-    requires raw { IsTrue (is_raw (extension_of name.now)) }
-    ensures told { (m : Files) → F.names folder.old ≡ Some m → Gives IsOutside (λ h. h) result (raw_head_in m name.now) }
-    ensures names { F.names folder.new ≡ F.names folder.old }
-    ensures write_calls { F.write_calls folder.new ≡ F.write_calls folder.old }
-    ensures cause { HasCause WalkFault.FolderFault (F.faults folder.old) (F.faults folder.new) result }
-    ensures known { IsKnown result }
+// The one band of a dataset.
+fn one_band(alloc: Global, band: BandHead) -> Result<Bands, AllocError>
+    ensures { IfOk result (λ bands. bands ≡ band ∷ []) }
 {
-    let raw = open_beside(alloc, folder, name)?;
-    raw_head(alloc, name, &raw.head)
+    let mut bands = Items::new(alloc);
+    bands.push(band)?;
+    Ok(bands)
 }
 
-/// The head of the dataset of a name: what its extension and its own files say. `verify` asks for the
-/// sums of DTED records.
-///
-/// NotRecognized comes exactly where the extension is none of the list, Absent where a file isn't there,
-/// Malformed where the header is longer than 1,048,576 bytes or has a fault, Short where the data are
-/// shorter than the header asks. The files are opened and read in this order, and the first refusal
-/// counts. FolderFault comes only where the folder's count rose, Memory freely. It takes memory for the
-/// header and for the head.
-#[tactic(auto, using(crate::proofs::Headers::outside_fails), unfolding(crate::specs::Heads::head_in))]
-pub fn head_of<F: Folder>(
-    alloc: Global,
-    folder: &mut F,
-    name: &Name,
-    verify: bool,
-) -> Result<Head, WalkFault>
-    ensures told { (m : Files) → F.names folder.old ≡ Some m → Gives IsOutside (λ h. h) result (head_in m verify name.now) }
-    ensures valid { IfOk result IsDatasetHead }
-    ensures unknown { RefusesUnknown name.now result }
-    ensures names { F.names folder.new ≡ F.names folder.old }
-    ensures write_calls { F.write_calls folder.new ≡ F.write_calls folder.old }
-    ensures cause { HasCause WalkFault.FolderFault (F.faults folder.old) (F.faults folder.new) result }
+// The one file of a dataset.
+fn one_file(alloc: Global, name: &Name) -> Result<Names, AllocError>
+    ensures { IfOk result (λ files. files ≡ name.now ∷ []) }
 {
-    match kind_of(name)? {
-        Kind::Raw => raw_head_of(alloc, folder, name),
+    let mut files = Items::new(alloc);
+    files.push(name.try_clone()?)?;
+    Ok(files)
+}
+
+// The band of a cell.
+fn dted_band(head: &DtedHead) -> BandHead
+    ensures { result ≡ dted_band head.now }
+{
+    BandHead {
+        kind: PixelType::Int16,
+        nodata: Some(NULL_ELEVATION),
+        block: Size {
+            w: 1,
+            h: head.points,
+        },
+    }
+}
+
+// What the head of a cell says of the dataset.
+fn dted_head(alloc: Global, name: &Name, head: &DtedHead) -> Result<Head, AllocError>
+    ensures { IfOk result (λ h. h ≡ dted_head name.now head.now) }
+{
+    let files = one_file(alloc, name)?;
+    let bands = one_band(alloc, dted_band(head))?;
+    let name = name.try_clone()?;
+    Ok(Head {
+        name,
+        kind: Kind::Dted,
+        size: Size {
+            w: head.lines,
+            h: head.points,
+        },
+        geo: Some(head.transform()),
+        srs: None,
+        bands,
+        files,
+    })
+}
+
+// The band of a tile.
+fn hgt_band(side: u32) -> BandHead
+    ensures { result ≡ hgt_band side }
+{
+    BandHead {
+        kind: PixelType::Int16,
+        nodata: Some(VOID_SAMPLE),
+        block: Size { w: side, h: 1 },
+    }
+}
+
+// Where the name of a tile places its pixels.
+fn tile_place(name: &Name, side: u32) -> Option<GeoTransform>
+    requires side { IsSide side }
+    ensures { result ≡ tile_place name.now side }
+{
+    let corner = read_name(name.last_part())?;
+    Some(transform(corner, side))
+}
+
+// What the name and the side of a tile say of the dataset.
+fn hgt_head(alloc: Global, name: &Name, side: u32) -> Result<Head, AllocError>
+    requires side { IsSide side }
+    ensures { IfOk result (λ h. h ≡ hgt_head name.now side) }
+{
+    let files = one_file(alloc, name)?;
+    let bands = one_band(alloc, hgt_band(side))?;
+    let geo = tile_place(name, side);
+    let name = name.try_clone()?;
+    Ok(Head {
+        name,
+        kind: Kind::Hgt,
+        size: Size { w: side, h: side },
+        geo,
+        srs: None,
+        bands,
+        files,
+    })
+}
+
+// What the head of a file says of the dataset of its name.
+pub fn head_told(alloc: Global, name: &Name, driver: &DriverHead) -> Result<Head, WalkFault>
+    requires kind { IsOfKind name.now driver.now }
+    ensures ok { IfOk result (λ h. h ≡ head_told name.now driver.now) }
+    ensures valid { IfOk result IsDatasetHead }
+    ensures err { IfErr result IsMemory }
+{
+    match driver {
+        DriverHead::Raw(head) => raw_head(alloc, name, head),
+        DriverHead::Dted(head) => Ok(dted_head(alloc, name, head)?),
+        DriverHead::Hgt { side } => Ok(hgt_head(alloc, name, *side)?),
     }
 }

@@ -1,17 +1,22 @@
-// What is known of a dataset before its pixels are read.
+// What is known of a dataset before its pixels are read, and the walk that finds datasets.
 #![tactic(auto)]
 
+mod catalog;
+mod dataset;
+mod driver;
+mod dted;
 mod faults;
 mod files;
 mod head;
 mod heads;
+mod hgt;
 mod kind;
 mod raw;
 #[cfg(test)]
 mod tests;
 
+pub use catalog::{Catalog, head_of, open_all};
+pub use driver::DriverHead;
 pub use faults::{Bad, LimitKind, WalkFault};
 pub use head::Head;
-pub use heads::head_of;
 pub use kind::{BandHead, Bands, Kind};
-pub use raw::{OpenRaw, open_raw};

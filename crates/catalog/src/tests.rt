@@ -1,4 +1,4 @@
-use crate::{Bad, Head, Kind, WalkFault, head_of, open_raw};
+use crate::{Catalog, Kind, WalkFault, head_of, open_all};
 use esri_hdr::HdrFault;
 use geotransform::{PixelType, Size};
 use lists_and_answers::Items;
@@ -19,6 +19,7 @@ fn said(alloc: Global, fault: &WalkFault) -> Result<String, Fail> {
         WalkFault::Short { name, needed, has } => {
             format!(in alloc; "short {} {} {}", name.as_str(), *needed, *has)?
         }
+        WalkFault::Limit { what, value } => format!(in alloc; "limit {:?} {}", *what, *value)?,
         WalkFault::FolderFault => format!(in alloc; "folder")?,
         WalkFault::Memory => format!(in alloc; "memory")?,
     };
@@ -124,19 +125,6 @@ fn a_head(rt: HostRuntime) -> Result<(), Fail> {
     Ok(())
 }
 
-#[test]
-fn raw_data(rt: HostRuntime) -> Result<(), Fail> {
-    let alloc = rt.alloc();
-    let name = Name::read(alloc, "d/A.BIL")?;
-    let mut folder = with_failing(alloc, 4)?;
-    let raw = open_raw(alloc, &mut folder, &name)
-        .ok()
-        .ok_or("it is there")?;
-    assert_eq!(rt; folder.len(&raw.file), 12);
-    assert_eq!(rt; raw.head.bands, 2);
-    Ok(())
-}
-
 // A header of `len` bytes: what it says, behind blanks.
 fn long_header(alloc: Global, len: usize) -> Result<Vec<u8>, Fail> {
     let mut text = vec![in alloc; b' '; len.saturating_sub(HEADER.len() + 1)]?;
@@ -164,5 +152,87 @@ fn limits(rt: HostRuntime) -> Result<(), Fail> {
         Ok(_) => assert!(rt; false, "it is too long"),
         Err(fault) => assert_eq!(rt; said(alloc, &fault)?.as_str(), "malformed a.hdr Hdr(Limit)"),
     }
+    Ok(())
+}
+
+// A cell of one line of longitude and four points, whose elevations are 0, the null elevation, -5 and 5
+// from the north, with this sum.
+fn cell(alloc: Global, sum: u8) -> Result<Vec<u8>, Fail> {
+    let mut file = vec![in alloc; b' '; 3428]?;
+    file[..33].copy_from_slice(b"UHL10100000E0200000N03000300NA  U");
+    file[47..56].copy_from_slice(b"000100040");
+    file[80..84].copy_from_slice(b"DSIU");
+    file[728..731].copy_from_slice(b"ACC");
+    file.extend_from_slice(&[0xaa, 0, 0, 0, 0, 0, 0, 0])?;
+    file.extend_from_slice(&[0, 5, 0x80, 5, 0xff, 0xff, 0x80, 0, 0, 0, 3, sum])?;
+    Ok(file)
+}
+
+// The name of a cell or a tile, whether sums are asked for, and what is said.
+const CELLS: [(&str, u8, bool, &str); 4] = [
+    ("c.dt0", 0xb2, false, ""),
+    ("c.dt1", 0xb3, false, ""),
+    ("c.dt2", 0xb2, true, ""),
+    ("c.dt2", 0xb3, true, "malformed c.dt2 Dted(BadRecord(0))"),
+];
+
+fn cell_answer(alloc: Global, name: &str, sum: u8, verify: bool) -> Result<String, Fail> {
+    let name = Name::read(alloc, name)?;
+    let mut folder = CalmFolder::new(alloc, Never);
+    folder.put(&name, &cell(alloc, sum)?)?;
+    match head_of(alloc, &mut folder, &name, verify) {
+        Ok(_) => Ok(String::new(alloc)),
+        Err(fault) => said(alloc, &fault),
+    }
+}
+
+#[test]
+fn cells(rt: HostRuntime) -> Result<(), Fail> {
+    let alloc = rt.alloc();
+    for (name, sum, verify, said) in CELLS {
+        assert_eq!(rt; cell_answer(alloc, name, sum, verify)?.as_str(), said);
+    }
+    Ok(())
+}
+
+// Bytes under the name of a cell or a tile, and what is said.
+const WRONG: [(&str, &[u8], &str); 5] = [
+    ("c.dt0", b"", "malformed c.dt0 Dted(Short)"),
+    ("c.dt0", &[b' '; 80], "malformed c.dt0 Dted(NotDted)"),
+    ("N91E000.hgt", b"", "malformed N91E000.hgt Hgt(BadName)"),
+    ("d/S01W180.HGT", b"", "malformed d/S01W180.HGT Hgt(BadLength)"),
+    ("d/N00.hgt", b"", "malformed d/N00.hgt Hgt(BadName)"),
+];
+
+#[test]
+fn wrong_files(rt: HostRuntime) -> Result<(), Fail> {
+    let alloc = rt.alloc();
+    for (name, bytes, said) in WRONG {
+        assert_eq!(rt; answer(alloc, name, &[(name, bytes)])?.as_str(), said);
+    }
+    // the name of a tile is read before its file is opened
+    assert_eq!(rt; answer(alloc, "N91E000.hgt", &[])?.as_str(), "malformed N91E000.hgt Hgt(BadName)");
+    assert_eq!(rt; answer(alloc, "N90E000.hgt", &[])?.as_str(), "absent N90E000.hgt");
+    Ok(())
+}
+
+// Each dataset is read once, and a refusal leaves the catalog as it was.
+#[test]
+fn walks(rt: HostRuntime) -> Result<(), Fail> {
+    let alloc = rt.alloc();
+    let raw = Name::read(alloc, "d/A.BIL")?;
+    let dted = Name::read(alloc, "c.dt0")?;
+    let absent = Name::read(alloc, "b.bil")?;
+    let mut folder = with_failing(alloc, 9)?;
+    folder.put(&dted, &cell(alloc, 0xb2)?)?;
+    let mut cat = Catalog::new(alloc);
+    assert_eq!(rt; open_all(alloc, &mut cat, &mut folder, &raw, false).ok(), Some(0));
+    assert_eq!(rt; open_all(alloc, &mut cat, &mut folder, &raw, false).ok(), Some(0));
+    assert!(rt; open_all(alloc, &mut cat, &mut folder, &absent, false).is_err());
+    assert_eq!(rt; cat.count(), 1);
+    assert_eq!(rt; open_all(alloc, &mut cat, &mut folder, &dted, true).ok(), Some(1));
+    assert_eq!(rt; cat.count(), 2);
+    assert_eq!(rt; cat.length(1), 3448);
+    assert_eq!(rt; cat.head(1).size, Size { w: 1, h: 4 });
     Ok(())
 }

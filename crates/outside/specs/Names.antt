@@ -4,7 +4,7 @@ use Rattle.std.specs.List.{list_all}
 use Rattle.std.specs.Option.{unwrap_or}
 use Rattle.std.specs.Char.{to_ascii_lowercase, is_ascii_lowercase}
 use Rattle.outside.specs.declared.name.Ext.{Ext}
-use Rattle.outside.specs.declared.name.Ext.TheVariants.{Bil, Bip, Bsq}
+use Rattle.outside.specs.declared.name.Ext.TheVariants.{Bil, Bip, Bsq, Dt0, Dt1, Dt2, Hgt, Asc, Grd, Vrt}
 
 -- the cut of b and bs, from that of bs
 abbrev pub cut_behind : ℕ → ℕ → List ℕ → Option (List ℕ × List ℕ) → Option (List ℕ × List ℕ)
@@ -37,6 +37,13 @@ abbrev pub kinds : List (List ℕ × Ext)
 kinds = (codes "bil", Bil)
     ∷ (codes "bip", Bip)
     ∷ (codes "bsq", Bsq)
+    ∷ (codes "dt0", Dt0)
+    ∷ (codes "dt1", Dt1)
+    ∷ (codes "dt2", Dt2)
+    ∷ (codes "hgt", Hgt)
+    ∷ (codes "asc", Asc)
+    ∷ (codes "grd", Grd)
+    ∷ (codes "vrt", Vrt)
     ∷ []
 
 -- the same letters, in upper or lower case
@@ -62,6 +69,13 @@ is_raw None = false
 is_raw (Some Bil) = true
 is_raw (Some Bip) = true
 is_raw (Some Bsq) = true
+is_raw (Some Dt0) = false
+is_raw (Some Dt1) = false
+is_raw (Some Dt2) = false
+is_raw (Some Hgt) = false
+is_raw (Some Asc) = false
+is_raw (Some Grd) = false
+is_raw (Some Vrt) = false
 
 -- no letter is in lower case
 abbrev pub has_no_lower : List ℕ → Bool

@@ -32,9 +32,26 @@ impl From<AllocError> for NameFault {
 /// The kinds of files, by the endings of their names.
 #[derive(Clone, Copy, Debug, PartialEq, Eq)]
 pub enum Ext {
+    /// Raw samples, line by line and in a line band by band.
     Bil,
+    /// Raw samples, pixel by pixel.
     Bip,
+    /// Raw samples, band by band.
     Bsq,
+    /// A DTED cell of level 0.
+    Dt0,
+    /// A DTED cell of level 1.
+    Dt1,
+    /// A DTED cell of level 2.
+    Dt2,
+    /// An SRTM tile.
+    Hgt,
+    /// An Arc/Info ASCII grid.
+    Asc,
+    /// An Arc/Info ASCII grid.
+    Grd,
+    /// A mosaic.
+    Vrt,
 }
 
 /// A path in its normal form, of 1 to 4,096 bytes.
@@ -108,6 +125,13 @@ fn kind_of(ending: &str) -> Option<Ext>
         _ if same_letters(ending, "bil") => Some(Ext::Bil),
         _ if same_letters(ending, "bip") => Some(Ext::Bip),
         _ if same_letters(ending, "bsq") => Some(Ext::Bsq),
+        _ if same_letters(ending, "dt0") => Some(Ext::Dt0),
+        _ if same_letters(ending, "dt1") => Some(Ext::Dt1),
+        _ if same_letters(ending, "dt2") => Some(Ext::Dt2),
+        _ if same_letters(ending, "hgt") => Some(Ext::Hgt),
+        _ if same_letters(ending, "asc") => Some(Ext::Asc),
+        _ if same_letters(ending, "grd") => Some(Ext::Grd),
+        _ if same_letters(ending, "vrt") => Some(Ext::Vrt),
         _ => None,
     }
 }

@@ -29,13 +29,20 @@ const NORMAL: [(&str, &str); 20] = [
 ];
 
 // A name, and its kind.
-const KINDS: [(&str, Option<Ext>); 12] = [
+const KINDS: [(&str, Option<Ext>); 19] = [
     ("a.bil", Some(Ext::Bil)),
     ("a.bip", Some(Ext::Bip)),
     ("a.BSQ", Some(Ext::Bsq)),
     ("a.b.bil", Some(Ext::Bil)),
     ("/d/a.Bip", Some(Ext::Bip)),
     (".bsq", Some(Ext::Bsq)),
+    ("w.dt0", Some(Ext::Dt0)),
+    ("w.DT1", Some(Ext::Dt1)),
+    ("w.Dt2", Some(Ext::Dt2)),
+    ("d/N00E000.hgt", Some(Ext::Hgt)),
+    ("g.asc", Some(Ext::Asc)),
+    ("g.GRD", Some(Ext::Grd)),
+    ("m.vrt", Some(Ext::Vrt)),
     ("x.bil/y", None),
     ("a.bil.b", None),
     ("a.tif", None),

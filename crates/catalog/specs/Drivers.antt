@@ -1,0 +1,102 @@
+-- What the head of a file says of its dataset.
+use Rattle.std.specs.Prelude.{ℕ, ℤ, ◌≡◌, ◌≤◌, List, [], ◌∷◌, length, replicate, true, Option, Some, None, option_map, pos, negsuc}
+use Rattle.geotransform.specs.declared.types.Size.{Size}
+use Rattle.geotransform.specs.Geo.{Transform}
+use Rattle.geotransform.specs.declared.types.PixelType.TheVariants.{Int16}
+use Rattle.outside.specs.Names.{last_part, header_of, extension_of, is_raw}
+use Rattle.esri_hdr.specs.Head.{Head, IsHead, geotransform_of}
+use Rattle.interleaved_raw.specs.Raw as raw
+use Rattle.dted_records.specs.Head as dted
+use Rattle.dted_records.specs.Places as dted_places
+use Rattle.hgt_tiles.specs.Names as hgt_names
+use Rattle.hgt_tiles.specs.Places as hgt_places
+use Rattle.catalog.specs.declared.kind.BandHead.{BandHead}
+use Rattle.catalog.specs.declared.kind.Kind.{Kind}
+use Rattle.catalog.specs.declared.kind.Kind.TheVariants as kinds
+use Rattle.catalog.specs.declared.driver.Found.{Found}
+use Rattle.catalog.specs.declared.driver.DriverHead.{DriverHead}
+use Rattle.catalog.specs.declared.driver.DriverHead.TheVariants.{Raw, Dted, Hgt}
+use Rattle.catalog.specs.Dataset.{DatasetHead, block_of}
+
+-- a band of raw data
+abbrev pub raw_band : Head → BandHead
+raw_band h = record { kind = h.kind; nodata = h.nodata; block = block_of kinds.Raw h.size }
+
+-- what the head of raw data under a name says of the dataset
+abbrev pub raw_head : List ℕ → Head → DatasetHead
+raw_head name h = record { name = name; kind = kinds.Raw; size = h.size; geo = geotransform_of h; srs = None; bands = replicate h.bands (raw_band h); files = name ∷ header_of name ∷ [] }
+
+-- the columns and lines of a cell: its lines of longitude and their points
+abbrev pub cell_size : dted.Head → Size
+cell_size h = record { w = h.lines; h = h.points }
+
+-- the null elevation of DTED
+abbrev pub null_elevation : ℤ
+null_elevation = negsuc 32766
+
+-- the band of a cell
+abbrev pub dted_band : dted.Head → BandHead
+dted_band h = record { kind = Int16; nodata = Some null_elevation; block = block_of kinds.Dted (cell_size h) }
+
+-- what the head of a cell under a name says of the dataset
+abbrev pub dted_head : List ℕ → dted.Head → DatasetHead
+dted_head name h = record { name = name; kind = kinds.Dted; size = cell_size h; geo = Some (dted_places.placed h); srs = None; bands = dted_band h ∷ []; files = name ∷ [] }
+
+-- the columns and lines of a tile
+abbrev pub tile_size : ℕ → Size
+tile_size side = record { w = side; h = side }
+
+-- the NODATA of a tile
+abbrev pub void_sample : ℤ
+void_sample = negsuc 32767
+
+-- the band of a tile
+abbrev pub hgt_band : ℕ → BandHead
+hgt_band side = record { kind = Int16; nodata = Some void_sample; block = block_of kinds.Hgt (tile_size side) }
+
+-- where the name of a tile places its pixels
+abbrev pub tile_place : List ℕ → ℕ → Option Transform
+tile_place name side = option_map (λ p. hgt_places.tile_transform p side) (hgt_names.corner_of (last_part name))
+
+-- what the name and the side of a tile say of the dataset
+abbrev pub hgt_head : List ℕ → ℕ → DatasetHead
+hgt_head name side = record { name = name; kind = kinds.Hgt; size = tile_size side; geo = tile_place name side; srs = None; bands = hgt_band side ∷ []; files = name ∷ [] }
+
+-- what the head of the file under a name says of the dataset
+abbrev pub head_told : List ℕ → DriverHead → DatasetHead
+head_told name (Raw h) = raw_head name h
+head_told name (Dted h) = dted_head name h
+head_told name (Hgt side) = hgt_head name side
+
+-- the kind of the head of a file
+abbrev pub driver_kind : DriverHead → Kind
+driver_kind (Raw h) = kinds.Raw
+driver_kind (Dted h) = kinds.Dted
+driver_kind (Hgt side) = kinds.Hgt
+
+-- the name is one of the kind of the head of its data, which keeps its rules
+abbrev pub IsOfKind : List ℕ → DriverHead → Type 0
+IsOfKind name (Raw h) = IsHead h × (is_raw (extension_of name) ≡ true)
+IsOfKind name (Dted h) = dted.IsHead h
+IsOfKind name (Hgt side) = ((p : hgt_names.Place) × (hgt_names.corner_of (last_part name) ≡ Some p)) × hgt_places.IsSide side
+
+-- a file has as many bytes as the head of its data asks
+abbrev pub IsLongEnough : DriverHead → ℕ → Type 0
+IsLongEnough (Raw h) len = raw.needed_of h ≤ len
+IsLongEnough (Dted h) len = dted_places.needed_of h ≤ len
+IsLongEnough (Hgt side) len = hgt_places.side_of_length len ≡ Some side
+
+-- the name and the length of a file are those that the head of its data asks
+pub record Fits (name : List ℕ) (driver : DriverHead) (len : ℕ) : Type 0 where
+  pub kind : IsOfKind name driver
+  pub long : IsLongEnough driver len
+
+-- a dataset of a catalog: its head, the head of its data, and the length of the file that has its name
+pub record Dataset : Type 0 where
+  pub head : DatasetHead
+  pub driver : DriverHead
+  pub length : ℕ
+
+-- the dataset of a name by what was found in its files
+abbrev pub dataset_of : List ℕ → Found → Dataset
+dataset_of name found = record { head = head_told name found.driver; driver = found.driver; length = found.length }

@@ -1,0 +1,22 @@
+// What the head of a file says of its samples.
+use dted_records::DtedHead;
+use esri_hdr::RawHead;
+
+/// The head of a file that isn't a mosaic, from which its samples are read.
+#[derive(Clone, Copy)]
+pub enum DriverHead {
+    /// The header beside raw data.
+    Raw(RawHead),
+    /// The head of a DTED cell.
+    Dted(DtedHead),
+    /// An SRTM tile of so many columns, and lines.
+    Hgt { side: u32 },
+}
+
+// What is found in the files of a dataset: the head of its data, and the length in bytes of the file
+// that has its name.
+#[derive(Clone, Copy)]
+pub struct Found {
+    pub driver: DriverHead,
+    pub length: u64,
+}
