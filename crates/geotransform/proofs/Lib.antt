@@ -3,3 +3,4 @@ pub mod Written
 pub mod Floors
 pub mod Named
 pub mod RoundTrip
+pub mod Fewer

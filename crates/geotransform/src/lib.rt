@@ -12,7 +12,9 @@ mod tests;
 pub mod types;
 mod units;
 
-pub use decimal::{is_decimal, is_negative_decimal, read_decimal, read_number, read_whole};
+pub use decimal::{
+    is_decimal, is_negative_decimal, read_decimal, read_number, read_places, read_whole,
+};
 pub use faults::{PlanFault, Unfit};
 pub use geo::{GeoTransform, corner_is_located};
 pub use places::{floor_is_exact, floor_of, half, half_is_nearest, round16};

@@ -10,7 +10,8 @@ use Rattle.esri_hdr.specs.Head.{Head, sample_len}
 use Rattle.interleaved_raw.specs.Raw.{position_by, position_of, stride_by, stride_of, sample_at, value_of, number_in, run_of, raw_at, row_of, needed_of, IsPlace, Holds, StandsAt}
 use Rattle.interleaved_raw.proofs.Runs.{room}
 
-further : (l : Layout) (h : Head) (band x y i : ℕ) → position_by l h band x y + i * stride_by l h ≡ position_by l h band (x + i) y
+-- the place of a later sample of the line
+pub further : (l : Layout) (h : Head) (band x y i : ℕ) → position_by l h band x y + i * stride_by l h ≡ position_by l h band (x + i) y
 further Bil h band x y i = omega (arith, add-mul x i (sample_len h.kind))
 further Bip h band x y i = omega (arith, add-mul (x * h.bands) band (sample_len h.kind), add-mul ((x + i) * h.bands) band (sample_len h.kind), add-mul x i h.bands, add-mul (x * h.bands) (i * h.bands) (sample_len h.kind), mul_assoc i h.bands (sample_len h.kind), ap (λ k. k * sample_len h.kind) (add-mul x i h.bands))
 further Bsq h band x y i = omega (arith, add-mul (y * h.size.w) x (sample_len h.kind), add-mul (y * h.size.w) (x + i) (sample_len h.kind), add-mul x i (sample_len h.kind))

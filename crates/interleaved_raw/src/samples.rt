@@ -13,7 +13,8 @@ use geotransform::{PixelType, Sample};
 
 fn value_of(kind: PixelType, bits: u64) -> Sample
     requires { bits < 256 ^ sample_len kind }
-    ensures { result ≡ value_of kind bits }
+    ensures value { result ≡ value_of kind bits }
+    ensures range { is_in kind result ≡ true }
 {
     match kind {
         PixelType::Byte | PixelType::UInt16 | PixelType::UInt32 => bits as i128,
@@ -40,6 +41,7 @@ fn bits_in(head: &RawHead, bytes: &[u8]) -> u64
 pub fn decode_sample(head: &RawHead, bytes: &[u8]) -> Sample
     requires enough { sample_len head.now.kind ≤ length bytes.now }
     ensures value { result ≡ sample_at head.now bytes.now }
+    ensures range { is_in head.now.kind result ≡ true }
     // bytes that stand in a file at a sample's place are that sample
     ensures file { (file : List ℕ) (band x y : ℕ) → StandsAt file bytes.now (position_of head.now band x y) → result ≡ raw_at head.now file band x y }
 {
@@ -52,6 +54,7 @@ pub fn decode_sample(head: &RawHead, bytes: &[u8]) -> Sample
 pub fn decode_run(head: &RawHead, bytes: &[u8], out: &mut [Sample])
     requires holds { Holds head.now bytes.now (length out.old) }
     ensures samples { out.new ≡ map (run_of head.now bytes.now) (range_with_len 0 (length out.old)) }
+    ensures range { All (λ n. is_in head.now.kind n ≡ true) out.new }
     // bytes that stand in a file at a sample's place are the samples of its band and line from there on
     ensures file { (file : List ℕ) (band x y : ℕ) → StandsAt file bytes.now (position_of head.now band x y) → out.new ≡ row_of head.now file band x y (length out.old) }
 {

@@ -1,0 +1,195 @@
+// A block of samples.
+ghost use Rattle.std.specs.Prelude.{◌≡◌, ◌≤◌, ◌<◌, ◌+◌, ◌^◌, length, map, replicate, pos, true, IfOk, slice_index_or, slice_set};
+ghost use Rattle.geotransform.specs.Types.{is_in, clamp};
+ghost use Rattle.band_blocks.specs.Views.{cells_view};
+ghost use Rattle.band_blocks.specs.Blocks.{block_view, IsPacked, AreIn, written, run_of};
+
+use crate::cell::{Cell, clamp_cells, copy_cells, pack_cells, set_cell, write_cells};
+use geotransform::{PixelType, Sample};
+use std::alloc::{AllocError, Global};
+use std::marker::Model;
+
+#[derive(Drop)]
+enum Cells {
+    Bytes(Vec<u8>),
+    UInts16(Vec<u16>),
+    Ints16(Vec<i16>),
+    UInts32(Vec<u32>),
+    Ints32(Vec<i32>),
+}
+
+// Cells of a type that are 0.
+#[tactic(auto, using(crate::proofs::Cells::map_zeros))]
+fn zero_cells(alloc: Global, kind: PixelType, len: usize) -> Result<Cells, AllocError>
+    ensures { IfOk result (λ cells. cells_view cells ≡ block_view kind (replicate len (pos 0))) }
+{
+    match kind {
+        PixelType::Byte => return Ok(Cells::Bytes(vec![in alloc; 0u8; len]?)),
+        PixelType::UInt16 => return Ok(Cells::UInts16(vec![in alloc; 0u16; len]?)),
+        PixelType::Int16 => return Ok(Cells::Ints16(vec![in alloc; 0i16; len]?)),
+        PixelType::UInt32 => return Ok(Cells::UInts32(vec![in alloc; 0u32; len]?)),
+        PixelType::Int32 => return Ok(Cells::Ints32(vec![in alloc; 0i32; len]?)),
+    }
+}
+
+/// A list of samples of one type, row by row, packed in one, two or four bytes each. It holds below
+/// 2^32 samples, and each of them is in the range of the type.
+#[derive(Drop)]
+pub struct Block {
+    cells: Cells,
+}
+
+impl Model for Block {
+    ghost use Rattle.band_blocks.specs.Blocks.{BlockView};
+
+    ghost Value = { BlockView };
+
+    ghost use Rattle.band_blocks.specs.Views.{cells_view, ArePacked};
+
+    ghost view = { λ b. cells_view b.cells };
+
+    ghost invariant = { λ b. ArePacked b.cells };
+}
+
+impl Block {
+    /// A block of `len` samples that are 0. It is refused where memory is.
+    #[tactic(auto, using(crate::proofs::Cells::zeros_in))]
+    pub fn new(alloc: Global, kind: PixelType, len: u32) -> Result<Block, AllocError>
+        ensures zeros { IfOk result (λ block. block ≡ block_view kind (replicate len (pos 0))) }
+    {
+        let cells = zero_cells(alloc, kind, len as usize)?;
+        Ok(Block { cells })
+    }
+
+    /// A block of these samples. It is refused where memory is.
+    pub fn pack(alloc: Global, kind: PixelType, samples: &[Sample]) -> Result<Block, AllocError>
+        requires few { length samples.now < 2 ^ 32 }
+        requires range { AreIn kind samples.now }
+        ensures samples { IfOk result (λ block. block ≡ block_view kind samples.now) }
+    {
+        let cells = match kind {
+            PixelType::Byte => Cells::Bytes(pack_cells(alloc, samples)?),
+            PixelType::UInt16 => Cells::UInts16(pack_cells(alloc, samples)?),
+            PixelType::Int16 => Cells::Ints16(pack_cells(alloc, samples)?),
+            PixelType::UInt32 => Cells::UInts32(pack_cells(alloc, samples)?),
+            PixelType::Int32 => Cells::Ints32(pack_cells(alloc, samples)?),
+        };
+        Ok(Block { cells })
+    }
+
+    /// A block of these samples, each clamped to the range of the type. It is refused where memory
+    /// is.
+    #[tactic(auto, using(crate::proofs::Cells::clamped_in))]
+    pub fn pack_clamped(
+        alloc: Global,
+        kind: PixelType,
+        samples: &[Sample],
+    ) -> Result<Block, AllocError>
+        requires few { length samples.now < 2 ^ 32 }
+        ensures samples { IfOk result (λ block. block ≡ block_view kind (map (clamp kind) samples.now)) }
+    {
+        let cells = match kind {
+            PixelType::Byte => Cells::Bytes(clamp_cells(alloc, samples)?),
+            PixelType::UInt16 => Cells::UInts16(clamp_cells(alloc, samples)?),
+            PixelType::Int16 => Cells::Ints16(clamp_cells(alloc, samples)?),
+            PixelType::UInt32 => Cells::UInts32(clamp_cells(alloc, samples)?),
+            PixelType::Int32 => Cells::Ints32(clamp_cells(alloc, samples)?),
+        };
+        Ok(Block { cells })
+    }
+
+    /// The type of the samples.
+    pub fn kind(&self) -> PixelType
+        ensures kind { result ≡ self.now.kind }
+        ensures valid { IsPacked self.now }
+    {
+        match &self.cells {
+            Cells::Bytes(_) => PixelType::Byte,
+            Cells::UInts16(_) => PixelType::UInt16,
+            Cells::Ints16(_) => PixelType::Int16,
+            Cells::UInts32(_) => PixelType::UInt32,
+            Cells::Ints32(_) => PixelType::Int32,
+        }
+    }
+
+    /// The number of samples.
+    pub fn len(&self) -> u32
+        ensures count { result ≡ length self.now.samples }
+        ensures valid { IsPacked self.now }
+    {
+        let len = match &self.cells {
+            Cells::Bytes(cells) => cells.len(),
+            Cells::UInts16(cells) => cells.len(),
+            Cells::Ints16(cells) => cells.len(),
+            Cells::UInts32(cells) => cells.len(),
+            Cells::Ints32(cells) => cells.len(),
+        };
+        len as u32
+    }
+
+    /// The sample at a place, counted from 0.
+    pub fn get(&self, at: u32) -> Sample
+        requires within { at < length self.now.samples }
+        ensures sample { result ≡ slice_index_or self.now.samples at (pos 0) }
+        ensures range { is_in self.now.kind result ≡ true }
+    {
+        let at = at as usize;
+        match &self.cells {
+            Cells::Bytes(cells) => return cells[at].widen(),
+            Cells::UInts16(cells) => return cells[at].widen(),
+            Cells::Ints16(cells) => return cells[at].widen(),
+            Cells::UInts32(cells) => return cells[at].widen(),
+            Cells::Ints32(cells) => return cells[at].widen(),
+        }
+    }
+
+    /// Puts a sample, which is in the range of the block's type, at a place, counted from 0.
+    pub fn set(&mut self, at: u32, value: Sample)
+        requires within { at < length self.old.samples }
+        requires range { is_in self.old.kind value ≡ true }
+        ensures sample { self.new ≡ block_view self.old.kind (slice_set self.old.samples at value) }
+    {
+        let at = at as usize;
+        match &mut self.cells {
+            Cells::Bytes(cells) => return set_cell(cells, at, value),
+            Cells::UInts16(cells) => return set_cell(cells, at, value),
+            Cells::Ints16(cells) => return set_cell(cells, at, value),
+            Cells::UInts32(cells) => return set_cell(cells, at, value),
+            Cells::Ints32(cells) => return set_cell(cells, at, value),
+        }
+    }
+
+    /// Copies as many samples as `out` takes, from the place `at` on.
+    pub fn copy_run(&self, at: u32, out: &mut [Sample])
+        requires within { at + length out.old ≤ length self.now.samples }
+        ensures samples { out.new ≡ run_of at (length out.old) self.now.samples }
+        ensures range { AreIn self.now.kind out.new }
+    {
+        let _len = self.len();
+        let at = at as usize;
+        let end = at + out.len();
+        match &self.cells {
+            Cells::Bytes(cells) => copy_cells(&cells[at..end], out),
+            Cells::UInts16(cells) => copy_cells(&cells[at..end], out),
+            Cells::Ints16(cells) => copy_cells(&cells[at..end], out),
+            Cells::UInts32(cells) => copy_cells(&cells[at..end], out),
+            Cells::Ints32(cells) => copy_cells(&cells[at..end], out),
+        }
+    }
+
+    /// Puts samples, which are in the range of the block's type, at the places from `at` on.
+    pub fn write_run(&mut self, at: u32, samples: &[Sample])
+        requires within { at + length samples.now ≤ length self.old.samples }
+        requires range { AreIn self.old.kind samples.now }
+        ensures samples { self.new ≡ block_view self.old.kind (written at samples.now self.old.samples) }
+    {
+        let at = at as usize;
+        match &mut self.cells {
+            Cells::Bytes(cells) => return write_cells(cells, at, samples),
+            Cells::UInts16(cells) => return write_cells(cells, at, samples),
+            Cells::Ints16(cells) => return write_cells(cells, at, samples),
+            Cells::UInts32(cells) => return write_cells(cells, at, samples),
+            Cells::Ints32(cells) => return write_cells(cells, at, samples),
+        }
+    }
+}
