@@ -1,0 +1,201 @@
+// The scanner of a grid's text.
+ghost use Rattle.std.specs.Prelude.{◌≡◌, ℕ, [], ◌++◌, List, Ok, Err, IfOk, IfErr, length, ◌<◌, ◌*◌};
+ghost use Rattle.lists_and_answers.specs.Answers.{Gives};
+ghost use Rattle.ascii_grid.specs.Faults.{IsMemory};
+ghost use Rattle.ascii_grid.specs.Grid.{grid_head, head_with};
+ghost use Rattle.ascii_grid.specs.declared.parts.Stage.TheVariants.{AtKey};
+ghost use Rattle.ascii_grid.specs.Scan.{then_byte, fed, start, Reaches, answer_of, grid_after, IsAt, with_rows, ended, body_closed, closed, Reads, IsFaultOf};
+
+use crate::faults::GridFault;
+use crate::head::{GridHead, Starts};
+use crate::keys::shape_of;
+use crate::open::Open;
+use crate::parts::{Found, Shape, Stage};
+use crate::steps::{add_token, needed};
+use crate::tokens::is_white;
+use geotransform::Size;
+use lists_and_answers::Items;
+use std::alloc::Global;
+use std::marker::Model;
+
+/// Reads a grid's text in pieces.
+#[derive(Drop)]
+pub struct Scanner {
+    fault: Option<GridFault>,
+    held: Open,
+    stage: Stage,
+    rows: Starts,
+}
+
+impl Model for Scanner {
+    ghost use Rattle.ascii_grid.specs.Scan.{Scanned, scanned, IsAt};
+
+    ghost Value = { Scanned };
+
+    ghost view = { λ s. scanned s.fault s.held s.stage s.rows };
+
+    ghost invariant = { λ s. IsAt s.stage s.rows };
+}
+
+impl Scanner {
+    pub fn new(alloc: Global) -> Scanner
+        ensures state { result ≡ Ok start }
+        ensures reads { Reads result [] }
+    {
+        Scanner {
+            fault: None,
+            held: Open::new(),
+            stage: Stage::AtKey(Found {
+                ncols: None,
+                nrows: None,
+                x: None,
+                y: None,
+                cellsize: None,
+                dx: None,
+                dy: None,
+                nodata: None,
+            }),
+            rows: Items::new(alloc),
+        }
+    }
+
+    #[tactic(auto, unfolding(crate::specs::Scan::add_byte))]
+    fn add(&mut self, c: u8)
+        ensures state { Reaches self.new (then_byte self.old c) }
+        ensures stays { (f : GridFault) → self.old ≡ Err f → self.new ≡ Err f }
+    {
+        if self.fault.is_some() {
+            return;
+        }
+        if !is_white(c) {
+            self.held.push(c);
+            return;
+        }
+        match ended(self.stage, &mut self.rows, &self.held) {
+            Ok(stage) => {
+                self.stage = stage;
+                self.held.pass();
+            }
+            Err(fault) => self.fault = Some(fault),
+        }
+    }
+
+    fn answer(&self) -> Result<(), GridFault>
+        ensures { result ≡ answer_of self.now }
+    {
+        match self.fault {
+            None => Ok(()),
+            Some(fault) => Err(fault),
+        }
+    }
+
+    fn take(&mut self, bytes: &[u8])
+        ensures state { Reaches self.new (fed self.old bytes.now) }
+        ensures stays { (f : GridFault) → self.old ≡ Err f → self.new ≡ Err f }
+    {
+        for c in bytes {
+            self.add(*c);
+        }
+    }
+
+    /// Takes the next piece of the text.
+    #[tactic(auto, using(crate::proofs::Whole::reads_more))]
+    pub fn feed(&mut self, bytes: &[u8]) -> Result<(), GridFault>
+        ensures reads { (text : List ℕ) → Reads self.old text → Reads self.new (text ++ bytes.now) }
+        ensures fault { (text : List ℕ) (f : GridFault) → Reads self.old text → result ≡ Err f → IsFaultOf f (text ++ bytes.now) }
+        ensures stays { (f : GridFault) → self.old ≡ Err f → self.new ≡ Err f }
+        ensures answer { result ≡ answer_of self.new }
+    {
+        self.take(bytes);
+        self.answer()
+    }
+
+    // What was read, where the text ends here.
+    #[tactic(auto, unfolding(crate::specs::Scan::finished), using(crate::proofs::Bodies::closed_rows))]
+    fn end(mut self) -> Result<GridHead, GridFault>
+        ensures answer { Reaches result (grid_after self) }
+        ensures stays { (f : GridFault) → self ≡ Err f → result ≡ Err f }
+    {
+        if let Some(fault) = self.fault {
+            return Err(fault);
+        }
+        let stage = ended(self.stage, &mut self.rows, &self.held)?;
+        let shape = closed(stage)?;
+        Ok(head_of(shape, self.rows))
+    }
+
+    /// The head of the grid that was fed.
+    pub fn finish(self) -> Result<GridHead, GridFault>
+        ensures grid { (text : List ℕ) → Reads self text → Gives IsMemory (λ h. h) result (grid_head text) }
+        ensures stays { (f : GridFault) → self ≡ Err f → result ≡ Err f }
+    {
+        self.end()
+    }
+}
+
+// Reads the token that is open, where one is.
+fn ended(stage: Stage, rows: &mut Starts, held: &Open) -> Result<Stage, GridFault>
+    requires { IsAt stage rows.old }
+    ensures read { Reaches (with_rows result rows.new) (ended (record { held = held.now; read = record { stage = stage; rows = rows.old } })) }
+    ensures keeps { IfOk result (λ stage. IsAt stage rows.new) }
+    ensures same { IfErr result (λ _. rows.new ≡ rows.old) }
+{
+    if held.is_open() {
+        add_token(stage, rows, held.begun(), held.text())
+    } else {
+        Ok(stage)
+    }
+}
+
+// What a body of `n` values says at its end.
+fn body_closed(shape: Shape, n: u64) -> Result<Shape, GridFault>
+    ensures value { result ≡ body_closed shape n }
+    ensures some { IfOk result (λ s. 0 < s.w * s.h) }
+{
+    if n == needed(&shape) {
+        Ok(shape)
+    } else {
+        Err(GridFault::TooFew)
+    }
+}
+
+// What a head without a body says at the text's end.
+#[tactic(auto, unfolding(crate::specs::Scan::closed))]
+fn head_closed(found: Found) -> Result<Shape, GridFault>
+    ensures value { result ≡ closed (AtKey found) }
+    ensures some { IfOk result (λ s. 0 < s.w * s.h) }
+{
+    match shape_of(found) {
+        Ok(shape) => body_closed(shape, 0),
+        Err(fault) => Err(fault),
+    }
+}
+
+// What the head and the body say where the text ends here.
+#[tactic(auto, unfolding(crate::specs::Scan::closed))]
+fn closed(stage: Stage) -> Result<Shape, GridFault>
+    ensures value { result ≡ closed stage }
+    ensures some { IfOk result (λ s. 0 < s.w * s.h) }
+{
+    match stage {
+        Stage::AtKey(found) => head_closed(found),
+        Stage::AtValue(found, _) => head_closed(found),
+        Stage::InBody(shape, n, _) => body_closed(shape, n),
+    }
+}
+
+// The head of a raster whose rows begin at these places.
+fn head_of(shape: Shape, rows: Starts) -> GridHead
+    requires { length rows ≡ shape.h }
+    ensures { result ≡ head_with shape rows }
+{
+    GridHead {
+        size: Size {
+            w: shape.w.get(),
+            h: shape.h.get(),
+        },
+        geo: shape.geo,
+        nodata: shape.nodata.map(|n| n.get()),
+        rows,
+    }
+}
