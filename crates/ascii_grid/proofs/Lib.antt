@@ -2,3 +2,7 @@ pub mod Texts
 pub mod Bodies
 pub mod Pieces
 pub mod Whole
+pub mod Rows
+pub mod Places
+pub mod Files
+pub mod RowReads

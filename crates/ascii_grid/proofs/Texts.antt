@@ -1,5 +1,6 @@
 -- Lemmas on texts.
-use Rattle.std.proofs.Common.{◌≡◌, ℕ, Bool, true, false, List, map, IsTrue, ◌↔◌, ◌≤◌, ◌*◌, ◌^◌, ◌<◌, arith}
+use Rattle.geotransform.proofs.Numbers.{product_bound}
+use Rattle.std.proofs.Common.{ℤ, pos, ◌+ℤ◌, ◌*ℤ◌, unsigned_abs, ◌≡◌, ℕ, Bool, true, false, List, map, IsTrue, ◌↔◌, ◌≤◌, ◌*◌, ◌^◌, ◌<◌, arith}
 use Rattle.std.proofs.Math.Nat.{mul-le-mul}
 use Rattle.std.specs.Char.{to_ascii_lowercase}
 use Rattle.std.specs.Cmp.Lexicographic.{bytes_decides}
@@ -17,3 +18,6 @@ height_small a b p q = mul-le-mul p q
 
 pub product_some : (a b : ℕ) → 0 < a → 0 < b → 0 < a * b
 product_some a b p q = let h : 1 * 1 ≤ a * b = mul-le-mul p q in omega (arith, h)
+
+pub depth_small : (h : ℕ) (step : ℤ) → h ≤ 4194304 → unsigned_abs step < 18 * 10 ^ 28 → unsigned_abs (pos h *ℤ step) ≤ 4194304 * (18 * 10 ^ 28)
+depth_small h step h_small near = product_bound (pos h) step 4194304 (18 * 10 ^ 28) h_small (omega arith)

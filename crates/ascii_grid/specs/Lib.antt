@@ -4,3 +4,5 @@ pub mod Values
 pub mod Keys
 pub mod Grid
 pub mod Scan
+pub mod Row
+pub mod Text

@@ -4,8 +4,11 @@
 pub mod faults;
 pub mod head;
 pub mod keys;
+pub mod laws;
 pub mod open;
 pub mod parts;
+mod placing;
+mod row;
 mod scanner;
 pub mod steps;
 pub mod tokens;
@@ -13,4 +16,6 @@ pub mod values;
 
 pub use faults::GridFault;
 pub use head::{GridHead, Starts};
+pub use laws::{line_has_values, row_is_of_the_file};
+pub use row::{RowState, decode_more};
 pub use scanner::Scanner;
