@@ -6,3 +6,5 @@ pub mod Rows
 pub mod Places
 pub mod Files
 pub mod RowReads
+pub mod Writes
+pub mod Again

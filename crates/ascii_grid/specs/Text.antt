@@ -1,5 +1,5 @@
 -- The text that is written of a grid.
-use Rattle.std.specs.Prelude.{◌≡◌, ◌<◌, ◌-◌, ◌<ℤ◌, ℕ, ℤ, Bool, pos, neg_ℤ, true, int_le, ◌&&◌, unsigned_abs, IfSome, List, [], ◌∷◌, ◌++◌, length, replicate, Option, Some, None, codes, if◌then◌else◌}
+use Rattle.std.specs.Prelude.{◌≡◌, ◌<◌, ◌-◌, ◌<ℤ◌, ℕ, ℤ, Bool, pos, neg_ℤ, true, int_le, ◌&&◌, unsigned_abs, IfSome, List, [], ◌∷◌, ◌++◌, length, replicate, Option, Some, None, Ok, codes, if◌then◌else◌}
 use Rattle.std.specs.List.{flat_map, All}
 use Rattle.std.specs.Fmt.{decimal, signed_decimal}
 use Rattle.geotransform.specs.Print.{short_text, unit}
@@ -79,3 +79,8 @@ pub record IsReadAgain (size : Size) (p : Placing) (geo : Transform) : Type 0 wh
   pub width : IsNear p.width
   pub height : IsNear p.height
   pub placed : placed p.left p.bottom (unsigned_abs p.width, unsigned_abs p.height) size.h ≡ Some geo
+
+-- a text is a grid with this head, wherever its rows begin, and these values
+pub record IsGridOf (text : List ℕ) (size : Size) (geo : Transform) (nodata : Option ℤ) (values : List ℤ) : Type 0 where
+  pub rows : List ℕ
+  pub grid : grid_of text ≡ Ok (record { head = record { size = size; geo = geo; nodata = nodata; rows = rows }; values = values })

@@ -1,6 +1,10 @@
 // What holds of every grid.
-ghost use Rattle.std.specs.Prelude.{◌≡◌, ◌<◌, ◌≤◌, ◌+◌, ◌^◌, ℕ, pos, List, length, drop, get_or, Ok, Some};
-ghost use Rattle.std.specs.List.{slice_get};
+ghost use Rattle.std.specs.Prelude.{◌≡◌, ◌<◌, ◌≤◌, ◌+◌, ◌^◌, ◌++◌, ℕ, ℤ, pos, true, List, Option, length, drop, get_or, Ok, Some, IfSome};
+ghost use Rattle.std.specs.List.{slice_get, flat_map};
+ghost use Rattle.geotransform.specs.Geo.{Transform, IsRaster};
+ghost use Rattle.geotransform.specs.declared.types.Size.{Size};
+ghost use Rattle.ascii_grid.specs.Values.{is_value};
+ghost use Rattle.ascii_grid.specs.Text.{placing_of, head_text, row_text, joined, AreRows, IsReadAgain, IsGridOf};
 ghost use Rattle.ascii_grid.specs.Grid.{Head, IsHead, grid_head, ascii_at, line_of};
 ghost use Rattle.ascii_grid.specs.Row.{row_of};
 
@@ -12,4 +16,11 @@ pub fn row_is_of_the_file()
 /// The samples of a line of a grid are its values column by column.
 pub fn line_has_values()
     ensures same { (file : List ℕ) (x y n i : ℕ) → i < n → get_or (line_of file x y n) i (pos 0) ≡ ascii_at file (x + i) y }
+{}
+
+/// What `write_head` and `write_row` append is a grid of the same size and NODATA, with the same
+/// values, where the coordinates that are written and the geotransform that is read back from them stay
+/// below 10^12 units.
+pub fn written_reads_back()
+    ensures same { (size : Size) (geo : Option Transform) (nodata : Option ℤ) (read : Transform) (rows : List (List ℤ)) → IsRaster size → IfSome nodata (λ n. is_value n ≡ true) → IsReadAgain size (placing_of size geo) read → AreRows size.w rows → length rows ≡ size.h → IsGridOf (head_text size geo nodata ++ flat_map row_text rows) size read nodata (joined rows) }
 {}

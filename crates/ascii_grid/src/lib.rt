@@ -13,9 +13,11 @@ mod scanner;
 pub mod steps;
 pub mod tokens;
 pub mod values;
+mod writing;
 
 pub use faults::GridFault;
 pub use head::{GridHead, Starts};
-pub use laws::{line_has_values, row_is_of_the_file};
+pub use laws::{line_has_values, row_is_of_the_file, written_reads_back};
 pub use row::{RowState, decode_more};
 pub use scanner::Scanner;
+pub use writing::{write_head, write_row};
