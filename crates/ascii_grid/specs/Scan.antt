@@ -141,6 +141,10 @@ abbrev pub with_rows : Result Stage GridFault → List ℕ → Result Read GridF
 with_rows (Ok stage) rows = Ok (record { stage = stage; rows = rows })
 with_rows (Err f) rows = Err f
 
+abbrev pub with_read : Result (Unit {0}) GridFault → Read → Result Read GridFault
+with_read (Ok t) read = Ok read
+with_read (Err f) read = Err f
+
 -- the answer behind all bytes
 abbrev pub grid_after : Scanned → Result Head GridFault
 grid_after s = (do

@@ -4,7 +4,7 @@ ghost use Rattle.lists_and_answers.specs.Answers.{Gives};
 ghost use Rattle.ascii_grid.specs.Faults.{IsMemory};
 ghost use Rattle.ascii_grid.specs.Grid.{grid_head, head_with};
 ghost use Rattle.ascii_grid.specs.declared.parts.Stage.TheVariants.{AtKey};
-ghost use Rattle.ascii_grid.specs.Scan.{then_byte, fed, start, Reaches, answer_of, grid_after, IsAt, with_rows, ended, body_closed, closed, Reads, IsFaultOf};
+ghost use Rattle.ascii_grid.specs.Scan.{then_byte, fed, start, Reaches, answer_of, grid_after, IsAt, with_read, ended, body_closed, closed, Reads, IsFaultOf};
 
 use crate::faults::GridFault;
 use crate::head::{GridHead, Starts};
@@ -71,11 +71,8 @@ impl Scanner {
             self.held.push(c);
             return;
         }
-        match ended(self.stage, &mut self.rows, &self.held) {
-            Ok(stage) => {
-                self.stage = stage;
-                self.held.pass();
-            }
+        match ended(&mut self.stage, &mut self.rows, &self.held) {
+            Ok(()) => self.held.pass(),
             Err(fault) => self.fault = Some(fault),
         }
     }
@@ -119,8 +116,8 @@ impl Scanner {
         if let Some(fault) = self.fault {
             return Err(fault);
         }
-        let stage = ended(self.stage, &mut self.rows, &self.held)?;
-        let shape = closed(stage)?;
+        ended(&mut self.stage, &mut self.rows, &self.held)?;
+        let shape = closed(self.stage)?;
         Ok(head_of(shape, self.rows))
     }
 
@@ -134,16 +131,15 @@ impl Scanner {
 }
 
 // Reads the token that is open, where one is.
-fn ended(stage: Stage, rows: &mut Starts, held: &Open) -> Result<Stage, GridFault>
-    requires { IsAt stage rows.old }
-    ensures read { Reaches (with_rows result rows.new) (ended (record { held = held.now; read = record { stage = stage; rows = rows.old } })) }
-    ensures keeps { IfOk result (λ stage. IsAt stage rows.new) }
-    ensures same { IfErr result (λ _. rows.new ≡ rows.old) }
+fn ended(stage: &mut Stage, rows: &mut Starts, held: &Open) -> Result<(), GridFault>
+    requires { IsAt stage.old rows.old }
+    ensures read { Reaches (with_read result (record { stage = stage.new; rows = rows.new })) (ended (record { held = held.now; read = record { stage = stage.old; rows = rows.old } })) }
+    ensures keeps { IsAt stage.new rows.new }
 {
     if held.is_open() {
         add_token(stage, rows, held.begun(), held.text())
     } else {
-        Ok(stage)
+        Ok(())
     }
 }
 

@@ -3,7 +3,7 @@ ghost use Rattle.std.specs.Prelude.{◌≡◌, ◌≤◌, ◌<◌, ◌+◌, ◌*
 ghost use Rattle.ascii_grid.specs.Tokens.{Token};
 ghost use Rattle.ascii_grid.specs.Faults.{IsMemory};
 ghost use Rattle.ascii_grid.specs.declared.parts.Stage.TheVariants.{AtKey, InBody};
-ghost use Rattle.ascii_grid.specs.Scan.{Reaches, IsBody, IsAt, add_token, with_rows};
+ghost use Rattle.ascii_grid.specs.Scan.{Reaches, IsBody, IsAt, add_token, with_rows, with_read};
 
 use crate::faults::GridFault;
 use crate::head::Starts;
@@ -46,29 +46,31 @@ fn begin_row(x: u32, rows: &mut Starts, at: u64) -> Result<(), GridFault>
 /// Reads a token of the body, of which `n` were read; it is in column `x`.
 #[tactic(auto, unfolding(crate::specs::Scan::step, crate::specs::Scan::body_step), using(crate::proofs::Bodies::body_next))]
 fn add_value(
-    shape: Shape,
-    n: u64,
-    x: u32,
+    shape: &Shape,
+    n: &mut u64,
+    x: &mut u32,
     rows: &mut Starts,
     at: u64,
     text: &[u8],
-) -> Result<Stage, GridFault>
-    requires { IsBody shape n x rows.old }
-    ensures read { Reaches (with_rows result rows.new) (add_token (record { stage = InBody shape n x; rows = rows.old }) (record { at = at; text = text.now })) }
-    ensures keeps { IfOk result (λ stage. IsAt stage rows.new) }
-    ensures same { IfErr result (λ _. rows.new ≡ rows.old) }
+) -> Result<(), GridFault>
+    requires { IsBody shape.now n.old x.old rows.old }
+    ensures read { Reaches (with_read result (record { stage = InBody shape.now n.new x.new; rows = rows.new })) (add_token (record { stage = InBody shape.now n.old x.old; rows = rows.old }) (record { at = at; text = text.now })) }
+    ensures keeps { IsBody shape.now n.new x.new rows.new }
+    ensures same { OnErr result (rows.new ≡ rows.old) }
 {
-    if n == needed(&shape) {
+    if *n == needed(shape) {
         return Err(GridFault::TooMany(at));
     }
     value_in(at, text)?;
-    begin_row(x, rows, at)?;
-    Ok(Stage::InBody(shape, n + 1, column_after(&shape, x)))
+    begin_row(*x, rows, at)?;
+    *n += 1;
+    *x = column_after(shape, *x);
+    Ok(())
 }
 
-/// Reads a token in a key's place: a key, or the first value of the body.
+/// What a token in a key's place says: a key, or the first value of the body.
 #[tactic(auto, unfolding(crate::specs::Scan::step), using(crate::proofs::Bodies::body_begins))]
-fn add_key(found: Found, rows: &mut Starts, at: u64, text: &[u8]) -> Result<Stage, GridFault>
+fn after_key(found: Found, rows: &mut Starts, at: u64, text: &[u8]) -> Result<Stage, GridFault>
     requires { rows.old ≡ [] }
     ensures read { Reaches (with_rows result rows.new) (add_token (record { stage = AtKey found; rows = rows.old }) (record { at = at; text = text.now })) }
     ensures keeps { IfOk result (λ stage. IsAt stage rows.new) }
@@ -76,7 +78,10 @@ fn add_key(found: Found, rows: &mut Starts, at: u64, text: &[u8]) -> Result<Stag
 {
     if is_body_start(text) {
         let shape = shape_of(found)?;
-        return add_value(shape, 0, 0, rows, at, text);
+        let mut n = 0;
+        let mut x = 0;
+        add_value(&shape, &mut n, &mut x, rows, at, text)?;
+        return Ok(Stage::InBody(shape, n, x));
     }
     let key = key_of(text).ok_or(GridFault::BadToken(at))?;
     Ok(Stage::AtValue(found, key))
@@ -85,19 +90,24 @@ fn add_key(found: Found, rows: &mut Starts, at: u64, text: &[u8]) -> Result<Stag
 /// Reads a token.
 #[tactic(auto, unfolding(crate::specs::Scan::step))]
 pub fn add_token(
-    stage: Stage,
+    stage: &mut Stage,
     rows: &mut Starts,
     at: u64,
     text: &[u8],
-) -> Result<Stage, GridFault>
-    requires { IsAt stage rows.old }
-    ensures read { Reaches (with_rows result rows.new) (add_token (record { stage = stage; rows = rows.old }) (record { at = at; text = text.now })) }
-    ensures keeps { IfOk result (λ stage. IsAt stage rows.new) }
-    ensures same { IfErr result (λ _. rows.new ≡ rows.old) }
+) -> Result<(), GridFault>
+    requires { IsAt stage.old rows.old }
+    ensures read { Reaches (with_read result (record { stage = stage.new; rows = rows.new })) (add_token (record { stage = stage.old; rows = rows.old }) (record { at = at; text = text.now })) }
+    ensures keeps { IsAt stage.new rows.new }
 {
     match stage {
-        Stage::AtKey(found) => add_key(found, rows, at, text),
-        Stage::AtValue(found, key) => Ok(Stage::AtKey(with_value(found, key, at, text)?)),
         Stage::InBody(shape, n, x) => add_value(shape, n, x, rows, at, text),
+        Stage::AtKey(found) => {
+            *stage = after_key(*found, rows, at, text)?;
+            Ok(())
+        }
+        Stage::AtValue(found, key) => {
+            *stage = Stage::AtKey(with_value(*found, *key, at, text)?);
+            Ok(())
+        }
     }
 }

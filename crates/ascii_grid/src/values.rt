@@ -1,12 +1,12 @@
 // What a token says.
-ghost use Rattle.std.specs.Prelude.{◌≡◌, ◌==◌, Some, None, if◌then◌else◌};
+ghost use Rattle.std.specs.Prelude.{◌≡◌, ◌==◌, min, Some, None, if◌then◌else◌};
 ghost use Rattle.std.specs.List.{list_all};
-ghost use Rattle.geotransform.specs.Decimal.{number};
-ghost use Rattle.ascii_grid.specs.Values.{is_same, is_body_start, side_in, coordinate_in, step_in, when_value, nodata_in, is_whole_end, is_whole_text, whole_value, value_in, is_value};
+ghost use Rattle.geotransform.specs.Decimal.{number, signed};
+ghost use Rattle.ascii_grid.specs.Values.{is_same, is_body_start, side_in, coordinate_in, step_in, when_value, nodata_in, is_whole_end, value_in, is_value};
 
 use crate::faults::GridFault;
 use crate::parts::{Coordinate, Side, Step, Value};
-use geotransform::decimal::{capped, digits_at, sign_at};
+use geotransform::decimal::{digits_at, sign_at};
 use geotransform::{
     PixelType, Sample, holds, is_decimal, read_decimal, read_number, read_whole,
 };
@@ -103,21 +103,22 @@ fn is_whole_end(text: &[u8]) -> bool
     }
 }
 
-fn is_whole_text(text: &[u8]) -> bool
-    ensures { result ≡ is_whole_text text.now }
+// The number that the digits write, or one that is past the band where it is greater.
+fn capped(digits: &[u8]) -> u64
+    ensures { result ≡ min (number digits.now) 2147483649 }
 {
-    let (_, rest) = sign_at(text);
-    let (digits, rest) = digits_at(rest);
-    text.len() <= 64 && !digits.is_empty() && is_whole_end(rest)
+    let mut n = 0u64;
+    for c in digits {
+        n = (n * 10 + u64::from(c.saturating_sub(b'0'))).min(2_147_483_649);
+    }
+    n
 }
 
-/// The value of a whole text, where it is one of the band.
-fn whole_value(text: &[u8]) -> Option<Sample>
-    ensures { result ≡ (if is_value (whole_value text.now) then Some (whole_value text.now) else None) }
+// The number with this sign and these digits, where it is one of the band.
+fn signed_value(negative: bool, digits: &[u8]) -> Option<Sample>
+    ensures { result ≡ (if is_value (signed negative (number digits.now)) then Some (signed negative (number digits.now)) else None) }
 {
-    let (negative, rest) = sign_at(text);
-    let (digits, _) = digits_at(rest);
-    let n = capped(digits, 2_147_483_649) as i128;
+    let n = capped(digits) as i128;
     if negative && n <= 2_147_483_648 {
         Some(-n)
     } else if !negative && n <= 2_147_483_647 {
@@ -132,8 +133,10 @@ fn whole_value(text: &[u8]) -> Option<Sample>
 pub fn value_in(at: u64, text: &[u8]) -> Result<Sample, GridFault>
     ensures { result ≡ value_in at text.now }
 {
-    if is_whole_text(text) {
-        whole_value(text).ok_or(GridFault::Limit)
+    let (negative, rest) = sign_at(text);
+    let (digits, end) = digits_at(rest);
+    if text.len() <= 64 && !digits.is_empty() && is_whole_end(end) {
+        signed_value(negative, digits).ok_or(GridFault::Limit)
     } else if is_decimal(text) {
         Err(GridFault::NotInteger(at))
     } else {
