@@ -8,3 +8,4 @@ pub mod Files
 pub mod RowReads
 pub mod Writes
 pub mod Again
+mod Computes

@@ -14,13 +14,13 @@ use Rattle.ascii_grid.specs.declared.faults.GridFault.TheVariants.{BadToken, Not
 use Rattle.ascii_grid.specs.declared.parts.Found.{Found}
 use Rattle.ascii_grid.specs.declared.parts.Shape.{Shape}
 use Rattle.ascii_grid.specs.declared.parts.Key.{Key}
-use Rattle.ascii_grid.specs.Tokens.{Token, tokens_from, tokens}
+use Rattle.ascii_grid.specs.Tokens.{Token, tokens_from, tokens, is_white, next}
 use Rattle.lists_and_answers.specs.Answers.{◌>>=◌}
 use Rattle.ascii_grid.specs.Values.{is_body_start, value_in}
 use Rattle.ascii_grid.specs.Keys.{key_of, with_value, shape_of}
-use Rattle.ascii_grid.specs.Grid.{Head, Grid, IsHead, head_with, head_of, body_of, rows_of, nothing, grid_in, grid_of, grid_head, ascii_in, ascii_at, line_of}
+use Rattle.ascii_grid.specs.Grid.{Head, Grid, IsHead, head_with, head_of, body_of, rows_of, nothing, grid_in, grid_of, grid_head, ascii_in, ascii_at, line_of, AreRising}
 use Rattle.ascii_grid.specs.Row.{value_or_zero, or_zero, row_of}
-use Rattle.ascii_grid.proofs.Places.{texts, stands, Stands, rows_is, place_at}
+use Rattle.ascii_grid.proofs.Places.{tok_white, tok_inside, tok_begins, texts, stands, Stands, rows_is, place_at}
 
 abbrev values : List Token → List ℤ
 values ts = map (λ t. value_or_zero t.text) ts
@@ -221,3 +221,76 @@ row_is_line text h y p is kept short place =
 -- a sample of a line
 pub line_sample : (text : List ℕ) (x y n i : ℕ) → i < n → get_or (line_of text x y n) i (pos 0) ≡ ascii_at text (x + i) y
 line_sample text x y n i below = get_or-map-range_with_len (λ i. ascii_at text (x + i) y) 0 n i i (pos 0) below (zero-add i)
+
+-- places that rise
+
+rising_weaker : (ps : List ℕ) (less least end : ℕ) → less ≤ least → AreRising least end ps → AreRising less end ps
+rising_weaker [] less least end le r = tt
+rising_weaker (p ∷ ps) less least end le r = (omega (arith, r.0), r.1, r.2)
+
+rising_end : (ps : List ℕ) (least end last : ℕ) → end ≡ last → AreRising least end ps → AreRising least last ps
+rising_end ps least end last same r = subst (λ (e : ℕ). AreRising least e ps) same r
+
+abbrev places : List Token → List ℕ
+places ts = map (λ t. t.at) ts
+
+-- the place behind a byte
+behind_byte : (at n : ℕ) → at + suc n < 2 ^ 64 → next at ≡ at + 1
+behind_byte at n room = omega arith
+
+no_token : (c : ℕ) (cs : List ℕ) (b n : Bool) (at : ℕ) → at + suc (length cs) < 2 ^ 64 → tokens_from b at (c ∷ cs) ≡ tokens_from n (next at) cs → AreRising (next at) (next at + length cs) (places (tokens_from n (next at) cs)) → AreRising at (at + suc (length cs)) (places (tokens_from b at (c ∷ cs)))
+no_token c cs b n at room same r =
+    let one : next at ≡ at + 1 = behind_byte at (length cs) room in
+    subst (λ (ts : List Token). AreRising at (at + suc (length cs)) (places ts)) (sym same)
+    (rising_end (places (tokens_from n (next at) cs)) at (next at + length cs) (at + suc (length cs)) (omega (arith, one)) (rising_weaker (places (tokens_from n (next at) cs)) at (next at) (next at + length cs) (omega (arith, one)) r))
+
+new_token : (c : ℕ) (cs : List ℕ) (at : ℕ) → at + suc (length cs) < 2 ^ 64 → is_white c ≡ false → AreRising (next at) (next at + length cs) (places (tokens_from true (next at) cs)) → AreRising at (at + suc (length cs)) (places (tokens_from false at (c ∷ cs)))
+new_token c cs at room w r =
+    let one : next at ≡ at + 1 = behind_byte at (length cs) room in
+    subst (λ (ts : List Token). AreRising at (at + suc (length cs)) (places ts)) (sym (tok_begins c cs at w))
+    (omega arith, omega arith, rising_end (places (tokens_from true (next at) cs)) (at + 1) (next at + length cs) (at + suc (length cs)) (omega (arith, one)) (rising_weaker (places (tokens_from true (next at) cs)) (at + 1) (next at) (next at + length cs) (omega (arith, one)) r))
+
+tokens_rise : (text : List ℕ) (b : Bool) (at : ℕ) → at + length text < 2 ^ 64 → AreRising at (at + length text) (places (tokens_from b at text))
+tokens_rise [] b at room = tt
+tokens_rise (c ∷ cs) true at room =
+    ⊎_elim
+    (λ (w : is_white c ≡ true). no_token c cs true false at room (tok_white c cs true at w) (tokens_rise cs false (next at) (omega arith)))
+    (λ (w : is_white c ≡ false). no_token c cs true true at room (tok_inside c cs at w) (tokens_rise cs true (next at) (omega arith)))
+    (cases_Bool (is_white c))
+tokens_rise (c ∷ cs) false at room =
+    ⊎_elim
+    (λ (w : is_white c ≡ true). no_token c cs false false at room (tok_white c cs false at w) (tokens_rise cs false (next at) (omega arith)))
+    (λ (w : is_white c ≡ false). new_token c cs at room w (tokens_rise cs true (next at) (omega arith)))
+    (cases_Bool (is_white c))
+
+drop_rises : (k : ℕ) (ts : List Token) (least end : ℕ) → AreRising least end (places ts) → AreRising least end (places (drop k ts))
+drop_rises zero ts least end r = r
+drop_rises (suc k) [] least end r = r
+drop_rises (suc k) (t ∷ ts) least end r = drop_rises k ts least end (rising_weaker (places ts) least (t.at + 1) end (omega (arith, r.0)) r.2)
+
+rows_rise_by : (b : Bool) (t : Token) (rest : List ℕ) (least end : ℕ) → least ≤ t.at → t.at < end → AreRising (t.at + 1) end rest → AreRising least end (cond b (t.at ∷ rest) rest)
+rows_rise_by true t rest least end le less r = (le, less, r)
+rows_rise_by false t rest least end le less r = rising_weaker rest least (t.at + 1) end (omega (arith, le)) r
+
+either_rises : (b : Bool) (xs ys : List ℕ) (least end : ℕ) → AreRising least end xs → AreRising least end ys → AreRising least end (cond b xs ys)
+either_rises true xs ys least end p q = p
+either_rises false xs ys least end p q = q
+
+rows_rise : (ts : List Token) (w x least end : ℕ) → AreRising least end (places ts) → AreRising least end (rows_of w x ts)
+rows_rise [] w x least end r = tt
+rows_rise (t ∷ ts) w x least end r = rows_rise_by (eqb x 0) t (cond (eqb (x + 1) w) (rows_of w 0 ts) (rows_of w (x + 1) ts)) least end r.0 r.1
+    (either_rises (eqb (x + 1) w) (rows_of w 0 ts) (rows_of w (x + 1) ts) (t.at + 1) end (rows_rise ts w 0 (t.at + 1) end r.2) (rows_rise ts w (x + 1) (t.at + 1) end r.2))
+
+head_rises : (text : List ℕ) (g : Grid) → grid_of text ≡ Ok g → length text < 2 ^ 64 → AreRising 0 (length text) g.head.rows
+head_rises text g is short =
+    let a : Answers text g = answers text g is in
+    let e : Ends (tokens text) a.body = head_ends (tokens text) nothing a.grid.found a.body a.grid.head in
+    let all : AreRising 0 (length text) (places (tokens text)) = rising_end (places (tokens text)) 0 (0 + length text) (length text) (omega arith) (tokens_rise text false 0 (omega arith)) in
+    let body : AreRising 0 (length text) (places a.body) = subst (λ (ts : List Token). AreRising 0 (length text) (places ts)) (sym e.same) (drop_rises e.count (tokens text) 0 (length text) all) in
+    subst (λ (h : Head). AreRising 0 (length text) h.rows) (sym a.head) (rows_rise a.body a.shape.w 0 0 (length text) body)
+
+-- the rows of a grid begin one behind the other, within the text
+pub rows_are_rising : (text : List ℕ) (h : Head) → grid_head text ≡ Ok h → length text < 2 ^ 64 → AreRising 0 (length text) h.rows
+rows_are_rising text h is short =
+    let g : HasGrid text h = has_grid (grid_of text) text h refl is in
+    subst (λ (k : Head). AreRising 0 (length text) k.rows) g.head (head_rises text g.grid g.is short)

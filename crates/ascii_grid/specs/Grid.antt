@@ -82,6 +82,11 @@ pub record IsHead (h : Head) : Type 0 where
   pub rows : length h.rows ≡ h.size.h
   pub nodata : IfSome h.nodata (λ n. is_value n ≡ true)
 
+-- places that rise, the first at least this one, all before an end
+abbrev pub AreRising : ℕ → ℕ → List ℕ → Type 0
+AreRising least end [] = Unit {0}
+AreRising least end (p ∷ ps) = (least ≤ p) × (p < end) × AreRising (p + 1) end ps
+
 -- the value in column x, line y
 abbrev pub value_at : Grid → ℕ → ℕ → ℤ
 value_at g x y = get_or g.values (y * g.head.size.w + x) (pos 0)

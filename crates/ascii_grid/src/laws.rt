@@ -5,12 +5,17 @@ ghost use Rattle.geotransform.specs.Geo.{Transform, IsRaster};
 ghost use Rattle.geotransform.specs.declared.types.Size.{Size};
 ghost use Rattle.ascii_grid.specs.Values.{is_value};
 ghost use Rattle.ascii_grid.specs.Text.{placing_of, head_text, row_text, joined, AreRows, IsReadAgain, IsGridOf};
-ghost use Rattle.ascii_grid.specs.Grid.{Head, IsHead, grid_head, ascii_at, line_of};
+ghost use Rattle.ascii_grid.specs.Grid.{Head, IsHead, grid_head, ascii_at, line_of, AreRising};
 ghost use Rattle.ascii_grid.specs.Row.{row_of};
 
 /// From the place of a row on, the bytes of a grid read as the values of that line.
 pub fn row_is_of_the_file()
     ensures same { (file : List ℕ) (h : Head) (y place : ℕ) → grid_head file ≡ Ok h → IsHead h → length file < 2 ^ 64 → slice_get h.rows y ≡ Some place → row_of h.size.w (drop place file) ≡ line_of file 0 y h.size.w }
+{}
+
+/// The rows of a grid begin one behind the other, within the text.
+pub fn rows_rise()
+    ensures rising { (file : List ℕ) (h : Head) → grid_head file ≡ Ok h → length file < 2 ^ 64 → AreRising 0 (length file) h.rows }
 {}
 
 /// The samples of a line of a grid are its values column by column.

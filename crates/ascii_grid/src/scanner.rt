@@ -2,7 +2,7 @@
 ghost use Rattle.std.specs.Prelude.{◌≡◌, ℕ, [], ◌++◌, List, Ok, Err, IfOk, IfErr, length, ◌<◌, ◌*◌};
 ghost use Rattle.lists_and_answers.specs.Answers.{Gives};
 ghost use Rattle.ascii_grid.specs.Faults.{IsMemory};
-ghost use Rattle.ascii_grid.specs.Grid.{grid_head, head_with};
+ghost use Rattle.ascii_grid.specs.Grid.{grid_head, head_with, IsHead};
 ghost use Rattle.ascii_grid.specs.declared.parts.Stage.TheVariants.{AtKey};
 ghost use Rattle.ascii_grid.specs.Scan.{then_byte, fed, start, Reaches, answer_of, grid_after, IsAt, with_read, ended, body_closed, closed, Reads, IsFaultOf};
 
@@ -18,7 +18,8 @@ use lists_and_answers::Items;
 use std::alloc::Global;
 use std::marker::Model;
 
-/// Reads a grid's text in pieces.
+/// Reads a grid's text in pieces, as the bytes that were fed so far. It keeps the place of each row and
+/// the last token, which is still open, and nothing else that grows.
 #[derive(Drop)]
 pub struct Scanner {
     fault: Option<GridFault>,
@@ -38,6 +39,7 @@ impl Model for Scanner {
 }
 
 impl Scanner {
+    /// Nothing was fed. It takes no memory.
     pub fn new(alloc: Global) -> Scanner
         ensures state { result ≡ Ok start }
         ensures reads { Reads result [] }
@@ -95,7 +97,12 @@ impl Scanner {
         }
     }
 
-    /// Takes the next piece of the text.
+    /// Takes the next piece of the text, of any length. A fault is answered once its token has ended, and
+    /// it is the first of all bytes fed, however they were cut: an unknown key, a value that isn't of its
+    /// form or a token past 64 bytes is BadToken, a decimal number in the body that isn't whole is
+    /// NotInteger, a token behind the last value is TooMany; a number past its limit or a geotransform out
+    /// of range is Limit, and a head without a key that it needs is MissingKey. After a refusal it is
+    /// the same fault from then on. Memory comes freely, where a row's place can't be kept.
     #[tactic(auto, using(crate::proofs::Whole::reads_more))]
     pub fn feed(&mut self, bytes: &[u8]) -> Result<(), GridFault>
         ensures reads { (text : List ℕ) → Reads self.old text → Reads self.new (text ++ bytes.now) }
@@ -121,9 +128,11 @@ impl Scanner {
         Ok(head_of(shape, self.rows))
     }
 
-    /// The head of the grid that was fed.
+    /// The head of the grid that was fed, or the first fault of all bytes. After a refusal it is the same
+    /// fault.
     pub fn finish(self) -> Result<GridHead, GridFault>
         ensures grid { (text : List ℕ) → Reads self text → Gives IsMemory (λ h. h) result (grid_head text) }
+        ensures kept { IfOk result IsHead }
         ensures stays { (f : GridFault) → self ≡ Err f → result ≡ Err f }
     {
         self.end()
