@@ -1,34 +1,45 @@
 -- The bytes of a row that stand in a file.
-use Rattle.std.proofs.Common.{◌≡◌, ℕ, ℤ, Bool, true, List, [], ◌∷◌, ◌++◌, refl, sym, ap, ◌∙◌, take, drop, length, ◌≤◌, ◌<◌, ◌+◌, ◌-◌, arith, subst, ⊎_elim, length-drop}
-use Rattle.std.specs.Prelude.{nat_le, ◌⊎◌}
+use Rattle.std.proofs.Common.{◌≡◌, ℕ, ℤ, Bool, true, List, [], ◌∷◌, ◌++◌, refl, sym, ap, ◌∙◌, take, drop, length, ◌≤◌, ◌<◌, ◌+◌, ◌-◌, arith, subst, length-drop}
+use Rattle.std.specs.Prelude.{nat_le, ◌==◌, ◌||◌}
+use Rattle.std.proofs.lemmas.Bool.{eq-eqb}
 use Rattle.std.proofs.Math.Seq.{take-add}
 use Rattle.std.proofs.lemmas.Bool.Decides.{nat_tests}
-use Rattle.std.proofs.lemmas.List.{take-append-drop, take_all, drop-drop, append-nil, nil_from_length}
-use Rattle.ascii_grid.specs.Row.{RowNow, Fills, HasRead, StandsAt, IsPiece, row_of, ended_in}
-use Rattle.ascii_grid.proofs.Rows.{whole_row}
+use Rattle.std.proofs.lemmas.List.{take-append-drop, take_all, drop-drop, append-nil}
+use Rattle.ascii_grid.specs.Row.{RowNow, Fills, fresh, HasRead, StandsAt, row_of, ended_in}
+use Rattle.ascii_grid.proofs.Rows.{whole_row, fresh_fills}
+
+-- nothing was read
+pub fresh_reads : (out : List ℤ) (file : List ℕ) (from : ℕ) → HasRead fresh out file from from
+fresh_reads out file from = let none : 0 ≡ from - from = omega arith in record { forward = omega arith; given = subst (λ (k : ℕ). Fills fresh out (take k (drop from file))) none (fresh_fills out) }
 
 -- what was read and the piece behind it
-joined : (file bytes : List ℕ) (from count : ℕ) → StandsAt file bytes (from + count) → take count (drop from file) ++ bytes ≡ take (count + length bytes) (drop from file)
-joined file bytes from count stands =
-    let there : drop (from + count) file ≡ drop count (drop from file) = sym (drop-drop count from file) in
-    ap (λ (b : List ℕ). take count (drop from file) ++ b) (stands ∙ ap (take (length bytes)) there) ∙ sym (take-add count (length bytes) (drop from file))
+joined : (file bytes : List ℕ) (from at : ℕ) → from ≤ at → StandsAt file bytes at → take (at - from) (drop from file) ++ bytes ≡ take ((at - from) + length bytes) (drop from file)
+joined file bytes from at forward stands =
+    let place : from + (at - from) ≡ at = omega arith in
+    let there : drop at file ≡ drop (at - from) (drop from file) = sym (drop-drop (at - from) from file ∙ ap (λ k. drop k file) place) in
+    ap (λ (b : List ℕ). take (at - from) (drop from file) ++ b) (stands ∙ ap (take (length bytes)) there) ∙ sym (take-add (at - from) (length bytes) (drop from file))
 
-pub more_of_file : (s : RowNow) (out : List ℤ) (file bytes : List ℕ) (from count : ℕ) → Fills s out (take count (drop from file) ++ bytes) → StandsAt file bytes (from + count) → HasRead s out file from (count + length bytes)
-more_of_file s out file bytes from count fills stands = subst (λ (text : List ℕ). Fills s out text) (joined file bytes from count stands) fills
+pub more_of_file : (s : RowNow) (out : List ℤ) (file bytes : List ℕ) (from at : ℕ) → from ≤ at → Fills s out (take (at - from) (drop from file) ++ bytes) → StandsAt file bytes at → HasRead s out file from (at + length bytes)
+more_of_file s out file bytes from at forward fills stands =
+    let count : (at - from) + length bytes ≡ (at + length bytes) - from = omega arith in
+    record { forward = omega arith; given = subst (λ (text : List ℕ). Fills s out text) (joined file bytes from at forward stands ∙ ap (λ k. take k (drop from file)) count) fills }
 
 test_le : (n m : ℕ) → true ≡ nat_le n m → n ≤ m
 test_le n m e = grind (arith, nat_tests)
 
 -- a row that is whole is that of all bytes
-pub line_of_file : (w : ℕ) (new : List ℤ) (file bytes : List ℕ) (from count : ℕ) → new ≡ row_of w (take count (drop from file) ++ bytes) → (0 < length bytes → true ≡ nat_le w (ended_in (take count (drop from file) ++ bytes))) → IsPiece file bytes from count → new ≡ row_of w (drop from file)
-line_of_file w new file bytes from count is enough piece =
-    ⊎_elim
-    (λ (some : 0 < length bytes).
-        let text : List ℕ = take count (drop from file) ++ bytes in
-        let k : ℕ = count + length bytes in
-        is ∙ whole_row w text (drop k (drop from file)) (test_le w (ended_in text) (enough some))
-        ∙ ap (λ (t : List ℕ). row_of w (t ++ drop k (drop from file))) (joined file bytes from count piece.0)
-        ∙ ap (row_of w) (take-append-drop k (drop from file)))
-    (λ (past : length file ≤ from + count).
-        is ∙ ap (row_of w) (joined file bytes from count piece.0 ∙ take_all (count + length bytes) (drop from file) (omega (arith, length-drop from file))))
-    piece.1
+pub line_of_file : (w : ℕ) (new : List ℤ) (file bytes : List ℕ) (from at : ℕ) → from ≤ at → new ≡ row_of w (take (at - from) (drop from file) ++ bytes) → true ≡ nat_le w (ended_in (take (at - from) (drop from file) ++ bytes)) → StandsAt file bytes at → new ≡ row_of w (drop from file)
+line_of_file w new file bytes from at forward is enough stands =
+    let text : List ℕ = take (at - from) (drop from file) ++ bytes in
+    let k : ℕ = (at - from) + length bytes in
+    is ∙ whole_row w text (drop k (drop from file)) (test_le w (ended_in text) enough)
+    ∙ ap (λ (t : List ℕ). row_of w (t ++ drop k (drop from file))) (joined file bytes from at forward stands)
+    ∙ ap (row_of w) (take-append-drop k (drop from file))
+
+-- so it is where the file ends
+pub end_of_file : (w : ℕ) (new : List ℤ) (file bytes : List ℕ) (from at : ℕ) → new ≡ row_of w (take (at - from) (drop from file) ++ bytes) → bytes ≡ [] → length file ≤ at → from ≤ at → new ≡ row_of w (drop from file)
+end_of_file w new file bytes from at is none past forward =
+    is ∙ ap (λ (b : List ℕ). row_of w (take (at - from) (drop from file) ++ b)) none ∙ ap (row_of w) (append-nil (take (at - from) (drop from file)) ∙ take_all (at - from) (drop from file) (omega (arith, length-drop from file)))
+
+pub empty_is_true : (n : ℕ) (r b : Bool) → r ≡ ((n == 0) || b) → n ≡ 0 → r ≡ true
+empty_is_true n r b is none = is ∙ rw (eq-eqb n 0 none) refl

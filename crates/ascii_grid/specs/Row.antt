@@ -1,5 +1,5 @@
 -- A row that is read in pieces.
-use Rattle.std.specs.Prelude.{ℕ, ℤ, pos, Bool, true, false, ◌+◌, ◌-◌, List, [], ◌∷◌, ◌++◌, length, take, drop, map, Result, Ok, Err, nat_lt, if◌then◌else◌, slice_set, ◌≡◌, ◌≤◌, ◌<◌, ◌⊎◌, replicate}
+use Rattle.std.specs.Prelude.{ℕ, ℤ, pos, Bool, true, false, ◌+◌, ◌-◌, List, [], ◌∷◌, ◌++◌, length, take, drop, map, Result, Ok, Err, nat_lt, if◌then◌else◌, slice_set, ◌≡◌, ◌≤◌, replicate}
 use Rattle.std.specs.List.{fold}
 use Rattle.ascii_grid.specs.declared.faults.GridFault.{GridFault}
 use Rattle.ascii_grid.specs.Tokens.{Token, tokens, is_white}
@@ -74,10 +74,7 @@ ended_in text = ended_from false text
 abbrev pub StandsAt : List ℕ → List ℕ → ℕ → Type 0
 StandsAt file bytes at = bytes ≡ take (length bytes) (drop at file)
 
--- the row was given so many bytes of a file from a place on, in some pieces, none of which was empty
-abbrev pub HasRead : RowNow → List ℤ → List ℕ → ℕ → ℕ → Type 0
-HasRead s out file from count = Fills s out (take count (drop from file))
-
--- the piece that stands behind these bytes of a file is empty only where the file ends
-abbrev pub IsPiece : List ℕ → List ℕ → ℕ → ℕ → Type 0
-IsPiece file bytes from count = StandsAt file bytes (from + count) × ((0 < length bytes) ⊎ (length file ≤ from + count))
+-- the row was given the bytes of a file from one place up to another, in some pieces, none of which was empty
+pub record HasRead (s : RowNow) (out : List ℤ) (file : List ℕ) (from at : ℕ) : Type 0 where
+  pub forward : from ≤ at
+  pub given : Fills s out (take (at - from) (drop from file))

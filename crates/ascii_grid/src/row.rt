@@ -1,7 +1,7 @@
 // The samples of a row, read in pieces.
 ghost use Rattle.std.specs.Prelude.{◌≡◌, ℕ, ℤ, ◌≤◌, ◌<◌, ◌+◌, length, true, false, [], ◌++◌, List, ◌||◌, ◌==◌, nat_le, min, drop};
 ghost use Rattle.ascii_grid.specs.Scan.{is_open};
-ghost use Rattle.ascii_grid.specs.Row.{value_or_zero, reading, row_ended, row_byte, row_fed, padded, Fills, row_of, ended_in, ended_from, fresh, HasRead, StandsAt, IsPiece};
+ghost use Rattle.ascii_grid.specs.Row.{value_or_zero, reading, row_ended, row_byte, row_fed, padded, Fills, row_of, ended_in, ended_from, fresh, HasRead, StandsAt};
 
 use crate::open::Open;
 use crate::tokens::is_white;
@@ -28,11 +28,11 @@ impl Model for RowState {
 
 impl RowState {
     /// Nothing was read. It takes no memory.
-    #[tactic(auto, using(crate::proofs::Rows::fresh_fills))]
+    #[tactic(auto, using(crate::proofs::Rows::fresh_fills, crate::proofs::Files::fresh_reads))]
     pub fn new() -> RowState
         ensures state { result ≡ fresh }
         ensures fills { (out : List ℤ) → Fills result out [] }
-        ensures reads { (out : List ℤ) (file : List ℕ) (from : ℕ) → HasRead result out file from 0 }
+        ensures reads { (out : List ℤ) (file : List ℕ) (from : ℕ) → HasRead result out file from from }
     {
         RowState {
             held: Open::new(),
@@ -136,9 +136,10 @@ pub fn decode_more(state: &mut RowState, bytes: &[u8], out: &mut [Sample]) -> bo
     ensures counted { 0 < length bytes.now → state.old.over ≡ false → state.new.filled ≡ min (length out.old) (state.old.filled + ended_from (is_open state.old.held.text) bytes.now) }
     ensures over { state.new.over ≡ (state.old.over || (length bytes.now == 0)) }
     ensures ended { (text : List ℕ) → Fills state.old out.old text → 0 < length bytes.now → result ≡ nat_le (length out.new) (ended_in (text ++ bytes.now)) }
-    // of a file's bytes from a place on
-    ensures more { (file : List ℕ) (from count : ℕ) → HasRead state.old out.old file from count → StandsAt file bytes.now (from + count) → 0 < length bytes.now → HasRead state.new out.new file from (count + length bytes.now) }
-    ensures line { (file : List ℕ) (from count : ℕ) → HasRead state.old out.old file from count → IsPiece file bytes.now from count → result ≡ true → out.new ≡ row_of (length out.new) (drop from file) }
+    // the bytes of a file from a place on
+    ensures more { (file : List ℕ) (from at : ℕ) → HasRead state.old out.old file from at → StandsAt file bytes.now at → 0 < length bytes.now → HasRead state.new out.new file from (at + length bytes.now) }
+    ensures line { (file : List ℕ) (from at : ℕ) → HasRead state.old out.old file from at → StandsAt file bytes.now at → 0 < length bytes.now → result ≡ true → out.new ≡ row_of (length out.new) (drop from file) }
+    ensures end { (file : List ℕ) (from at : ℕ) → HasRead state.old out.old file from at → length file ≤ at → length bytes.now ≡ 0 → out.new ≡ row_of (length out.new) (drop from file) }
     ensures filled { state.new.filled ≤ length out.new }
     ensures size { length out.new ≡ length out.old }
 {
