@@ -1,11 +1,17 @@
 -- The bytes of a row that stand in a file.
-use Rattle.std.proofs.Common.{◌≡◌, ℕ, ℤ, Bool, true, List, [], ◌∷◌, ◌++◌, refl, sym, ap, ◌∙◌, take, drop, length, ◌≤◌, ◌<◌, ◌+◌, ◌-◌, arith, subst, length-drop}
+use Rattle.std.proofs.Common.{◌≡◌, ℕ, ℤ, Bool, true, List, [], ◌∷◌, ◌++◌, refl, sym, ap, ◌∙◌, take, drop, length, ◌≤◌, ◌<◌, ◌+◌, ◌-◌, arith, subst, length-drop, Result, Ok, Err, inl, inr}
 use Rattle.std.specs.Prelude.{nat_le, ◌==◌, ◌||◌}
 use Rattle.std.proofs.lemmas.Bool.{eq-eqb}
 use Rattle.std.proofs.Math.Seq.{take-add}
 use Rattle.std.proofs.lemmas.Bool.Decides.{nat_tests}
 use Rattle.std.proofs.lemmas.List.{take-append-drop, take_all, drop-drop, append-nil}
-use Rattle.ascii_grid.specs.Row.{RowNow, Fills, fresh, HasRead, StandsAt, row_of, ended_in}
+use Rattle.ascii_grid.specs.Row.{RowNow, Fills, fresh, HasRead, row_of, ended_in}
+use Rattle.ascii_grid.specs.Scan.{StandsAt, Scanned, Reads, HasScanned, IsFaultOf, IsFaultIn}
+use Rattle.ascii_grid.specs.Grid.{Head, grid_head}
+use Rattle.ascii_grid.specs.Faults.{IsMemory}
+use Rattle.ascii_grid.specs.declared.faults.GridFault.{GridFault}
+use Rattle.ascii_grid.specs.declared.faults.GridFault.TheVariants.{Memory}
+use Rattle.lists_and_answers.specs.Answers.{Gives}
 use Rattle.ascii_grid.proofs.Rows.{whole_row, fresh_fills}
 
 -- nothing was read
@@ -43,3 +49,23 @@ end_of_file w new file bytes from at is none past forward =
 
 pub empty_is_true : (n : ℕ) (r b : Bool) → r ≡ ((n == 0) || b) → n ≡ 0 → r ≡ true
 empty_is_true n r b is none = is ∙ rw (eq-eqb n 0 none) refl
+
+-- the scanner behind a piece of a file
+
+scanned_text : (file bytes : List ℕ) (at : ℕ) → StandsAt file bytes at → take at file ++ bytes ≡ take (at + length bytes) file
+scanned_text file bytes at stands = ap (λ (b : List ℕ). take at file ++ b) stands ∙ sym (take-add at (length bytes) file)
+
+pub scanned_more : (s : Scanned) (file bytes : List ℕ) (at : ℕ) → Reads s (take at file ++ bytes) → StandsAt file bytes at → HasScanned s file (at + length bytes)
+scanned_more s file bytes at reads stands = record { reads = subst (λ (text : List ℕ). Reads s text) (scanned_text file bytes at stands) reads }
+
+pub fault_in : (f : GridFault) (file bytes : List ℕ) (at : ℕ) → IsFaultOf f (take at file ++ bytes) → StandsAt file bytes at → IsFaultIn f file
+fault_in f file bytes at (inl memory) stands = inl memory
+fault_in f file bytes at (inr always) stands =
+    let rest : List ℕ = drop (at + length bytes) file in
+    inr (sym (ap (λ (t : List ℕ). grid_head (t ++ rest)) (scanned_text file bytes at stands) ∙ ap grid_head (take-append-drop (at + length bytes) file)) ∙ always rest)
+
+pub scanned_all : (r : Result Head GridFault) (s : Scanned) (file : List ℕ) (at : ℕ) → HasScanned s file at → length file ≤ at → ((text : List ℕ) → Reads s text → Gives IsMemory (λ h. h) r (grid_head text)) → Gives IsMemory (λ h. h) r (grid_head file)
+scanned_all r s file at h past grid = grid file (subst (λ (text : List ℕ). Reads s text) (take_all at file past) h.reads)
+
+pub nothing_scanned : (s : Scanned) (file : List ℕ) → Reads s [] → HasScanned s file 0
+nothing_scanned s file reads = record { reads = reads }

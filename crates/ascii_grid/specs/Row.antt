@@ -70,10 +70,6 @@ ended_from inside (c ∷ cs) = if is_white c then (if inside then 1 + ended_from
 abbrev pub ended_in : List ℕ → ℕ
 ended_in text = ended_from false text
 
--- the bytes are those of a file from a place on
-abbrev pub StandsAt : List ℕ → List ℕ → ℕ → Type 0
-StandsAt file bytes at = bytes ≡ take (length bytes) (drop at file)
-
 -- the row was given the bytes of a file from one place up to another, in some pieces, none of which was empty
 pub record HasRead (s : RowNow) (out : List ℤ) (file : List ℕ) (from at : ℕ) : Type 0 where
   pub forward : from ≤ at

@@ -1,7 +1,7 @@
 // The samples of a row, read in pieces.
 ghost use Rattle.std.specs.Prelude.{◌≡◌, ℕ, ℤ, ◌≤◌, ◌<◌, ◌+◌, length, true, false, [], ◌++◌, List, ◌||◌, ◌==◌, nat_le, min, drop};
-ghost use Rattle.ascii_grid.specs.Scan.{is_open};
-ghost use Rattle.ascii_grid.specs.Row.{value_or_zero, reading, row_ended, row_byte, row_fed, padded, Fills, row_of, ended_in, ended_from, fresh, HasRead, StandsAt};
+ghost use Rattle.ascii_grid.specs.Scan.{is_open, StandsAt};
+ghost use Rattle.ascii_grid.specs.Row.{value_or_zero, reading, row_ended, row_byte, row_fed, padded, Fills, row_of, ended_in, ended_from, fresh, HasRead};
 
 use crate::open::Open;
 use crate::tokens::is_white;

@@ -1,10 +1,10 @@
 // The scanner of a grid's text.
-ghost use Rattle.std.specs.Prelude.{◌≡◌, ℕ, [], ◌++◌, List, Ok, Err, IfOk, IfErr, length, ◌<◌, ◌*◌};
+ghost use Rattle.std.specs.Prelude.{◌≡◌, ℕ, [], ◌++◌, List, Ok, Err, IfOk, length, ◌<◌, ◌≤◌, ◌+◌, ◌*◌};
 ghost use Rattle.lists_and_answers.specs.Answers.{Gives};
 ghost use Rattle.ascii_grid.specs.Faults.{IsMemory};
 ghost use Rattle.ascii_grid.specs.Grid.{grid_head, head_with, IsHead};
 ghost use Rattle.ascii_grid.specs.declared.parts.Stage.TheVariants.{AtKey};
-ghost use Rattle.ascii_grid.specs.Scan.{then_byte, fed, start, Reaches, answer_of, grid_after, IsAt, with_read, ended, body_closed, closed, Reads, IsFaultOf};
+ghost use Rattle.ascii_grid.specs.Scan.{then_byte, fed, start, Reaches, answer_of, grid_after, IsAt, with_read, ended, body_closed, closed, Reads, IsFaultOf, HasScanned, StandsAt, IsFaultIn};
 
 use crate::faults::GridFault;
 use crate::head::{GridHead, Starts};
@@ -40,9 +40,11 @@ impl Model for Scanner {
 
 impl Scanner {
     /// Nothing was fed. It takes no memory.
+    #[tactic(auto, using(crate::proofs::Files::nothing_scanned))]
     pub fn new(alloc: Global) -> Scanner
         ensures state { result ≡ Ok start }
         ensures reads { Reads result [] }
+        ensures scanned { (file : List ℕ) → HasScanned result file 0 }
     {
         Scanner {
             fault: None,
@@ -97,14 +99,9 @@ impl Scanner {
         }
     }
 
-    /// Takes the next piece of the text, of any length. A fault is answered once its token has ended, and
-    /// it is the first of all bytes fed, however they were cut: an unknown key, a value that isn't of its
-    /// form or a token past 64 bytes is BadToken, a decimal number in the body that isn't whole is
-    /// NotInteger, a token behind the last value is TooMany; a number past its limit or a geotransform out
-    /// of range is Limit, and a head without a key that it needs is MissingKey. After a refusal it is
-    /// the same fault from then on. Memory comes freely, where a row's place can't be kept.
+    // Reads a piece.
     #[tactic(auto, using(crate::proofs::Whole::reads_more))]
-    pub fn feed(&mut self, bytes: &[u8]) -> Result<(), GridFault>
+    fn read(&mut self, bytes: &[u8]) -> Result<(), GridFault>
         ensures reads { (text : List ℕ) → Reads self.old text → Reads self.new (text ++ bytes.now) }
         ensures fault { (text : List ℕ) (f : GridFault) → Reads self.old text → result ≡ Err f → IsFaultOf f (text ++ bytes.now) }
         ensures stays { (f : GridFault) → self.old ≡ Err f → self.new ≡ Err f }
@@ -112,6 +109,26 @@ impl Scanner {
     {
         self.take(bytes);
         self.answer()
+    }
+
+    /// Takes the next piece of the text, of any length. A fault is answered once its token has ended, and
+    /// it is the first of all bytes fed, however they were cut: an unknown key, a value that isn't of its
+    /// form or a token past 64 bytes is BadToken, a decimal number in the body that isn't whole is
+    /// NotInteger, a token behind the last value is TooMany; a number past its limit or a geotransform out
+    /// of range is Limit, and a head without a key that it needs is MissingKey. After a refusal it is
+    /// the same fault from then on. Memory comes freely, where a row's place can't be kept.
+    pub fn feed(&mut self, bytes: &[u8]) -> Result<(), GridFault>
+        // what was fed goes on with these bytes
+        ensures reads { (text : List ℕ) → Reads self.old text → Reads self.new (text ++ bytes.now) }
+        // a fault is that of all bytes, and stays
+        ensures fault { (text : List ℕ) (f : GridFault) → Reads self.old text → result ≡ Err f → IsFaultOf f (text ++ bytes.now) }
+        ensures stays { (f : GridFault) → self.old ≡ Err f → self.new ≡ Err f }
+        ensures answer { result ≡ answer_of self.new }
+        // the pieces of a file
+        ensures more { (file : List ℕ) (at : ℕ) → HasScanned self.old file at → StandsAt file bytes.now at → HasScanned self.new file (at + length bytes.now) }
+        ensures refused { (file : List ℕ) (at : ℕ) (f : GridFault) → HasScanned self.old file at → StandsAt file bytes.now at → result ≡ Err f → IsFaultIn f file }
+    {
+        self.read(bytes)
     }
 
     // What was read, where the text ends here.
@@ -132,6 +149,7 @@ impl Scanner {
     /// fault.
     pub fn finish(self) -> Result<GridHead, GridFault>
         ensures grid { (text : List ℕ) → Reads self text → Gives IsMemory (λ h. h) result (grid_head text) }
+        ensures whole { (file : List ℕ) (at : ℕ) → HasScanned self file at → length file ≤ at → Gives IsMemory (λ h. h) result (grid_head file) }
         ensures kept { IfOk result IsHead }
         ensures stays { (f : GridFault) → self ≡ Err f → result ≡ Err f }
     {
