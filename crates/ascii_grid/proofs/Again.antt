@@ -1,10 +1,10 @@
 -- What is written is scanned again.
-use Rattle.std.proofs.Common.{◌≡◌, ◌≢◌, ℕ, ℤ, pos, negsuc, Bool, true, false, List, [], ◌∷◌, ◌++◌, refl, sym, ap, ◌∙◌, ⊎_elim, take, drop, length, ◌≤◌, ◌<◌, ◌+◌, ◌-◌, ◌*◌, ◌^◌, arith, cond, map, suc, zero, Option, Some, None, Result, Ok, Err, ok_or, replicate, subst, length-append, append_assoc, unsigned_abs, IfSome}
-use Rattle.std.specs.Prelude.{neg_ℤ, ◌*ℤ◌, ◌&&◌, ◌||◌, ◌%◌, ◌<ℤ◌, nat_le, nat_lt, codes, int_lt, int_le, ◌==◌}
+use Rattle.std.proofs.Common.{◌≡◌, ◌≢◌, ℕ, ℤ, pos, negsuc, Bool, true, false, List, [], ◌∷◌, ◌++◌, refl, sym, ap, ◌∙◌, take, length, ◌≤◌, ◌<◌, ◌+◌, ◌-◌, ◌*◌, ◌^◌, arith, cond, suc, Option, Some, None, Result, Ok, Err, ok_or, length-append, append_assoc, unsigned_abs, IfSome}
+use Rattle.std.specs.Prelude.{neg_ℤ, ◌*ℤ◌, ◌&&◌, ◌||◌, ◌%◌, ◌<ℤ◌, nat_le, nat_lt, codes, int_lt, ◌==◌}
 use Rattle.std.specs.List.{take_while, flat_map, list_all, All}
 use Rattle.std.specs.Char.{is_ascii_digit}
 use Rattle.std.specs.Fmt.{decimal, signed_decimal}
-use Rattle.std.proofs.lemmas.Bool.{cases_Bool, cases_eq, eq-eqb, ne_eqb, eqb-true}
+use Rattle.std.proofs.lemmas.Bool.{ne_eqb}
 use Rattle.std.proofs.lemmas.Bool.Decides.{nat_tests}
 use Rattle.std.proofs.lemmas.Int.{ints}
 use Rattle.std.proofs.lemmas.List.{append-nil, take_all}
@@ -16,12 +16,12 @@ use Rattle.lists_and_answers.specs.Answers.{◌>>=◌}
 use Rattle.geotransform.specs.Decimal.{sign_at, digits_at, number, signed, is_decimal, number_of, whole_of, parts_of, Decimal}
 use Rattle.geotransform.specs.Print.{unit, short_text}
 use Rattle.geotransform.specs.Places.{half, sixteen_places}
-use Rattle.geotransform.specs.Geo.{Transform, IsRaster, IsNear, along}
+use Rattle.geotransform.specs.Geo.{Transform, IsRaster, along}
 use Rattle.geotransform.specs.declared.types.Size.{Size}
 use Rattle.geotransform.proofs.Numbers.{own}
 use Rattle.geotransform.proofs.RoundTrip.{AreDigits, digits-cons, sign_none, digits_again, IsShortWord, IsPlain, decimal_word, signed_word, short_word, whole_again, short_again}
 use Rattle.ascii_grid.specs.declared.faults.GridFault.{GridFault}
-use Rattle.ascii_grid.specs.declared.faults.GridFault.TheVariants.{MissingKey, BadToken, NotInteger, TooFew, TooMany, Limit}
+use Rattle.ascii_grid.specs.declared.faults.GridFault.TheVariants.{MissingKey, BadToken, NotInteger, Limit}
 use Rattle.ascii_grid.specs.declared.parts.Found.{Found}
 use Rattle.ascii_grid.specs.declared.parts.Shape.{Shape}
 use Rattle.ascii_grid.specs.declared.parts.LowerLeft.{LowerLeft}
@@ -32,7 +32,7 @@ use Rattle.ascii_grid.specs.declared.placing.Placing.{Placing}
 use Rattle.ascii_grid.specs.Tokens.{Token, tokens_from, tokens, token, is_white, is_dark, next}
 use Rattle.ascii_grid.specs.Values.{side_in, coordinate_in, step_in, nodata_in, when_value, is_same, is_body_start, value_in, is_value, is_whole_text, is_whole_end, whole_value}
 use Rattle.ascii_grid.specs.Keys.{key_of, with_value, steps_of, placed, shape_of}
-use Rattle.ascii_grid.specs.Grid.{Grid, head_with, head_of, body_of, rows_of, nothing, grid_in, grid_of}
+use Rattle.ascii_grid.specs.Grid.{head_of, body_of, rows_of, nothing, grid_in, grid_of}
 use Rattle.ascii_grid.specs.Text.{more_text, row_text, line, placing_of, size_lines, edge_lines, are_same, step_lines, nodata_line, head_lines, head_text, joined, AreRows, IsReadAgain, IsGridOf}
 use Rattle.ascii_grid.proofs.Places.{tok_white, tok_inside, tok_begins}
 
@@ -75,7 +75,7 @@ word_tokens (x ∷ xs) tail at s t =
     let front : take_while is_dark (xs ++ tail) ≡ xs = ap (λ y. take_while is_dark (xs ++ y)) t.is ∙ taken xs t.first t.rest (plain_more x xs s.plain) t.white in
     let whole : take 65 (x ∷ xs) ≡ x ∷ xs = take_all 65 (x ∷ xs) (omega (arith, s.short)) in
     let behind : tokens_from true (passed_by xs (next at)) tail ≡ tokens_from false (passed_by xs (next at)) tail =
-        ap (tokens_from true (passed_by xs (next at))) t.is ∙ tok_white t.first t.rest true (passed_by xs (next at)) t.white ∙ sym (ap (tokens_from false (passed_by xs (next at))) t.is ∙ tok_white t.first t.rest false (passed_by xs (next at)) t.white) in
+    ap (tokens_from true (passed_by xs (next at))) t.is ∙ tok_white t.first t.rest true (passed_by xs (next at)) t.white ∙ sym (ap (tokens_from false (passed_by xs (next at))) t.is ∙ tok_white t.first t.rest false (passed_by xs (next at)) t.white) in
     tok_begins x (xs ++ tail) at dark
     ∙ ap (λ y. token at (x ∷ y) ∷ tokens_from true (next at) (xs ++ tail)) front
     ∙ ap (λ y. record { at = at; text = y } ∷ tokens_from true (next at) (xs ++ tail)) whole
@@ -406,12 +406,12 @@ step_text b p = cond b (line (codes "cellsize") (short_text p.width)) (line (cod
 
 steps_by : (b : Bool) (w h : Option ℕ) (x y : Option LowerLeft) (p : Placing) (rest : List ℕ) (at : ℕ) → are_same p.width p.height ≡ b → IsTicks p.width → IsTicks p.height → pos 0 <ℤ p.width → pos 0 <ℤ p.height → Steps (head_of (found_of w h x y None None None None) (tokens_from false at (step_text b p ++ rest))) w h x y (unsigned_abs p.width) (unsigned_abs p.height) rest
 steps_by true w h x y p rest at is width height wide high = record {
-      cell = Some (unsigned_abs p.width);
-      dx = None;
-      dy = None;
-      behind = cell_behind p.width rest (found_of w h x y None None None None) at width wide;
-      steps = ap (λ v. Some (unsigned_abs p.width, unsigned_abs v)) (same_ints p.width p.height is);
-    }
+  cell = Some (unsigned_abs p.width);
+  dx = None;
+  dy = None;
+  behind = cell_behind p.width rest (found_of w h x y None None None None) at width wide;
+  steps = ap (λ v. Some (unsigned_abs p.width, unsigned_abs v)) (same_ints p.width p.height is);
+}
 steps_by false w h x y p rest at is width height wide high =
     let x_line : List ℕ = line (codes "dx") (short_text p.width) in
     let y_line : List ℕ = line (codes "dy") (short_text p.height) in

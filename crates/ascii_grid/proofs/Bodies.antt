@@ -1,5 +1,5 @@
 -- The counts of values and of rows that were begun.
-use Rattle.std.proofs.Common.{◌≡◌, ◌≢◌, ℕ, Bool, true, false, List, [], ◌∷◌, ◌++◌, length, refl, sym, ap, ◌∙◌, ⊎_elim, ◌≤◌, ◌<◌, ◌+◌, ◌-◌, ◌*◌, arith, cond, suc, length-append, subst, Result, Ok, Err}
+use Rattle.std.proofs.Common.{◌≡◌, ◌≢◌, ℕ, Bool, true, false, List, [], ◌∷◌, ◌++◌, length, refl, ap, ◌∙◌, ⊎_elim, ◌≤◌, ◌<◌, ◌+◌, ◌-◌, ◌*◌, arith, cond, suc, length-append, subst, Result, Ok, Err}
 use Rattle.std.proofs.lemmas.Bool.{cases_eq, cases_lt, eq-eqb, ne_eqb, eqb-true}
 use Rattle.std.proofs.Math.Nat.{suc-mul, mul_comm, mul-le-mul}
 use lib.Dec.{eqb}
@@ -37,13 +37,13 @@ count_more : (w n x y : ℕ) (rows new : List ℕ) (at : ℕ) → x < w → leng
 count_more w n x y rows new at x_in is new_is y_is =
     ⊎_elim
     (λ (first : x ≡ 0).
-        let all : new ≡ rows ++ at ∷ [] = new_is ∙ rw (eq-eqb x 0 first) refl in
-        let one : length new ≡ suc (length rows) = ap length all ∙ length-append rows (at ∷ []) ∙ omega arith in
-        let product : length new * w ≡ w + length rows * w = ap (λ k. k * w) one ∙ omega (arith, suc-mul (length rows) w) in
-        column_more w n x y (length new * w) x_in (omega (arith, product, is, left_none w x first, first)) y_is)
+    let all : new ≡ rows ++ at ∷ [] = new_is ∙ rw (eq-eqb x 0 first) refl in
+    let one : length new ≡ suc (length rows) = ap length all ∙ length-append rows (at ∷ []) ∙ omega arith in
+    let product : length new * w ≡ w + length rows * w = ap (λ k. k * w) one ∙ omega (arith, suc-mul (length rows) w) in
+    column_more w n x y (length new * w) x_in (omega (arith, product, is, left_none w x first, first)) y_is)
     (λ (later : x ≢ 0).
-        let same : new ≡ rows = new_is ∙ rw (ne_eqb x 0 later) refl in
-        column_more w n x y (length new * w) x_in (ap (λ (r : List ℕ). length r * w) same ∙ is ∙ ap (λ k. n + k) (left_some w x later)) y_is)
+    let same : new ≡ rows = new_is ∙ rw (ne_eqb x 0 later) refl in
+    column_more w n x y (length new * w) x_in (ap (λ (r : List ℕ). length r * w) same ∙ is ∙ ap (λ k. n + k) (left_some w x later)) y_is)
     (cases_eq x 0)
 
 -- a value more

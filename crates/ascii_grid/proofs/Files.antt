@@ -1,5 +1,5 @@
 -- The bytes of a row that stand in a file.
-use Rattle.std.proofs.Common.{◌≡◌, ℕ, ℤ, Bool, true, List, [], ◌∷◌, ◌++◌, refl, sym, ap, ◌∙◌, take, drop, length, ◌≤◌, ◌<◌, ◌+◌, ◌-◌, arith, subst, length-drop, Result, Ok, Err, inl, inr}
+use Rattle.std.proofs.Common.{◌≡◌, ℕ, ℤ, Bool, true, List, [], ◌++◌, refl, sym, ap, ◌∙◌, take, drop, length, ◌≤◌, ◌+◌, ◌-◌, arith, subst, length-drop, Result, inl, inr}
 use Rattle.std.specs.Prelude.{nat_le, ◌==◌, ◌||◌}
 use Rattle.std.proofs.lemmas.Bool.{eq-eqb}
 use Rattle.std.proofs.Math.Seq.{take-add}
@@ -10,7 +10,6 @@ use Rattle.ascii_grid.specs.Scan.{StandsAt, Scanned, Reads, HasScanned, IsFaultO
 use Rattle.ascii_grid.specs.Grid.{Head, grid_head}
 use Rattle.ascii_grid.specs.Faults.{IsMemory}
 use Rattle.ascii_grid.specs.declared.faults.GridFault.{GridFault}
-use Rattle.ascii_grid.specs.declared.faults.GridFault.TheVariants.{Memory}
 use Rattle.lists_and_answers.specs.Answers.{Gives}
 use Rattle.ascii_grid.proofs.Rows.{whole_row, fresh_fills}
 

@@ -1,6 +1,6 @@
 -- The scanner's state behind pieces is the one behind all bytes, and its answer is that over the tokens of all bytes.
-use Rattle.std.proofs.Common.{◌≡◌, ℕ, Bool, true, false, List, [], ◌∷◌, ◌++◌, refl, sym, ap, ◌∙◌, length-append, Ok, Err, Result, ⊎_elim, inl, inr, take, length, ◌≤◌, ◌<◌, ◌+◌, arith, cond, get_or, rules, subst}
-use Rattle.std.specs.List.{fold, take_while}
+use Rattle.std.proofs.Common.{◌≡◌, ℕ, true, false, List, [], ◌∷◌, ◌++◌, refl, sym, ap, ◌∙◌, length-append, Ok, Err, Result, ⊎_elim, inl, inr, take, length, ◌≤◌, ◌<◌, ◌+◌, arith, cond, get_or, subst}
+use Rattle.std.specs.List.{take_while}
 use Rattle.std.proofs.lemmas.List.Sums.{fold-append, fold_more, take_while-cons}
 use Rattle.std.proofs.lemmas.List.Folds.{fold_stays}
 use Rattle.std.proofs.lemmas.Bool.{cases_Bool, cases_lt, lt-ltb, le-ltb}
@@ -9,9 +9,8 @@ use Rattle.lists_and_answers.specs.Answers.{◌>>=◌}
 use Rattle.std.proofs.lemmas.List.{append-nil, take_all, append_assoc}
 use Rattle.std.proofs.Math.Seq.{take-append_seam}
 use Rattle.ascii_grid.specs.declared.faults.GridFault.{GridFault}
-use Rattle.ascii_grid.specs.declared.faults.GridFault.TheVariants.{Memory}
-use Rattle.ascii_grid.specs.Tokens.{Token, tokens_from, tokens, is_white, is_dark, token, next}
-use Rattle.ascii_grid.specs.Scan.{Scanned, State, Open, Read, Reaches, then_byte, fed, add_byte, add_token, add_tokens, ended, is_open, opened, passed, push}
+use Rattle.ascii_grid.specs.Tokens.{Token, tokens_from, is_white, is_dark, token, next}
+use Rattle.ascii_grid.specs.Scan.{Scanned, Open, Read, Reaches, then_byte, fed, add_byte, add_token, add_tokens, ended, is_open, push}
 
 -- a step after a piece
 pub reaches_step : (start s t : Scanned) (bytes : List ℕ) (i : ℕ) (d c : ℕ) → i < length bytes → c ≡ get_or bytes i d → Reaches s (fed start (take i bytes)) → Reaches t (then_byte s c) → Reaches t (fed start (take (i + 1) bytes))
@@ -80,8 +79,8 @@ ends_is (c ∷ cs) at begun (x ∷ xs) r small =
     ⊎_elim
     (λ (w : is_white c ≡ true). rw (take_while-cons is_dark c cs, w) (rw (← whole_token (x ∷ xs) small) (ended_then (add_token r (record { at = begun; text = x ∷ xs })) (open_at (next at) begun []) cs (tokens_from false (next at) cs) (λ r'. ends_is cs (next at) begun [] r' (omega arith)))))
     (λ (w : is_white c ≡ false). rw (take_while-cons is_dark c cs, w)
-        (let more : ends (fed (Ok (record { held = open_at (next at) begun (push (x ∷ xs) c); read = r })) cs) ≡ add_tokens (Ok r) (rest_of (open_at (next at) begun (push (x ∷ xs) c)) cs) = ends_is cs (next at) begun (push (x ∷ xs) c) r (push_small (x ∷ xs) c small) in
-        more
-        ∙ ap (λ b. add_tokens (Ok r) (cond b (token begun (push (x ∷ xs) c ++ take_while is_dark cs) ∷ tokens_from true (next at) cs) (tokens_from false (next at) cs))) (push_open x xs c)
-        ∙ ap (λ t. add_tokens (Ok r) (record { at = begun; text = t } ∷ tokens_from true (next at) cs)) (push_then (x ∷ xs) c (take_while is_dark cs) small)))
+    (let more : ends (fed (Ok (record { held = open_at (next at) begun (push (x ∷ xs) c); read = r })) cs) ≡ add_tokens (Ok r) (rest_of (open_at (next at) begun (push (x ∷ xs) c)) cs) = ends_is cs (next at) begun (push (x ∷ xs) c) r (push_small (x ∷ xs) c small) in
+    more
+    ∙ ap (λ b. add_tokens (Ok r) (cond b (token begun (push (x ∷ xs) c ++ take_while is_dark cs) ∷ tokens_from true (next at) cs) (tokens_from false (next at) cs))) (push_open x xs c)
+    ∙ ap (λ t. add_tokens (Ok r) (record { at = begun; text = t } ∷ tokens_from true (next at) cs)) (push_then (x ∷ xs) c (take_while is_dark cs) small)))
     (cases_Bool (is_white c))

@@ -1,16 +1,16 @@
 -- From the place of a row on, a text reads as the row's values.
 use Rattle.std.proofs.Common.{◌≡◌, ◌≢◌, ℕ, ℤ, pos, Bool, true, false, List, [], ◌∷◌, ◌++◌, refl, sym, ap, ◌∙◌, ⊎_elim, take, drop, length, ◌≤◌, ◌<◌, ◌+◌, ◌-◌, ◌*◌, ◌^◌, arith, cond, map, suc, zero, zero-add, get_or, Option, Some, None, Result, Ok, Err, ok_or, replicate, subst, length-drop, mul-le-mul_left}
-use Rattle.std.specs.List.{take_while, slice_get, range_with_len}
+use Rattle.std.specs.List.{slice_get, range_with_len}
 use Rattle.std.proofs.lemmas.List.FromFn.{fill_by_all, get_or-map-range_with_len}
 use Rattle.std.specs.Option.{option_map}
-use Rattle.std.proofs.lemmas.Bool.{cases_Bool, cases_eq, eq-eqb, ne_eqb, eqb-true}
+use Rattle.std.proofs.lemmas.Bool.{cases_Bool, cases_eq, eq-eqb, ne_eqb}
 use Rattle.std.proofs.lemmas.List.{drop-map, drop-drop, take-append-le, length-map, get_or-take, get_or-drop, length-take-le}
 use Rattle.std.proofs.lemmas.Simd.{map-map}
 use Rattle.std.proofs.lemmas.Option.{slice_get_within}
 use Rattle.std.proofs.Math.Nat.{mul_comm, suc-mul}
 use lib.Dec.{eqb}
 use Rattle.ascii_grid.specs.declared.faults.GridFault.{GridFault}
-use Rattle.ascii_grid.specs.declared.faults.GridFault.TheVariants.{BadToken, NotInteger, TooFew, TooMany, Limit}
+use Rattle.ascii_grid.specs.declared.faults.GridFault.TheVariants.{BadToken}
 use Rattle.ascii_grid.specs.declared.parts.Found.{Found}
 use Rattle.ascii_grid.specs.declared.parts.Shape.{Shape}
 use Rattle.ascii_grid.specs.declared.parts.Key.{Key}
@@ -143,9 +143,9 @@ row_reads text s vs body y p grid short wide y_in p_is =
     let st : Stands text false 0 (e.count + y * s.w) t.token = stands text false 0 (e.count + y * s.w) t.token (omega arith) there in
     let far : st.far ≡ p = omega (arith, st.place, t.place) in
     let all : texts (tokens (drop p text)) ≡ drop (y * s.w) (texts body) =
-        ap (λ n. texts (tokens (drop n text))) (sym far) ∙ st.rest ∙ sym (drop-drop (y * s.w) e.count (texts (tokens text))) ∙ ap (drop (y * s.w)) (drop-map (λ t. t.text) e.count (tokens text) ∙ sym (ap texts e.same)) in
+    ap (λ n. texts (tokens (drop n text))) (sym far) ∙ st.rest ∙ sym (drop-drop (y * s.w) e.count (texts (tokens text))) ∙ ap (drop (y * s.w)) (drop-map (λ t. t.text) e.count (tokens text) ∙ sym (ap texts e.same)) in
     let read : values (tokens (drop p text)) ≡ drop (y * s.w) vs =
-        sym (map-map value_or_zero (λ t. t.text) (tokens (drop p text))) ∙ ap (map value_or_zero) all ∙ sym (drop-map value_or_zero (y * s.w) (texts body)) ∙ ap (drop (y * s.w)) (map-map value_or_zero (λ t. t.text) body ∙ b.same) in
+    sym (map-map value_or_zero (λ t. t.text) (tokens (drop p text))) ∙ ap (map value_or_zero) all ∙ sym (drop-map value_or_zero (y * s.w) (texts body)) ∙ ap (drop (y * s.w)) (map-map value_or_zero (λ t. t.text) body ∙ b.same) in
     let room : s.w ≤ length (drop (y * s.w) vs) = row_room text s vs body y grid y_in in
     ap (λ xs. take s.w (xs ++ replicate s.w (pos 0))) read ∙ take-append-le s.w (drop (y * s.w) vs) (replicate s.w (pos 0)) room
 

@@ -8,7 +8,7 @@ use Rattle.std.proofs.lemmas.List.Sums.{take_while-cons, fold-append}
 use Rattle.std.proofs.lemmas.Bool.{cases_Bool, cases_lt, lt-ltb, le-ltb}
 use Rattle.std.proofs.lemmas.Bool.Decides.{nat_tests}
 use Rattle.ascii_grid.specs.Tokens.{Token, tokens_from, tokens, is_white, is_dark, token, next}
-use Rattle.ascii_grid.specs.Scan.{Open, is_open, opened, passed, push}
+use Rattle.ascii_grid.specs.Scan.{is_open, opened, passed, push}
 use Rattle.ascii_grid.specs.Row.{Row, Reading, put, row_ended, row_byte, row_fed, padded, row_of, value_or_zero, RowNow, Fills, reading, fresh, ended_from, ended_in}
 use Rattle.ascii_grid.proofs.Pieces.{rest_of, open_at, push_then, push_small, push_open, whole_token}
 
@@ -47,20 +47,20 @@ row_tokens [] at begun (x ∷ xs) r small = ap (put r) (whole_token (x ∷ xs) s
 row_tokens (c ∷ cs) at begun [] r small =
     ⊎_elim
     (λ (w : is_white c ≡ true). ap (λ s. row_ended (row_fed s cs)) (byte_white (record { held = open_at at begun []; row = r }) c w)
-        ∙ row_tokens cs (next at) begun [] r small
-        ∙ ap (put_all r) (white_rest c cs at begun w))
+    ∙ row_tokens cs (next at) begun [] r small
+    ∙ ap (put_all r) (white_rest c cs at begun w))
     (λ (w : is_white c ≡ false). ap (λ s. row_ended (row_fed s cs)) (byte_dark (record { held = open_at at begun []; row = r }) c w)
-        ∙ row_tokens cs (next at) at (c ∷ []) r (omega arith)
-        ∙ ap (put_all r) (dark_rest c cs at begun w))
+    ∙ row_tokens cs (next at) at (c ∷ []) r (omega arith)
+    ∙ ap (put_all r) (dark_rest c cs at begun w))
     (cases_Bool (is_white c))
 row_tokens (c ∷ cs) at begun (x ∷ xs) r small =
     ⊎_elim
     (λ (w : is_white c ≡ true). ap (λ s. row_ended (row_fed s cs)) (byte_white (record { held = open_at at begun (x ∷ xs); row = r }) c w)
-        ∙ row_tokens cs (next at) begun [] (put r (x ∷ xs)) (omega arith)
-        ∙ ap (put_all r) (white_rest_open c cs at begun x xs small w))
+    ∙ row_tokens cs (next at) begun [] (put r (x ∷ xs)) (omega arith)
+    ∙ ap (put_all r) (white_rest_open c cs at begun x xs small w))
     (λ (w : is_white c ≡ false). ap (λ s. row_ended (row_fed s cs)) (byte_dark (record { held = open_at at begun (x ∷ xs); row = r }) c w)
-        ∙ row_tokens cs (next at) begun (push (x ∷ xs) c) r (push_small (x ∷ xs) c small)
-        ∙ ap (put_all r) (dark_rest_open c cs at begun x xs small w))
+    ∙ row_tokens cs (next at) begun (push (x ∷ xs) c) r (push_small (x ∷ xs) c small)
+    ∙ ap (put_all r) (dark_rest_open c cs at begun x xs small w))
     (cases_Bool (is_white c))
 
 abbrev values : List Token → List ℤ
@@ -87,9 +87,9 @@ put_padded [] filled m out room enough = ap (λ (zs : List ℤ). take filled out
 put_padded (t ∷ ts) filled m out room enough =
     ⊎_elim
     (λ (less : filled < length out). ap (λ r. padded (put_all r ts)) (put_within filled out t.text less) ∙
-        (let long : length (set out filled (value_or_zero t.text)) ≡ length out = length-set out filled (value_or_zero t.text) in
-        put_padded ts (filled + 1) m (set out filled (value_or_zero t.text)) (omega arith) (omega arith)
-        ∙ one_more out (values ts ++ replicate m (pos 0)) filled (value_or_zero t.text) less))
+    (let long : length (set out filled (value_or_zero t.text)) ≡ length out = length-set out filled (value_or_zero t.text) in
+    put_padded ts (filled + 1) m (set out filled (value_or_zero t.text)) (omega arith) (omega arith)
+    ∙ one_more out (values ts ++ replicate m (pos 0)) filled (value_or_zero t.text) less))
     (λ (past : length out ≤ filled). ap (λ r. padded (put_all r ts)) (put_full filled out t.text (omega arith)) ∙ (put_padded ts filled m out room enough ∙ no_room out (values ts ++ replicate m (pos 0)) (values (t ∷ ts) ++ replicate m (pos 0)) filled past))
     (cases_lt filled (length out))
 
@@ -138,14 +138,14 @@ filled_is (c ∷ cs) at begun [] filled out room =
 filled_is (c ∷ cs) at begun (x ∷ xs) filled out room =
     ⊎_elim
     (λ (w : is_white c ≡ true). ap (λ s. (row_fed s cs).row.filled) (byte_white (record { held = open_at at begun (x ∷ xs); row = record { filled = filled; out = out } }) c w)
-        ∙ ⊎_elim
-            (λ (less : filled < length out).
-                let long : length (set out filled (value_or_zero (x ∷ xs))) ≡ length out = length-set out filled (value_or_zero (x ∷ xs)) in
-                ap (λ r. (row_fed (record { held = open_at (next at) begun []; row = r }) cs).row.filled) (put_within filled out (x ∷ xs) less) ∙ filled_is cs (next at) begun [] (filled + 1) (set out filled (value_or_zero (x ∷ xs))) (omega arith) ∙ omega arith)
-            (λ (past : length out ≤ filled).
-                ap (λ r. (row_fed (record { held = open_at (next at) begun []; row = r }) cs).row.filled) (put_full filled out (x ∷ xs) (omega arith)) ∙ filled_is cs (next at) begun [] filled out room ∙ omega arith)
-            (cases_lt filled (length out))
-        ∙ ap (λ k. min (length out) (filled + k)) (sym (ended_white c cs true w)))
+    ∙ ⊎_elim
+    (λ (less : filled < length out).
+    let long : length (set out filled (value_or_zero (x ∷ xs))) ≡ length out = length-set out filled (value_or_zero (x ∷ xs)) in
+    ap (λ r. (row_fed (record { held = open_at (next at) begun []; row = r }) cs).row.filled) (put_within filled out (x ∷ xs) less) ∙ filled_is cs (next at) begun [] (filled + 1) (set out filled (value_or_zero (x ∷ xs))) (omega arith) ∙ omega arith)
+    (λ (past : length out ≤ filled).
+    ap (λ r. (row_fed (record { held = open_at (next at) begun []; row = r }) cs).row.filled) (put_full filled out (x ∷ xs) (omega arith)) ∙ filled_is cs (next at) begun [] filled out room ∙ omega arith)
+    (cases_lt filled (length out))
+    ∙ ap (λ k. min (length out) (filled + k)) (sym (ended_white c cs true w)))
     (λ (w : is_white c ≡ false). ap (λ s. (row_fed s cs).row.filled) (byte_dark (record { held = open_at at begun (x ∷ xs); row = record { filled = filled; out = out } }) c w) ∙ filled_is cs (next at) begun (push (x ∷ xs) c) filled out room ∙ ap (λ b. min (length out) (filled + ended_from b cs)) (push_open x xs c) ∙ ap (λ k. min (length out) (filled + k)) (sym (ended_dark c cs true w)))
     (cases_Bool (is_white c))
 
@@ -158,7 +158,6 @@ ended_more s t out new text piece f is over size =
     let count : t.filled ≡ min (length g.before) (0 + ended_in (text ++ piece)) = ap (λ r. r.row.filled) g.read ∙ filled_is (text ++ piece) 0 0 [] 0 g.before (omega arith) in
     let same : t.filled ≡ min (length new) (ended_in (text ++ piece)) = omega (arith, count, g.size) in
     ap (λ k. k == length new) same ∙ full_test (length new) (ended_in (text ++ piece))
-
 
 -- a row that is whole stays, however its text goes on
 
@@ -186,8 +185,8 @@ full_stays [] s full = refl
 full_stays (c ∷ cs) s full =
     ⊎_elim
     (λ (w : is_white c ≡ true).
-        let same : row_ended s ≡ s.row = ended_full (is_open s.held.text) s.row.filled s.row.out s.held.text full in
-        ap (λ t. (row_fed t cs).row) (byte_white s c w) ∙ ap (λ r. (row_fed (record { held = passed s.held; row = r }) cs).row) same ∙ full_stays cs (record { held = passed s.held; row = s.row }) full)
+    let same : row_ended s ≡ s.row = ended_full (is_open s.held.text) s.row.filled s.row.out s.held.text full in
+    ap (λ t. (row_fed t cs).row) (byte_white s c w) ∙ ap (λ r. (row_fed (record { held = passed s.held; row = r }) cs).row) same ∙ full_stays cs (record { held = passed s.held; row = s.row }) full)
     (λ (w : is_white c ≡ false). ap (λ t. (row_fed t cs).row) (byte_dark s c w) ∙ full_stays cs (record { held = opened s.held c; row = s.row }) full)
     (cases_Bool (is_white c))
 

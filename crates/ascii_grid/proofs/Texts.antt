@@ -1,6 +1,6 @@
 -- Lemmas on texts.
 use Rattle.geotransform.proofs.Numbers.{product_bound}
-use Rattle.std.proofs.Common.{ℤ, pos, ◌+ℤ◌, ◌*ℤ◌, unsigned_abs, ◌≡◌, ℕ, Bool, true, false, List, map, IsTrue, ◌↔◌, ◌≤◌, ◌*◌, ◌^◌, ◌<◌, arith}
+use Rattle.std.proofs.Common.{ℤ, pos, ◌*ℤ◌, unsigned_abs, ◌≡◌, ℕ, Bool, List, map, IsTrue, ◌↔◌, ◌≤◌, ◌*◌, ◌^◌, ◌<◌, arith}
 use Rattle.std.proofs.Math.Nat.{mul-le-mul}
 use Rattle.std.specs.Char.{to_ascii_lowercase}
 use Rattle.std.specs.Cmp.Lexicographic.{bytes_decides}

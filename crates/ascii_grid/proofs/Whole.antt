@@ -1,14 +1,11 @@
 -- The machine over tokens answers by the definition.
-use Rattle.std.proofs.Common.{◌≡◌, ◌≢◌, ℕ, ℤ, Bool, true, false, List, [], ◌∷◌, ◌++◌, refl, sym, ap, ◌∙◌, Ok, Err, Result, Option, Some, None, ok_or, ⊎_elim, inl, inr, length, ◌≤◌, ◌<◌, ◌+◌, ◌-◌, ◌*◌, arith, cond, rules, IfSome, add-mul, subst, nat_lt}
-use Rattle.geotransform.specs.Decimal.{number_of}
-use Rattle.std.proofs.Math.Nat.{mul_comm}
+use Rattle.std.proofs.Common.{◌≡◌, ◌≢◌, ℕ, ℤ, Bool, true, false, List, [], ◌∷◌, ◌++◌, refl, sym, ap, ◌∙◌, Ok, Err, Result, Option, Some, None, ok_or, ⊎_elim, inl, inr, ◌+◌, ◌-◌, ◌*◌, arith, cond}
 use Rattle.std.proofs.lemmas.Bool.{cases_Bool, cases_eq, eq-eqb, ne_eqb}
 use Rattle.std.proofs.lemmas.Bool.Decides.{nat_tests}
-use Rattle.std.proofs.lemmas.Nat.{mul-add-lt}
 use Rattle.std.proofs.lemmas.List.{append-nil, append_assoc}
 use Rattle.lists_and_answers.specs.Answers.{◌>>=◌, Gives}
 use Rattle.ascii_grid.specs.declared.faults.GridFault.{GridFault}
-use Rattle.ascii_grid.specs.declared.faults.GridFault.TheVariants.{BadToken, TooFew, TooMany, Limit, Memory}
+use Rattle.ascii_grid.specs.declared.faults.GridFault.TheVariants.{BadToken, TooMany, Memory}
 use Rattle.ascii_grid.specs.declared.parts.Found.{Found}
 use Rattle.ascii_grid.specs.declared.parts.Shape.{Shape}
 use Rattle.ascii_grid.specs.declared.parts.Key.{Key}
@@ -19,7 +16,7 @@ use Rattle.ascii_grid.specs.Faults.{IsMemory}
 use Rattle.ascii_grid.specs.Tokens.{Token, tokens}
 use Rattle.ascii_grid.specs.Values.{is_body_start, value_in}
 use Rattle.ascii_grid.specs.Keys.{key_of, with_value, shape_of}
-use Rattle.ascii_grid.specs.Scan.{Scanned, Read, add_token, add_tokens, step, body_step, body_closed, closed, finished, grid_after, scan, start, fed, Reaches, answer_of, Reads, IsFaultOf}
+use Rattle.ascii_grid.specs.Scan.{Scanned, Read, add_tokens, step, body_step, closed, finished, grid_after, scan, start, fed, Reaches, answer_of, Reads, IsFaultOf}
 use Rattle.ascii_grid.specs.Grid.{Head, Grid, head_with, head_of, body_of, rows_of, grid_in, grid_of, grid_head, nothing}
 use Rattle.ascii_grid.proofs.Pieces.{stuck_tokens, stuck_bytes, fed_more, ends, ends_is}
 
@@ -94,14 +91,14 @@ body_is [] s n x left rows count =
 body_is (t ∷ ts) s n x left rows count =
     ⊎_elim
     (λ (e : left ≡ 0). rw (test_left left n (s.w * s.h) count, eq-eqb left 0 e) (stuck (TooMany t.at) ts))
-    (λ (e : left ≢ 0). 
+    (λ (e : left ≢ 0).
     ⊎_elim
     (λ (last : x + 1 ≡ s.w). rw (test_left left n (s.w * s.h) count, ne_eqb left 0 e, eq-eqb (x + 1) s.w last)
-        (body_more (value_in t.at t.text) t ts s (eqb x 0) (InBody s (n + 1) 0) rows (rows_of s.w 0 ts) (left - 1)
-        (body_is ts s (n + 1) 0 (left - 1) (cond (eqb x 0) (rows ++ t.at ∷ []) rows) (omega arith))))
+    (body_more (value_in t.at t.text) t ts s (eqb x 0) (InBody s (n + 1) 0) rows (rows_of s.w 0 ts) (left - 1)
+    (body_is ts s (n + 1) 0 (left - 1) (cond (eqb x 0) (rows ++ t.at ∷ []) rows) (omega arith))))
     (λ (within : x + 1 ≢ s.w). rw (test_left left n (s.w * s.h) count, ne_eqb left 0 e, ne_eqb (x + 1) s.w within)
-        (body_more (value_in t.at t.text) t ts s (eqb x 0) (InBody s (n + 1) (x + 1)) rows (rows_of s.w (x + 1) ts) (left - 1)
-        (body_is ts s (n + 1) (x + 1) (left - 1) (cond (eqb x 0) (rows ++ t.at ∷ []) rows) (omega arith))))
+    (body_more (value_in t.at t.text) t ts s (eqb x 0) (InBody s (n + 1) (x + 1)) rows (rows_of s.w (x + 1) ts) (left - 1)
+    (body_is ts s (n + 1) (x + 1) (left - 1) (cond (eqb x 0) (rows ++ t.at ∷ []) rows) (omega arith))))
     (cases_eq (x + 1) s.w))
     (cases_eq left 0)
 
@@ -148,7 +145,6 @@ head_is (k ∷ (v ∷ more)) f =
     (λ (start : is_body_start k.text ≡ true). rw start (body_starts (shape_of f) f k (v ∷ more) refl start))
     (λ (other : is_body_start k.text ≡ false). rw other (pair (key_of k.text) f k v more refl other (λ g. head_is more g)))
     (cases_Bool (is_body_start k.text))
-
 
 -- what the machine answers over the tokens is what the definition says
 pub tokens_is : (text : List ℕ) → from (AtKey nothing) [] (tokens text) ≡ grid_head text

@@ -1,5 +1,5 @@
 -- The grid that a text gives, or its first fault.
-use Rattle.std.specs.Prelude.{◌≡◌, ◌<◌, ◌≤◌, ℕ, ℤ, pos, true, ◌+◌, ◌-◌, ◌*◌, List, [], ◌∷◌, length, map, Option, Some, None, Result, Ok, Err, ok_or, IfSome, ◌==◌, if◌then◌else◌, get_or}
+use Rattle.std.specs.Prelude.{◌≡◌, ◌<◌, ◌≤◌, ℕ, ℤ, pos, true, ◌+◌, ◌-◌, ◌*◌, List, [], ◌∷◌, length, map, Option, None, Result, Ok, Err, ok_or, IfSome, ◌==◌, if◌then◌else◌, get_or}
 use Rattle.std.specs.List.{range_with_len}
 use Rattle.lists_and_answers.specs.Answers.{◌>>=◌}
 use Rattle.geotransform.specs.Geo.{Transform, IsRaster, IsTransform}

@@ -1,9 +1,9 @@
 -- The keys of the head, and what they say.
-use Rattle.std.specs.Prelude.{ℕ, ℤ, pos, neg_ℤ, ◌+ℤ◌, ◌-ℤ◌, ◌*◌, ◌/◌, List, codes, Option, Some, None, Result, Ok, Err, ok_or, if◌then◌else◌}
+use Rattle.std.specs.Prelude.{ℕ, ℤ, pos, neg_ℤ, ◌+ℤ◌, ◌-ℤ◌, ◌*◌, ◌/◌, List, codes, Option, Some, None, Result, Ok, ok_or, if◌then◌else◌}
 use Rattle.lists_and_answers.specs.Answers.{◌>>=◌}
 use Rattle.geotransform.specs.Geo.{Transform, transform_of}
 use Rattle.ascii_grid.specs.declared.faults.GridFault.{GridFault}
-use Rattle.ascii_grid.specs.declared.faults.GridFault.TheVariants.{MissingKey, BadToken, Limit}
+use Rattle.ascii_grid.specs.declared.faults.GridFault.TheVariants.{MissingKey, Limit}
 use Rattle.ascii_grid.specs.declared.parts.Key.{Key}
 use Rattle.ascii_grid.specs.declared.parts.Key.TheVariants.{Ncols, Nrows, Xllcorner, Xllcenter, Yllcorner, Yllcenter, Cellsize, Dx, Dy, Nodata}
 use Rattle.ascii_grid.specs.declared.parts.LowerLeft.{LowerLeft}

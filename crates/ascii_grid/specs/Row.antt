@@ -2,7 +2,7 @@
 use Rattle.std.specs.Prelude.{ℕ, ℤ, pos, Bool, true, false, ◌+◌, ◌-◌, List, [], ◌∷◌, ◌++◌, length, take, drop, map, Result, Ok, Err, nat_lt, if◌then◌else◌, slice_set, ◌≡◌, ◌≤◌, replicate}
 use Rattle.std.specs.List.{fold}
 use Rattle.ascii_grid.specs.declared.faults.GridFault.{GridFault}
-use Rattle.ascii_grid.specs.Tokens.{Token, tokens, is_white}
+use Rattle.ascii_grid.specs.Tokens.{tokens, is_white}
 use Rattle.ascii_grid.specs.Values.{value_in}
 use Rattle.ascii_grid.specs.Scan.{Open, opened, passed, is_open}
 

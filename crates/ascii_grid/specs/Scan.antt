@@ -1,5 +1,5 @@
 -- The scanner as a machine: what each byte changes.
-use Rattle.std.specs.Prelude.{ℕ, ℤ, Bool, true, false, ◌+◌, ◌-◌, ◌*◌, List, [], ◌∷◌, ◌++◌, length, take, drop, Option, Some, None, Result, Ok, Err, ok_or, nat_lt, ◌<◌, ◌≤◌, ◌≡◌, ◌⊎◌, ◌==◌, if◌then◌else◌}
+use Rattle.std.specs.Prelude.{ℕ, Bool, true, false, ◌+◌, ◌-◌, ◌*◌, List, [], ◌∷◌, ◌++◌, length, take, drop, Option, Some, None, Result, Ok, Err, ok_or, nat_lt, ◌<◌, ◌≤◌, ◌≡◌, ◌⊎◌, ◌==◌, if◌then◌else◌}
 use Rattle.std.specs.List.{fold}
 use Rattle.lists_and_answers.specs.Answers.{◌>>=◌}
 use Rattle.ascii_grid.specs.declared.faults.GridFault.{GridFault}
@@ -23,8 +23,8 @@ unfoldable pub step : Stage → Token → Result (Stage × Bool) GridFault
 step (AtKey f) t = if is_body_start t.text then (do
   s ← shape_of f
   body_step s 0 0 t) else (do
-  k ← ok_or (key_of t.text) (BadToken t.at)
-  Ok (AtValue f k, false))
+    k ← ok_or (key_of t.text) (BadToken t.at)
+    Ok (AtValue f k, false))
 step (AtValue f k) t = do
   g ← with_value f k t
   Ok (AtKey g, false)

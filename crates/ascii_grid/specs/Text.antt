@@ -1,15 +1,15 @@
 -- The text that is written of a grid.
-use Rattle.std.specs.Prelude.{◌≡◌, ◌<◌, ◌-◌, ◌<ℤ◌, ℕ, ℤ, Bool, pos, neg_ℤ, true, int_le, ◌&&◌, unsigned_abs, IfSome, List, [], ◌∷◌, ◌++◌, length, replicate, Option, Some, None, Ok, codes, if◌then◌else◌}
+use Rattle.std.specs.Prelude.{◌≡◌, ◌-◌, ◌<ℤ◌, ℕ, ℤ, Bool, pos, neg_ℤ, true, int_le, ◌&&◌, unsigned_abs, List, [], ◌∷◌, ◌++◌, length, replicate, Option, Some, None, Ok, codes, if◌then◌else◌}
 use Rattle.std.specs.List.{flat_map, All}
 use Rattle.std.specs.Fmt.{decimal, signed_decimal}
 use Rattle.geotransform.specs.Print.{short_text, unit}
 use Rattle.geotransform.specs.Places.{sixteen_places}
-use Rattle.geotransform.specs.Geo.{Transform, IsRaster, IsNear, along}
+use Rattle.geotransform.specs.Geo.{Transform, IsNear, along}
 use Rattle.geotransform.specs.declared.types.Size.{Size}
 use Rattle.ascii_grid.specs.declared.placing.Placing.{Placing}
 use Rattle.ascii_grid.specs.Values.{is_value}
 use Rattle.ascii_grid.specs.Keys.{placed}
-use Rattle.ascii_grid.specs.Grid.{Grid, grid_of}
+use Rattle.ascii_grid.specs.Grid.{grid_of}
 
 -- a key's name, filled with spaces to 13 columns
 abbrev pub label : List ℕ → List ℕ

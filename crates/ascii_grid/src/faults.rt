@@ -42,9 +42,8 @@ impl GridFault {
         ensures place { result ≡ fault_place self.now }
     {
         match self {
-            GridFault::BadToken(place)
-            | GridFault::NotInteger(place)
-            | GridFault::TooMany(place) => Some(*place),
+            GridFault::BadToken(place) | GridFault::NotInteger(place) | GridFault::TooMany(place) =>
+                Some(*place),
             GridFault::MissingKey | GridFault::TooFew | GridFault::Limit | GridFault::Memory => {
                 None
             }

@@ -58,7 +58,7 @@ pub fn with_value(found: Found, key: Key, at: u64, text: &[u8]) -> Result<Found,
     Ok(found)
 }
 
-/// Half a size of a pixel.
+// Half a size of a pixel.
 fn half_of(step: Step) -> i128
     ensures value { result ≡ pos (step / 2) }
     ensures bound { unsigned_abs result < 18 * 10 ^ 28 }
@@ -66,7 +66,7 @@ fn half_of(step: Step) -> i128
     (step.get() / 2) as i128
 }
 
-/// The left or the lower edge of the lower left pixel.
+// The left or the lower edge of the lower left pixel.
 fn edge_of(place: LowerLeft, step: Step) -> i128
     ensures value { result ≡ edge_of place step }
     ensures bound { unsigned_abs result < 36 * 10 ^ 28 }
@@ -77,12 +77,8 @@ fn edge_of(place: LowerLeft, step: Step) -> i128
     }
 }
 
-/// The width and the height of a pixel.
-fn steps_of(
-    cellsize: Option<Step>,
-    dx: Option<Step>,
-    dy: Option<Step>,
-) -> Option<(Step, Step)>
+// The width and the height of a pixel.
+fn steps_of(cellsize: Option<Step>, dx: Option<Step>, dy: Option<Step>) -> Option<(Step, Step)>
     ensures { result ≡ steps_of cellsize dx dy }
 {
     match (cellsize, dx, dy) {
@@ -92,7 +88,7 @@ fn steps_of(
     }
 }
 
-/// The height of so many rows of pixels.
+// The height of so many rows of pixels.
 #[tactic(auto, using(crate::proofs::Texts::height_small))]
 fn height_of(h: Side, step: Step) -> i128
     ensures value { result ≡ pos (h * step) }
@@ -101,7 +97,7 @@ fn height_of(h: Side, step: Step) -> i128
     (u128::from(h.get()) * step.get()) as i128
 }
 
-/// The upper edge of rows whose lower edge and height these are.
+// The upper edge of rows whose lower edge and height these are.
 fn top_of(bottom: i128, height: i128) -> Ticks
     requires bottom { unsigned_abs bottom < 36 * 10 ^ 28 }
     requires height { unsigned_abs height ≤ 4194304 * (18 * 10 ^ 28) }
@@ -110,22 +106,22 @@ fn top_of(bottom: i128, height: i128) -> Ticks
     Ticks::of(bottom + height)
 }
 
-/// So many ticks to the right.
+// So many ticks to the right.
 fn eastward(step: Step) -> Ticks
     ensures { result ≡ pos step }
 {
     Ticks::of(step.get() as i128)
 }
 
-/// So many ticks down.
+// So many ticks down.
 fn southward(step: Step) -> Ticks
     ensures { result ≡ neg_ℤ (pos step) }
 {
     Ticks::of(-(step.get() as i128))
 }
 
-/// The geotransform of so many rows of pixels of these sizes, of which the lower left one has these
-/// edges.
+// The geotransform of so many rows of pixels of these sizes, of which the lower left one has these
+// edges.
 fn placed(left: i128, bottom: i128, steps: (Step, Step), h: Side) -> Option<GeoTransform>
     requires left { unsigned_abs left < 36 * 10 ^ 28 }
     requires bottom { unsigned_abs bottom < 36 * 10 ^ 28 }

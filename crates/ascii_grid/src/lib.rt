@@ -3,19 +3,19 @@
 
 pub mod faults;
 pub mod head;
-pub mod keys;
+mod keys;
 pub mod laws;
-pub mod open;
-pub mod parts;
+mod open;
+mod parts;
 mod placing;
-mod row;
-mod scanner;
-pub mod steps;
+pub mod row;
+pub mod scanner;
+mod steps;
 #[cfg(test)]
 mod tests;
-pub mod tokens;
-pub mod values;
-mod writing;
+mod tokens;
+mod values;
+pub mod writing;
 
 pub use faults::GridFault;
 pub use head::{GridHead, Starts};

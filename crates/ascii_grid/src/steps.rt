@@ -21,7 +21,7 @@ pub fn needed(shape: &Shape) -> u64
     u64::from(shape.w.get()) * u64::from(shape.h.get())
 }
 
-/// The column behind a column.
+// The column behind a column.
 fn column_after(shape: &Shape, x: u32) -> u32
     requires { x < shape.now.w }
     ensures value { result ≡ (if x + 1 == shape.now.w then 0 else x + 1) }
@@ -31,7 +31,7 @@ fn column_after(shape: &Shape, x: u32) -> u32
     if x + 1 == w { 0 } else { x + 1 }
 }
 
-/// Keeps the place of the first value of a row.
+// Keeps the place of the first value of a row.
 fn begin_row(x: u32, rows: &mut Starts, at: u64) -> Result<(), GridFault>
     ensures ok { OnOk result (rows.new ≡ (if x == 0 then rows.old ++ at ∷ [] else rows.old)) }
     ensures same { OnErr result (rows.new ≡ rows.old) }
@@ -43,7 +43,7 @@ fn begin_row(x: u32, rows: &mut Starts, at: u64) -> Result<(), GridFault>
     Ok(())
 }
 
-/// Reads a token of the body, of which `n` were read; it is in column `x`.
+// Reads a token of the body, of which `n` were read; it is in column `x`.
 #[tactic(auto, unfolding(crate::specs::Scan::step, crate::specs::Scan::body_step), using(crate::proofs::Bodies::body_next))]
 fn add_value(
     shape: &Shape,
@@ -68,7 +68,7 @@ fn add_value(
     Ok(())
 }
 
-/// What a token in a key's place says: a key, or the first value of the body.
+// What a token in a key's place says: a key, or the first value of the body.
 #[tactic(auto, unfolding(crate::specs::Scan::step), using(crate::proofs::Bodies::body_begins))]
 fn after_key(found: Found, rows: &mut Starts, at: u64, text: &[u8]) -> Result<Stage, GridFault>
     requires { rows.old ≡ [] }

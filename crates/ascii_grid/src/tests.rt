@@ -8,13 +8,12 @@ use std::alloc::Global;
 use std::test::*;
 
 /// Two rows of two values; the rows begin at bytes 53 and 58.
-const GRID: &[u8] =
-    b"ncols 2\nnrows\t2\nxllcenter 10\nyllcenter 20\ncellsize 2\n1\t-2\n30 4\n";
+const GRID: &[u8] = b"ncols 2\nnrows\t2\nxllcenter 10\nyllcenter 20\ncellsize 2\n1\t-2\n30 4\n";
 
 /// The head of a grid of one value, whose body begins at byte 51.
 const HEAD: &[u8] = b"ncols 1\nnrows 1\nxllcorner 0\nyllcorner 0\ncellsize 1\n";
 
-/// Scans a text that comes in two pieces.
+// Scans a text that comes in two pieces.
 fn scan(alloc: Global, front: &[u8], back: &[u8]) -> Result<GridHead, GridFault> {
     let mut scanner = Scanner::new(alloc);
     scanner.feed(front)?;
@@ -22,7 +21,7 @@ fn scan(alloc: Global, front: &[u8], back: &[u8]) -> Result<GridHead, GridFault>
     scanner.finish()
 }
 
-/// The number and the place of the fault of a text, 0 and none where it is a grid.
+// The number and the place of the fault of a text, 0 and none where it is a grid.
 fn fault_of(alloc: Global, text: &[u8]) -> (u8, Option<u64>) {
     match scan(alloc, text, b"") {
         Ok(_) => (0, None),
@@ -45,7 +44,7 @@ fn scans_each_cut(rt: HostRuntime) -> Result<(), Fail> {
     Ok(())
 }
 
-/// The geotransform of whole units.
+// The geotransform of whole units.
 fn transform(ox: i64, oy: i64, dx: i64, dy: i64) -> Option<GeoTransform> {
     GeoTransform::new(units(ox)?, units(oy)?, units(dx)?, units(dy)?)
 }
@@ -63,18 +62,42 @@ const FAULTS: [(&[u8], u8, Option<u64>); 57] = [
     (b"ncols", 1, None),
     (b"ncols 1 nrows 1 xllcorner 0 yllcorner 0 dx 1 7", 1, None),
     (b"ncols 1 nrows 1 xllcorner 0 yllcorner 0 dy 1 7", 1, None),
-    (b"ncols 1 nrows 1 xllcorner 0 yllcorner 0 dx 1 dy 1 7", 0, None),
+    (
+        b"ncols 1 nrows 1 xllcorner 0 yllcorner 0 dx 1 dy 1 7",
+        0,
+        None,
+    ),
     (b"ncols 1 nrows 1 xllcorner 0 cellsize 1 7", 1, None),
-    (b"NCOLS 1 NRows 1 XLLCORNER 0 yllCorner 0 CELLSIZE 1 nodata_VALUE 5 7", 0, None),
-    (b"ncols\t1\r\nnrows\t1\r\nxllcorner\t0\r\nyllcorner\t0\r\ncellsize\t1\r\n7\r\n", 0, None),
-    (b"\x0b\x0cncols 9 ncols 1 nrows 1 xllcorner 0 yllcorner 0 cellsize 1 7", 0, None),
+    (
+        b"NCOLS 1 NRows 1 XLLCORNER 0 yllCorner 0 CELLSIZE 1 nodata_VALUE 5 7",
+        0,
+        None,
+    ),
+    (
+        b"ncols\t1\r\nnrows\t1\r\nxllcorner\t0\r\nyllcorner\t0\r\ncellsize\t1\r\n7\r\n",
+        0,
+        None,
+    ),
+    (
+        b"\x0b\x0cncols 9 ncols 1 nrows 1 xllcorner 0 yllcorner 0 cellsize 1 7",
+        0,
+        None,
+    ),
     (b"ncols 0", 2, Some(6)),
     (b"ncols 1234567890", 2, Some(6)),
     (b"ncols +1", 2, Some(6)),
     (b"ncols 1.0", 2, Some(6)),
     (b"ncols 4194305 x", 6, None),
-    (b"ncols 4194304 nrows 4194304 xllcorner 0 yllcorner 0 cellsize 1", 4, None),
-    (b"ncols 4194304 nrows 4194304 xllcorner 0 yllcorner 0 cellsize 1 7", 4, None),
+    (
+        b"ncols 4194304 nrows 4194304 xllcorner 0 yllcorner 0 cellsize 1",
+        4,
+        None,
+    ),
+    (
+        b"ncols 4194304 nrows 4194304 xllcorner 0 yllcorner 0 cellsize 1 7",
+        4,
+        None,
+    ),
     (b"xllcorner 1e12 ", 2, Some(10)),
     (b"yllcenter 5. ", 2, Some(10)),
     (b"cellsize 0", 2, Some(9)),
@@ -84,35 +107,151 @@ const FAULTS: [(&[u8], u8, Option<u64>); 57] = [
     (b"cols 1", 2, Some(0)),
     (b"cols", 2, Some(0)),
     (b"ncols x", 2, Some(6)),
-    (b"ncols 1 nrows 2 xllcorner 0 yllcorner 999999999999 cellsize 1 1 x", 6, None),
-    (b"ncols 1 nrows 1 xllcorner 0 yllcorner 0 cellsize 1 ", 4, None),
-    (b"ncols 1 nrows 1 xllcorner 0 yllcorner 0 cellsize 1 dx", 4, None),
-    (b"ncols 1 nrows 1 xllcorner 0 yllcorner 0 cellsize 1 dz", 2, Some(51)),
-    (b"ncols 1 nrows 1 xllcorner 0 yllcorner 0 cellsize 1 x", 2, Some(51)),
-    (b"ncols 1 nrows 1 xllcorner 0 yllcorner 0 cellsize 1 7", 0, None),
-    (b"ncols 1 nrows 1 xllcorner 0 yllcorner 0 cellsize 1 +7", 0, None),
-    (b"ncols 1 nrows 1 xllcorner 0 yllcorner 0 cellsize 1 -7", 0, None),
-    (b"ncols 1 nrows 1 xllcorner 0 yllcorner 0 cellsize 1 007", 0, None),
-    (b"ncols 1 nrows 1 xllcorner 0 yllcorner 0 cellsize 1 3.0", 0, None),
-    (b"ncols 1 nrows 1 xllcorner 0 yllcorner 0 cellsize 1 -3.00", 0, None),
-    (b"ncols 1 nrows 1 xllcorner 0 yllcorner 0 cellsize 1 2147483647", 0, None),
-    (b"ncols 1 nrows 1 xllcorner 0 yllcorner 0 cellsize 1 -2147483648", 0, None),
-    (b"ncols 1 nrows 1 xllcorner 0 yllcorner 0 cellsize 1 3.5", 3, Some(51)),
-    (b"ncols 1 nrows 1 xllcorner 0 yllcorner 0 cellsize 1 1e2", 3, Some(51)),
-    (b"ncols 1 nrows 1 xllcorner 0 yllcorner 0 cellsize 1 .0", 3, Some(51)),
-    (b"ncols 1 nrows 1 xllcorner 0 yllcorner 0 cellsize 1 3.05", 3, Some(51)),
-    (b"ncols 1 nrows 1 xllcorner 0 yllcorner 0 cellsize 1 3.", 2, Some(51)),
-    (b"ncols 1 nrows 1 xllcorner 0 yllcorner 0 cellsize 1 7x", 2, Some(51)),
-    (b"ncols 1 nrows 1 xllcorner 0 yllcorner 0 cellsize 1 -", 2, Some(51)),
-    (b"ncols 1 nrows 1 xllcorner 0 yllcorner 0 cellsize 1 +.", 2, Some(51)),
-    (b"ncols 1 nrows 1 xllcorner 0 yllcorner 0 cellsize 1 0x1", 2, Some(51)),
-    (b"ncols 1 nrows 1 xllcorner 0 yllcorner 0 cellsize 1 2147483648", 6, None),
-    (b"ncols 1 nrows 1 xllcorner 0 yllcorner 0 cellsize 1 -2147483649", 6, None),
-    (b"ncols 1 nrows 1 xllcorner 0 yllcorner 0 cellsize 1 99999999999999999999", 6, None),
-    (b"ncols 1 nrows 1 xllcorner 0 yllcorner 0 cellsize 1 7 8", 5, Some(53)),
-    (b"ncols 1 nrows 1 xllcorner 0 yllcorner 0 cellsize 1 7 x", 5, Some(53)),
-    (b"ncols 1 nrows 1 xllcorner 0 yllcorner 0 cellsize 1 7 3.5 ", 5, Some(53)),
-    (b"ncols 1 nrows 1 xllcorner 0 yllcorner 0 cellsize 1 x 7", 2, Some(51)),
+    (
+        b"ncols 1 nrows 2 xllcorner 0 yllcorner 999999999999 cellsize 1 1 x",
+        6,
+        None,
+    ),
+    (
+        b"ncols 1 nrows 1 xllcorner 0 yllcorner 0 cellsize 1 ",
+        4,
+        None,
+    ),
+    (
+        b"ncols 1 nrows 1 xllcorner 0 yllcorner 0 cellsize 1 dx",
+        4,
+        None,
+    ),
+    (
+        b"ncols 1 nrows 1 xllcorner 0 yllcorner 0 cellsize 1 dz",
+        2,
+        Some(51),
+    ),
+    (
+        b"ncols 1 nrows 1 xllcorner 0 yllcorner 0 cellsize 1 x",
+        2,
+        Some(51),
+    ),
+    (
+        b"ncols 1 nrows 1 xllcorner 0 yllcorner 0 cellsize 1 7",
+        0,
+        None,
+    ),
+    (
+        b"ncols 1 nrows 1 xllcorner 0 yllcorner 0 cellsize 1 +7",
+        0,
+        None,
+    ),
+    (
+        b"ncols 1 nrows 1 xllcorner 0 yllcorner 0 cellsize 1 -7",
+        0,
+        None,
+    ),
+    (
+        b"ncols 1 nrows 1 xllcorner 0 yllcorner 0 cellsize 1 007",
+        0,
+        None,
+    ),
+    (
+        b"ncols 1 nrows 1 xllcorner 0 yllcorner 0 cellsize 1 3.0",
+        0,
+        None,
+    ),
+    (
+        b"ncols 1 nrows 1 xllcorner 0 yllcorner 0 cellsize 1 -3.00",
+        0,
+        None,
+    ),
+    (
+        b"ncols 1 nrows 1 xllcorner 0 yllcorner 0 cellsize 1 2147483647",
+        0,
+        None,
+    ),
+    (
+        b"ncols 1 nrows 1 xllcorner 0 yllcorner 0 cellsize 1 -2147483648",
+        0,
+        None,
+    ),
+    (
+        b"ncols 1 nrows 1 xllcorner 0 yllcorner 0 cellsize 1 3.5",
+        3,
+        Some(51),
+    ),
+    (
+        b"ncols 1 nrows 1 xllcorner 0 yllcorner 0 cellsize 1 1e2",
+        3,
+        Some(51),
+    ),
+    (
+        b"ncols 1 nrows 1 xllcorner 0 yllcorner 0 cellsize 1 .0",
+        3,
+        Some(51),
+    ),
+    (
+        b"ncols 1 nrows 1 xllcorner 0 yllcorner 0 cellsize 1 3.05",
+        3,
+        Some(51),
+    ),
+    (
+        b"ncols 1 nrows 1 xllcorner 0 yllcorner 0 cellsize 1 3.",
+        2,
+        Some(51),
+    ),
+    (
+        b"ncols 1 nrows 1 xllcorner 0 yllcorner 0 cellsize 1 7x",
+        2,
+        Some(51),
+    ),
+    (
+        b"ncols 1 nrows 1 xllcorner 0 yllcorner 0 cellsize 1 -",
+        2,
+        Some(51),
+    ),
+    (
+        b"ncols 1 nrows 1 xllcorner 0 yllcorner 0 cellsize 1 +.",
+        2,
+        Some(51),
+    ),
+    (
+        b"ncols 1 nrows 1 xllcorner 0 yllcorner 0 cellsize 1 0x1",
+        2,
+        Some(51),
+    ),
+    (
+        b"ncols 1 nrows 1 xllcorner 0 yllcorner 0 cellsize 1 2147483648",
+        6,
+        None,
+    ),
+    (
+        b"ncols 1 nrows 1 xllcorner 0 yllcorner 0 cellsize 1 -2147483649",
+        6,
+        None,
+    ),
+    (
+        b"ncols 1 nrows 1 xllcorner 0 yllcorner 0 cellsize 1 99999999999999999999",
+        6,
+        None,
+    ),
+    (
+        b"ncols 1 nrows 1 xllcorner 0 yllcorner 0 cellsize 1 7 8",
+        5,
+        Some(53),
+    ),
+    (
+        b"ncols 1 nrows 1 xllcorner 0 yllcorner 0 cellsize 1 7 x",
+        5,
+        Some(53),
+    ),
+    (
+        b"ncols 1 nrows 1 xllcorner 0 yllcorner 0 cellsize 1 7 3.5 ",
+        5,
+        Some(53),
+    ),
+    (
+        b"ncols 1 nrows 1 xllcorner 0 yllcorner 0 cellsize 1 x 7",
+        2,
+        Some(51),
+    ),
 ];
 
 #[test]
@@ -191,7 +330,10 @@ const PLACES: [(&[u8], (i64, i64, i64, i64)); 5] = [
     (b"dx 3 dy 4 7", (0, 1, 1, -1)),
     (b"cellsize 2 cellsize 4 xllcenter 5 7", (3, 4, 4, -4)),
     (b"yllcenter 5 cellsize 2 7", (0, 6, 2, -2)),
-    (b"xllcenter 5 yllcenter 5 yllcorner 8 xllcorner 6 7", (6, 9, 1, -1)),
+    (
+        b"xllcenter 5 yllcenter 5 yllcorner 8 xllcorner 6 7",
+        (6, 9, 1, -1),
+    ),
 ];
 
 #[test]
@@ -203,7 +345,7 @@ fn places_grids(rt: HostRuntime) -> Result<(), Fail> {
     Ok(())
 }
 
-/// Reads a row from bytes in two pieces and, where they end within it, an empty one.
+// Reads a row from bytes in two pieces and, where they end within it, an empty one.
 fn read_row(front: &[u8], back: &[u8], out: &mut [Sample]) {
     let mut state = RowState::new();
     if !decode_more(&mut state, front, out) && !decode_more(&mut state, back, out) {
@@ -264,7 +406,10 @@ fn writes_heads(rt: HostRuntime) -> Result<(), Fail> {
 
 const SAME: &[u8] =
     b"ncols        2\nnrows        2\nxllcorner    9\nyllcorner    19\ncellsize     2\n";
-const OTHER: &[u8] = b"ncols        2\nnrows        2\nxllcorner    9\nyllcorner    17\ndx           2\ndy           3\nNODATA_value -7\n";
+
+const OTHER: &[u8] =
+    b"ncols        2\nnrows        2\nxllcorner    9\nyllcorner    17\ndx           2\ndy           3\nNODATA_value -7\n";
+
 const NOWHERE: &[u8] =
     b"ncols        2\nnrows        2\nxllcorner    0\nyllcorner    0\ncellsize     1\n";
 
@@ -276,8 +421,13 @@ fn writes_a_grid(rt: HostRuntime) -> Result<(), Fail> {
     write_head(size, geo.as_ref(), None, &mut text)?;
     write_row(&[1, -2], &mut text)?;
     write_row(&[30, 4], &mut text)?;
-    assert!(rt; text.as_slice() == b"ncols        2\nnrows        2\nxllcorner    9\nyllcorner    19\ncellsize     2\n1 -2\n30 4\n".as_slice());
-    let head = scan(rt.alloc(), text.as_slice(), b"").ok().ok_or("it is a grid")?;
+    assert!(rt;
+        text.as_slice()
+            == b"ncols        2\nnrows        2\nxllcorner    9\nyllcorner    19\ncellsize     2\n1 -2\n30 4\n".as_slice()
+    );
+    let head = scan(rt.alloc(), text.as_slice(), b"")
+        .ok()
+        .ok_or("it is a grid")?;
     assert!(rt; head.size == size);
     assert!(rt; Some(head.geo) == geo);
     Ok(())

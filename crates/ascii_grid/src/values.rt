@@ -7,9 +7,7 @@ ghost use Rattle.ascii_grid.specs.Values.{is_same, is_body_start, side_in, coord
 use crate::faults::GridFault;
 use crate::parts::{Coordinate, Side, Step, Value};
 use geotransform::decimal::{digits_at, sign_at};
-use geotransform::{
-    PixelType, Sample, holds, is_decimal, read_decimal, read_number, read_whole,
-};
+use geotransform::{PixelType, Sample, holds, is_decimal, read_decimal, read_number, read_whole};
 
 /// Whether two texts differ at most in the case of ASCII letters.
 pub fn is_same(a: &[u8], b: &[u8]) -> bool
@@ -65,7 +63,7 @@ pub fn step_in(at: u64, text: &[u8]) -> Result<Step, GridFault>
     }
 }
 
-/// The number, where it is one of the band.
+// The number, where it is one of the band.
 fn when_value(n: Option<i128>) -> Option<Value>
     ensures { result ≡ when_value n }
 {

@@ -1,4 +1,4 @@
-use Rattle.std.proofs.Common.{◌≡◌, ℕ, List, take, Err}
+use Rattle.std.proofs.Common.{◌≡◌, take, Err}
 use Rattle.ascii_grid.specs.declared.faults.GridFault.{GridFault}
 use Rattle.ascii_grid.specs.Scan.{fed, Reaches}
 use Rattle.ascii_grid.proofs.scanner.Scanner.take.Given as goal
