@@ -1,0 +1,11 @@
+pub mod Texts
+pub mod Bodies
+pub mod Pieces
+pub mod Whole
+pub mod Rows
+pub mod Places
+pub mod Files
+pub mod RowReads
+pub mod Writes
+pub mod Again
+mod Computes

@@ -1,0 +1,6 @@
+use Rattle.std.proofs.Common.{◌≡◌, min, take}
+use Rattle.geotransform.specs.Decimal.{number}
+use Rattle.ascii_grid.proofs.values.capped.Given as goal
+
+abbrev pub invariant-loop-c : goal.invariant-loop-c
+invariant-loop-c l = l.n ≡ min (number (take l.c-index l.digits)) 2147483649

@@ -1,0 +1,153 @@
+// The keys of the head, and what they say.
+ghost use Rattle.std.specs.Prelude.{◌≡◌, ℤ, pos, neg_ℤ, ◌+ℤ◌, ◌<◌, ◌≤◌, ◌*◌, ◌/◌, ◌^◌, unsigned_abs, IfSome};
+ghost use Rattle.geotransform.specs.Geo.{IsTransform};
+ghost use Rattle.ascii_grid.specs.Keys.{key_of, with_value, edge_of, steps_of, placed, shape_of};
+
+use crate::faults::GridFault;
+use crate::parts::{Found, Key, LowerLeft, Shape, Side, Step};
+use crate::values::{coordinate_in, is_same, nodata_in, side_in, step_in};
+use geotransform::{GeoTransform, Ticks};
+
+/// The key that a token names.
+pub fn key_of(text: &[u8]) -> Option<Key>
+    ensures { result ≡ key_of text.now }
+{
+    if is_same(text, b"ncols") {
+        Some(Key::Ncols)
+    } else if is_same(text, b"nrows") {
+        Some(Key::Nrows)
+    } else if is_same(text, b"xllcorner") {
+        Some(Key::Xllcorner)
+    } else if is_same(text, b"xllcenter") {
+        Some(Key::Xllcenter)
+    } else if is_same(text, b"yllcorner") {
+        Some(Key::Yllcorner)
+    } else if is_same(text, b"yllcenter") {
+        Some(Key::Yllcenter)
+    } else if is_same(text, b"cellsize") {
+        Some(Key::Cellsize)
+    } else if is_same(text, b"dx") {
+        Some(Key::Dx)
+    } else if is_same(text, b"dy") {
+        Some(Key::Dy)
+    } else if is_same(text, b"NODATA_value") {
+        Some(Key::Nodata)
+    } else {
+        None
+    }
+}
+
+/// What was found, and a key's value that is found now.
+#[tactic(auto, unfolding(crate::specs::Keys::with_value))]
+pub fn with_value(found: Found, key: Key, at: u64, text: &[u8]) -> Result<Found, GridFault>
+    ensures { result ≡ with_value found key (record { at = at; text = text.now }) }
+{
+    let mut found = found;
+    match key {
+        Key::Ncols => found.ncols = Some(side_in(at, text)?),
+        Key::Nrows => found.nrows = Some(side_in(at, text)?),
+        Key::Xllcorner => found.x = Some(LowerLeft::Edge(coordinate_in(at, text)?)),
+        Key::Xllcenter => found.x = Some(LowerLeft::Centre(coordinate_in(at, text)?)),
+        Key::Yllcorner => found.y = Some(LowerLeft::Edge(coordinate_in(at, text)?)),
+        Key::Yllcenter => found.y = Some(LowerLeft::Centre(coordinate_in(at, text)?)),
+        Key::Cellsize => found.cellsize = Some(step_in(at, text)?),
+        Key::Dx => found.dx = Some(step_in(at, text)?),
+        Key::Dy => found.dy = Some(step_in(at, text)?),
+        Key::Nodata => found.nodata = nodata_in(at, text)?,
+    }
+    Ok(found)
+}
+
+// Half a size of a pixel.
+fn half_of(step: Step) -> i128
+    ensures value { result ≡ pos (step / 2) }
+    ensures bound { unsigned_abs result < 18 * 10 ^ 28 }
+{
+    (step.get() / 2) as i128
+}
+
+// The left or the lower edge of the lower left pixel.
+fn edge_of(place: LowerLeft, step: Step) -> i128
+    ensures value { result ≡ edge_of place step }
+    ensures bound { unsigned_abs result < 36 * 10 ^ 28 }
+{
+    match place {
+        LowerLeft::Edge(at) => at.get(),
+        LowerLeft::Centre(at) => at.get() - half_of(step),
+    }
+}
+
+// The width and the height of a pixel.
+fn steps_of(cellsize: Option<Step>, dx: Option<Step>, dy: Option<Step>) -> Option<(Step, Step)>
+    ensures { result ≡ steps_of cellsize dx dy }
+{
+    match (cellsize, dx, dy) {
+        (Some(step), _, _) => Some((step, step)),
+        (None, Some(dx), Some(dy)) => Some((dx, dy)),
+        _ => None,
+    }
+}
+
+// The height of so many rows of pixels.
+#[tactic(auto, using(crate::proofs::Texts::height_small))]
+fn height_of(h: Side, step: Step) -> i128
+    ensures value { result ≡ pos (h * step) }
+    ensures bound { unsigned_abs result ≤ 4194304 * (18 * 10 ^ 28) }
+{
+    (u128::from(h.get()) * step.get()) as i128
+}
+
+// The upper edge of rows whose lower edge and height these are.
+fn top_of(bottom: i128, height: i128) -> Ticks
+    requires bottom { unsigned_abs bottom < 36 * 10 ^ 28 }
+    requires height { unsigned_abs height ≤ 4194304 * (18 * 10 ^ 28) }
+    ensures { result ≡ bottom +ℤ height }
+{
+    Ticks::of(bottom + height)
+}
+
+// So many ticks to the right.
+fn eastward(step: Step) -> Ticks
+    ensures { result ≡ pos step }
+{
+    Ticks::of(step.get() as i128)
+}
+
+// So many ticks down.
+fn southward(step: Step) -> Ticks
+    ensures { result ≡ neg_ℤ (pos step) }
+{
+    Ticks::of(-(step.get() as i128))
+}
+
+// The geotransform of so many rows of pixels of these sizes, of which the lower left one has these
+// edges.
+fn placed(left: i128, bottom: i128, steps: (Step, Step), h: Side) -> Option<GeoTransform>
+    requires left { unsigned_abs left < 36 * 10 ^ 28 }
+    requires bottom { unsigned_abs bottom < 36 * 10 ^ 28 }
+    ensures { result ≡ placed left bottom steps h }
+{
+    let top = top_of(bottom, height_of(h, steps.1));
+    GeoTransform::new(Ticks::of(left), top, eastward(steps.0), southward(steps.1))
+}
+
+/// What the head says at its end.
+#[tactic(auto, unfolding(crate::specs::Keys::shape_of))]
+pub fn shape_of(found: Found) -> Result<Shape, GridFault>
+    ensures { result ≡ shape_of found }
+{
+    let w = found.ncols.ok_or(GridFault::MissingKey)?;
+    let h = found.nrows.ok_or(GridFault::MissingKey)?;
+    let x = found.x.ok_or(GridFault::MissingKey)?;
+    let y = found.y.ok_or(GridFault::MissingKey)?;
+    let steps = steps_of(found.cellsize, found.dx, found.dy).ok_or(GridFault::MissingKey)?;
+    let left = edge_of(x, steps.0);
+    let bottom = edge_of(y, steps.1);
+    let geo = placed(left, bottom, steps, h).ok_or(GridFault::Limit)?;
+    Ok(Shape {
+        w,
+        h,
+        geo,
+        nodata: found.nodata,
+    })
+}

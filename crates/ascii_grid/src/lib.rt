@@ -1,0 +1,25 @@
+// Arc/Info ASCII grids, read in pieces and written.
+#![tactic(auto)]
+
+pub mod faults;
+pub mod head;
+mod keys;
+pub mod laws;
+mod open;
+mod parts;
+mod placing;
+pub mod row;
+pub mod scanner;
+mod steps;
+#[cfg(test)]
+mod tests;
+mod tokens;
+mod values;
+pub mod writing;
+
+pub use faults::GridFault;
+pub use head::{GridHead, Starts};
+pub use laws::{line_has_values, row_is_of_the_file, rows_rise, written_reads_back};
+pub use row::{RowState, decode_more};
+pub use scanner::Scanner;
+pub use writing::{write_head, write_row};

@@ -1,0 +1,84 @@
+// The token that is open while bytes come in pieces.
+ghost use Rattle.std.specs.Prelude.{◌≡◌, ℕ, ◌≤◌, length, Bool, []};
+ghost use Rattle.ascii_grid.specs.Scan.{Open, opened, passed, is_open};
+
+use crate::tokens::next;
+use std::marker::Model;
+
+/// The token that is open, and where the text stands. Of a token 65 bytes are kept, one more than it
+/// may have.
+#[derive(Drop)]
+pub struct Open {
+    at: u64,
+    begun: u64,
+    len: usize,
+    bytes: [u8; 65],
+}
+
+impl Model for Open {
+    ghost use Rattle.std.specs.Prelude.{◌≤◌, take};
+    ghost use Rattle.ascii_grid.specs.Scan.{Open};
+
+    ghost Value = { Open };
+
+    ghost view = { λ o. record { at = o.at; begun = o.begun; text = take o.len o.bytes } };
+
+    ghost invariant = { λ o. o.len ≤ 65 };
+}
+
+impl Open {
+    /// The front of a text, with no token open.
+    pub fn new() -> Open
+        ensures { result ≡ record { at = 0; begun = 0; text = [] } }
+    {
+        Open {
+            at: 0,
+            begun: 0,
+            len: 0,
+            bytes: [0; 65],
+        }
+    }
+
+    /// Whether a token is open.
+    pub fn is_open(&self) -> bool
+        ensures { result ≡ is_open self.now.text }
+    {
+        self.len > 0
+    }
+
+    /// The bytes of the token so far.
+    pub fn text(&self) -> &[u8]
+        ensures { result.now ≡ self.now.text }
+    {
+        &self.bytes[..self.len]
+    }
+
+    /// The place of the token's first byte.
+    pub fn begun(&self) -> u64
+        ensures { result ≡ self.now.begun }
+    {
+        self.begun
+    }
+
+    /// Takes a byte of a token.
+    pub fn push(&mut self, c: u8)
+        ensures { self.new ≡ opened self.old c }
+    {
+        if self.len == 0 {
+            self.begun = self.at;
+        }
+        if self.len < 65 {
+            self.bytes[self.len] = c;
+            self.len += 1;
+        }
+        self.at = next(self.at);
+    }
+
+    /// Takes white space.
+    pub fn pass(&mut self)
+        ensures { self.new ≡ passed self.old }
+    {
+        self.len = 0;
+        self.at = next(self.at);
+    }
+}

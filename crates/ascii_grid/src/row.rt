@@ -1,0 +1,177 @@
+// The samples of a row, read in pieces.
+ghost use Rattle.std.specs.Prelude.{◌≡◌, ℕ, ℤ, ◌≤◌, ◌<◌, ◌+◌, length, true, false, [], ◌++◌, List, ◌||◌, ◌==◌, nat_le, min, drop};
+ghost use Rattle.ascii_grid.specs.Scan.{is_open, StandsAt};
+ghost use Rattle.ascii_grid.specs.Row.{value_or_zero, reading, row_ended, row_byte, row_fed, padded, Fills, row_of, ended_in, ended_from, fresh, HasRead};
+
+use crate::open::Open;
+use crate::tokens::is_white;
+use crate::values::value_in;
+use geotransform::Sample;
+use std::marker::Model;
+
+/// What was read of a row so far: how many samples are filled, the token that is open, and whether an
+/// empty piece ended the row.
+#[derive(Drop)]
+pub struct RowState {
+    held: Open,
+    filled: usize,
+    over: bool,
+}
+
+impl Model for RowState {
+    ghost use Rattle.ascii_grid.specs.Row.{RowNow};
+
+    ghost Value = { RowNow };
+
+    ghost view = { λ s. record { held = s.held; filled = s.filled; over = s.over } };
+}
+
+impl RowState {
+    /// Nothing was read. It takes no memory.
+    #[tactic(auto, using(crate::proofs::Rows::fresh_fills, crate::proofs::Files::fresh_reads))]
+    pub fn new() -> RowState
+        ensures state { result ≡ fresh }
+        ensures fills { (out : List ℤ) → Fills result out [] }
+        ensures reads { (out : List ℤ) (file : List ℕ) (from : ℕ) → HasRead result out file from from }
+    {
+        RowState {
+            held: Open::new(),
+            filled: 0,
+            over: false,
+        }
+    }
+
+    // Reads a byte.
+    #[tactic(auto, unfolding(crate::specs::Row::row_byte))]
+    fn add(&mut self, c: u8, out: &mut [Sample])
+        requires { self.old.filled ≤ length out.old }
+        ensures fed { reading self.new out.new ≡ row_byte (reading self.old out.old) c }
+        ensures over { self.new.over ≡ self.old.over }
+        ensures room { self.new.filled ≤ length out.new }
+        ensures size { length out.new ≡ length out.old }
+    {
+        if !is_white(c) {
+            self.held.push(c);
+            return;
+        }
+        self.filled = ended(&self.held, self.filled, out);
+        self.held.pass();
+    }
+
+    // Reads the bytes of a piece.
+    fn take(&mut self, bytes: &[u8], out: &mut [Sample])
+        requires { self.old.filled ≤ length out.old }
+        ensures fed { reading self.new out.new ≡ row_fed (reading self.old out.old) bytes.now }
+        ensures over { self.new.over ≡ self.old.over }
+        ensures room { self.new.filled ≤ length out.new }
+        ensures size { length out.new ≡ length out.old }
+    {
+        for c in bytes {
+            self.add(*c, out);
+        }
+    }
+
+    // Whether so many samples are filled.
+    fn is_full(&self, n: usize) -> bool
+        ensures { result ≡ (self.now.filled == n) }
+    {
+        self.filled == n
+    }
+
+    // Ends the row.
+    fn close(&mut self, out: &mut [Sample])
+        requires { self.old.filled ≤ length out.old }
+        ensures row { out.new ≡ padded (row_ended (reading self.old out.old)) }
+        ensures over { self.new.over ≡ true }
+        ensures filled { self.new.filled ≡ length out.new }
+        ensures size { length out.new ≡ length out.old }
+    {
+        let filled = ended(&self.held, self.filled, out);
+        pad(filled, out);
+        self.held.pass();
+        self.filled = out.len();
+        self.over = true;
+    }
+
+    // Reads a piece.
+    #[tactic(auto, using(crate::proofs::Rows::fills_more, crate::proofs::Rows::counted))]
+    fn read(&mut self, bytes: &[u8], out: &mut [Sample]) -> bool
+        requires { self.old.filled ≤ length out.old }
+        ensures fills { (text : List ℕ) → Fills self.old out.old text → 0 < length bytes.now → Fills self.new out.new (text ++ bytes.now) }
+        ensures row { (text : List ℕ) → Fills self.old out.old text → result ≡ true → out.new ≡ row_of (length out.new) (text ++ bytes.now) }
+        ensures whole { result ≡ ((length bytes.now == 0) || (self.old.over || (self.new.filled == length out.new))) }
+        ensures counted { 0 < length bytes.now → self.old.over ≡ false → self.new.filled ≡ min (length out.old) (self.old.filled + ended_from (is_open self.old.held.text) bytes.now) }
+        ensures ended { (text : List ℕ) → Fills self.old out.old text → 0 < length bytes.now → result ≡ nat_le (length out.new) (ended_in (text ++ bytes.now)) }
+        ensures over { self.new.over ≡ (self.old.over || (length bytes.now == 0)) }
+        ensures room { self.new.filled ≤ length out.new }
+        ensures size { length out.new ≡ length out.old }
+    {
+        if bytes.is_empty() {
+            self.close(out);
+            return true;
+        }
+        if self.over {
+            self.close(out);
+            return true;
+        }
+        self.take(bytes, out);
+        self.is_full(out.len())
+    }
+}
+
+/// Reads a further piece of a row's bytes into `out`, which has a place for each sample of the row and
+/// is the same from piece to piece. True once all of it is filled. An empty piece ends the last token,
+/// and what is then missing is 0. A token that is no value, or whose value isn't of Int32, reads as 0.
+///
+/// False exactly where no piece so far was empty and fewer tokens than `out` has places have ended in
+/// these pieces; a token ends at the white space behind it. It takes no memory.
+pub fn decode_more(state: &mut RowState, bytes: &[u8], out: &mut [Sample]) -> bool
+    requires room { state.old.filled ≤ length out.old }
+    // what was read goes on with these bytes
+    ensures fills { (text : List ℕ) → Fills state.old out.old text → 0 < length bytes.now → Fills state.new out.new (text ++ bytes.now) }
+    // once it is true, the samples are the first values of all bytes
+    ensures row { (text : List ℕ) → Fills state.old out.old text → result ≡ true → out.new ≡ row_of (length out.new) (text ++ bytes.now) }
+    // when it is true
+    ensures whole { result ≡ ((length bytes.now == 0) || (state.old.over || (state.new.filled == length out.new))) }
+    ensures counted { 0 < length bytes.now → state.old.over ≡ false → state.new.filled ≡ min (length out.old) (state.old.filled + ended_from (is_open state.old.held.text) bytes.now) }
+    ensures over { state.new.over ≡ (state.old.over || (length bytes.now == 0)) }
+    ensures ended { (text : List ℕ) → Fills state.old out.old text → 0 < length bytes.now → result ≡ nat_le (length out.new) (ended_in (text ++ bytes.now)) }
+    // the bytes of a file from a place on
+    ensures more { (file : List ℕ) (from at : ℕ) → HasRead state.old out.old file from at → StandsAt file bytes.now at → 0 < length bytes.now → HasRead state.new out.new file from (at + length bytes.now) }
+    ensures line { (file : List ℕ) (from at : ℕ) → HasRead state.old out.old file from at → StandsAt file bytes.now at → 0 < length bytes.now → result ≡ true → out.new ≡ row_of (length out.new) (drop from file) }
+    ensures end { (file : List ℕ) (from at : ℕ) → HasRead state.old out.old file from at → length file ≤ at → length bytes.now ≡ 0 → out.new ≡ row_of (length out.new) (drop from file) }
+    ensures filled { state.new.filled ≤ length out.new }
+    ensures size { length out.new ≡ length out.old }
+{
+    state.read(bytes, out)
+}
+
+// The value of a token, 0 where it has none.
+fn value_or_zero(text: &[u8]) -> Sample
+    ensures { result ≡ value_or_zero text.now }
+{
+    value_in(0, text).unwrap_or(0)
+}
+
+// Puts the value of the open token into the row, where there is one and there is room.
+fn ended(held: &Open, filled: usize, out: &mut [Sample]) -> usize
+    requires { filled ≤ length out.old }
+    ensures row { record { filled = result; out = out.new } ≡ row_ended (record { held = held.now; row = record { filled = filled; out = out.old } }) }
+    ensures room { result ≤ length out.new }
+    ensures size { length out.new ≡ length out.old }
+{
+    if held.is_open() && filled < out.len() {
+        out[filled] = value_or_zero(held.text());
+        filled + 1
+    } else {
+        filled
+    }
+}
+
+// Fills the rest with 0.
+fn pad(filled: usize, out: &mut [Sample])
+    requires { filled ≤ length out.old }
+    ensures { out.new ≡ padded (record { filled = filled; out = out.old }) }
+{
+    out[filled..].fill(0);
+}

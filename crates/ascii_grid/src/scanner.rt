@@ -1,0 +1,224 @@
+// The scanner of a grid's text.
+ghost use Rattle.std.specs.Prelude.{◌≡◌, ℕ, [], ◌++◌, List, Ok, Err, IfOk, length, ◌<◌, ◌≤◌, ◌+◌, ◌*◌};
+ghost use Rattle.lists_and_answers.specs.Answers.{Gives};
+ghost use Rattle.ascii_grid.specs.Faults.{IsMemory};
+ghost use Rattle.ascii_grid.specs.Grid.{grid_head, head_with, IsHead};
+ghost use Rattle.ascii_grid.specs.declared.parts.Stage.TheVariants.{AtKey};
+ghost use Rattle.ascii_grid.specs.Scan.{then_byte, fed, start, Reaches, answer_of, grid_after, IsAt, with_read, ended, body_closed, closed, Reads, IsFaultOf, HasScanned, StandsAt, IsFaultIn};
+
+use crate::faults::GridFault;
+use crate::head::{GridHead, Starts};
+use crate::keys::shape_of;
+use crate::open::Open;
+use crate::parts::{Found, Shape, Stage};
+use crate::steps::{add_token, needed};
+use crate::tokens::is_white;
+use geotransform::Size;
+use lists_and_answers::Items;
+use std::alloc::Global;
+use std::marker::Model;
+
+/// Reads a grid's text in pieces, as the bytes that were fed so far. It keeps the place of each row and
+/// the last token, which is still open, and nothing else that grows.
+#[derive(Drop)]
+pub struct Scanner {
+    fault: Option<GridFault>,
+    held: Open,
+    stage: Stage,
+    rows: Starts,
+}
+
+impl Model for Scanner {
+    ghost use Rattle.ascii_grid.specs.Scan.{Scanned, scanned, IsAt};
+
+    ghost Value = { Scanned };
+
+    ghost view = { λ s. scanned s.fault s.held s.stage s.rows };
+
+    ghost invariant = { λ s. IsAt s.stage s.rows };
+}
+
+impl Scanner {
+    /// Nothing was fed. It takes no memory.
+    #[tactic(auto, using(crate::proofs::Files::nothing_scanned))]
+    pub fn new(alloc: Global) -> Scanner
+        ensures state { result ≡ Ok start }
+        ensures reads { Reads result [] }
+        ensures scanned { (file : List ℕ) → HasScanned result file 0 }
+    {
+        Scanner {
+            fault: None,
+            held: Open::new(),
+            stage: Stage::AtKey(Found {
+                ncols: None,
+                nrows: None,
+                x: None,
+                y: None,
+                cellsize: None,
+                dx: None,
+                dy: None,
+                nodata: None,
+            }),
+            rows: Items::new(alloc),
+        }
+    }
+
+    #[tactic(auto, unfolding(crate::specs::Scan::add_byte))]
+    fn add(&mut self, c: u8)
+        ensures state { Reaches self.new (then_byte self.old c) }
+        ensures stays { (f : GridFault) → self.old ≡ Err f → self.new ≡ Err f }
+    {
+        if self.fault.is_some() {
+            return;
+        }
+        if !is_white(c) {
+            self.held.push(c);
+            return;
+        }
+        match ended(&mut self.stage, &mut self.rows, &self.held) {
+            Ok(()) => self.held.pass(),
+            Err(fault) => self.fault = Some(fault),
+        }
+    }
+
+    fn answer(&self) -> Result<(), GridFault>
+        ensures { result ≡ answer_of self.now }
+    {
+        match self.fault {
+            None => Ok(()),
+            Some(fault) => Err(fault),
+        }
+    }
+
+    fn take(&mut self, bytes: &[u8])
+        ensures state { Reaches self.new (fed self.old bytes.now) }
+        ensures stays { (f : GridFault) → self.old ≡ Err f → self.new ≡ Err f }
+    {
+        for c in bytes {
+            self.add(*c);
+        }
+    }
+
+    // Reads a piece.
+    #[tactic(auto, using(crate::proofs::Whole::reads_more))]
+    fn read(&mut self, bytes: &[u8]) -> Result<(), GridFault>
+        ensures reads { (text : List ℕ) → Reads self.old text → Reads self.new (text ++ bytes.now) }
+        ensures fault { (text : List ℕ) (f : GridFault) → Reads self.old text → result ≡ Err f → IsFaultOf f (text ++ bytes.now) }
+        ensures stays { (f : GridFault) → self.old ≡ Err f → self.new ≡ Err f }
+        ensures answer { result ≡ answer_of self.new }
+    {
+        self.take(bytes);
+        self.answer()
+    }
+
+    /// Takes the next piece of the text, of any length. A fault is answered once its token has ended, and
+    /// it is the first of all bytes fed, however they were cut: an unknown key, a value that isn't of its
+    /// form or a token past 64 bytes is BadToken, a decimal number in the body that isn't whole is
+    /// NotInteger, a token behind the last value is TooMany; a number past its limit or a geotransform out
+    /// of range is Limit, and a head without a key that it needs is MissingKey. After a refusal it is
+    /// the same fault from then on. Memory comes freely, where a row's place can't be kept.
+    pub fn feed(&mut self, bytes: &[u8]) -> Result<(), GridFault>
+        // what was fed goes on with these bytes
+        ensures reads { (text : List ℕ) → Reads self.old text → Reads self.new (text ++ bytes.now) }
+        // a fault is that of all bytes, and stays
+        ensures fault { (text : List ℕ) (f : GridFault) → Reads self.old text → result ≡ Err f → IsFaultOf f (text ++ bytes.now) }
+        ensures stays { (f : GridFault) → self.old ≡ Err f → self.new ≡ Err f }
+        ensures answer { result ≡ answer_of self.new }
+        // the pieces of a file
+        ensures more { (file : List ℕ) (at : ℕ) → HasScanned self.old file at → StandsAt file bytes.now at → HasScanned self.new file (at + length bytes.now) }
+        ensures refused { (file : List ℕ) (at : ℕ) (f : GridFault) → HasScanned self.old file at → StandsAt file bytes.now at → result ≡ Err f → IsFaultIn f file }
+    {
+        self.read(bytes)
+    }
+
+    // What was read, where the text ends here.
+    #[tactic(auto, unfolding(crate::specs::Scan::finished), using(crate::proofs::Bodies::closed_rows))]
+    fn end(mut self) -> Result<GridHead, GridFault>
+        ensures answer { Reaches result (grid_after self) }
+        ensures stays { (f : GridFault) → self ≡ Err f → result ≡ Err f }
+    {
+        if let Some(fault) = self.fault {
+            return Err(fault);
+        }
+        ended(&mut self.stage, &mut self.rows, &self.held)?;
+        let shape = closed(self.stage)?;
+        Ok(head_of(shape, self.rows))
+    }
+
+    /// The head of the grid that was fed, or the first fault of all bytes. After a refusal it is the same
+    /// fault.
+    pub fn finish(self) -> Result<GridHead, GridFault>
+        ensures grid { (text : List ℕ) → Reads self text → Gives IsMemory (λ h. h) result (grid_head text) }
+        ensures whole { (file : List ℕ) (at : ℕ) → HasScanned self file at → length file ≤ at → Gives IsMemory (λ h. h) result (grid_head file) }
+        ensures kept { IfOk result IsHead }
+        ensures stays { (f : GridFault) → self ≡ Err f → result ≡ Err f }
+    {
+        self.end()
+    }
+}
+
+// Reads the token that is open, where one is.
+fn ended(stage: &mut Stage, rows: &mut Starts, held: &Open) -> Result<(), GridFault>
+    requires { IsAt stage.old rows.old }
+    ensures read { Reaches (with_read result (record { stage = stage.new; rows = rows.new })) (ended (record { held = held.now; read = record { stage = stage.old; rows = rows.old } })) }
+    ensures keeps { IsAt stage.new rows.new }
+{
+    if held.is_open() {
+        add_token(stage, rows, held.begun(), held.text())
+    } else {
+        Ok(())
+    }
+}
+
+// What a body of `n` values says at its end.
+fn body_closed(shape: Shape, n: u64) -> Result<Shape, GridFault>
+    ensures value { result ≡ body_closed shape n }
+    ensures some { IfOk result (λ s. 0 < s.w * s.h) }
+{
+    if n == needed(&shape) {
+        Ok(shape)
+    } else {
+        Err(GridFault::TooFew)
+    }
+}
+
+// What a head without a body says at the text's end.
+#[tactic(auto, unfolding(crate::specs::Scan::closed))]
+fn head_closed(found: Found) -> Result<Shape, GridFault>
+    ensures value { result ≡ closed (AtKey found) }
+    ensures some { IfOk result (λ s. 0 < s.w * s.h) }
+{
+    match shape_of(found) {
+        Ok(shape) => body_closed(shape, 0),
+        Err(fault) => Err(fault),
+    }
+}
+
+// What the head and the body say where the text ends here.
+#[tactic(auto, unfolding(crate::specs::Scan::closed))]
+fn closed(stage: Stage) -> Result<Shape, GridFault>
+    ensures value { result ≡ closed stage }
+    ensures some { IfOk result (λ s. 0 < s.w * s.h) }
+{
+    match stage {
+        Stage::AtKey(found) => head_closed(found),
+        Stage::AtValue(found, _) => head_closed(found),
+        Stage::InBody(shape, n, _) => body_closed(shape, n),
+    }
+}
+
+// The head of a raster whose rows begin at these places.
+fn head_of(shape: Shape, rows: Starts) -> GridHead
+    requires { length rows ≡ shape.h }
+    ensures { result ≡ head_with shape rows }
+{
+    GridHead {
+        size: Size {
+            w: shape.w.get(),
+            h: shape.h.get(),
+        },
+        geo: shape.geo,
+        nodata: shape.nodata.map(|n| n.get()),
+        rows,
+    }
+}

@@ -1,0 +1,113 @@
+// What a token changes.
+ghost use Rattle.std.specs.Prelude.{◌≡◌, ◌≤◌, ◌<◌, ◌+◌, ◌*◌, ◌^◌, ◌++◌, ◌==◌, [], ◌∷◌, if◌then◌else◌, IfOk, IfErr, OnOk, OnErr};
+ghost use Rattle.ascii_grid.specs.Tokens.{Token};
+ghost use Rattle.ascii_grid.specs.Faults.{IsMemory};
+ghost use Rattle.ascii_grid.specs.declared.parts.Stage.TheVariants.{AtKey, InBody};
+ghost use Rattle.ascii_grid.specs.Scan.{Reaches, IsBody, IsAt, add_token, with_rows, with_read};
+
+use crate::faults::GridFault;
+use crate::head::Starts;
+use crate::keys::{key_of, shape_of, with_value};
+use crate::parts::{Found, Shape, Stage};
+use crate::values::{is_body_start, value_in};
+
+/// How many values the body has.
+#[tactic(auto, using(crate::proofs::Texts::product_small, crate::proofs::Texts::product_some))]
+pub fn needed(shape: &Shape) -> u64
+    ensures value { result ≡ shape.now.w * shape.now.h }
+    ensures some { 0 < result }
+    ensures bound { result ≤ 2 ^ 44 }
+{
+    u64::from(shape.w.get()) * u64::from(shape.h.get())
+}
+
+// The column behind a column.
+fn column_after(shape: &Shape, x: u32) -> u32
+    requires { x < shape.now.w }
+    ensures value { result ≡ (if x + 1 == shape.now.w then 0 else x + 1) }
+    ensures within { result < shape.now.w }
+{
+    let w = shape.w.get();
+    if x + 1 == w { 0 } else { x + 1 }
+}
+
+// Keeps the place of the first value of a row.
+fn begin_row(x: u32, rows: &mut Starts, at: u64) -> Result<(), GridFault>
+    ensures ok { OnOk result (rows.new ≡ (if x == 0 then rows.old ++ at ∷ [] else rows.old)) }
+    ensures same { OnErr result (rows.new ≡ rows.old) }
+    ensures memory { IfErr result IsMemory }
+{
+    if x == 0 {
+        rows.push(at)?;
+    }
+    Ok(())
+}
+
+// Reads a token of the body, of which `n` were read; it is in column `x`.
+#[tactic(auto, unfolding(crate::specs::Scan::step, crate::specs::Scan::body_step), using(crate::proofs::Bodies::body_next))]
+fn add_value(
+    shape: &Shape,
+    n: &mut u64,
+    x: &mut u32,
+    rows: &mut Starts,
+    at: u64,
+    text: &[u8],
+) -> Result<(), GridFault>
+    requires { IsBody shape.now n.old x.old rows.old }
+    ensures read { Reaches (with_read result (record { stage = InBody shape.now n.new x.new; rows = rows.new })) (add_token (record { stage = InBody shape.now n.old x.old; rows = rows.old }) (record { at = at; text = text.now })) }
+    ensures keeps { IsBody shape.now n.new x.new rows.new }
+    ensures same { OnErr result (rows.new ≡ rows.old) }
+{
+    if *n == needed(shape) {
+        return Err(GridFault::TooMany(at));
+    }
+    value_in(at, text)?;
+    begin_row(*x, rows, at)?;
+    *n += 1;
+    *x = column_after(shape, *x);
+    Ok(())
+}
+
+// What a token in a key's place says: a key, or the first value of the body.
+#[tactic(auto, unfolding(crate::specs::Scan::step), using(crate::proofs::Bodies::body_begins))]
+fn after_key(found: Found, rows: &mut Starts, at: u64, text: &[u8]) -> Result<Stage, GridFault>
+    requires { rows.old ≡ [] }
+    ensures read { Reaches (with_rows result rows.new) (add_token (record { stage = AtKey found; rows = rows.old }) (record { at = at; text = text.now })) }
+    ensures keeps { IfOk result (λ stage. IsAt stage rows.new) }
+    ensures same { IfErr result (λ _. rows.new ≡ rows.old) }
+{
+    if is_body_start(text) {
+        let shape = shape_of(found)?;
+        let mut n = 0;
+        let mut x = 0;
+        add_value(&shape, &mut n, &mut x, rows, at, text)?;
+        return Ok(Stage::InBody(shape, n, x));
+    }
+    let key = key_of(text).ok_or(GridFault::BadToken(at))?;
+    Ok(Stage::AtValue(found, key))
+}
+
+/// Reads a token.
+#[tactic(auto, unfolding(crate::specs::Scan::step))]
+pub fn add_token(
+    stage: &mut Stage,
+    rows: &mut Starts,
+    at: u64,
+    text: &[u8],
+) -> Result<(), GridFault>
+    requires { IsAt stage.old rows.old }
+    ensures read { Reaches (with_read result (record { stage = stage.new; rows = rows.new })) (add_token (record { stage = stage.old; rows = rows.old }) (record { at = at; text = text.now })) }
+    ensures keeps { IsAt stage.new rows.new }
+{
+    match stage {
+        Stage::InBody(shape, n, x) => add_value(shape, n, x, rows, at, text),
+        Stage::AtKey(found) => {
+            *stage = after_key(*found, rows, at, text)?;
+            Ok(())
+        }
+        Stage::AtValue(found, key) => {
+            *stage = Stage::AtKey(with_value(*found, *key, at, text)?);
+            Ok(())
+        }
+    }
+}

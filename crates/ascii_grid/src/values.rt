@@ -1,0 +1,143 @@
+// What a token says.
+ghost use Rattle.std.specs.Prelude.{◌≡◌, ◌==◌, min, Some, None, if◌then◌else◌};
+ghost use Rattle.std.specs.List.{list_all};
+ghost use Rattle.geotransform.specs.Decimal.{number, signed};
+ghost use Rattle.ascii_grid.specs.Values.{is_same, is_body_start, side_in, coordinate_in, step_in, when_value, nodata_in, is_whole_end, value_in, is_value};
+
+use crate::faults::GridFault;
+use crate::parts::{Coordinate, Side, Step, Value};
+use geotransform::decimal::{digits_at, sign_at};
+use geotransform::{PixelType, Sample, holds, is_decimal, read_decimal, read_number, read_whole};
+
+/// Whether two texts differ at most in the case of ASCII letters.
+pub fn is_same(a: &[u8], b: &[u8]) -> bool
+    ensures { result ≡ is_same a.now b.now }
+{
+    a.eq_ignore_ascii_case(b)
+}
+
+/// Whether a token in a key's place ends the head.
+pub fn is_body_start(text: &[u8]) -> bool
+    ensures { result ≡ is_body_start text.now }
+{
+    match text {
+        [c, ..] => c.is_ascii_digit() || *c == b'+' || *c == b'-' || *c == b'.',
+        [] => false,
+    }
+}
+
+/// A number of columns or rows.
+#[tactic(auto, unfolding(crate::specs::Values::side_in))]
+pub fn side_in(at: u64, text: &[u8]) -> Result<Side, GridFault>
+    ensures { result ≡ side_in at text.now }
+{
+    let n = read_number(text).ok_or(GridFault::BadToken(at))?;
+    if text.len() > 9 || n == 0 {
+        return Err(GridFault::BadToken(at));
+    }
+    if n > 4_194_304 {
+        return Err(GridFault::Limit);
+    }
+    Ok(Side::new(n as u32))
+}
+
+/// A coordinate.
+pub fn coordinate_in(at: u64, text: &[u8]) -> Result<Coordinate, GridFault>
+    ensures { result ≡ coordinate_in at text.now }
+{
+    let ticks = read_decimal(text).ok_or(GridFault::BadToken(at))?;
+    Ok(Coordinate::new(ticks))
+}
+
+/// A size of a pixel.
+#[tactic(auto, unfolding(crate::specs::Values::step_in))]
+pub fn step_in(at: u64, text: &[u8]) -> Result<Step, GridFault>
+    ensures { result ≡ step_in at text.now }
+{
+    let ticks = read_decimal(text).ok_or(GridFault::BadToken(at))?;
+    let n = ticks.get();
+    if n > 0 {
+        Ok(Step::new(n.unsigned_abs()))
+    } else {
+        Err(GridFault::BadToken(at))
+    }
+}
+
+// The number, where it is one of the band.
+fn when_value(n: Option<i128>) -> Option<Value>
+    ensures { result ≡ when_value n }
+{
+    match n {
+        Some(n) if holds(PixelType::Int32, n) => Some(Value::new(n)),
+        _ => None,
+    }
+}
+
+/// A NODATA.
+#[tactic(auto, unfolding(crate::specs::Values::nodata_in))]
+pub fn nodata_in(at: u64, text: &[u8]) -> Result<Option<Value>, GridFault>
+    ensures { result ≡ nodata_in at text.now }
+{
+    if is_decimal(text) || is_same(text, b"nan") {
+        Ok(when_value(read_whole(text)))
+    } else {
+        Err(GridFault::BadToken(at))
+    }
+}
+
+fn are_zeros(text: &[u8]) -> bool
+    ensures { result ≡ list_all (λ d. d == 48) text.now }
+{
+    text.iter().all(|d| *d == b'0')
+}
+
+fn is_whole_end(text: &[u8]) -> bool
+    ensures { result ≡ is_whole_end text.now }
+{
+    match text {
+        [] => true,
+        [b'.', zeros @ ..] => !zeros.is_empty() && are_zeros(zeros),
+        _ => false,
+    }
+}
+
+// The number that the digits write, or one that is past the band where it is greater.
+fn capped(digits: &[u8]) -> u64
+    ensures { result ≡ min (number digits.now) 2147483649 }
+{
+    let mut n = 0u64;
+    for c in digits {
+        n = (n * 10 + u64::from(c.saturating_sub(b'0'))).min(2_147_483_649);
+    }
+    n
+}
+
+// The number with this sign and these digits, where it is one of the band.
+fn signed_value(negative: bool, digits: &[u8]) -> Option<Sample>
+    ensures { result ≡ (if is_value (signed negative (number digits.now)) then Some (signed negative (number digits.now)) else None) }
+{
+    let n = capped(digits) as i128;
+    if negative && n <= 2_147_483_648 {
+        Some(-n)
+    } else if !negative && n <= 2_147_483_647 {
+        Some(n)
+    } else {
+        None
+    }
+}
+
+/// The value of a token of the body.
+#[tactic(auto, unfolding(crate::specs::Values::value_in))]
+pub fn value_in(at: u64, text: &[u8]) -> Result<Sample, GridFault>
+    ensures { result ≡ value_in at text.now }
+{
+    let (negative, rest) = sign_at(text);
+    let (digits, end) = digits_at(rest);
+    if text.len() <= 64 && !digits.is_empty() && is_whole_end(end) {
+        signed_value(negative, digits).ok_or(GridFault::Limit)
+    } else if is_decimal(text) {
+        Err(GridFault::NotInteger(at))
+    } else {
+        Err(GridFault::BadToken(at))
+    }
+}
