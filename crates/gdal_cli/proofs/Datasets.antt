@@ -10,7 +10,7 @@ use Rattle.gdal_cli.specs.declared.faults.Fault.TheVariants.{NotRecognized, Memo
 use Rattle.gdal_cli.specs.Run.{ended, dataset_of, RefusesUnknown, RefusesDataset}
 
 -- a call that ended with a fault was refused so
-refused_so : (result : Result (Unit {0}) Fault) (f : Fault) → ended result ≡ Some f → result ≡ Err f
+pub refused_so : (result : Result (Unit {0}) Fault) (f : Fault) → ended result ≡ Some f → result ≡ Err f
 refused_so (Ok done) f is = let no : ⊥ = cc in absurd no
 refused_so (Err e) f is = let same : e ≡ f = cc in ap Err same
 

@@ -4,7 +4,7 @@ use Rattle.outside.specs.Outside.{Files}
 use Rattle.outside.specs.Causes.{Rose}
 use Rattle.outside.proofs.Sinks.{gets-whole}
 use Rattle.gdal_cli.specs.declared.faults.Fault.{Fault}
-use Rattle.gdal_cli.specs.declared.faults.Fault.TheVariants.{Usage, Absent, NotRecognized, Malformed, Short, Plan, FolderFault, OutFault, Memory}
+use Rattle.gdal_cli.specs.declared.faults.Fault.TheVariants.{Usage, Absent, NotRecognized, Malformed, Short, Limit, Plan, Changed, FolderFault, OutFault, Memory}
 use Rattle.gdal_cli.specs.Faults.{IsOutside, HasCauses, fault_status, status_of}
 use Rattle.gdal_cli.specs.Run.{ran_of, ended, Ends, applied, Answers, EndsEarly}
 
@@ -15,7 +15,9 @@ outside_status (Absent name) out = absurd out
 outside_status (NotRecognized name) out = absurd out
 outside_status (Malformed name bad) out = absurd out
 outside_status (Short name needed has) out = absurd out
+outside_status (Limit what value) out = absurd out
 outside_status (Plan fault) out = absurd out
+outside_status (Changed name was now) out = absurd out
 outside_status FolderFault out = omega arith
 outside_status OutFault out = omega arith
 outside_status Memory out = omega arith
@@ -48,7 +50,9 @@ only_memory (Absent name) a b c d out causes calm still = absurd out
 only_memory (NotRecognized name) a b c d out causes calm still = absurd out
 only_memory (Malformed name bad) a b c d out causes calm still = absurd out
 only_memory (Short name needed has) a b c d out causes calm still = absurd out
+only_memory (Limit what value) a b c d out causes calm still = absurd out
 only_memory (Plan fault) a b c d out causes calm still = absurd out
+only_memory (Changed name was now) a b c d out causes calm still = absurd out
 only_memory FolderFault a b c d out causes calm still = absurd (calm (causes.folder_failed refl))
 only_memory OutFault a b c d out causes calm still = absurd (still (causes.out_failed refl))
 only_memory Memory a b c d out causes calm still = refl

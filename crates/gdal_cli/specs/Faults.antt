@@ -1,5 +1,6 @@
 -- The faults of a run: where they come from, and how they end it.
 use Rattle.std.specs.Prelude.{ℕ, List, ◌≡◌, ◌≤◌, Option, Some, None, Result, Ok, Err}
+use Rattle.outside.specs.Outside.{Files}
 use Rattle.outside.specs.Causes.{Rose}
 use Rattle.catalog.specs.declared.faults.WalkFault.{WalkFault}
 use Rattle.catalog.specs.declared.faults.WalkFault.TheVariants as walk
@@ -8,7 +9,7 @@ use Rattle.info_report.specs.declared.report.ReportFault.TheVariants as report
 use Rattle.gdal_cli.specs.declared.spoken.WordFault.{WordFault}
 use Rattle.gdal_cli.specs.declared.spoken.WordFault.TheVariants as word
 use Rattle.gdal_cli.specs.declared.faults.Fault.{Fault}
-use Rattle.gdal_cli.specs.declared.faults.Fault.TheVariants.{Usage, Absent, NotRecognized, Malformed, Short, Plan, FolderFault, OutFault, Memory}
+use Rattle.gdal_cli.specs.declared.faults.Fault.TheVariants.{Usage, Absent, NotRecognized, Malformed, Short, Limit, Plan, Changed, FolderFault, OutFault, Memory}
 
 -- a fault of the words, of a walk and of a report as the run's
 abbrev pub word_fault_of : WordFault → Fault
@@ -20,6 +21,7 @@ fault_of (walk.Absent name) = Absent name
 fault_of (walk.NotRecognized name) = NotRecognized name
 fault_of (walk.Malformed name bad) = Malformed name bad
 fault_of (walk.Short name needed has) = Short name needed has
+fault_of (walk.Limit what value) = Limit what value
 fault_of walk.FolderFault = FolderFault
 fault_of walk.Memory = Memory
 
@@ -44,10 +46,26 @@ IsOutside (Absent name) = ⊥
 IsOutside (NotRecognized name) = ⊥
 IsOutside (Malformed name bad) = ⊥
 IsOutside (Short name needed has) = ⊥
+IsOutside (Limit what value) = ⊥
 IsOutside (Plan fault) = ⊥
+IsOutside (Changed name was now) = ⊥
 IsOutside FolderFault = Unit {0}
 IsOutside OutFault = Unit {0}
 IsOutside Memory = Unit {0}
+
+-- a fault behind the walk and the choice of the bands: one of the outside, or a file that isn't as the walk found it
+abbrev pub IsLate : Fault → Type 0
+IsLate (Usage n) = ⊥
+IsLate (Absent name) = ⊥
+IsLate (NotRecognized name) = ⊥
+IsLate (Malformed name bad) = ⊥
+IsLate (Short name needed has) = ⊥
+IsLate (Limit what value) = ⊥
+IsLate (Plan fault) = ⊥
+IsLate (Changed name was now) = Unit {0}
+IsLate FolderFault = Unit {0}
+IsLate OutFault = Unit {0}
+IsLate Memory = Unit {0}
 
 -- the status that a fault ends a run with
 abbrev pub fault_status : Fault → ℕ
@@ -56,7 +74,9 @@ fault_status (Absent name) = 1
 fault_status (NotRecognized name) = 1
 fault_status (Malformed name bad) = 1
 fault_status (Short name needed has) = 1
+fault_status (Limit what value) = 1
 fault_status (Plan fault) = 1
+fault_status (Changed name was now) = 2
 fault_status FolderFault = 2
 fault_status OutFault = 2
 fault_status Memory = 3
@@ -76,3 +96,12 @@ pub record HasCauses {T : Type 0} (folder folder_now out out_now : ℕ) (result 
 pub record HasNoCause {T : Type 0} (result : Result T Fault) : Type 0 where
   pub not_folder : result ≡ Err FolderFault → ⊥
   pub not_out : result ≡ Err OutFault → ⊥
+
+-- where a length is said to have changed, it is another one
+abbrev pub Differs : {T : Type 0} → Result T Fault → Type 0
+Differs result = (name : List ℕ) (was : ℕ) (now : Option ℕ) → result ≡ Err (Changed name was now) → now ≡ Some was → ⊥
+
+-- the same where a run ended so, which comes only over a folder that doesn't tell its names
+pub record HasChanged (names : Option Files) (fault : Option Fault) : Type 0 where
+  pub untold : (name : List ℕ) (was : ℕ) (now : Option ℕ) → fault ≡ Some (Changed name was now) → names ≡ None
+  pub differs : (name : List ℕ) (was : ℕ) (now : Option ℕ) → fault ≡ Some (Changed name was now) → now ≡ Some was → ⊥

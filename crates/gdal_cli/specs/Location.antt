@@ -1,15 +1,15 @@
 -- What gdallocationinfo prints of a point.
-use Rattle.std.specs.Prelude.{ℕ, ℤ, pos, negsuc, ◌-◌, ◌≡◌, ◌≤◌, List, [], ◌∷◌, codes, flat_map, get_or, nat_lt, Option, Some, None, Result, Ok, Err, unwrap_or, if◌then◌else◌}
+use Rattle.std.specs.Prelude.{ℕ, ℤ, pos, negsuc, ◌-◌, Bool, List, [], ◌∷◌, length, codes, flat_map, nat_lt, Option, Some, None, option_and_then, slice_get, Result, Ok, Err, if◌then◌else◌}
 use Rattle.std.specs.List.{range_with_len, find}
-use Rattle.std.specs.FinMap.{get}
 use Rattle.lists_and_answers.specs.Answers.{◌>>=◌}
 use Rattle.geotransform.specs.Print.{unit}
 use Rattle.geotransform.specs.Places.{floor_of}
 use Rattle.geotransform.specs.declared.faults.PlanFault.TheVariants.{NoBand}
 use Rattle.outside.specs.Outside.{Files}
-use Rattle.esri_hdr.specs.Head.{Head}
-use Rattle.interleaved_raw.specs.Raw.{raw_at}
-use Rattle.catalog.specs.Heads.{opened_in}
+use Rattle.geotransform.specs.declared.types.Size.{Size}
+use Rattle.catalog.specs.Drivers.{Dataset}
+use Rattle.catalog.specs.Walk.{number_of, walked}
+use Rattle.catalog.specs.Pixels.{pixel_in}
 use Rattle.gdal_cli.specs.declared.faults.Fault.{Fault}
 use Rattle.gdal_cli.specs.declared.faults.Fault.TheVariants.{Plan}
 use Rattle.outside.specs.Streams.{Gets, GetsPart}
@@ -38,31 +38,42 @@ unless_lacking (Some band) bands = Err (Plan (NoBand band))
 abbrev pub chosen_in : ℕ → List ℕ → Result (List ℕ) Fault
 chosen_in count bands = unless_lacking (find (λ band. nat_lt count band) bands) (chosen_of count bands)
 
--- the values of these bands in a column and a line, each on a line
-abbrev pub values_text : Head → List ℕ → ℕ → ℕ → List ℕ → List ℕ
-values_text h b x y bands = flat_map (λ band. value_line (raw_at h b (band - 1) x y)) bands
+-- the values of these bands, each on a line; a value is known by its band, counted from 0
+abbrev pub values_text : (ℕ → ℤ) → List ℕ → List ℕ
+values_text value bands = flat_map (λ band. value_line (value (band - 1))) bands
 
--- the values, or one empty line off the raster
-abbrev pub place_text : Head → List ℕ → Option ℕ → Option ℕ → List ℕ → List ℕ
-place_text h b (Some x) (Some y) bands = values_text h b x y bands
-place_text h b (Some x) None bands = codes "\n"
-place_text h b None y bands = codes "\n"
+-- the values of these bands in a column and a line, or one empty line off the raster
+abbrev pub place_text : (ℕ → ℕ → ℕ → ℤ) → Option ℕ → Option ℕ → List ℕ → List ℕ
+place_text pixel (Some x) (Some y) bands = values_text (λ band. pixel band x y) bands
+place_text pixel (Some x) None bands = codes "\n"
+place_text pixel None y bands = codes "\n"
 
-abbrev pub point_text : Head → List ℕ → ℤ → ℤ → List ℕ → List ℕ
-point_text h b x y bands = place_text h b (place_within h.size.w x) (place_within h.size.h y) bands
+-- what is printed at a point of a raster of this size and these pixels
+abbrev pub point_text : Size → (ℕ → ℕ → ℕ → ℤ) → ℤ → ℤ → List ℕ → List ℕ
+point_text size pixel x y bands = place_text pixel (place_within size.w x) (place_within size.h y) bands
+
+-- the dataset of a name in a catalog
+abbrev pub dataset_of : List Dataset → List ℕ → Option Dataset
+dataset_of cat name = option_and_then (slice_get cat) (number_of cat name)
 
 -- a call puts a whole text, or a first part of it behind which the outside failed
 abbrev pub PutsText : List ℕ → Result (Unit {0}) Fault → Option (List ℕ) → Option (List ℕ) → Type 0
 PutsText text (Ok done) before after = Gets text before after
 PutsText text (Err fault) before after = IsOutside fault × GetsPart text before after
 
--- the bytes under a name, or none
-abbrev pub bytes_in : Files → List ℕ → List ℕ
-bytes_in m name = unwrap_or (get m name) []
+-- the values at a point of a dataset, or the first band that it lacks
+unfoldable pub values_in : Files → ℤ → ℤ → List ℕ → Dataset → Result (List ℕ) Fault
+values_in m x y bands d = do
+  chosen ← chosen_in (length d.head.bands) bands
+  Ok (point_text d.head.size (pixel_in m d) x y chosen)
 
--- the values at a point of a dataset, or the first refusal
-unfoldable pub location_in : Files → List ℕ → ℤ → ℤ → List ℕ → Result (List ℕ) Fault
-location_in m name x y bands = do
-  head ← by_walk (opened_in m name)
-  chosen ← chosen_in head.bands bands
-  Ok (point_text head (bytes_in m name) x y chosen)
+-- the same of the dataset that a walk began with, which it has met
+abbrev pub values_of : Files → ℤ → ℤ → List ℕ → Option Dataset → Result (List ℕ) Fault
+values_of m x y bands None = Ok []
+values_of m x y bands (Some d) = values_in m x y bands d
+
+-- the values at a point of the dataset of a name, or the first refusal
+unfoldable pub location_in : Files → Bool → List ℕ → ℤ → ℤ → List ℕ → Result (List ℕ) Fault
+location_in m verify name x y bands = do
+  cat ← by_walk (walked m verify [] name)
+  values_of m x y bands (dataset_of cat name)

@@ -41,7 +41,7 @@ dataset_of (Locate name x y bands) = name
 
 abbrev pub printed_by : Job → Files → Bool → Result (List ℕ) Fault
 printed_by (Info name) m verify = info_in m name verify
-printed_by (Locate name x y bands) m verify = location_in m name x y bands
+printed_by (Locate name x y bands) m verify = location_in m verify name x y bands
 
 -- what a command prints, or the first refusal
 unfoldable pub printed_in : Files → List (List ℕ) → Result (List ℕ) Fault

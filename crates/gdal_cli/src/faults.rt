@@ -4,7 +4,7 @@ ghost use Rattle.gdal_cli.specs.Faults.{fault_of, word_fault_of, report_fault_of
 ghost use Rattle.gdal_cli.specs.declared.faults.Fault.TheVariants as fault;
 
 use crate::spoken::WordFault;
-use catalog::{Bad, WalkFault};
+use catalog::{Bad, LimitKind, WalkFault};
 use geotransform::PlanFault;
 use info_report::ReportFault;
 use outside::Name;
@@ -23,8 +23,17 @@ pub enum Fault {
     Malformed { name: Name, bad: Bad },
     /// The file of this name needs so many bytes, and has fewer.
     Short { name: Name, needed: u64, has: u64 },
+    /// What is counted would pass its limit with this value.
+    Limit { what: LimitKind, value: u64 },
     /// The dataset can't give what is asked of it.
     Plan(PlanFault),
+    /// The file of this name was so many bytes long, and was opened again with another length, or with none
+    /// where it was absent then.
+    Changed {
+        name: Name,
+        was: u64,
+        now: Option<u64>,
+    },
     /// A call of the folder failed.
     FolderFault,
     /// A call of the output failed.
@@ -53,6 +62,7 @@ impl From<WalkFault> for Fault {
             WalkFault::NotRecognized { name } => Fault::NotRecognized { name },
             WalkFault::Malformed { name, bad } => Fault::Malformed { name, bad },
             WalkFault::Short { name, needed, has } => Fault::Short { name, needed, has },
+            WalkFault::Limit { what, value } => Fault::Limit { what, value },
             WalkFault::FolderFault => Fault::FolderFault,
             WalkFault::Memory => Fault::Memory,
         }

@@ -1,20 +1,25 @@
 // What gdallocationinfo prints of a point.
-ghost use Rattle.std.specs.Prelude.{◌≡◌, ◌≤◌, ◌<◌, ◌+◌, ℕ, ℤ, List, Option, Some, None, Ok, Err, ◌++◌, [], ◌∷◌, OnOk, IfOk, IfErr, IfSome, All, nat_lt};
+ghost use Rattle.std.specs.Prelude.{◌≡◌, ◌⊎◌, ◌≤◌, ◌<◌, ◌+◌, ℕ, ℤ, List, Option, Some, None, Ok, Err, ◌++◌, [], ◌∷◌, OnOk, IfOk, IfErr, IfSome, All, nat_lt, length, option_map, slice_get};
 ghost use Rattle.std.specs.List.{find, range_with_len};
 ghost use Rattle.lists_and_answers.specs.Answers.{Gives};
-ghost use Rattle.outside.specs.Causes.{FailsWith};
-ghost use Rattle.interleaved_raw.specs.Raw.{raw_at, needed_of};
-ghost use Rattle.gdal_cli.specs.Faults.{IsOutside, HasCauses, HasNoCause};
+ghost use Rattle.outside.specs.Causes.{HasCause};
+ghost use Rattle.std.specs.FinMap.{get};
+ghost use Rattle.outside.specs.Outside.{Files, Opened};
+ghost use Rattle.catalog.specs.Drivers.{Dataset, IsLongEnough};
+ghost use Rattle.catalog.specs.Walk.{IsCatalog, IsWalked};
+ghost use Rattle.catalog.specs.Pixels.{sample_in, pixel_in};
+ghost use Rattle.gdal_cli.specs.Faults.{IsOutside, IsLate, Differs, HasCauses, HasNoCause};
 ghost use Rattle.gdal_cli.specs.Location.{place_within, chosen_in, values_text, point_text, PutsText};
+ghost use Rattle.gdal_cli.specs.Samples.{size_in, bands_in};
 ghost use Rattle.gdal_cli.specs.Texts.{value_line};
 
 use crate::Fault;
 use crate::command::{BandNumber, BandNumbers, Position};
+use crate::samples::Samples;
 use crate::texts::put_value;
-use esri_hdr::RawHead;
-use geotransform::{PlanFault, Sample, Ticks, floor_of};
-use interleaved_raw::{decode_sample, position, sample_len};
-use outside::{Failed, Folder, Sink};
+use catalog::Catalog;
+use geotransform::{PlanFault, Ticks, floor_of};
+use outside::{Failed, Folder, Name, OpenFault, Sink};
 use std::alloc::Global;
 
 // The column or the line in which a number of pixels lies, where the side has it.
@@ -79,54 +84,29 @@ pub fn chosen(alloc: Global, count: u32, bands: BandNumbers) -> Result<BandNumbe
     }
 }
 
-// One sample of a raw file.
-#[tactic(auto, using(interleaved_raw::proofs::Order::ends_within))]
-fn one_sample<F: Folder>(
-    folder: &mut F,
-    head: &RawHead,
-    file: &mut F::File,
-    band: u32,
-    x: u32,
-    y: u32,
-) -> Result<Sample, Failed>
-    requires band { band < head.now.bands }
-    requires column { x < head.now.size.w }
-    requires line { y < head.now.size.h }
-    requires long { needed_of head.now ≤ F.file_len file.old }
-    ensures told { IfOk result (λ v. (b : List ℕ) → F.file_bytes file.old ≡ Some b → v ≡ raw_at head.now b band x y) }
-    ensures bytes { F.file_bytes file.new ≡ F.file_bytes file.old }
-    ensures len { F.file_len file.new ≡ F.file_len file.old }
-    ensures names { F.names folder.new ≡ F.names folder.old }
-    ensures cause { FailsWith (F.faults folder.old) (F.faults folder.new) result }
-{
-    let mut room = [0u8; 4];
-    let bytes = &mut room[..sample_len(head.kind)];
-    folder.read_at(file, position(head, band, x, y), bytes)?;
-    Ok(decode_sample(head, bytes))
-}
-
 // The value of a band in a column and a line, on a line.
 fn put_one<F: Folder, O: Sink>(
     folder: &mut F,
     out: &mut O,
-    head: &RawHead,
+    samples: &mut Samples,
     file: &mut F::File,
     band: u32,
     x: u32,
     y: u32,
 ) -> Result<(), Fault>
-    requires band { band < head.now.bands }
-    requires column { x < head.now.size.w }
-    requires line { y < head.now.size.h }
-    requires long { needed_of head.now ≤ F.file_len file.old }
-    ensures told { (b : List ℕ) → F.file_bytes file.old ≡ Some b → PutsText (value_line (raw_at head.now b band x y)) result (O.got out.old) (O.got out.new) }
+    requires band { band < bands_in samples.old }
+    requires column { x < (size_in samples.old).w }
+    requires line { y < (size_in samples.old).h }
+    requires long { IsLongEnough samples.old (F.file_len file.old) }
+    ensures told { (b : List ℕ) → F.file_bytes file.old ≡ Some b → PutsText (value_line (sample_in samples.old b band x y)) result (O.got out.old) (O.got out.new) }
+    ensures driver { samples.new ≡ samples.old }
     ensures bytes { F.file_bytes file.new ≡ F.file_bytes file.old }
     ensures len { F.file_len file.new ≡ F.file_len file.old }
     ensures names { F.names folder.new ≡ F.names folder.old }
     ensures cause { HasCauses (F.faults folder.old) (F.faults folder.new) (O.faults out.old) (O.faults out.new) result }
     ensures outside { IfErr result IsOutside }
 {
-    match one_sample(folder, head, file, band, x, y) {
+    match samples.read(folder, file, band, x, y) {
         Ok(value) => match put_value(out, value) {
             Ok(()) => Ok(()),
             Err(Failed) => Err(Fault::OutFault),
@@ -139,23 +119,23 @@ fn put_one<F: Folder, O: Sink>(
 fn put_values<F: Folder, O: Sink>(
     folder: &mut F,
     out: &mut O,
-    head: &RawHead,
+    samples: &mut Samples,
     file: &mut F::File,
     x: u32,
     y: u32,
     bands: &[BandNumber],
 ) -> Result<(), Fault>
-    requires column { x < head.now.size.w }
-    requires line { y < head.now.size.h }
-    requires long { needed_of head.now ≤ F.file_len file.old }
-    requires bands { All (λ band. band ≤ head.now.bands) bands.now }
-    ensures told { (b : List ℕ) → F.file_bytes file.old ≡ Some b → PutsText (values_text head.now b x y bands.now) result (O.got out.old) (O.got out.new) }
+    requires column { x < (size_in samples.old).w }
+    requires line { y < (size_in samples.old).h }
+    requires long { IsLongEnough samples.old (F.file_len file.old) }
+    requires bands { All (λ band. band ≤ bands_in samples.old) bands.now }
+    ensures told { (b : List ℕ) → F.file_bytes file.old ≡ Some b → PutsText (values_text (λ band. sample_in samples.old b band x y) bands.now) result (O.got out.old) (O.got out.new) }
     ensures names { F.names folder.new ≡ F.names folder.old }
     ensures cause { HasCauses (F.faults folder.old) (F.faults folder.new) (O.faults out.old) (O.faults out.new) result }
     ensures outside { IfErr result IsOutside }
 {
     for band in bands {
-        match put_one(folder, out, head, file, band.get() - 1, x, y) {
+        match put_one(folder, out, samples, file, band.get() - 1, x, y) {
             Ok(()) => {}
             Err(fault) => return Err(fault),
         }
@@ -163,26 +143,103 @@ fn put_values<F: Folder, O: Sink>(
     Ok(())
 }
 
-/// Puts the values of these bands at a point, a column and a line in pixels, each on a line, or one
-/// empty line where the point is off the raster.
-pub fn put_point<F: Folder, O: Sink>(
+// A file whose length isn't the one that the walk found.
+fn changed(name: &Name, was: u64, now: Option<u64>) -> Fault
+    requires differs { now ≡ Some was → ⊥ }
+    ensures { (result ≡ Fault.Changed name.now was now) ⊎ (result ≡ Fault.Memory) }
+{
+    match name.try_clone() {
+        Ok(name) => Fault::Changed { name, was, now },
+        Err(_) => Fault::Memory,
+    }
+}
+
+// Opens a file again in which the walk found so many bytes.
+fn open_again<F: Folder>(folder: &mut F, name: &Name, was: u64) -> Result<F::File, Fault>
+    ensures ok { IfOk result (λ file. Opened (F.names folder.old) name.now (F.file_bytes file)) }
+    ensures len { IfOk result (λ file. F.file_len file ≡ was) }
+    ensures told { (m : Files) → F.names folder.old ≡ Some m → option_map length (get m name.now) ≡ Some was → IfErr result IsOutside }
+    ensures late { IfErr result IsLate }
+    ensures differs { Differs result }
+    ensures names { F.names folder.new ≡ F.names folder.old }
+    ensures cause { HasCause Fault.FolderFault (F.faults folder.old) (F.faults folder.new) result }
+    ensures inner { result ≡ Err Fault.OutFault → ⊥ }
+{
+    match folder.open(name) {
+        Ok(file) => {
+            let now = folder.len(&file);
+            if now == was {
+                Ok(file)
+            } else {
+                Err(changed(name, was, Some(now)))
+            }
+        }
+        Err(OpenFault::Absent) => Err(changed(name, was, None)),
+        Err(OpenFault::Failed) => Err(Fault::FolderFault),
+        Err(OpenFault::Memory) => Err(Fault::Memory),
+    }
+}
+
+// The values of these bands in a column and a line of a dataset. Its file is opened again, and is to be as
+// long as the walk found it.
+fn put_pixel<F: Folder, O: Sink>(
+    alloc: Global,
     folder: &mut F,
     out: &mut O,
-    head: &RawHead,
-    file: &mut F::File,
+    cat: &Catalog,
+    id: u32,
+    x: u32,
+    y: u32,
+    bands: &[BandNumber],
+) -> Result<(), Fault>
+    requires known { id < length cat.now }
+    requires valid { IsCatalog cat.now }
+    requires column { (d : Dataset) → slice_get cat.now id ≡ Some d → x < d.head.size.w }
+    requires line { (d : Dataset) → slice_get cat.now id ≡ Some d → y < d.head.size.h }
+    requires bands { (d : Dataset) → slice_get cat.now id ≡ Some d → All (λ band. band ≤ length d.head.bands) bands.now }
+    ensures told { (m : Files) → F.names folder.old ≡ Some m → IsWalked m cat.now → (d : Dataset) → slice_get cat.now id ≡ Some d
+        → PutsText (values_text (λ band. pixel_in m d band x y) bands.now) result (O.got out.old) (O.got out.new) }
+    ensures late { IfErr result IsLate }
+    ensures differs { Differs result }
+    ensures names { F.names folder.new ≡ F.names folder.old }
+    ensures cause { HasCauses (F.faults folder.old) (F.faults folder.new) (O.faults out.old) (O.faults out.new) result }
+{
+    let Some(driver) = cat.driver(id) else {
+        unreachable!()
+    };
+    let mut file = open_again(folder, &cat.head(id).name, cat.length(id))?;
+    let mut samples = Samples::new(alloc, driver)?;
+    put_values(folder, out, &mut samples, &mut file, x, y, bands)
+}
+
+/// Puts the values of these bands of a dataset at a point, a column and a line in pixels, each on a line,
+/// or one empty line where the point is off the raster.
+///
+/// Changed comes only over a folder that doesn't tell its names, where the dataset's file is opened again
+/// and is absent or has another length than the walk found; nothing was put then.
+pub fn put_point<F: Folder, O: Sink>(
+    alloc: Global,
+    folder: &mut F,
+    out: &mut O,
+    cat: &Catalog,
+    id: u32,
     x: Position,
     y: Position,
     bands: &[BandNumber],
 ) -> Result<(), Fault>
-    requires long { needed_of head.now ≤ F.file_len file.old }
-    requires bands { All (λ band. band ≤ head.now.bands) bands.now }
-    ensures told { (b : List ℕ) → F.file_bytes file.old ≡ Some b → PutsText (point_text head.now b x y bands.now) result (O.got out.old) (O.got out.new) }
+    requires known { id < length cat.now }
+    requires valid { IsCatalog cat.now }
+    requires bands { (d : Dataset) → slice_get cat.now id ≡ Some d → All (λ band. band ≤ length d.head.bands) bands.now }
+    ensures told { (m : Files) → F.names folder.old ≡ Some m → IsWalked m cat.now → (d : Dataset) → slice_get cat.now id ≡ Some d
+        → PutsText (point_text d.head.size (pixel_in m d) x y bands.now) result (O.got out.old) (O.got out.new) }
+    ensures late { IfErr result IsLate }
+    ensures differs { Differs result }
     ensures names { F.names folder.new ≡ F.names folder.old }
     ensures cause { HasCauses (F.faults folder.old) (F.faults folder.new) (O.faults out.old) (O.faults out.new) result }
-    ensures outside { IfErr result IsOutside }
 {
-    match (place_within(head.size.w, x), place_within(head.size.h, y)) {
-        (Some(x), Some(y)) => put_values(folder, out, head, file, x, y, bands),
+    let size = cat.head(id).size;
+    match (place_within(size.w, x), place_within(size.h, y)) {
+        (Some(x), Some(y)) => put_pixel(alloc, folder, out, cat, id, x, y, bands),
         (Some(_), None) | (None, _) => match out.put(b"\n") {
             Ok(()) => Ok(()),
             Err(Failed) => Err(Fault::OutFault),

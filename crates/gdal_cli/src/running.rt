@@ -3,7 +3,7 @@ ghost use Rattle.std.specs.Prelude.{◌≡◌, ◌≤◌, ◌⊎◌, ℕ, List, 
 ghost use Rattle.outside.specs.Outside.{Files};
 ghost use Rattle.outside.specs.Causes.{Rose};
 ghost use Rattle.outside.specs.Streams.{Gets, GetsPart};
-ghost use Rattle.gdal_cli.specs.Faults.{HasCauses, IsOutside, status_of};
+ghost use Rattle.gdal_cli.specs.Faults.{HasCauses, HasChanged, IsOutside, status_of};
 ghost use Rattle.gdal_cli.specs.Texts.{line_of};
 ghost use Rattle.gdal_cli.specs.Words.{words_of};
 ghost use Rattle.gdal_cli.specs.Run.{Ran, ran_of, run_of, printed_in, Ends, Answers, EndsEarly, Says, RefusesWords, RefusesDataset, ended};
@@ -29,6 +29,7 @@ fn perform<F: Folder, O: Sink>(
     ensures cause { HasCauses (F.faults folder.old) (F.faults folder.new) (O.faults out.old) (O.faults out.new) result }
     ensures usage { RefusesWords (words_of (map string_bytes words.now)) (ended result) }
     ensures unknown { RefusesDataset (words_of (map string_bytes words.now)) (ended result) }
+    ensures changed { HasChanged (F.names folder.old) (ended result) }
 {
     let command = read_words(alloc, words)?;
     put_job(alloc, folder, out, command)
@@ -51,9 +52,10 @@ fn status(fault: &Option<Fault>) -> u8
             | Fault::NotRecognized { .. }
             | Fault::Malformed { .. }
             | Fault::Short { .. }
+            | Fault::Limit { .. }
             | Fault::Plan(_),
         ) => 1,
-        Some(Fault::FolderFault | Fault::OutFault) => 2,
+        Some(Fault::Changed { .. } | Fault::FolderFault | Fault::OutFault) => 2,
         Some(Fault::Memory) => 3,
     }
 }
@@ -109,6 +111,9 @@ pub fn run<R: Threads + Sync, F: Folder, I: Input, O: Sink, E: Sink>(
     ensures status { result.status ≡ status_of result.fault }
     ensures folder_fault { result.fault ≡ Some Fault.FolderFault → Rose (F.faults folder.old) (F.faults folder.new) }
     ensures out_fault { result.fault ≡ Some Fault.OutFault → Rose (O.faults out.old) (O.faults out.new) }
+
+    // A changed length comes only over a folder that doesn't tell its names, and is another length.
+    ensures changed { HasChanged (F.names folder.old) result.fault }
 
     // No count of failed calls falls.
     ensures folder_later { F.faults folder.old ≤ F.faults folder.new }

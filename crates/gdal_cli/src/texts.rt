@@ -1,12 +1,13 @@
 // The lines of values and of faults.
-ghost use Rattle.std.specs.Prelude.{◌≡◌, ◌++◌, [], ◌∷◌, decimal, ℤ, OnOk, OnErr};
+ghost use Rattle.std.specs.Prelude.{◌≡◌, ◌++◌, [], ◌∷◌, codes, decimal, ℤ, None, Some, OnOk, OnErr};
 ghost use Rattle.outside.specs.Streams.{Gets, GetsPart};
 ghost use Rattle.outside.specs.Causes.{FailsWith};
 ghost use Rattle.lists_and_answers.specs.Texts.{text};
-ghost use Rattle.gdal_cli.specs.Texts.{value_line, form_line, bad_line, plan_line, error_line};
+ghost use Rattle.gdal_cli.specs.Texts.{value_line, form_line, place_of, bad_line, limit_word, plan_line, error_line};
 
 use crate::Fault;
-use catalog::Bad;
+use catalog::{Bad, LimitKind};
+use dted_records::DtedFault;
 use geotransform::{PlanFault, Sample};
 use itoa::Buffer;
 use outside::{Failed, Name, Sink, put_all};
@@ -57,8 +58,8 @@ fn put_short<S: Sink>(sink: &mut S, name: &Name, needed: u64, has: u64) -> Resul
 
 // The line of a file that isn't of its form, from the word for the form and the number of its fault.
 fn put_form<S: Sink>(sink: &mut S, name: &Name, form: &[u8], number: u64) -> Result<(), Failed>
-    ensures ok { OnOk result (Gets (form_line name.now form.now number) (S.got sink.old) (S.got sink.new)) }
-    ensures err { OnErr result (GetsPart (form_line name.now form.now number) (S.got sink.old) (S.got sink.new)) }
+    ensures ok { OnOk result (Gets (form_line name.now form.now number None) (S.got sink.old) (S.got sink.new)) }
+    ensures err { OnErr result (GetsPart (form_line name.now form.now number None) (S.got sink.old) (S.got sink.new)) }
     ensures cause { FailsWith (S.faults sink.old) (S.faults sink.new) result }
 {
     let mut buffer = Buffer::new();
@@ -78,6 +79,62 @@ fn put_form<S: Sink>(sink: &mut S, name: &Name, form: &[u8], number: u64) -> Res
     )
 }
 
+// The same of a fault that has a place.
+fn put_form_at<S: Sink>(
+    sink: &mut S,
+    name: &Name,
+    form: &[u8],
+    number: u64,
+    place: u64,
+) -> Result<(), Failed>
+    ensures ok { OnOk result (Gets (form_line name.now form.now number (Some place)) (S.got sink.old) (S.got sink.new)) }
+    ensures err { OnErr result (GetsPart (form_line name.now form.now number (Some place)) (S.got sink.old) (S.got sink.new)) }
+    ensures cause { FailsWith (S.faults sink.old) (S.faults sink.new) result }
+{
+    let mut first = Buffer::new();
+    let mut second = Buffer::new();
+    let number = first.format(number).as_bytes();
+    let place = second.format(place).as_bytes();
+    let name = name.as_str().as_bytes();
+    put_all(
+        sink,
+        &[
+            b"ERROR 4: ",
+            name,
+            b": malformed ",
+            form,
+            b" (",
+            number,
+            b") at ",
+            place,
+            b"\n",
+        ],
+    )
+}
+
+// The line of a cell, from the west, that a fault speaks of.
+fn place_of(fault: DtedFault) -> Option<u32>
+    ensures { result ≡ place_of fault }
+{
+    match fault {
+        DtedFault::NotDted | DtedFault::BadField | DtedFault::Short => None,
+        DtedFault::BadRecord(line) => Some(line),
+    }
+}
+
+// The line of a cell that isn't of its form.
+fn put_dted<S: Sink>(sink: &mut S, name: &Name, fault: DtedFault) -> Result<(), Failed>
+    ensures ok { OnOk result (Gets (bad_line name.now (Bad.Dted fault)) (S.got sink.old) (S.got sink.new)) }
+    ensures err { OnErr result (GetsPart (bad_line name.now (Bad.Dted fault)) (S.got sink.old) (S.got sink.new)) }
+    ensures cause { FailsWith (S.faults sink.old) (S.faults sink.new) result }
+{
+    let number = u64::from(fault.number());
+    match place_of(fault) {
+        None => put_form(sink, name, b"dted", number),
+        Some(line) => put_form_at(sink, name, b"dted", number, u64::from(line)),
+    }
+}
+
 fn put_malformed<S: Sink>(sink: &mut S, name: &Name, bad: Bad) -> Result<(), Failed>
     ensures ok { OnOk result (Gets (bad_line name.now bad) (S.got sink.old) (S.got sink.new)) }
     ensures err { OnErr result (GetsPart (bad_line name.now bad) (S.got sink.old) (S.got sink.new)) }
@@ -85,7 +142,83 @@ fn put_malformed<S: Sink>(sink: &mut S, name: &Name, bad: Bad) -> Result<(), Fai
 {
     match bad {
         Bad::Hdr(fault) => put_form(sink, name, b"hdr", u64::from(fault.number())),
+        Bad::Dted(fault) => put_dted(sink, name, fault),
+        Bad::Hgt(fault) => put_form(sink, name, b"hgt", u64::from(fault.number())),
         Bad::List => put_form(sink, name, b"list", 1),
+    }
+}
+
+fn limit_word(what: LimitKind) -> &'static [u8]
+    ensures { result.now ≡ limit_word what }
+{
+    match what {
+        LimitKind::Name => b"name",
+        LimitKind::Files => b"files",
+        LimitKind::Sources => b"sources",
+        LimitKind::List => b"list",
+        LimitKind::Points => b"points",
+    }
+}
+
+fn put_limit<S: Sink>(sink: &mut S, what: LimitKind, value: u64) -> Result<(), Failed>
+    ensures ok { OnOk result (Gets (error_line (Fault.Limit what value)) (S.got sink.old) (S.got sink.new)) }
+    ensures err { OnErr result (GetsPart (error_line (Fault.Limit what value)) (S.got sink.old) (S.got sink.new)) }
+    ensures cause { FailsWith (S.faults sink.old) (S.faults sink.new) result }
+{
+    let mut buffer = Buffer::new();
+    let value = buffer.format(value).as_bytes();
+    put_all(
+        sink,
+        &[
+            b"ERROR 6: limit of ",
+            limit_word(what),
+            b" passed (",
+            value,
+            b")\n",
+        ],
+    )
+}
+
+// The line of a file whose length changed, from the text of the new length.
+fn put_change<S: Sink>(sink: &mut S, name: &Name, was: u64, now: &[u8]) -> Result<(), Failed>
+    ensures ok { OnOk result (Gets (text (codes "ERROR 3: " ∷ name.now ∷ codes ": length changed from " ∷ decimal was ∷ codes " to " ∷ now.now ∷ codes "\n" ∷ [])) (S.got sink.old) (S.got sink.new)) }
+    ensures err { OnErr result (GetsPart (text (codes "ERROR 3: " ∷ name.now ∷ codes ": length changed from " ∷ decimal was ∷ codes " to " ∷ now.now ∷ codes "\n" ∷ [])) (S.got sink.old) (S.got sink.new)) }
+    ensures cause { FailsWith (S.faults sink.old) (S.faults sink.new) result }
+{
+    let mut buffer = Buffer::new();
+    let was = buffer.format(was).as_bytes();
+    let name = name.as_str().as_bytes();
+    put_all(
+        sink,
+        &[
+            b"ERROR 3: ",
+            name,
+            b": length changed from ",
+            was,
+            b" to ",
+            now,
+            b"\n",
+        ],
+    )
+}
+
+fn put_changed<S: Sink>(
+    sink: &mut S,
+    name: &Name,
+    was: u64,
+    now: Option<u64>,
+) -> Result<(), Failed>
+    ensures ok { OnOk result (Gets (error_line (Fault.Changed name.now was now)) (S.got sink.old) (S.got sink.new)) }
+    ensures err { OnErr result (GetsPart (error_line (Fault.Changed name.now was now)) (S.got sink.old) (S.got sink.new)) }
+    ensures cause { FailsWith (S.faults sink.old) (S.faults sink.new) result }
+{
+    match now {
+        None => put_change(sink, name, was, b"none"),
+        Some(len) => {
+            let mut buffer = Buffer::new();
+            let digits = buffer.format(len).as_bytes();
+            put_change(sink, name, was, digits)
+        }
     }
 }
 
@@ -133,7 +266,9 @@ pub fn put_fault<S: Sink>(err: &mut S, fault: &Fault) -> Result<(), Failed>
         ),
         Fault::Malformed { name, bad } => put_malformed(err, name, *bad),
         Fault::Short { name, needed, has } => put_short(err, name, *needed, *has),
+        Fault::Limit { what, value } => put_limit(err, *what, *value),
         Fault::Plan(fault) => put_plan(err, *fault),
+        Fault::Changed { name, was, now } => put_changed(err, name, *was, *now),
         Fault::FolderFault => err.put(b"ERROR 3: a file call failed\n"),
         Fault::OutFault => err.put(b"ERROR 3: writing the output failed\n"),
         Fault::Memory => err.put(b"ERROR 2: out of memory\n"),

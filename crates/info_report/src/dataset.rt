@@ -16,6 +16,8 @@ fn driver_of(kind: Kind) -> &'static str
 {
     match kind {
         Kind::Raw => "EHdr",
+        Kind::Dted => "DTED",
+        Kind::Hgt => "SRTMHGT",
     }
 }
 

@@ -54,3 +54,15 @@ returns-in-Plan-clause-ok g c = rw c.in-Plan.is c.put_plan.ensures.ok
 
 pub returns-in-Plan-clause-err : goal.returns-in-Plan-clause-err
 returns-in-Plan-clause-err g c = rw c.in-Plan.is c.put_plan.ensures.err
+
+pub returns-in-Limit-clause-ok : goal.returns-in-Limit-clause-ok
+returns-in-Limit-clause-ok g c = rw c.in-Limit.is c.put_limit.ensures.ok
+
+pub returns-in-Limit-clause-err : goal.returns-in-Limit-clause-err
+returns-in-Limit-clause-err g c = rw c.in-Limit.is c.put_limit.ensures.err
+
+pub returns-in-Changed-clause-ok : goal.returns-in-Changed-clause-ok
+returns-in-Changed-clause-ok g c = rw c.in-Changed.is c.put_changed.ensures.ok
+
+pub returns-in-Changed-clause-err : goal.returns-in-Changed-clause-err
+returns-in-Changed-clause-err g c = rw c.in-Changed.is c.put_changed.ensures.err

@@ -8,3 +8,15 @@ returns-in-Hdr-clause-err g c = rw c.in-Hdr.is (rw (c.from.ensures, c.number.ens
 
 pub returns-in-List-clause-ok : goal.returns-in-List-clause-ok
 returns-in-List-clause-ok g c = rw c.in-List.is c.put_form-in-List.ensures.ok
+
+pub returns-in-Dted-clause-ok : goal.returns-in-Dted-clause-ok
+returns-in-Dted-clause-ok g c = rw c.in-Dted.is c.put_dted.ensures.ok
+
+pub returns-in-Dted-clause-err : goal.returns-in-Dted-clause-err
+returns-in-Dted-clause-err g c = rw c.in-Dted.is c.put_dted.ensures.err
+
+pub returns-in-Hgt-clause-ok : goal.returns-in-Hgt-clause-ok
+returns-in-Hgt-clause-ok g c = rw c.in-Hgt.is (rw (c.from-in-Hgt.ensures, c.number-in-Hgt.ensures.number) at c.put_form-in-Hgt.ensures.ok)
+
+pub returns-in-Hgt-clause-err : goal.returns-in-Hgt-clause-err
+returns-in-Hgt-clause-err g c = rw c.in-Hgt.is (rw (c.from-in-Hgt.ensures, c.number-in-Hgt.ensures.number) at c.put_form-in-Hgt.ensures.err)
