@@ -5,7 +5,7 @@ use Rattle.hgt_tiles.specs.Names.{Place, corner_of}
 use Rattle.hgt_tiles.specs.Places.{IsSide, side_of_length}
 use Rattle.catalog.specs.declared.kind.Kind.{Kind}
 use Rattle.catalog.specs.declared.driver.DriverHead.{DriverHead}
-use Rattle.catalog.specs.declared.driver.DriverHead.TheVariants.{Raw, Dted, Hgt}
+use Rattle.catalog.specs.declared.driver.DriverHead.TheVariants.{Raw, Dted, Hgt, Ascii}
 use Rattle.catalog.specs.Dataset.{DatasetHead, IsDatasetHead}
 use Rattle.catalog.specs.Drivers.{driver_kind, head_told, Fits}
 use Rattle.catalog.specs.Heads.{kind_in}
@@ -23,11 +23,13 @@ told_name : (name : List ℕ) (driver : DriverHead) → (head_told name driver).
 told_name name (Raw h) = refl
 told_name name (Dted h) = refl
 told_name name (Hgt side) = refl
+told_name name (Ascii h) = refl
 
 told_kind : (name : List ℕ) (driver : DriverHead) → (head_told name driver).kind ≡ driver_kind driver
 told_kind name (Raw h) = refl
 told_kind name (Dted h) = refl
 told_kind name (Hgt side) = refl
+told_kind name (Ascii h) = refl
 
 -- a dataset by what was found of its files
 pub is_dataset : (name : List ℕ) (kind : Kind) (head : DatasetHead) (driver : DriverHead) (len : ℕ) → kind_in name ≡ Ok kind → driver_kind driver ≡ kind → head ≡ head_told name driver → IsDatasetHead head → Fits name driver len

@@ -5,5 +5,6 @@ mod Examples
 pub mod Headers
 pub mod Numbers
 pub mod Records
+pub mod Scans
 pub mod Walked
 pub mod Whole

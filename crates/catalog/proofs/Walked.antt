@@ -50,6 +50,7 @@ found_unverified : (kind : Kind) (m : Files) (verify : Bool) (name : List ℕ) (
 found_unverified kinds.Raw m verify name f is = is
 found_unverified kinds.Dted m verify name f is = dted_unverified m verify name f is
 found_unverified kinds.Hgt m verify name f is = is
+found_unverified kinds.Ascii m verify name f is = is
 
 of_found : (x y : Result Found WalkFault) (name : List ℕ) (d : Dataset) → ((f : Found) → x ≡ Ok f → y ≡ Ok f) → (x >>= λ f. Ok (dataset_of name f)) ≡ Ok d → (y >>= λ f. Ok (dataset_of name f)) ≡ Ok d
 of_found (Ok f) y name d h is = ap (λ r. r >>= λ f. Ok (dataset_of name f)) (h f refl) ∙ is

@@ -33,6 +33,7 @@ abbrev pub block_of : Kind → Size → Size
 block_of kinds.Raw size = record { w = size.w; h = 1 }
 block_of kinds.Dted size = record { w = 1; h = size.h }
 block_of kinds.Hgt size = record { w = size.w; h = 1 }
+block_of kinds.Ascii size = record { w = size.w; h = 1 }
 
 -- a band has the blocks of its dataset, and a NODATA of its own type
 pub record IsBandHead (kind : Kind) (size : Size) (band : BandHead) : Type 0 where

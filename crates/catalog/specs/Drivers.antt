@@ -2,7 +2,7 @@
 use Rattle.std.specs.Prelude.{ℕ, ℤ, ◌≡◌, ◌≤◌, List, [], ◌∷◌, length, replicate, true, Option, Some, None, option_map, pos, negsuc}
 use Rattle.geotransform.specs.declared.types.Size.{Size}
 use Rattle.geotransform.specs.Geo.{Transform}
-use Rattle.geotransform.specs.declared.types.PixelType.TheVariants.{Int16}
+use Rattle.geotransform.specs.declared.types.PixelType.TheVariants.{Int16, Int32}
 use Rattle.outside.specs.Names.{last_part, header_of, extension_of, is_raw}
 use Rattle.esri_hdr.specs.Head.{Head, IsHead, geotransform_of}
 use Rattle.interleaved_raw.specs.Raw as raw
@@ -10,12 +10,13 @@ use Rattle.dted_records.specs.Head as dted
 use Rattle.dted_records.specs.Places as dted_places
 use Rattle.hgt_tiles.specs.Names as hgt_names
 use Rattle.hgt_tiles.specs.Places as hgt_places
+use Rattle.ascii_grid.specs.Grid as ascii
 use Rattle.catalog.specs.declared.kind.BandHead.{BandHead}
 use Rattle.catalog.specs.declared.kind.Kind.{Kind}
 use Rattle.catalog.specs.declared.kind.Kind.TheVariants as kinds
 use Rattle.catalog.specs.declared.driver.Found.{Found}
 use Rattle.catalog.specs.declared.driver.DriverHead.{DriverHead}
-use Rattle.catalog.specs.declared.driver.DriverHead.TheVariants.{Raw, Dted, Hgt}
+use Rattle.catalog.specs.declared.driver.DriverHead.TheVariants.{Raw, Dted, Hgt, Ascii}
 use Rattle.catalog.specs.Dataset.{DatasetHead, block_of}
 
 -- a band of raw data
@@ -62,29 +63,41 @@ tile_place name side = option_map (λ p. hgt_places.tile_transform p side) (hgt_
 abbrev pub hgt_head : List ℕ → ℕ → DatasetHead
 hgt_head name side = record { name = name; kind = kinds.Hgt; size = tile_size side; geo = tile_place name side; srs = None; bands = hgt_band side ∷ []; files = name ∷ [] }
 
+-- the band of a grid
+abbrev pub ascii_band : ascii.Head → BandHead
+ascii_band h = record { kind = Int32; nodata = h.nodata; block = block_of kinds.Ascii h.size }
+
+-- what the head of a grid under a name says of the dataset
+abbrev pub ascii_head : List ℕ → ascii.Head → DatasetHead
+ascii_head name h = record { name = name; kind = kinds.Ascii; size = h.size; geo = Some h.geo; srs = None; bands = ascii_band h ∷ []; files = name ∷ [] }
+
 -- what the head of the file under a name says of the dataset
 abbrev pub head_told : List ℕ → DriverHead → DatasetHead
 head_told name (Raw h) = raw_head name h
 head_told name (Dted h) = dted_head name h
 head_told name (Hgt side) = hgt_head name side
+head_told name (Ascii h) = ascii_head name h
 
 -- the kind of the head of a file
 abbrev pub driver_kind : DriverHead → Kind
 driver_kind (Raw h) = kinds.Raw
 driver_kind (Dted h) = kinds.Dted
 driver_kind (Hgt side) = kinds.Hgt
+driver_kind (Ascii h) = kinds.Ascii
 
 -- the name is one of the kind of the head of its data, which keeps its rules
 abbrev pub IsOfKind : List ℕ → DriverHead → Type 0
 IsOfKind name (Raw h) = IsHead h × (is_raw (extension_of name) ≡ true)
 IsOfKind name (Dted h) = dted.IsHead h
 IsOfKind name (Hgt side) = ((p : hgt_names.Place) × (hgt_names.corner_of (last_part name) ≡ Some p)) × hgt_places.IsSide side
+IsOfKind name (Ascii h) = ascii.IsHead h
 
--- a file has as many bytes as the head of its data asks
+-- a file has as many bytes as the head of its data asks, and the rows of a grid stand in it one behind the other
 abbrev pub IsLongEnough : DriverHead → ℕ → Type 0
 IsLongEnough (Raw h) len = raw.needed_of h ≤ len
 IsLongEnough (Dted h) len = dted_places.needed_of h ≤ len
 IsLongEnough (Hgt side) len = hgt_places.side_of_length len ≡ Some side
+IsLongEnough (Ascii h) len = ascii.AreRising 0 len h.rows
 
 -- the name and the length of a file are those that the head of its data asks
 pub record Fits (name : List ℕ) (driver : DriverHead) (len : ℕ) : Type 0 where

@@ -19,6 +19,7 @@ use Rattle.hgt_tiles.specs.declared.corner.HgtFault.{HgtFault}
 use Rattle.hgt_tiles.specs.declared.corner.HgtFault.TheVariants.{BadName, BadLength}
 use Rattle.hgt_tiles.specs.Names as hgt_names
 use Rattle.hgt_tiles.specs.Places as hgt_places
+use Rattle.ascii_grid.specs.Grid as ascii
 use Rattle.catalog.specs.Dataset.{DatasetHead}
 use Rattle.catalog.specs.Drivers.{Dataset, dataset_of}
 use Rattle.catalog.specs.declared.driver.Found.{Found}
@@ -42,8 +43,8 @@ kind_of Dt0 = Some kinds.Dted
 kind_of Dt1 = Some kinds.Dted
 kind_of Dt2 = Some kinds.Dted
 kind_of Hgt = Some kinds.Hgt
-kind_of Asc = None
-kind_of Grd = None
+kind_of Asc = Some kinds.Ascii
+kind_of Grd = Some kinds.Ascii
 kind_of Vrt = None
 
 -- the kind that the extension of a name tells
@@ -114,11 +115,23 @@ hgt_in m name = do
   side ← ok_or (hgt_places.side_of_length (length bytes)) (Malformed name (bad.Hgt BadLength))
   Ok (record { driver = drivers.Hgt side; length = length bytes })
 
+-- the head of the grid whose bytes stand under a name
+abbrev pub grid_in : List ℕ → List ℕ → Result ascii.Head WalkFault
+grid_in bytes name = named (λ f. Malformed name (bad.Grid f)) (ascii.grid_head bytes)
+
+-- what is found of the grid under a name
+unfoldable pub ascii_in : Files → List ℕ → Result Found WalkFault
+ascii_in m name = do
+  bytes ← file_in m name
+  head ← grid_in bytes name
+  Ok (record { driver = drivers.Ascii head; length = length bytes })
+
 -- what is found of the files of a dataset of this kind
 abbrev pub found_in : Kind → Files → Bool → List ℕ → Result Found WalkFault
 found_in kinds.Raw m verify name = raw_in m name
 found_in kinds.Dted m verify name = dted_in m verify name
 found_in kinds.Hgt m verify name = hgt_in m name
+found_in kinds.Ascii m verify name = ascii_in m name
 
 -- the dataset of a name whose kind is known
 unfoldable pub dataset_by : Kind → Files → Bool → List ℕ → Result Dataset WalkFault

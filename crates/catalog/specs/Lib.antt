@@ -3,4 +3,5 @@ pub mod Drivers
 pub mod Heads
 pub mod Outcomes
 pub mod Pixels
+pub mod Scanned
 pub mod Walk

@@ -12,6 +12,7 @@ ghost use Rattle.catalog.specs.Walk.{number_from, number_of, first_met, walked, 
 use crate::dataset::Dataset;
 use crate::driver::Found;
 use crate::dted::find_cell;
+use crate::grid::find_grid;
 use crate::heads::head_told;
 use crate::hgt::find_tile;
 use crate::kind::kind_of;
@@ -46,6 +47,7 @@ fn find<F: Folder>(
         Kind::Raw => find_raw(alloc, folder, name),
         Kind::Dted => find_cell(alloc, folder, name, verify),
         Kind::Hgt => find_tile(folder, name),
+        Kind::Ascii => find_grid(alloc, folder, name),
     }
 }
 
@@ -84,10 +86,10 @@ fn read_dataset<F: Folder>(
 /// a fault, Short where the data are shorter than the header asks. For a DTED cell (MIL-PRF-89020B)
 /// Malformed comes where its head has a fault, Short where it is shorter than its head asks, Malformed
 /// with the first line from the west whose record has a wrong mark or sum where `verify` asks for it.
-/// For a tile Malformed comes where the name, and then the length, isn't that of a tile. The checks are
-/// made in this order, and the first refusal counts. FolderFault comes only where the folder's count
-/// rose, Memory freely. It takes memory for the header or the front of the cell, for one record, and
-/// for the head.
+/// For a tile Malformed comes where the name, and then the length, isn't that of a tile; for a grid where
+/// the scan of it, from the first byte to the last, has a fault. The checks are made in this order, and the first refusal counts. FolderFault comes only where the folder's count
+/// rose, Memory freely. It takes memory for the header or the front of the cell, for one record or
+/// piece of 65,536 bytes, and for the head.
 #[tactic(auto, using(crate::proofs::Headers::outside_fails), unfolding(crate::specs::Heads::head_in, crate::specs::Heads::dataset_in))]
 pub fn head_of<F: Folder>(
     alloc: Global,

@@ -1,9 +1,10 @@
 // What the head of a file says of its samples.
+use ascii_grid::GridHead;
 use dted_records::DtedHead;
 use esri_hdr::RawHead;
 
 /// The head of a file that isn't a mosaic, from which its samples are read.
-#[derive(Clone, Copy)]
+#[derive(Drop)]
 pub enum DriverHead {
     /// The header beside raw data.
     Raw(RawHead),
@@ -11,11 +12,13 @@ pub enum DriverHead {
     Dted(DtedHead),
     /// An SRTM tile of so many columns, and lines.
     Hgt { side: u32 },
+    /// The head of an ASCII grid, with the place of each of its rows.
+    Ascii(GridHead),
 }
 
 // What is found in the files of a dataset: the head of its data, and the length in bytes of the file
 // that has its name.
-#[derive(Clone, Copy)]
+#[derive(Drop)]
 pub struct Found {
     pub driver: DriverHead,
     pub length: u64,

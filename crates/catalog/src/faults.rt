@@ -2,6 +2,7 @@
 ghost use Rattle.std.specs.Prelude.{◌≡◌};
 ghost use Rattle.catalog.specs.declared.faults.WalkFault.TheVariants as walk_fault;
 
+use ascii_grid::GridFault;
 use dted_records::DtedFault;
 use esri_hdr::HdrFault;
 use hgt_tiles::HgtFault;
@@ -17,6 +18,8 @@ pub enum Bad {
     Dted(DtedFault),
     /// The name or the length isn't that of a tile.
     Hgt(HgtFault),
+    /// The grid has this fault, which isn't want of memory.
+    Grid(GridFault),
     /// The list of input files isn't UTF-8.
     List,
 }

@@ -4,10 +4,11 @@ ghost use Rattle.outside.specs.Names.{extension_of, is_raw, header_of};
 ghost use Rattle.catalog.specs.Outcomes.{IsMemory};
 ghost use Rattle.catalog.specs.Dataset.{IsDatasetHead};
 ghost use Rattle.hgt_tiles.specs.Places.{IsSide};
-ghost use Rattle.catalog.specs.Drivers.{raw_band, raw_head, dted_band, dted_head, hgt_band, hgt_head, tile_place, head_told, IsOfKind};
+ghost use Rattle.catalog.specs.Drivers.{raw_band, raw_head, dted_band, dted_head, hgt_band, hgt_head, tile_place, ascii_band, ascii_head, head_told, IsOfKind};
 
 use crate::raw::header_name;
 use crate::{BandHead, Bands, DriverHead, Head, Kind, WalkFault};
+use ascii_grid::GridHead;
 use dted_records::DtedHead;
 use esri_hdr::RawHead;
 use geotransform::{GeoTransform, PixelType, Sample, Size};
@@ -22,6 +23,13 @@ const NULL_ELEVATION: Sample = -32_767;
 /// The NODATA of a tile.
 const VOID_SAMPLE: Sample = -32_768;
 
+// A block of one line of so many columns.
+fn one_line(w: u32) -> Size
+    ensures { result ≡ record { w = w; h = 1 } }
+{
+    Size { w, h: 1 }
+}
+
 // A band of raw data.
 fn raw_band(head: &RawHead) -> BandHead
     ensures { result ≡ raw_band head.now }
@@ -29,10 +37,7 @@ fn raw_band(head: &RawHead) -> BandHead
     BandHead {
         kind: head.kind,
         nodata: head.nodata,
-        block: Size {
-            w: head.size.w,
-            h: 1,
-        },
+        block: one_line(head.size.w),
     }
 }
 
@@ -141,7 +146,7 @@ fn hgt_band(side: u32) -> BandHead
     BandHead {
         kind: PixelType::Int16,
         nodata: Some(VOID_SAMPLE),
-        block: Size { w: side, h: 1 },
+        block: one_line(side),
     }
 }
 
@@ -174,6 +179,36 @@ fn hgt_head(alloc: Global, name: &Name, side: u32) -> Result<Head, AllocError>
     })
 }
 
+// The band of a grid.
+fn ascii_band(head: &GridHead) -> BandHead
+    ensures { result ≡ ascii_band head.now }
+{
+    let nodata = head.nodata;
+    BandHead {
+        kind: PixelType::Int32,
+        nodata,
+        block: one_line(head.size.w),
+    }
+}
+
+// What the head of a grid says of the dataset.
+fn ascii_head(alloc: Global, name: &Name, head: &GridHead) -> Result<Head, AllocError>
+    ensures { IfOk result (λ h. h ≡ ascii_head name.now head.now) }
+{
+    let files = one_file(alloc, name)?;
+    let bands = one_band(alloc, ascii_band(head))?;
+    let name = name.try_clone()?;
+    Ok(Head {
+        name,
+        kind: Kind::Ascii,
+        size: head.size,
+        geo: Some(head.geo),
+        srs: None,
+        bands,
+        files,
+    })
+}
+
 // What the head of a file says of the dataset of its name.
 pub fn head_told(alloc: Global, name: &Name, driver: &DriverHead) -> Result<Head, WalkFault>
     requires kind { IsOfKind name.now driver.now }
@@ -185,5 +220,6 @@ pub fn head_told(alloc: Global, name: &Name, driver: &DriverHead) -> Result<Head
         DriverHead::Raw(head) => raw_head(alloc, name, head),
         DriverHead::Dted(head) => Ok(dted_head(alloc, name, head)?),
         DriverHead::Hgt { side } => Ok(hgt_head(alloc, name, *side)?),
+        DriverHead::Ascii(head) => Ok(ascii_head(alloc, name, head)?),
     }
 }

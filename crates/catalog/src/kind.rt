@@ -18,6 +18,8 @@ pub enum Kind {
     Dted,
     /// An SRTM tile.
     Hgt,
+    /// An Arc/Info ASCII grid.
+    Ascii,
 }
 
 /// A band: the type of its samples, its NODATA if it has one, and the size of its blocks in pixels.
@@ -40,7 +42,8 @@ pub fn kind_of(name: &Name) -> Result<Kind, WalkFault>
         Some(Ext::Bil | Ext::Bip | Ext::Bsq) => Ok(Kind::Raw),
         Some(Ext::Dt0 | Ext::Dt1 | Ext::Dt2) => Ok(Kind::Dted),
         Some(Ext::Hgt) => Ok(Kind::Hgt),
-        Some(Ext::Asc | Ext::Grd | Ext::Vrt) | None => Err(WalkFault::NotRecognized {
+        Some(Ext::Asc | Ext::Grd) => Ok(Kind::Ascii),
+        Some(Ext::Vrt) | None => Err(WalkFault::NotRecognized {
             name: name.try_clone()?,
         }),
     }

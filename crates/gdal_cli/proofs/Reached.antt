@@ -11,7 +11,7 @@ use Rattle.catalog.specs.declared.kind.Kind.{Kind}
 use Rattle.catalog.specs.declared.kind.Kind.TheVariants as kinds
 use Rattle.catalog.specs.declared.driver.Found.{Found}
 use Rattle.catalog.specs.declared.driver.DriverHead.{DriverHead}
-use Rattle.catalog.specs.declared.driver.DriverHead.TheVariants.{Raw, Dted, Hgt}
+use Rattle.catalog.specs.declared.driver.DriverHead.TheVariants.{Raw, Dted, Hgt, Ascii}
 use Rattle.catalog.specs.declared.faults.WalkFault.{WalkFault}
 use Rattle.catalog.specs.declared.faults.WalkFault.TheVariants as walk
 use Rattle.catalog.specs.Dataset.{DatasetHead}
@@ -22,13 +22,15 @@ use Rattle.interleaved_raw.specs.Raw.{needed_of}
 use Rattle.hgt_tiles.specs.declared.corner.HgtFault.TheVariants.{BadName, BadLength}
 use Rattle.hgt_tiles.specs.Names.{corner_of}
 use Rattle.hgt_tiles.specs.Places.{side_of_length}
-use Rattle.catalog.specs.Heads.{kind_in, file_in, header_in, long_enough, cell_in, found_in, raw_in, dted_in, hgt_in, dataset_by, dataset_in}
+use Rattle.ascii_grid.specs.declared.faults.GridFault.{GridFault}
+use Rattle.ascii_grid.specs.Grid as ascii
+use Rattle.catalog.specs.Heads.{named, kind_in, file_in, header_in, long_enough, cell_in, found_in, raw_in, dted_in, hgt_in, grid_in, ascii_in, dataset_by, dataset_in}
 use Rattle.catalog.specs.Walk.{number_from, number_of, IsCatalog, IsDataset, IsWalked}
 use Rattle.catalog.specs.Pixels.{sample_in, pixel_in}
 use Rattle.catalog.proofs.Walked.{dataset_kept, dataset_walked}
 use Rattle.gdal_cli.specs.declared.faults.Fault.{Fault}
 use Rattle.gdal_cli.specs.Location.{values_text, PutsText}
-use Rattle.gdal_cli.specs.Samples.{size_in, bands_in}
+use Rattle.gdal_cli.specs.Samples.{size_in, bands_in, IsHeadOf}
 
 -- the dataset of a number
 pub there : (cat : List Dataset) (id : ℕ) → id < length cat → (d : Dataset) × (slice_get cat id ≡ Some d)
@@ -50,11 +52,13 @@ told_size : (name : List ℕ) (s : DriverHead) → (head_told name s).size ≡ s
 told_size name (Raw h) = refl
 told_size name (Dted h) = refl
 told_size name (Hgt side) = refl
+told_size name (Ascii h) = refl
 
 told_bands : (name : List ℕ) (s : DriverHead) → length (head_told name s).bands ≡ bands_in s
 told_bands name (Raw h) = length-replicate _ _
 told_bands name (Dted h) = refl
 told_bands name (Hgt side) = refl
+told_bands name (Ascii h) = refl
 
 size_of : (cat : List Dataset) (id : ℕ) (d : Dataset) (s : DriverHead) → IsCatalog cat → slice_get cat id ≡ Some d → option_map (λ (d : Dataset). d.driver) (slice_get cat id) ≡ Some s → d.head.size ≡ size_in s
 size_of cat id d s is at driver = ap (λ h. h.size) (dataset_kept cat id d is at).head ∙ told_size d.head.name d.driver ∙ ap size_in (told_of (λ (d : Dataset). d.driver) cat id d s at driver)
@@ -130,10 +134,18 @@ hgt_length m name f is =
     let side = parts (ok_or (side_of_length (length file.0)) (walk.Malformed name (bad.Hgt BadLength))) _ f file.2 in
     bytes_there m name file.0 file.1 ∙ ap (λ (g : Found). Some g.length) (ok_same side.2)
 
+ascii_length : (m : Files) (name : List ℕ) (f : Found) → ascii_in m name ≡ Ok f → option_map length (get m name) ≡ Some f.length
+unfolding ascii_in
+ascii_length m name f is =
+    let file = parts (file_in m name) _ f is in
+    let head = parts (grid_in file.0 name) _ f file.2 in
+    bytes_there m name file.0 file.1 ∙ ap (λ (g : Found). Some g.length) (ok_same head.2)
+
 found_length : (kind : Kind) (m : Files) (name : List ℕ) (f : Found) → found_in kind m false name ≡ Ok f → option_map length (get m name) ≡ Some f.length
 found_length kinds.Raw m name f is = raw_length m name f is
 found_length kinds.Dted m name f is = dted_length m name f is
 found_length kinds.Hgt m name f is = hgt_length m name f is
+found_length kinds.Ascii m name f is = ascii_length m name f is
 
 by_length : (kind : Kind) (m : Files) (name : List ℕ) (d : Dataset) → dataset_by kind m false name ≡ Ok d → option_map length (get m name) ≡ Some d.length
 unfolding dataset_by
@@ -153,6 +165,71 @@ length_found m cat id was d name walked at named len =
     ap (λ (n : List ℕ). option_map length (get m n)) (sym named)
     ∙ read_length m d.head.name d (dataset_walked m cat id d walked at)
     ∙ ap Some (told_of (λ (d : Dataset). d.length) cat id d was at len)
+
+-- the head that was found is that of the bytes
+
+file_same : (m : Files) (name b : List ℕ) (e : WalkFault) (c : List ℕ) → get m name ≡ Some b → ok_or (get m name) e ≡ Ok c → c ≡ b
+file_same m name b e c at is = ok_same (sym is ∙ ap (λ (o : Option (List ℕ)). ok_or o e) at)
+
+grid_told : (b name : List ℕ) (h : ascii.Head) (r : Result ascii.Head GridFault) → named (λ f. walk.Malformed name (bad.Grid f)) r ≡ Ok h → r ≡ Ok h
+grid_told b name h (Ok g) is = ap Ok (ok_same is)
+grid_told b name h (Err f) is = let no : ⊥ = cc in absurd no
+
+ascii_found : (m : Files) (name b : List ℕ) (f : Found) → get m name ≡ Some b → ascii_in m name ≡ Ok f → IsHeadOf f.driver b
+unfolding ascii_in
+ascii_found m name b f at is =
+    let file = parts (file_in m name) _ f is in
+    let head = parts (grid_in file.0 name) _ f file.2 in
+    let same = file_same m name b (walk.Absent name) file.0 at file.1 in
+    let told = ap ascii.grid_head (sym same) ∙ grid_told file.0 name head.0 (ascii.grid_head file.0) head.1 in
+    subst (λ (g : Found). IsHeadOf g.driver b) (ok_same head.2) told
+
+raw_found : (m : Files) (name b : List ℕ) (f : Found) → raw_in m name ≡ Ok f → IsHeadOf f.driver b
+unfolding raw_in
+raw_found m name b f is =
+    let file = parts (file_in m name) _ f is in
+    let head = parts (header_in m (header_of name)) _ f file.2 in
+    let enough = parts (long_enough (needed_of head.0) file.0 name) _ f head.2 in
+    subst (λ (g : Found). IsHeadOf g.driver b) (ok_same enough.2) tt
+
+dted_found : (m : Files) (name b : List ℕ) (f : Found) → dted_in m false name ≡ Ok f → IsHeadOf f.driver b
+unfolding dted_in
+dted_found m name b f is =
+    let file = parts (file_in m name) _ f is in
+    let head = parts (cell_in file.0 name) _ f file.2 in
+    subst (λ (g : Found). IsHeadOf g.driver b) (ok_same head.2) tt
+
+hgt_found : (m : Files) (name b : List ℕ) (f : Found) → hgt_in m name ≡ Ok f → IsHeadOf f.driver b
+unfolding hgt_in
+hgt_found m name b f is =
+    let corner = parts (ok_or (corner_of (last_part name)) (walk.Malformed name (bad.Hgt BadName))) _ f is in
+    let file = parts (file_in m name) _ f corner.2 in
+    let side = parts (ok_or (side_of_length (length file.0)) (walk.Malformed name (bad.Hgt BadLength))) _ f file.2 in
+    subst (λ (g : Found). IsHeadOf g.driver b) (ok_same side.2) tt
+
+found_head : (kind : Kind) (m : Files) (name b : List ℕ) (f : Found) → get m name ≡ Some b → found_in kind m false name ≡ Ok f → IsHeadOf f.driver b
+found_head kinds.Raw m name b f at is = raw_found m name b f is
+found_head kinds.Dted m name b f at is = dted_found m name b f is
+found_head kinds.Hgt m name b f at is = hgt_found m name b f is
+found_head kinds.Ascii m name b f at is = ascii_found m name b f at is
+
+by_head : (kind : Kind) (m : Files) (name b : List ℕ) (d : Dataset) → get m name ≡ Some b → dataset_by kind m false name ≡ Ok d → IsHeadOf d.driver b
+unfolding dataset_by
+by_head kind m name b d at is =
+    let found = parts (found_in kind m false name) (λ f. Ok (dataset_of name f)) d is in
+    subst (λ (e : Dataset). IsHeadOf e.driver b) (ok_same found.2) (found_head kind m name b found.0 at found.1)
+
+read_head : (m : Files) (name b : List ℕ) (d : Dataset) → get m name ≡ Some b → dataset_in m false name ≡ Ok d → IsHeadOf d.driver b
+unfolding dataset_in
+read_head m name b d at is =
+    let kind = parts (kind_in name) (λ k. dataset_by k m false name) d is in
+    by_head kind.0 m name b d at kind.2
+
+-- the head of a dataset's data is that of the bytes under its name
+pub head_of_file : (m : Files) (cat : List Dataset) (id : ℕ) (d : Dataset) (s : DriverHead) (name b : List ℕ) → IsWalked m cat → slice_get cat id ≡ Some d → option_map (λ (d : Dataset). d.driver) (slice_get cat id) ≡ Some s → d.head.name ≡ name → get m name ≡ Some b → IsHeadOf s b
+head_of_file m cat id d s name b walked at driver named file =
+    subst (λ (e : DriverHead). IsHeadOf e b) (told_of (λ (d : Dataset). d.driver) cat id d s at driver)
+    (read_head m d.head.name b d (ap (get m) named ∙ file) (dataset_walked m cat id d walked at))
 
 -- samples of the bytes under the dataset's name are its pixels
 pub pixels_put : (m : Files) (cat : List Dataset) (id : ℕ) (d : Dataset) (s : DriverHead) (name b : List ℕ) (x y : ℕ) (bands : List ℕ) (result : Result (Unit {0}) Fault) (old new : Option (List ℕ)) → slice_get cat id ≡ Some d → option_map (λ (d : Dataset). d.driver) (slice_get cat id) ≡ Some s → d.head.name ≡ name → get m name ≡ Some b → PutsText (values_text (λ band. sample_in s b band x y) bands) result old new → PutsText (values_text (λ band. pixel_in m d band x y) bands) result old new

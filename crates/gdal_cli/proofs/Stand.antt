@@ -1,6 +1,6 @@
 -- Where one sample of a cell and of a tile stands.
-use Rattle.std.proofs.Common.{◌≡◌, ◌∙◌, ap, sym, subst, refl, arith, ℕ, ℤ, ◌+◌, ◌*◌, ◌-◌, ◌<◌, ◌≤◌, List, length, get_or, map, take, drop, pos, Bool, true, false, cond, Option, Some, None}
-use Rattle.std.specs.Prelude.{◌==◌, if◌then◌else◌}
+use Rattle.std.proofs.Common.{◌≡◌, ◌∙◌, ap, sym, subst, refl, arith, ℕ, ℤ, ◌+◌, ◌*◌, ◌-◌, ◌<◌, ◌≤◌, List, length, get_or, map, take, drop, pos, Bool, true, false, cond, ◌^◌, Option, Some, None, Result, Ok}
+use Rattle.std.specs.Prelude.{◌==◌, if◌then◌else◌, slice_get}
 use Rattle.std.proofs.lemmas.Bool.{eqb-true}
 use Rattle.std.specs.List.{range_with_len}
 use Rattle.std.proofs.lemmas.List.FromFn.{get_or-map-range_with_len}
@@ -8,6 +8,9 @@ use Rattle.dted_records.specs.Head.{Head}
 use Rattle.dted_records.specs.Places.{record_len, record_of, needed_of}
 use Rattle.dted_records.specs.Records.{dted_at, column_of, StandsAt}
 use Rattle.hgt_tiles.specs.Places.{side_of_length}
+use Rattle.ascii_grid.specs.Grid
+use Rattle.ascii_grid.specs.Row.{row_of}
+use Rattle.ascii_grid.proofs.RowReads.{row_is_line, line_sample}
 
 -- a row stands within all rows
 rows_within : (x rows len : ℕ) → x < rows → x * len + len ≤ rows * len
@@ -45,3 +48,9 @@ pub elevation_read : (h : Head) (b bytes : List ℕ) (elevations : List ℤ) (at
 elevation_read h b bytes elevations at n x y less place len read column =
     let stands : StandsAt b bytes (record_of h x) = read ∙ ap (λ (k : ℕ). take k (drop at b)) (sym len) ∙ ap (λ (k : ℕ). take (length bytes) (drop k b)) place in
     ap (λ (es : List ℤ). get_or es y (pos 0)) (column stands) ∙ of_column h b x y (pos 0) less
+
+-- the value that is read of a row of a grid
+pub grid_sample : (file : List ℕ) (h : Grid.Head) (values : List ℤ) (x y place n : ℕ) → Grid.grid_head file ≡ Ok h → Grid.IsHead h → length file < 2 ^ 64 → slice_get h.rows y ≡ Some place → n ≡ h.size.w → x < n → values ≡ row_of n (drop place file) → get_or values x (pos 0) ≡ Grid.ascii_at file x y
+grid_sample file h values x y place n is kept small at width less read =
+    let row : values ≡ Grid.line_of file 0 y h.size.w = read ∙ ap (λ (k : ℕ). row_of k (drop place file)) width ∙ row_is_line file h y place is kept small at in
+    ap (λ (vs : List ℤ). get_or vs x (pos 0)) row ∙ line_sample file 0 y h.size.w x (omega (arith, width)) ∙ ap (λ (k : ℕ). Grid.ascii_at file k y) (omega arith)

@@ -6,6 +6,7 @@ use Rattle.dted_records.specs.Faults as dted
 use Rattle.dted_records.specs.declared.head.DtedFault.{DtedFault}
 use Rattle.dted_records.specs.declared.head.DtedFault.TheVariants as dted_fault
 use Rattle.hgt_tiles.specs.Names as hgt
+use Rattle.ascii_grid.specs.Faults as grid
 use Rattle.geotransform.specs.declared.faults.PlanFault.{PlanFault}
 use Rattle.geotransform.specs.declared.faults.PlanFault.TheVariants as plan
 use Rattle.catalog.specs.declared.faults.LimitKind.{LimitKind}
@@ -40,6 +41,7 @@ abbrev pub bad_line : List ℕ → Bad → List ℕ
 bad_line name (bad.Hdr fault) = form_line name (codes "hdr") (hdr.fault_number fault) None
 bad_line name (bad.Dted fault) = form_line name (codes "dted") (dted.fault_number fault) (place_of fault)
 bad_line name (bad.Hgt fault) = form_line name (codes "hgt") (hgt.fault_number fault) None
+bad_line name (bad.Grid fault) = form_line name (codes "grid") (grid.fault_number fault) (grid.fault_place fault)
 bad_line name bad.List = form_line name (codes "list") 1 None
 
 -- what is counted against a limit

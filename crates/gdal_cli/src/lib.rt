@@ -6,6 +6,7 @@ mod faults;
 mod jobs;
 mod location;
 mod running;
+mod rows;
 mod samples;
 mod spoken;
 #[cfg(test)]

@@ -10,7 +10,7 @@ ghost use Rattle.catalog.specs.Walk.{IsCatalog, IsWalked};
 ghost use Rattle.catalog.specs.Pixels.{sample_in, pixel_in};
 ghost use Rattle.gdal_cli.specs.Faults.{IsOutside, IsLate, Differs, HasCauses, HasNoCause};
 ghost use Rattle.gdal_cli.specs.Location.{place_within, chosen_in, values_text, point_text, PutsText};
-ghost use Rattle.gdal_cli.specs.Samples.{size_in, bands_in};
+ghost use Rattle.gdal_cli.specs.Samples.{IsHeadOf, size_in, bands_in};
 ghost use Rattle.gdal_cli.specs.Texts.{value_line};
 
 use crate::Fault;
@@ -88,7 +88,7 @@ pub fn chosen(alloc: Global, count: u32, bands: BandNumbers) -> Result<BandNumbe
 fn put_one<F: Folder, O: Sink>(
     folder: &mut F,
     out: &mut O,
-    samples: &mut Samples,
+    samples: &mut Samples<'_>,
     file: &mut F::File,
     band: u32,
     x: u32,
@@ -98,7 +98,7 @@ fn put_one<F: Folder, O: Sink>(
     requires column { x < (size_in samples.old).w }
     requires line { y < (size_in samples.old).h }
     requires long { IsLongEnough samples.old (F.file_len file.old) }
-    ensures told { (b : List ℕ) → F.file_bytes file.old ≡ Some b → PutsText (value_line (sample_in samples.old b band x y)) result (O.got out.old) (O.got out.new) }
+    ensures told { (b : List ℕ) → F.file_bytes file.old ≡ Some b → IsHeadOf samples.old b → PutsText (value_line (sample_in samples.old b band x y)) result (O.got out.old) (O.got out.new) }
     ensures driver { samples.new ≡ samples.old }
     ensures bytes { F.file_bytes file.new ≡ F.file_bytes file.old }
     ensures len { F.file_len file.new ≡ F.file_len file.old }
@@ -119,7 +119,7 @@ fn put_one<F: Folder, O: Sink>(
 fn put_values<F: Folder, O: Sink>(
     folder: &mut F,
     out: &mut O,
-    samples: &mut Samples,
+    samples: &mut Samples<'_>,
     file: &mut F::File,
     x: u32,
     y: u32,
@@ -129,7 +129,7 @@ fn put_values<F: Folder, O: Sink>(
     requires line { y < (size_in samples.old).h }
     requires long { IsLongEnough samples.old (F.file_len file.old) }
     requires bands { All (λ band. band ≤ bands_in samples.old) bands.now }
-    ensures told { (b : List ℕ) → F.file_bytes file.old ≡ Some b → PutsText (values_text (λ band. sample_in samples.old b band x y) bands.now) result (O.got out.old) (O.got out.new) }
+    ensures told { (b : List ℕ) → F.file_bytes file.old ≡ Some b → IsHeadOf samples.old b → PutsText (values_text (λ band. sample_in samples.old b band x y) bands.now) result (O.got out.old) (O.got out.new) }
     ensures names { F.names folder.new ≡ F.names folder.old }
     ensures cause { HasCauses (F.faults folder.old) (F.faults folder.new) (O.faults out.old) (O.faults out.new) result }
     ensures outside { IfErr result IsOutside }

@@ -1,5 +1,5 @@
 // The samples of an open file, one at a time.
-ghost use Rattle.std.specs.Prelude.{◌≡◌, ◌≤◌, ◌<◌, ◌+◌, ◌*◌, ℕ, List, length, Some, IfOk};
+ghost use Rattle.std.specs.Prelude.{◌≡◌, ◌≤◌, ◌<◌, ◌+◌, ◌*◌, ℕ, List, length, Some, Ok, IfOk};
 ghost use Rattle.outside.specs.Causes.{FailsWith};
 ghost use Rattle.interleaved_raw.specs.Raw.{raw_at, needed_of as raw_needed};
 ghost use Rattle.dted_records.specs.Places.{needed_of, record_len};
@@ -8,8 +8,11 @@ ghost use Rattle.hgt_tiles.specs.Places.{side_of_length};
 ghost use Rattle.hgt_tiles.specs.Samples.{hgt_at};
 ghost use Rattle.catalog.specs.Drivers.{IsLongEnough};
 ghost use Rattle.catalog.specs.Pixels.{sample_in};
-ghost use Rattle.gdal_cli.specs.Samples.{size_in, bands_in, IsRoom};
+ghost use Rattle.ascii_grid.specs.Grid.{grid_head, ascii_at};
+ghost use Rattle.gdal_cli.specs.Samples.{size_in, bands_in, IsRoom, IsHeadOf};
 
+use crate::rows::read_row;
+use ascii_grid::GridHead;
 use catalog::DriverHead;
 use dted_records::{DtedHead, decode_record};
 use esri_hdr::RawHead;
@@ -20,32 +23,38 @@ use outside::{Failed, Folder};
 use std::alloc::{AllocError, Global};
 use std::marker::Model;
 
-/// What the samples of a file are read by: the head of its data, and room for one record of a cell.
+/// The most bytes of a grid that are read at once.
+const PIECE: usize = 65_536;
+
+/// What the samples of a file are read by: the head of its data, and room for one record of a cell, or
+/// for a piece and the values of one row of a grid.
 #[derive(Drop)]
-pub struct Samples {
-    driver: DriverHead,
+pub struct Samples<'a> {
+    driver: &'a DriverHead,
     bytes: Vec<u8>,
-    elevations: Vec<Sample>,
+    values: Vec<Sample>,
 }
 
-impl Model for Samples {
+impl<'a> Model for Samples<'a> {
     ghost use Rattle.std.specs.Prelude.{length};
     ghost use Rattle.catalog.specs.declared.driver.DriverHead.{DriverHead as Known};
     ghost use Rattle.gdal_cli.specs.Samples.{IsRoom};
 
     ghost Value = { Known };
 
-    ghost view = { λ s. s.driver };
+    ghost view = { λ s. s.driver.now };
 
-    ghost invariant = { λ s. IsRoom s.driver (length s.bytes.items) (length s.elevations.items) };
+    ghost invariant = { λ s. IsRoom s.driver.now (length s.bytes.items) (length s.values.items) };
 }
 
-// The bytes of a record and its elevations, where the file has records.
+// The bytes of a record and its elevations, or of a piece of a row and its values, where the file has
+// such.
 fn room(driver: &DriverHead) -> (usize, usize)
     ensures { IsRoom driver.now result.0 result.1 }
 {
     match driver {
         DriverHead::Dted(head) => (head.record_len(), head.points as usize),
+        DriverHead::Ascii(head) => (PIECE, head.size.w as usize),
         DriverHead::Raw(_) | DriverHead::Hgt { .. } => (0, 0),
     }
 }
@@ -140,16 +149,44 @@ fn tile_sample<F: Folder>(
     Ok(sample[0])
 }
 
-impl Samples {
-    /// What the samples of a file with this head are read by. It takes memory for one record of a cell.
-    pub fn new(alloc: Global, driver: &DriverHead) -> Result<Samples, AllocError>
+// One sample of a grid: its row is read from its place on.
+#[tactic(auto, using(crate::proofs::Stand::grid_sample))]
+fn grid_sample<F: Folder>(
+    folder: &mut F,
+    head: &GridHead,
+    file: &mut F::File,
+    bytes: &mut [u8],
+    values: &mut [Sample],
+    x: u32,
+    y: u32,
+) -> Result<Sample, Failed>
+    requires column { x < head.now.size.w }
+    requires line { y < head.now.size.h }
+    requires bytes { 0 < length bytes.old }
+    requires values { length values.old ≡ head.now.size.w }
+    ensures told { IfOk result (λ v. (b : List ℕ) → F.file_bytes file.old ≡ Some b → grid_head b ≡ Ok head.now → v ≡ ascii_at b x y) }
+    ensures bytes { F.file_bytes file.new ≡ F.file_bytes file.old }
+    ensures len { F.file_len file.new ≡ F.file_len file.old }
+    ensures names { F.names folder.new ≡ F.names folder.old }
+    ensures cause { FailsWith (F.faults folder.old) (F.faults folder.new) result }
+{
+    let place = *head.rows.get(y as usize);
+    let len = folder.len(file);
+    read_row(folder, file, place, len, bytes, values)?;
+    Ok(values[x as usize])
+}
+
+impl<'a> Samples<'a> {
+    /// What the samples of a file with this head are read by. It takes memory for one record of a cell,
+    /// or for a piece of 65,536 bytes and the values of one row of a grid.
+    pub fn new(alloc: Global, driver: &'a DriverHead) -> Result<Samples<'a>, AllocError>
         ensures driver { IfOk result (λ s. s ≡ driver.now) }
     {
-        let (bytes, elevations) = room(driver);
+        let (bytes, values) = room(driver);
         Ok(Samples {
-            driver: *driver,
+            driver,
             bytes: vec![in alloc; 0u8; bytes]?,
-            elevations: vec![in alloc; 0; elevations]?,
+            values: vec![in alloc; 0; values]?,
         })
     }
 
@@ -167,20 +204,20 @@ impl Samples {
         requires column { x < (size_in self.old).w }
         requires line { y < (size_in self.old).h }
         requires long { IsLongEnough self.old (F.file_len file.old) }
-        ensures told { IfOk result (λ v. (b : List ℕ) → F.file_bytes file.old ≡ Some b → v ≡ sample_in self.old b band x y) }
+        ensures told { IfOk result (λ v. (b : List ℕ) → F.file_bytes file.old ≡ Some b → IsHeadOf self.old b → v ≡ sample_in self.old b band x y) }
         ensures driver { self.new ≡ self.old }
         ensures bytes { F.file_bytes file.new ≡ F.file_bytes file.old }
         ensures len { F.file_len file.new ≡ F.file_len file.old }
         ensures names { F.names folder.new ≡ F.names folder.old }
         ensures cause { FailsWith (F.faults folder.old) (F.faults folder.new) result }
     {
-        match &self.driver {
+        let driver = self.driver;
+        let (bytes, values) = (&mut self.bytes, &mut self.values);
+        match driver {
             DriverHead::Raw(head) => raw_sample(folder, head, file, band, x, y),
-            DriverHead::Dted(head) => {
-                let (bytes, elevations) = (&mut self.bytes, &mut self.elevations);
-                cell_sample(folder, head, file, bytes, elevations, x, y)
-            }
+            DriverHead::Dted(head) => cell_sample(folder, head, file, bytes, values, x, y),
             DriverHead::Hgt { side } => tile_sample(folder, *side, file, x, y),
+            DriverHead::Ascii(head) => grid_sample(folder, head, file, bytes, values, x, y),
         }
     }
 }

@@ -6,6 +6,7 @@ ghost use Rattle.lists_and_answers.specs.Texts.{text};
 ghost use Rattle.gdal_cli.specs.Texts.{value_line, form_line, place_of, bad_line, limit_word, plan_line, error_line};
 
 use crate::Fault;
+use ascii_grid::GridFault;
 use catalog::{Bad, LimitKind};
 use dted_records::DtedFault;
 use geotransform::{PlanFault, Sample};
@@ -135,6 +136,19 @@ fn put_dted<S: Sink>(sink: &mut S, name: &Name, fault: DtedFault) -> Result<(), 
     }
 }
 
+// The line of a grid that isn't of its form.
+fn put_grid<S: Sink>(sink: &mut S, name: &Name, fault: GridFault) -> Result<(), Failed>
+    ensures ok { OnOk result (Gets (bad_line name.now (Bad.Grid fault)) (S.got sink.old) (S.got sink.new)) }
+    ensures err { OnErr result (GetsPart (bad_line name.now (Bad.Grid fault)) (S.got sink.old) (S.got sink.new)) }
+    ensures cause { FailsWith (S.faults sink.old) (S.faults sink.new) result }
+{
+    let number = u64::from(fault.number());
+    match fault.place() {
+        None => put_form(sink, name, b"grid", number),
+        Some(place) => put_form_at(sink, name, b"grid", number, place),
+    }
+}
+
 fn put_malformed<S: Sink>(sink: &mut S, name: &Name, bad: Bad) -> Result<(), Failed>
     ensures ok { OnOk result (Gets (bad_line name.now bad) (S.got sink.old) (S.got sink.new)) }
     ensures err { OnErr result (GetsPart (bad_line name.now bad) (S.got sink.old) (S.got sink.new)) }
@@ -144,6 +158,7 @@ fn put_malformed<S: Sink>(sink: &mut S, name: &Name, bad: Bad) -> Result<(), Fai
         Bad::Hdr(fault) => put_form(sink, name, b"hdr", u64::from(fault.number())),
         Bad::Dted(fault) => put_dted(sink, name, fault),
         Bad::Hgt(fault) => put_form(sink, name, b"hgt", u64::from(fault.number())),
+        Bad::Grid(fault) => put_grid(sink, name, fault),
         Bad::List => put_form(sink, name, b"list", 1),
     }
 }

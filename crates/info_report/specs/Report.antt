@@ -10,13 +10,14 @@ use Rattle.geotransform.specs.declared.types.Size.{Size}
 use Rattle.catalog.specs.Dataset.{DatasetHead}
 use Rattle.catalog.specs.declared.kind.BandHead.{BandHead}
 use Rattle.catalog.specs.declared.kind.Kind.{Kind}
-use Rattle.catalog.specs.declared.kind.Kind.TheVariants.{Raw, Dted, Hgt}
+use Rattle.catalog.specs.declared.kind.Kind.TheVariants.{Raw, Dted, Hgt, Ascii}
 
 -- the driver of a kind
 abbrev pub driver_of : Kind → List ℕ
 driver_of Raw = codes "EHdr"
 driver_of Dted = codes "DTED"
 driver_of Hgt = codes "SRTMHGT"
+driver_of Ascii = codes "AAIGrid"
 
 unfoldable pub driver_text : Kind → List ℕ
 driver_text kind = text (codes "Driver: " ∷ driver_of kind ∷ codes "\n" ∷ [])

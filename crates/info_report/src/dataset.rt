@@ -18,6 +18,7 @@ fn driver_of(kind: Kind) -> &'static str
         Kind::Raw => "EHdr",
         Kind::Dted => "DTED",
         Kind::Hgt => "SRTMHGT",
+        Kind::Ascii => "AAIGrid",
     }
 }
 

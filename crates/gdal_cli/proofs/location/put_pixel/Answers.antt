@@ -4,7 +4,7 @@ use Rattle.catalog.specs.declared.driver.DriverHead.{DriverHead}
 use Rattle.catalog.specs.Dataset.{DatasetHead}
 use Rattle.catalog.specs.Drivers.{Dataset}
 use Rattle.gdal_cli.proofs.Ended.{err_is, fails_before}
-use Rattle.gdal_cli.proofs.Reached.{told_of, column_within, line_within, bands_within, long_again, length_found, pixels_put}
+use Rattle.gdal_cli.proofs.Reached.{told_of, column_within, line_within, bands_within, long_again, length_found, pixels_put, head_of_file}
 use Rattle.gdal_cli.proofs.location.put_pixel.Goals as goal
 
 pub returns-in_err-file-clause-told : goal.returns-in_err-file-clause-told
@@ -30,4 +30,4 @@ returns-clause-told g c = λ m is walked d at.
     let named : d.head.name ≡ c.behind-cat.inside.name = ap (λ (h : DatasetHead). h.name) (told_of (λ (d : Dataset). d.head) c.args.cat.now c.args.id d c.head.result.now at c.head.ensures.head ∙ sym c.behind-cat.view_is) in
     let file = c.in_ok-file.ensures.ok m is in
     let by_driver = subst (λ (s : DriverHead). option_map (λ (d : Dataset). d.driver) (slice_get c.args.cat.now c.args.id) ≡ Some s) (sym c.in_ok-samples.ensures.driver) c.in-Some.ensures.driver in
-    pixels_put m c.args.cat.now c.args.id d c.in_ok-samples.samples c.behind-cat.inside.name file.0 c.args.x c.args.y c.args.bands.now c.put_values.result _ _ at by_driver named file.1 (c.put_values.ensures.told file.0 file.2)
+    pixels_put m c.args.cat.now c.args.id d c.in_ok-samples.samples c.behind-cat.inside.name file.0 c.args.x c.args.y c.args.bands.now c.put_values.result _ _ at by_driver named file.1 (c.put_values.ensures.told file.0 file.2 (rw c.in_ok-samples.ensures.driver (head_of_file m c.args.cat.now c.args.id d c.in-Some.driver.now c.behind-cat.inside.name file.0 walked at c.in-Some.ensures.driver named file.1)))

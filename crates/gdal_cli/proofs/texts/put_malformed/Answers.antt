@@ -20,3 +20,9 @@ returns-in-Hgt-clause-ok g c = rw c.in-Hgt.is (rw (c.from-in-Hgt.ensures, c.numb
 
 pub returns-in-Hgt-clause-err : goal.returns-in-Hgt-clause-err
 returns-in-Hgt-clause-err g c = rw c.in-Hgt.is (rw (c.from-in-Hgt.ensures, c.number-in-Hgt.ensures.number) at c.put_form-in-Hgt.ensures.err)
+
+pub returns-in-Grid-clause-ok : goal.returns-in-Grid-clause-ok
+returns-in-Grid-clause-ok g c = rw c.in-Grid.is c.put_grid.ensures.ok
+
+pub returns-in-Grid-clause-err : goal.returns-in-Grid-clause-err
+returns-in-Grid-clause-err g c = rw c.in-Grid.is c.put_grid.ensures.err
