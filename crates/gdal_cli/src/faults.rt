@@ -14,17 +14,33 @@ use std::alloc::AllocError;
 #[derive(Drop)]
 pub enum Fault {
     /// The word with this number, counted from 0, doesn't fit; the number of words where one is missing.
-    Usage { word: u64 },
+    Usage {
+        word: u64,
+    },
     /// There is no file of this name.
-    Absent { name: Name },
+    Absent {
+        name: Name,
+    },
     /// The extension of this name is that of no kind of dataset.
-    NotRecognized { name: Name },
+    NotRecognized {
+        name: Name,
+    },
     /// The file of this name isn't of its form.
-    Malformed { name: Name, bad: Bad },
+    Malformed {
+        name: Name,
+        bad: Bad,
+    },
     /// The file of this name needs so many bytes, and has fewer.
-    Short { name: Name, needed: u64, has: u64 },
+    Short {
+        name: Name,
+        needed: u64,
+        has: u64,
+    },
     /// What is counted would pass its limit with this value.
-    Limit { what: LimitKind, value: u64 },
+    Limit {
+        what: LimitKind,
+        value: u64,
+    },
     /// The dataset can't give what is asked of it.
     Plan(PlanFault),
     /// The file of this name was so many bytes long, and was opened again with another length, or with none

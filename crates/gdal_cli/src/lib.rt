@@ -1,8 +1,12 @@
 // The commands: their words, what they print, and the run of the program.
 #![tactic(auto)]
 
+#[cfg(test)]
+mod cell_tests;
 mod command;
 mod faults;
+#[cfg(test)]
+mod fickle;
 mod jobs;
 mod location;
 mod running;
@@ -12,6 +16,8 @@ mod spoken;
 #[cfg(test)]
 mod tests;
 mod texts;
+#[cfg(test)]
+mod trials;
 mod words;
 
 pub use command::{BandNumber, BandNumbers, Command, Job, Position};

@@ -1,83 +1,6 @@
-use crate::{Outcome, run};
-use lists_and_answers::Items;
-use outside::{CalmInput, Failing, Listed, MemFolder, MemSink, Method, Name, Never};
-use std::alloc::Global;
+use crate::trials::{FileOf, folder_of, run_in, run_over, try_rows};
+use outside::{Failing, Method, Name};
 use std::test::*;
-use std::thread::Threads;
-
-// What a run answered, printed and told.
-#[derive(Drop)]
-struct Said {
-    status: u8,
-    out: String,
-    err: String,
-}
-
-type FileOf<'a> = (&'a str, &'a [u8]);
-
-fn plan(alloc: Global, calls: &[Failing]) -> Result<Listed, Fail> {
-    let mut failing = Items::new(alloc);
-    for call in calls {
-        failing.push(*call)?;
-    }
-    Ok(Listed::new(failing))
-}
-
-fn split(alloc: Global, line: &str) -> Result<Vec<String>, Fail> {
-    let mut words = Vec::new(alloc);
-    for word in line.split_ascii_whitespace() {
-        words.push(String::from_str(alloc, word)?)?;
-    }
-    Ok(words)
-}
-
-fn folder_of(alloc: Global, files: &[FileOf<'_>], calls: &[Failing]) -> Result<MemFolder, Fail> {
-    let mut folder = MemFolder::new(alloc, plan(alloc, calls)?);
-    for (name, bytes) in files {
-        folder.put(&Name::read(alloc, name)?, bytes)?;
-    }
-    Ok(folder)
-}
-
-fn text(alloc: Global, bytes: &[u8]) -> Result<String, Fail> {
-    match std::str::from_utf8(bytes) {
-        Ok(text) => Ok(String::from_str(alloc, text)?),
-        Err(_) => Ok(String::from_str(alloc, "no text")?),
-    }
-}
-
-// A run of these words over a folder, whose output's calls fail as they are listed.
-fn run_in<R: Threads + Sync>(
-    rt: &R,
-    alloc: Global,
-    folder: &mut MemFolder,
-    line: &str,
-    puts: &[Failing],
-) -> Result<Said, Fail> {
-    let words = split(alloc, line)?;
-    let mut input = CalmInput::new(Vec::new(alloc), Never);
-    let mut out = MemSink::new(alloc, plan(alloc, puts)?);
-    let mut err = MemSink::new(alloc, plan(alloc, &[])?);
-    let Outcome { status, .. } = run(rt, alloc, &words, folder, &mut input, &mut out, &mut err);
-    Ok(Said {
-        status,
-        out: text(alloc, out.got())?,
-        err: text(alloc, err.got())?,
-    })
-}
-
-// A run of these words over these files, whose calls fail as they are listed for the folder and for the output.
-fn run_over<R: Threads + Sync>(
-    rt: &R,
-    alloc: Global,
-    files: &[FileOf<'_>],
-    line: &str,
-    calls: &[Failing],
-    puts: &[Failing],
-) -> Result<Said, Fail> {
-    let mut folder = folder_of(alloc, files, calls)?;
-    run_in(rt, alloc, &mut folder, line, puts)
-}
 
 const TWELVE: [u8; 12] = [1, 2, 3, 4, 5, 6, 7, 8, 9, 10, 11, 12];
 
@@ -105,19 +28,6 @@ const FILES: [FileOf<'static>; 14] = [
         b"NROWS 1\nNCOLS 1\nNBITS 16\nBYTEORDER M\nPIXELTYPE SIGNEDINT\n",
     ),
 ];
-
-// A line of words, the status, what is printed and what is told.
-type Row<'a> = (&'a str, u8, &'a str, &'a str);
-
-fn try_rows<R: Threads + Sync>(rt: &R, alloc: Global, rows: &[Row<'_>]) -> Result<bool, Fail> {
-    for (line, status, out, err) in rows {
-        let said = run_over(rt, alloc, &FILES, line, &[], &[])?;
-        if said.status != *status || said.out.as_str() != *out || said.err.as_str() != *err {
-            return Ok(false);
-        }
-    }
-    Ok(true)
-}
 
 #[test]
 fn values(rt: HostRuntime) -> Result<(), Fail> {
@@ -157,7 +67,7 @@ fn values(rt: HostRuntime) -> Result<(), Fail> {
             "",
         ),
     ];
-    assert!(rt; try_rows(&rt, rt.alloc(), &rows)?);
+    assert!(rt; try_rows(&rt, rt.alloc(), &FILES, &rows)?);
     Ok(())
 }
 
@@ -227,7 +137,7 @@ fn refusals(rt: HostRuntime) -> Result<(), Fail> {
             "ERROR 5: no band 3\n",
         ),
     ];
-    assert!(rt; try_rows(&rt, rt.alloc(), &rows)?);
+    assert!(rt; try_rows(&rt, rt.alloc(), &FILES, &rows)?);
     Ok(())
 }
 
@@ -236,7 +146,7 @@ fn refusals(rt: HostRuntime) -> Result<(), Fail> {
 fn failing_calls(rt: HostRuntime) -> Result<(), Fail> {
     let alloc = rt.alloc();
     let line = "gdallocationinfo -valonly a.bil 2 1";
-    let prefixes = ["", "", "", "", "9\n"];
+    let prefixes = ["", "", "", "", "", "9\n"];
     let mut number = 0u64;
     for prefix in prefixes {
         number = number.saturating_add(1);

@@ -217,12 +217,7 @@ fn put_change<S: Sink>(sink: &mut S, name: &Name, was: u64, now: &[u8]) -> Resul
     )
 }
 
-fn put_changed<S: Sink>(
-    sink: &mut S,
-    name: &Name,
-    was: u64,
-    now: Option<u64>,
-) -> Result<(), Failed>
+fn put_changed<S: Sink>(sink: &mut S, name: &Name, was: u64, now: Option<u64>) -> Result<(), Failed>
     ensures ok { OnOk result (Gets (error_line (Fault.Changed name.now was now)) (S.got sink.old) (S.got sink.new)) }
     ensures err { OnErr result (GetsPart (error_line (Fault.Changed name.now was now)) (S.got sink.old) (S.got sink.new)) }
     ensures cause { FailsWith (S.faults sink.old) (S.faults sink.new) result }

@@ -143,3 +143,69 @@ fn a_failing_sink(rt: HostRuntime) -> Result<(), Fail> {
     assert!(rt; WORLD_REPORT.starts_with(sink.got()));
     Ok(())
 }
+
+const TILE_REPORT: &[u8] = b"Driver: SRTMHGT
+Files: S01W180.hgt
+Size is 1201, 1201
+Origin = (-180.000416666666667,0.000416666666667)
+Pixel Size = (0.000833333333333,-0.000833333333333)
+Corner Coordinates:
+Upper Left  (-180.000416667, 0.000416667)
+Lower Left  (-180.000416667, -1.000416667)
+Upper Right (-178.999583333, 0.000416667)
+Lower Right (-178.999583333, -1.000416667)
+Band 1 Block=1201x1 Type=Int16
+  NoData Value=-32768
+";
+
+// A tile of SRTM is told by its name and its length, with no read.
+#[test]
+fn a_tile(rt: HostRuntime) -> Result<(), Fail> {
+    let mut folder = Vast {
+        data: "S01W180.hgt",
+        len: 2_884_802,
+        header: "",
+        text: b"",
+        reads: 0,
+        writes: 0,
+    };
+    let name = Name::read(rt.alloc(), "S01W180.hgt")?;
+    let head = head_of(rt.alloc(), &mut folder, &name, true);
+    let mut sink = sink(rt.alloc(), false)?;
+    write_info(rt.alloc(), &head.ok().ok_or("it is a tile")?, &mut sink)?;
+    assert_eq!(rt; sink.got(), TILE_REPORT);
+    assert_eq!(rt; folder.reads, 0);
+    Ok(())
+}
+
+// A cell at 10 degrees east, 20 degrees north, with two lines 60 arc seconds apart and three points 30 arc seconds
+// apart.
+#[test]
+fn a_cell(rt: HostRuntime) -> Result<(), Fail> {
+    let mut bytes = vec![in rt.alloc(); b' '; 3464]?;
+    bytes[..28].copy_from_slice(b"UHL10100000E0200000N06000300");
+    bytes[47..55].copy_from_slice(b"00020003");
+    bytes[80..83].copy_from_slice(b"DSI");
+    bytes[728..731].copy_from_slice(b"ACC");
+    let mut folder = CalmFolder::new(rt.alloc(), Never);
+    let name = Name::read(rt.alloc(), "c.dt0")?;
+    folder.put(&name, &bytes)?;
+    let head = head_of(rt.alloc(), &mut folder, &name, false);
+    let mut sink = sink(rt.alloc(), false)?;
+    write_info(rt.alloc(), &head.ok().ok_or("it is a cell")?, &mut sink)?;
+    let want = b"Driver: DTED
+Files: c.dt0
+Size is 2, 3
+Origin = (9.991666666666667,20.020833333333333)
+Pixel Size = (0.016666666666667,-0.008333333333333)
+Corner Coordinates:
+Upper Left  (9.991666667, 20.020833333)
+Lower Left  (9.991666667, 19.995833333)
+Upper Right (10.025000000, 20.020833333)
+Lower Right (10.025000000, 19.995833333)
+Band 1 Block=1x3 Type=Int16
+  NoData Value=-32767
+";
+    assert_eq!(rt; sink.got(), want.as_slice());
+    Ok(())
+}

@@ -1,0 +1,105 @@
+// Runs over files in memory.
+use crate::{Outcome, run};
+use lists_and_answers::Items;
+use outside::{CalmInput, Failing, Folder, Listed, MemFolder, MemSink, Name, Never};
+use std::alloc::Global;
+use std::test::*;
+use std::thread::Threads;
+
+// What a run answered, printed and told.
+#[derive(Drop)]
+pub struct Said {
+    pub status: u8,
+    pub out: String,
+    pub err: String,
+}
+
+// A name and its bytes.
+pub type FileOf<'a> = (&'a str, &'a [u8]);
+
+pub fn plan(alloc: Global, calls: &[Failing]) -> Result<Listed, Fail> {
+    let mut failing = Items::new(alloc);
+    for call in calls {
+        failing.push(*call)?;
+    }
+    Ok(Listed::new(failing))
+}
+
+fn split(alloc: Global, line: &str) -> Result<Vec<String>, Fail> {
+    let mut words = Vec::new(alloc);
+    for word in line.split_ascii_whitespace() {
+        words.push(String::from_str(alloc, word)?)?;
+    }
+    Ok(words)
+}
+
+pub fn folder_of(
+    alloc: Global,
+    files: &[FileOf<'_>],
+    calls: &[Failing],
+) -> Result<MemFolder, Fail> {
+    let mut folder = MemFolder::new(alloc, plan(alloc, calls)?);
+    for (name, bytes) in files {
+        folder.put(&Name::read(alloc, name)?, bytes)?;
+    }
+    Ok(folder)
+}
+
+fn text(alloc: Global, bytes: &[u8]) -> Result<String, Fail> {
+    match std::str::from_utf8(bytes) {
+        Ok(text) => Ok(String::from_str(alloc, text)?),
+        Err(_) => Ok(String::from_str(alloc, "no text")?),
+    }
+}
+
+// A run of these words over a folder, whose output's calls fail as they are listed.
+pub fn run_in<R: Threads + Sync, F: Folder>(
+    rt: &R,
+    alloc: Global,
+    folder: &mut F,
+    line: &str,
+    puts: &[Failing],
+) -> Result<Said, Fail> {
+    let words = split(alloc, line)?;
+    let mut input = CalmInput::new(Vec::new(alloc), Never);
+    let mut out = MemSink::new(alloc, plan(alloc, puts)?);
+    let mut err = MemSink::new(alloc, plan(alloc, &[])?);
+    let Outcome { status, .. } = run(rt, alloc, &words, folder, &mut input, &mut out, &mut err);
+    Ok(Said {
+        status,
+        out: text(alloc, out.got())?,
+        err: text(alloc, err.got())?,
+    })
+}
+
+// A run of these words over these files, whose calls fail as they are listed for the folder and for the output.
+pub fn run_over<R: Threads + Sync>(
+    rt: &R,
+    alloc: Global,
+    files: &[FileOf<'_>],
+    line: &str,
+    calls: &[Failing],
+    puts: &[Failing],
+) -> Result<Said, Fail> {
+    let mut folder = folder_of(alloc, files, calls)?;
+    run_in(rt, alloc, &mut folder, line, puts)
+}
+
+// A line of words, the status, what is printed and what is told.
+pub type Row<'a> = (&'a str, u8, &'a str, &'a str);
+
+// Whether runs over these files say what is listed.
+pub fn try_rows<R: Threads + Sync>(
+    rt: &R,
+    alloc: Global,
+    files: &[FileOf<'_>],
+    rows: &[Row<'_>],
+) -> Result<bool, Fail> {
+    for (line, status, out, err) in rows {
+        let said = run_over(rt, alloc, files, line, &[], &[])?;
+        if said.status != *status || said.out.as_str() != *out || said.err.as_str() != *err {
+            return Ok(false);
+        }
+    }
+    Ok(true)
+}
