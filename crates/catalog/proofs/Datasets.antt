@@ -1,5 +1,5 @@
 -- What the files of a dataset give a catalog.
-use Rattle.std.proofs.Common.{◌≡◌, ◌∙◌, ap, sym, subst, refl, ℕ, List, Bool, true,  Option, Some, None, is_some, Result, Ok, true≢false}
+use Rattle.std.proofs.Common.{◌≡◌, ◌∙◌, ap, sym, subst, refl, ℕ, List, Bool, true, Option, Some, None, is_some, Result, Ok, true≢false}
 use Rattle.outside.specs.Names.{last_part}
 use Rattle.hgt_tiles.specs.Names.{Place, corner_of}
 use Rattle.hgt_tiles.specs.Places.{IsSide, side_of_length}

@@ -132,11 +132,7 @@ fn scan_file<F: Folder>(
 
 // The head of a grid, by all of its bytes.
 #[tactic(auto, using(crate::proofs::Scans::fed_nothing))]
-fn scan<F: Folder>(
-    alloc: Global,
-    folder: &mut F,
-    mut file: F::File,
-) -> Result<GridHead, ScanFault>
+fn scan<F: Folder>(alloc: Global, folder: &mut F, mut file: F::File) -> Result<GridHead, ScanFault>
     requires len { IsLong (F.file_bytes file) (F.file_len file) }
     ensures told { IfOk result (λ h. (b : List ℕ) → F.file_bytes file ≡ Some b → grid_head b ≡ Ok h) }
     ensures err { IfErr result (λ f. (b : List ℕ) → F.file_bytes file ≡ Some b → IsScanFault b f) }
@@ -172,11 +168,7 @@ fn refused(name: &Name, fault: ScanFault) -> WalkFault
 
 // Finds the grid of a name: opens it and scans it whole.
 #[tactic(auto, using(crate::proofs::Headers::outside_fails), unfolding(crate::specs::Heads::ascii_in))]
-pub fn find_grid<F: Folder>(
-    alloc: Global,
-    folder: &mut F,
-    name: &Name,
-) -> Result<Found, WalkFault>
+pub fn find_grid<F: Folder>(alloc: Global, folder: &mut F, name: &Name) -> Result<Found, WalkFault>
     ensures told { (m : Files) → F.names folder.old ≡ Some m → Gives IsOutside (λ found. found) result (ascii_in m name.now) }
     ensures kind { IfOk result (λ found. driver_kind found.driver ≡ Kind.Ascii) }
     ensures fits { IfOk result (λ found. Fits name.now found.driver found.length) }

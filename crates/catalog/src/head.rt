@@ -1,5 +1,6 @@
 // What is known of a dataset.
 ghost use Rattle.std.specs.Prelude.{◌≡◌, bytes_eq};
+
 use crate::{Bands, Kind};
 use geotransform::{GeoTransform, Size};
 use outside::{Name, Names, Text};

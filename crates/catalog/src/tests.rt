@@ -200,7 +200,11 @@ const WRONG: [(&str, &[u8], &str); 5] = [
     ("c.dt0", b"", "malformed c.dt0 Dted(Short)"),
     ("c.dt0", &[b' '; 80], "malformed c.dt0 Dted(NotDted)"),
     ("N91E000.hgt", b"", "malformed N91E000.hgt Hgt(BadName)"),
-    ("d/S01W180.HGT", b"", "malformed d/S01W180.HGT Hgt(BadLength)"),
+    (
+        "d/S01W180.HGT",
+        b"",
+        "malformed d/S01W180.HGT Hgt(BadLength)",
+    ),
     ("d/N00.hgt", b"", "malformed d/N00.hgt Hgt(BadName)"),
 ];
 
@@ -211,8 +215,14 @@ fn wrong_files(rt: HostRuntime) -> Result<(), Fail> {
         assert_eq!(rt; answer(alloc, name, &[(name, bytes)])?.as_str(), said);
     }
     // the name of a tile is read before its file is opened
-    assert_eq!(rt; answer(alloc, "N91E000.hgt", &[])?.as_str(), "malformed N91E000.hgt Hgt(BadName)");
-    assert_eq!(rt; answer(alloc, "N90E000.hgt", &[])?.as_str(), "absent N90E000.hgt");
+    assert_eq!(rt;
+        answer(alloc, "N91E000.hgt", &[])?.as_str(),
+        "malformed N91E000.hgt Hgt(BadName)"
+    );
+    assert_eq!(rt;
+        answer(alloc, "N90E000.hgt", &[])?.as_str(),
+        "absent N90E000.hgt"
+    );
     Ok(())
 }
 
@@ -226,11 +236,20 @@ fn walks(rt: HostRuntime) -> Result<(), Fail> {
     let mut folder = with_failing(alloc, 9)?;
     folder.put(&dted, &cell(alloc, 0xb2)?)?;
     let mut cat = Catalog::new(alloc);
-    assert_eq!(rt; open_all(alloc, &mut cat, &mut folder, &raw, false).ok(), Some(0));
-    assert_eq!(rt; open_all(alloc, &mut cat, &mut folder, &raw, false).ok(), Some(0));
+    assert_eq!(rt;
+        open_all(alloc, &mut cat, &mut folder, &raw, false).ok(),
+        Some(0)
+    );
+    assert_eq!(rt;
+        open_all(alloc, &mut cat, &mut folder, &raw, false).ok(),
+        Some(0)
+    );
     assert!(rt; open_all(alloc, &mut cat, &mut folder, &absent, false).is_err());
     assert_eq!(rt; cat.count(), 1);
-    assert_eq!(rt; open_all(alloc, &mut cat, &mut folder, &dted, true).ok(), Some(1));
+    assert_eq!(rt;
+        open_all(alloc, &mut cat, &mut folder, &dted, true).ok(),
+        Some(1)
+    );
     assert_eq!(rt; cat.count(), 2);
     assert_eq!(rt; cat.length(1), 3448);
     assert_eq!(rt; cat.head(1).size, Size { w: 1, h: 4 });

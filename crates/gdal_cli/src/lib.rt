@@ -7,10 +7,12 @@ mod command;
 mod faults;
 #[cfg(test)]
 mod fickle;
+#[cfg(test)]
+mod grid_tests;
 mod jobs;
 mod location;
-mod running;
 mod rows;
+mod running;
 mod samples;
 mod spoken;
 #[cfg(test)]
