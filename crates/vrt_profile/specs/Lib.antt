@@ -1,0 +1,17 @@
+pub mod Cover
+pub mod Document
+pub mod Faults
+pub mod Fields
+pub mod Forest
+pub mod Items
+pub mod Kept
+pub mod Means
+pub mod NumberViews
+pub mod Numbers
+pub mod Parts
+pub mod Reread
+pub mod Resolve
+pub mod Spelled
+pub mod Value
+pub mod Values
+pub mod Views
