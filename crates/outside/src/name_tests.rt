@@ -102,9 +102,10 @@ fn tells_kinds(rt: HostRuntime) -> Result<(), NameFault> {
 fn names_headers(rt: HostRuntime) -> Result<(), NameFault> {
     for (text, header) in HEADERS {
         let name = Name::read(rt.alloc(), text)?;
-        assert!(rt; name.extension().is_some(), "{text} is raw data");
-        if name.extension().is_some() {
+        if let Some(Ext::Bil | Ext::Bip | Ext::Bsq) = name.extension() {
             assert_eq!(rt; name.header(rt.alloc())?.as_str(), header, "beside {text}");
+        } else {
+            assert!(rt; false, "{text} is raw data");
         }
     }
     Ok(())
