@@ -1,5 +1,0 @@
-pub mod Numbers
-pub mod Tables
-pub mod Runs
-pub mod Following
-mod Computes
