@@ -5,7 +5,9 @@ pub mod Whole
 pub mod Rows
 pub mod Places
 pub mod Files
+pub mod Ended
 pub mod RowReads
+pub mod RowValues
 pub mod Writes
 pub mod Again
 mod Computes

@@ -19,8 +19,10 @@ use Rattle.lists_and_answers.specs.Answers.{◌>>=◌}
 use Rattle.ascii_grid.specs.Values.{is_body_start, value_in}
 use Rattle.ascii_grid.specs.Keys.{key_of, with_value, shape_of}
 use Rattle.ascii_grid.specs.Grid.{Head, Grid, IsHead, head_with, head_of, body_of, rows_of, nothing, grid_in, grid_of, grid_head, ascii_in, ascii_at, line_of, AreRising}
-use Rattle.ascii_grid.specs.Row.{value_or_zero, or_zero, row_of}
+use Rattle.ascii_grid.specs.Row.{value_or_zero, or_zero, row_of, ended_in}
 use Rattle.ascii_grid.proofs.Places.{tok_white, tok_inside, tok_begins, texts, stands, Stands, rows_is, place_at}
+use Rattle.ascii_grid.proofs.Ended.{ended_between, then_rest}
+use Rattle.ascii_grid.proofs.Rows.{whole_row}
 
 abbrev values : List Token → List ℤ
 values ts = map (λ t. value_or_zero t.text) ts
@@ -294,3 +296,53 @@ pub rows_are_rising : (text : List ℕ) (h : Head) → grid_head text ≡ Ok h �
 rows_are_rising text h is short =
     let g : HasGrid text h = has_grid (grid_of text) text h refl is in
     subst (λ (k : Head). AreRising 0 (length text) k.rows) g.head (head_rises text g.grid g.is short)
+
+-- places that rise, by their numbers
+
+pub rising_at : (ps : List ℕ) (least end y p : ℕ) → AreRising least end ps → slice_get ps y ≡ Some p → (least ≤ p) × (p < end)
+rising_at [] least end y p r is = cc
+rising_at (a ∷ ps) least end zero p r is = let same : a ≡ p = cc in (omega (arith, r.0), omega (arith, r.1))
+rising_at (a ∷ ps) least end (suc y) p r is = let more = rising_at ps (a + 1) end y p r.2 is in (omega (arith, r.0, more.0), more.1)
+
+pub rising_next : (ps : List ℕ) (least end y p q : ℕ) → AreRising least end ps → slice_get ps y ≡ Some p → slice_get ps (suc y) ≡ Some q → p < q
+rising_next [] least end y p q r p_is q_is = cc
+rising_next (a ∷ ps) least end zero p q r p_is q_is = let same : a ≡ p = cc in let more = rising_at ps (a + 1) end zero q r.2 q_is in omega (arith, more.0)
+rising_next (a ∷ ps) least end (suc y) p q r p_is q_is = rising_next ps (a + 1) end y p q r.2 p_is q_is
+
+-- the bytes from the place of a row up to that of the next
+
+ends_between : (text : List ℕ) (g : Grid) (y p q : ℕ) → grid_of text ≡ Ok g → IsHead g.head → length text < 2 ^ 64 → slice_get g.head.rows y ≡ Some p → slice_get g.head.rows (suc y) ≡ Some q → p ≤ q → ended_in (drop p (take q text)) ≡ g.head.size.w
+ends_between text g y p q is kept short p_is q_is forward =
+    let a : Answers text g = answers text g is in
+    let w_is : g.head.size.w ≡ a.shape.w = ap (λ (h : Head). h.size.w) a.head in
+    let wide : 0 < a.shape.w = omega (arith, kept.size.some_columns, w_is) in
+    let e : Ends (tokens text) a.body = head_ends (tokens text) nothing a.grid.found a.body a.grid.head in
+    let this : y * a.shape.w + 0 ≡ y * a.shape.w = omega arith in
+    let next : suc y * a.shape.w + 0 ≡ y * a.shape.w + a.shape.w = omega (arith, suc-mul y a.shape.w) in
+    let s : Placed (slice_get a.body (y * a.shape.w)) p = placed (slice_get a.body (y * a.shape.w)) p (sym (rows_is a.body a.shape.w 0 y 0 wide refl ∙ ap (place_at a.body) this) ∙ ap (λ (h : Head). slice_get h.rows y) (sym a.head) ∙ p_is) in
+    let t : Placed (slice_get a.body (y * a.shape.w + a.shape.w)) q = placed (slice_get a.body (y * a.shape.w + a.shape.w)) q (sym (rows_is a.body a.shape.w 0 (suc y) 0 wide refl ∙ ap (place_at a.body) next) ∙ ap (λ (h : Head). slice_get h.rows (suc y)) (sym a.head) ∙ q_is) in
+    let here : slice_get (tokens text) (e.count + y * a.shape.w) ≡ Some s.token = sym (get_behind e.count (tokens text) (y * a.shape.w)) ∙ ap (λ ts. slice_get ts (y * a.shape.w)) (sym e.same) ∙ s.is in
+    let index : e.count + (y * a.shape.w + a.shape.w) ≡ (e.count + y * a.shape.w) + a.shape.w = omega arith in
+    let there : slice_get (tokens text) ((e.count + y * a.shape.w) + a.shape.w) ≡ Some t.token = ap (slice_get (tokens text)) (sym index) ∙ sym (get_behind e.count (tokens text) (y * a.shape.w + a.shape.w)) ∙ ap (λ ts. slice_get ts (y * a.shape.w + a.shape.w)) (sym e.same) ∙ t.is in
+    let ended : ended_in (drop s.token.at (take t.token.at text)) ≡ a.shape.w = ended_between text (e.count + y * a.shape.w) a.shape.w s.token t.token short here there (omega (arith, s.place, t.place)) in
+    ap (λ n. ended_in (drop p (take n text))) (sym t.place) ∙ ap (λ n. ended_in (drop n (take t.token.at text))) (sym s.place) ∙ ended ∙ sym w_is
+
+rows_apart : (text : List ℕ) (h : Head) (y p q : ℕ) → grid_head text ≡ Ok h → length text < 2 ^ 64 → slice_get h.rows y ≡ Some p → slice_get h.rows (suc y) ≡ Some q → p < q
+rows_apart text h y p q is short p_is q_is = rising_next h.rows 0 (length text) y p q (rows_are_rising text h is short) p_is q_is
+
+-- as many tokens end in them as the row has columns
+pub row_ends : (text : List ℕ) (h : Head) (y p q : ℕ) → grid_head text ≡ Ok h → IsHead h → length text < 2 ^ 64 → slice_get h.rows y ≡ Some p → slice_get h.rows (y + 1) ≡ Some q → ended_in (drop p (take q text)) ≡ h.size.w
+row_ends text h y p q is kept short p_is q_is =
+    let next : slice_get h.rows (suc y) ≡ Some q = (let e : suc y ≡ y + 1 = omega arith in ap (slice_get h.rows) e) ∙ q_is in
+    let forward : p < q = rows_apart text h y p q is short p_is next in
+    let g : HasGrid text h = has_grid (grid_of text) text h refl is in
+    subst (λ (k : Head). ended_in (drop p (take q text)) ≡ k.size.w) g.head
+    (ends_between text g.grid y p q g.is (subst (λ (k : Head). IsHead k) (sym g.head) kept) short (ap (λ (k : Head). slice_get k.rows y) g.head ∙ p_is) (ap (λ (k : Head). slice_get k.rows (suc y)) g.head ∙ next) (omega arith))
+
+-- so they read as its values
+pub row_within : (text : List ℕ) (h : Head) (y p q : ℕ) → grid_head text ≡ Ok h → IsHead h → length text < 2 ^ 64 → slice_get h.rows y ≡ Some p → slice_get h.rows (y + 1) ≡ Some q → row_of h.size.w (drop p (take q text)) ≡ line_of text 0 y h.size.w
+row_within text h y p q is kept short p_is q_is =
+    let next : slice_get h.rows (suc y) ≡ Some q = (let e : suc y ≡ y + 1 = omega arith in ap (slice_get h.rows) e) ∙ q_is in
+    let forward : p < q = rows_apart text h y p q is short p_is next in
+    let enough : h.size.w ≤ ended_in (drop p (take q text)) = omega (arith, row_ends text h y p q is kept short p_is q_is) in
+    whole_row h.size.w (drop p (take q text)) (drop q text) enough ∙ ap (row_of h.size.w) (then_rest p q text (omega arith)) ∙ row_is_line text h y p is kept short p_is

@@ -122,10 +122,10 @@ closed_more s out new text piece f none is size = is ∙ closed_row s out text f
 
 -- how many are filled
 
-ended_white : (c : ℕ) (cs : List ℕ) (b : Bool) → is_white c ≡ true → ended_from b (c ∷ cs) ≡ cond b (1 + ended_from false cs) (ended_from false cs)
+pub ended_white : (c : ℕ) (cs : List ℕ) (b : Bool) → is_white c ≡ true → ended_from b (c ∷ cs) ≡ cond b (1 + ended_from false cs) (ended_from false cs)
 ended_white c cs b w = rw w refl
 
-ended_dark : (c : ℕ) (cs : List ℕ) (b : Bool) → is_white c ≡ false → ended_from b (c ∷ cs) ≡ ended_from true cs
+pub ended_dark : (c : ℕ) (cs : List ℕ) (b : Bool) → is_white c ≡ false → ended_from b (c ∷ cs) ≡ ended_from true cs
 ended_dark c cs b w = rw w refl
 
 filled_is : (bytes : List ℕ) (at begun : ℕ) (text : List ℕ) (filled : ℕ) (out : List ℤ) → filled ≤ length out → (row_fed (record { held = open_at at begun text; row = record { filled = filled; out = out } }) bytes).row.filled ≡ min (length out) (filled + ended_from (is_open text) bytes)

@@ -1,7 +1,8 @@
 -- Words of the specification at numbers.
-use Rattle.std.proofs.Common.{◌≡◌, refl, ℕ, ℤ, pos, ◌+◌, ◌*◌, [], ◌∷◌}
+use Rattle.std.proofs.Common.{◌≡◌, refl, pos, ◌+◌, ◌*◌, [], ◌∷◌}
+use Rattle.band_blocks.specs.Contents.{row_span, greatest}
 use Rattle.band_blocks.specs.Open.{used}
-use Rattle.band_blocks.specs.Places.{count_in, rect_in, number_in, row_by_row}
+use Rattle.catalog.specs.Places.{count_in, rect_in, number_in, row_by_row}
 
 -- the blocks of 128 x 128 pixels of a raster of 300 columns and 200 lines
 blocks : count_in (record { w = 128; h = 128 }) (record { w = 300; h = 200 }) ≡ 6
@@ -28,3 +29,19 @@ again = refl
 
 seventeenth : used 17 (16 ∷ 15 ∷ 14 ∷ 13 ∷ 12 ∷ 11 ∷ 10 ∷ 9 ∷ 8 ∷ 7 ∷ 6 ∷ 5 ∷ 4 ∷ 3 ∷ 2 ∷ 1 ∷ []) ≡ 17 ∷ 16 ∷ 15 ∷ 14 ∷ 13 ∷ 12 ∷ 11 ∷ 10 ∷ 9 ∷ 8 ∷ 7 ∷ 6 ∷ 5 ∷ 4 ∷ 3 ∷ 2 ∷ []
 seventeenth = refl
+
+-- the rows of a grid in a file of 131,000 bytes
+span_of_first : row_span (53 ∷ 58 ∷ 130999 ∷ []) 131000 0 ≡ 5
+span_of_first = refl
+
+span_of_next : row_span (53 ∷ 58 ∷ 130999 ∷ []) 131000 1 ≡ 130941
+span_of_next = refl
+
+span_of_last : row_span (53 ∷ 58 ∷ 130999 ∷ []) 131000 2 ≡ 1
+span_of_last = refl
+
+greatest_of_three : greatest (2 ∷ 5 ∷ 2 ∷ []) ≡ 5
+greatest_of_three = refl
+
+greatest_of_none : greatest [] ≡ 0
+greatest_of_none = refl

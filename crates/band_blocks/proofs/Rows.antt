@@ -1,6 +1,5 @@
 -- The samples of a row that are put into its block.
-use Rattle.std.proofs.Common.{◌≡◌, ℕ, zero, suc, ◌+◌, ◌-◌, ◌*◌, ◌<◌, ◌≤◌, min, ℤ, pos, List, ◌++◌, take, drop, map, refl, sym, ap, ◌∙◌, subst, arith, length, length-append, get_or, ⊎_elim, zero-add}
-use Rattle.std.specs.List.{range_with_len}
+use Rattle.std.proofs.Common.{◌≡◌, ℕ, ◌+◌, ◌-◌, ◌*◌, ◌<◌, ◌≤◌, min, ℤ, pos, List, ◌++◌, take, drop, sym, ap, ◌∙◌, arith, length, length-append, get_or, ⊎_elim, zero-add}
 use Rattle.std.proofs.lemmas.Bool.{cases_lt}
 use Rattle.std.proofs.lemmas.List.{get_or_append_left, get_or-append_right, get_or-take, length-take-le, length-drop}
 use Rattle.std.proofs.lemmas.List.FromFn.{get_or-map-range_with_len, length-map-range_with_len, fill_by_all}
@@ -8,7 +7,7 @@ use Rattle.std.proofs.Math.Nat.{mul-le-mul_right}
 use Rattle.esri_hdr.specs.Head.{Head}
 use Rattle.interleaved_raw.specs.Raw.{row_of, raw_at}
 use Rattle.band_blocks.specs.Blocks.{written}
-use Rattle.band_blocks.specs.Places.{steps_over}
+use Rattle.catalog.specs.Places.{steps_over}
 use Rattle.band_blocks.proofs.Corners.{step_within, reach}
 
 pub length-written : (at : ℕ) (xs old : List ℤ) → at + length xs ≤ length old → length (written at xs old) ≡ length old

@@ -2,5 +2,4 @@ pub mod Blocks
 pub mod Contents
 pub mod Keys
 pub mod Open
-pub mod Places
 pub mod Views

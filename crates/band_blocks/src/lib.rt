@@ -4,6 +4,7 @@
 mod block;
 mod cell;
 mod files;
+mod grid;
 mod key;
 mod load;
 #[cfg(test)]
@@ -18,6 +19,6 @@ mod tests;
 pub use block::Block;
 pub use files::OpenFiles;
 pub use key::BlockKey;
-pub use load::{LoadFault, is_loaded, load_block};
+pub use load::{LoadFault, load_block};
 pub use places::{block_at, block_rect};
 pub use steps::Steps;

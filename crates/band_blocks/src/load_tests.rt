@@ -1,8 +1,9 @@
-ghost use Rattle.std.specs.Prelude.{◌≡◌, ◌<◌, ◌≤◌, ℕ};
+ghost use Rattle.std.specs.Prelude.{◌≡◌, ◌<◌, ◌≤◌, ℕ, Some, IsSome, slice_get};
+ghost use Rattle.catalog.specs.Drivers.{Dataset, driver_of};
 ghost use Rattle.band_blocks.specs.Keys.{IsKey};
 ghost use Rattle.band_blocks.specs.Open.{AreGood};
 
-use crate::{Block, BlockKey, LoadFault, OpenFiles, Steps, block_at, is_loaded, load_block};
+use crate::{Block, BlockKey, LoadFault, OpenFiles, Steps, block_at, load_block};
 use catalog::{Catalog, open_all};
 use outside::{CalmFolder, Folder, Name, Never, Tally};
 use std::alloc::Global;
@@ -42,6 +43,7 @@ fn load_counted<F: Folder, L: Ledger>(
     blank: Blank,
 ) -> Result<String, Fail>
     requires key { IsKey cat.now key }
+    requires file { (d : Dataset) → slice_get cat.now key.file ≡ Some d → IsSome (driver_of d.content) }
     requires good { AreGood F.file_bytes F.file_len (F.names folder.old) cat.now files.old }
     requires name { blank.name ≡ L.name }
     requires parts { blank.parts ≡ L.parts }
@@ -56,7 +58,7 @@ fn load_counted<F: Folder, L: Ledger>(
 }
 
 // What a load of the block of a pixel gives.
-#[tactic(auto, using(crate::proofs::Loads::key_in))]
+#[tactic(auto, using(crate::proofs::Loads::key_in, crate::proofs::Loads::file_known))]
 fn load_at<F: Folder>(
     alloc: Global,
     cat: &Catalog,
@@ -71,13 +73,10 @@ fn load_at<F: Folder>(
     if id >= cat.count() {
         return Ok(String::from_str(alloc, "no dataset")?);
     }
-    let head = cat.head(id);
-    let Some(driver) = cat.driver(id) else {
-        return Ok(String::from_str(alloc, "no driver")?);
-    };
-    if !is_loaded(driver) {
-        return Ok(String::from_str(alloc, "no block")?);
+    if cat.driver(id).is_none() {
+        return Ok(String::from_str(alloc, "no file")?);
     }
+    let head = cat.head(id);
     let (band, x, y) = place;
     if band as usize >= head.bands.len() || x >= head.size.w || y >= head.size.h {
         return Ok(String::from_str(alloc, "no pixel")?);
@@ -251,6 +250,108 @@ fn reads_in_pieces(rt: HostRuntime) -> Result<(), Fail> {
         (600, "600: 7 7 7 7 7", 3),
     ] {
         let (said, reads) = counted(alloc, columns)?;
+        assert_eq!(rt; said.as_str(), wanted);
+        assert_eq!(rt; reads, calls);
+    }
+    Ok(())
+}
+
+const GRID_HEAD: &str = "xllcorner 0\nyllcorner 0\ncellsize 1\n";
+
+// The body of a grid of three columns and two rows, the line of a pixel, and its block.
+const GRID_ROWS: [(&str, u32, &str); 6] = [
+    ("1 -2 3\n40 50 60\n", 0, "3: 1 -2 3"),
+    ("1 -2 3\n40 50 60\n", 1, "3: 40 50 60"),
+    ("1 -2 3\n40 50 60", 1, "3: 40 50 60"),
+    ("1\n-2 3 40\n\n 50\t60 ", 0, "3: 1 -2 3"),
+    ("1\n-2 3 40\n\n 50\t60 ", 1, "3: 40 50 60"),
+    (
+        "-2147483648 2147483647 +7.0 0 0 0",
+        0,
+        "3: -2147483648 2147483647 7",
+    ),
+];
+
+#[test]
+fn loads_rows_of_grids(rt: HostRuntime) -> Result<(), Fail> {
+    let alloc = rt.alloc();
+    for (body, line, wanted) in GRID_ROWS {
+        let text = format!(in alloc; "ncols 3\nnrows 2\n{GRID_HEAD}{body}")?;
+        let files = [("g.asc", text.as_bytes())];
+        let said = answer(alloc, &files, "g.asc", (0, 2, line))?;
+        assert_eq!(rt; said.as_str(), wanted);
+    }
+    Ok(())
+}
+
+// What a load of a line of a grid gives where its file has other bytes by then, and how often it reads.
+fn counted_line(
+    alloc: Global,
+    size: &str,
+    walked: &[u8],
+    later: &[u8],
+    line: u32,
+) -> Result<(String, u64), Fail> {
+    let head = format!(in alloc; "{size}{GRID_HEAD}")?;
+    let mut first = Vec::from_slice(alloc, head.as_bytes())?;
+    first.extend_from_slice(walked)?;
+    let mut second = Vec::from_slice(alloc, head.as_bytes())?;
+    second.extend_from_slice(later)?;
+    let mut found = holding(alloc, &[("g.asc", first.as_slice())])?;
+    let mut folder = Tally::new(holding(alloc, &[("g.asc", second.as_slice())])?);
+    let said = first_load(alloc, &mut found, &mut folder, "g.asc", (0, 0, line))?;
+    Ok((said, folder.reads()))
+}
+
+// 100,000 bytes between two others.
+fn between(alloc: Global, front: u8, fill: u8, back: u8) -> Result<Vec<u8>, Fail> {
+    let mut bytes = vec![in alloc; fill; 100_002]?;
+    bytes[0] = front;
+    bytes[100_001] = back;
+    Ok(bytes)
+}
+
+// The bytes that a grid of one column and two rows has by then: the first, the 100,000 behind it and the
+// last. The line that is loaded, its block, and how often it is read.
+const LATER: [(u8, u8, u8, u32, &str, u64); 6] = [
+    (b'7', b' ', b'8', 0, "1: 7", 1),
+    (b'7', b' ', b'8', 1, "1: 8", 1),
+    (b' ', b' ', b'8', 0, "1: 0", 2),
+    (b'1', b'1', b'1', 0, "1: 0", 2),
+    (b'x', b'\n', b'9', 0, "1: 0", 1),
+    (b'x', b'\n', b'9', 1, "1: 9", 1),
+];
+
+// The walk finds a 7, 100,000 spaces and an 8. No load reads past the place of the next row.
+#[test]
+fn stops_at_the_next_row(rt: HostRuntime) -> Result<(), Fail> {
+    let alloc = rt.alloc();
+    let size = "ncols 1\nnrows 2\n";
+    let walked = between(alloc, b'7', b' ', b'8')?;
+    for (front, fill, back, line, wanted, calls) in LATER {
+        let later = between(alloc, front, fill, back)?;
+        let (said, reads) = counted_line(alloc, size, &walked, &later, line)?;
+        assert_eq!(rt; said.as_str(), wanted);
+        assert_eq!(rt; reads, calls);
+    }
+    Ok(())
+}
+
+#[test]
+fn reads_rows_of_grids_in_pieces(rt: HostRuntime) -> Result<(), Fail> {
+    let alloc = rt.alloc();
+    for (columns, wanted, calls) in [
+        (5usize, "5: 7 7 7 7 7", 1),
+        (32_768, "32768: 7 7 7 7 7", 1),
+        (32_769, "32769: 7 7 7 7 7", 2),
+        (65_537, "65537: 7 7 7 7 7", 3),
+    ] {
+        let size = format!(in alloc; "ncols {columns}\nnrows 1\n")?;
+        let mut body = vec![in alloc; b' '; 2 * columns]?;
+        for at in 0..columns {
+            body[2 * at] = b'7';
+        }
+        let (said, reads) = counted_line(alloc, &size, &body, &body, 0)?;
         assert_eq!(rt; said.as_str(), wanted);
         assert_eq!(rt; reads, calls);
     }

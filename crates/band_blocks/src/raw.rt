@@ -5,7 +5,7 @@ ghost use Rattle.esri_hdr.specs.Head.{sample_len};
 ghost use Rattle.interleaved_raw.specs.Raw.{stride_of, needed_of, row_of};
 ghost use Rattle.band_blocks.specs.Blocks.{AreIn, written};
 ghost use Rattle.band_blocks.specs.Open.{IsUnchanged};
-ghost use Rattle.band_blocks.specs.Places.{steps_over};
+ghost use Rattle.catalog.specs.Places.{steps_over};
 
 use crate::places::steps_over;
 use crate::{Block, LoadFault};
@@ -16,7 +16,7 @@ use outside::{Failed, Folder};
 use std::alloc::Global;
 
 /// The most bytes of a piece.
-const MOST_BYTES: u64 = 65_536;
+pub(crate) const MOST_BYTES: u64 = 65_536;
 
 /// The most samples of a piece.
 const MOST_SAMPLES: u64 = 32_768;

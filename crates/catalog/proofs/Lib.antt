@@ -1,10 +1,31 @@
+pub mod Again
 pub mod Bands
 pub mod Cells
+pub mod Closings
 pub mod Datasets
 mod Examples
+pub mod Found
 pub mod Headers
+pub mod Heights
+pub mod Lengths
+pub mod Listings
+pub mod Loops
+pub mod Meetings
+pub mod Meets
+pub mod Mosaics
 pub mod Numbers
+pub mod Opened
+pub mod Passes
+pub mod PixelLaws
+mod PixelRows
+pub mod Pixels
 pub mod Records
+pub mod Rows
 pub mod Scans
+pub mod States
+pub mod Steps
+pub mod Targets
+pub mod Visits
 pub mod Walked
 pub mod Whole
+pub mod Wholes

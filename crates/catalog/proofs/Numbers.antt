@@ -5,7 +5,7 @@ use Rattle.std.proofs.lemmas.List.Elements.{All-append, All-cons, All-nil}
 use Rattle.std.proofs.lemmas.Slice.Eq.{bytes_eq-Decides}
 use Rattle.std.proofs.lemmas.Bool.Decides.{same_from_decides}
 use Rattle.catalog.specs.Drivers.{Dataset}
-use Rattle.catalog.specs.Walk.{number_from, number_of, IsDataset, IsApart, IsCatalog}
+use Rattle.catalog.specs.Walk.{number_from, number_of, IsApart}
 
 none≢some : {T : Type 0} {x : T} → None ≡ Some x → ⊥
 none≢some e = true≢false (sym (ap is_some e))
@@ -42,7 +42,7 @@ kept_step at cs d name id true is rest = is
 kept_step at cs d name id false is rest = rest is
 
 -- a name that one of them has
-number_kept : (at : ℕ) (cat : List Dataset) (d : Dataset) (name : List ℕ) (id : ℕ) → number_from at cat name ≡ Some id → number_from at (cat ++ d ∷ []) name ≡ Some id
+pub number_kept : (at : ℕ) (cat : List Dataset) (d : Dataset) (name : List ℕ) (id : ℕ) → number_from at cat name ≡ Some id → number_from at (cat ++ d ∷ []) name ≡ Some id
 unfolding by_name
 number_kept at [] d name id is = absurd (none≢some is)
 number_kept at (c ∷ cs) d name id is = kept_step at cs d name id (bytes_eq c.head.name name) is (λ h. number_kept (suc at) cs d name id h)
@@ -62,15 +62,23 @@ found_in_front (c ∷ cs) d e (suc id) is = map_⊎ (found_in_front cs d e id is
 pub number_of_added : (cat : List Dataset) (d : Dataset) (name : List ℕ) → number_of cat name ≡ None → d.head.name ≡ name → number_of (cat ++ d ∷ []) name ≡ Some (length cat)
 number_of_added cat d name none is = number_behind 0 cat d name none is ∙ ap Some (omega arith)
 
-pub one_more : (cat : List Dataset) (d : Dataset) → IsCatalog cat → length cat < 65536 → number_of cat d.head.name ≡ None → IsDataset d → IsCatalog (cat ++ d ∷ [])
-one_more cat d is room fresh valid = record {
-  each = All-append IsDataset cat (d ∷ []) is.each (All-cons IsDataset d [] valid (All-nil IsDataset));
-  few = omega (arith, length-append cat (d ∷ []));
-  apart = λ id e at. by_place id e (found_in_front cat d e id at);
-}
+-- each is found under its name, and the one more too
+pub apart_more : (cat : List Dataset) (d : Dataset) → IsApart cat → number_of cat d.head.name ≡ None → IsApart (cat ++ d ∷ [])
+apart_more cat d apart fresh = λ id e at. by_place id e (found_in_front cat d e id at)
   where
     by_place : (id : ℕ) (e : Dataset) → (slice_get cat id ≡ Some e) ⊎ ((e ≡ d) × (id ≡ length cat)) → number_of (cat ++ d ∷ []) e.head.name ≡ Some id
-    by_place id e (inl before) = number_kept 0 cat d e.head.name id (is.apart id e before)
+    by_place id e (inl before) = number_kept 0 cat d e.head.name id (apart id e before)
     by_place id e (inr last) =
         let named : d.head.name ≡ e.head.name = ap (λ (x : Dataset). x.head.name) (sym last.0) in
         number_of_added cat d e.head.name (subst (λ n. number_of cat n ≡ None) named fresh) named ∙ ap Some (sym last.1)
+
+other_step : (at : ℕ) (cs : List Dataset) (d : Dataset) (name : List ℕ) (b : Bool) → by_name at cs name b ≡ None → (number_from (suc at) cs name ≡ None → number_from (suc at) (cs ++ d ∷ []) name ≡ None) → by_name at (cs ++ d ∷ []) name b ≡ None
+unfolding by_name
+other_step at cs d name true none rest = absurd (none≢some (sym none))
+other_step at cs d name false none rest = rest none
+
+-- a name that none of them has, nor what is added
+pub number_of_other : (at : ℕ) (cat : List Dataset) (d : Dataset) (name : List ℕ) → number_from at cat name ≡ None → bytes_eq d.head.name name ≡ false → number_from at (cat ++ d ∷ []) name ≡ None
+unfolding by_name
+number_of_other at [] d name none other = ap (λ b. cond b (Some at) None) other
+number_of_other at (c ∷ cs) d name none other = other_step at cs d name (bytes_eq c.head.name name) none (λ h. number_of_other (suc at) cs d name h other)

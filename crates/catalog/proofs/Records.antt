@@ -1,7 +1,7 @@
 -- The records of a cell, from west to east.
-use Rattle.std.proofs.Common.{◌≡◌, ◌∙◌, ◌+◌, ◌-◌, ◌<◌, ap, sym, Bool, true, false, cond, not, ℕ, suc, List, length, take, drop, Option, Some, None, arith}
+use Rattle.std.proofs.Common.{◌≡◌, ◌∙◌, ◌+◌, ◌-◌, ◌<◌, ap, sym, Bool, true, false, cond, not, ℕ, suc, List, take, drop, Option, Some, arith}
 use Rattle.std.specs.List.{range_with_len}
-use Rattle.dted_records.specs.Head.{Head, part}
+use Rattle.dted_records.specs.Head.{Head}
 use Rattle.dted_records.specs.Places.{record_of, record_len}
 use Rattle.dted_records.specs.Records.{is_record}
 use Rattle.catalog.specs.Heads.{is_broken, broken_in}

@@ -1,5 +1,5 @@
 -- What a scanner was fed of an open file, piece by piece.
-use Rattle.std.proofs.Common.{◌≡◌, ◌∙◌, ◌⊎◌, inl, inr, ◌+◌, ◌<◌, ◌≤◌, ◌^◌, ap, ap₂, sym, subst, refl, ℕ, List, [], ◌++◌, length, take, drop, length-append, Option, Some, Result, Ok, Err, arith}
+use Rattle.std.proofs.Common.{◌≡◌, ◌∙◌, ◌⊎◌, inl, inr, ◌+◌, ◌<◌, ◌^◌, ap, ap₂, sym, subst, refl, ℕ, List, [], ◌++◌, length, take, drop, length-append, Option, Some, Ok, Err, arith}
 use Rattle.std.proofs.lemmas.List.{take-append-drop, take_all}
 use Rattle.std.proofs.Math.Seq.{take-append-add}
 use Rattle.ascii_grid.specs.declared.faults.GridFault.{GridFault}

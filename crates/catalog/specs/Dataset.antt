@@ -1,22 +1,11 @@
 -- What is known of a dataset before its pixels are read.
-use Rattle.std.specs.Prelude.{ℕ, ◌≡◌, ◌<◌, ◌≤◌, List, [], ◌∷◌, length, replicate, All, Option, Some, None, option_map, IfSome, true, Result, Ok, pos, negsuc}
+use Rattle.std.specs.Prelude.{ℕ, ◌≡◌, ◌<◌, ◌≤◌, List, length, All, Option, IfSome, true}
 use Rattle.geotransform.specs.Geo.{Transform, IsRaster}
 use Rattle.geotransform.specs.Types.{is_in}
 use Rattle.geotransform.specs.declared.types.Size.{Size}
-use Rattle.geotransform.specs.declared.types.PixelType.{PixelType}
-use Rattle.geotransform.specs.declared.types.PixelType.TheVariants.{Int16}
-use Rattle.outside.specs.Names.{last_part, header_of}
-use Rattle.esri_hdr.specs.Head.{Head, IsHead, geotransform_of}
-use Rattle.interleaved_raw.specs.Raw as raw
-use Rattle.dted_records.specs.Head as dted
-use Rattle.dted_records.specs.Places as dted_places
-use Rattle.hgt_tiles.specs.Names.{corner_of}
-use Rattle.hgt_tiles.specs.Places.{side_of_length, tile_transform}
 use Rattle.catalog.specs.declared.kind.BandHead.{BandHead}
 use Rattle.catalog.specs.declared.kind.Kind.{Kind}
 use Rattle.catalog.specs.declared.kind.Kind.TheVariants as kinds
-use Rattle.catalog.specs.declared.driver.DriverHead.{DriverHead}
-use Rattle.catalog.specs.declared.driver.DriverHead.TheVariants.{Raw, Dted, Hgt}
 
 -- a dataset: its name and kind, its raster, its bands in order, and the names of its own files
 pub record DatasetHead : Type 0 where
@@ -28,12 +17,13 @@ pub record DatasetHead : Type 0 where
   pub bands : List BandHead
   pub files : List (List ℕ)
 
--- the size of the blocks of a kind: a line of pixels, or a column of a cell
+-- the size of the blocks of a kind: a line of pixels, a column of a cell, or a square of a mosaic
 abbrev pub block_of : Kind → Size → Size
 block_of kinds.Raw size = record { w = size.w; h = 1 }
 block_of kinds.Dted size = record { w = 1; h = size.h }
 block_of kinds.Hgt size = record { w = size.w; h = 1 }
 block_of kinds.Ascii size = record { w = size.w; h = 1 }
+block_of kinds.Vrt size = record { w = 128; h = 128 }
 
 -- a band has the blocks of its dataset, and a NODATA of its own type
 pub record IsBandHead (kind : Kind) (size : Size) (band : BandHead) : Type 0 where

@@ -1,5 +1,5 @@
 -- What the head of a file says of its dataset.
-use Rattle.std.specs.Prelude.{ℕ, ℤ, ◌≡◌, ◌≤◌, List, [], ◌∷◌, length, replicate, true, Option, Some, None, option_map, pos, negsuc}
+use Rattle.std.specs.Prelude.{ℕ, ℤ, ◌≡◌, ◌≤◌, ◌^◌, List, [], ◌∷◌, replicate, true, Option, Some, None, option_map, negsuc}
 use Rattle.geotransform.specs.declared.types.Size.{Size}
 use Rattle.geotransform.specs.Geo.{Transform}
 use Rattle.geotransform.specs.declared.types.PixelType.TheVariants.{Int16, Int32}
@@ -11,12 +11,16 @@ use Rattle.dted_records.specs.Places as dted_places
 use Rattle.hgt_tiles.specs.Names as hgt_names
 use Rattle.hgt_tiles.specs.Places as hgt_places
 use Rattle.ascii_grid.specs.Grid as ascii
+use Rattle.vrt_profile.specs.Values.{DocumentValue, IsDocument}
 use Rattle.catalog.specs.declared.kind.BandHead.{BandHead}
 use Rattle.catalog.specs.declared.kind.Kind.{Kind}
 use Rattle.catalog.specs.declared.kind.Kind.TheVariants as kinds
 use Rattle.catalog.specs.declared.driver.Found.{Found}
 use Rattle.catalog.specs.declared.driver.DriverHead.{DriverHead}
 use Rattle.catalog.specs.declared.driver.DriverHead.TheVariants.{Raw, Dted, Hgt, Ascii}
+use Rattle.catalog.specs.declared.driver.Content.{Content}
+use Rattle.catalog.specs.declared.driver.Content.TheVariants.{File, Mosaic}
+use Rattle.catalog.specs.Mosaics.{mosaic_head}
 use Rattle.catalog.specs.Dataset.{DatasetHead, block_of}
 
 -- a band of raw data
@@ -85,12 +89,37 @@ driver_kind (Dted h) = kinds.Dted
 driver_kind (Hgt side) = kinds.Hgt
 driver_kind (Ascii h) = kinds.Ascii
 
+-- what the content of a dataset under a name says of it
+abbrev pub content_head : List ℕ → Content → DatasetHead
+content_head name (File h) = head_told name h
+content_head name (Mosaic d) = mosaic_head name d
+
+-- the kind of a content
+abbrev pub content_kind : Content → Kind
+content_kind (File h) = driver_kind h
+content_kind (Mosaic d) = kinds.Vrt
+
+-- the head of the data, where it is a file
+abbrev pub driver_of : Content → Option DriverHead
+driver_of (File h) = Some h
+driver_of (Mosaic d) = None
+
+-- the document, where it is a mosaic
+abbrev pub document_of : Content → Option DocumentValue
+document_of (File h) = None
+document_of (Mosaic d) = Some d
+
 -- the name is one of the kind of the head of its data, which keeps its rules
 abbrev pub IsOfKind : List ℕ → DriverHead → Type 0
 IsOfKind name (Raw h) = IsHead h × (is_raw (extension_of name) ≡ true)
 IsOfKind name (Dted h) = dted.IsHead h
 IsOfKind name (Hgt side) = ((p : hgt_names.Place) × (hgt_names.corner_of (last_part name) ≡ Some p)) × hgt_places.IsSide side
 IsOfKind name (Ascii h) = ascii.IsHead h
+
+-- the same of a content; a document keeps its rules
+abbrev pub IsOfContent : List ℕ → Content → Type 0
+IsOfContent name (File h) = IsOfKind name h
+IsOfContent name (Mosaic d) = IsDocument d
 
 -- a file has as many bytes as the head of its data asks, and the rows of a grid stand in it one behind the other
 abbrev pub IsLongEnough : DriverHead → ℕ → Type 0
@@ -100,16 +129,26 @@ IsLongEnough (Hgt side) len = hgt_places.side_of_length len ≡ Some side
 IsLongEnough (Ascii h) len = ascii.AreRising 0 len h.rows
 
 -- the name and the length of a file are those that the head of its data asks
-pub record Fits (name : List ℕ) (driver : DriverHead) (len : ℕ) : Type 0 where
+pub record FileFits (name : List ℕ) (driver : DriverHead) (len : ℕ) : Type 0 where
   pub kind : IsOfKind name driver
   pub long : IsLongEnough driver len
 
--- a dataset of a catalog: its head, the head of its data, and the length of the file that has its name
+-- a document keeps its rules, and its length is within the limit
+pub record DocumentFits (d : DocumentValue) (len : ℕ) : Type 0 where
+  pub rules : IsDocument d
+  pub within : len ≤ 2 ^ 26
+
+-- the name and the length of a file are those that its content asks
+abbrev pub Fits : List ℕ → Content → ℕ → Type 0
+Fits name (File h) len = FileFits name h len
+Fits name (Mosaic d) len = DocumentFits d len
+
+-- a dataset of a catalog: its head, its content, and the length of the file that has its name
 pub record Dataset : Type 0 where
   pub head : DatasetHead
-  pub driver : DriverHead
+  pub content : Content
   pub length : ℕ
 
 -- the dataset of a name by what was found in its files
 abbrev pub dataset_of : List ℕ → Found → Dataset
-dataset_of name found = record { head = head_told name found.driver; driver = found.driver; length = found.length }
+dataset_of name found = record { head = content_head name found.content; content = found.content; length = found.length }

@@ -1,5 +1,5 @@
 -- What the files of a folder say of a dataset, or its first refusal.
-use Rattle.std.specs.Prelude.{ℕ, ◌≡◌, ◌⊎◌, Bool, true, false, not, List, [], ◌∷◌, length, nat_lt, Option, Some, None, Result, Ok, Err, ok_or, option_map, option_and_then, if◌then◌else◌}
+use Rattle.std.specs.Prelude.{ℕ, ◌≡◌, ◌⊎◌, Bool, not, List, [], ◌∷◌, length, ◌^◌, nat_lt, Option, Some, None, Result, Ok, Err, ok_or, option_and_then, if◌then◌else◌}
 use Rattle.std.specs.List.{range_with_len}
 use Rattle.std.specs.FinMap.{get}
 use Rattle.lists_and_answers.specs.Answers.{◌>>=◌}
@@ -7,28 +7,35 @@ use Rattle.outside.specs.Outside.{Files}
 use Rattle.outside.specs.Names.{extension_of, header_of, last_part}
 use Rattle.outside.specs.declared.name.Ext.{Ext}
 use Rattle.outside.specs.declared.name.Ext.TheVariants.{Bil, Bip, Bsq, Dt0, Dt1, Dt2, Hgt, Asc, Grd, Vrt}
-use Rattle.esri_hdr.specs.declared.parts.HdrFault.{HdrFault}
 use Rattle.esri_hdr.specs.Head.{Head, esri_head}
 use Rattle.interleaved_raw.specs.Raw as raw
-use Rattle.dted_records.specs.declared.head.DtedFault.{DtedFault}
 use Rattle.dted_records.specs.declared.head.DtedFault.TheVariants.{BadRecord}
 use Rattle.dted_records.specs.Head as dted
 use Rattle.dted_records.specs.Places as dted_places
 use Rattle.dted_records.specs.Records.{is_record}
-use Rattle.hgt_tiles.specs.declared.corner.HgtFault.{HgtFault}
 use Rattle.hgt_tiles.specs.declared.corner.HgtFault.TheVariants.{BadName, BadLength}
 use Rattle.hgt_tiles.specs.Names as hgt_names
 use Rattle.hgt_tiles.specs.Places as hgt_places
 use Rattle.ascii_grid.specs.Grid as ascii
+use Rattle.ascii_grid.specs.declared.faults.GridFault.TheVariants as grid
+use Rattle.vrt_profile.specs.Values.{DocumentValue, SourceValue}
+use Rattle.vrt_profile.specs.Resolve.{resolved_text}
+use Rattle.vrt_profile.specs.Document.{document_of}
+use Rattle.vrt_profile.specs.declared.fault.VrtFault.TheVariants as vrt
+use Rattle.catalog.specs.Mosaics.{source_name, sources_of}
 use Rattle.catalog.specs.Dataset.{DatasetHead}
 use Rattle.catalog.specs.Drivers.{Dataset, dataset_of}
 use Rattle.catalog.specs.declared.driver.Found.{Found}
 use Rattle.catalog.specs.declared.kind.Kind.{Kind}
 use Rattle.catalog.specs.declared.kind.Kind.TheVariants as kinds
 use Rattle.catalog.specs.declared.driver.DriverHead.TheVariants as drivers
+use Rattle.catalog.specs.declared.driver.Content.{Content}
+use Rattle.catalog.specs.declared.driver.Content.TheVariants.{File, Mosaic}
+use Rattle.catalog.specs.declared.faults.LimitKind.TheVariants as limits
+use Rattle.catalog.specs.declared.faults.Bad.{Bad}
 use Rattle.catalog.specs.declared.faults.Bad.TheVariants as bad
 use Rattle.catalog.specs.declared.faults.WalkFault.{WalkFault}
-use Rattle.catalog.specs.declared.faults.WalkFault.TheVariants.{Absent, NotRecognized, Malformed, Short, Memory}
+use Rattle.catalog.specs.declared.faults.WalkFault.TheVariants.{Absent, NotRecognized, Malformed, Short, Limit, Memory}
 
 -- the bytes under a name
 abbrev pub file_in : Files → List ℕ → Result (List ℕ) WalkFault
@@ -45,7 +52,7 @@ kind_of Dt2 = Some kinds.Dted
 kind_of Hgt = Some kinds.Hgt
 kind_of Asc = Some kinds.Ascii
 kind_of Grd = Some kinds.Ascii
-kind_of Vrt = None
+kind_of Vrt = Some kinds.Vrt
 
 -- the kind that the extension of a name tells
 abbrev pub kind_in : List ℕ → Result Kind WalkFault
@@ -72,7 +79,7 @@ raw_in m name = do
   bytes ← file_in m name
   head ← header_in m (header_of name)
   enough ← long_enough (raw.needed_of head) bytes name
-  Ok (record { driver = drivers.Raw head; length = length bytes })
+  Ok (record { content = File (drivers.Raw head); length = length bytes })
 
 -- whether the record of a line of a cell isn't whole
 abbrev pub is_broken : dted.Head → List ℕ → ℕ → Bool
@@ -105,7 +112,7 @@ dted_in m verify name = do
   bytes ← file_in m name
   head ← cell_in bytes name
   whole ← (if verify then records_whole head bytes name else Ok tt)
-  Ok (record { driver = drivers.Dted head; length = length bytes })
+  Ok (record { content = File (drivers.Dted head); length = length bytes })
 
 -- what is found of the tile under a name
 unfoldable pub hgt_in : Files → List ℕ → Result Found WalkFault
@@ -113,7 +120,7 @@ hgt_in m name = do
   corner ← ok_or (hgt_names.corner_of (last_part name)) (Malformed name (bad.Hgt BadName))
   bytes ← file_in m name
   side ← ok_or (hgt_places.side_of_length (length bytes)) (Malformed name (bad.Hgt BadLength))
-  Ok (record { driver = drivers.Hgt side; length = length bytes })
+  Ok (record { content = File (drivers.Hgt side); length = length bytes })
 
 -- the head of the grid whose bytes stand under a name
 abbrev pub grid_in : List ℕ → List ℕ → Result ascii.Head WalkFault
@@ -124,7 +131,18 @@ unfoldable pub ascii_in : Files → List ℕ → Result Found WalkFault
 ascii_in m name = do
   bytes ← file_in m name
   head ← grid_in bytes name
-  Ok (record { driver = drivers.Ascii head; length = length bytes })
+  Ok (record { content = File (drivers.Ascii head); length = length bytes })
+
+-- the document of the mosaic whose bytes stand under a name, which are at most 67,108,864
+abbrev pub document_in : List ℕ → List ℕ → Result DocumentValue WalkFault
+document_in bytes name = if nat_lt (2 ^ 26) (length bytes) then Err (Malformed name (bad.Vrt vrt.Limit)) else named (λ f. Malformed name (bad.Vrt f)) (document_of bytes)
+
+-- what is found of the mosaic under a name
+unfoldable pub vrt_in : Files → List ℕ → Result Found WalkFault
+vrt_in m name = do
+  bytes ← file_in m name
+  document ← document_in bytes name
+  Ok (record { content = Mosaic document; length = length bytes })
 
 -- what is found of the files of a dataset of this kind
 abbrev pub found_in : Kind → Files → Bool → List ℕ → Result Found WalkFault
@@ -132,6 +150,7 @@ found_in kinds.Raw m verify name = raw_in m name
 found_in kinds.Dted m verify name = dted_in m verify name
 found_in kinds.Hgt m verify name = hgt_in m name
 found_in kinds.Ascii m verify name = ascii_in m name
+found_in kinds.Vrt m verify name = vrt_in m name
 
 -- the dataset of a name whose kind is known
 unfoldable pub dataset_by : Kind → Files → Bool → List ℕ → Result Dataset WalkFault
@@ -145,11 +164,38 @@ dataset_in m verify name = do
   kind ← kind_in name
   dataset_by kind m verify name
 
+-- the name of a source of the mosaic with the name `base`, or the refusal of its length
+abbrev pub resolved : List ℕ → SourceValue → Result (List ℕ) WalkFault
+resolved base s = ok_or (source_name base s) (Limit limits.Name (length (resolved_text base s)))
+
+-- the name of each source is within the limit
+abbrev pub all_resolved : List ℕ → List SourceValue → Result (Unit {0}) WalkFault
+all_resolved base [] = Ok tt
+all_resolved base (s ∷ ss) = resolved base s >>= λ name. all_resolved base ss
+
+-- the names of the sources, if it is a mosaic, are within the limit
+abbrev pub names_within : List ℕ → Content → Result (Unit {0}) WalkFault
+names_within name (File h) = Ok tt
+names_within name (Mosaic d) = all_resolved name (sources_of d)
+
 -- the head of the dataset of a name; `verify` asks for the sums of DTED records
 unfoldable pub head_in : Files → Bool → List ℕ → Result DatasetHead WalkFault
 head_in m verify name = do
   d ← dataset_in m verify name
+  within ← names_within name d.content
   Ok d.head
+
+-- a file that is malformed is so by a fault of its own, and not by want of memory
+abbrev pub IsOwnFault : Bad → Type 0
+IsOwnFault (bad.Hdr f) = Unit {0}
+IsOwnFault (bad.Dted f) = Unit {0}
+IsOwnFault (bad.Hgt f) = Unit {0}
+IsOwnFault (bad.Grid f) = f ≡ grid.Memory → ⊥
+IsOwnFault (bad.Vrt f) = f ≡ vrt.Memory → ⊥
+IsOwnFault bad.List = Unit {0}
+
+abbrev pub OwnsFaults : {T : Type 0} → Result T WalkFault → Type 0
+OwnsFaults result = (name : List ℕ) (b : Bad) → result ≡ Err (Malformed name b) → IsOwnFault b
 
 -- the kind of a name isn't what is refused
 abbrev pub IsKnown : {T : Type 0} → Result T WalkFault → Type 0

@@ -1,7 +1,14 @@
+pub mod Blocks
 pub mod Dataset
 pub mod Drivers
 pub mod Heads
+pub mod Linked
+pub mod Links
+pub mod Listed
+pub mod Mosaics
 pub mod Outcomes
 pub mod Pixels
+pub mod Places
 pub mod Scanned
+pub mod Steps
 pub mod Walk

@@ -1,7 +1,7 @@
 -- The answers that no definition gives.
 use Rattle.std.specs.Prelude.{◌≡◌}
 use Rattle.catalog.specs.declared.faults.WalkFault.{WalkFault}
-use Rattle.catalog.specs.declared.faults.WalkFault.TheVariants.{Absent, NotRecognized, Malformed, Short, Limit, FolderFault, Memory}
+use Rattle.catalog.specs.declared.faults.WalkFault.TheVariants.{Absent, NotRecognized, Malformed, Short, Cycle, TooDeep, Limit, SourceBand, FolderFault, Memory}
 
 -- a call of the folder failed, or memory was refused
 abbrev pub IsOutside : WalkFault → Type 0
@@ -9,7 +9,10 @@ IsOutside (Absent name) = ⊥
 IsOutside (NotRecognized name) = ⊥
 IsOutside (Malformed name bad) = ⊥
 IsOutside (Short name needed has) = ⊥
+IsOutside (Cycle name) = ⊥
+IsOutside (TooDeep name) = ⊥
 IsOutside (Limit what value) = ⊥
+IsOutside (SourceBand name band) = ⊥
 IsOutside FolderFault = Unit {0}
 IsOutside Memory = Unit {0}
 

@@ -1,6 +1,5 @@
 -- What a scanner was fed of an open file.
 use Rattle.std.specs.Prelude.{◌≡◌, ◌⊎◌, ℕ, List, length, take, Option, Some, Err}
-use Rattle.ascii_grid.specs.declared.faults.GridFault.{GridFault}
 use Rattle.ascii_grid.specs.declared.faults.GridFault.TheVariants as grid
 use Rattle.ascii_grid.specs.Grid.{grid_head}
 use Rattle.ascii_grid.specs.Scan.{Scanned, Reads}

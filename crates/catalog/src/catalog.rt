@@ -1,30 +1,33 @@
 // Catalogs of datasets, and the walk that finds them.
-ghost use Rattle.std.specs.Prelude.{◌≡◌, false, ◌<◌, ◌≤◌, ◌++◌, ◌∷◌, ℕ, [], length, take, slice_get, Some, None, Ok, Err, option_map, IfOk, IfErr, OnOk, OnErr, IsTrue, is_some};
+ghost use Rattle.std.specs.Prelude.{◌≡◌, false, ◌<◌, ◌≤◌, ◌++◌, ◌∷◌, ℕ, [], length, take, slice_get, Some, None, Ok, Err, option_map, option_and_then, IfOk, IfErr, OnOk, OnErr, IsTrue, is_some};
 ghost use Rattle.lists_and_answers.specs.Answers.{Gives};
 ghost use Rattle.outside.specs.Outside.{Files};
 ghost use Rattle.outside.specs.Causes.{HasCause};
 ghost use Rattle.catalog.specs.Outcomes.{IsOutside};
 ghost use Rattle.catalog.specs.Dataset.{IsDatasetHead};
-ghost use Rattle.catalog.specs.Drivers.{driver_kind, Fits};
-ghost use Rattle.catalog.specs.Heads.{kind_in, found_in, dataset_by, dataset_in, head_in, IsKnown, RefusesUnknown};
-ghost use Rattle.catalog.specs.Walk.{number_from, number_of, first_met, walked, IsDataset, IsCatalog, IsWalked};
+ghost use Rattle.catalog.specs.Drivers.{content_kind, driver_of, document_of, Fits};
+ghost use Rattle.catalog.specs.Heads.{kind_in, found_in, dataset_by, dataset_in, head_in, IsKnown, RefusesUnknown, OwnsFaults};
+ghost use Rattle.catalog.specs.Drivers.{Dataset as Known};
+ghost use Rattle.catalog.specs.Links.{source_at, target_at, height_of};
+ghost use Rattle.catalog.specs.Walk.{number_of, walked, WalksUnknown, IsDataset, IsCatalog, IsWalked};
 
 use crate::dataset::Dataset;
-use crate::driver::Found;
+use crate::driver::{Content, Found};
 use crate::dted::find_cell;
 use crate::grid::find_grid;
-use crate::heads::head_told;
+use crate::heads::content_head;
 use crate::hgt::find_tile;
 use crate::kind::kind_of;
+use crate::links::Met;
+use crate::mosaic::find_mosaic;
+use crate::mosaic_head::names_within;
 use crate::raw::find_raw;
-use crate::{DriverHead, Head, Kind, LimitKind, WalkFault};
-use lists_and_answers::Items;
+use crate::walk::visit;
+use crate::{DriverHead, Head, Kind, WalkFault};
 use outside::{Folder, Name};
-use std::alloc::{AllocError, Global};
+use std::alloc::Global;
 use std::marker::Model;
-
-/// The most datasets of a catalog.
-const MOST_DATASETS: u32 = 65_536;
+use vrt_profile::Document;
 
 // Finds what the files of a dataset say, by the kind that its name tells.
 fn find<F: Folder>(
@@ -36,24 +39,26 @@ fn find<F: Folder>(
 ) -> Result<Found, WalkFault>
     requires kind { kind_in name.now ≡ Ok kind }
     ensures told { (m : Files) → F.names folder.old ≡ Some m → Gives IsOutside (λ found. found) result (found_in kind m verify name.now) }
-    ensures kind { IfOk result (λ found. driver_kind found.driver ≡ kind) }
-    ensures fits { IfOk result (λ found. Fits name.now found.driver found.length) }
+    ensures kind { IfOk result (λ found. content_kind found.content ≡ kind) }
+    ensures fits { IfOk result (λ found. Fits name.now found.content found.length) }
     ensures names { F.names folder.new ≡ F.names folder.old }
     ensures write_calls { F.write_calls folder.new ≡ F.write_calls folder.old }
     ensures cause { HasCause WalkFault.FolderFault (F.faults folder.old) (F.faults folder.new) result }
     ensures known { IsKnown result }
+    ensures own { OwnsFaults result }
 {
     match kind {
         Kind::Raw => find_raw(alloc, folder, name),
         Kind::Dted => find_cell(alloc, folder, name, verify),
         Kind::Hgt => find_tile(folder, name),
         Kind::Ascii => find_grid(alloc, folder, name),
+        Kind::Vrt => find_mosaic(alloc, folder, name),
     }
 }
 
 // Reads the dataset of a name whose kind is known, by its own files.
 #[tactic(auto, using(crate::proofs::Headers::outside_fails, crate::proofs::Headers::memory_is_outside), unfolding(crate::specs::Heads::dataset_by))]
-fn read_dataset<F: Folder>(
+pub fn read_dataset<F: Folder>(
     alloc: Global,
     folder: &mut F,
     kind: Kind,
@@ -68,12 +73,13 @@ fn read_dataset<F: Folder>(
     ensures write_calls { F.write_calls folder.new ≡ F.write_calls folder.old }
     ensures cause { HasCause WalkFault.FolderFault (F.faults folder.old) (F.faults folder.new) result }
     ensures known { IsKnown result }
+    ensures own { OwnsFaults result }
 {
     let found = find(alloc, folder, kind, name, verify)?;
-    let head = head_told(alloc, name, &found.driver)?;
+    let head = content_head(alloc, name, &found.content)?;
     Ok(Dataset {
         head,
-        driver: found.driver,
+        content: found.content,
         length: found.length,
     })
 }
@@ -86,10 +92,14 @@ fn read_dataset<F: Folder>(
 /// a fault, Short where the data are shorter than the header asks. For a DTED cell (MIL-PRF-89020B)
 /// Malformed comes where its head has a fault, Short where it is shorter than its head asks, Malformed
 /// with the first line from the west whose record has a wrong mark or sum where `verify` asks for it.
-/// For a tile Malformed comes where the name, and then the length, isn't that of a tile; for a grid where
-/// the scan of it, from the first byte to the last, has a fault. The checks are made in this order, and the first refusal counts. FolderFault comes only where the folder's count
-/// rose, Memory freely. It takes memory for the header or the front of the cell, for one record or
-/// piece of 65,536 bytes, and for the head.
+/// For a tile Malformed comes where the name, and then the length, isn't that of a tile; for a grid
+/// where the scan of it, from the first byte to the last, has a fault. For a mosaic Malformed comes where
+/// its document is longer than 67,108,864 bytes or has a fault, and then Limit with the kind Name where a
+/// source's name is resolved from a text of more than 4,096 bytes, with the length of the first such
+/// text; no source is opened. The checks are made in this order, and the first refusal counts. FolderFault
+/// comes only where the folder's count rose, Memory freely, and never within Malformed. It takes memory
+/// for the header, the front of the cell or the document, for one record or piece of 65,536 bytes, and
+/// for the head.
 #[tactic(auto, using(crate::proofs::Headers::outside_fails), unfolding(crate::specs::Heads::head_in, crate::specs::Heads::dataset_in))]
 pub fn head_of<F: Folder>(
     alloc: Global,
@@ -103,42 +113,34 @@ pub fn head_of<F: Folder>(
     ensures names { F.names folder.new ≡ F.names folder.old }
     ensures write_calls { F.write_calls folder.new ≡ F.write_calls folder.old }
     ensures cause { HasCause WalkFault.FolderFault (F.faults folder.old) (F.faults folder.new) result }
+    ensures own { OwnsFaults result }
 {
     let kind = kind_of(name)?;
-    Ok(read_dataset(alloc, folder, kind, name, verify)?.head)
+    let dataset = read_dataset(alloc, folder, kind, name, verify)?;
+    names_within(name, &dataset.content)?;
+    Ok(dataset.head)
 }
 
-/// Datasets by number, counted from 0 in the order in which they were met. No name stands twice.
+/// The most mosaics on a path.
+const DEEPEST: u32 = 16;
+
+/// Datasets by number, counted from 0 in the order in which they were met. No name stands twice, and of
+/// each source of a mosaic the catalog has the dataset that it names.
 #[derive(Drop)]
 pub struct Catalog {
-    datasets: Items<Dataset>,
+    met: Met,
 }
 
 impl Model for Catalog {
     ghost use Rattle.std.specs.Prelude.{List};
-    ghost use Rattle.catalog.specs.Walk.{IsCatalog};
+    ghost use Rattle.catalog.specs.Linked.{IsWhole};
     ghost use Rattle.catalog.specs.Drivers.{Dataset as Known};
 
     ghost Value = { List Known };
 
-    ghost view = { λ c. c.datasets };
+    ghost view = { λ c. c.met.datasets };
 
-    ghost invariant = { λ c. IsCatalog c.datasets };
-}
-
-// The number of the dataset of a name.
-fn number_of(datasets: &[Dataset], name: &Name) -> Option<u32>
-    requires few { length datasets.now ≤ 65536 }
-    ensures { result ≡ number_of datasets.now name.now }
-{
-    let mut at = 0;
-    for dataset in datasets {
-        if dataset.is_of(name) {
-            return Some(at);
-        }
-        at += 1;
-    }
-    None
+    ghost invariant = { λ c. IsWhole c.met };
 }
 
 impl Catalog {
@@ -147,7 +149,7 @@ impl Catalog {
         ensures empty { result ≡ [] }
     {
         Catalog {
-            datasets: Items::new(alloc),
+            met: Met::new(alloc),
         }
     }
 
@@ -156,7 +158,7 @@ impl Catalog {
         ensures count { result ≡ length self.now }
         ensures valid { IsCatalog self.now }
     {
-        self.datasets.len() as u32
+        self.met.count()
     }
 
     /// The head of a dataset.
@@ -164,15 +166,29 @@ impl Catalog {
         requires known { id < length self.now }
         ensures head { option_map (λ d. d.head) (slice_get self.now id) ≡ Some result.now }
     {
-        &self.datasets.get(id as usize).head
+        &self.met.dataset(id).head
     }
 
-    /// The head of a dataset's data, as the walk read it.
+    /// The head of a dataset's data, as the walk read it; None exactly where the dataset is a mosaic.
     pub fn driver(&self, id: u32) -> Option<&DriverHead>
         requires known { id < length self.now }
-        ensures driver { option_map (λ d. d.driver) (slice_get self.now id) ≡ option_map (λ r. r.now) result }
+        ensures driver { option_and_then (λ d. driver_of d.content) (slice_get self.now id) ≡ option_map (λ r. r.now) result }
     {
-        Some(&self.datasets.get(id as usize).driver)
+        match &self.met.dataset(id).content {
+            Content::File(driver) => Some(driver),
+            Content::Mosaic(_) => None,
+        }
+    }
+
+    /// The document of a mosaic; None exactly where the dataset is none.
+    pub fn document(&self, id: u32) -> Option<&Document>
+        requires known { id < length self.now }
+        ensures document { option_and_then (λ d. document_of d.content) (slice_get self.now id) ≡ option_map (λ r. r.now) result }
+    {
+        match &self.met.dataset(id).content {
+            Content::File(_) => None,
+            Content::Mosaic(document) => Some(document),
+        }
     }
 
     /// The length in bytes that the walk found of the file that has the dataset's name.
@@ -180,74 +196,45 @@ impl Catalog {
         requires known { id < length self.now }
         ensures length { option_map (λ d. d.length) (slice_get self.now id) ≡ Some result }
     {
-        self.datasets.get(id as usize).length
+        self.met.dataset(id).length
     }
-}
 
-impl Catalog {
-    // The number of the dataset of a name.
-    fn number(&self, name: &Name) -> Option<u32>
-        ensures number { result ≡ number_of self.now name.now }
-        ensures valid { IsCatalog self.now }
+    /// The number of the dataset that a source of a mosaic names, by its band and its number in the
+    /// band, both counted from 0. It is nested less deep than the mosaic.
+    pub fn target(&self, id: u32, band: u32, source: u32) -> u32
+        requires there { IsTrue (is_some (option_and_then (λ d. source_at d band source) (slice_get self.now id))) }
+        ensures target { option_and_then (λ d. target_at self.now d band source) (slice_get self.now id) ≡ Some result }
+        ensures known { result < length self.now }
+        ensures below { (d t : Known) → slice_get self.now id ≡ Some d → slice_get self.now result ≡ Some t → height_of self.now t < height_of self.now d }
     {
-        number_of(self.datasets.as_slice(), name)
+        let Some(link) = self.met.link(id) else {
+            unreachable!();
+        };
+        *link.targets.get(band as usize).get(source as usize)
     }
 
-    // Adds a dataset whose name isn't met yet.
-    #[tactic(auto, using(crate::proofs::Numbers::one_more, crate::proofs::Numbers::number_of_added))]
-    fn add(&mut self, dataset: Dataset) -> Result<u32, AllocError>
-        requires room { length self.old < 65536 }
-        requires fresh { number_of self.old dataset.head.name ≡ None }
-        requires valid { IsDataset dataset }
-        ensures ok { OnOk result (self.new ≡ self.old ++ dataset ∷ []) }
-        ensures number { IfOk result (λ id. number_of self.new dataset.head.name ≡ Some id) }
-        ensures err { OnErr result (self.new ≡ self.old) }
-        ensures valid { IsCatalog self.new }
+    /// How deep a dataset is nested: 0 for a file, 1 for a mosaic without sources, else one more than the
+    /// greatest of what its sources name.
+    pub fn height(&self, id: u32) -> u32
+        requires known { id < length self.now }
+        ensures height { option_map (λ d. height_of self.now d) (slice_get self.now id) ≡ Some result }
+        ensures low { result ≤ 16 }
     {
-        let id = self.datasets.len() as u32;
-        self.datasets.push(dataset)?;
-        Ok(id)
+        self.met.height(id)
     }
 }
 
-// Reads the dataset of a name that is met for the first time.
-#[tactic(auto, using(crate::proofs::Headers::outside_fails, crate::proofs::Walked::no_room, crate::proofs::Walked::read_so), unfolding(crate::specs::Walk::first_met))]
-fn read_new<F: Folder>(
-    alloc: Global,
-    cat: &Catalog,
-    folder: &mut F,
-    name: &Name,
-    verify: bool,
-) -> Result<Dataset, WalkFault>
-    ensures told { (m : Files) → F.names folder.old ≡ Some m → Gives IsOutside (λ d. cat.now ++ d ∷ []) result (first_met m verify cat.now name.now) }
-    ensures read { IfOk result (λ d. (m : Files) → F.names folder.old ≡ Some m → dataset_in m false d.head.name ≡ Ok d) }
-    ensures valid { IfOk result IsDataset }
-    ensures name { IfOk result (λ d. d.head.name ≡ name.now) }
-    ensures room { IfOk result (λ d. length cat.now < 65536) }
-    ensures unknown { RefusesUnknown name.now result }
-    ensures names { F.names folder.new ≡ F.names folder.old }
-    ensures write_calls { F.write_calls folder.new ≡ F.write_calls folder.old }
-    ensures cause { HasCause WalkFault.FolderFault (F.faults folder.old) (F.faults folder.new) result }
-{
-    let kind = kind_of(name)?;
-    if cat.count() >= MOST_DATASETS {
-        return Err(WalkFault::Limit {
-            what: LimitKind::Files,
-            value: 65_537,
-        });
-    }
-    let dataset = read_dataset(alloc, folder, kind, name, verify)?;
-    Ok(dataset)
-}
-
-/// Walks from a name, and gives the number of its dataset. What the walk meets for the first time is
-/// read, as `head_of` says, and stands at the catalog's end; a dataset that was met earlier isn't read
-/// again.
+/// Walks from a name to all that it reaches, and gives the number of its dataset. What the walk meets
+/// for the first time is read, as `head_of` says, and stands at the catalog's end, a mosaic before what
+/// its sources name, in document order; a dataset that was met earlier isn't read again.
 ///
-/// The refusals are those of `head_of`, besides Limit with the kind Files and the value 65537 where the
-/// dataset would be one too many, after NotRecognized and before its files are opened. After a refusal
-/// the catalog is as before. `verify` asks for the sums of DTED records.
-#[tactic(auto, using(crate::proofs::Headers::outside_fails, crate::proofs::Walked::met_known, crate::proofs::Walked::walked_met, crate::proofs::Walked::walked_new, crate::proofs::Walked::one_more_walked))]
+/// The refusals of a name come in this order: NotRecognized; Cycle where it stands on the path of
+/// mosaics that leads to it; TooDeep where it is a mosaic and would be the seventeenth on its path;
+/// Limit with the kind Files and the value 65537 where it would be one dataset too many; those of its own
+/// files. Then for each source of a mosaic: Limit with the kind Sources and the value 262145, Limit with
+/// the kind Name where the text of its name is longer than 4,096 bytes, the refusals of what it names,
+/// and SourceBand where that lacks the band. The first refusal counts, and after it the catalog is as
+/// before. `verify` asks for the sums of DTED records.
 pub fn open_all<F: Folder>(
     alloc: Global,
     cat: &mut Catalog,
@@ -262,14 +249,19 @@ pub fn open_all<F: Folder>(
     ensures valid { IsCatalog cat.new }
     ensures walked { (m : Files) → F.names folder.old ≡ Some m → IsWalked m cat.old → IsWalked m cat.new }
     ensures again { IsTrue (is_some (number_of cat.old name.now)) → (F.read_calls folder.new ≡ F.read_calls folder.old) × (F.faults folder.new ≡ F.faults folder.old) }
-    ensures unknown { RefusesUnknown name.now result }
+    ensures unknown { WalksUnknown name.now result }
     ensures names { F.names folder.new ≡ F.names folder.old }
     ensures write_calls { F.write_calls folder.new ≡ F.write_calls folder.old }
     ensures cause { HasCause WalkFault.FolderFault (F.faults folder.old) (F.faults folder.new) result }
+    ensures own { OwnsFaults result }
 {
-    if let Some(id) = cat.number(name) {
-        return Ok(id);
+    let count = cat.met.count();
+    let sources = cat.met.sources();
+    match visit(alloc, &mut cat.met, folder, verify, DEEPEST, name) {
+        Ok(id) => Ok(id),
+        Err(fault) => {
+            cat.met.cut(count, sources);
+            Err(fault)
+        }
     }
-    let dataset = read_new(alloc, cat, folder, name, verify)?;
-    Ok(cat.add(dataset)?)
 }

@@ -1,15 +1,16 @@
 // The datasets of a catalog.
 ghost use Rattle.std.specs.Prelude.{◌≡◌, bytes_eq};
 
-use crate::{DriverHead, Head};
+use crate::Head;
+use crate::driver::Content;
 use outside::Name;
 use std::marker::Model;
 
-// A dataset: its head, the head of its data, and the length in bytes of the file that has its name.
+// A dataset: its head, its content, and the length in bytes of the file that has its name.
 #[derive(Drop)]
 pub struct Dataset {
     pub head: Head,
-    pub driver: DriverHead,
+    pub content: Content,
     pub length: u64,
 }
 
@@ -19,9 +20,9 @@ impl Model for Dataset {
 
     ghost Value = { Known };
 
-    ghost view = { λ d. record { head = d.head; driver = d.driver; length = d.length } };
+    ghost view = { λ d. record { head = d.head; content = d.content; length = d.length } };
 
-    ghost invariant = { λ d. IsDataset (record { head = d.head; driver = d.driver; length = d.length }) };
+    ghost invariant = { λ d. IsDataset (record { head = d.head; content = d.content; length = d.length }) };
 }
 
 impl Dataset {

@@ -2,6 +2,7 @@
 use ascii_grid::GridHead;
 use dted_records::DtedHead;
 use esri_hdr::RawHead;
+use vrt_profile::Document;
 
 /// The head of a file that isn't a mosaic, from which its samples are read.
 #[derive(Drop)]
@@ -16,10 +17,17 @@ pub enum DriverHead {
     Ascii(GridHead),
 }
 
-// What is found in the files of a dataset: the head of its data, and the length in bytes of the file
-// that has its name.
+// What a dataset is made of: the samples of a file, or the sources of a mosaic.
+#[derive(Drop)]
+pub enum Content {
+    File(DriverHead),
+    Mosaic(Document),
+}
+
+// What is found in the files of a dataset: its content, and the length in bytes of the file that has
+// its name.
 #[derive(Drop)]
 pub struct Found {
-    pub driver: DriverHead,
+    pub content: Content,
     pub length: u64,
 }

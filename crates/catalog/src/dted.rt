@@ -6,10 +6,10 @@ ghost use Rattle.outside.specs.Outside.{Files, IsLong};
 ghost use Rattle.outside.specs.Causes.{HasCause, FailsWith};
 ghost use Rattle.dted_records.specs.Places.{needed_of, record_len};
 ghost use Rattle.catalog.specs.Outcomes.{IsOutside};
-ghost use Rattle.catalog.specs.Drivers.{driver_kind, Fits};
-ghost use Rattle.catalog.specs.Heads.{broken_in, cell_in, dted_in, records_whole, IsKnown};
+ghost use Rattle.catalog.specs.Drivers.{content_kind, Fits};
+ghost use Rattle.catalog.specs.Heads.{broken_in, cell_in, dted_in, records_whole, IsKnown, OwnsFaults};
 
-use crate::driver::Found;
+use crate::driver::{Content, Found};
 use crate::files::{open_file, read_front};
 use crate::{Bad, DriverHead, Kind, WalkFault};
 use dted_records::{DtedFault, DtedHead, check_record, read_head};
@@ -57,6 +57,7 @@ fn check_records<F: Folder>(
     ensures write_calls { F.write_calls folder.new ≡ F.write_calls folder.old }
     ensures cause { HasCause WalkFault.FolderFault (F.faults folder.old) (F.faults folder.new) result }
     ensures known { IsKnown result }
+    ensures own { OwnsFaults result }
 {
     let mut record = vec![in alloc; 0u8; head.record_len()]?;
     match broken_line(folder, file, head, &mut record) {
@@ -86,6 +87,7 @@ fn read_cell<F: Folder>(
     ensures write_calls { F.write_calls folder.new ≡ F.write_calls folder.old }
     ensures cause { HasCause WalkFault.FolderFault (F.faults folder.old) (F.faults folder.new) result }
     ensures known { IsKnown result }
+    ensures own { OwnsFaults result }
 {
     let front = read_front(alloc, folder, file, LONGEST_HEAD)?;
     let head = match read_head(&front) {
@@ -119,12 +121,13 @@ pub fn find_cell<F: Folder>(
     verify: bool,
 ) -> Result<Found, WalkFault>
     ensures told { (m : Files) → F.names folder.old ≡ Some m → Gives IsOutside (λ found. found) result (dted_in m verify name.now) }
-    ensures kind { IfOk result (λ found. driver_kind found.driver ≡ Kind.Dted) }
-    ensures fits { IfOk result (λ found. Fits name.now found.driver found.length) }
+    ensures kind { IfOk result (λ found. content_kind found.content ≡ Kind.Dted) }
+    ensures fits { IfOk result (λ found. Fits name.now found.content found.length) }
     ensures names { F.names folder.new ≡ F.names folder.old }
     ensures write_calls { F.write_calls folder.new ≡ F.write_calls folder.old }
     ensures cause { HasCause WalkFault.FolderFault (F.faults folder.old) (F.faults folder.new) result }
     ensures known { IsKnown result }
+    ensures own { OwnsFaults result }
 {
     let mut file = open_file(folder, name)?;
     let length = folder.len(&file);
@@ -133,7 +136,7 @@ pub fn find_cell<F: Folder>(
         check_records(alloc, folder, &mut file, &head, name)?;
     }
     Ok(Found {
-        driver: DriverHead::Dted(head),
+        content: Content::File(DriverHead::Dted(head)),
         length,
     })
 }

@@ -8,6 +8,7 @@ use esri_hdr::HdrFault;
 use hgt_tiles::HgtFault;
 use outside::Name;
 use std::alloc::AllocError;
+use vrt_profile::VrtFault;
 
 /// What is wrong with a file that was read.
 #[derive(Clone, Copy, Debug, PartialEq, Eq)]
@@ -20,6 +21,8 @@ pub enum Bad {
     Hgt(HgtFault),
     /// The grid has this fault, which isn't want of memory.
     Grid(GridFault),
+    /// The document of a mosaic has this fault, which isn't want of memory.
+    Vrt(VrtFault),
     /// The list of input files isn't UTF-8.
     List,
 }
@@ -50,8 +53,14 @@ pub enum WalkFault {
     Malformed { name: Name, bad: Bad },
     /// The file of this name needs so many bytes, and has fewer.
     Short { name: Name, needed: u64, has: u64 },
+    /// The mosaic of this name stands on the path that leads to it.
+    Cycle { name: Name },
+    /// The mosaic of this name would be the seventeenth on its path.
+    TooDeep { name: Name },
     /// What is counted would pass its limit with this value.
     Limit { what: LimitKind, value: u64 },
+    /// A source names this band of the dataset of this name, which lacks it.
+    SourceBand { name: Name, band: u32 },
     /// A call of the folder failed.
     FolderFault,
     /// Memory was refused.

@@ -6,12 +6,13 @@ ghost use Rattle.outside.specs.Causes.{HasCause};
 ghost use Rattle.ascii_grid.specs.Grid.{IsHead, AreRising, grid_head};
 ghost use Rattle.ascii_grid.specs.declared.faults.GridFault.TheVariants as grid_fault;
 ghost use Rattle.catalog.specs.declared.grid.ScanFault.TheVariants as scan_fault;
+ghost use Rattle.catalog.specs.declared.faults.Bad.{Bad};
 ghost use Rattle.catalog.specs.Outcomes.{IsOutside};
 ghost use Rattle.catalog.specs.Scanned.{HasFed, IsScanFault};
-ghost use Rattle.catalog.specs.Drivers.{driver_kind, Fits};
-ghost use Rattle.catalog.specs.Heads.{grid_in, ascii_in, IsKnown};
+ghost use Rattle.catalog.specs.Drivers.{content_kind, Fits};
+ghost use Rattle.catalog.specs.Heads.{grid_in, ascii_in, IsKnown, IsOwnFault, OwnsFaults};
 
-use crate::driver::Found;
+use crate::driver::{Content, Found};
 use crate::files::open_file;
 use crate::{Bad, DriverHead, Kind, WalkFault};
 use ascii_grid::{GridFault, GridHead, Scanner};
@@ -152,6 +153,7 @@ fn refused(name: &Name, fault: ScanFault) -> WalkFault
     ensures told { (b : List ℕ) → IsScanFault b fault → IsOutside result ⊎ (grid_in b name.now ≡ Err result) }
     ensures cause { result ≡ WalkFault.FolderFault → fault ≡ ScanFault.Failed }
     ensures known { (n : List ℕ) → result ≡ WalkFault.NotRecognized n → ⊥ }
+    ensures own { (n : List ℕ) (b : Bad) → result ≡ WalkFault.Malformed n b → IsOwnFault b }
 {
     match fault {
         ScanFault::Failed => WalkFault::FolderFault,
@@ -170,18 +172,19 @@ fn refused(name: &Name, fault: ScanFault) -> WalkFault
 #[tactic(auto, using(crate::proofs::Headers::outside_fails), unfolding(crate::specs::Heads::ascii_in))]
 pub fn find_grid<F: Folder>(alloc: Global, folder: &mut F, name: &Name) -> Result<Found, WalkFault>
     ensures told { (m : Files) → F.names folder.old ≡ Some m → Gives IsOutside (λ found. found) result (ascii_in m name.now) }
-    ensures kind { IfOk result (λ found. driver_kind found.driver ≡ Kind.Ascii) }
-    ensures fits { IfOk result (λ found. Fits name.now found.driver found.length) }
+    ensures kind { IfOk result (λ found. content_kind found.content ≡ Kind.Ascii) }
+    ensures fits { IfOk result (λ found. Fits name.now found.content found.length) }
     ensures names { F.names folder.new ≡ F.names folder.old }
     ensures write_calls { F.write_calls folder.new ≡ F.write_calls folder.old }
     ensures cause { HasCause WalkFault.FolderFault (F.faults folder.old) (F.faults folder.new) result }
     ensures known { IsKnown result }
+    ensures own { OwnsFaults result }
 {
     let file = open_file(folder, name)?;
     let length = folder.len(&file);
     match scan(alloc, folder, file) {
         Ok(head) => Ok(Found {
-            driver: DriverHead::Ascii(head),
+            content: Content::File(DriverHead::Ascii(head)),
             length,
         }),
         Err(fault) => Err(refused(name, fault)),

@@ -4,8 +4,10 @@ ghost use Rattle.outside.specs.Names.{extension_of, is_raw, header_of};
 ghost use Rattle.catalog.specs.Outcomes.{IsMemory};
 ghost use Rattle.catalog.specs.Dataset.{IsDatasetHead};
 ghost use Rattle.hgt_tiles.specs.Places.{IsSide};
-ghost use Rattle.catalog.specs.Drivers.{raw_band, raw_head, dted_band, dted_head, hgt_band, hgt_head, tile_place, ascii_band, ascii_head, head_told, IsOfKind};
+ghost use Rattle.catalog.specs.Drivers.{raw_band, raw_head, dted_band, dted_head, hgt_band, hgt_head, tile_place, ascii_band, ascii_head, head_told, content_head, IsOfKind, IsOfContent};
 
+use crate::driver::Content;
+use crate::mosaic_head::mosaic_head;
 use crate::raw::header_name;
 use crate::{BandHead, Bands, DriverHead, Head, Kind, WalkFault};
 use ascii_grid::GridHead;
@@ -221,5 +223,18 @@ pub fn head_told(alloc: Global, name: &Name, driver: &DriverHead) -> Result<Head
         DriverHead::Dted(head) => Ok(dted_head(alloc, name, head)?),
         DriverHead::Hgt { side } => Ok(hgt_head(alloc, name, *side)?),
         DriverHead::Ascii(head) => Ok(ascii_head(alloc, name, head)?),
+    }
+}
+
+// What the content of a dataset says of it.
+pub fn content_head(alloc: Global, name: &Name, content: &Content) -> Result<Head, WalkFault>
+    requires kind { IsOfContent name.now content.now }
+    ensures ok { IfOk result (λ h. h ≡ content_head name.now content.now) }
+    ensures valid { IfOk result IsDatasetHead }
+    ensures err { IfErr result IsMemory }
+{
+    match content {
+        Content::File(driver) => head_told(alloc, name, driver),
+        Content::Mosaic(document) => mosaic_head(alloc, name, document),
     }
 }

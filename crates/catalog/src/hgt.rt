@@ -6,10 +6,10 @@ ghost use Rattle.outside.specs.Causes.{HasCause};
 ghost use Rattle.outside.specs.Names.{last_part};
 ghost use Rattle.hgt_tiles.specs.Names.{corner_of};
 ghost use Rattle.catalog.specs.Outcomes.{IsOutside};
-ghost use Rattle.catalog.specs.Drivers.{driver_kind, Fits};
-ghost use Rattle.catalog.specs.Heads.{hgt_in, IsKnown};
+ghost use Rattle.catalog.specs.Drivers.{content_kind, Fits};
+ghost use Rattle.catalog.specs.Heads.{hgt_in, IsKnown, OwnsFaults};
 
-use crate::driver::Found;
+use crate::driver::{Content, Found};
 use crate::files::open_file;
 use crate::{Bad, DriverHead, Kind, WalkFault};
 use hgt_tiles::{HgtFault, read_name, side};
@@ -26,12 +26,13 @@ fn is_tile_name(name: &Name) -> bool
 #[tactic(auto, using(crate::proofs::Headers::outside_fails), unfolding(crate::specs::Heads::hgt_in))]
 pub fn find_tile<F: Folder>(folder: &mut F, name: &Name) -> Result<Found, WalkFault>
     ensures told { (m : Files) → F.names folder.old ≡ Some m → Gives IsOutside (λ found. found) result (hgt_in m name.now) }
-    ensures kind { IfOk result (λ found. driver_kind found.driver ≡ Kind.Hgt) }
-    ensures fits { IfOk result (λ found. Fits name.now found.driver found.length) }
+    ensures kind { IfOk result (λ found. content_kind found.content ≡ Kind.Hgt) }
+    ensures fits { IfOk result (λ found. Fits name.now found.content found.length) }
     ensures names { F.names folder.new ≡ F.names folder.old }
     ensures write_calls { F.write_calls folder.new ≡ F.write_calls folder.old }
     ensures cause { HasCause WalkFault.FolderFault (F.faults folder.old) (F.faults folder.new) result }
     ensures known { IsKnown result }
+    ensures own { OwnsFaults result }
 {
     if !is_tile_name(name) {
         return Err(WalkFault::Malformed {
@@ -43,7 +44,7 @@ pub fn find_tile<F: Folder>(folder: &mut F, name: &Name) -> Result<Found, WalkFa
     let length = folder.len(&file);
     match side(length) {
         Some(side) => Ok(Found {
-            driver: DriverHead::Hgt { side },
+            content: Content::File(DriverHead::Hgt { side }),
             length,
         }),
         None => Err(WalkFault::Malformed {

@@ -20,6 +20,8 @@ pub enum Kind {
     Hgt,
     /// An Arc/Info ASCII grid.
     Ascii,
+    /// A mosaic, which a VRT document makes of sources.
+    Vrt,
 }
 
 /// A band: the type of its samples, its NODATA if it has one, and the size of its blocks in pixels.
@@ -43,7 +45,8 @@ pub fn kind_of(name: &Name) -> Result<Kind, WalkFault>
         Some(Ext::Dt0 | Ext::Dt1 | Ext::Dt2) => Ok(Kind::Dted),
         Some(Ext::Hgt) => Ok(Kind::Hgt),
         Some(Ext::Asc | Ext::Grd) => Ok(Kind::Ascii),
-        Some(Ext::Vrt) | None => Err(WalkFault::NotRecognized {
+        Some(Ext::Vrt) => Ok(Kind::Vrt),
+        None => Err(WalkFault::NotRecognized {
             name: name.try_clone()?,
         }),
     }

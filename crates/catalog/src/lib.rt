@@ -12,9 +12,16 @@ mod head;
 mod heads;
 mod hgt;
 mod kind;
+mod laws;
+mod links;
+mod mosaic;
+mod mosaic_head;
 mod raw;
 #[cfg(test)]
 mod tests;
+mod walk;
+#[cfg(test)]
+mod walk_tests;
 
 pub use catalog::{Catalog, head_of, open_all};
 pub use driver::DriverHead;

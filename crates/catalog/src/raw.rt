@@ -6,10 +6,10 @@ ghost use Rattle.outside.specs.Causes.{HasCause};
 ghost use Rattle.outside.specs.Names.{extension_of, is_raw, header_of};
 ghost use Rattle.interleaved_raw.specs.Raw.{needed_of};
 ghost use Rattle.catalog.specs.Outcomes.{IsOutside};
-ghost use Rattle.catalog.specs.Drivers.{driver_kind, Fits};
-ghost use Rattle.catalog.specs.Heads.{header_in, raw_in, IsKnown};
+ghost use Rattle.catalog.specs.Drivers.{content_kind, Fits};
+ghost use Rattle.catalog.specs.Heads.{header_in, raw_in, IsKnown, OwnsFaults};
 
-use crate::driver::Found;
+use crate::driver::{Content, Found};
 use crate::files::{open_file, read_whole};
 use crate::{Bad, DriverHead, Kind, WalkFault};
 use esri_hdr::{HdrFault, RawHead, read};
@@ -28,6 +28,7 @@ fn read_header<F: Folder>(alloc: Global, folder: &mut F, name: &Name) -> Result<
     ensures write_calls { F.write_calls folder.new ≡ F.write_calls folder.old }
     ensures cause { HasCause WalkFault.FolderFault (F.faults folder.old) (F.faults folder.new) result }
     ensures known { IsKnown result }
+    ensures own { OwnsFaults result }
 {
     let text = open_file(folder, name)?;
     let len = folder.len(&text);
@@ -61,12 +62,13 @@ pub fn header_name(alloc: Global, name: &Name) -> Result<Name, WalkFault>
 pub fn find_raw<F: Folder>(alloc: Global, folder: &mut F, name: &Name) -> Result<Found, WalkFault>
     requires raw { IsTrue (is_raw (extension_of name.now)) }
     ensures told { (m : Files) → F.names folder.old ≡ Some m → Gives IsOutside (λ found. found) result (raw_in m name.now) }
-    ensures kind { IfOk result (λ found. driver_kind found.driver ≡ Kind.Raw) }
-    ensures fits { IfOk result (λ found. Fits name.now found.driver found.length) }
+    ensures kind { IfOk result (λ found. content_kind found.content ≡ Kind.Raw) }
+    ensures fits { IfOk result (λ found. Fits name.now found.content found.length) }
     ensures names { F.names folder.new ≡ F.names folder.old }
     ensures write_calls { F.write_calls folder.new ≡ F.write_calls folder.old }
     ensures cause { HasCause WalkFault.FolderFault (F.faults folder.old) (F.faults folder.new) result }
     ensures known { IsKnown result }
+    ensures own { OwnsFaults result }
 {
     let file = open_file(folder, name)?;
     let header = header_name(alloc, name)?;
@@ -81,7 +83,7 @@ pub fn find_raw<F: Folder>(alloc: Global, folder: &mut F, name: &Name) -> Result
         });
     }
     Ok(Found {
-        driver: DriverHead::Raw(head),
+        content: Content::File(DriverHead::Raw(head)),
         length: has,
     })
 }

@@ -1,4 +1,4 @@
-use crate::{Catalog, Kind, WalkFault, head_of, open_all};
+use crate::{Catalog, Head, Kind, WalkFault, head_of, open_all};
 use esri_hdr::HdrFault;
 use geotransform::{PixelType, Size};
 use lists_and_answers::Items;
@@ -9,7 +9,7 @@ use std::test::*;
 const HEADER: &[u8] = b"NROWS 2\nNCOLS 3\nNBANDS 2\nNBITS 8\nLAYOUT BIL\nNODATA 9\n";
 
 // The text of a fault, with the name and the numbers that it carries.
-fn said(alloc: Global, fault: &WalkFault) -> Result<String, Fail> {
+pub fn said(alloc: Global, fault: &WalkFault) -> Result<String, Fail> {
     let text = match fault {
         WalkFault::Absent { name } => format!(in alloc; "absent {}", name.as_str())?,
         WalkFault::NotRecognized { name } => format!(in alloc; "unknown {}", name.as_str())?,
@@ -18,6 +18,11 @@ fn said(alloc: Global, fault: &WalkFault) -> Result<String, Fail> {
         }
         WalkFault::Short { name, needed, has } => {
             format!(in alloc; "short {} {} {}", name.as_str(), *needed, *has)?
+        }
+        WalkFault::Cycle { name } => format!(in alloc; "cycle {}", name.as_str())?,
+        WalkFault::TooDeep { name } => format!(in alloc; "deep {}", name.as_str())?,
+        WalkFault::SourceBand { name, band } => {
+            format!(in alloc; "band {} {}", name.as_str(), *band)?
         }
         WalkFault::Limit { what, value } => format!(in alloc; "limit {:?} {}", *what, *value)?,
         WalkFault::FolderFault => format!(in alloc; "folder")?,
@@ -253,5 +258,187 @@ fn walks(rt: HostRuntime) -> Result<(), Fail> {
     assert_eq!(rt; cat.count(), 2);
     assert_eq!(rt; cat.length(1), 3448);
     assert_eq!(rt; cat.head(1).size, Size { w: 1, h: 4 });
+    Ok(())
+}
+
+// The mosaic of two tiles beside each other.
+const TWO_TILES: &[u8] = b"<VRTDataset rasterXSize=\"2401\" rasterYSize=\"1201\">
+  <GeoTransform>-0.0004166666666667, 0.0008333333333333, 0, 1.0004166666666667, 0, -0.0008333333333333</GeoTransform>
+  <VRTRasterBand dataType=\"Int16\" band=\"1\">
+    <NoDataValue>-32768</NoDataValue>
+    <ComplexSource>
+      <SourceFilename relativeToVRT=\"1\">N00E000.hgt</SourceFilename>
+      <SourceBand>1</SourceBand>
+      <SrcRect xOff=\"0\" yOff=\"0\" xSize=\"1201\" ySize=\"1201\"/>
+      <DstRect xOff=\"0\" yOff=\"0\" xSize=\"1201\" ySize=\"1201\"/>
+      <NODATA>-32768</NODATA>
+    </ComplexSource>
+    <ComplexSource>
+      <SourceFilename relativeToVRT=\"1\">N00E001.hgt</SourceFilename>
+      <SourceBand>1</SourceBand>
+      <SrcRect xOff=\"0\" yOff=\"0\" xSize=\"1201\" ySize=\"1201\"/>
+      <DstRect xOff=\"1200\" yOff=\"0\" xSize=\"1201\" ySize=\"1201\"/>
+      <NODATA>-32768</NODATA>
+    </ComplexSource>
+  </VRTRasterBand>
+</VRTDataset>
+";
+
+// What `head_of` says of a mosaic of one file, over a folder whose call of this number fails.
+fn mosaic_head(
+    alloc: Global,
+    name: &str,
+    text: &[u8],
+    call: u64,
+) -> Result<Result<Head, WalkFault>, Fail> {
+    let name = Name::read(alloc, name)?;
+    let mut folder = MemFolder::new(alloc, failing(alloc, &[Failing::Call(call)])?);
+    folder.put(&name, text)?;
+    Ok(head_of(alloc, &mut folder, &name, false))
+}
+
+// No source is opened: the tiles aren't there, and a third call of the folder would fail.
+#[test]
+fn a_mosaic(rt: HostRuntime) -> Result<(), Fail> {
+    let alloc = rt.alloc();
+    let head = mosaic_head(alloc, "d/out.vrt", TWO_TILES, 3)?
+        .ok()
+        .ok_or("it is there")?;
+    assert!(rt; head.kind == Kind::Vrt);
+    assert_eq!(rt; head.name.as_str(), "d/out.vrt");
+    assert_eq!(rt; head.size, Size { w: 2401, h: 1201 });
+    let geo = head.geo.ok_or("it is placed")?;
+    assert_eq!(rt; geo.ox.get(), -75_000_000_000_006);
+    assert_eq!(rt; geo.oy.get(), 180_075_000_000_000_006);
+    assert_eq!(rt; geo.dx.get(), 149_999_999_999_994);
+    assert_eq!(rt; geo.dy.get(), -149_999_999_999_994);
+    assert!(rt; head.srs.is_none());
+    assert_eq!(rt; head.bands.len(), 1);
+    for band in head.bands.as_slice() {
+        assert_eq!(rt; band.kind, PixelType::Int16);
+        assert_eq!(rt; band.nodata, Some(-32_768));
+        assert_eq!(rt; band.block, Size { w: 128, h: 128 });
+    }
+    assert_eq!(rt;
+        listed(alloc, &head)?.as_str(),
+        "d/out.vrt d/N00E000.hgt d/N00E001.hgt "
+    );
+    Ok(())
+}
+
+// The files of a dataset, with a blank behind each.
+fn listed(alloc: Global, head: &Head) -> Result<String, Fail> {
+    let mut text = String::new(alloc);
+    for name in head.files.as_slice() {
+        text.push_str(name.as_str())?;
+        text.push(' ')?;
+    }
+    Ok(text)
+}
+
+// A document of one pixel, one band and sources of these texts, each relative to it.
+fn document(alloc: Global, texts: &[&str]) -> Result<String, Fail> {
+    let mut document = String::from_str(
+        alloc,
+        "<VRTDataset rasterXSize=\"1\" rasterYSize=\"1\"><VRTRasterBand dataType=\"Byte\" band=\"1\">",
+    )?;
+    for text in texts {
+        document.push_str("<SimpleSource><SourceFilename relativeToVRT=\"1\">")?;
+        document.push_str(text)?;
+        document.push_str("</SourceFilename><SourceBand>1</SourceBand></SimpleSource>")?;
+    }
+    document.push_str("</VRTRasterBand></VRTDataset>")?;
+    Ok(document)
+}
+
+// The name of a mosaic, the texts of its sources, and its files.
+type Listing<'a> = (&'a str, &'a [&'a str], &'a str);
+
+const LISTINGS: [Listing<'static>; 4] = [
+    ("m.vrt", &[], "m.vrt "),
+    (
+        "m.vrt",
+        &["b.bil", "./a.bil", "b.bil"],
+        "m.vrt b.bil a.bil ",
+    ),
+    (
+        "d/m.vrt",
+        &["b.bil", "/a.bil", "e//b.bil", ".//b.bil"],
+        "d/m.vrt d/b.bil /a.bil d/e/b.bil ",
+    ),
+    ("m.vrt", &["./m.vrt", "m.vrt"], "m.vrt m.vrt "),
+];
+
+// Each name of a source is listed once, in document order, behind the mosaic's own.
+#[test]
+fn files_of_mosaics(rt: HostRuntime) -> Result<(), Fail> {
+    let alloc = rt.alloc();
+    for (name, texts, files) in LISTINGS {
+        let text = document(alloc, texts)?;
+        match mosaic_head(alloc, name, text.as_bytes(), 3)? {
+            Ok(head) => assert_eq!(rt; listed(alloc, &head)?.as_str(), files),
+            Err(fault) => assert_eq!(rt; said(alloc, &fault)?.as_str(), ""),
+        }
+    }
+    Ok(())
+}
+
+// A text of so many letters.
+fn letters(alloc: Global, count: usize) -> Result<String, Fail> {
+    let mut text = String::new(alloc);
+    for _ in 0..count {
+        text.push('a')?;
+    }
+    Ok(text)
+}
+
+// The name of a mosaic, the letters of its source's text, and what is said.
+const LENGTHS: [(&str, usize, &str); 4] = [
+    ("m.vrt", 4096, ""),
+    ("m.vrt", 4097, "limit Name 4097"),
+    ("d/m.vrt", 4094, ""),
+    ("d/m.vrt", 4096, "limit Name 4098"),
+];
+
+#[test]
+fn names_of_sources(rt: HostRuntime) -> Result<(), Fail> {
+    let alloc = rt.alloc();
+    for (name, count, expected) in LENGTHS {
+        let long = letters(alloc, count)?;
+        let text = document(alloc, &["b.bil", long.as_str()])?;
+        match mosaic_head(alloc, name, text.as_bytes(), 3)? {
+            Ok(_) => assert_eq!(rt; expected, ""),
+            Err(fault) => assert_eq!(rt; said(alloc, &fault)?.as_str(), expected),
+        }
+    }
+    Ok(())
+}
+
+// Bytes of a document, the call that fails, and what is said.
+const BROKEN: [(&[u8], u64, &str); 5] = [
+    (
+        b"<VRTDataset rasterXSize=\"1\" rasterYSize=\"1\"><Foo/></VRTDataset>",
+        3,
+        "malformed m.vrt Vrt(UnknownElement(44))",
+    ),
+    (
+        b"<VRTDataset rasterXSize=\"1\" rasterYSize=\"1\">",
+        3,
+        "malformed m.vrt Vrt(BadText(44))",
+    ),
+    (TWO_TILES, 1, "folder"),
+    (TWO_TILES, 2, "folder"),
+    (TWO_TILES, 3, ""),
+];
+
+#[test]
+fn broken_mosaics(rt: HostRuntime) -> Result<(), Fail> {
+    let alloc = rt.alloc();
+    for (text, call, expected) in BROKEN {
+        match mosaic_head(alloc, "m.vrt", text, call)? {
+            Ok(_) => assert_eq!(rt; expected, ""),
+            Err(fault) => assert_eq!(rt; said(alloc, &fault)?.as_str(), expected),
+        }
+    }
     Ok(())
 }

@@ -1,8 +1,11 @@
 pub mod Changed
 pub mod Datasets
 pub mod Ended
+pub mod Lines
 pub mod Listed
 pub mod Outcomes
+pub mod Owned
+pub mod Placed
 pub mod Reached
 pub mod Said
-pub mod Stand
+pub mod Told

@@ -6,6 +6,7 @@ use Rattle.std.proofs.Math.Nat.{le_refl}
 use Rattle.outside.specs.Streams.{Gets, GetsPart}
 use Rattle.gdal_cli.specs.declared.faults.Fault.{Fault}
 use Rattle.gdal_cli.specs.Texts.{line_of}
+use Rattle.gdal_cli.specs.Location.{Printed}
 use Rattle.gdal_cli.specs.Run.{ran_of, IsSaid}
 
 -- a whole text is a first part of itself
@@ -18,6 +19,6 @@ part_of_either (Ok x) text before after ok err = part_of_whole text before after
 part_of_either (Err e) text before after ok err = err
 
 -- a run that warns of nothing says the line of its fault
-pub said : (answer : Result (List ℕ) Fault) (fault : Option Fault) → IsSaid (ran_of answer) fault (line_of fault)
+pub said : (answer : Result Printed Fault) (fault : Option Fault) → IsSaid (ran_of answer) fault (line_of fault)
 said (Ok printed) fault = record { whole = λ _. refl; part = (0, refl) }
 said (Err refused) fault = record { whole = λ _. refl; part = (0, refl) }

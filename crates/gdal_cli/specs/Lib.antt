@@ -1,6 +1,7 @@
 pub mod Faults
+pub mod Input
 pub mod Location
+pub mod Pixels
 pub mod Run
-pub mod Samples
 pub mod Texts
 pub mod Words

@@ -1,29 +1,33 @@
--- What gdallocationinfo prints of a point.
-use Rattle.std.specs.Prelude.{ℕ, ℤ, pos, negsuc, ◌-◌, Bool, List, [], ◌∷◌, length, codes, flat_map, nat_lt, Option, Some, None, option_and_then, slice_get, Result, Ok, Err, if◌then◌else◌}
+-- What gdallocationinfo prints of points.
+use Rattle.std.specs.Prelude.{ℕ, ℤ, pos, negsuc, ◌-◌, Bool, true, false, List, [], ◌∷◌, length, map, flat_map, nat_lt, Option, Some, None, Result, Ok, Err, if◌then◌else◌}
 use Rattle.std.specs.List.{range_with_len, find}
 use Rattle.lists_and_answers.specs.Answers.{◌>>=◌}
+use Rattle.geotransform.specs.Geo.{Transform, located}
 use Rattle.geotransform.specs.Print.{unit}
 use Rattle.geotransform.specs.Places.{floor_of}
-use Rattle.geotransform.specs.declared.faults.PlanFault.TheVariants.{NoBand}
+use Rattle.geotransform.specs.declared.faults.PlanFault.TheVariants.{NoBand, NoGeo}
 use Rattle.outside.specs.Outside.{Files}
-use Rattle.geotransform.specs.declared.types.Size.{Size}
-use Rattle.catalog.specs.Drivers.{Dataset}
-use Rattle.catalog.specs.Walk.{number_of, walked}
-use Rattle.catalog.specs.Pixels.{pixel_in}
-use Rattle.gdal_cli.specs.declared.faults.Fault.{Fault}
-use Rattle.gdal_cli.specs.declared.faults.Fault.TheVariants.{Plan}
 use Rattle.outside.specs.Streams.{Gets, GetsPart}
+use Rattle.input_points.specs.declared.entry.Entry.{Entry}
+use Rattle.input_points.specs.declared.entry.LineKind.{LineKind}
+use Rattle.input_points.specs.declared.entry.LineKind.TheVariants.{Blank, Point, Bad, TooMany}
+use Rattle.catalog.specs.Dataset.{DatasetHead}
+use Rattle.catalog.specs.Drivers.{Dataset}
+use Rattle.catalog.specs.Walk.{dataset_named, walked}
+use Rattle.catalog.specs.Pixels.{pixel_of_name}
+use Rattle.catalog.specs.declared.faults.LimitKind.TheVariants as limits
+use Rattle.location_report.specs.Covering.{covering_files}
+use Rattle.location_report.specs.Location.{location_text}
+use Rattle.location_report.specs.declared.report.Form.{Form}
+use Rattle.gdal_cli.specs.declared.asked.Asked.{Asked}
+use Rattle.gdal_cli.specs.declared.faults.Fault.{Fault}
+use Rattle.gdal_cli.specs.declared.faults.Fault.TheVariants.{Plan, Limit, BadPoint}
 use Rattle.gdal_cli.specs.Faults.{by_walk, IsOutside}
-use Rattle.gdal_cli.specs.Texts.{value_line}
 
 -- a whole number as a column or a line of a side
 abbrev pub within : ℕ → ℤ → Option ℕ
 within side (pos n) = if nat_lt n side then Some n else None
 within side (negsuc n) = None
-
--- the column or the line in which a number of pixels, in ticks, lies, where the side has it
-abbrev pub place_within : ℕ → ℤ → Option ℕ
-place_within side place = within side (floor_of place (pos unit))
 
 -- the bands that are chosen by their numbers from 1, or all
 abbrev pub chosen_of : ℕ → List ℕ → List ℕ
@@ -38,42 +42,104 @@ unless_lacking (Some band) bands = Err (Plan (NoBand band))
 abbrev pub chosen_in : ℕ → List ℕ → Result (List ℕ) Fault
 chosen_in count bands = unless_lacking (find (λ band. nat_lt count band) bands) (chosen_of count bands)
 
--- the values of these bands, each on a line; a value is known by its band, counted from 0
-abbrev pub values_text : (ℕ → ℤ) → List ℕ → List ℕ
-values_text value bands = flat_map (λ band. value_line (value (band - 1))) bands
+-- the geotransform that points are placed by, where they are places and no columns and lines
+abbrev pub frame_in : Bool → Option Transform → Result (Option Transform) Fault
+frame_in false geo = Ok None
+frame_in true None = Err (Plan NoGeo)
+frame_in true (Some geo) = Ok (Some geo)
 
--- the values of these bands in a column and a line, or one empty line off the raster
-abbrev pub place_text : (ℕ → ℕ → ℕ → ℤ) → Option ℕ → Option ℕ → List ℕ → List ℕ
-place_text pixel (Some x) (Some y) bands = values_text (λ band. pixel band x y) bands
-place_text pixel (Some x) None bands = codes "\n"
-place_text pixel None y bands = codes "\n"
+-- the column and the line of a point, which may be off the raster
+abbrev pub place_of : Option Transform → ℤ → ℤ → ℤ × ℤ
+place_of None x y = (floor_of x (pos unit), floor_of y (pos unit))
+place_of (Some geo) x y = located geo x y
 
--- what is printed at a point of a raster of this size and these pixels
-abbrev pub point_text : Size → (ℕ → ℕ → ℕ → ℤ) → ℤ → ℤ → List ℕ → List ℕ
-point_text size pixel x y bands = place_text pixel (place_within size.w x) (place_within size.h y) bands
+-- what is asked of a dataset, or that it lacks a band or a geotransform
+unfoldable pub asked_in : Form → List ℕ → Bool → DatasetHead → Result Asked Fault
+asked_in form bands geoloc head = do
+  chosen ← chosen_in (length head.bands) bands
+  frame ← frame_in geoloc head.geo
+  Ok (record { form = form; bands = chosen; frame = frame })
 
--- the dataset of a name in a catalog
-abbrev pub dataset_of : List Dataset → List ℕ → Option Dataset
-dataset_of cat name = option_and_then (slice_get cat) (number_of cat name)
+-- the values of bands in a column and a line, none off the raster; a pixel is known by its band, counted from 0
+abbrev pub values_at : (ℕ → ℕ → ℕ → ℤ) → List ℕ → Option ℕ → Option ℕ → Option (List ℤ)
+values_at pixel bands (Some x) (Some y) = Some (map (λ band. pixel (band - 1) x y) bands)
+values_at pixel bands (Some x) None = None
+values_at pixel bands None y = None
+
+-- the names of the files that cover a column and a line in bands, none off the raster
+abbrev pub files_at : List Dataset → Dataset → List ℕ → Option ℕ → Option ℕ → List (List ℕ)
+files_at cat d bands (Some x) (Some y) = covering_files cat d x y bands
+files_at cat d bands (Some x) None = []
+files_at cat d bands None y = []
+
+-- what is told of a place in a dataset of a catalog
+abbrev pub told_text : Files → List Dataset → Dataset → Asked → ℤ × ℤ → List ℕ
+told_text m cat d asked place =
+    let x = within d.head.size.w place.0 in
+    let y = within d.head.size.h place.1 in
+    location_text asked.form place.0 place.1 (values_at (pixel_of_name m d.head.name) asked.bands x y) asked.bands (files_at cat d asked.bands x y)
+
+-- what is told of a point
+unfoldable pub point_text : Files → List Dataset → Dataset → Asked → ℤ → ℤ → List ℕ
+point_text m cat d asked x y = told_text m cat d asked (place_of asked.frame x y)
+
+-- what is told of a line, where `tell` tells of a point
+abbrev pub line_text : (ℤ → ℤ → List ℕ) → LineKind → List ℕ
+line_text tell Blank = []
+line_text tell (Point x y) = tell x y
+line_text tell Bad = []
+line_text tell TooMany = []
+
+-- why a line ends the reading, if it does
+abbrev pub line_fault : ℕ → LineKind → Option Fault
+line_fault number Blank = None
+line_fault number (Point x y) = None
+line_fault number Bad = Some (BadPoint number)
+line_fault number TooMany = Some (Limit limits.Points 16777217)
+
+abbrev pub first_fault : Option Fault → Option Fault → Option Fault
+first_fault None later = later
+first_fault (Some fault) later = Some fault
+
+-- the answers to lines, and the first of their faults
+abbrev pub lines_text : (ℤ → ℤ → List ℕ) → List Entry → List ℕ
+lines_text tell lines = flat_map (λ (e : Entry). line_text tell e.kind) lines
+
+abbrev pub lines_fault : List Entry → Option Fault
+lines_fault [] = None
+lines_fault (e ∷ es) = first_fault (line_fault e.line e.kind) (lines_fault es)
+
+-- what is printed, and the fault behind it, if there is one
+pub record Printed : Type 0 where
+  pub text : List ℕ
+  pub fault : Option Fault
+
+abbrev pub whole : List ℕ → Printed
+whole text = record { text = text; fault = None }
+
+-- the answer to a point, or where there is none to the lines of an input
+abbrev pub answers : (ℤ → ℤ → List ℕ) → Option (ℤ × ℤ) → List Entry → Printed
+answers tell (Some point) lines = whole (tell point.0 point.1)
+answers tell None lines = record { text = lines_text tell lines; fault = lines_fault lines }
+
+-- the answers of a dataset of a catalog, or what it lacks
+unfoldable pub answers_in : Files → List Dataset → Option (ℤ × ℤ) → List ℕ → Form → Bool → List Entry → Dataset → Result Printed Fault
+answers_in m cat point bands form geoloc lines d = do
+  asked ← asked_in form bands geoloc d.head
+  Ok (answers (point_text m cat d asked) point lines)
+
+-- the same of the dataset that a walk began with, which it has met
+abbrev pub answers_of : Files → List Dataset → Option (ℤ × ℤ) → List ℕ → Form → Bool → List Entry → Option Dataset → Result Printed Fault
+answers_of m cat point bands form geoloc lines None = Ok (whole [])
+answers_of m cat point bands form geoloc lines (Some d) = answers_in m cat point bands form geoloc lines d
+
+-- the answers of the dataset of a name, or the first refusal
+unfoldable pub location_in : Files → Bool → List ℕ → Option (ℤ × ℤ) → List ℕ → Form → Bool → List Entry → Result Printed Fault
+location_in m verify name point bands form geoloc lines = do
+  cat ← by_walk (walked m verify [] name)
+  answers_of m cat point bands form geoloc lines (dataset_named cat name)
 
 -- a call puts a whole text, or a first part of it behind which the outside failed
 abbrev pub PutsText : List ℕ → Result (Unit {0}) Fault → Option (List ℕ) → Option (List ℕ) → Type 0
 PutsText text (Ok done) before after = Gets text before after
 PutsText text (Err fault) before after = IsOutside fault × GetsPart text before after
-
--- the values at a point of a dataset, or the first band that it lacks
-unfoldable pub values_in : Files → ℤ → ℤ → List ℕ → Dataset → Result (List ℕ) Fault
-values_in m x y bands d = do
-  chosen ← chosen_in (length d.head.bands) bands
-  Ok (point_text d.head.size (pixel_in m d) x y chosen)
-
--- the same of the dataset that a walk began with, which it has met
-abbrev pub values_of : Files → ℤ → ℤ → List ℕ → Option Dataset → Result (List ℕ) Fault
-values_of m x y bands None = Ok []
-values_of m x y bands (Some d) = values_in m x y bands d
-
--- the values at a point of the dataset of a name, or the first refusal
-unfoldable pub location_in : Files → Bool → List ℕ → ℤ → ℤ → List ℕ → Result (List ℕ) Fault
-location_in m verify name x y bands = do
-  cat ← by_walk (walked m verify [] name)
-  values_of m x y bands (dataset_of cat name)

@@ -1,12 +1,13 @@
--- The lines of values and of faults.
-use Rattle.std.specs.Prelude.{ℕ, ℤ, List, [], ◌∷◌, ◌++◌, codes, flat_map, Option, Some, None}
-use Rattle.std.specs.Fmt.{decimal, signed_decimal}
+-- The lines of faults.
+use Rattle.std.specs.Prelude.{ℕ, List, [], ◌∷◌, ◌++◌, codes, flat_map, Option, Some, None}
+use Rattle.std.specs.Fmt.{decimal}
 use Rattle.esri_hdr.specs.Faults as hdr
 use Rattle.dted_records.specs.Faults as dted
 use Rattle.dted_records.specs.declared.head.DtedFault.{DtedFault}
 use Rattle.dted_records.specs.declared.head.DtedFault.TheVariants as dted_fault
 use Rattle.hgt_tiles.specs.Names as hgt
 use Rattle.ascii_grid.specs.Faults as grid
+use Rattle.vrt_profile.specs.Faults as vrt
 use Rattle.geotransform.specs.declared.faults.PlanFault.{PlanFault}
 use Rattle.geotransform.specs.declared.faults.PlanFault.TheVariants as plan
 use Rattle.catalog.specs.declared.faults.LimitKind.{LimitKind}
@@ -15,11 +16,7 @@ use Rattle.catalog.specs.declared.faults.Bad.{Bad}
 use Rattle.catalog.specs.declared.faults.Bad.TheVariants as bad
 use Rattle.lists_and_answers.specs.Texts.{text}
 use Rattle.gdal_cli.specs.declared.faults.Fault.{Fault}
-use Rattle.gdal_cli.specs.declared.faults.Fault.TheVariants.{Usage, Absent, NotRecognized, Malformed, Short, Limit, Plan, Changed, FolderFault, OutFault, Memory}
-
--- a value on a line
-abbrev pub value_line : ℤ → List ℕ
-value_line v = text (signed_decimal v ∷ codes "\n" ∷ [])
+use Rattle.gdal_cli.specs.declared.faults.Fault.TheVariants.{Usage, Absent, NotRecognized, Malformed, Short, Cycle, TooDeep, Limit, SourceBand, Plan, BadPoint, Changed, FolderFault, InputFault, OutFault, Memory}
 
 -- the place of a fault, where it has one
 abbrev pub place_text : Option ℕ → List ℕ
@@ -42,6 +39,7 @@ bad_line name (bad.Hdr fault) = form_line name (codes "hdr") (hdr.fault_number f
 bad_line name (bad.Dted fault) = form_line name (codes "dted") (dted.fault_number fault) (place_of fault)
 bad_line name (bad.Hgt fault) = form_line name (codes "hgt") (hgt.fault_number fault) None
 bad_line name (bad.Grid fault) = form_line name (codes "grid") (grid.fault_number fault) (grid.fault_place fault)
+bad_line name (bad.Vrt fault) = form_line name (codes "vrt") (vrt.fault_number fault) (vrt.fault_place fault)
 bad_line name bad.List = form_line name (codes "list") 1 None
 
 -- what is counted against a limit
@@ -74,10 +72,15 @@ error_line (Absent name) = text (codes "ERROR 4: " ∷ name ∷ codes ": no such
 error_line (NotRecognized name) = text (codes "ERROR 4: " ∷ name ∷ codes ": not recognized as a supported format\n" ∷ [])
 error_line (Malformed name bad) = bad_line name bad
 error_line (Short name needed has) = text (codes "ERROR 4: " ∷ name ∷ codes ": needs " ∷ decimal needed ∷ codes " bytes, has " ∷ decimal has ∷ codes "\n" ∷ [])
+error_line (Cycle name) = text (codes "ERROR 1: " ∷ name ∷ codes ": mosaic contains itself\n" ∷ [])
+error_line (TooDeep name) = text (codes "ERROR 1: " ∷ name ∷ codes ": nested too deep\n" ∷ [])
 error_line (Limit what value) = text (codes "ERROR 6: limit of " ∷ limit_word what ∷ codes " passed (" ∷ decimal value ∷ codes ")\n" ∷ [])
+error_line (SourceBand name band) = text (codes "ERROR 5: " ∷ name ∷ codes ": no band " ∷ decimal band ∷ codes "\n" ∷ [])
 error_line (Plan fault) = plan_line fault
+error_line (BadPoint line) = text (codes "ERROR 5: input line " ∷ decimal line ∷ codes " is no point\n" ∷ [])
 error_line (Changed name was now) = text (codes "ERROR 3: " ∷ name ∷ codes ": length changed from " ∷ decimal was ∷ codes " to " ∷ length_text now ∷ codes "\n" ∷ [])
 error_line FolderFault = codes "ERROR 3: a file call failed\n"
+error_line InputFault = codes "ERROR 3: reading the input failed\n"
 error_line OutFault = codes "ERROR 3: writing the output failed\n"
 error_line Memory = codes "ERROR 2: out of memory\n"
 

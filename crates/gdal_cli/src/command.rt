@@ -1,9 +1,9 @@
 // What the words of a command line ask for.
 ghost use Rattle.std.specs.Prelude.{◌≡◌, ◌≤◌, ◌&&◌, nat_le, if◌then◌else◌, Some, None};
-ghost use Rattle.geotransform.specs.Decimal.{IsRead, ticks_of};
 
-use geotransform::{Ticks, read_decimal};
+use input_points::Position;
 use lists_and_answers::Items;
+use location_report::Form;
 use outside::Name;
 use std::marker::Model;
 
@@ -56,43 +56,46 @@ impl BandNumber {
     }
 }
 
-/// A number of pixels as a decimal text gives it: a multiple of 18 ticks, below 10^12 units in magnitude.
+/// How many blocks are held at once, from 1 to 65,536.
 #[derive(Clone, Copy)]
-pub struct Position {
-    ticks: Ticks,
+pub struct BlockCount {
+    number: u32,
 }
 
-impl Model for Position {
-    ghost use Rattle.std.specs.Prelude.{ℤ};
-    ghost use Rattle.geotransform.specs.Decimal.{IsRead};
+impl Model for BlockCount {
+    ghost use Rattle.std.specs.Prelude.{ℕ, ◌≤◌};
 
-    ghost Value = { ℤ };
+    ghost Value = { ℕ };
 
-    ghost view = { λ p. p.ticks };
+    ghost view = { λ b. b.number };
 
-    ghost invariant = { λ p. IsRead p.ticks };
+    ghost invariant = { λ b. (1 ≤ b.number) × (b.number ≤ 65536) };
 
-    ghost inverse = { λ v. record { ticks = v } };
+    ghost inverse = { λ n. record { number = n } };
 }
 
-impl Position {
-    /// The number that a text gives. None comes exactly where it is no decimal text, or one whose value reaches
-    /// 10^12 units.
-    pub fn read(text: &[u8]) -> Option<Position>
-        ensures value { result ≡ ticks_of text.now }
+impl BlockCount {
+    /// As many as are held where nothing is said.
+    pub const USUAL: BlockCount = BlockCount { number: 64 };
+
+    /// The number where it is from 1 to 65,536, else none.
+    pub fn new(number: u32) -> Option<BlockCount>
+        ensures exact { result ≡ (if nat_le 1 number && nat_le number 65536 then Some number else None) }
     {
-        match read_decimal(text) {
-            Some(ticks) => Some(Position { ticks }),
-            None => None,
+        if number >= 1 && number <= 65_536 {
+            Some(BlockCount { number })
+        } else {
+            None
         }
     }
 
-    /// The number in ticks, of which 180,000,000,000,000,000 make a pixel.
-    pub fn get(self) -> Ticks
+    /// The number.
+    pub fn get(self) -> u32
         ensures value { result ≡ self }
-        ensures read { IsRead result }
+        ensures some { 1 ≤ result }
+        ensures few { result ≤ 65536 }
     {
-        self.ticks
+        self.number
     }
 }
 
@@ -106,12 +109,14 @@ pub enum Job {
     Info {
         name: Name,
     },
-    /// The values of the chosen bands, or of all where none is chosen, at a column and a line.
+    /// What is told of a point in the chosen bands, or in all where none is chosen. Where no point is given, the
+    /// points are the lines of the input. `geoloc` says that a point is a place and not a column and a line.
     Locate {
         name: Name,
-        x: Position,
-        y: Position,
+        point: Option<(Position, Position)>,
         bands: BandNumbers,
+        form: Form,
+        geoloc: bool,
     },
 }
 
@@ -121,4 +126,6 @@ pub struct Command {
     pub job: Job,
     /// Whether the sums of records are to be checked.
     pub verify: bool,
+    /// How many blocks of pixels are held at once. Nothing that is printed depends on it.
+    pub blocks: BlockCount,
 }

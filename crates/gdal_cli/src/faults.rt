@@ -1,9 +1,10 @@
 // The answers of a run other than success.
 ghost use Rattle.std.specs.Prelude.{◌≡◌};
-ghost use Rattle.gdal_cli.specs.Faults.{fault_of, word_fault_of, report_fault_of};
+ghost use Rattle.gdal_cli.specs.Faults.{fault_of, word_fault_of, load_fault_of, report_fault_of};
 ghost use Rattle.gdal_cli.specs.declared.faults.Fault.TheVariants as fault;
 
 use crate::spoken::WordFault;
+use band_blocks::LoadFault;
 use catalog::{Bad, LimitKind, WalkFault};
 use geotransform::PlanFault;
 use info_report::ReportFault;
@@ -36,13 +37,30 @@ pub enum Fault {
         needed: u64,
         has: u64,
     },
+    /// The mosaic of this name contains itself.
+    Cycle {
+        name: Name,
+    },
+    /// The mosaic of this name would be the seventeenth on its path.
+    TooDeep {
+        name: Name,
+    },
     /// What is counted would pass its limit with this value.
     Limit {
         what: LimitKind,
         value: u64,
     },
+    /// A source names this band, counted from 1, of the dataset of this name, which lacks it.
+    SourceBand {
+        name: Name,
+        band: u32,
+    },
     /// The dataset can't give what is asked of it.
     Plan(PlanFault),
+    /// The line of the input with this number, counted from 1, is no point.
+    BadPoint {
+        line: u32,
+    },
     /// The file of this name was so many bytes long, and was opened again with another length, or with none
     /// where it was absent then.
     Changed {
@@ -52,6 +70,8 @@ pub enum Fault {
     },
     /// A call of the folder failed.
     FolderFault,
+    /// A call of the input failed.
+    InputFault,
     /// A call of the output failed.
     OutFault,
     /// Memory was refused.
@@ -78,9 +98,24 @@ impl From<WalkFault> for Fault {
             WalkFault::NotRecognized { name } => Fault::NotRecognized { name },
             WalkFault::Malformed { name, bad } => Fault::Malformed { name, bad },
             WalkFault::Short { name, needed, has } => Fault::Short { name, needed, has },
+            WalkFault::Cycle { name } => Fault::Cycle { name },
+            WalkFault::TooDeep { name } => Fault::TooDeep { name },
             WalkFault::Limit { what, value } => Fault::Limit { what, value },
+            WalkFault::SourceBand { name, band } => Fault::SourceBand { name, band },
             WalkFault::FolderFault => Fault::FolderFault,
             WalkFault::Memory => Fault::Memory,
+        }
+    }
+}
+
+impl From<LoadFault> for Fault {
+    ghost from_gives = { λ l f. f ≡ load_fault_of l };
+
+    fn from(fault: LoadFault) -> Self {
+        match fault {
+            LoadFault::FolderFault => Fault::FolderFault,
+            LoadFault::Changed { name, was, now } => Fault::Changed { name, was, now },
+            LoadFault::Memory => Fault::Memory,
         }
     }
 }

@@ -1,12 +1,14 @@
 // A run of the program.
-ghost use Rattle.std.specs.Prelude.{◌≡◌, ◌≤◌, ◌⊎◌, ℕ, List, Option, Some, None, Ok, Err, map, string_bytes};
+ghost use Rattle.std.specs.Prelude.{◌≡◌, ◌≤◌, ◌⊎◌, ℕ, List, [], Option, Some, None, Ok, Err, OnOk, true, false, map, string_bytes};
 ghost use Rattle.outside.specs.Outside.{Files};
-ghost use Rattle.outside.specs.Causes.{Rose};
+ghost use Rattle.outside.specs.Causes.{HasCause, Rose};
+ghost use Rattle.input_points.specs.Entries.{entries};
 ghost use Rattle.outside.specs.Streams.{Gets, GetsPart};
-ghost use Rattle.gdal_cli.specs.Faults.{HasCauses, HasChanged, IsOutside, status_of};
+ghost use Rattle.gdal_cli.specs.Faults.{HasCauses, HasChanged, IsOutside, OwnsFault, status_of};
+ghost use Rattle.gdal_cli.specs.Input.{StopsBehind};
 ghost use Rattle.gdal_cli.specs.Texts.{line_of};
 ghost use Rattle.gdal_cli.specs.Words.{words_of};
-ghost use Rattle.gdal_cli.specs.Run.{Ran, ran_of, run_of, printed_in, Ends, Answers, EndsEarly, Says, RefusesWords, RefusesDataset, ended};
+ghost use Rattle.gdal_cli.specs.Run.{Ran, ran_of, run_of, run_over, printed_in, words_read_input, Ends, Answers, EndsEarly, Says, RefusesWords, RefusesDataset, ended};
 
 use crate::jobs::put_job;
 use crate::texts::put_fault;
@@ -18,21 +20,27 @@ use std::thread::Threads;
 
 // Reads the words, and does what they ask for.
 #[tactic(auto, unfolding(crate::specs::Run::printed_in))]
-fn perform<F: Folder, O: Sink>(
+fn perform<F: Folder, I: Input, O: Sink>(
     alloc: Global,
     words: &[String],
     folder: &mut F,
+    input: &mut I,
     out: &mut O,
 ) -> Result<(), Fault>
-    ensures told { (m : Files) → F.names folder.old ≡ Some m → Ends (ran_of (printed_in m (map string_bytes words.now))) result (O.got out.old) (O.got out.new) }
+    ensures told { (m : Files) → F.names folder.old ≡ Some m → (i : List ℕ) → I.left input.old ≡ Some i → Ends (ran_of (printed_in m (entries i) (map string_bytes words.now))) result (O.got out.old) (O.got out.new) }
+    ensures stopped { result ≡ Err Fault.InputFault → (m : Files) → F.names folder.old ≡ Some m → (i : List ℕ) → I.left input.old ≡ Some i → StopsBehind (λ lines. (run_over (map string_bytes words.now) m lines).printed) i (I.left input.new) (O.got out.old) (O.got out.new) }
+    ensures read { OnOk result (words_read_input (words_of (map string_bytes words.now)) ≡ true → (i : List ℕ) → I.left input.old ≡ Some i → I.left input.new ≡ Some []) }
+    ensures untouched { words_read_input (words_of (map string_bytes words.now)) ≡ false → input.new ≡ input.old }
+    ensures input_cause { HasCause Fault.InputFault (I.faults input.old) (I.faults input.new) result }
     ensures names { F.names folder.new ≡ F.names folder.old }
     ensures cause { HasCauses (F.faults folder.old) (F.faults folder.new) (O.faults out.old) (O.faults out.new) result }
     ensures usage { RefusesWords (words_of (map string_bytes words.now)) (ended result) }
     ensures unknown { RefusesDataset (words_of (map string_bytes words.now)) (ended result) }
     ensures changed { HasChanged (F.names folder.old) (ended result) }
+    ensures own { OwnsFault (ended result) }
 {
     let command = read_words(alloc, words)?;
-    put_job(alloc, folder, out, command)
+    put_job(alloc, folder, input, out, command)
 }
 
 fn ended(end: Result<(), Fault>) -> Option<Fault>
@@ -52,10 +60,14 @@ fn status(fault: &Option<Fault>) -> u8
             | Fault::NotRecognized { .. }
             | Fault::Malformed { .. }
             | Fault::Short { .. }
+            | Fault::Cycle { .. }
+            | Fault::TooDeep { .. }
             | Fault::Limit { .. }
-            | Fault::Plan(_),
+            | Fault::SourceBand { .. }
+            | Fault::Plan(_)
+            | Fault::BadPoint { .. },
         ) => 1,
-        Some(Fault::Changed { .. } | Fault::FolderFault | Fault::OutFault) => 2,
+        Some(Fault::Changed { .. } | Fault::FolderFault | Fault::InputFault | Fault::OutFault) => 2,
         Some(Fault::Memory) => 3,
     }
 }
@@ -85,8 +97,8 @@ pub fn tell<E: Sink>(err: &mut E, fault: Option<Fault>) -> Outcome
 }
 
 /// Does all that the program does: reads the words behind the program's name, does what they ask
-/// for over the files of the folder, prints on `out`, and tells a fault on `err`. It answers for
-/// every list of words.
+/// for over the files of the folder and the lines of the input, prints on `out`, and tells a fault
+/// on `err`. It answers for every list of words.
 pub fn run<R: Threads + Sync, F: Folder, I: Input, O: Sink, E: Sink>(
     _rt: &R,
     alloc: Global,
@@ -104,23 +116,33 @@ pub fn run<R: Threads + Sync, F: Folder, I: Input, O: Sink, E: Sink>(
     ensures early_end { 2 ≤ result.status → (m : Files) → F.names folder.old ≡ Some m → (i : List ℕ) → I.left input.old ≡ Some i
         → EndsEarly (run_of (map string_bytes words.now) m i) m (F.names folder.new) (O.got out.old) (O.got out.new) }
 
-    // Nothing is taken from the input.
-    ensures input { input.new ≡ input.old }
+    // Only a command that takes its points from the input reads it; one that succeeds read it to its end.
+    ensures input { words_read_input (words_of (map string_bytes words.now)) ≡ false → input.new ≡ input.old }
+    ensures input_read { words_read_input (words_of (map string_bytes words.now)) ≡ true → result.status ≡ 0 → (i : List ℕ) → I.left input.old ≡ Some i → I.left input.new ≡ Some [] }
+
+    // Where the input failed, exactly the whole lines among the bytes that it gave are answered.
+    ensures input_stopped { result.fault ≡ Some Fault.InputFault → (m : Files) → F.names folder.old ≡ Some m → (i : List ℕ) → I.left input.old ≡ Some i
+        → StopsBehind (λ lines. (run_over (map string_bytes words.now) m lines).printed) i (I.left input.new) (O.got out.old) (O.got out.new) }
 
     // Each fault has its status, and each of the outside its cause.
     ensures status { result.status ≡ status_of result.fault }
     ensures folder_fault { result.fault ≡ Some Fault.FolderFault → Rose (F.faults folder.old) (F.faults folder.new) }
+    ensures input_fault { result.fault ≡ Some Fault.InputFault → Rose (I.faults input.old) (I.faults input.new) }
     ensures out_fault { result.fault ≡ Some Fault.OutFault → Rose (O.faults out.old) (O.faults out.new) }
 
     // A changed length comes only over a folder that doesn't tell its names, and is another length.
     ensures changed { HasChanged (F.names folder.old) result.fault }
 
+    // Over every folder, want of memory is never told as what is wrong with a file.
+    ensures own { OwnsFault result.fault }
+
     // No count of failed calls falls.
     ensures folder_later { F.faults folder.old ≤ F.faults folder.new }
+    ensures input_later { I.faults input.old ≤ I.faults input.new }
     ensures out_later { O.faults out.old ≤ O.faults out.new }
     ensures err_later { E.faults err.old ≤ E.faults err.new }
 
-    // Over every folder, usage and unknown extensions are refused exactly where they stand.
+    // Over every folder, usage and extensions of no kind are refused exactly where they stand.
     ensures usage { RefusesWords (words_of (map string_bytes words.now)) result.fault }
     ensures not_recognized { RefusesDataset (words_of (map string_bytes words.now)) result.fault }
 
@@ -137,6 +159,6 @@ pub fn run<R: Threads + Sync, F: Folder, I: Input, O: Sink, E: Sink>(
     ensures errors { (m : Files) → F.names folder.old ≡ Some m → (i : List ℕ) → I.left input.old ≡ Some i
         → Says (run_of (map string_bytes words.now) m i) result.fault (E.faults err.old) (E.faults err.new) (E.got err.old) (E.got err.new) }
 {
-    let fault = ended(perform(alloc, words, folder, out));
+    let fault = ended(perform(alloc, words, folder, input, out));
     tell(err, fault)
 }

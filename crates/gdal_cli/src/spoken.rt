@@ -1,5 +1,6 @@
 // What the words of a command line have said so far.
-use crate::command::{BandNumbers, Position};
+use crate::command::{BandNumbers, BlockCount};
+use input_points::Position;
 use outside::Name;
 
 /// The command that the first word names.
@@ -16,6 +17,8 @@ pub enum Awaited {
     Nothing,
     /// The number of `-b`.
     Band,
+    /// The number of `--blocks`.
+    Blocks,
     /// The key of `--config`.
     Key,
     /// A setting without effect.
@@ -28,8 +31,11 @@ pub enum Awaited {
 #[derive(Clone, Copy, Debug, PartialEq, Eq)]
 pub enum OptionWord {
     Config,
+    Blocks,
     Band,
     ValuesOnly,
+    FilesOnly,
+    Geoloc,
 }
 
 /// What the words after the first have said.
@@ -37,7 +43,12 @@ pub enum OptionWord {
 pub struct Spoken {
     pub awaited: Awaited,
     pub verify: bool,
-    pub values_only: bool,
+    pub blocks: BlockCount,
+    /// The number of the last `-valonly`.
+    pub values_only: Option<u64>,
+    /// The number of the last `-lifonly`.
+    pub files_only: Option<u64>,
+    pub geoloc: bool,
     pub bands: BandNumbers,
     pub name: Option<Name>,
     pub x: Option<Position>,

@@ -1,17 +1,18 @@
-// The lines of values and of faults.
-ghost use Rattle.std.specs.Prelude.{◌≡◌, ◌++◌, [], ◌∷◌, codes, decimal, ℤ, None, Some, OnOk, OnErr};
+// The lines of faults.
+ghost use Rattle.std.specs.Prelude.{◌≡◌, ◌++◌, [], ◌∷◌, codes, decimal, None, Some, OnOk, OnErr};
 ghost use Rattle.outside.specs.Streams.{Gets, GetsPart};
 ghost use Rattle.outside.specs.Causes.{FailsWith};
 ghost use Rattle.lists_and_answers.specs.Texts.{text};
-ghost use Rattle.gdal_cli.specs.Texts.{value_line, form_line, place_of, bad_line, limit_word, plan_line, error_line};
+ghost use Rattle.gdal_cli.specs.Texts.{form_line, place_of, bad_line, limit_word, plan_line, error_line};
 
 use crate::Fault;
 use ascii_grid::GridFault;
 use catalog::{Bad, LimitKind};
 use dted_records::DtedFault;
-use geotransform::{PlanFault, Sample};
+use geotransform::PlanFault;
 use itoa::Buffer;
 use outside::{Failed, Name, Sink, put_all};
+use vrt_profile::VrtFault;
 
 // A number between two texts.
 fn put_number<S: Sink>(sink: &mut S, before: &[u8], number: u64, after: &[u8]) -> Result<(), Failed>
@@ -149,6 +150,19 @@ fn put_grid<S: Sink>(sink: &mut S, name: &Name, fault: GridFault) -> Result<(), 
     }
 }
 
+// The line of a document that isn't of its form.
+fn put_vrt<S: Sink>(sink: &mut S, name: &Name, fault: VrtFault) -> Result<(), Failed>
+    ensures ok { OnOk result (Gets (bad_line name.now (Bad.Vrt fault)) (S.got sink.old) (S.got sink.new)) }
+    ensures err { OnErr result (GetsPart (bad_line name.now (Bad.Vrt fault)) (S.got sink.old) (S.got sink.new)) }
+    ensures cause { FailsWith (S.faults sink.old) (S.faults sink.new) result }
+{
+    let number = u64::from(fault.number());
+    match fault.place() {
+        None => put_form(sink, name, b"vrt", number),
+        Some(place) => put_form_at(sink, name, b"vrt", number, place),
+    }
+}
+
 fn put_malformed<S: Sink>(sink: &mut S, name: &Name, bad: Bad) -> Result<(), Failed>
     ensures ok { OnOk result (Gets (bad_line name.now bad) (S.got sink.old) (S.got sink.new)) }
     ensures err { OnErr result (GetsPart (bad_line name.now bad) (S.got sink.old) (S.got sink.new)) }
@@ -159,6 +173,7 @@ fn put_malformed<S: Sink>(sink: &mut S, name: &Name, bad: Bad) -> Result<(), Fai
         Bad::Dted(fault) => put_dted(sink, name, fault),
         Bad::Hgt(fault) => put_form(sink, name, b"hgt", u64::from(fault.number())),
         Bad::Grid(fault) => put_grid(sink, name, fault),
+        Bad::Vrt(fault) => put_vrt(sink, name, fault),
         Bad::List => put_form(sink, name, b"list", 1),
     }
 }
@@ -192,6 +207,18 @@ fn put_limit<S: Sink>(sink: &mut S, what: LimitKind, value: u64) -> Result<(), F
             b")\n",
         ],
     )
+}
+
+// The line of a dataset that lacks the band of a source.
+fn put_lacking<S: Sink>(sink: &mut S, name: &Name, band: u32) -> Result<(), Failed>
+    ensures ok { OnOk result (Gets (error_line (Fault.SourceBand name.now band)) (S.got sink.old) (S.got sink.new)) }
+    ensures err { OnErr result (GetsPart (error_line (Fault.SourceBand name.now band)) (S.got sink.old) (S.got sink.new)) }
+    ensures cause { FailsWith (S.faults sink.old) (S.faults sink.new) result }
+{
+    let mut buffer = Buffer::new();
+    let band = buffer.format(band).as_bytes();
+    let name = name.as_str().as_bytes();
+    put_all(sink, &[b"ERROR 5: ", name, b": no band ", band, b"\n"])
 }
 
 // The line of a file whose length changed, from the text of the new length.
@@ -248,17 +275,6 @@ fn put_plan<S: Sink>(sink: &mut S, fault: PlanFault) -> Result<(), Failed>
     }
 }
 
-/// Puts a value on a line.
-pub fn put_value<S: Sink>(out: &mut S, value: Sample) -> Result<(), Failed>
-    ensures ok { OnOk result (Gets (value_line value) (S.got out.old) (S.got out.new)) }
-    ensures err { OnErr result (GetsPart (value_line value) (S.got out.old) (S.got out.new)) }
-    ensures cause { FailsWith (S.faults out.old) (S.faults out.new) result }
-{
-    let mut buffer = Buffer::new();
-    let digits = buffer.format(value).as_bytes();
-    put_all(out, &[digits, b"\n"])
-}
-
 /// Puts the line that tells a fault. It takes no memory, so that want of memory can be told too.
 pub fn put_fault<S: Sink>(err: &mut S, fault: &Fault) -> Result<(), Failed>
     ensures ok { OnOk result (Gets (error_line fault.now) (S.got err.old) (S.got err.new)) }
@@ -276,10 +292,20 @@ pub fn put_fault<S: Sink>(err: &mut S, fault: &Fault) -> Result<(), Failed>
         ),
         Fault::Malformed { name, bad } => put_malformed(err, name, *bad),
         Fault::Short { name, needed, has } => put_short(err, name, *needed, *has),
+        Fault::Cycle { name } => put_name(err, b"ERROR 1: ", name, b": mosaic contains itself\n"),
+        Fault::TooDeep { name } => put_name(err, b"ERROR 1: ", name, b": nested too deep\n"),
         Fault::Limit { what, value } => put_limit(err, *what, *value),
+        Fault::SourceBand { name, band } => put_lacking(err, name, *band),
         Fault::Plan(fault) => put_plan(err, *fault),
+        Fault::BadPoint { line } => put_number(
+            err,
+            b"ERROR 5: input line ",
+            u64::from(*line),
+            b" is no point\n",
+        ),
         Fault::Changed { name, was, now } => put_changed(err, name, *was, *now),
         Fault::FolderFault => err.put(b"ERROR 3: a file call failed\n"),
+        Fault::InputFault => err.put(b"ERROR 3: reading the input failed\n"),
         Fault::OutFault => err.put(b"ERROR 3: writing the output failed\n"),
         Fault::Memory => err.put(b"ERROR 2: out of memory\n"),
     }

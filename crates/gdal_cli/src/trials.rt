@@ -1,7 +1,9 @@
 // Runs over files in memory.
 use crate::{Outcome, run};
 use lists_and_answers::Items;
-use outside::{CalmInput, Failing, Folder, Listed, MemFolder, MemSink, Name, Never};
+use outside::{
+    CalmInput, Failing, Folder, Input, Listed, MemFolder, MemInput, MemSink, Name, Never,
+};
 use std::alloc::Global;
 use std::test::*;
 use std::thread::Threads;
@@ -52,7 +54,27 @@ fn text(alloc: Global, bytes: &[u8]) -> Result<String, Fail> {
     }
 }
 
-// A run of these words over a folder, whose output's calls fail as they are listed.
+// A run of these words over a folder and an input, whose output's calls fail as they are listed.
+pub fn run_fed<R: Threads + Sync, F: Folder, I: Input>(
+    rt: &R,
+    alloc: Global,
+    folder: &mut F,
+    input: &mut I,
+    line: &str,
+    puts: &[Failing],
+) -> Result<Said, Fail> {
+    let words = split(alloc, line)?;
+    let mut out = MemSink::new(alloc, plan(alloc, puts)?);
+    let mut err = MemSink::new(alloc, plan(alloc, &[])?);
+    let Outcome { status, .. } = run(rt, alloc, &words, folder, input, &mut out, &mut err);
+    Ok(Said {
+        status,
+        out: text(alloc, out.got())?,
+        err: text(alloc, err.got())?,
+    })
+}
+
+// The same where the input is empty.
 pub fn run_in<R: Threads + Sync, F: Folder>(
     rt: &R,
     alloc: Global,
@@ -60,16 +82,25 @@ pub fn run_in<R: Threads + Sync, F: Folder>(
     line: &str,
     puts: &[Failing],
 ) -> Result<Said, Fail> {
-    let words = split(alloc, line)?;
     let mut input = CalmInput::new(Vec::new(alloc), Never);
-    let mut out = MemSink::new(alloc, plan(alloc, puts)?);
-    let mut err = MemSink::new(alloc, plan(alloc, &[])?);
-    let Outcome { status, .. } = run(rt, alloc, &words, folder, &mut input, &mut out, &mut err);
-    Ok(Said {
-        status,
-        out: text(alloc, out.got())?,
-        err: text(alloc, err.got())?,
-    })
+    run_fed(rt, alloc, folder, &mut input, line, puts)
+}
+
+// A run of these words over these files and an input that comes in pieces of at most so many bytes, whose calls fail
+// as they are listed for the folder, for the input and for the output.
+pub fn run_pieces<R: Threads + Sync>(
+    rt: &R,
+    alloc: Global,
+    files: &[FileOf<'_>],
+    line: &str,
+    input: (&[u8], usize),
+    calls: (&[Failing], &[Failing], &[Failing]),
+) -> Result<Said, Fail> {
+    let mut folder = folder_of(alloc, files, calls.0)?;
+    let mut bytes = Vec::new(alloc);
+    bytes.extend_from_slice(input.0)?;
+    let mut input = MemInput::in_pieces(bytes, input.1, plan(alloc, calls.1)?);
+    run_fed(rt, alloc, &mut folder, &mut input, line, calls.2)
 }
 
 // A run of these words over these files, whose calls fail as they are listed for the folder and for the output.

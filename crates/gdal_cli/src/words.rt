@@ -2,11 +2,13 @@
 ghost use Rattle.std.specs.Prelude.{◌≡◌, ◌<◌, ◌^◌, length, map, drop, string_bytes, IfOk, IfErr, ok_or, List, ℕ};
 ghost use Rattle.lists_and_answers.specs.Answers.{Gives};
 ghost use Rattle.outside.specs.Names.{same_letters};
-ghost use Rattle.gdal_cli.specs.Words.{tool_of, option_of, own_option_of, begins_with_dash, may_be_negative, is_positional, band_of, name_of, is_no, setting_of, with_option, with_name, with_x, with_y, behind_name, placed, free, with_band, taken, walked, nothing_said, is_whole, job_of, finished, words_of, IsMemory};
+ghost use Rattle.gdal_cli.specs.Words.{tool_of, option_of, own_option_of, begins_with_dash, may_be_negative, is_positional, band_of, name_of, is_no, blocks_of, setting_of, with_option, with_name, with_x, with_y, behind_name, placed, free, with_band, with_blocks, taken, walked, nothing_said, is_whole, point_of, form_of, locate_job, info_job, job_of, finished, words_of, IsMemory};
 
-use crate::command::{BandNumber, BandNumbers, Command, Job, Position};
+use crate::command::{BandNumber, BandNumbers, BlockCount, Command, Job};
 use crate::spoken::{Awaited, OptionWord, Spoken, Tool, WordFault};
 use geotransform::{is_decimal, read_number};
+use input_points::Position;
+use location_report::Form;
 use outside::{Name, NameFault};
 use std::alloc::Global;
 
@@ -32,6 +34,10 @@ fn own_option_of(tool: Tool, word: &str) -> Option<OptionWord>
                 Some(OptionWord::Band)
             } else if word == "-valonly" {
                 Some(OptionWord::ValuesOnly)
+            } else if word == "-lifonly" {
+                Some(OptionWord::FilesOnly)
+            } else if word == "-geoloc" {
+                Some(OptionWord::Geoloc)
             } else {
                 None
             }
@@ -44,6 +50,8 @@ fn option_of(tool: Tool, word: &str) -> Option<OptionWord>
 {
     if word == "--config" {
         Some(OptionWord::Config)
+    } else if word == "--blocks" {
+        Some(OptionWord::Blocks)
     } else {
         own_option_of(tool, word)
     }
@@ -86,6 +94,19 @@ fn band_of(word: &[u8]) -> Option<BandNumber>
     BandNumber::new(number as u32)
 }
 
+fn blocks_of(word: &[u8]) -> Option<BlockCount>
+    ensures { result ≡ blocks_of word.now }
+{
+    if word.len() > 9 {
+        return None;
+    }
+    let number = read_number(word)?;
+    if number > 65_536 {
+        return None;
+    }
+    BlockCount::new(number as u32)
+}
+
 fn same_letters(word: &str, other: &str) -> bool
     ensures { result ≡ same_letters word.now other.now }
 {
@@ -111,13 +132,16 @@ fn setting_of(key: &str) -> Awaited
     }
 }
 
-fn with_option(option: OptionWord, mut said: Spoken) -> Spoken
-    ensures { result ≡ with_option option said }
+fn with_option(option: OptionWord, at: u64, mut said: Spoken) -> Spoken
+    ensures { result ≡ with_option option at said }
 {
     match option {
         OptionWord::Config => said.awaited = Awaited::Key,
+        OptionWord::Blocks => said.awaited = Awaited::Blocks,
         OptionWord::Band => said.awaited = Awaited::Band,
-        OptionWord::ValuesOnly => said.values_only = true,
+        OptionWord::ValuesOnly => said.values_only = Some(at),
+        OptionWord::FilesOnly => said.files_only = Some(at),
+        OptionWord::Geoloc => said.geoloc = true,
     }
     said
 }
@@ -197,7 +221,7 @@ fn free(alloc: Global, tool: Tool, at: u64, said: Spoken, word: &str) -> Result<
     ensures { Gives IsMemory (λ s. s) result (free tool at said word.now) }
 {
     match option_of(tool, word) {
-        Some(option) => Ok(with_option(option, said)),
+        Some(option) => Ok(with_option(option, at, said)),
         None => placed(alloc, tool, at, said, word),
     }
 }
@@ -218,6 +242,18 @@ fn with_band(at: u64, mut said: Spoken, word: &str) -> Result<Spoken, WordFault>
     }
 }
 
+#[tactic(auto, unfolding(crate::specs::Words::with_blocks))]
+fn with_blocks(at: u64, mut said: Spoken, word: &str) -> Result<Spoken, WordFault>
+    ensures { result ≡ with_blocks at said word.now }
+{
+    let Some(blocks) = blocks_of(word.as_bytes()) else {
+        return Err(WordFault::Usage { word: at });
+    };
+    said.awaited = Awaited::Nothing;
+    said.blocks = blocks;
+    Ok(said)
+}
+
 #[tactic(auto, unfolding(crate::specs::Words::taken))]
 fn taken(
     alloc: Global,
@@ -231,6 +267,7 @@ fn taken(
     match said.awaited {
         Awaited::Nothing => free(alloc, tool, at, said, word),
         Awaited::Band => with_band(at, said, word),
+        Awaited::Blocks => with_blocks(at, said, word),
         Awaited::Key => {
             said.awaited = setting_of(word);
             Ok(said)
@@ -253,7 +290,10 @@ fn nothing_said(alloc: Global) -> Spoken
     Spoken {
         awaited: Awaited::Nothing,
         verify: false,
-        values_only: false,
+        blocks: BlockCount::USUAL,
+        values_only: None,
+        files_only: None,
+        geoloc: false,
         bands: BandNumbers::new(alloc),
         name: None,
         x: None,
@@ -277,26 +317,70 @@ fn is_whole(awaited: Awaited) -> bool
 {
     match awaited {
         Awaited::Nothing => true,
-        Awaited::Band | Awaited::Key | Awaited::Setting | Awaited::Verification => false,
+        Awaited::Band | Awaited::Blocks | Awaited::Key | Awaited::Setting | Awaited::Verification =>
+            false,
     }
 }
 
-fn job_of(tool: Tool, said: Spoken) -> Option<Job>
-    ensures { result ≡ job_of tool said }
+fn point_of(x: Option<Position>, y: Option<Position>) -> Option<Option<(Position, Position)>>
+    ensures { result ≡ point_of x y }
+{
+    match (x, y) {
+        (None, None) => Some(None),
+        (Some(x), Some(y)) => Some(Some((x, y))),
+        (None, Some(_)) | (Some(_), None) => None,
+    }
+}
+
+fn form_of(values_only: Option<u64>, files_only: Option<u64>) -> Result<Form, WordFault>
+    ensures { result ≡ form_of values_only files_only }
+{
+    match (values_only, files_only) {
+        (None, None) => Ok(Form::Report),
+        (Some(_), None) => Ok(Form::ValuesOnly),
+        (None, Some(_)) => Ok(Form::FilesOnly),
+        (Some(values), Some(files)) => Err(WordFault::Usage {
+            word: values.max(files),
+        }),
+    }
+}
+
+#[tactic(auto, unfolding(crate::specs::Words::locate_job))]
+fn locate_job(count: u64, said: Spoken) -> Result<Job, WordFault>
+    ensures { result ≡ locate_job count said }
+{
+    let Some(name) = said.name else {
+        return Err(WordFault::Usage { word: count });
+    };
+    let Some(point) = point_of(said.x, said.y) else {
+        return Err(WordFault::Usage { word: count });
+    };
+    let form = form_of(said.values_only, said.files_only)?;
+    Ok(Job::Locate {
+        name,
+        point,
+        bands: said.bands,
+        form,
+        geoloc: said.geoloc,
+    })
+}
+
+#[tactic(auto, unfolding(crate::specs::Words::info_job))]
+fn info_job(count: u64, said: Spoken) -> Result<Job, WordFault>
+    ensures { result ≡ info_job count said }
+{
+    match said.name {
+        Some(name) => Ok(Job::Info { name }),
+        None => Err(WordFault::Usage { word: count }),
+    }
+}
+
+fn job_of(tool: Tool, count: u64, said: Spoken) -> Result<Job, WordFault>
+    ensures { result ≡ job_of tool count said }
 {
     match tool {
-        Tool::Info => Some(Job::Info { name: said.name? }),
-        Tool::Locate => {
-            if !said.values_only {
-                return None;
-            }
-            Some(Job::Locate {
-                name: said.name?,
-                x: said.x?,
-                y: said.y?,
-                bands: said.bands,
-            })
-        }
+        Tool::Info => info_job(count, said),
+        Tool::Locate => locate_job(count, said),
     }
 }
 
@@ -308,10 +392,13 @@ fn finished(tool: Tool, count: u64, said: Spoken) -> Result<Command, WordFault>
         return Err(WordFault::Usage { word: count });
     }
     let verify = said.verify;
-    match job_of(tool, said) {
-        Some(job) => Ok(Command { job, verify }),
-        None => Err(WordFault::Usage { word: count }),
-    }
+    let blocks = said.blocks;
+    let job = job_of(tool, count, said)?;
+    Ok(Command {
+        job,
+        verify,
+        blocks,
+    })
 }
 
 /// The command that the words are. Usage comes exactly where they are none, with the number of the

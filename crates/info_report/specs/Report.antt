@@ -10,7 +10,7 @@ use Rattle.geotransform.specs.declared.types.Size.{Size}
 use Rattle.catalog.specs.Dataset.{DatasetHead}
 use Rattle.catalog.specs.declared.kind.BandHead.{BandHead}
 use Rattle.catalog.specs.declared.kind.Kind.{Kind}
-use Rattle.catalog.specs.declared.kind.Kind.TheVariants.{Raw, Dted, Hgt, Ascii}
+use Rattle.catalog.specs.declared.kind.Kind.TheVariants.{Raw, Dted, Hgt, Ascii, Vrt}
 
 -- the driver of a kind
 abbrev pub driver_of : Kind → List ℕ
@@ -18,6 +18,7 @@ driver_of Raw = codes "EHdr"
 driver_of Dted = codes "DTED"
 driver_of Hgt = codes "SRTMHGT"
 driver_of Ascii = codes "AAIGrid"
+driver_of Vrt = codes "VRT"
 
 unfoldable pub driver_text : Kind → List ℕ
 driver_text kind = text (codes "Driver: " ∷ driver_of kind ∷ codes "\n" ∷ [])
@@ -29,7 +30,7 @@ files_text files = text (codes "Files: " ∷ join_by (λ name. name) (codes "\n 
 unfoldable pub size_text : Size → List ℕ
 size_text size = text (codes "Size is " ∷ decimal size.w ∷ codes ", " ∷ decimal size.h ∷ codes "\n" ∷ [])
 
--- the coordinate system, if there is one
+-- the text of the coordinate system on a line of its own, if there is one; it may be empty
 unfoldable pub srs_text : Option (List ℕ) → List ℕ
 srs_text None = []
 srs_text (Some srs) = text (codes "Coordinate System is:\n" ∷ srs ∷ codes "\n" ∷ [])

@@ -19,6 +19,7 @@ fn driver_of(kind: Kind) -> &'static str
         Kind::Dted => "DTED",
         Kind::Hgt => "SRTMHGT",
         Kind::Ascii => "AAIGrid",
+        Kind::Vrt => "VRT",
     }
 }
 

@@ -209,3 +209,76 @@ Band 1 Block=1x3 Type=Int16
     assert_eq!(rt; sink.got(), want.as_slice());
     Ok(())
 }
+
+// The document that `gdalbuildvrt` makes of two tiles which lie side by side.
+const WIDE: &[u8] = b"<VRTDataset rasterXSize=\"2401\" rasterYSize=\"1201\">
+  <GeoTransform>-0.0004166666666667, 0.0008333333333333, 0, 1.0004166666666667, 0, -0.0008333333333333</GeoTransform>
+  <VRTRasterBand dataType=\"Int16\" band=\"1\">
+    <NoDataValue>-32768</NoDataValue>
+    <ComplexSource>
+      <SourceFilename relativeToVRT=\"1\">N00E000.hgt</SourceFilename>
+      <SourceBand>1</SourceBand>
+      <SrcRect xOff=\"0\" yOff=\"0\" xSize=\"1201\" ySize=\"1201\"/>
+      <DstRect xOff=\"0\" yOff=\"0\" xSize=\"1201\" ySize=\"1201\"/>
+      <NODATA>-32768</NODATA>
+    </ComplexSource>
+    <ComplexSource>
+      <SourceFilename relativeToVRT=\"1\">N00E001.hgt</SourceFilename>
+      <SourceBand>1</SourceBand>
+      <SrcRect xOff=\"0\" yOff=\"0\" xSize=\"1201\" ySize=\"1201\"/>
+      <DstRect xOff=\"1200\" yOff=\"0\" xSize=\"1201\" ySize=\"1201\"/>
+      <NODATA>-32768</NODATA>
+    </ComplexSource>
+  </VRTRasterBand>
+</VRTDataset>
+";
+
+const WIDE_REPORT: &[u8] = b"Driver: VRT
+Files: m.vrt
+       N00E000.hgt
+       N00E001.hgt
+Size is 2401, 1201
+Origin = (-0.000416666666667,1.000416666666667)
+Pixel Size = (0.000833333333333,-0.000833333333333)
+Corner Coordinates:
+Upper Left  (-0.000416667, 1.000416667)
+Lower Left  (-0.000416667, -0.000416667)
+Upper Right (2.000416667, 1.000416667)
+Lower Right (2.000416667, -0.000416667)
+Band 1 Block=128x128 Type=Int16
+  NoData Value=-32768
+";
+
+// The name of a mosaic, its document, and the report; no source is there.
+const MOSAICS: [(&str, &[u8], &[u8]); 4] = [
+    ("m.vrt", WIDE, WIDE_REPORT),
+    (
+        "d/s.vrt",
+        b"<VRTDataset rasterXSize='1' rasterYSize='2'><SRS>GEOGCS[&quot;a&quot;]</SRS><VRTRasterBand/></VRTDataset>",
+        b"Driver: VRT\nFiles: d/s.vrt\nSize is 1, 2\nCoordinate System is:\nGEOGCS[\"a\"]\nBand 1 Block=128x128 Type=Byte\n",
+    ),
+    (
+        "e.VRT",
+        b"<VRTDataset rasterXSize='200' rasterYSize='1'><SRS/><VRTRasterBand/></VRTDataset>",
+        b"Driver: VRT\nFiles: e.VRT\nSize is 200, 1\nCoordinate System is:\n\nBand 1 Block=128x128 Type=Byte\n",
+    ),
+    (
+        "d/t.vrt",
+        b"<VRTDataset rasterXSize='1' rasterYSize='1'><VRTRasterBand><SimpleSource><SourceFilename relativeToVRT='1'>a.bil</SourceFilename></SimpleSource></VRTRasterBand><VRTRasterBand><SimpleSource><SourceFilename>./b.bil</SourceFilename></SimpleSource><SimpleSource><SourceFilename relativeToVRT='1'>../d/a.bil</SourceFilename></SimpleSource></VRTRasterBand></VRTDataset>",
+        b"Driver: VRT\nFiles: d/t.vrt\n       d/a.bil\n       b.bil\nSize is 1, 1\nBand 1 Block=128x128 Type=Byte\nBand 2 Block=128x128 Type=Byte\n",
+    ),
+];
+
+#[test]
+fn mosaics(rt: HostRuntime) -> Result<(), Fail> {
+    for (text, document, want) in MOSAICS {
+        let mut folder = CalmFolder::new(rt.alloc(), Never);
+        let name = Name::read(rt.alloc(), text)?;
+        folder.put(&name, document)?;
+        let head = head_of(rt.alloc(), &mut folder, &name, false);
+        let mut sink = sink(rt.alloc(), false)?;
+        write_info(rt.alloc(), &head.ok().ok_or("it is a mosaic")?, &mut sink)?;
+        assert_eq!(rt; sink.got(), want);
+    }
+    Ok(())
+}

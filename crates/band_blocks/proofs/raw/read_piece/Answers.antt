@@ -1,5 +1,4 @@
-use Rattle.std.proofs.Common.{◌≡◌, ◌≤◌, ◌+◌, ◌-◌, ◌*◌, length, arith}
-use Rattle.interleaved_raw.specs.Raw.{position_of, stride_of, needed_of}
+use Rattle.std.proofs.Common.{length, arith}
 use Rattle.band_blocks.proofs.Pieces.{piece_within}
 use Rattle.band_blocks.proofs.raw.read_piece.Goals as goal
 

@@ -1,8 +1,8 @@
-use Rattle.std.proofs.Common.{◌≡◌, ◌<◌, ◌≤◌, ◌+◌, ◌-◌, ◌*◌, min, ℕ, List, length, Some, arith, ap, sym, subst, ◌∙◌, take}
+use Rattle.std.proofs.Common.{◌≡◌, ◌<◌, ◌≤◌, ◌-◌, ◌*◌, min, length, arith, ap, subst, ◌∙◌, take}
 use Rattle.std.proofs.lemmas.List.{length-take-le}
 use Rattle.interleaved_raw.specs.Raw.{row_of}
 use Rattle.band_blocks.specs.Blocks.{written}
-use Rattle.band_blocks.specs.Places.{steps_over}
+use Rattle.catalog.specs.Places.{steps_over}
 use Rattle.band_blocks.proofs.Rows.{piece_read, pieces_read}
 use Rattle.band_blocks.proofs.raw.read_pieces.Goals as goal
 

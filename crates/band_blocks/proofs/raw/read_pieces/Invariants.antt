@@ -1,6 +1,4 @@
-use Rattle.std.proofs.Common.{◌≡◌, ◌≤◌, ◌+◌, ◌*◌, ◌-◌, min, List, ℕ, length, Some}
-use Rattle.esri_hdr.specs.Head.{sample_len}
-use Rattle.interleaved_raw.specs.Raw.{stride_of}
+use Rattle.std.proofs.Common.{◌≡◌, ◌≤◌, ◌+◌, ◌*◌, min, List, ℕ, length, Some}
 use Rattle.band_blocks.proofs.Rows.{IsRead}
 use Rattle.band_blocks.proofs.raw.read_pieces.Given as goal
 

@@ -1,5 +1,4 @@
-use Rattle.std.proofs.Common.{◌≡◌, ◌∙◌, ◌<◌, ap, ap₂, take, drop, length, Some, ℕ, List, arith}
-use Rattle.std.specs.List.{range_with_len}
+use Rattle.std.proofs.Common.{◌∙◌, ◌<◌, ap, ap₂, take, drop, ℕ, arith}
 use Rattle.catalog.proofs.Records.{passed, found}
 use Rattle.catalog.proofs.dted.broken_line.Goals as goal
 

@@ -1,4 +1,4 @@
-use Rattle.std.proofs.Common.{◌≡◌, ◌∙◌, ◌<◌, ◌≤◌, inr, ap, sym, arith, length, Ok, Err}
+use Rattle.std.proofs.Common.{◌≡◌, ◌∙◌, inr, arith, length}
 use Rattle.catalog.proofs.Cells.{cell_bad, cell_short, cell_fine}
 use Rattle.catalog.proofs.dted.read_cell.Goals as goal
 

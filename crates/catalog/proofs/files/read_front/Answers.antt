@@ -1,4 +1,4 @@
-use Rattle.std.proofs.Common.{◌≡◌, ◌∙◌, ap, length}
+use Rattle.std.proofs.Common.{◌∙◌, ap}
 use Rattle.std.specs.Prelude.{min}
 use Rattle.catalog.proofs.Whole.{front_read}
 use Rattle.catalog.proofs.files.read_front.Goals as goal

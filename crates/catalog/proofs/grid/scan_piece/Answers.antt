@@ -1,4 +1,3 @@
-use Rattle.std.proofs.Common.{◌≡◌}
 use Rattle.catalog.proofs.Scans.{fed_more, fed_fault}
 use Rattle.catalog.proofs.grid.scan_piece.Goals as goal
 

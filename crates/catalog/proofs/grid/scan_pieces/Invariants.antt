@@ -1,4 +1,4 @@
-use Rattle.std.proofs.Common.{◌≡◌, ◌≤◌, ◌-◌, length}
+use Rattle.std.proofs.Common.{◌≡◌, ◌≤◌, ◌-◌}
 use Rattle.catalog.specs.Scanned.{HasFed}
 use Rattle.catalog.proofs.grid.scan_pieces.Given as goal
 

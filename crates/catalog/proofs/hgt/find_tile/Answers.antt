@@ -1,4 +1,4 @@
-use Rattle.std.proofs.Common.{◌≡◌, ◌∙◌, sym}
+use Rattle.std.proofs.Common.{◌∙◌, sym}
 use Rattle.catalog.proofs.Datasets.{tile_fits}
 use Rattle.catalog.proofs.hgt.find_tile.Goals as goal
 

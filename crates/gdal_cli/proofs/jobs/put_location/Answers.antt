@@ -1,50 +1,75 @@
-use Rattle.std.proofs.Common.{◌≡◌, ◌∙◌, ◌⊎◌, ap, sym, subst, false, ℕ, List, [], length, Result, Ok, Err, Option, Some}
+use Rattle.std.proofs.Common.{◌≡◌, ◌≤◌, ◌∙◌, ◌⊎◌, ap, sym, subst, false, ℕ, List, [], length, Result, Ok, Err, Option, Some}
+use Rattle.std.specs.Prelude.{All, slice_get}
 use Rattle.std.proofs.lemmas.List.Elements.{All-nil}
+use Rattle.std.proofs.lemmas.Option.{slice_get_within}
+use Rattle.input_points.specs.declared.entry.Entry.{Entry}
+use Rattle.input_points.specs.Entries.{entries}
+use Rattle.catalog.specs.Outcomes as outcomes
 use Rattle.catalog.specs.Dataset.{DatasetHead}
 use Rattle.catalog.specs.Drivers.{Dataset}
 use Rattle.catalog.specs.Heads.{dataset_in}
-use Rattle.catalog.specs.Pixels.{pixel_in}
 use Rattle.catalog.specs.Walk.{walked, IsWalked}
+use Rattle.catalog.proofs.Found.{found}
 use Rattle.gdal_cli.specs.declared.faults.Fault.{Fault}
-use Rattle.gdal_cli.specs.Faults.{IsOutside}
-use Rattle.gdal_cli.specs.Location.{location_in, chosen_in, point_text, PutsText}
-use Rattle.gdal_cli.specs.Run.{ran_of, Ends}
-use Rattle.gdal_cli.proofs.Changed.{has_changed, puts_outside}
-use Rattle.gdal_cli.proofs.Ended.{err_is, choice_refused, location_put}
-use Rattle.gdal_cli.proofs.Reached.{there, told_of, number_known}
+use Rattle.gdal_cli.specs.Faults.{fault_of, IsOutside, OwnsFault}
+use Rattle.gdal_cli.specs.Location.{location_in, asked_in}
+use Rattle.gdal_cli.specs.Run.{ran_of, Ends, ended, RefusesUnknown}
+use Rattle.gdal_cli.proofs.Ended.{err_is, location_refused, asked_refused, location_put}
+use Rattle.gdal_cli.proofs.Owned.{own_walk, unknown_walk}
+use Rattle.gdal_cli.proofs.Reached.{told_of, bands_of_head}
 use Rattle.gdal_cli.proofs.jobs.put_location.Goals as goal
 
 pub head-requires : goal.head-requires
-head-requires g c = record { known = number_known c.open_all.new.cat c.args.name.now c.in_ok-id.id c.in_ok-id.ensures.number }
+head-requires g c =
+    let d = found c.open_all.new.cat c.args.name.now c.in_ok-id.id c.in_ok-id.ensures.number in
+    record { known = slice_get_within c.open_all.new.cat c.in_ok-id.id d.dataset d.at }
 
-pub returns-in_err-bands-clause-told : goal.returns-in_err-bands-clause-told
-returns-in_err-bands-clause-told g c = λ m is.
-    let f = c.in_err-bands.field-0.0 in
+pub returns-in_err-id-clause-told : goal.returns-in_err-id-clause-told
+returns-in_err-id-clause-told g c = λ m is i left.
+    let f = c.in_err-id.field-0.0 in
+    let walk = subst (λ (cat : List Dataset). outcomes.IsOutside f ⊎ (walked m c.args.verify cat c.args.name.now ≡ Err f)) c.new-cat.ensures.empty (c.in_err-id.ensures.told m is) in
+    subst (λ (r : Result (Unit {0}) Fault). Ends (ran_of (location_in m c.args.verify c.args.name.now c.args.point c.args.bands.now c.args.form c.args.geoloc (entries i))) r (g.O.Sink.got c.args.out.now) (g.O.Sink.got c.args.out.now))
+    (sym (err_is c.from_residual.result (fault_of f) c.from_residual.ensures))
+    (location_refused m c.args.verify c.args.name.now c.args.point c.args.bands.now c.args.form c.args.geoloc (entries i) f (g.O.Sink.got c.args.out.now) walk)
+
+pub returns-in_err-id-clause-unknown : goal.returns-in_err-id-clause-unknown
+returns-in_err-id-clause-unknown g c =
+    let f = c.in_err-id.field-0.0 in
+    subst (λ (r : Result (Unit {0}) Fault). RefusesUnknown false c.args.name.now r) (sym (err_is c.from_residual.result (fault_of f) c.from_residual.ensures))
+    (unknown_walk c.args.name.now f c.in_err-id.ensures.unknown)
+
+pub returns-in_err-id-clause-own : goal.returns-in_err-id-clause-own
+returns-in_err-id-clause-own g c =
+    let f = c.in_err-id.field-0.0 in
+    subst (λ (r : Result (Unit {0}) Fault). OwnsFault (ended r)) (sym (err_is c.from_residual.result (fault_of f) c.from_residual.ensures))
+    (own_walk f c.in_err-id.ensures.own)
+
+pub returns-in_err-asked-clause-told : goal.returns-in_err-asked-clause-told
+returns-in_err-asked-clause-told g c = λ m is i left.
+    let f = c.in_err-asked.field-0.0 in
     let walk = subst (λ (cat : List Dataset). walked m c.args.verify cat c.args.name.now ≡ Ok c.open_all.new.cat) c.new-cat.ensures.empty (c.in_ok-id.ensures.told m is) in
-    let d = there c.open_all.new.cat c.in_ok-id.id (number_known c.open_all.new.cat c.args.name.now c.in_ok-id.id c.in_ok-id.ensures.number) in
-    let head : d.0.head ≡ c.head.result.now = told_of (λ (d : Dataset). d.head) c.open_all.new.cat c.in_ok-id.id d.0 c.head.result.now d.1 c.head.ensures.head in
-    let count : c.len.result ≡ length d.0.head.bands = c.len.ensures.count ∙ ap (λ (h : DatasetHead). length h.bands) (c.behind-cat.view_is ∙ sym head) in
-    let choice = subst (λ (n : ℕ). IsOutside f ⊎ (chosen_in n c.args.bands ≡ Err f)) count c.in_err-bands.ensures.gives in
-    subst (λ (r : Result (Unit {0}) Fault). Ends (ran_of (location_in m c.args.verify c.args.name.now c.args.x c.args.y c.args.bands)) r (g.O.Sink.got c.args.out.now) (g.O.Sink.got c.args.out.now))
-    (sym (err_is c.from_residual-in_err-bands.result f c.from_residual-in_err-bands.ensures))
-    (choice_refused m c.args.verify c.args.name.now c.args.x c.args.y c.args.bands c.open_all.new.cat c.in_ok-id.id d.0 f (g.O.Sink.got c.args.out.now) walk c.in_ok-id.ensures.number d.1 choice)
+    let d = found c.open_all.new.cat c.args.name.now c.in_ok-id.id c.in_ok-id.ensures.number in
+    let head : c.head.result.now ≡ d.dataset.head = sym (told_of (λ (d : Dataset). d.head) c.open_all.new.cat c.in_ok-id.id d.dataset c.head.result.now d.at c.head.ensures.head) in
+    let choice = subst (λ (h : DatasetHead). IsOutside f ⊎ (asked_in c.args.form c.args.bands.now c.args.geoloc h ≡ Err f)) head c.in_err-asked.ensures.gives in
+    subst (λ (r : Result (Unit {0}) Fault). Ends (ran_of (location_in m c.args.verify c.args.name.now c.args.point c.args.bands.now c.args.form c.args.geoloc (entries i))) r (g.O.Sink.got c.args.out.now) (g.O.Sink.got c.args.out.now))
+    (sym (err_is c.from_residual-in_err-asked.result f c.from_residual-in_err-asked.ensures))
+    (asked_refused m c.args.verify c.args.name.now c.args.point c.args.bands.now c.args.form c.args.geoloc (entries i) c.open_all.new.cat c.in_ok-id.id d.dataset walk c.in_ok-id.ensures.number d.at f (g.O.Sink.got c.args.out.now) choice)
 
-pub put_point-requires-clause-known : goal.put_point-requires-clause-known
-put_point-requires-clause-known g c κs within = number_known c.open_all.new.cat c.args.name.now c.in_ok-id.id c.in_ok-id.ensures.number
+pub put_answers-requires-clause-walked : goal.put_answers-requires-clause-walked
+put_answers-requires-clause-walked g c κs within = λ m is.
+    let none = subst (λ (cat : List Dataset). IsWalked m cat) (sym c.new-cat.ensures.empty) (All-nil (λ (d : Dataset). dataset_in m false d.head.name ≡ Ok d)) in
+    c.in_ok-id.ensures.walked m (sym c.in_ok-id.ensures.names ∙ is) none
+
+pub put_answers-requires-clause-bands : goal.put_answers-requires-clause-bands
+put_answers-requires-clause-bands g c κs within =
+    let d = found c.open_all.new.cat c.args.name.now c.in_ok-id.id c.in_ok-id.ensures.number in
+    bands_of_head c.open_all.new.cat c.in_ok-id.id c.head.result.now (λ count. All (λ band. (1 ≤ band) × (band ≤ count)) c.in_ok-asked.asked.bands) (slice_get_within c.open_all.new.cat c.in_ok-id.id d.dataset d.at) c.head.ensures.head c.in_ok-asked.ensures.within
 
 pub returns-clause-told : goal.returns-clause-told
-returns-clause-told g c = λ m is.
+returns-clause-told g c = λ m is i left.
     let walk = subst (λ (cat : List Dataset). walked m c.args.verify cat c.args.name.now ≡ Ok c.open_all.new.cat) c.new-cat.ensures.empty (c.in_ok-id.ensures.told m is) in
-    let none = subst (λ (cat : List Dataset). IsWalked m cat) (sym c.new-cat.ensures.empty) (All-nil (λ (d : Dataset). dataset_in m false d.head.name ≡ Ok d)) in
-    let d = there c.open_all.new.cat c.in_ok-id.id (number_known c.open_all.new.cat c.args.name.now c.in_ok-id.id c.in_ok-id.ensures.number) in
-    let head : d.0.head ≡ c.head.result.now = told_of (λ (d : Dataset). d.head) c.open_all.new.cat c.in_ok-id.id d.0 c.head.result.now d.1 c.head.ensures.head in
-    let count : c.len.result ≡ length d.0.head.bands = c.len.ensures.count ∙ ap (λ (h : DatasetHead). length h.bands) (c.behind-cat.view_is ∙ sym head) in
-    let choice = subst (λ (n : ℕ). chosen_in n c.args.bands ≡ Ok c.in_ok-bands.bands) count c.in_ok-bands.ensures.gives in
-    let put = subst (λ (bs : List ℕ). PutsText (point_text d.0.head.size (pixel_in m d.0) c.args.x c.args.y bs) c.put_point.result (g.O.Sink.got c.args.out.now) (g.O.Sink.got c.put_point.new.out)) c.as_slice.ensures.items (c.put_point.ensures.told m (c.in_ok-id.ensures.names ∙ is) (c.in_ok-id.ensures.walked m is none) d.0 d.1) in
-    location_put m c.args.verify c.args.name.now c.args.x c.args.y c.args.bands c.in_ok-bands.bands c.open_all.new.cat c.in_ok-id.id d.0 c.put_point.result (g.O.Sink.got c.args.out.now) (g.O.Sink.got c.put_point.new.out) walk c.in_ok-id.ensures.number d.1 choice put
-
-pub returns-clause-changed : goal.returns-clause-changed
-returns-clause-changed g c = has_changed (g.F.Folder.names c.args.folder.now) c.put_point.result c.put_point.ensures.differs (λ m is.
-    let none = subst (λ (cat : List Dataset). IsWalked m cat) (sym c.new-cat.ensures.empty) (All-nil (λ (d : Dataset). dataset_in m false d.head.name ≡ Ok d)) in
-    let d = there c.open_all.new.cat c.in_ok-id.id (number_known c.open_all.new.cat c.args.name.now c.in_ok-id.id c.in_ok-id.ensures.number) in
-    puts_outside (point_text d.0.head.size (pixel_in m d.0) c.args.x c.args.y c.as_slice.result.now) c.put_point.result _ _ (c.put_point.ensures.told m (c.in_ok-id.ensures.names ∙ is) (c.in_ok-id.ensures.walked m is none) d.0 d.1))
+    let d = found c.open_all.new.cat c.args.name.now c.in_ok-id.id c.in_ok-id.ensures.number in
+    let head : c.head.result.now ≡ d.dataset.head = sym (told_of (λ (d : Dataset). d.head) c.open_all.new.cat c.in_ok-id.id d.dataset c.head.result.now d.at c.head.ensures.head) in
+    let choice = subst (λ (h : DatasetHead). asked_in c.args.form c.args.bands.now c.args.geoloc h ≡ Ok c.in_ok-asked.asked) head c.in_ok-asked.ensures.gives in
+    location_put m c.args.verify c.args.name.now c.args.point c.args.bands.now c.args.form c.args.geoloc (entries i) c.open_all.new.cat c.in_ok-id.id d.dataset walk c.in_ok-id.ensures.number d.at c.in_ok-asked.asked c.put_answers.result (g.O.Sink.got c.args.out.now) (g.O.Sink.got c.put_answers.new.out) choice
+    (c.put_answers.ensures.told m (c.in_ok-id.ensures.names ∙ is) d.dataset d.at i left)

@@ -66,3 +66,21 @@ returns-in-Changed-clause-ok g c = rw c.in-Changed.is c.put_changed.ensures.ok
 
 pub returns-in-Changed-clause-err : goal.returns-in-Changed-clause-err
 returns-in-Changed-clause-err g c = rw c.in-Changed.is c.put_changed.ensures.err
+
+pub returns-in-Cycle-clause-ok : goal.returns-in-Cycle-clause-ok
+returns-in-Cycle-clause-ok g c = rw c.in-Cycle.is c.put_name-in-Cycle.ensures.ok
+
+pub returns-in-Cycle-clause-err : goal.returns-in-Cycle-clause-err
+returns-in-Cycle-clause-err g c = rw c.in-Cycle.is c.put_name-in-Cycle.ensures.err
+
+pub returns-in-TooDeep-clause-ok : goal.returns-in-TooDeep-clause-ok
+returns-in-TooDeep-clause-ok g c = rw c.in-TooDeep.is c.put_name-in-TooDeep.ensures.ok
+
+pub returns-in-TooDeep-clause-err : goal.returns-in-TooDeep-clause-err
+returns-in-TooDeep-clause-err g c = rw c.in-TooDeep.is c.put_name-in-TooDeep.ensures.err
+
+pub returns-in-SourceBand-clause-ok : goal.returns-in-SourceBand-clause-ok
+returns-in-SourceBand-clause-ok g c = rw c.in-SourceBand.is c.put_lacking.ensures.ok
+
+pub returns-in-SourceBand-clause-err : goal.returns-in-SourceBand-clause-err
+returns-in-SourceBand-clause-err g c = rw c.in-SourceBand.is c.put_lacking.ensures.err

@@ -26,3 +26,9 @@ returns-in-Grid-clause-ok g c = rw c.in-Grid.is c.put_grid.ensures.ok
 
 pub returns-in-Grid-clause-err : goal.returns-in-Grid-clause-err
 returns-in-Grid-clause-err g c = rw c.in-Grid.is c.put_grid.ensures.err
+
+pub returns-in-Vrt-clause-ok : goal.returns-in-Vrt-clause-ok
+returns-in-Vrt-clause-ok g c = rw c.in-Vrt.is c.put_vrt.ensures.ok
+
+pub returns-in-Vrt-clause-err : goal.returns-in-Vrt-clause-err
+returns-in-Vrt-clause-err g c = rw c.in-Vrt.is c.put_vrt.ensures.err

@@ -1,0 +1,201 @@
+-- The pixels of the datasets of a catalog, by their numbers, by their names, and by the datasets that sources name.
+use Rattle.std.proofs.Common.{◌≡◌, ◌∙◌, ap, sym, subst, refl, ◌+◌, ◌-◌, ℕ, ℤ, zero, suc, List, [], ◌∷◌, ◌++◌, Bool, true, false, cond, Option, Some, None, Ok, arith, bytes_eq}
+use Rattle.std.specs.Prelude.{All, slice_get, option_and_then, option_map, unwrap_or, pos}
+use Rattle.std.proofs.lemmas.Slice.Eq.{bytes_eq-Decides}
+use Rattle.lists_and_answers.specs.Options.{◌>>=◌}
+use Rattle.geotransform.specs.declared.types.Size.{Size}
+use Rattle.outside.specs.Outside.{Files}
+use Rattle.vrt_profile.specs.Values.{SourceValue, BandValue, DocumentValue}
+use Rattle.vrt_profile.specs.Value.{mosaic_pixel}
+use Rattle.catalog.specs.declared.driver.Content.{Content}
+use Rattle.catalog.specs.declared.driver.Content.TheVariants.{File, Mosaic}
+use Rattle.catalog.specs.declared.driver.DriverHead.{DriverHead}
+use Rattle.catalog.specs.Drivers.{Dataset, document_of, driver_of}
+use Rattle.catalog.specs.Mosaics.{source_name}
+use Rattle.catalog.specs.Heads.{dataset_in}
+use Rattle.catalog.specs.Walk.{number_from, number_of, dataset_named, sources_in, HasTarget, IsNested, IsCatalog, IsWalked}
+use Rattle.catalog.specs.Links.{target_of, source_at, target_at}
+use Rattle.catalog.specs.Pixels.{size_of, band_pixel, content_pixel, pixel_step, pixel_within, found_in_folder, told, file_pixel, pixel_of, pixel_of_name, target_size, target_pixel, IsTaken, AreOfTargets}
+use Rattle.catalog.specs.Places.{block_rect_of, row_by_row}
+use Rattle.catalog.specs.Blocks.{block_by, block_pixels}
+use Rattle.catalog.proofs.Pixels.{Finds, same_pixels, mosaic_same, none≢some, same_item, at_number, item, part, when_ok, source_is, band_is}
+
+-- the dataset of a name stands under a number, and has the name
+
+record Place (at : ℕ) (cs : List Dataset) (id : ℕ) (name : List ℕ) : Type 0 where
+  before : ℕ
+  dataset : Dataset
+  place : id ≡ at + before
+  there : slice_get cs before ≡ Some dataset
+  named : dataset.head.name ≡ name
+
+place_step : (c : Dataset) (cs : List Dataset) (at id : ℕ) (name : List ℕ) (b : Bool) → bytes_eq c.head.name name ≡ b → cond b (Some at) (number_from (suc at) cs name) ≡ Some id
+    → (number_from (suc at) cs name ≡ Some id → Place (suc at) cs id name) → Place at (c ∷ cs) id name
+place_step c cs at id name true e is rest = record { before = 0; dataset = c; place = sym (same_item at id is) ∙ omega arith; there = refl; named = (bytes_eq-Decides c.head.name name).0 e }
+place_step c cs at id name false e is rest =
+    let r = rest is in
+    record { before = suc r.before; dataset = r.dataset; place = r.place ∙ omega arith; there = r.there; named = r.named }
+
+place_of : (cs : List Dataset) (at id : ℕ) (name : List ℕ) → number_from at cs name ≡ Some id → Place at cs id name
+place_of [] at id name is = absurd (none≢some is)
+place_of (c ∷ cs) at id name is = place_step c cs at id name (bytes_eq c.head.name name) refl is (λ h. place_of cs (suc at) id name h)
+
+record Named (cat : List Dataset) (name : List ℕ) (d : Dataset) : Type 0 where
+  number : ℕ
+  found : number_of cat name ≡ Some number
+  there : slice_get cat number ≡ Some d
+  named : d.head.name ≡ name
+
+named_by : (cat : List Dataset) (name : List ℕ) (d : Dataset) (n : Option ℕ) → number_of cat name ≡ n → option_and_then (slice_get cat) n ≡ Some d → Named cat name d
+named_by cat name d None found is = absurd (none≢some is)
+named_by cat name d (Some id) found is =
+    let p = place_of cat 0 id name found in
+    let e : id ≡ p.before = p.place ∙ omega arith in
+    let same : p.dataset ≡ d = same_item p.dataset d (sym p.there ∙ ap (slice_get cat) (sym e) ∙ is) in
+    record { number = id; found = found; there = is; named = ap (λ (x : Dataset). x.head.name) (sym same) ∙ p.named }
+
+named_is : (cat : List Dataset) (name : List ℕ) (d : Dataset) → dataset_named cat name ≡ Some d → Named cat name d
+named_is cat name d is = named_by cat name d (number_of cat name) refl is
+
+-- ways to find the datasets of a catalog
+
+by_name : (cat : List Dataset) → Finds (dataset_named cat) cat
+by_name cat name d is = is
+
+in_folder : (m : Files) (cat : List Dataset) → IsWalked m cat → Finds (found_in_folder m) cat
+in_folder m cat walked name d is =
+    let n = named_is cat name d is in
+    ap told (ap (dataset_in m false) (sym n.named) ∙ item (λ (x : Dataset). dataset_in m false x.head.name ≡ Ok x) cat n.number d walked n.there)
+
+kept_step : (at : ℕ) (cs more : List Dataset) (name : List ℕ) (id : ℕ) (b : Bool) → cond b (Some at) (number_from (suc at) cs name) ≡ Some id
+    → (number_from (suc at) cs name ≡ Some id → number_from (suc at) (cs ++ more) name ≡ Some id) → cond b (Some at) (number_from (suc at) (cs ++ more) name) ≡ Some id
+kept_step at cs more name id true is rest = is
+kept_step at cs more name id false is rest = rest is
+
+kept : (at : ℕ) (cs more : List Dataset) (name : List ℕ) (id : ℕ) → number_from at cs name ≡ Some id → number_from at (cs ++ more) name ≡ Some id
+kept at [] more name id is = absurd (none≢some is)
+kept at (c ∷ cs) more name id is = kept_step at cs more name id (bytes_eq c.head.name name) is (λ h. kept (suc at) cs more name id h)
+
+there_still : (cs more : List Dataset) (id : ℕ) (d : Dataset) → slice_get cs id ≡ Some d → slice_get (cs ++ more) id ≡ Some d
+there_still [] more id d is = absurd (none≢some is)
+there_still (c ∷ cs) more zero d is = is
+there_still (c ∷ cs) more (suc id) d is = there_still cs more id d is
+
+in_more : (cat more : List Dataset) → Finds (dataset_named (cat ++ more)) cat
+in_more cat more name d is =
+    let n = named_is cat name d is in
+    ap (option_and_then (slice_get (cat ++ more))) (kept 0 cat more name n.number n.found) ∙ there_still cat more n.number d n.there
+
+-- the laws
+
+nested : (cat : List Dataset) (id : ℕ) (d : Dataset) → IsCatalog cat → slice_get cat id ≡ Some d → IsNested 16 cat d
+nested cat id d is at = item (λ (x : Dataset). IsNested 16 cat x) cat id d is.nested at
+
+pixel_is : (m : Files) (cat : List Dataset) (id band x y : ℕ) (d : Dataset) → slice_get cat id ≡ Some d → pixel_of m cat id band x y ≡ content_pixel (dataset_named cat) (pixel_within (dataset_named cat) m 16) m d.head.name d.content band x y
+unfolding pixel_of
+pixel_is m cat id band x y d at = ap (λ o. pixel_step (dataset_named cat) (pixel_within (dataset_named cat) m 16) m o band x y) at
+
+pub number_is_name : (m : Files) (cat : List Dataset) (id band x y : ℕ) (d : Dataset) → IsCatalog cat → IsWalked m cat → slice_get cat id ≡ Some d → pixel_of m cat id band x y ≡ pixel_of_name m d.head.name band x y
+unfolding pixel_of_name
+number_is_name m cat id band x y d is walked at =
+    pixel_is m cat id band x y d at
+    ∙ same_pixels cat (dataset_named cat) (found_in_folder m) m (by_name cat) (in_folder m cat walked) 16 16 16 d (omega arith) (omega arith) (nested cat id d is at) band x y
+    ∙ sym (ap (λ o. pixel_step (found_in_folder m) (pixel_within (found_in_folder m) m 16) m o band x y) (ap told (item (λ (x : Dataset). dataset_in m false x.head.name ≡ Ok x) cat id d walked at)))
+
+pub more_is_same : (m : Files) (cat more : List Dataset) (id band x y : ℕ) (d : Dataset) → IsCatalog cat → slice_get cat id ≡ Some d → pixel_of m (cat ++ more) id band x y ≡ pixel_of m cat id band x y
+more_is_same m cat more id band x y d is at =
+    pixel_is m (cat ++ more) id band x y d (there_still cat more id d at)
+    ∙ same_pixels cat (dataset_named (cat ++ more)) (dataset_named cat) m (in_more cat more) (by_name cat) 16 16 16 d (omega arith) (omega arith) (nested cat id d is at) band x y
+    ∙ sym (pixel_is m cat id band x y d at)
+
+pub is_file : (content : Content) (h : DriverHead) → driver_of content ≡ Some h → content ≡ File h
+is_file (File g) h is = ap File (same_item g h is)
+is_file (Mosaic d) h is = absurd (none≢some is)
+
+is_mosaic : (content : Content) (doc : DocumentValue) → document_of content ≡ Some doc → content ≡ Mosaic doc
+is_mosaic (File h) doc is = absurd (none≢some is)
+is_mosaic (Mosaic d) doc is = ap Mosaic (same_item d doc is)
+
+pub file_is_sample : (m : Files) (cat : List Dataset) (id band x y : ℕ) (d : Dataset) (h : DriverHead) → slice_get cat id ≡ Some d → driver_of d.content ≡ Some h → pixel_of m cat id band x y ≡ file_pixel m d.head.name h band x y
+file_is_sample m cat id band x y d h at is = pixel_is m cat id band x y d at ∙ ap (λ c. content_pixel (dataset_named cat) (pixel_within (dataset_named cat) m 16) m d.head.name c band x y) (is_file d.content h is)
+
+-- a source of a band is one of its mosaic's
+
+found_then : {A B : Type 0} (o : Option A) (f : A → Option B) (y : B) → (o >>= f) ≡ Some y → (x : A) × (o ≡ Some x) × (f x ≡ Some y)
+found_then None f y is = absurd (none≢some is)
+found_then (Some x) f y is = (x, refl, is)
+
+source_target : (cat : List Dataset) (d : Dataset) (band source : ℕ) (s : SourceValue) → IsNested 16 cat d → source_at d band source ≡ Some s → HasTarget (λ t. IsNested 15 cat t) cat d.head.name s
+source_target cat d band source s nested is =
+    let doc = found_then (document_of d.content) _ s is in
+    let b = found_then (slice_get doc.0.bands band) _ s doc.2 in
+    let P = HasTarget (λ t. IsNested 15 cat t) cat d.head.name in
+    item P b.0.sources source s (part P (λ (v : BandValue). v.sources) doc.0.bands band b.0 (subst (λ c. All P (sources_in c)) (is_mosaic d.content doc.0 doc.1) nested) b.1) b.2
+
+target_is : (cat : List Dataset) (d : Dataset) (band source : ℕ) (s : SourceValue) (P : Dataset → Type 0) (t : HasTarget P cat d.head.name s) (n : ℕ) → source_at d band source ≡ Some s → number_of cat t.name ≡ Some n → target_at cat d band source ≡ Some n
+target_is cat d band source s P t n is found = ap (λ (o : Option SourceValue). o >>= λ s. target_of cat d.head.name s) is ∙ ap (option_and_then (number_of cat)) (when_ok (source_name d.head.name s) _ t.name t.resolves) ∙ found
+
+pub has_target : (cat : List Dataset) (id band source : ℕ) (d : Dataset) (s : SourceValue) → IsCatalog cat → slice_get cat id ≡ Some d → source_at d band source ≡ Some s → IsTaken cat d band source s
+has_target cat id band source d s is at stands =
+    let P = λ (x : Dataset). IsNested 15 cat x in
+    let t = source_target cat d band source s (nested cat id d is at) stands in
+    let n = named_is cat t.name t.dataset t.named in
+    record { target = n.number; dataset = t.dataset; is = target_is cat d band source s P t n.number stands n.found; there = n.there; has_band = t.band }
+
+pub mosaic_is_of_targets : (m : Files) (cat : List Dataset) (id band x y : ℕ) (d : Dataset) (doc : DocumentValue) (b : BandValue) (sizes : ℕ → Size) (pixels : ℕ → ℕ → ℕ → ℤ)
+    → IsCatalog cat → slice_get cat id ≡ Some d → document_of d.content ≡ Some doc → slice_get doc.bands band ≡ Some b → AreOfTargets m cat d band sizes pixels
+    → pixel_of m cat id band x y ≡ mosaic_pixel b doc.size sizes pixels x y
+mosaic_is_of_targets m cat id band x y d doc b sizes pixels is at has there same =
+    let look = dataset_named cat in
+    let images = pixel_within look m 16 in
+    pixel_is m cat id band x y d at
+    ∙ ap (λ c. content_pixel look images m d.head.name c band x y) (is_mosaic d.content doc has)
+    ∙ ap (λ o. band_pixel look images d.head.name doc.size o x y) there
+    ∙ mosaic_same b doc.size _ _ _ _ x y (λ k h.
+    let s = at_number b.sources k h in
+    let stands : source_at d band k ≡ Some s.0 = ap (λ (o : Option DocumentValue). o >>= λ doc. slice_get doc.bands band >>= λ b. slice_get b.sources k) has ∙ ap (λ (o : Option BandValue). o >>= λ b. slice_get b.sources k) there ∙ s.1 in
+    let t = source_target cat d band k s.0 (nested cat id d is at) stands in
+    let p = named_is cat t.name t.dataset t.named in
+    let q = same k p.number s.0 t.dataset stands (target_is cat d band k s.0 (λ x. IsNested 15 cat x) t p.number stands p.found) p.there in
+    let n = source_is d.head.name b k s.0 t.name s.1 (when_ok (source_name d.head.name s.0) _ t.name t.resolves) in
+    let c = band_is b k s.0 s.1 in
+    let found : look t.name ≡ Some t.dataset = t.named in (
+      ap (λ n. size_of (look n)) n ∙ ap size_of found ∙ sym q.0,
+      λ u v. (λ i. images (n i) (c i) u v)
+          ∙ ap (λ o. pixel_step look (pixel_within look m 15) m o (s.0.band - 1) u v) found
+          ∙ same_pixels cat look look m (by_name cat) (by_name cat) 15 15 16 t.dataset (omega arith) (omega arith) t.asked (s.0.band - 1) u v
+          ∙ sym (pixel_is m cat p.number (s.0.band - 1) u v t.dataset p.there)
+          ∙ sym (q.1 u v),
+    ))
+
+pub own_targets : (m : Files) (cat : List Dataset) (d : Dataset) (band : ℕ) → AreOfTargets m cat d band (target_size cat d band) (target_pixel m cat d band)
+own_targets m cat d band source t s e stands is there = (
+  ap (λ (o : Option ℕ). size_of (o >>= λ t. slice_get cat t)) is ∙ ap size_of there,
+  λ x y. ap (λ (o : Option ℕ). unwrap_or (o >>= λ t. option_map (λ s. pixel_of m cat t (s.band - 1) x y) (source_at d band source)) (pos 0)) is
+      ∙ ap (λ (o : Option SourceValue). unwrap_or (option_map (λ s. pixel_of m cat t (s.band - 1) x y) o) (pos 0)) stands,
+)
+
+pub mosaic_is_of_its_targets : (m : Files) (cat : List Dataset) (id band x y : ℕ) (d : Dataset) (doc : DocumentValue) (b : BandValue)
+    → IsCatalog cat → slice_get cat id ≡ Some d → document_of d.content ≡ Some doc → slice_get doc.bands band ≡ Some b
+    → pixel_of m cat id band x y ≡ mosaic_pixel b doc.size (target_size cat d band) (target_pixel m cat d band) x y
+mosaic_is_of_its_targets m cat id band x y d doc b is at has there = mosaic_is_of_targets m cat id band x y d doc b (target_size cat d band) (target_pixel m cat d band) is at has there (own_targets m cat d band)
+
+-- the blocks of datasets by what their pixels are
+
+block_is : (m : Files) (cat : List Dataset) (id band block : ℕ) (d : Dataset) (f : ℕ → ℕ → ℤ) → slice_get cat id ≡ Some d → ((x y : ℕ) → pixel_of m cat id band x y ≡ f x y)
+    → block_pixels m cat id band block ≡ row_by_row f (block_rect_of d.head block)
+block_is m cat id band block d f at same = ap (block_by m cat id band block) at ∙ (λ i. row_by_row (λ x y. same x y i) (block_rect_of d.head block))
+
+pub file_block : (m : Files) (cat : List Dataset) (id band block : ℕ) (d : Dataset) (h : DriverHead) → slice_get cat id ≡ Some d → driver_of d.content ≡ Some h
+    → block_pixels m cat id band block ≡ row_by_row (file_pixel m d.head.name h band) (block_rect_of d.head block)
+file_block m cat id band block d h at is = block_is m cat id band block d (file_pixel m d.head.name h band) at (λ x y. file_is_sample m cat id band x y d h at is)
+
+pub mosaic_block : (m : Files) (cat : List Dataset) (id band block : ℕ) (d : Dataset) (doc : DocumentValue) (b : BandValue) (sizes : ℕ → Size) (pixels : ℕ → ℕ → ℕ → ℤ)
+    → IsCatalog cat → slice_get cat id ≡ Some d → document_of d.content ≡ Some doc → slice_get doc.bands band ≡ Some b → AreOfTargets m cat d band sizes pixels
+    → block_pixels m cat id band block ≡ row_by_row (mosaic_pixel b doc.size sizes pixels) (block_rect_of d.head block)
+mosaic_block m cat id band block d doc b sizes pixels is at has there same = block_is m cat id band block d (mosaic_pixel b doc.size sizes pixels) at (λ x y. mosaic_is_of_targets m cat id band x y d doc b sizes pixels is at has there same)
+
+pub more_block : (m : Files) (cat more : List Dataset) (id band block : ℕ) (d : Dataset) → IsCatalog cat → slice_get cat id ≡ Some d → block_pixels m (cat ++ more) id band block ≡ block_pixels m cat id band block
+more_block m cat more id band block d is at =
+    block_is m (cat ++ more) id band block d (pixel_of m cat id band) (there_still cat more id d at) (λ x y. more_is_same m cat more id band x y d is at)
+    ∙ sym (block_is m cat id band block d (pixel_of m cat id band) at (λ x y. refl))

@@ -1,0 +1,298 @@
+// What a walk keeps of what it has met.
+ghost use Rattle.std.specs.Prelude.{◌≡◌, ◌<◌, ◌≤◌, ◌+◌, ℕ, suc, [], length, All, slice_get, Option, Some, None, option_map, IfOk, IfErr, OnOk, OnErr, max};
+ghost use Rattle.vrt_profile.specs.Values.{BandValue};
+ghost use Rattle.lists_and_answers.specs.Answers.{Gives};
+ghost use Rattle.catalog.specs.Outcomes.{IsMemory};
+ghost use Rattle.catalog.specs.Drivers.{Dataset as Known};
+ghost use Rattle.catalog.specs.Steps.{IsPlain};
+ghost use Rattle.catalog.specs.Walk.{number_of, one_more_source};
+ghost use Rattle.catalog.specs.Linked.{State, IsLinked, IsHigh, IsDeep, Grows, HasBand, IsMosaicAt, pushed, closed, one_counted, cut_to, height_at, most, all_of, first_above};
+
+use crate::dataset::Dataset;
+use crate::driver::Content;
+use crate::{LimitKind, WalkFault};
+use lists_and_answers::Items;
+use outside::Name;
+use std::alloc::{AllocError, Global};
+use std::marker::Model;
+use vrt_profile::{Document, VrtBand};
+
+/// The most sources of all mosaics of a catalog.
+const MOST_SOURCES: u32 = 262_144;
+
+/// The numbers of the datasets that the sources of a band name, in order.
+pub type Targets = Items<u32>;
+
+/// What is kept of a dataset that was met whole: how deep it is nested, and the numbers of the datasets
+/// that its sources name, by band and source.
+#[derive(Drop)]
+pub struct Link {
+    /// 0 for a file, else one more than the greatest height of what the sources name.
+    pub height: u32,
+    pub targets: Items<Targets>,
+}
+
+/// What a walk has met: the datasets in the order in which they were first met, the link of each that
+/// was met whole, and the number of the sources. A mosaic has no link while the walk is below it.
+#[derive(Drop)]
+pub struct Met {
+    datasets: Vec<Dataset>,
+    links: Vec<Option<Link>>,
+    sources: u32,
+}
+
+impl Link {
+    /// The link of a file.
+    pub fn of_file(alloc: Global) -> Link
+        ensures file { result ≡ record { height = 0; targets = [] } }
+    {
+        Link {
+            height: 0,
+            targets: Items::new(alloc),
+        }
+    }
+}
+
+impl Model for Met {
+    ghost use Rattle.catalog.specs.Linked.{State};
+
+    ghost Value = { State };
+
+    ghost view = { λ m. record { datasets = m.datasets.items; links = m.links.items; sources = m.sources } };
+}
+
+// The number of the dataset of a name.
+fn number_of(datasets: &[Dataset], name: &Name) -> Option<u32>
+    requires few { length datasets.now ≤ 65536 }
+    ensures { result ≡ number_of datasets.now name.now }
+{
+    let mut at = 0;
+    for dataset in datasets {
+        if dataset.is_of(name) {
+            return Some(at);
+        }
+        at += 1;
+    }
+    None
+}
+
+impl Met {
+    /// Nothing is met; it takes no memory.
+    pub fn new(alloc: Global) -> Met
+        ensures empty { result ≡ record { datasets = []; links = []; sources = 0 } }
+    {
+        Met {
+            datasets: Vec::new(alloc),
+            links: Vec::new(alloc),
+            sources: 0,
+        }
+    }
+
+    /// The number of datasets.
+    pub fn count(&self) -> u32
+        requires few { length self.now.datasets ≤ 65536 }
+        ensures count { result ≡ length self.now.datasets }
+    {
+        self.datasets.len() as u32
+    }
+
+    /// The number of sources.
+    pub fn sources(&self) -> u32
+        ensures sources { result ≡ self.now.sources }
+    {
+        self.sources
+    }
+
+    /// The number of the dataset of a name.
+    pub fn number(&self, name: &Name) -> Option<u32>
+        requires few { length self.now.datasets ≤ 65536 }
+        ensures number { result ≡ number_of self.now.datasets name.now }
+    {
+        number_of(self.datasets.as_slice(), name)
+    }
+
+    /// A dataset by its number.
+    pub fn dataset(&self, id: u32) -> &Dataset
+        requires known { id < length self.now.datasets }
+        ensures dataset { slice_get self.now.datasets id ≡ Some result.now }
+    {
+        &self.datasets[id as usize]
+    }
+
+    /// The name of a dataset.
+    pub fn name(&self, id: u32) -> &Name
+        requires known { id < length self.now.datasets }
+        ensures name { (d : Known) → slice_get self.now.datasets id ≡ Some d → result.now ≡ d.head.name }
+    {
+        &self.dataset(id).head.name
+    }
+
+    /// The number of bands of a dataset.
+    pub fn band_count(&self, id: u32) -> usize
+        requires known { id < length self.now.datasets }
+        ensures bands { (d : Known) → slice_get self.now.datasets id ≡ Some d → result ≡ length d.head.bands }
+    {
+        self.dataset(id).head.bands.len()
+    }
+
+    /// The link of a dataset, if it was met whole.
+    pub fn link(&self, id: u32) -> Option<&Link>
+        requires known { id < length self.now.links }
+        ensures link { slice_get self.now.links id ≡ Some (option_map (λ l. l.now) result) }
+    {
+        self.links[id as usize].as_ref()
+    }
+
+    /// The height of a dataset that was met whole.
+    pub fn height(&self, id: u32) -> u32
+        requires known { id < length self.now.links }
+        ensures height { result ≡ height_at self.now.links id }
+    {
+        match self.link(id) {
+            Some(link) => link.height,
+            None => 0,
+        }
+    }
+
+    /// Adds a dataset. Where memory is refused, what was met stays.
+    pub fn push(&mut self, dataset: Dataset, link: Option<Link>) -> Result<u32, AllocError>
+        requires few { length self.old.datasets ≤ 65536 }
+        ensures ok { OnOk result (self.new ≡ pushed self.old dataset link) }
+        ensures id { IfOk result (λ id. id ≡ length self.old.datasets) }
+        ensures grows { Grows self.old self.new }
+    {
+        let id = self.datasets.len() as u32;
+        self.datasets.push(dataset)?;
+        self.links.push(link)?;
+        Ok(id)
+    }
+
+    /// Gives a mosaic its link, by the rows of what its sources name.
+    pub fn close(&mut self, id: u32, targets: Items<Targets>)
+        requires known { id < length self.old.links }
+        requires rows { All (λ row. All (λ id. id < length self.old.links) row) targets }
+        requires low { most self.old.links (all_of targets) < 16 }
+        ensures closed { self.new ≡ closed self.old id (record { height = suc (most self.old.links (all_of targets)); targets = targets }) }
+    {
+        let height = self.highest(targets.as_slice()) + 1;
+        self.links[id as usize] = Some(Link { height, targets });
+    }
+
+    /// Forgets what was met behind this many datasets, and sets the number of sources.
+    pub fn cut(&mut self, count: u32, sources: u32)
+        ensures cut { self.new ≡ cut_to self.old count sources }
+    {
+        self.datasets.truncate(count as usize);
+        self.links.truncate(count as usize);
+        self.sources = sources;
+    }
+
+    /// Counts one source more. Limit comes exactly where there would be more than 262,144.
+    pub fn count_source(&mut self) -> Result<(), WalkFault>
+        ensures told { Gives IsMemory (λ _. tt) result (one_more_source self.old.sources) }
+        ensures plain { IfErr result IsPlain }
+        ensures ok { OnOk result (self.new ≡ one_counted self.old) }
+        ensures err { OnErr result (self.new ≡ self.old) }
+    {
+        if self.sources >= MOST_SOURCES {
+            return Err(WalkFault::Limit {
+                what: LimitKind::Sources,
+                value: 262_145,
+            });
+        }
+        self.sources += 1;
+        Ok(())
+    }
+
+    /// The document of a mosaic.
+    pub fn document(&self, id: u32) -> &Document
+        requires there { IsMosaicAt self.now id }
+        ensures document { (w : IsMosaicAt self.now id) → result.now ≡ w.document }
+    {
+        match &self.datasets[id as usize].content {
+            Content::File(_) => unreachable!(),
+            Content::Mosaic(document) => document,
+        }
+    }
+
+    /// A band of a mosaic.
+    pub fn band(&self, id: u32, band: usize) -> &VrtBand
+        requires there { HasBand self.now id band }
+        ensures band { (w : HasBand self.now id band) → result.now ≡ w.value }
+    {
+        self.document(id).bands.get(band)
+    }
+
+    // The greatest height of some datasets, or 0.
+    #[tactic(auto, using(crate::proofs::Rows::most_step))]
+    fn highest_in(&self, ids: &[u32]) -> u32
+        requires known { All (λ id. id < length self.now.links) ids.now }
+        ensures highest { result ≡ most self.now.links ids.now }
+    {
+        let mut height = 0;
+        for id in ids {
+            height = height.max(self.height(*id));
+        }
+        height
+    }
+
+    /// The greatest height of the datasets of some rows, or 0.
+    #[tactic(auto, using(crate::proofs::Rows::most_rows))]
+    pub fn highest(&self, rows: &[Targets]) -> u32
+        requires known { All (λ row. All (λ id. id < length self.now.links) row) rows.now }
+        ensures highest { result ≡ most self.now.links (all_of rows.now) }
+    {
+        let mut height = 0;
+        for row in rows {
+            height = height.max(self.highest_in(row.as_slice()));
+        }
+        height
+    }
+
+    // The first of some datasets whose height is above this.
+    #[tactic(auto, using(crate::proofs::Rows::above_passed, crate::proofs::Rows::above_met))]
+    fn first_above_in(&self, ids: &[u32], room: u32) -> Option<u32>
+        requires known { All (λ id. id < length self.now.links) ids.now }
+        ensures first { result ≡ first_above self.now.links room ids.now }
+    {
+        for id in ids {
+            if self.height(*id) > room {
+                return Some(*id);
+            }
+        }
+        None
+    }
+
+    // The first of the datasets of some rows whose height is above this.
+    #[tactic(auto, using(crate::proofs::Rows::row_passed, crate::proofs::Rows::row_met))]
+    fn first_above(&self, rows: &[Targets], room: u32) -> Option<u32>
+        requires known { All (λ row. All (λ id. id < length self.now.links) row) rows.now }
+        ensures first { result ≡ first_above self.now.links room (all_of rows.now) }
+    {
+        for row in rows {
+            if let Some(id) = self.first_above_in(row.as_slice(), room) {
+                return Some(id);
+            }
+        }
+        None
+    }
+
+    /// The mosaic with which the checks of a dataset end that is higher than there is room.
+    pub fn deepest(&self, id: u32, room: u32) -> u32
+        requires linked { IsLinked self.now }
+        requires high { IsHigh self.now id room }
+        ensures known { result < length self.now.datasets }
+        ensures deep { (d : Known) → slice_get self.now.datasets result ≡ Some d → IsDeep self.now room id d.head.name }
+    {
+        if room == 0 {
+            return id;
+        }
+        let Some(link) = self.link(id) else {
+            unreachable!();
+        };
+        let Some(next) = self.first_above(link.targets.as_slice(), room - 1) else {
+            unreachable!();
+        };
+        self.deepest(next, room - 1)
+    }
+}

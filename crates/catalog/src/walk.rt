@@ -1,0 +1,275 @@
+// The walk from a name to all that it reaches.
+ghost use Rattle.std.specs.Prelude.{◌≡◌, ◌<◌, ◌≤◌, ◌∷◌, [], ℕ, List, Bool, Some, None, Ok, IfOk, IfErr, OnOk};
+ghost use Rattle.lists_and_answers.specs.Answers.{Gives};
+ghost use Rattle.outside.specs.Outside.{Files};
+ghost use Rattle.catalog.specs.Outcomes.{IsMemory};
+ghost use Rattle.catalog.specs.Mosaics.{sources_of};
+ghost use Rattle.catalog.specs.Heads.{kind_in, resolved};
+ghost use Rattle.catalog.specs.Walk.{number_of, room_for, has_band, visit};
+ghost use Rattle.catalog.specs.Linked.{IsLinked, IsPath, IsLow, IsMosaicAt, HasBand, HasSource, met_of};
+ghost use Rattle.catalog.specs.Steps.{IsPlain, Meets, Visits, Passes, Names, Reaches, ReachesRows, seen};
+
+use crate::catalog::read_dataset;
+use crate::driver::Content;
+use crate::kind::kind_of;
+use crate::links::{Link, Met, Targets};
+use crate::{Kind, LimitKind, WalkFault};
+use lists_and_answers::Items;
+use outside::{Folder, Name, NameFault};
+use std::alloc::Global;
+use vrt_profile::{resolve, resolved_len};
+
+/// The most datasets of a catalog.
+const MOST_DATASETS: u32 = 65_536;
+
+// How the visit of a name goes on: the dataset of this number was met whole, or it is a mosaic that was
+// met for the first time, and the walk goes through its sources.
+enum Meeting {
+    Whole(u32),
+    Open(u32),
+}
+
+// What a source names, and which of its bands.
+#[derive(Drop)]
+struct Wanted {
+    name: Name,
+    band: u32,
+}
+
+// What a source of a mosaic names. Limit comes exactly where the text of the name has more than 4,096
+// bytes.
+fn resolve_source(
+    alloc: Global,
+    met: &Met,
+    id: u32,
+    band: usize,
+    source: usize,
+) -> Result<Wanted, WalkFault>
+    requires there { HasSource met.now id band source }
+    ensures told { (w : HasSource met.now id band source) → Gives IsMemory (λ r. r.name) result (resolved w.of.mosaic.dataset.head.name w.value) }
+    ensures band { (w : HasSource met.now id band source) → IfOk result (λ r. r.band ≡ w.value.band) }
+    ensures plain { IfErr result IsPlain }
+{
+    let base = met.name(id);
+    let source = met.band(id, band).sources.get(source);
+    match resolve(alloc, base, source) {
+        Ok(name) => Ok(Wanted {
+            name,
+            band: source.band,
+        }),
+        Err(NameFault::TooLong) => Err(WalkFault::Limit {
+            what: LimitKind::Name,
+            value: resolved_len(base, source),
+        }),
+        Err(NameFault::Memory) => Err(WalkFault::Memory),
+        Err(NameFault::Empty) => unreachable!(),
+    }
+}
+
+// The dataset that a source names has the band that it names.
+fn check_band(met: &Met, target: u32, wanted: &Wanted) -> Result<(), WalkFault>
+    requires number { number_of met.now.datasets wanted.now.name ≡ Some target }
+    ensures told { Gives IsMemory (λ _. tt) result (has_band met.now.datasets wanted.now.name wanted.now.band) }
+    ensures plain { IfErr result IsPlain }
+{
+    if wanted.band as usize > met.band_count(target) {
+        return Err(WalkFault::SourceBand {
+            name: wanted.name.try_clone()?,
+            band: wanted.band,
+        });
+    }
+    Ok(())
+}
+
+// The checks of a name that was met earlier, by its height: the datasets below it aren't gone through.
+fn check_again(met: &Met, id: u32, room: u32, name: &Name) -> Result<(), WalkFault>
+    requires linked { IsLinked met.now }
+    requires number { number_of met.now.datasets name.now ≡ Some id }
+    ensures told { (m : Files) (verify : Bool) (path : List (List ℕ)) → IsPath met.now path → Gives IsMemory (λ _. met_of met.now) result (visit m verify room path (met_of met.now) name.now) }
+    ensures low { OnOk result (IsLow met.now id room) }
+    ensures plain { IfErr result IsPlain }
+{
+    match met.link(id) {
+        None => Err(WalkFault::Cycle {
+            name: name.try_clone()?,
+        }),
+        Some(link) if link.height <= room => Ok(()),
+        Some(_) => {
+            let deepest = met.deepest(id, room);
+            Err(WalkFault::TooDeep {
+                name: met.name(deepest).try_clone()?,
+            })
+        }
+    }
+}
+
+// Counts a source of a mosaic, and resolves what it names.
+fn count_and_resolve(
+    alloc: Global,
+    met: &mut Met,
+    id: u32,
+    band: usize,
+    source: usize,
+) -> Result<Wanted, WalkFault>
+    requires there { HasSource met.old id band source }
+    ensures names { (w : HasSource met.old id band source) → Names w.of.mosaic.dataset.head.name w.value met.old met.new result }
+{
+    met.count_source()?;
+    resolve_source(alloc, met, id, band, source)
+}
+
+// Reads the dataset of a name that is met for the first time; a mosaic is open then.
+fn meet_first<F: Folder>(
+    alloc: Global,
+    met: &mut Met,
+    folder: &mut F,
+    verify: bool,
+    room: u32,
+    kind: Kind,
+    name: &Name,
+) -> Result<Meeting, WalkFault>
+    requires linked { IsLinked met.old }
+    requires room { room ≤ 16 }
+    requires kind { kind_in name.now ≡ Ok kind }
+    requires shallow { room_for room kind name.now ≡ Ok tt }
+    requires fresh { number_of met.old.datasets name.now ≡ None }
+    ensures meets { Meets verify room name.now (seen (F.names folder.old) (F.write_calls folder.old) (F.read_calls folder.old) (F.faults folder.old)) (seen (F.names folder.new) (F.write_calls folder.new) (F.read_calls folder.new) (F.faults folder.new)) met.old met.new result }
+{
+    if met.count() >= MOST_DATASETS {
+        return Err(WalkFault::Limit {
+            what: LimitKind::Files,
+            value: 65_537,
+        });
+    }
+    let dataset = read_dataset(alloc, folder, kind, name, verify)?;
+    if let Content::File(_) = &dataset.content {
+        let id = met.push(dataset, Some(Link::of_file(alloc)))?;
+        return Ok(Meeting::Whole(id));
+    }
+    let id = met.push(dataset, None)?;
+    Ok(Meeting::Open(id))
+}
+
+// Begins the visit of a name.
+fn meet<F: Folder>(
+    alloc: Global,
+    met: &mut Met,
+    folder: &mut F,
+    verify: bool,
+    room: u32,
+    name: &Name,
+) -> Result<Meeting, WalkFault>
+    requires linked { IsLinked met.old }
+    requires room { room ≤ 16 }
+    ensures meets { Meets verify room name.now (seen (F.names folder.old) (F.write_calls folder.old) (F.read_calls folder.old) (F.faults folder.old)) (seen (F.names folder.new) (F.write_calls folder.new) (F.read_calls folder.new) (F.faults folder.new)) met.old met.new result }
+{
+    let kind = kind_of(name)?;
+    if let Some(id) = met.number(name) {
+        check_again(met, id, room, name)?;
+        return Ok(Meeting::Whole(id));
+    }
+    if room == 0 && kind == Kind::Vrt {
+        return Err(WalkFault::TooDeep {
+            name: name.try_clone()?,
+        });
+    }
+    meet_first(alloc, met, folder, verify, room, kind, name)
+}
+
+// Visits what a source of a mosaic names, after it is counted; then the band must be there.
+#[cycle(walk)]
+fn visit_source<F: Folder>(
+    alloc: Global,
+    met: &mut Met,
+    folder: &mut F,
+    verify: bool,
+    room: u32,
+    id: u32,
+    band: usize,
+    source: usize,
+) -> Result<u32, WalkFault>
+    requires linked { IsLinked met.old }
+    requires room { room < 16 }
+    requires there { HasSource met.old id band source }
+    ensures passes { (w : HasSource met.old id band source) → Passes verify room w.of.mosaic.dataset.head.name (w.value ∷ []) (seen (F.names folder.old) (F.write_calls folder.old) (F.read_calls folder.old) (F.faults folder.old)) (seen (F.names folder.new) (F.write_calls folder.new) (F.read_calls folder.new) (F.faults folder.new)) met.old met.new (λ t. Reaches met.new room w.of.mosaic.dataset.head.name (w.value ∷ []) (t ∷ [])) result }
+{
+    let wanted = count_and_resolve(alloc, met, id, band, source)?;
+    let target = visit(alloc, met, folder, verify, room, &wanted.name)?;
+    check_band(met, target, &wanted)?;
+    Ok(target)
+}
+
+// Visits what the sources of a band of a mosaic name.
+#[cycle(walk)]
+fn visit_band<F: Folder>(
+    alloc: Global,
+    met: &mut Met,
+    folder: &mut F,
+    verify: bool,
+    room: u32,
+    id: u32,
+    band: usize,
+) -> Result<Targets, WalkFault>
+    requires linked { IsLinked met.old }
+    requires room { room < 16 }
+    requires there { HasBand met.old id band }
+    ensures passes { (w : HasBand met.old id band) → Passes verify room w.mosaic.dataset.head.name w.value.sources (seen (F.names folder.old) (F.write_calls folder.old) (F.read_calls folder.old) (F.faults folder.old)) (seen (F.names folder.new) (F.write_calls folder.new) (F.read_calls folder.new) (F.faults folder.new)) met.old met.new (λ row. Reaches met.new room w.mosaic.dataset.head.name w.value.sources row) result }
+{
+    let mut row = Items::new(alloc);
+    let count = met.band(id, band).sources.len();
+    for source in 0..count {
+        let target = visit_source(alloc, met, folder, verify, room, id, band, source)?;
+        row.push(target)?;
+    }
+    Ok(row)
+}
+
+// Visits what the sources of a mosaic name.
+#[cycle(walk)]
+fn visit_bands<F: Folder>(
+    alloc: Global,
+    met: &mut Met,
+    folder: &mut F,
+    verify: bool,
+    room: u32,
+    id: u32,
+) -> Result<Items<Targets>, WalkFault>
+    requires linked { IsLinked met.old }
+    requires room { room < 16 }
+    requires there { IsMosaicAt met.old id }
+    ensures passes { (w : IsMosaicAt met.old id) → Passes verify room w.dataset.head.name (sources_of w.document) (seen (F.names folder.old) (F.write_calls folder.old) (F.read_calls folder.old) (F.faults folder.old)) (seen (F.names folder.new) (F.write_calls folder.new) (F.read_calls folder.new) (F.faults folder.new)) met.old met.new (λ rows. ReachesRows met.new room w.dataset.head.name w.document.bands rows) result }
+{
+    let mut rows = Items::new(alloc);
+    let count = met.document(id).bands.len();
+    for band in 0..count {
+        let row = visit_band(alloc, met, folder, verify, room, id, band)?;
+        rows.push(row)?;
+    }
+    Ok(rows)
+}
+
+/// Visits a name, with room for so many mosaics more on the path that leads to it. A name that was met
+/// earlier isn't read again: its height tells whether there is room for it.
+#[cycle(walk)]
+pub fn visit<F: Folder>(
+    alloc: Global,
+    met: &mut Met,
+    folder: &mut F,
+    verify: bool,
+    room: u32,
+    name: &Name,
+) -> Result<u32, WalkFault>
+    requires linked { IsLinked met.old }
+    requires room { room ≤ 16 }
+    ensures visits { Visits verify room name.now (seen (F.names folder.old) (F.write_calls folder.old) (F.read_calls folder.old) (F.faults folder.old)) (seen (F.names folder.new) (F.write_calls folder.new) (F.read_calls folder.new) (F.faults folder.new)) met.old met.new result }
+{
+    let meeting = meet(alloc, met, folder, verify, room, name)?;
+    match meeting {
+        Meeting::Whole(id) => Ok(id),
+        Meeting::Open(id) => {
+            let targets = visit_bands(alloc, met, folder, verify, room - 1, id)?;
+            met.close(id, targets);
+            Ok(id)
+        }
+    }
+}

@@ -1,0 +1,16 @@
+-- Pixels and bands of a dataset of a catalog, by its number.
+use Rattle.std.specs.Prelude.{◌≡◌, ◌<◌, ℕ, List, length, slice_get, Some}
+use Rattle.catalog.specs.Drivers.{Dataset}
+
+-- the column and the line are in the raster
+pub record IsPixel (cat : List Dataset) (id x y : ℕ) : Type 0 where
+  pub dataset : Dataset
+  pub at : slice_get cat id ≡ Some dataset
+  pub column : x < dataset.head.size.w
+  pub line : y < dataset.head.size.h
+
+-- something holds of the number of its bands
+pub record AreBands (cat : List Dataset) (id : ℕ) (Holds : ℕ → Type 0) : Type 0 where
+  pub dataset : Dataset
+  pub at : slice_get cat id ≡ Some dataset
+  pub holds : Holds (length dataset.head.bands)

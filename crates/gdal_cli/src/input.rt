@@ -1,0 +1,184 @@
+// The points of an input.
+ghost use Rattle.std.specs.Prelude.{◌≡◌, ◌≤◌, ◌<◌, ℕ, List, All, IfErr, OnOk, Err, Some, None, [], IfOk, true, length, slice_get};
+ghost use Rattle.outside.specs.Outside.{Files};
+ghost use Rattle.outside.specs.Causes.{HasCause};
+ghost use Rattle.input_points.specs.Entries.{ends};
+ghost use Rattle.input_points.specs.Lines.{ended_lines};
+ghost use Rattle.input_points.specs.Reading.{coming};
+ghost use Rattle.catalog.specs.Drivers.{Dataset};
+ghost use Rattle.catalog.specs.Walk.{IsWalked};
+ghost use Rattle.nearest_window.specs.Right.{IsRight};
+ghost use Rattle.gdal_cli.specs.Faults.{IsLate, Differs, HasCauses};
+ghost use Rattle.gdal_cli.specs.Input.{IsReading, room_of, AnswersPiece, AnswersInput, StopsBehind};
+ghost use Rattle.gdal_cli.specs.Location.{point_text, line_text, line_fault, lines_text, PutsText};
+ghost use Rattle.gdal_cli.specs.Pixels.{AreBands};
+
+use crate::Fault;
+use crate::asked::Asked;
+use crate::points::{Room, put_point};
+use band_blocks::Steps;
+use catalog::{Catalog, LimitKind};
+use input_points::{Entry, LineKind, PointLines};
+use nearest_window::Lane;
+use outside::{Failed, Folder, Input, Sink};
+use std::alloc::Global;
+use std::sync::ledger::Ledger;
+
+/// The most bytes of the input that are asked for at once.
+const PIECE: usize = 65_536;
+
+/// The number of the first line that is one too many.
+const TOO_MANY: u64 = 16_777_217;
+
+// Answers a line that has this number and says this.
+fn answer_line<F: Folder, O: Sink, L: Ledger>(
+    alloc: Global,
+    cat: &Catalog,
+    folder: &mut F,
+    out: &mut O,
+    lane: &mut Lane<F>,
+    loads: &mut Steps<L>,
+    id: u32,
+    asked: &Asked,
+    room: &mut Room,
+    line: u32,
+    kind: LineKind,
+) -> Result<(), Fault>
+    requires right { IsRight F.file_bytes F.file_len (F.names folder.old) cat.now lane.old.pool lane.old.files }
+    requires walked { (m : Files) → F.names folder.old ≡ Some m → IsWalked m cat.now }
+    requires bands { AreBands cat.now id (λ count. All (λ band. (1 ≤ band) × (band ≤ count)) asked.now.bands) }
+    requires room { length room.old.values.items ≡ length asked.now.bands }
+    ensures told { (m : Files) → F.names folder.old ≡ Some m → (d : Dataset) → slice_get cat.now id ≡ Some d → line_fault line kind ≡ None → PutsText (line_text (point_text m cat.now d asked.now) kind) result (O.got out.old) (O.got out.new) }
+    ensures refused { (f : Fault) → line_fault line kind ≡ Some f → (result ≡ Err f) × (O.got out.new ≡ O.got out.old) }
+    ensures ends { ends kind ≡ true → IfOk result (λ done. ⊥) }
+    ensures cause { HasCauses (F.faults folder.old) (F.faults folder.new) (O.faults out.old) (O.faults out.new) result }
+    ensures not_input { result ≡ Err Fault.InputFault → ⊥ }
+    ensures right { IsRight F.file_bytes F.file_len (F.names folder.new) cat.now lane.new.pool lane.new.files }
+    ensures room { length room.new.values.items ≡ length room.old.values.items }
+    ensures late { IfErr result IsLate }
+    ensures differs { Differs result }
+    ensures names { F.names folder.new ≡ F.names folder.old }
+{
+    match kind {
+        LineKind::Blank => Ok(()),
+        LineKind::Point(x, y) => {
+            put_point(alloc, cat, folder, out, lane, loads, id, asked, room, x, y)
+        }
+        LineKind::Bad => Err(Fault::BadPoint { line }),
+        LineKind::TooMany => Err(Fault::Limit {
+            what: LimitKind::Points,
+            value: TOO_MANY,
+        }),
+    }
+}
+
+// Answers the lines that end in a piece, in order.
+fn answer_piece<F: Folder, O: Sink, L: Ledger>(
+    alloc: Global,
+    cat: &Catalog,
+    folder: &mut F,
+    out: &mut O,
+    lane: &mut Lane<F>,
+    loads: &mut Steps<L>,
+    id: u32,
+    asked: &Asked,
+    room: &mut Room,
+    reader: &mut PointLines,
+    piece: &[u8],
+) -> Result<(), Fault>
+    requires right { IsRight F.file_bytes F.file_len (F.names folder.old) cat.now lane.old.pool lane.old.files }
+    requires walked { (m : Files) → F.names folder.old ≡ Some m → IsWalked m cat.now }
+    requires bands { AreBands cat.now id (λ count. All (λ band. (1 ≤ band) × (band ≤ count)) asked.now.bands) }
+    requires room { length room.old.values.items ≡ length asked.now.bands }
+    requires reading { IsReading reader.old }
+    ensures told { (m : Files) → F.names folder.old ≡ Some m → (d : Dataset) → slice_get cat.now id ≡ Some d → AnswersPiece (point_text m cat.now d asked.now) reader.old piece.now reader.new result (O.got out.old) (O.got out.new) }
+    // no line that has an end is left unanswered, and less can be taken than before
+    ensures reading { OnOk result (IsReading reader.new) }
+    ensures none { OnOk result (0 < length piece.now → coming ended_lines reader.new [] ≡ []) }
+    ensures forward { OnOk result (0 < length piece.now → room_of reader.new < room_of reader.old) }
+    ensures cause { HasCauses (F.faults folder.old) (F.faults folder.new) (O.faults out.old) (O.faults out.new) result }
+    ensures not_input { result ≡ Err Fault.InputFault → ⊥ }
+    ensures right { IsRight F.file_bytes F.file_len (F.names folder.new) cat.now lane.new.pool lane.new.files }
+    ensures room { length room.new.values.items ≡ length room.old.values.items }
+    ensures late { IfErr result IsLate }
+    ensures differs { Differs result }
+    ensures names { F.names folder.new ≡ F.names folder.old }
+{
+    let mut at = 0;
+    while at < piece.len() {
+        let (entry, used) = reader.next(&piece[at..]);
+        if let Some(Entry { line, kind }) = entry {
+            answer_line(
+                alloc, cat, folder, out, lane, loads, id, asked, room, line, kind,
+            )?;
+        }
+        at += used;
+    }
+    Ok(())
+}
+
+/// Answers the lines of the input, in pieces: the points of a piece are answered before the next piece is asked for.
+/// It takes memory for a piece of 65,536 bytes and for one line.
+///
+/// BadPoint comes exactly at the first line that is no point, Limit with the kind Points and the value 16777217 exactly
+/// at line 16,777,217, where no line before it is refused; the lines before were answered. InputFault comes only where
+/// the input's count rose; exactly the whole lines among the bytes that it gave were answered then. All other
+/// refusals are those of `put_point`.
+pub fn answer_input<F: Folder, I: Input, O: Sink, L: Ledger>(
+    alloc: Global,
+    cat: &Catalog,
+    folder: &mut F,
+    input: &mut I,
+    out: &mut O,
+    lane: &mut Lane<F>,
+    loads: &mut Steps<L>,
+    id: u32,
+    asked: &Asked,
+    room: &mut Room,
+) -> Result<(), Fault>
+    requires right { IsRight F.file_bytes F.file_len (F.names folder.old) cat.now lane.old.pool lane.old.files }
+    requires walked { (m : Files) → F.names folder.old ≡ Some m → IsWalked m cat.now }
+    requires bands { AreBands cat.now id (λ count. All (λ band. (1 ≤ band) × (band ≤ count)) asked.now.bands) }
+    requires room { length room.old.values.items ≡ length asked.now.bands }
+    ensures told { (m : Files) → F.names folder.old ≡ Some m → (d : Dataset) → slice_get cat.now id ≡ Some d → (i : List ℕ) → I.left input.old ≡ Some i → AnswersInput (point_text m cat.now d asked.now) i (I.left input.new) result (O.got out.old) (O.got out.new) }
+    ensures stopped { result ≡ Err Fault.InputFault → (m : Files) → F.names folder.old ≡ Some m → (d : Dataset) → slice_get cat.now id ≡ Some d → (i : List ℕ) → I.left input.old ≡ Some i → StopsBehind (lines_text (point_text m cat.now d asked.now)) i (I.left input.new) (O.got out.old) (O.got out.new) }
+    ensures cause { HasCauses (F.faults folder.old) (F.faults folder.new) (O.faults out.old) (O.faults out.new) result }
+    ensures input_cause { HasCause Fault.InputFault (I.faults input.old) (I.faults input.new) result }
+    ensures right { IsRight F.file_bytes F.file_len (F.names folder.new) cat.now lane.new.pool lane.new.files }
+    ensures room { length room.new.values.items ≡ length room.old.values.items }
+    ensures late { IfErr result IsLate }
+    ensures differs { Differs result }
+    ensures names { F.names folder.new ≡ F.names folder.old }
+{
+    let mut reader = PointLines::new(alloc)?;
+    let mut bytes = vec![in alloc; 0u8; PIECE]?;
+    'pieces: loop {
+        let count = match input.take(&mut bytes) {
+            Ok(count) => count,
+            Err(Failed) => return Err(Fault::InputFault),
+        };
+        if count == 0 {
+            break 'pieces;
+        }
+        let piece = &bytes[..count];
+        answer_piece(
+            alloc,
+            cat,
+            folder,
+            out,
+            lane,
+            loads,
+            id,
+            asked,
+            room,
+            &mut reader,
+            piece,
+        )?;
+    }
+    match reader.finish() {
+        Some(Entry { line, kind }) => answer_line(
+            alloc, cat, folder, out, lane, loads, id, asked, room, line, kind,
+        ),
+        None => Ok(()),
+    }
+}

@@ -1,0 +1,167 @@
+// Runs over mosaics.
+use crate::trials::{FileOf, Row, run_over, try_rows};
+use outside::Failing;
+use std::test::*;
+
+// The document that `gdalbuildvrt` makes of two tiles which lie side by side.
+const WIDE: &[u8] = b"<VRTDataset rasterXSize=\"2401\" rasterYSize=\"1201\">
+  <GeoTransform>-0.0004166666666667, 0.0008333333333333, 0, 1.0004166666666667, 0, -0.0008333333333333</GeoTransform>
+  <VRTRasterBand dataType=\"Int16\" band=\"1\">
+    <NoDataValue>-32768</NoDataValue>
+    <ComplexSource>
+      <SourceFilename relativeToVRT=\"1\">N00E000.hgt</SourceFilename>
+      <SourceBand>1</SourceBand>
+      <SrcRect xOff=\"0\" yOff=\"0\" xSize=\"1201\" ySize=\"1201\"/>
+      <DstRect xOff=\"0\" yOff=\"0\" xSize=\"1201\" ySize=\"1201\"/>
+      <NODATA>-32768</NODATA>
+    </ComplexSource>
+    <ComplexSource>
+      <SourceFilename relativeToVRT=\"1\">N00E001.hgt</SourceFilename>
+      <SourceBand>1</SourceBand>
+      <SrcRect xOff=\"0\" yOff=\"0\" xSize=\"1201\" ySize=\"1201\"/>
+      <DstRect xOff=\"1200\" yOff=\"0\" xSize=\"1201\" ySize=\"1201\"/>
+      <NODATA>-32768</NODATA>
+    </ComplexSource>
+  </VRTRasterBand>
+</VRTDataset>
+";
+
+const WIDE_REPORT: &str = "Driver: VRT
+Files: wide.vrt
+       N00E000.hgt
+       N00E001.hgt
+Size is 2401, 1201
+Origin = (-0.000416666666667,1.000416666666667)
+Pixel Size = (0.000833333333333,-0.000833333333333)
+Corner Coordinates:
+Upper Left  (-0.000416667, 1.000416667)
+Lower Left  (-0.000416667, -0.000416667)
+Upper Right (2.000416667, 1.000416667)
+Lower Right (2.000416667, -0.000416667)
+Band 1 Block=128x128 Type=Int16
+  NoData Value=-32768
+";
+
+// Mosaics whose sources aren't there, which nothing opens: one that names itself, two that are refused, and one whose
+// band takes a kind that isn't read.
+const FILES: [FileOf<'static>; 6] = [
+    ("wide.vrt", WIDE),
+    (
+        "m.vrt",
+        b"<VRTDataset rasterXSize=\"1\" rasterYSize=\"1\"><Foo/></VRTDataset>",
+    ),
+    (
+        "cut.vrt",
+        b"<VRTDataset rasterXSize=\"1\" rasterYSize=\"1\">",
+    ),
+    (
+        "itself.vrt",
+        b"<VRTDataset rasterXSize='3' rasterYSize='1'><SRS/><VRTRasterBand><SimpleSource><SourceFilename>itself.vrt</SourceFilename></SimpleSource></VRTRasterBand></VRTDataset>",
+    ),
+    (
+        "wide_less.VRT",
+        b"<VRTDataset rasterYSize='1'><VRTRasterBand/></VRTDataset>",
+    ),
+    ("empty.vrt", b""),
+];
+
+const ROWS: [Row<'static>; 9] = [
+    ("gdalinfo wide.vrt", 0, WIDE_REPORT, ""),
+    (
+        "gdalinfo itself.vrt",
+        0,
+        "Driver: VRT\nFiles: itself.vrt\n       itself.vrt\nSize is 3, 1\nCoordinate System is:\n\nBand 1 Block=128x128 Type=Byte\n",
+        "",
+    ),
+    (
+        "gdalinfo m.vrt",
+        1,
+        "",
+        "ERROR 4: m.vrt: malformed vrt (2) at 44\n",
+    ),
+    (
+        "gdalinfo cut.vrt",
+        1,
+        "",
+        "ERROR 4: cut.vrt: malformed vrt (1) at 44\n",
+    ),
+    (
+        "gdalinfo empty.vrt",
+        1,
+        "",
+        "ERROR 4: empty.vrt: malformed vrt (1) at 0\n",
+    ),
+    (
+        "gdalinfo wide_less.VRT",
+        1,
+        "",
+        "ERROR 4: wide_less.VRT: malformed vrt (3)\n",
+    ),
+    (
+        "gdalinfo none.vrt",
+        1,
+        "",
+        "ERROR 4: none.vrt: no such file\n",
+    ),
+    (
+        "gdallocationinfo -valonly a.tif 0 0",
+        1,
+        "",
+        "ERROR 4: a.tif: not recognized as a supported format\n",
+    ),
+    (
+        "gdallocationinfo -valonly wide.vrt 0 0",
+        1,
+        "",
+        "ERROR 4: N00E000.hgt: no such file\n",
+    ),
+];
+
+#[test]
+fn mosaics(rt: HostRuntime) -> Result<(), Fail> {
+    assert!(rt; try_rows(&rt, rt.alloc(), &FILES, &ROWS)?);
+    Ok(())
+}
+
+// A source whose name would be as many bytes long before it is normalised, and what is told.
+const NAMES: [(usize, &str); 2] = [(4096, ""), (4097, "ERROR 6: limit of name passed (4097)\n")];
+
+#[test]
+fn long_names(rt: HostRuntime) -> Result<(), Fail> {
+    let alloc = rt.alloc();
+    for (len, err) in NAMES {
+        let mut document = Vec::new(alloc);
+        document.extend_from_slice(
+            b"<VRTDataset rasterXSize='1' rasterYSize='1'><VRTRasterBand><SimpleSource><SourceFilename relativeToVRT='1'>",
+        )?;
+        // The name of the folder and a slash stand before it.
+        for _byte in 2..len {
+            document.push(b'n')?;
+        }
+        document.extend_from_slice(
+            b"</SourceFilename></SimpleSource></VRTRasterBand></VRTDataset>",
+        )?;
+        let files: [FileOf<'_>; 1] = [("d/m.vrt", &document)];
+        let said = run_over(&rt, alloc, &files, "gdalinfo d/m.vrt", &[], &[])?;
+        assert_eq!(rt; said.err.as_str(), err);
+    }
+    Ok(())
+}
+
+// Each call of the folder fails in turn: the document is opened and read, and nothing else is.
+#[test]
+fn failing_calls_of_a_mosaic(rt: HostRuntime) -> Result<(), Fail> {
+    let alloc = rt.alloc();
+    let line = "gdalinfo wide.vrt";
+    for number in [1u64, 2] {
+        let calls = [Failing::Call(number)];
+        let said = run_over(&rt, alloc, &FILES, line, &calls, &[])?;
+        assert_eq!(rt; said.status, 2);
+        assert_eq!(rt; said.out.as_str(), "");
+        assert_eq!(rt; said.err.as_str(), "ERROR 3: a file call failed\n");
+    }
+    let said = run_over(&rt, alloc, &FILES, line, &[Failing::Call(3)], &[])?;
+    assert_eq!(rt; said.status, 0);
+    assert_eq!(rt; said.out.as_str(), WIDE_REPORT);
+    Ok(())
+}

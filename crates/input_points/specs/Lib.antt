@@ -1,0 +1,4 @@
+pub mod Lines
+pub mod Points
+pub mod Entries
+pub mod Reading

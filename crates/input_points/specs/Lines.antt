@@ -1,0 +1,24 @@
+-- The lines of an input. All of them are std's `lines`: they end with a line feed or with a carriage return and a line feed, and a last one without an end counts where it isn't empty.
+use Rattle.std.specs.Prelude.{◌≡◌, ℕ, ◌+◌, ◌<◌, Bool, true, not, List, [], ◌∷◌, ◌++◌, length, drop, ◌==◌}
+use Rattle.std.specs.List.{slice_split, list_all}
+use Rattle.std.specs.Str.Lines.{strip_carriage_return}
+
+-- a byte inside a line
+abbrev pub is_inside : ℕ → Bool
+is_inside c = not (c == 10)
+
+-- of the parts between line feeds, all but the last one
+abbrev pub lines_but_last : List (List ℕ) → List (List ℕ)
+lines_but_last [] = []
+lines_but_last (part ∷ []) = []
+lines_but_last (part ∷ (next ∷ parts)) = strip_carriage_return part ∷ lines_but_last (next ∷ parts)
+
+-- the lines of a text that have an end
+abbrev pub ended_lines : List ℕ → List (List ℕ)
+ended_lines text = lines_but_last (slice_split (λ c. c == 10) text)
+
+-- the bytes before the first line feed of a text
+pub record IsLineIn (line text : List ℕ) : Type 0 where
+  pub inside : list_all is_inside line ≡ true
+  pub parts : text ≡ line ++ 10 ∷ drop (length line + 1) text
+  pub within : length line < length text

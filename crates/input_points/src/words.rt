@@ -1,0 +1,99 @@
+// The words of a line.
+ghost use Rattle.std.specs.Prelude.{◌≡◌, ◌≤◌, length, true, MatchOption};
+ghost use Rattle.std.specs.List.{prefix_len, list_all};
+ghost use Rattle.std.specs.Str.Lines.{strip_carriage_return};
+ghost use Rattle.geotransform.specs.Decimal.{ticks_of};
+ghost use Rattle.input_points.specs.Lines.{is_inside, IsLineIn};
+ghost use Rattle.input_points.specs.Points.{is_blank, is_in_word, word_at, point_of, kind_of};
+
+use crate::entry::LineKind;
+use crate::position::Position;
+
+/// The most bytes that a line may have without its end.
+const LONGEST: usize = 4096;
+
+fn is_blank(c: u8) -> bool
+    ensures { result ≡ is_blank c }
+{
+    c == b'\t' || c == b' '
+}
+
+fn blanks(text: &[u8]) -> usize
+    ensures count { result ≡ prefix_len is_blank text.now }
+    ensures bound { result ≤ length text.now }
+{
+    text.iter().take_while(|c| is_blank(**c)).count()
+}
+
+fn word_len(text: &[u8]) -> usize
+    ensures count { result ≡ prefix_len is_in_word text.now }
+    ensures bound { result ≤ length text.now }
+{
+    text.iter().take_while(|c| !is_blank(**c)).count()
+}
+
+fn word_at(line: &[u8]) -> (&[u8], &[u8])
+    ensures { (result.0.now, result.1.now) ≡ word_at line.now }
+{
+    let (_, line) = line.split_at(blanks(line));
+    line.split_at(word_len(line))
+}
+
+fn point_of(first: &[u8], second: &[u8]) -> LineKind
+    ensures { result ≡ point_of (ticks_of first.now) (ticks_of second.now) }
+{
+    let Some(x) = Position::read(first) else {
+        return LineKind::Bad;
+    };
+    let Some(y) = Position::read(second) else {
+        return LineKind::Bad;
+    };
+    LineKind::Point(x, y)
+}
+
+/// What a line says, of which its end is no part.
+#[tactic(auto, unfolding(crate::specs::Points::kind_of))]
+pub fn kind_of(line: &[u8]) -> LineKind
+    ensures { result ≡ kind_of line.now }
+{
+    if line.len() > LONGEST {
+        return LineKind::Bad;
+    }
+    let (first, rest) = word_at(line);
+    if first.is_empty() {
+        return LineKind::Blank;
+    }
+    let (second, rest) = word_at(rest);
+    let (third, _) = word_at(rest);
+    if third.is_empty() {
+        point_of(first, second)
+    } else {
+        LineKind::Bad
+    }
+}
+
+/// A line without the carriage return before its line feed.
+pub fn without_return(line: &[u8]) -> &[u8]
+    ensures { result.now ≡ strip_carriage_return line.now }
+{
+    match line {
+        [front @ .., b'\r'] => front,
+        _ => line,
+    }
+}
+
+fn line_len(text: &[u8]) -> usize
+    ensures count { result ≡ prefix_len is_inside text.now }
+    ensures bound { result ≤ length text.now }
+{
+    text.iter().take_while(|c| **c != b'\n').count()
+}
+
+/// The bytes before the first line feed, and none where there is no line feed.
+#[tactic(auto, using(crate::proofs::Lines::all_inside, crate::proofs::Lines::line_in))]
+pub fn line_in(text: &[u8]) -> Option<&[u8]>
+    ensures { MatchOption result (list_all is_inside text.now ≡ true) (λ line. IsLineIn line.now text.now) }
+{
+    let (line, rest) = text.split_at(line_len(text));
+    if rest.is_empty() { None } else { Some(line) }
+}

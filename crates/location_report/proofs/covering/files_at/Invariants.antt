@@ -1,0 +1,8 @@
+use Rattle.std.proofs.Common.{◌≡◌, take, fold, slice_get, Some}
+use Rattle.catalog.specs.Drivers.{Dataset}
+use Rattle.location_report.specs.Covering.{with_found, covered_by}
+use Rattle.location_report.proofs.covering.files_at.Given as goal
+
+-- the names of what the sources so far name
+abbrev pub invariant-loop-number : goal.invariant-loop-number
+invariant-loop-number l = (d : Dataset) → slice_get l.cat l.id ≡ Some d → l.out ≡ fold (λ ns s. with_found ns (covered_by l.cat d l.x l.y s)) l.initial.out (take l.number l.source-items)

@@ -1,0 +1,13 @@
+// The report of a place in a raster.
+#![tactic(auto)]
+
+pub mod covering;
+mod files;
+mod pieces;
+mod report;
+#[cfg(test)]
+mod tests;
+mod values;
+
+pub use covering::{files_at, push_covering};
+pub use report::{Form, ReportFault, push_location, write_location};

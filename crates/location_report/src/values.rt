@@ -1,0 +1,51 @@
+// The values of a pixel. Each call may be refused memory.
+ghost use Rattle.std.specs.Prelude.{◌≡◌, ◌++◌, length, OnOk};
+ghost use Rattle.location_report.specs.Location.{value_text, values_text, band_text, bands_text};
+
+use crate::pieces::push_all;
+use geotransform::Sample;
+use itoa::Buffer;
+use std::alloc::AllocError;
+
+/// Appends the line of a value.
+#[tactic(auto, unfolding(crate::specs::Location::value_text))]
+fn push_value(value: Sample, out: &mut Vec<u8>) -> Result<(), AllocError>
+    ensures { OnOk result (out.new.items ≡ out.old.items ++ value_text value) }
+{
+    let mut buffer = Buffer::new();
+    push_all(&[buffer.format(value).as_bytes(), b"\n"], out)
+}
+
+/// Appends the values, one on a line.
+#[tactic(auto, using(crate::proofs::Appended::one_more), unfolding(crate::specs::Location::values_text))]
+pub fn push_values(values: &[Sample], out: &mut Vec<u8>) -> Result<(), AllocError>
+    ensures { OnOk result (out.new.items ≡ out.old.items ++ values_text values.now) }
+{
+    for value in values {
+        push_value(*value, out)?;
+    }
+    Ok(())
+}
+
+/// Appends the lines of a band.
+fn push_band(band: u32, value: Sample, out: &mut Vec<u8>) -> Result<(), AllocError>
+    ensures { OnOk result (out.new.items ≡ out.old.items ++ band_text band value) }
+{
+    let (mut n, mut v) = (Buffer::new(), Buffer::new());
+    let n = n.format(band).as_bytes();
+    let v = v.format(value).as_bytes();
+    push_all(&[b"  Band ", n, b":\n    Value: ", v, b"\n"], out)?;
+    Ok(())
+}
+
+/// Appends the lines of the bands, each with its value.
+#[tactic(auto, using(crate::proofs::Appended::one_band_more))]
+pub fn push_bands(bands: &[u32], values: &[Sample], out: &mut Vec<u8>) -> Result<(), AllocError>
+    requires { length values.now ≡ length bands.now }
+    ensures { OnOk result (out.new.items ≡ out.old.items ++ bands_text bands.now values.now) }
+{
+    for (at, band) in bands.iter().enumerate() {
+        push_band(*band, values[at], out)?;
+    }
+    Ok(())
+}

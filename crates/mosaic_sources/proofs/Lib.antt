@@ -1,0 +1,5 @@
+pub mod Numbers
+pub mod Tables
+pub mod Runs
+pub mod Following
+mod Computes

@@ -1,0 +1,101 @@
+// Which pixel of its dataset a source takes.
+ghost use Rattle.std.specs.Prelude.{◌≡◌, pos, ◌≤ℤ◌, ◌<ℤ◌, ◌<◌, ◌*◌, ◌^◌, unsigned_abs};
+ghost use Rattle.vrt_profile.specs.Values.{million};
+ghost use Rattle.vrt_profile.specs.Cover.{part_of, columns_of, lines_of, cover_of};
+
+use crate::axis::Axis;
+use geotransform::Size;
+use vrt_profile::{MicroRect, Source};
+
+/// A part of an axis, in millionths of a pixel.
+#[derive(Clone, Copy, PartialEq, Eq, Debug)]
+struct Part {
+    start: i64,
+    length: i64,
+}
+
+// So many whole pixels.
+fn all_of(count: u32) -> i64
+    ensures length { result ≡ pos (count * million) }
+    ensures bound { unsigned_abs result < 2 ^ 52 }
+    ensures some { 0 < count → pos 0 <ℤ result }
+{
+    count as i64 * 1_000_000
+}
+
+// The columns of a rectangle, or all columns where there is none.
+fn columns_in(rectangle: Option<MicroRect>, size: Size) -> Part
+    ensures start { result.start ≡ (part_of rectangle size).x }
+    ensures length { result.length ≡ (part_of rectangle size).w }
+    ensures start_bound { unsigned_abs result.start < 2 ^ 52 }
+    ensures length_bound { unsigned_abs result.length < 2 ^ 52 }
+    ensures way { pos 0 ≤ℤ result.length }
+    ensures some { 0 < size.w → pos 0 <ℤ result.length }
+{
+    match rectangle {
+        Some(rectangle) => Part {
+            start: rectangle.x,
+            length: rectangle.w,
+        },
+        None => Part {
+            start: 0,
+            length: all_of(size.w),
+        },
+    }
+}
+
+// The lines of a rectangle, or all lines where there is none.
+fn lines_in(rectangle: Option<MicroRect>, size: Size) -> Part
+    ensures start { result.start ≡ (part_of rectangle size).y }
+    ensures length { result.length ≡ (part_of rectangle size).h }
+    ensures start_bound { unsigned_abs result.start < 2 ^ 52 }
+    ensures length_bound { unsigned_abs result.length < 2 ^ 52 }
+    ensures way { pos 0 ≤ℤ result.length }
+    ensures some { 0 < size.h → pos 0 <ℤ result.length }
+{
+    match rectangle {
+        Some(rectangle) => Part {
+            start: rectangle.y,
+            length: rectangle.h,
+        },
+        None => Part {
+            start: 0,
+            length: all_of(size.h),
+        },
+    }
+}
+
+/// A source along the columns: `target` is the mosaic's size, `size` that of the source's dataset, both
+/// in pixels.
+pub fn columns(source: &Source, target: Size, size: Size) -> Axis
+    ensures axis { result ≡ columns_of source.now target size }
+    ensures some_mosaic { 0 < target.w → pos 0 <ℤ result.mosaic_length }
+    ensures some_dataset { 0 < size.w → pos 0 <ℤ result.dataset_length }
+{
+    let mosaic = columns_in(source.dst, target);
+    let dataset = columns_in(source.src, size);
+    Axis::of(mosaic.start, mosaic.length, dataset.start, dataset.length)
+}
+
+/// A source along the lines, as `columns`.
+pub fn lines(source: &Source, target: Size, size: Size) -> Axis
+    ensures axis { result ≡ lines_of source.now target size }
+    ensures some_mosaic { 0 < target.h → pos 0 <ℤ result.mosaic_length }
+    ensures some_dataset { 0 < size.h → pos 0 <ℤ result.dataset_length }
+{
+    let mosaic = lines_in(source.dst, target);
+    let dataset = lines_in(source.src, size);
+    Axis::of(mosaic.start, mosaic.length, dataset.start, dataset.length)
+}
+
+/// The column and the line of the source's dataset at column `x`, line `y` of the mosaic. `target` is the
+/// mosaic's size and `size` the dataset's, in pixels. `None` exactly where the source doesn't cover the
+/// pixel, or the place in the dataset is outside it.
+#[tactic(auto, unfolding(vrt_profile::specs::Cover::cover_of))]
+pub fn cover(source: &Source, target: Size, size: Size, x: u32, y: u32) -> Option<(u32, u32)>
+    ensures cover { result ≡ cover_of source.now target size x y }
+{
+    let column = columns(source, target, size).at(size.w, x)?;
+    let line = lines(source, target, size).at(size.h, y)?;
+    Some((column, line))
+}

@@ -1,0 +1,25 @@
+// What follows from the definitions.
+ghost use Rattle.std.specs.Prelude.{◌≡◌, ℕ, ℤ, pos, ◌<ℤ◌, ◌≤◌, ◌+◌, List, [], ◌∷◌, ◌++◌, length, Some, true};
+ghost use Rattle.std.specs.Option.{option_or};
+ghost use Rattle.geotransform.specs.Types.{is_in};
+ghost use Rattle.geotransform.specs.declared.types.PixelType.{PixelType};
+ghost use Rattle.geotransform.specs.declared.types.Size.{Size};
+ghost use Rattle.vrt_profile.specs.Values.{SourceValue};
+ghost use Rattle.vrt_profile.specs.Cover.{Axis, axis_at};
+ghost use Rattle.vrt_profile.specs.Value.{given_of, last_given};
+ghost use Rattle.mosaic_sources.specs.Pixels.{IsPixel};
+
+/// Each sample of each type is a pixel that a source takes.
+pub fn samples_are_pixels()
+    ensures within { (kind : PixelType) → (sample : ℤ) → is_in kind sample ≡ true → IsPixel sample }
+{}
+
+/// The dataset's columns of a mosaic's columns don't fall.
+pub fn columns_rise()
+    ensures rise { (a : Axis) → (count : ℕ) → (x : ℕ) → (y : ℕ) → (m : ℕ) → (n : ℕ) → pos 0 <ℤ a.mosaic_length → pos 0 <ℤ a.dataset_length → x ≤ y → axis_at a count x ≡ Some m → axis_at a count y ≡ Some n → m ≤ n }
+{}
+
+/// What a further source behind all others gives counts before what they give.
+pub fn last_counts()
+    ensures last { (sources : List SourceValue) → (source : SourceValue) → (number : ℕ) → (target : Size) → (sizes : ℕ → Size) → (pixels : ℕ → ℕ → ℕ → ℤ) → (x : ℕ) → (y : ℕ) → last_given (sources ++ source ∷ []) number target sizes pixels x y ≡ option_or (given_of source target (sizes (number + length sources)) (pixels (number + length sources)) x y) (last_given sources number target sizes pixels x y) }
+{}

@@ -1,0 +1,31 @@
+-- Lanes over a catalog that grows.
+use Rattle.std.proofs.Common.{◌≡◌, ◌∙◌, sym, ℕ, zero, suc, List, [], ◌∷◌, ◌++◌, Option, Some}
+use Rattle.std.specs.Prelude.{slice_get}
+use Rattle.outside.specs.Outside.{Files}
+use Rattle.catalog.specs.Drivers.{Dataset}
+use Rattle.catalog.specs.Walk.{IsCatalog}
+use Rattle.catalog.proofs.PixelLaws.{more_block}
+use Rattle.band_blocks.specs.declared.key.BlockKey.{BlockKey}
+use Rattle.band_blocks.specs.Blocks.{BlockView}
+use Rattle.block_cache.specs.Entries.{PoolView}
+use Rattle.nearest_window.specs.Right.{IsBlock, IsRight}
+
+still_there : (cat more : List Dataset) (id : ℕ) (d : Dataset) → slice_get cat id ≡ Some d → slice_get (cat ++ more) id ≡ Some d
+still_there [] more id d at = cc
+still_there (c ∷ cat) more zero d at = at
+still_there (c ∷ cat) more (suc id) d at = still_there cat more id d at
+
+block_stays : (told : Option Files) (cat more : List Dataset) (key : BlockKey) (block : BlockView) → IsCatalog cat → IsBlock told cat key block → IsBlock told (cat ++ more) key block
+block_stays told cat more key block valid is = record {
+  dataset = is.dataset;
+  in_range = record { at = still_there cat more key.file is.dataset is.in_range.at; band = is.in_range.band; block = is.in_range.block };
+  shape = is.shape;
+  content = λ m e. is.content m e ∙ sym (more_block m cat more key.file key.band key.block is.dataset valid is.in_range.at);
+}
+
+pub right_stays : {File : Type 0} (bytes : File → Option (List ℕ)) (len : File → ℕ) (told : Option Files) (cat more : List Dataset) (pool : PoolView) (files : List (ℕ × File)) → IsCatalog cat → IsRight bytes len told cat pool files → IsRight bytes len told (cat ++ more) pool files
+right_stays bytes len told cat more pool files valid right = record {
+  valid = right.valid;
+  blocks = λ key entry held. block_stays told cat more key entry.block valid (right.blocks key entry held);
+  good = λ n f kept. let g = right.good n f kept in record { dataset = g.dataset; at = still_there cat more n g.dataset g.at; length = g.length; content = g.content };
+}

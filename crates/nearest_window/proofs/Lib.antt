@@ -1,0 +1,13 @@
+mod Blocks
+mod Columns
+mod Counting
+mod Covers
+mod Fills
+mod Growth
+mod Keys
+mod Mosaics
+pub mod Painted
+mod Shown
+mod Steps
+mod Windows
+mod Naming

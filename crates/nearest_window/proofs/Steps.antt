@@ -1,0 +1,129 @@
+-- How the service of a lane goes on from call to call.
+use Rattle.std.proofs.Common.{◌≡◌, ℕ, ◌+◌, ◌*◌, ◌≤◌, List, Option, None, refl, sym, ◌∙◌, subst, arith, Result, Ok, Err, OnOk, OnErr}
+use Rattle.outside.specs.Outside.{Files}
+use Rattle.catalog.specs.Drivers.{Dataset}
+use Rattle.catalog.specs.Blocks.{all_blocks}
+use Rattle.band_blocks.specs.declared.key.BlockKey.{BlockKey}
+use Rattle.band_blocks.specs.Contents.{most_calls}
+use Rattle.band_blocks.specs.Keys.{IsKeyOf}
+use Rattle.band_blocks.specs.Open.{AreGood}
+use Rattle.block_cache.specs.declared.pool.Entry.{Entry}
+use Rattle.block_cache.specs.Entries.{PoolView, moved_to_front, admitted, held_at, IsPool, pool_view}
+use Rattle.nearest_window.specs.Right.{IsBlock, AreBlocks, IsRight, LaneState, lane_state, Serves, slack_of}
+use Rattle.nearest_window.proofs.Keys.{length_moved, are_blocks_moved, are_blocks_admitted, length_admitted, length_admitted_new}
+use Rattle.nearest_window.proofs.Counting.{room_for_one}
+
+module _ {File : Type 0} (bytes : File → Option (List ℕ)) (len : File → ℕ) (cat : List Dataset) where
+  -- the held blocks of a right lane
+  pub held_blocks : (told : Option Files) (pool : PoolView) (files : List (ℕ × File)) → IsRight bytes len told cat pool files → AreBlocks told cat pool.entries
+  held_blocks told pool files right = right.blocks
+
+  pub serves_refl : (s : LaneState File) → IsRight bytes len s.told cat s.pool s.files → Serves bytes len cat 0 s s
+  serves_refl s r = record { right = r; told = refl; writes = refl; capacity = refl; faults = omega arith; loads = omega arith; reads = omega arith; held = omega arith; bound = λ _. omega arith }
+
+  pub serves_trans : (k : ℕ) (s t u : LaneState File) → Serves bytes len cat 0 s t → Serves bytes len cat k t u → Serves bytes len cat k s u
+  serves_trans k s t u a b = record {
+    right = b.right;
+    told = b.told ∙ a.told;
+    writes = b.writes ∙ a.writes;
+    capacity = b.capacity ∙ a.capacity;
+    faults = omega arith;
+    loads = omega arith;
+    reads = omega arith;
+    held = omega arith;
+    bound = λ h. let p = a.bound h in let q = b.bound (subst (λ n. all_blocks cat ≤ n) (sym a.capacity) h) in omega arith;
+  }
+
+  pub serves_slack : (s t : LaneState File) → Serves bytes len cat 0 s t → Serves bytes len cat 1 s t
+  serves_slack s t a = record {
+    right = a.right;
+    told = a.told;
+    writes = a.writes;
+    capacity = a.capacity;
+    faults = a.faults;
+    loads = a.loads;
+    reads = a.reads;
+    held = a.held;
+    bound = λ h. let p = a.bound h in omega arith;
+  }
+
+  pub serves_moved : (told : Option Files) (p : PoolView) (fs : List (ℕ × File)) (f r w l : ℕ) (k : BlockKey) → IsRight bytes len told cat p fs → IsPool (pool_view (moved_to_front k p.entries) p.capacity)
+      → Serves bytes len cat 0 (lane_state told p fs f r w l) (lane_state told (pool_view (moved_to_front k p.entries) p.capacity) fs f r w l)
+  serves_moved told p fs f r w l k right valid = let e = length_moved k p.entries in record {
+    right = record { valid = valid; blocks = are_blocks_moved told cat k p.entries right.blocks; good = right.good };
+    told = refl;
+    writes = refl;
+    capacity = refl;
+    faults = omega arith;
+    loads = omega arith;
+    reads = omega arith;
+    held = omega arith;
+    bound = λ _. omega arith;
+  }
+
+  serves_admitted : (told : Option Files) (p : PoolView) (fs : List (ℕ × File)) (f r w l : ℕ) (k : BlockKey) (e : Entry) → IsRight bytes len told cat p fs → IsBlock told cat k e.block → IsPool (pool_view (admitted p.capacity k e p.entries) p.capacity)
+      → Serves bytes len cat 0 (lane_state told p fs f r w l) (lane_state told (pool_view (admitted p.capacity k e p.entries) p.capacity) fs f r w l)
+  serves_admitted told p fs f r w l k e right new valid = let more = length_admitted p.capacity k e p.entries right.valid.within right.valid.some in record {
+    right = record { valid = valid; blocks = are_blocks_admitted told cat p.capacity k e p.entries new right.blocks; good = right.good };
+    told = refl;
+    writes = refl;
+    capacity = refl;
+    faults = omega arith;
+    loads = omega arith;
+    reads = omega arith;
+    held = more;
+    bound = λ _. omega arith;
+  }
+
+  -- a block is kept, or memory was refused
+  pub serves_keep : {T E : Type 0} (r : Result T E) (told : Option Files) (p q : PoolView) (fs : List (ℕ × File)) (f n w l : ℕ) (k : BlockKey) (e : Entry) → IsRight bytes len told cat p fs → IsBlock told cat k e.block
+      → OnOk r (q ≡ pool_view (admitted p.capacity k e p.entries) p.capacity) → OnErr r (q ≡ p) → IsPool q
+      → Serves bytes len cat (slack_of r) (lane_state told p fs f n w l) (lane_state told q fs f n w l)
+  serves_keep (Ok v) told p q fs f n w l k e right new kept refused valid =
+      subst (λ q. Serves bytes len cat 0 (lane_state told p fs f n w l) (lane_state told q fs f n w l)) (sym kept)
+      (serves_admitted told p fs f n w l k e right new (subst IsPool kept valid))
+  serves_keep (Err d) told p q fs f n w l k e right new kept refused valid =
+      subst (λ q. Serves bytes len cat 1 (lane_state told p fs f n w l) (lane_state told q fs f n w l)) (sym refused)
+      (serves_slack (lane_state told p fs f n w l) (lane_state told p fs f n w l) (serves_refl (lane_state told p fs f n w l) right))
+
+  are_blocks_told : (told told' : Option Files) (es : List (BlockKey × Entry)) → told' ≡ told → AreBlocks told cat es → AreBlocks told' cat es
+  are_blocks_told told told' es e h = subst (λ t. AreBlocks t cat es) (sym e) h
+
+  one_load : (n n' l : ℕ) → n' ≤ n + most_calls cat → n' + most_calls cat * l ≤ n + most_calls cat * (l + 1)
+  one_load n n' l h = let e : most_calls cat * (l + 1) ≡ most_calls cat * l + most_calls cat = grind arith in omega arith
+
+  -- a load was refused
+  pub serves_refused : (told told' : Option Files) (p : PoolView) (fs fs' : List (ℕ × File)) (f f' n n' w w' l : ℕ) → IsRight bytes len told cat p fs → told' ≡ told → w' ≡ w → AreGood bytes len told' cat fs' → f ≤ f' → n' ≤ n + most_calls cat
+      → Serves bytes len cat 1 (lane_state told p fs f n w l) (lane_state told' p fs' f' n' w' (l + 1))
+  serves_refused told told' p fs fs' f f' n n' w w' l right same unwritten good faults reads = record {
+    right = record { valid = right.valid; blocks = are_blocks_told told told' p.entries same right.blocks; good = good };
+    told = same;
+    writes = unwritten;
+    capacity = refl;
+    faults = faults;
+    loads = omega arith;
+    reads = one_load n n' l reads;
+    held = omega arith;
+    bound = λ h. omega arith;
+  }
+
+  -- a file's block was loaded, and then kept, or memory was refused
+  pub serves_load : {T E : Type 0} (r : Result T E) (told told' : Option Files) (p q : PoolView) (fs fs' : List (ℕ × File)) (f f' n n' w w' l : ℕ) (k : BlockKey) (d : Dataset) (e : Entry)
+      → IsRight bytes len told cat p fs → IsKeyOf cat k d → held_at k p.entries ≡ None
+      → told' ≡ told → w' ≡ w → AreGood bytes len told' cat fs' → f ≤ f' → n' ≤ n + most_calls cat → IsBlock told' cat k e.block
+      → OnOk r (q ≡ pool_view (admitted p.capacity k e p.entries) p.capacity) → OnErr r (q ≡ p) → IsPool q
+      → Serves bytes len cat (slack_of r) (lane_state told p fs f n w l) (lane_state told' q fs' f' n' w' (l + 1))
+  serves_load (Ok v) told told' p q fs fs' f f' n n' w w' l k d e right key absent same unwritten good faults reads new kept refused valid =
+      subst (λ q. Serves bytes len cat 0 (lane_state told p fs f n w l) (lane_state told' q fs' f' n' w' (l + 1))) (sym kept) (record {
+        right = record { valid = subst IsPool kept valid; blocks = are_blocks_admitted told' cat p.capacity k e p.entries new (are_blocks_told told told' p.entries same right.blocks); good = good };
+        told = same;
+        writes = unwritten;
+        capacity = refl;
+        faults = faults;
+        loads = omega arith;
+        reads = one_load n n' l reads;
+        held = length_admitted p.capacity k e p.entries right.valid.within right.valid.some;
+        bound = λ h. let room = room_for_one told cat k d p right.valid right.blocks key absent in let m = length_admitted_new p.capacity k e p.entries absent (omega arith) in omega arith;
+      })
+  serves_load (Err d') told told' p q fs fs' f f' n n' w w' l k d e right key absent same unwritten good faults reads new kept refused valid =
+      subst (λ q. Serves bytes len cat 1 (lane_state told p fs f n w l) (lane_state told' q fs' f' n' w' (l + 1))) (sym refused) (serves_refused told told' p fs fs' f f' n n' w w' l right same unwritten good faults reads)

@@ -1,0 +1,217 @@
+use Rattle.std.proofs.Common.{◌≡◌, List, ◌+◌, ◌-◌, ◌*◌, ◌^◌, ◌<◌, ◌≤◌, ◌++◌, Some, refl, sym, ap, ◌∙◌, subst, arith, rules, length, take, drop, pos, false, replicate, map, to_z, of_z}
+use Rattle.std.specs.Prelude.{slice_get, unwrap_or}
+use Rattle.std.proofs.Math.Nat.{mul-le-mul, mul_comm}
+use Rattle.std.proofs.Math.Seq.{take-append_seam}
+use mir.Syntax.{w128}
+use borrow.Rule.Slice.PartMut.{put_mid}
+use Rattle.geotransform.specs.Types.{clamp}
+use Rattle.outside.specs.Outside.{Files}
+use Rattle.vrt_profile.specs.Values.{BandValue, SourceValue}
+use Rattle.catalog.specs.Drivers.{Dataset}
+use Rattle.catalog.specs.Walk.{IsWalked}
+use Rattle.catalog.specs.Places.{IsWithin}
+use Rattle.band_blocks.specs.Blocks.{block_view}
+use Rattle.block_cache.specs.Entries.{entry_of}
+use Rattle.nearest_window.specs.Heights.{height_at}
+use Rattle.nearest_window.specs.Right.{slack_of}
+use Rattle.nearest_window.specs.Painted.{IsPainted, first, in_columns}
+use Rattle.nearest_window.specs.Taken.{place_at}
+use Rattle.nearest_window.specs.Shown.{shown, IsShown, IsSourceOf, IsSourceShown, AreSourcesShown}
+use Rattle.nearest_window.proofs.Keys.{held_kept}
+use Rattle.nearest_window.proofs.Steps.{held_blocks, serves_moved, serves_trans, serves_keep}
+use Rattle.nearest_window.proofs.Shown.{held_size, block_shown}
+use Rattle.nearest_window.proofs.Mosaics.{sources_more, source_stands, filled_block}
+use Rattle.nearest_window.proofs.Fills.{source_unseen, source_part, columns_more, bands_more, part_length, on_ok}
+use Rattle.nearest_window.proofs.Painted.{painted_whole}
+use Rattle.nearest_window.proofs.Blocks.{around_at, in_row, from_row}
+use Rattle.nearest_window.proofs.lane.Lane.+read.Goals as goal
+
+pub hold-returns-in-Some-clause-serves : goal.hold-returns-in-Some-clause-serves
+hold-returns-in-Some-clause-serves g t c =
+    let filled = c.in_ok-block-in-Some.ensures.serves in
+    let kept = serves_keep g.F.Folder.file_bytes g.F.Folder.file_len c.args.cat.now c.keep.result (g.F.Folder.names c.fill.new.folder) c.fill.new.self.pool c.keep.new.pool c.fill.new.self.files (g.F.Folder.faults c.fill.new.folder) (g.F.Folder.read_calls c.fill.new.folder) (g.F.Folder.write_calls c.fill.new.folder) c.fill.new.loads c.args.key (entry_of c.in_ok-block-in-Some.block false) filled.right c.in_ok-block-in-Some.ensures.block c.keep.ensures.kept c.keep.ensures.refused c.keep.ensures.valid in
+    serves_trans g.F.Folder.file_bytes g.F.Folder.file_len c.args.cat.now (slack_of c.keep.result) _ _ _ filled kept
+
+pub hold-returns-in-Some-clause-held : goal.hold-returns-in-Some-clause-held
+hold-returns-in-Some-clause-held g t c = held_kept c.keep.result c.fill.new.self.pool c.keep.new.pool c.args.key (entry_of c.in_ok-block-in-Some.block false) c.keep.ensures.kept
+
+pub fill-overflow_mul-rect : goal.fill-overflow_mul-rect
+fill-overflow_mul-rect g t c =
+    let narrow = c.mosaic_rect-rect.ensures.narrow in
+    let low = c.mosaic_rect-rect.ensures.low in
+    let big : c.mosaic_rect-rect.result.w * c.mosaic_rect-rect.result.h ≤ 128 * 128 = mul-le-mul narrow low in
+    let small : c.mosaic_rect-rect.result.w * c.mosaic_rect-rect.result.h < 2 ^ 32 = omega arith in
+    search (rules, small)
+
+pub fill-paint-requires : goal.fill-paint-requires
+fill-paint-requires g t c =
+    let k = c.requires.key in
+    let right = c.loop-number.invariant.serves.right in
+    let told = c.loop-number.invariant.serves.told in
+    let walked : (m : Files) → g.F.Folder.names c.loop-number.folder ≡ Some m → IsWalked m c.args.cat.now = λ m e. c.requires.walked m (sym told ∙ e) in
+    let item : slice_get c.args.band.now.sources c.loop-number.number ≡ Some c.get-source.result.now = ap (λ (l : List SourceValue). slice_get l c.loop-number.number) (sym (ap (λ (b : BandValue). b.sources) c.band.view_is)) ∙ c.get-source.ensures.item in
+    let source : IsSourceOf c.args.cat.now c.args.key c.loop-number.number c.get-source.result.now = record { dataset = k.dataset; in_range = k.in_range; source = source_stands c.args.cat.now c.args.key c.args.band.now k c.loop-number.number c.get-source.result.now item } in
+    let fall : 6 * height_at c.args.cat.now c.args.key.file < t = (let m : 6 * height_at c.args.cat.now c.args.key.file + 1 ≡ t = c.decreases in omega arith) in
+    let within : (d : Dataset) → slice_get c.args.cat.now c.args.key.file ≡ Some d → IsWithin c.mosaic_rect-rect.result d.head.size = c.mosaic_rect-rect.ensures.within in
+    let some : 0 < c.mosaic_rect-rect.result.w = c.mosaic_rect-rect.ensures.some in
+    let size : length c.as_mut_slice-out.result.now ≡ c.mosaic_rect-rect.result.w * c.mosaic_rect-rect.result.h = ap length c.as_mut_slice-out.ensures.value ∙ c.loop-number.invariant.size in
+    search (rules, fall, right, walked, source, within, some, size)
+
+pub fill-loop-number-preserved : goal.fill-loop-number-preserved
+fill-loop-number-preserved g t c =
+    let before = c.loop-number.invariant in
+    let o = c.in_ok-paint.ensures in
+    let kept : length c.paint.new.samples ≡ length c.as_mut_slice-out.result.now = c.paint.auto.samples in
+    let l : c.loop-number.samples.len ≡ length c.paint.new.samples = sym (kept ∙ c.as_mut_slice-out.ensures.len) in
+    let whole : take c.loop-number.samples.len (c.paint.new.samples ++ drop (length c.paint.new.samples) c.loop-number.samples.items) ≡ c.paint.new.samples = ap (λ m. take m (c.paint.new.samples ++ drop (length c.paint.new.samples) c.loop-number.samples.items)) l ∙ take-append_seam c.paint.new.samples (drop (length c.paint.new.samples) c.loop-number.samples.items) in
+    let same : c.as_mut_slice-out.result.now ≡ c.loop-number.samples.items = c.as_mut_slice-out.ensures.value in
+    let item : slice_get c.args.band.now.sources c.loop-number.number ≡ Some c.get-source.result.now = ap (λ (l : List SourceValue). slice_get l c.loop-number.number) (sym (ap (λ (b : BandValue). b.sources) c.band.view_is)) ∙ c.get-source.ensures.item in
+    record {
+      serves = serves_trans g.F.Folder.file_bytes g.F.Folder.file_len c.args.cat.now 0 _ _ _ before.serves o.serves;
+      size = ap length whole ∙ kept ∙ ap length same ∙ before.size;
+      filled = λ d at. sources_more (g.F.Folder.names c.loop-number.folder) (g.F.Folder.names c.paint.new.folder) c.args.cat.now d c.args.key.band c.loop-number.number c.args.band.now.sources c.get-source.result.now c.mosaic_rect-rect.result _ c.loop-number.samples.items
+          (take c.loop-number.samples.len (c.paint.new.samples ++ drop (length c.paint.new.samples) c.loop-number.samples.items)) o.serves.told item (before.filled d at)
+          (subst (λ xs. IsSourceShown (g.F.Folder.names c.paint.new.folder) c.args.cat.now d c.args.key.band c.loop-number.number c.get-source.result.now c.mosaic_rect-rect.result c.loop-number.samples.items xs) (sym whole)
+          (subst (λ xs. IsSourceShown (g.F.Folder.names c.paint.new.folder) c.args.cat.now d c.args.key.band c.loop-number.number c.get-source.result.now c.mosaic_rect-rect.result xs c.paint.new.samples) same (o.painted d at)));
+    }
+
+pub fill-pack_clamped-requires : goal.fill-pack_clamped-requires
+fill-pack_clamped-requires g t c =
+    let narrow = c.mosaic_rect-rect.ensures.narrow in
+    let low = c.mosaic_rect-rect.ensures.low in
+    let big : c.mosaic_rect-rect.result.w * c.mosaic_rect-rect.result.h ≤ 128 * 128 = mul-le-mul narrow low in
+    let size : length c.as_slice.result.now ≡ c.mosaic_rect-rect.result.w * c.mosaic_rect-rect.result.h = ap length c.as_slice.ensures.value ∙ c.loop-number.invariant.size in
+    record { few = omega arith }
+
+pub fill-returns-clause-block : goal.fill-returns-clause-block
+fill-returns-clause-block g t c =
+    let k = c.requires.key in
+    let before = c.loop-number.invariant in
+    let rect = c.mosaic_rect-rect.result in
+    let shown = c.band.view_is in
+    let count : c.len-number-end.result ≡ length c.args.band.now.sources = c.len-number-end.ensures.count ∙ ap (λ (b : BandValue). length b.sources) shown in
+    let test = c.loop-number-test.false in
+    let nodata : to_z w128 (of_z w128 c.unwrap_or-nodata.result) ≡ unwrap_or c.args.band.now.nodata (pos 0) = (let n : to_z w128 (of_z w128 c.unwrap_or-nodata.result) ≡ c.unwrap_or-nodata.result = search rules in n ∙ c.unwrap_or-nodata.ensures ∙ ap (λ (b : BandValue). unwrap_or b.nodata (pos 0)) shown) in
+    filled_block (g.F.Folder.names c.loop-number.folder) c.args.cat.now c.args.key c.args.band.now k c.loop-number.number c.mosaic_rect-rect.result c.loop-number.samples.items c.in_ok-block.block c.count-count.ensures.valid c.rules.ensures.rules
+    (c.mosaic_rect-rect.ensures.rect k.dataset k.in_range.at) c.mosaic_rect-rect.ensures.some before.size (omega arith)
+    (subst (λ v. AreSourcesShown (g.F.Folder.names c.loop-number.folder) c.args.cat.now k.dataset c.args.key.band c.loop-number.number c.args.band.now.sources c.mosaic_rect-rect.result (replicate (c.mosaic_rect-rect.result.w * c.mosaic_rect-rect.result.h) v) c.loop-number.samples.items) nodata (before.filled k.dataset k.in_range.at))
+    (c.in_ok-block.ensures.samples ∙ ap (λ l. block_view c.band.inside.kind (map (clamp c.band.inside.kind) l)) c.as_slice.ensures.value ∙ ap (λ (b : BandValue). block_view b.kind (map (clamp b.kind) c.loop-number.samples.items)) shown)
+    c.len-len.ensures.valid
+
+pub paint-returns-in_default-clause-painted : goal.paint-returns-in_default-clause-painted
+paint-returns-in_default-clause-painted g t c = λ d at.
+    source_unseen (g.F.Folder.names c.args.folder.now) c.args.cat.now d c.args.key.band c.args.number c.args.source.now c.args.rect c.args.samples.now c.requires.some c.requires.rows (c.in_ok-picture.ensures.none c.in_default.is d at)
+
+pub paint-returns-clause-painted : goal.paint-returns-clause-painted
+paint-returns-clause-painted g t c = λ d at.
+    let seen = rw c.in-Some.is at c.in_ok-picture.ensures.seen in
+    on_ok c.paint_picture.result _ _
+    (source_part (g.F.Folder.names c.paint_picture.new.folder) c.args.cat.now d c.args.key.band c.args.number c.in-Some.picture.file c.args.source.now c.args.rect c.in-Some.picture (seen.seen d at) (λ m. seen.pixels m d at) c.requires.some c.args.samples.now c.paint_picture.new.out c.requires.rows
+    (c.in-Some.picture.top * c.in-Some.picture.stride) ((c.in-Some.picture.top + c.in-Some.picture.height) * c.in-Some.picture.stride) refl refl)
+    c.paint_picture.ensures.painted
+
+pub paint_picture-paint_band-requires-clause-band : goal.paint_picture-paint_band-requires-clause-band
+paint_picture-paint_band-requires-clause-band g t c κs within d at k low high =
+    in_row c.args.cat.now c.args.picture.now 0 c.loop-line.line c.block_around.result.key c.block_around.result.rect c.block_around.ensures.around d at (place_at c.args.picture.now.lines k)
+    (c.run_end-end.ensures.low k low (omega arith)) (c.run_end-end.ensures.edge k low (omega arith))
+
+pub paint_picture-paint_band-requires-clause-rows : goal.paint_picture-paint_band-requires-clause-rows
+paint_picture-paint_band-requires-clause-rows g t c κs within =
+    let below = c.run_end-end.ensures.below in
+    let above = c.run_end-end.ensures.above in
+    let kept = c.loop-line.auto.out in
+    let rows = c.requires.rows in
+    let big : c.run_end-end.result * c.args.picture.now.stride ≤ c.args.picture.now.height * c.args.picture.now.stride = mul-le-mul below (omega arith) in
+    part_length c.args.picture.now.stride c.loop-line.line c.run_end-end.result c.loop-line.out (omega arith) (omega arith)
+
+pub paint_picture-loop-line-preserved : goal.paint_picture-loop-line-preserved
+paint_picture-loop-line-preserved g t c =
+    let before = c.loop-line.invariant in
+    let o = c.in_ok-paint_band.ensures in
+    let below = c.run_end-end.ensures.below in
+    let above = c.run_end-end.ensures.above in
+    let kept = c.loop-line.auto.out in
+    let rows = c.requires.rows in
+    let sum : c.loop-line.line + (c.run_end-end.result - c.loop-line.line) ≡ c.run_end-end.result = omega arith in
+    let big : c.run_end-end.result * c.args.picture.now.stride ≤ c.args.picture.now.height * c.args.picture.now.stride = mul-le-mul below (omega arith) in
+    let there : (c.loop-line.line + (c.run_end-end.result - c.loop-line.line)) * c.args.picture.now.stride ≤ length c.loop-line.out = (let e : (c.loop-line.line + (c.run_end-end.result - c.loop-line.line)) * c.args.picture.now.stride ≡ c.run_end-end.result * c.args.picture.now.stride = ap (λ n. n * c.args.picture.now.stride) sum in omega arith) in
+    record {
+      serves = serves_trans g.F.Folder.file_bytes g.F.Folder.file_len c.args.cat.now 0 _ _ _ before.serves o.serves;
+      below = below;
+      painted = subst (λ n. (m : Files) → g.F.Folder.names c.paint_band.new.folder ≡ Some m → IsPainted (first (n * c.args.picture.now.stride) (in_columns c.args.picture.now.stride (c.args.picture.now.to + 0) (c.args.picture.now.to + 0 + c.args.picture.now.width) (shown m c.args.cat.now c.args.picture.now 0 0))) c.args.out.now (put_mid (c.loop-line.line * c.args.picture.now.stride) (c.run_end-end.result * c.args.picture.now.stride - c.loop-line.line * c.args.picture.now.stride) c.loop-line.out c.paint_band.new.out)) sum
+          (bands_more (g.F.Folder.names c.loop-line.folder) (g.F.Folder.names c.paint_band.new.folder) c.args.cat.now c.args.picture.now c.loop-line.line (c.run_end-end.result - c.loop-line.line) (c.loop-line.line * c.args.picture.now.stride) (c.run_end-end.result * c.args.picture.now.stride) c.args.out.now c.loop-line.out c.paint_band.new.out
+          o.serves.told refl (ap (λ n. n * c.args.picture.now.stride) (sym sum)) c.requires.picture.picture.some there before.painted o.painted);
+    }
+
+pub paint_picture-returns-clause-painted : goal.paint_picture-returns-clause-painted
+paint_picture-returns-clause-painted g t c = λ m e.
+    let before = c.loop-line.invariant in
+    let test = c.loop-line-test.false in
+    let below = before.below in
+    let rows = c.requires.rows in
+    let all : c.loop-line.line ≡ c.args.picture.now.height = omega arith in
+    let long : length c.args.out.now ≤ c.loop-line.line * c.args.picture.now.stride = (let e : c.loop-line.line * c.args.picture.now.stride ≡ c.args.picture.now.height * c.args.picture.now.stride = ap (λ n. n * c.args.picture.now.stride) all in omega arith) in
+    painted_whole _ (c.loop-line.line * c.args.picture.now.stride) c.args.out.now c.loop-line.out long (before.painted m e)
+
+pub paint_band-paint_block-requires-clause-part : goal.paint_band-paint_block-requires-clause-part
+paint_band-paint_block-requires-clause-part g t c κs within =
+    let around = c.block_around.ensures.around in
+    record {
+      dataset = around.dataset;
+      in_range = around.in_range;
+      rect_is = around.rect_is;
+      file = around.file;
+      band = around.band;
+      across = λ k low high. (c.run_end-end.ensures.low k low (omega arith), c.run_end-end.ensures.edge k low (omega arith));
+      down = λ k low high. from_row c.args.cat.now c.args.picture.now c.loop-column.column c.args.line c.block_around.result.key c.block_around.result.rect around (place_at c.args.picture.now.lines k)
+          (c.requires.band around.dataset (around_at c.args.cat.now c.args.picture.now c.loop-column.column c.args.line c.block_around.result.key c.block_around.result.rect around) k low high);
+    }
+
+pub paint_band-loop-column-preserved : goal.paint_band-loop-column-preserved
+paint_band-loop-column-preserved g t c =
+    let before = c.loop-column.invariant in
+    let o = c.in_ok-paint_block.ensures in
+    let above = c.run_end-end.ensures.above in
+    let sum : c.loop-column.column + (c.run_end-end.result - c.loop-column.column) ≡ c.run_end-end.result = omega arith in
+    record {
+      serves = serves_trans g.F.Folder.file_bytes g.F.Folder.file_len c.args.cat.now 0 _ _ _ before.serves o.serves;
+      below = c.run_end-end.ensures.below;
+      painted = subst (λ n. IsShown (g.F.Folder.names c.paint_block.new.folder) c.args.cat.now c.args.picture.now 0 n c.args.line c.args.out.now c.paint_block.new.out) sum
+          (columns_more (g.F.Folder.names c.loop-column.folder) (g.F.Folder.names c.paint_block.new.folder) c.args.cat.now c.args.picture.now c.loop-column.column (c.run_end-end.result - c.loop-column.column) c.args.line c.args.out.now c.loop-column.out c.paint_block.new.out o.serves.told before.painted o.painted);
+    }
+
+pub paint_band-returns-clause-painted : goal.paint_band-returns-clause-painted
+paint_band-returns-clause-painted g t c =
+    let before = c.loop-column.invariant in
+    let test = c.loop-column-test.false in
+    let below = before.below in
+    let all : c.loop-column.column ≡ c.args.picture.now.width = omega arith in
+    subst (λ n. IsShown (g.F.Folder.names c.loop-column.folder) c.args.cat.now c.args.picture.now 0 n c.args.line c.args.out.now c.loop-column.out) all before.painted
+
+pub paint_block-paint_held-requires-clause-held : goal.paint_block-paint_held-requires-clause-held
+paint_block-paint_held-requires-clause-held g t c =
+    let o = c.in_ok-hold.ensures in
+    held_size (g.F.Folder.names c.hold.new.folder) c.args.cat.now c.args.key c.args.rect c.args.picture.now c.args.column c.args.columns c.args.line c.args.lines c.requires.part c.hold.new.self.pool.entries (held_blocks g.F.Folder.file_bytes g.F.Folder.file_len c.args.cat.now (g.F.Folder.names c.hold.new.folder) c.hold.new.self.pool c.hold.new.self.files o.serves.right) o.held
+
+pub paint_block-returns-clause-serves : goal.paint_block-returns-clause-serves
+paint_block-returns-clause-serves g t c =
+    let o = c.in_ok-hold.ensures in
+    serves_trans g.F.Folder.file_bytes g.F.Folder.file_len c.args.cat.now 0 _ _ _ o.serves
+    (rw c.paint_held.ensures.entries (serves_moved g.F.Folder.file_bytes g.F.Folder.file_len c.args.cat.now (g.F.Folder.names c.hold.new.folder) c.hold.new.self.pool c.hold.new.self.files (g.F.Folder.faults c.hold.new.folder) (g.F.Folder.read_calls c.hold.new.folder) (g.F.Folder.write_calls c.hold.new.folder) c.hold.new.loads c.args.key o.serves.right (rw c.paint_held.ensures.entries at c.paint_held.ensures.valid)))
+
+pub paint_block-returns-clause-painted : goal.paint_block-returns-clause-painted
+paint_block-returns-clause-painted g t c =
+    let o = c.in_ok-hold.ensures in
+    let rows = c.requires.rows in
+    block_shown (g.F.Folder.names c.hold.new.folder) c.args.cat.now c.args.key c.args.rect c.args.picture.now c.args.column c.args.columns c.args.line c.args.lines c.requires.part c.hold.new.self.pool.entries c.args.out.now c.paint_held.new.out (held_blocks g.F.Folder.file_bytes g.F.Folder.file_len c.args.cat.now (g.F.Folder.names c.hold.new.folder) c.hold.new.self.pool c.hold.new.self.files o.serves.right) o.held c.requires.picture.picture.some (omega arith) c.paint_held.ensures.painted
+
+pub paint-slice_bounds-out-end : goal.paint-slice_bounds-out-end
+paint-slice_bounds-out-end g t c =
+    let p = c.in-Some.picture in
+    let rows = rw c.in-Some.is at c.in_ok-picture.ensures.rows in
+    let inside = rows.1 in
+    let big : (c.in-Some.picture.top + c.in-Some.picture.height) * c.args.rect.w ≤ c.args.rect.h * c.args.rect.w = mul-le-mul inside (omega arith) in
+    let stride : (c.in-Some.picture.top + c.in-Some.picture.height) * c.in-Some.picture.stride ≡ (c.in-Some.picture.top + c.in-Some.picture.height) * c.args.rect.w = ap (λ n. (c.in-Some.picture.top + c.in-Some.picture.height) * n) rows.0 in
+    let turned = mul_comm c.args.rect.w c.args.rect.h in
+    let size = c.requires.rows in
+    omega arith

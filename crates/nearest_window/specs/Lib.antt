@@ -1,0 +1,6 @@
+pub mod Heights
+pub mod Painted
+pub mod Pictures
+pub mod Right
+pub mod Shown
+pub mod Taken

@@ -1,0 +1,86 @@
+-- When a lane is right for a catalog and a folder, and what a call does to a lane.
+use Rattle.std.specs.Prelude.{◌≡◌, ℕ, ◌+◌, ◌*◌, ◌≤◌, List, length, Option, Some, None, Contains, Result, Ok, Err, slice_get}
+use Rattle.outside.specs.Outside.{Files}
+use Rattle.vrt_profile.specs.Values.{BandValue, DocumentValue}
+use Rattle.catalog.specs.Drivers.{Dataset, document_of}
+use Rattle.catalog.specs.Blocks.{block_pixels, all_blocks}
+use Rattle.band_blocks.specs.declared.key.BlockKey.{BlockKey}
+use Rattle.band_blocks.specs.Blocks.{BlockView}
+use Rattle.band_blocks.specs.Contents.{IsBlockOf, most_calls}
+use Rattle.band_blocks.specs.Keys.{IsKeyOf}
+use Rattle.band_blocks.specs.declared.load.LoadFault.{LoadFault}
+use Rattle.band_blocks.specs.declared.load.LoadFault.TheVariants.{FolderFault, Changed, Memory}
+use Rattle.band_blocks.specs.Open.{AreGood, TellsChange}
+use Rattle.block_cache.specs.declared.pool.Entry.{Entry}
+use Rattle.block_cache.specs.Entries.{PoolView, IsPool}
+
+-- the block is that of its key: it has the block's length and its samples are of the band's type, and over a folder
+-- that tells its files they are the block's pixels
+pub record IsBlock (told : Option Files) (cat : List Dataset) (key : BlockKey) (block : BlockView) : Type 0 where
+  pub dataset : Dataset
+  pub in_range : IsKeyOf cat key dataset
+  pub shape : IsBlockOf dataset key block
+  pub content : (m : Files) → told ≡ Some m → block.samples ≡ block_pixels m cat key.file key.band key.block
+
+-- each held block is that of its key
+abbrev pub AreBlocks : Option Files → List Dataset → List (BlockKey × Entry) → Type 0
+AreBlocks told cat entries = (key : BlockKey) (entry : Entry) → Contains entries (key, entry) → IsBlock told cat key entry.block
+
+-- a lane's pool and its open files are right
+pub record IsRight {File : Type 0} (bytes : File → Option (List ℕ)) (len : File → ℕ) (told : Option Files) (cat : List Dataset) (pool : PoolView) (files : List (ℕ × File)) : Type 0 where
+  pub valid : IsPool pool
+  pub blocks : AreBlocks told cat pool.entries
+  pub good : AreGood bytes len told cat files
+
+-- a lane with its folder and its count of loads, at one moment
+pub record LaneState (File : Type 0) : Type 0 where
+  pub told : Option Files
+  pub pool : PoolView
+  pub files : List (ℕ × File)
+  pub faults : ℕ
+  pub reads : ℕ
+  pub writes : ℕ
+  pub loads : ℕ
+
+abbrev pub lane_state : {File : Type 0} → Option Files → PoolView → List (ℕ × File) → ℕ → ℕ → ℕ → ℕ → LaneState File
+lane_state told pool files faults reads writes loads = record { told = told; pool = pool; files = files; faults = faults; reads = reads; writes = writes; loads = loads }
+
+-- What each call does to a lane. It is right afterwards, and the folder's files and count of writes are as before. No
+-- load takes more reads than the most that a block of the catalog needs. With room for all blocks, each load but the
+-- slack makes one more block held.
+pub record Serves {File : Type 0} (bytes : File → Option (List ℕ)) (len : File → ℕ) (cat : List Dataset) (slack : ℕ) (before after : LaneState File) : Type 0 where
+  pub right : IsRight bytes len after.told cat after.pool after.files
+  pub told : after.told ≡ before.told
+  pub writes : after.writes ≡ before.writes
+  pub capacity : after.pool.capacity ≡ before.pool.capacity
+  pub faults : before.faults ≤ after.faults
+  pub loads : before.loads ≤ after.loads
+  pub reads : after.reads + most_calls cat * before.loads ≤ before.reads + most_calls cat * after.loads
+  pub held : length before.pool.entries ≤ length after.pool.entries
+  pub bound : all_blocks cat ≤ before.pool.capacity → after.loads + length before.pool.entries ≤ before.loads + length after.pool.entries + slack
+
+-- a refused call may have loaded one block that isn't held
+abbrev pub slack_of : {T E : Type 0} → Result T E → ℕ
+slack_of (Ok x) = 0
+slack_of (Err e) = 1
+
+-- the key is of a block of a file
+pub record IsFileKey (cat : List Dataset) (key : BlockKey) : Type 0 where
+  pub dataset : Dataset
+  pub in_range : IsKeyOf cat key dataset
+  pub file : document_of dataset.content ≡ None
+
+-- the key is of a block of this band of a mosaic
+pub record IsMosaicKey (cat : List Dataset) (key : BlockKey) (band : BandValue) : Type 0 where
+  pub dataset : Dataset
+  pub in_range : IsKeyOf cat key dataset
+  pub document : DocumentValue
+  pub content : document_of dataset.content ≡ Some document
+  pub band_at : slice_get document.bands key.band ≡ Some band
+
+-- where the fault says that a file changed, it is that of a dataset of the catalog, and the fault says its name, the
+-- length that the walk found, and another length or none
+abbrev pub TellsChangeIn : List Dataset → LoadFault → Type 0
+TellsChangeIn cat FolderFault = Unit {0}
+TellsChangeIn cat (Changed name was now) = (id : ℕ) × (d : Dataset) × (slice_get cat id ≡ Some d) × TellsChange d (Changed name was now)
+TellsChangeIn cat Memory = Unit {0}

@@ -1,0 +1,16 @@
+// Windows of pixels of files and mosaics, through a pool that evicts.
+#![tactic(auto)]
+
+mod lane;
+mod laws;
+mod paint;
+mod picture;
+mod places;
+mod taking;
+mod targets;
+#[cfg(test)]
+mod tests;
+mod window;
+
+pub use lane::Lane;
+pub use laws::right_lanes_stay;

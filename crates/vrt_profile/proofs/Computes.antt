@@ -1,0 +1,36 @@
+-- The definitions compute on small documents.
+use Rattle.std.proofs.Common.{◌≡◌, [], ◌∷◌, None, Ok, Err, refl, codes, true}
+use Rattle.geotransform.specs.Types.{type_named}
+use Rattle.geotransform.specs.declared.types.PixelType.TheVariants.{Int16}
+use Rattle.vrt_profile.specs.Items.{item_at, tag_at, tag_front, close_at, pair_at, value_at, run, comment}
+use Rattle.vrt_profile.specs.Forest.{nodes, stop, text, element}
+use Rattle.vrt_profile.specs.Means.{dataset_by}
+use Rattle.vrt_profile.specs.Document.{markup_of, markup_means, root_at, end_at}
+use Rattle.vrt_profile.specs.declared.fault.VrtFault.TheVariants.{BadText, UnknownElement}
+
+comment_behind : item_at (codes "<!-->-->x") ≡ comment (codes "x")
+unfolding item_at
+comment_behind = refl
+
+bad_entity : item_at (codes "a&#65;") ≡ run (codes "a") (codes "&#65;")
+unfolding item_at
+bad_entity = refl
+
+small_tree : nodes 9 0 (codes "a") (codes "b<c/></a>") ≡ Ok (text (codes "b") (element 1 (record { name = codes "c"; pairs = []; empty = true }) stop stop), [])
+unfolding item_at tag_at tag_front pair_at close_at
+small_tree = refl
+
+-- an element that isn't known
+unknown : markup_means (codes "<VRTDataset rasterXSize='1' rasterYSize='1'><Foo/></VRTDataset>") ≡ Err (UnknownElement 44)
+unfolding item_at tag_at tag_front close_at pair_at value_at markup_of root_at end_at dataset_by
+unknown = refl
+
+-- a later fault of the markup counts before it
+wrong_end : markup_means (codes "<VRTDataset rasterXSize='1' rasterYSize='1'><Foo/></VRTDatase>") ≡ Err (BadText 50)
+unfolding item_at tag_at tag_front close_at pair_at value_at markup_of root_at end_at
+wrong_end = refl
+
+-- a document of one band without sources
+one_band : markup_means (codes "<VRTDataset rasterXSize='2' rasterYSize='3'><VRTRasterBand dataType='Int16'/></VRTDataset>") ≡ Ok (record { size = record { w = 2; h = 3 }; srs = None; geo = None; bands = record { kind = Int16; nodata = None; sources = [] } ∷ [] })
+unfolding item_at tag_at tag_front close_at pair_at value_at markup_of root_at end_at dataset_by type_named
+one_band = refl

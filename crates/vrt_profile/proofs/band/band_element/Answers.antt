@@ -1,0 +1,22 @@
+use Rattle.std.proofs.Common.{◌≡◌, ap, ◌∙◌, Ok, true, codes}
+use Rattle.vrt_profile.specs.Items.{attribute}
+use Rattle.vrt_profile.specs.Forest.{inner}
+use Rattle.vrt_profile.specs.Kept.{seen}
+use Rattle.vrt_profile.specs.Means.{band_step, no_band_parts, band_by, kind_in, is_placed, is_sourced}
+use Rattle.vrt_profile.specs.Views.{tag_view}
+use Rattle.vrt_profile.proofs.Reading.{read_then}
+use Rattle.vrt_profile.proofs.band.band_element.Goals as goal
+
+pub returns-in-Ok-clause-band : goal.returns-in-Ok-clause-band
+returns-in-Ok-clause-band c =
+    let tag = tag_view c.args.tag in
+    let blank = c.in-Ok.seen.blank in
+    let parts = c.in-Ok.seen.kept in
+    let kind : c.kind_in-kind.result ≡ kind_in (attribute (codes "dataType") tag.pairs) = c.kind_in-kind.ensures.kind ∙ ap kind_in c.attribute.ensures in
+    let placed : c.is_placed-placed.result ≡ is_placed c.args.number (attribute (codes "band") tag.pairs) = c.is_placed-placed.ensures.placed ∙ ap (is_placed c.args.number) c.attribute-2.ensures in
+    let sourced : c.is_sourced-sourced.result ≡ is_sourced (attribute (codes "subClass") tag.pairs) = c.is_sourced-sourced.ensures.sourced ∙ ap is_sourced c.attribute-3.ensures in
+    ap (λ z. Ok (z, c.in-Ok.rest.now)) (c.band_by.ensures.band
+    ∙ ap (λ k. band_by k c.is_placed-placed.result c.is_sourced-sourced.result blank parts) kind
+    ∙ ap (λ p. band_by (kind_in (attribute (codes "dataType") tag.pairs)) p c.is_sourced-sourced.result blank parts) placed
+    ∙ ap (λ s. band_by (kind_in (attribute (codes "dataType") tag.pairs)) (is_placed c.args.number (attribute (codes "band") tag.pairs)) s blank parts) sourced)
+    ∙ read_then (λ p. band_by (kind_in (attribute (codes "dataType") tag.pairs)) (is_placed c.args.number (attribute (codes "band") tag.pairs)) (is_sourced (attribute (codes "subClass") tag.pairs)) p.1 p.0) (seen band_step (Ok (no_band_parts c.args.taken)) true) (parts, blank) c.in-Ok.rest.now (inner c.args.total c.args.depth tag c.args.bytes.now) c.in-Ok.ensures.seen

@@ -1,0 +1,11 @@
+use Rattle.std.proofs.Common.{◌≡◌, ◌≤◌, length, Ok, true}
+use Rattle.vrt_profile.specs.Forest.{nodes, read_as}
+use Rattle.vrt_profile.specs.Kept.{seen}
+use Rattle.vrt_profile.specs.Means.{source_step, no_parts}
+use Rattle.vrt_profile.proofs.source.source_nodes.Given as goal
+
+abbrev pub invariant-items : goal.invariant-items
+invariant-items l = record { left : read_as (seen (source_step l.complex) l.seen.kept l.seen.blank) (nodes l.total l.depth l.name l.rest) ≡ read_as (seen (source_step l.complex) (Ok no_parts) true) (nodes l.total l.depth l.name l.bytes); shorter : length l.rest ≤ length l.bytes }
+
+abbrev pub decreases-items : goal.decreases-items
+decreases-items l = length l.rest

@@ -1,0 +1,83 @@
+-- Numbers in a text, alone or with marks between them.
+use Rattle.std.specs.Prelude.{ℕ, ℤ, ◌-◌, ◌*◌, not, List, [], ◌∷◌, length, take, drop, Option, Some, None, nat_lt, nat_le, ◌==◌, if◌then◌else◌, unsigned_abs}
+use Rattle.std.specs.List.{prefix_len, suffix_len}
+use Rattle.lists_and_answers.specs.Options.{◌>>=◌}
+use Rattle.geotransform.specs.Decimal.{number_of, places_of, ticks_of}
+use Rattle.vrt_profile.specs.Items.{is_white, trim_front, option_case}
+use Rattle.vrt_profile.specs.Values.{million}
+use Rattle.vrt_profile.specs.declared.rectangle.LutPair.{LutPair}
+
+-- a text without white space at its ends
+abbrev pub trim_end : List ℕ → List ℕ
+trim_end text = take (length text - suffix_len is_white text) text
+
+abbrev pub trim : List ℕ → List ℕ
+trim text = trim_end (trim_front text)
+
+-- a whole text: one to nine digits
+abbrev pub whole_text : List ℕ → Option ℕ
+whole_text text = if nat_le (length text) 9 then number_of text else None
+
+-- what stands before the first byte b, and what behind it
+abbrev pub length_before : ℕ → List ℕ → ℕ
+length_before b text = prefix_len (λ c. not (c == b)) text
+
+abbrev pub cut_by : List ℕ → List ℕ → Option (List ℕ × List ℕ)
+cut_by front [] = None
+cut_by front (c ∷ cs) = Some (front, cs)
+
+abbrev pub cut_at : ℕ → List ℕ → Option (List ℕ × List ℕ)
+cut_at b text = cut_by (take (length_before b text) text) (drop (length_before b text) text)
+
+-- A pair of a lookup table, in millionths: two numbers with a colon between them.
+abbrev pub near_by : Option ℤ → Option ℤ
+near_by None = None
+near_by (Some v) = if nat_lt (unsigned_abs v) (5000000000 * million) then Some v else None
+
+abbrev pub near_number : List ℕ → Option ℤ
+near_number text = near_by (places_of 6 (trim text))
+
+unfoldable pub pair_of : List ℕ → Option LutPair
+pair_of text = do
+  x ← cut_at 58 text
+  input ← near_number x.0
+  output ← near_number x.1
+  Some (record { input = input; output = output })
+
+-- what stands before the first comma, or all, and what stands behind that comma
+abbrev pub first_piece : List ℕ → List ℕ × Option (List ℕ)
+first_piece text = option_case (cut_at 44 text) (text, None) (λ x. (x.0, Some x.1))
+
+-- the pieces between the bytes b
+abbrev pub onto : ℕ → List (List ℕ) → List (List ℕ)
+onto c [] = (c ∷ []) ∷ []
+onto c (piece ∷ pieces) = (c ∷ piece) ∷ pieces
+
+abbrev pub pieces : ℕ → List ℕ → List (List ℕ)
+pieces b [] = [] ∷ []
+pieces b (c ∷ cs) = if c == b then [] ∷ pieces b cs else onto c (pieces b cs)
+
+-- Six numbers of a geotransform with commas between them, in their order.
+pub record Six : Type 0 where
+  pub ox : ℤ
+  pub dx : ℤ
+  pub rx : ℤ
+  pub oy : ℤ
+  pub ry : ℤ
+  pub dy : ℤ
+
+unfoldable pub ticks_then : List ℕ → Option (ℤ × List ℕ)
+ticks_then text = do
+  x ← cut_at 44 text
+  v ← ticks_of (trim x.0)
+  Some (v, x.1)
+
+unfoldable pub six_of : List ℕ → Option Six
+six_of text = do
+  ox ← ticks_then text
+  dx ← ticks_then ox.1
+  rx ← ticks_then dx.1
+  oy ← ticks_then rx.1
+  ry ← ticks_then oy.1
+  dy ← ticks_of (trim ry.1)
+  Some (record { ox = ox.0; dx = dx.0; rx = rx.0; oy = oy.0; ry = ry.0; dy = dy })

@@ -1,0 +1,349 @@
+-- What document a tree means: element by element, in their order.
+use Rattle.std.specs.Prelude.{ℕ, ℤ, pos, suc, ◌+◌, Bool, true, false, ◌&&◌, ◌||◌, List, [], ◌∷◌, ◌++◌, length, Option, Some, None, Result, Ok, Err, ◌==◌, nat_le, if◌then◌else◌, codes}
+use Rattle.std.specs.Str.{is_utf8}
+use Rattle.std.specs.Option.{unwrap_or}
+use Rattle.lists_and_answers.specs.Answers.{◌>>=◌}
+use Rattle.geotransform.specs.Decimal.{whole_of}
+use Rattle.geotransform.specs.Geo.{Transform}
+use Rattle.geotransform.specs.Types.{is_in, is_same, type_named}
+use Rattle.geotransform.specs.declared.types.PixelType.{PixelType}
+use Rattle.geotransform.specs.declared.types.PixelType.TheVariants.{Byte}
+use Rattle.vrt_profile.specs.Items.{Tag, is_equal, attribute, is_some}
+use Rattle.vrt_profile.specs.Fields.{trim, whole_text}
+use Rattle.vrt_profile.specs.Numbers.{or_fault, side_in, offset_in, size_in, band_number, scale_of, lut_of, geo_of}
+use Rattle.vrt_profile.specs.Forest.{Forest, over, all_blank, text_of, child_of}
+use Rattle.vrt_profile.specs.Kept.{no_child}
+use Rattle.vrt_profile.specs.Values.{trillion, Rectangle, SourceValue, BandValue, DocumentValue}
+use Rattle.vrt_profile.specs.declared.rectangle.LutPair.{LutPair}
+use Rattle.vrt_profile.specs.declared.parts.SourcePart.{SourcePart}
+use Rattle.vrt_profile.specs.declared.parts.SourcePart.TheVariants as source_part
+use Rattle.vrt_profile.specs.declared.parts.NumberPart.{NumberPart}
+use Rattle.vrt_profile.specs.declared.parts.NumberPart.TheVariants as number_part
+use Rattle.vrt_profile.specs.declared.parts.BandPart.{BandPart}
+use Rattle.vrt_profile.specs.declared.parts.BandPart.TheVariants as band_part
+use Rattle.vrt_profile.specs.declared.parts.DatasetPart.{DatasetPart}
+use Rattle.vrt_profile.specs.declared.parts.DatasetPart.TheVariants as dataset_part
+use Rattle.vrt_profile.specs.declared.fault.VrtFault.{VrtFault}
+use Rattle.vrt_profile.specs.declared.fault.VrtFault.TheVariants.{UnknownElement, MissingPart, BadNumber, Unsupported, Limit}
+
+-- Names of elements. In VRTDataset and VRTRasterBand these are read past.
+abbrev pub is_remark : List ℕ → Bool
+is_remark name =
+    is_equal name (codes "Metadata") || (is_equal name (codes "Description") || (is_equal name (codes "UnitType") ||
+    (is_equal name (codes "Offset") || is_equal name (codes "Scale"))))
+
+abbrev pub is_picture : List ℕ → Bool
+is_picture name =
+    is_equal name (codes "ColorInterp") || (is_equal name (codes "ColorTable") || (is_equal name (codes "CategoryNames") ||
+    (is_equal name (codes "Histograms") || is_equal name (codes "OverviewList"))))
+
+abbrev pub is_past : List ℕ → Bool
+is_past name = is_remark name || is_picture name
+
+abbrev pub dataset_part_of : List ℕ → DatasetPart
+dataset_part_of name =
+    if is_equal name (codes "SRS") then dataset_part.Srs else (
+    if is_equal name (codes "GeoTransform") then dataset_part.Geo else (
+    if is_equal name (codes "VRTRasterBand") then dataset_part.Band else (
+    if is_past name then dataset_part.Past else dataset_part.Unknown)))
+
+abbrev pub band_part_of : List ℕ → BandPart
+band_part_of name =
+    if is_equal name (codes "NoDataValue") then band_part.NoData else (
+    if is_equal name (codes "SimpleSource") then band_part.Simple else (
+    if is_equal name (codes "ComplexSource") then band_part.Complex else (
+    if is_past name then band_part.Past else band_part.Unknown)))
+
+-- what changes a pixel's value: in a SimpleSource it is read past
+abbrev pub scaling_part : Bool → NumberPart → SourcePart
+scaling_part complex part = if complex then source_part.Number part else source_part.Past
+
+abbrev pub source_part_of : Bool → List ℕ → SourcePart
+source_part_of complex name =
+    if is_equal name (codes "SourceFilename") then source_part.File else (
+    if is_equal name (codes "SourceBand") then source_part.Number number_part.Band else (
+    if is_equal name (codes "SourceProperties") then source_part.Past else (
+    if is_equal name (codes "SrcRect") then source_part.Src else (
+    if is_equal name (codes "DstRect") then source_part.Dst else (
+    if is_equal name (codes "NODATA") then scaling_part complex number_part.NoData else (
+    if is_equal name (codes "ScaleOffset") then scaling_part complex number_part.Offset else (
+    if is_equal name (codes "ScaleRatio") then scaling_part complex number_part.Ratio else (
+    if is_equal name (codes "LUT") then scaling_part complex number_part.Lut else source_part.Unknown))))))))
+
+-- In an element that holds text or attributes alone any element is unknown.
+abbrev pub childless : {A : Type 0} → Option ℕ → A → Result A VrtFault
+childless None x = Ok x
+childless (Some place) x = Err (UnknownElement place)
+
+-- an element's text, judged first, then a child of it
+abbrev pub judged : {A : Type 0} → Result A VrtFault → Option ℕ → Result A VrtFault
+judged value child = value >>= childless child
+
+-- A text that is kept. In a file that is UTF-8 each run of text is.
+abbrev pub kept_text : List ℕ → Result (List ℕ) VrtFault
+kept_text text = if is_utf8 text then Ok text else Err Unsupported
+
+-- SourceFilename: the flag first, then what stands in it
+pub record File : Type 0 where
+  pub relative : Bool
+  pub name : List ℕ
+
+abbrev pub flag_by : List ℕ → Result Bool VrtFault
+flag_by text = if is_equal text (codes "0") then Ok false else (if is_equal text (codes "1") then Ok true else Err BadNumber)
+
+abbrev pub flag_in : Option (List ℕ) → Result Bool VrtFault
+flag_in None = Ok false
+flag_in (Some text) = flag_by text
+
+abbrev pub file_when : Result Bool VrtFault → Result (List ℕ) VrtFault → Result File VrtFault
+file_when flag text = flag >>= λ relative. text >>= λ name. Ok (record { relative = relative; name = name })
+
+abbrev pub file_by : Result Bool VrtFault → List ℕ → Option ℕ → Result File VrtFault
+file_by flag text child = file_when flag (judged (kept_text text) child)
+
+abbrev pub file_of : Tag → Forest → Result File VrtFault
+file_of tag inside = file_by (flag_in (attribute (codes "relativeToVRT") tag.pairs)) (text_of inside) (child_of inside)
+
+-- SrcRect and DstRect: their attributes in order, then text, then a child
+abbrev pub rect_end : Bool → Result Bool VrtFault → Rectangle → Result Rectangle VrtFault
+rect_end blank children r = if blank then (children >>= λ x. Ok r) else Err Unsupported
+
+unfoldable pub rect_by : Result ℤ VrtFault → Result ℤ VrtFault → Result ℤ VrtFault → Result ℤ VrtFault → Bool → Result Bool VrtFault → Result Rectangle VrtFault
+rect_by x y w h blank children = do
+  x ← x
+  y ← y
+  w ← w
+  h ← h
+  rect_end blank children (record { x = x; y = y; w = w; h = h })
+
+abbrev pub rect_of : Tag → Forest → Result Rectangle VrtFault
+rect_of tag inside = rect_by (offset_in (attribute (codes "xOff") tag.pairs)) (offset_in (attribute (codes "yOff") tag.pairs)) (size_in (attribute (codes "xSize") tag.pairs)) (size_in (attribute (codes "ySize") tag.pairs)) (all_blank inside) (over no_child true inside)
+
+-- elements whose text is a number
+abbrev pub source_band_by : List ℕ → Option ℕ → Result ℕ VrtFault
+source_band_by text child = judged (band_number (trim text)) child
+
+abbrev pub nodata_by : List ℕ → Option ℕ → Result (Option ℤ) VrtFault
+nodata_by text child = childless child (whole_of (trim text))
+
+abbrev pub scale_text : List ℕ → Option ℕ → Result ℤ VrtFault
+scale_text text child = judged (scale_of text) child
+
+abbrev pub lut_by : List ℕ → Option ℕ → Result (List LutPair) VrtFault
+lut_by text child = judged (lut_of text) child
+
+-- A source: what is read of it so far, one element after the other.
+pub record SourceParts : Type 0 where
+  pub file : Option File
+  pub band : Option ℕ
+  pub src : Option Rectangle
+  pub dst : Option Rectangle
+  pub nodata : Option (Option ℤ)
+  pub offset : Option ℤ
+  pub ratio : Option ℤ
+  pub lut : Option (List LutPair)
+
+abbrev pub no_parts : SourceParts
+no_parts = record { file = None; band = None; src = None; dst = None; nodata = None; offset = None; ratio = None; lut = None }
+
+-- a part that may stand once
+abbrev pub once : {A B : Type 0} → Option A → Result A VrtFault → (A → B) → Result B VrtFault
+once (Some x) new put = Err Unsupported
+once None (Ok x) put = Ok (put x)
+once None (Err e) put = Err e
+
+-- the parts with one more
+abbrev pub with_file : SourceParts → Result File VrtFault → Result SourceParts VrtFault
+with_file s new = once s.file new (λ x. record s { file = Some x })
+
+abbrev pub with_band : SourceParts → Result ℕ VrtFault → Result SourceParts VrtFault
+with_band s new = once s.band new (λ x. record s { band = Some x })
+
+abbrev pub with_src : SourceParts → Result Rectangle VrtFault → Result SourceParts VrtFault
+with_src s new = once s.src new (λ x. record s { src = Some x })
+
+abbrev pub with_dst : SourceParts → Result Rectangle VrtFault → Result SourceParts VrtFault
+with_dst s new = once s.dst new (λ x. record s { dst = Some x })
+
+abbrev pub with_nodata : SourceParts → Result (Option ℤ) VrtFault → Result SourceParts VrtFault
+with_nodata s new = once s.nodata new (λ x. record s { nodata = Some x })
+
+abbrev pub with_offset : SourceParts → Result ℤ VrtFault → Result SourceParts VrtFault
+with_offset s new = once s.offset new (λ x. record s { offset = Some x })
+
+abbrev pub with_ratio : SourceParts → Result ℤ VrtFault → Result SourceParts VrtFault
+with_ratio s new = once s.ratio new (λ x. record s { ratio = Some x })
+
+abbrev pub with_lut : SourceParts → Result (List LutPair) VrtFault → Result SourceParts VrtFault
+with_lut s new = once s.lut new (λ x. record s { lut = Some x })
+
+abbrev pub number_parts : SourceParts → List ℕ → Option ℕ → NumberPart → Result SourceParts VrtFault
+number_parts s text child number_part.Band = with_band s (source_band_by text child)
+number_parts s text child number_part.NoData = with_nodata s (nodata_by text child)
+number_parts s text child number_part.Offset = with_offset s (scale_text text child)
+number_parts s text child number_part.Ratio = with_ratio s (scale_text text child)
+number_parts s text child number_part.Lut = with_lut s (lut_by text child)
+
+abbrev pub source_parts : SourceParts → ℕ → Tag → Forest → SourcePart → Result SourceParts VrtFault
+source_parts s place tag inside source_part.File = with_file s (file_of tag inside)
+source_parts s place tag inside source_part.Src = with_src s (rect_of tag inside)
+source_parts s place tag inside source_part.Dst = with_dst s (rect_of tag inside)
+source_parts s place tag inside (source_part.Number part) = number_parts s (text_of inside) (child_of inside) part
+source_parts s place tag inside source_part.Past = Ok s
+source_parts s place tag inside source_part.Unknown = Err (UnknownElement place)
+
+abbrev pub source_step : Bool → SourceParts → ℕ → Tag → Forest → Result SourceParts VrtFault
+source_step complex s place tag inside = source_parts s place tag inside (source_part_of complex tag.name)
+
+-- an element that stands and has a value
+abbrev pub value_in : Option (Option ℤ) → Option ℤ
+value_in None = None
+value_in (Some value) = value
+
+-- only a complex source changes pixels
+abbrev pub source_from : Bool → File → SourceParts → SourceValue
+source_from complex file p = record {
+  complex = complex;
+  relative = file.relative;
+  file = file.name;
+  band = unwrap_or p.band 1;
+  src = p.src;
+  dst = p.dst;
+  nodata = if complex then value_in p.nodata else None;
+  offset = if complex then unwrap_or p.offset (pos 0) else pos 0;
+  ratio = if complex then unwrap_or p.ratio (pos trillion) else pos trillion;
+  lut = if complex then p.lut else None;
+}
+
+-- the file's name is needed, and not empty
+abbrev pub source_named : Bool → SourceParts → Option File → Result SourceValue VrtFault
+source_named complex p None = Err MissingPart
+source_named complex p (Some file) = if length file.name == 0 then Err MissingPart else Ok (source_from complex file p)
+
+abbrev pub source_end : Bool → SourceParts → Result SourceValue VrtFault
+source_end complex p = source_named complex p p.file
+
+-- whether two texts are the same but for the case of ASCII letters
+abbrev pub is_like : List ℕ → List ℕ → Bool
+is_like a b = is_same true a b
+
+abbrev pub is_near : Option (List ℕ) → Bool
+is_near None = true
+is_near (Some text) = is_like text (codes "nearest") || is_like text (codes "near")
+
+-- in order: its attributes, text in it, its children, what is missing
+abbrev pub source_by : Bool → Bool → Bool → Result SourceParts VrtFault → Result SourceValue VrtFault
+source_by complex near blank parts = if near then (if blank then (parts >>= source_end complex) else Err Unsupported) else Err Unsupported
+
+abbrev pub source_of : Bool → Tag → Forest → Result SourceValue VrtFault
+source_of complex tag inside = source_by complex (is_near (attribute (codes "resampling") tag.pairs)) (all_blank inside) (over (source_step complex) no_parts inside)
+
+-- A band: what is read of it so far, where so many sources were taken before it.
+pub record BandParts : Type 0 where
+  pub taken : ℕ
+  pub nodata : Option (Option ℤ)
+  pub sources : List SourceValue
+
+abbrev pub no_band_parts : ℕ → BandParts
+no_band_parts taken = record { taken = taken; nodata = None; sources = [] }
+
+abbrev pub with_no_data_value : BandParts → Result (Option ℤ) VrtFault → Result BandParts VrtFault
+with_no_data_value s new = once s.nodata new (λ x. record s { nodata = Some x })
+
+-- a source past the limit is found before anything else of it
+abbrev pub with_source : BandParts → Result SourceValue VrtFault → Result BandParts VrtFault
+with_source s source = if nat_le 262144 (s.taken + length s.sources) then Err Limit else (source >>= λ x. Ok (record s { sources = s.sources ++ x ∷ [] }))
+
+abbrev pub band_parts : BandParts → ℕ → Tag → Forest → BandPart → Result BandParts VrtFault
+band_parts s place tag inside band_part.NoData = with_no_data_value s (nodata_by (text_of inside) (child_of inside))
+band_parts s place tag inside band_part.Simple = with_source s (source_of false tag inside)
+band_parts s place tag inside band_part.Complex = with_source s (source_of true tag inside)
+band_parts s place tag inside band_part.Past = Ok s
+band_parts s place tag inside band_part.Unknown = Err (UnknownElement place)
+
+abbrev pub band_step : BandParts → ℕ → Tag → Forest → Result BandParts VrtFault
+band_step s place tag inside = band_parts s place tag inside (band_part_of tag.name)
+
+abbrev pub kind_in : Option (List ℕ) → Result PixelType VrtFault
+kind_in None = Ok Byte
+kind_in (Some text) = or_fault Unsupported (type_named false text)
+
+-- `band`, where it stands, is the band's place, from 1
+abbrev pub is_number : ℕ → Option ℕ → Bool
+is_number number None = false
+is_number number (Some n) = n == number
+
+abbrev pub is_placed : ℕ → Option (List ℕ) → Bool
+is_placed number None = true
+is_placed number (Some text) = is_number number (whole_text text)
+
+abbrev pub is_sourced : Option (List ℕ) → Bool
+is_sourced None = true
+is_sourced (Some text) = is_equal text (codes "VRTSourcedRasterBand")
+
+-- a NODATA that the type doesn't hold is none
+abbrev pub nodata_of : PixelType → Option ℤ → Option ℤ
+nodata_of kind None = None
+nodata_of kind (Some n) = if is_in kind n then Some n else None
+
+abbrev pub band_end : PixelType → BandParts → Result BandValue VrtFault
+band_end kind p = Ok (record { kind = kind; nodata = nodata_of kind (value_in p.nodata); sources = p.sources })
+
+abbrev pub band_by : Result PixelType VrtFault → Bool → Bool → Bool → Result BandParts VrtFault → Result BandValue VrtFault
+band_by kind placed sourced blank parts =
+    kind >>= λ k. if placed then (if sourced && blank then (parts >>= band_end k) else Err Unsupported) else Err BadNumber
+
+abbrev pub band_of : ℕ → ℕ → Tag → Forest → Result BandValue VrtFault
+band_of number taken tag inside = band_by (kind_in (attribute (codes "dataType") tag.pairs)) (is_placed number (attribute (codes "band") tag.pairs)) (is_sourced (attribute (codes "subClass") tag.pairs)) (all_blank inside) (over band_step (no_band_parts taken) inside)
+
+-- The dataset: what is read of it so far.
+pub record DatasetParts : Type 0 where
+  pub srs : Option (List ℕ)
+  pub geo : Option Transform
+  pub bands : List BandValue
+  -- the sources of these bands
+  pub taken : ℕ
+
+abbrev pub no_dataset_parts : DatasetParts
+no_dataset_parts = record { srs = None; geo = None; bands = []; taken = 0 }
+
+abbrev pub with_srs : DatasetParts → Result (List ℕ) VrtFault → Result DatasetParts VrtFault
+with_srs s new = once s.srs new (λ x. record s { srs = Some x })
+
+abbrev pub with_geo : DatasetParts → Result Transform VrtFault → Result DatasetParts VrtFault
+with_geo s new = once s.geo new (λ x. record s { geo = Some x })
+
+-- a band past the limit is found before anything else of it
+abbrev pub with_raster_band : DatasetParts → Result BandValue VrtFault → Result DatasetParts VrtFault
+with_raster_band s band = if nat_le 256 (length s.bands) then Err Limit else (band >>= λ b. Ok (record s { bands = s.bands ++ b ∷ []; taken = s.taken + length b.sources }))
+
+abbrev pub srs_by : List ℕ → Option ℕ → Result (List ℕ) VrtFault
+srs_by text child = judged (kept_text text) child
+
+abbrev pub geo_by : List ℕ → Option ℕ → Result Transform VrtFault
+geo_by text child = judged (geo_of text) child
+
+abbrev pub dataset_parts : DatasetParts → ℕ → Tag → Forest → DatasetPart → Result DatasetParts VrtFault
+dataset_parts s place tag inside dataset_part.Srs = with_srs s (srs_by (text_of inside) (child_of inside))
+dataset_parts s place tag inside dataset_part.Geo = with_geo s (geo_by (text_of inside) (child_of inside))
+dataset_parts s place tag inside dataset_part.Band = with_raster_band s (band_of (suc (length s.bands)) s.taken tag inside)
+dataset_parts s place tag inside dataset_part.Past = Ok s
+dataset_parts s place tag inside dataset_part.Unknown = Err (UnknownElement place)
+
+abbrev pub dataset_step : DatasetParts → ℕ → Tag → Forest → Result DatasetParts VrtFault
+dataset_step s place tag inside = dataset_parts s place tag inside (dataset_part_of tag.name)
+
+abbrev pub dataset_end : ℕ → ℕ → DatasetParts → Result DocumentValue VrtFault
+dataset_end w h p = if length p.bands == 0 then Err MissingPart else Ok (record { size = record { w = w; h = h }; srs = p.srs; geo = p.geo; bands = p.bands })
+
+unfoldable pub dataset_by : Result ℕ VrtFault → Result ℕ VrtFault → Bool → Bool → Result DatasetParts VrtFault → Result DocumentValue VrtFault
+dataset_by w h derived blank parts = do
+  w ← w
+  h ← h
+  if derived then Err Unsupported else (if blank then (parts >>= dataset_end w h) else Err Unsupported)
+
+abbrev pub dataset_of : Tag → Forest → Result DocumentValue VrtFault
+dataset_of tag inside = dataset_by (side_in (attribute (codes "rasterXSize") tag.pairs)) (side_in (attribute (codes "rasterYSize") tag.pairs)) (is_some (attribute (codes "subClass") tag.pairs)) (all_blank inside) (over dataset_step no_dataset_parts inside)
+
+abbrev pub root_of : ℕ → Tag → Forest → Result DocumentValue VrtFault
+root_of place tag inside = if is_equal tag.name (codes "VRTDataset") then dataset_of tag inside else Err (UnknownElement place)

@@ -1,0 +1,117 @@
+// A VRT document: a raster of bands, each of which is made of sources.
+ghost use Rattle.vrt_profile.specs.Values.{IsSource, IsBand, IsDocument};
+
+use crate::rectangle::{Lut, MicroRect};
+use geotransform::{GeoTransform, PixelType, Sample, Size};
+use lists_and_answers::Items;
+use outside::Text;
+use std::marker::Model;
+
+/// A source of a band: a band of another dataset, a part of which is put to a part of the mosaic. It
+/// keeps each rule of a source by itself: the file's text isn't empty, the band is from 1 to 256, and
+/// a source that isn't complex has no NODATA, offset 0, ratio 10^12 and no table.
+#[derive(Drop)]
+pub struct Source {
+    /// Whether it is a ComplexSource.
+    pub complex: bool,
+    /// Whether the file's text is relative to the document.
+    pub relative: bool,
+    pub file: Text,
+    /// The band of the file, counted from 1.
+    pub band: u32,
+    /// The part of the source; the whole of it where there is none.
+    pub src: Option<MicroRect>,
+    /// The part of the mosaic; the whole of it where there is none.
+    pub dst: Option<MicroRect>,
+    /// The pixel that gives nothing, below 10^20 in magnitude.
+    pub nodata: Option<i128>,
+    /// What is added to a scaled pixel, in parts of 10^12, below 10^12 in magnitude.
+    pub offset: i128,
+    /// What a pixel is scaled by, in parts of 10^12, below 10^12 in magnitude.
+    pub ratio: i128,
+    pub lut: Option<Lut>,
+}
+
+impl Model for Source {
+    ghost use Rattle.vrt_profile.specs.Values.{SourceValue, IsSource};
+
+    ghost Value = { SourceValue };
+
+    ghost view = { λ s. record { complex = s.complex; relative = s.relative; file = s.file; band = s.band; src = s.src; dst = s.dst; nodata = s.nodata; offset = s.offset; ratio = s.ratio; lut = s.lut } };
+
+    ghost invariant = { λ s. IsSource (record { complex = s.complex; relative = s.relative; file = s.file; band = s.band; src = s.src; dst = s.dst; nodata = s.nodata; offset = s.offset; ratio = s.ratio; lut = s.lut }) };
+}
+
+/// The sources of a band, the last of which counts most.
+pub type Sources = Items<Source>;
+
+/// A band: the type of its samples, its NODATA, which is a number of the type, and its sources.
+#[derive(Drop)]
+pub struct VrtBand {
+    pub kind: PixelType,
+    pub nodata: Option<Sample>,
+    pub sources: Sources,
+}
+
+impl Model for VrtBand {
+    ghost use Rattle.vrt_profile.specs.Values.{BandValue, IsBand};
+
+    ghost Value = { BandValue };
+
+    ghost view = { λ b. record { kind = b.kind; nodata = b.nodata; sources = b.sources } };
+
+    ghost invariant = { λ b. IsBand (record { kind = b.kind; nodata = b.nodata; sources = b.sources }) };
+}
+
+/// The bands of a document, in order.
+pub type VrtBands = Items<VrtBand>;
+
+/// A document. It keeps each limit and each rule of a document: the sides are from 1 to 4,194,304, the
+/// bands from 1 to 256, and all bands together have at most 262,144 sources. The numbers of the
+/// geotransform are multiples of 18 ticks.
+#[derive(Drop)]
+pub struct Document {
+    /// Columns and lines.
+    pub size: Size,
+    /// The text of the spatial reference system, which may be empty.
+    pub srs: Option<Text>,
+    pub geo: Option<GeoTransform>,
+    pub bands: VrtBands,
+}
+
+impl Model for Document {
+    ghost use Rattle.vrt_profile.specs.Values.{DocumentValue, IsDocument};
+
+    ghost Value = { DocumentValue };
+
+    ghost view = { λ d. record { size = d.size; srs = d.srs; geo = d.geo; bands = d.bands } };
+
+    ghost invariant = { λ d. IsDocument (record { size = d.size; srs = d.srs; geo = d.geo; bands = d.bands }) };
+}
+
+impl Source {
+    /// The rules that each source keeps.
+    pub fn rules(&self)
+        ensures rules { IsSource self.now }
+    {
+        let _band = &self.band;
+    }
+}
+
+impl VrtBand {
+    /// The rules that each band keeps.
+    pub fn rules(&self)
+        ensures rules { IsBand self.now }
+    {
+        let _kind = &self.kind;
+    }
+}
+
+impl Document {
+    /// The rules that each document keeps.
+    pub fn rules(&self)
+        ensures rules { IsDocument self.now }
+    {
+        let _size = &self.size;
+    }
+}

@@ -1,0 +1,45 @@
+// Texts that a document keeps.
+ghost use Rattle.std.specs.Prelude.{◌≡◌, Ok, List, Result, IfOk, IsUtf8};
+ghost use Rattle.vrt_profile.specs.Means.{kept_text, judged};
+ghost use Rattle.vrt_profile.specs.Kept.{Gives};
+
+use crate::fault::VrtFault;
+use crate::text::Words;
+use outside::Text;
+use std::alloc::Global;
+use std::str;
+
+// The text of these bytes.
+#[tactic(auto, using(crate::proofs::Utf8::is_text, crate::proofs::Utf8::is_no_text))]
+fn kept_text(alloc: Global, bytes: &[u8]) -> Result<Result<Text, VrtFault>, VrtFault>
+    ensures text { Gives (λ x. x) result (Ok (kept_text bytes.now)) }
+{
+    match str::from_utf8(bytes) {
+        Ok(text) => match Text::new(alloc, text) {
+            Ok(text) => Ok(Ok(text)),
+            Err(_) => Err(VrtFault::Memory),
+        },
+        Err(_) => Ok(Err(VrtFault::Unsupported)),
+    }
+}
+
+/// The text in an element that holds text alone.
+pub fn text_by(alloc: Global, words: &Words) -> Result<Result<Text, VrtFault>, VrtFault>
+    ensures text { Gives (λ x. x) result (Ok (judged (kept_text words.now.text.items) words.now.child)) }
+{
+    match kept_text(alloc, &words.text) {
+        Ok(Ok(text)) => match words.child {
+            None => Ok(Ok(text)),
+            Some(place) => Ok(Err(VrtFault::UnknownElement(place))),
+        },
+        Ok(Err(fault)) => Ok(Err(fault)),
+        Err(error) => Err(error),
+    }
+}
+
+/// A text is UTF-8.
+pub fn text_rules(text: &Text)
+    ensures utf8 { IsUtf8 text.now }
+{
+    let _text = text.as_str();
+}

@@ -1,0 +1,106 @@
+// Lookup tables.
+ghost use Rattle.std.specs.Prelude.{◌≡◌, ◌<◌, ◌++◌, [], ◌∷◌, Ok, List, length, IfOk, IfSome};
+ghost use Rattle.std.specs.Option.{option_map};
+ghost use Rattle.vrt_profile.specs.Values.{IsPair, IsLut};
+ghost use Rattle.vrt_profile.specs.Fields.{pieces, first_piece};
+ghost use Rattle.vrt_profile.specs.Numbers.{is_above, rising_pair, next_pair, lut_from, lut_of};
+ghost use Rattle.vrt_profile.specs.Kept.{Gives};
+
+use crate::fault::VrtFault;
+use crate::fields::{cut_at, pair_of};
+use crate::rectangle::{Lut, LutPair};
+use lists_and_answers::Items;
+use std::alloc::Global;
+
+// Whether the pair's input is above that of the last pair.
+fn is_above(last: Option<LutPair>, pair: LutPair) -> bool
+    ensures above { result ≡ is_above last pair }
+{
+    match last {
+        None => true,
+        Some(last) => last.input < pair.input,
+    }
+}
+
+fn rising_pair(last: Option<LutPair>, pair: LutPair) -> Result<LutPair, VrtFault>
+    ensures pair { result ≡ rising_pair last pair }
+{
+    if is_above(last, pair) {
+        Ok(pair)
+    } else {
+        Err(VrtFault::BadNumber)
+    }
+}
+
+// The pair that a piece gives behind `count` others.
+fn next_pair(count: usize, last: Option<LutPair>, piece: &[u8]) -> Result<LutPair, VrtFault>
+    ensures pair { result ≡ next_pair count last piece.now }
+{
+    if count >= 65_536 {
+        return Err(VrtFault::Limit);
+    }
+    match pair_of(piece) {
+        Some(pair) => rising_pair(last, pair),
+        None => Err(VrtFault::BadNumber),
+    }
+}
+
+// The pairs with one more.
+fn with_pair(pairs: Items<LutPair>, pair: LutPair) -> Result<Items<LutPair>, VrtFault>
+    ensures longer { Gives (λ x. x) result (Ok (pairs ++ pair ∷ [])) }
+{
+    let mut pairs = pairs;
+    match pairs.push(pair) {
+        Ok(()) => Ok(pairs),
+        Err(_) => Err(VrtFault::Memory),
+    }
+}
+
+// What stands before the first comma, or all, and what stands behind that comma.
+fn first_piece(text: &[u8]) -> (&[u8], Option<&[u8]>)
+    ensures piece { (result.0.now, option_map (λ r. r.now) result.1) ≡ first_piece text.now }
+    ensures shorter { IfSome result.1 (λ r. length r.now < length text.now) }
+{
+    match cut_at(text, b',') {
+        Some((piece, behind)) => (piece, Some(behind)),
+        None => (text, None),
+    }
+}
+
+// The pairs of a table, or its first fault.
+fn pairs_of(alloc: Global, text: &[u8]) -> Result<Result<Items<LutPair>, VrtFault>, VrtFault>
+    ensures pairs { Gives (λ x. x) result (Ok (lut_of text.now)) }
+{
+    let mut pairs = Items::new(alloc);
+    let mut last = None;
+    let mut rest = text;
+    'pieces: loop {
+        let (piece, more) = first_piece(rest);
+        let pair = match next_pair(pairs.len(), last, piece) {
+            Ok(pair) => pair,
+            Err(fault) => return Ok(Err(fault)),
+        };
+        match with_pair(pairs, pair) {
+            Err(error) => return Err(error),
+            Ok(longer) => match more {
+                None => return Ok(Ok(longer)),
+                Some(behind) => {
+                    pairs = longer;
+                    last = Some(pair);
+                    rest = behind;
+                }
+            },
+        }
+    }
+}
+
+/// A lookup table: pairs with commas between them.
+pub fn lut_of(alloc: Global, text: &[u8]) -> Result<Result<Lut, VrtFault>, VrtFault>
+    ensures table { Gives (λ x. x) result (Ok (lut_of text.now)) }
+{
+    match pairs_of(alloc, text) {
+        Ok(Ok(pairs)) => Ok(Ok(Lut::of(pairs))),
+        Ok(Err(fault)) => Ok(Err(fault)),
+        Err(error) => Err(error),
+    }
+}
