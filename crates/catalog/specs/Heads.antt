@@ -35,7 +35,7 @@ use Rattle.catalog.specs.declared.faults.LimitKind.TheVariants as limits
 use Rattle.catalog.specs.declared.faults.Bad.{Bad}
 use Rattle.catalog.specs.declared.faults.Bad.TheVariants as bad
 use Rattle.catalog.specs.declared.faults.WalkFault.{WalkFault}
-use Rattle.catalog.specs.declared.faults.WalkFault.TheVariants.{Absent, NotRecognized, Malformed, Short, Limit, Memory}
+use Rattle.catalog.specs.declared.faults.WalkFault.TheVariants.{Absent, NotRecognized, Malformed, Short, Cycle, TooDeep, Limit, SourceBand, FolderFault, Memory}
 
 -- the bytes under a name
 abbrev pub file_in : Files → List ℕ → Result (List ℕ) WalkFault
@@ -197,9 +197,32 @@ IsOwnFault bad.List = Unit {0}
 abbrev pub OwnsFaults : {T : Type 0} → Result T WalkFault → Type 0
 OwnsFaults result = (name : List ℕ) (b : Bad) → result ≡ Err (Malformed name b) → IsOwnFault b
 
--- the kind of a name isn't what is refused
-abbrev pub IsKnown : {T : Type 0} → Result T WalkFault → Type 0
-IsKnown result = (n : List ℕ) → result ≡ Err (NotRecognized n) → ⊥
+-- What the own files of a dataset are refused for: that one isn't there, isn't of its form or is too short. Else it is
+-- what failed outside.
+abbrev pub IsOfFile : WalkFault → Type 0
+IsOfFile (Absent name) = Unit {0}
+IsOfFile (NotRecognized name) = ⊥
+IsOfFile (Malformed name b) = IsOwnFault b
+IsOfFile (Short name needed has) = Unit {0}
+IsOfFile (Cycle name) = ⊥
+IsOfFile (TooDeep name) = ⊥
+IsOfFile (Limit what value) = ⊥
+IsOfFile (SourceBand name band) = ⊥
+IsOfFile FolderFault = Unit {0}
+IsOfFile Memory = Unit {0}
+
+-- the same, or that a name tells no kind, or that the name of a source is too long; and nothing that only a walk finds
+abbrev pub IsOfHead : WalkFault → Type 0
+IsOfHead (Absent name) = Unit {0}
+IsOfHead (NotRecognized name) = Unit {0}
+IsOfHead (Malformed name b) = IsOwnFault b
+IsOfHead (Short name needed has) = Unit {0}
+IsOfHead (Cycle name) = ⊥
+IsOfHead (TooDeep name) = ⊥
+IsOfHead (Limit what value) = what ≡ limits.Name
+IsOfHead (SourceBand name band) = ⊥
+IsOfHead FolderFault = Unit {0}
+IsOfHead Memory = Unit {0}
 
 -- a name that tells no kind is refused so or for want of memory, and nothing else is refused so
 pub record RefusesUnknown {T : Type 0} (name : List ℕ) (result : Result T WalkFault) : Type 0 where

@@ -6,7 +6,7 @@ ghost use Rattle.outside.specs.Causes.{HasCause};
 ghost use Rattle.catalog.specs.Outcomes.{IsOutside};
 ghost use Rattle.catalog.specs.Dataset.{IsDatasetHead};
 ghost use Rattle.catalog.specs.Drivers.{content_kind, driver_of, document_of, Fits};
-ghost use Rattle.catalog.specs.Heads.{kind_in, found_in, dataset_by, dataset_in, head_in, IsKnown, RefusesUnknown, OwnsFaults};
+ghost use Rattle.catalog.specs.Heads.{kind_in, found_in, dataset_by, dataset_in, head_in, IsOfFile, IsOfHead, RefusesUnknown, OwnsFaults};
 ghost use Rattle.catalog.specs.Drivers.{Dataset as Known};
 ghost use Rattle.catalog.specs.Links.{source_at, target_at, height_of};
 ghost use Rattle.catalog.specs.Walk.{number_of, walked, WalksUnknown, IsDataset, IsCatalog, IsWalked};
@@ -44,8 +44,7 @@ fn find<F: Folder>(
     ensures names { F.names folder.new ≡ F.names folder.old }
     ensures write_calls { F.write_calls folder.new ≡ F.write_calls folder.old }
     ensures cause { HasCause WalkFault.FolderFault (F.faults folder.old) (F.faults folder.new) result }
-    ensures known { IsKnown result }
-    ensures own { OwnsFaults result }
+    ensures of_file { IfErr result IsOfFile }
 {
     match kind {
         Kind::Raw => find_raw(alloc, folder, name),
@@ -72,8 +71,7 @@ pub fn read_dataset<F: Folder>(
     ensures names { F.names folder.new ≡ F.names folder.old }
     ensures write_calls { F.write_calls folder.new ≡ F.write_calls folder.old }
     ensures cause { HasCause WalkFault.FolderFault (F.faults folder.old) (F.faults folder.new) result }
-    ensures known { IsKnown result }
-    ensures own { OwnsFaults result }
+    ensures of_file { IfErr result IsOfFile }
 {
     let found = find(alloc, folder, kind, name, verify)?;
     let head = content_head(alloc, name, &found.content)?;
@@ -113,6 +111,7 @@ pub fn head_of<F: Folder>(
     ensures names { F.names folder.new ≡ F.names folder.old }
     ensures write_calls { F.write_calls folder.new ≡ F.write_calls folder.old }
     ensures cause { HasCause WalkFault.FolderFault (F.faults folder.old) (F.faults folder.new) result }
+    ensures of_head { IfErr result IsOfHead }
     ensures own { OwnsFaults result }
 {
     let kind = kind_of(name)?;
@@ -180,11 +179,13 @@ impl Catalog {
         }
     }
 
-    /// The document of a mosaic; None exactly where the dataset is none.
+    /// The document of a mosaic; None exactly where there is no mosaic of this number.
     pub fn document(&self, id: u32) -> Option<&Document>
-        requires known { id < length self.now }
         ensures document { option_and_then (λ d. document_of d.content) (slice_get self.now id) ≡ option_map (λ r. r.now) result }
     {
+        if id >= self.met.count() {
+            return None;
+        }
         match &self.met.dataset(id).content {
             Content::File(_) => None,
             Content::Mosaic(document) => Some(document),

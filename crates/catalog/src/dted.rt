@@ -1,5 +1,5 @@
 // DTED cells, by their heads and lengths, and their records where their sums are asked for.
-ghost use Rattle.std.specs.Prelude.{◌≡◌, ◌≤◌, ℕ, List, length, Some, IfOk};
+ghost use Rattle.std.specs.Prelude.{◌≡◌, ◌≤◌, ℕ, List, length, Some, IfOk, IfErr};
 ghost use Rattle.std.specs.List.{range_with_len};
 ghost use Rattle.lists_and_answers.specs.Answers.{Gives};
 ghost use Rattle.outside.specs.Outside.{Files, IsLong};
@@ -7,7 +7,7 @@ ghost use Rattle.outside.specs.Causes.{HasCause, FailsWith};
 ghost use Rattle.dted_records.specs.Places.{needed_of, record_len};
 ghost use Rattle.catalog.specs.Outcomes.{IsOutside};
 ghost use Rattle.catalog.specs.Drivers.{content_kind, Fits};
-ghost use Rattle.catalog.specs.Heads.{broken_in, cell_in, dted_in, records_whole, IsKnown, OwnsFaults};
+ghost use Rattle.catalog.specs.Heads.{broken_in, cell_in, dted_in, records_whole, IsOfFile};
 
 use crate::driver::{Content, Found};
 use crate::files::{open_file, read_front};
@@ -56,8 +56,7 @@ fn check_records<F: Folder>(
     ensures names { F.names folder.new ≡ F.names folder.old }
     ensures write_calls { F.write_calls folder.new ≡ F.write_calls folder.old }
     ensures cause { HasCause WalkFault.FolderFault (F.faults folder.old) (F.faults folder.new) result }
-    ensures known { IsKnown result }
-    ensures own { OwnsFaults result }
+    ensures of_file { IfErr result IsOfFile }
 {
     let mut record = vec![in alloc; 0u8; head.record_len()]?;
     match broken_line(folder, file, head, &mut record) {
@@ -86,8 +85,7 @@ fn read_cell<F: Folder>(
     ensures names { F.names folder.new ≡ F.names folder.old }
     ensures write_calls { F.write_calls folder.new ≡ F.write_calls folder.old }
     ensures cause { HasCause WalkFault.FolderFault (F.faults folder.old) (F.faults folder.new) result }
-    ensures known { IsKnown result }
-    ensures own { OwnsFaults result }
+    ensures of_file { IfErr result IsOfFile }
 {
     let front = read_front(alloc, folder, file, LONGEST_HEAD)?;
     let head = match read_head(&front) {
@@ -126,8 +124,7 @@ pub fn find_cell<F: Folder>(
     ensures names { F.names folder.new ≡ F.names folder.old }
     ensures write_calls { F.write_calls folder.new ≡ F.write_calls folder.old }
     ensures cause { HasCause WalkFault.FolderFault (F.faults folder.old) (F.faults folder.new) result }
-    ensures known { IsKnown result }
-    ensures own { OwnsFaults result }
+    ensures of_file { IfErr result IsOfFile }
 {
     let mut file = open_file(folder, name)?;
     let length = folder.len(&file);

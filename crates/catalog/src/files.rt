@@ -3,7 +3,7 @@ ghost use Rattle.std.specs.Prelude.{◌≡◌, ◌⊎◌, ℕ, Some, List, Err, 
 ghost use Rattle.outside.specs.Outside.{Files, IsLong};
 ghost use Rattle.outside.specs.Causes.{HasCause};
 ghost use Rattle.catalog.specs.Outcomes.{IsOutside};
-ghost use Rattle.catalog.specs.Heads.{file_in, IsFile, IsKnown, OwnsFaults};
+ghost use Rattle.catalog.specs.Heads.{file_in, IsFile, IsOfFile};
 
 use crate::WalkFault;
 use outside::{Failed, Folder, Name, OpenFault};
@@ -17,8 +17,7 @@ pub fn open_file<F: Folder>(folder: &mut F, name: &Name) -> Result<F::File, Walk
     ensures names { F.names folder.new ≡ F.names folder.old }
     ensures write_calls { F.write_calls folder.new ≡ F.write_calls folder.old }
     ensures cause { HasCause WalkFault.FolderFault (F.faults folder.old) (F.faults folder.new) result }
-    ensures known { IsKnown result }
-    ensures own { OwnsFaults result }
+    ensures of_file { IfErr result IsOfFile }
 {
     match folder.open(name) {
         Ok(file) => Ok(file),

@@ -10,7 +10,7 @@ ghost use Rattle.catalog.specs.declared.faults.Bad.{Bad};
 ghost use Rattle.catalog.specs.Outcomes.{IsOutside};
 ghost use Rattle.catalog.specs.Scanned.{HasFed, IsScanFault};
 ghost use Rattle.catalog.specs.Drivers.{content_kind, Fits};
-ghost use Rattle.catalog.specs.Heads.{grid_in, ascii_in, IsKnown, IsOwnFault, OwnsFaults};
+ghost use Rattle.catalog.specs.Heads.{grid_in, ascii_in, IsOfFile};
 
 use crate::driver::{Content, Found};
 use crate::files::open_file;
@@ -152,8 +152,7 @@ fn scan<F: Folder>(alloc: Global, folder: &mut F, mut file: F::File) -> Result<G
 fn refused(name: &Name, fault: ScanFault) -> WalkFault
     ensures told { (b : List ℕ) → IsScanFault b fault → IsOutside result ⊎ (grid_in b name.now ≡ Err result) }
     ensures cause { result ≡ WalkFault.FolderFault → fault ≡ ScanFault.Failed }
-    ensures known { (n : List ℕ) → result ≡ WalkFault.NotRecognized n → ⊥ }
-    ensures own { (n : List ℕ) (b : Bad) → result ≡ WalkFault.Malformed n b → IsOwnFault b }
+    ensures of_file { IsOfFile result }
 {
     match fault {
         ScanFault::Failed => WalkFault::FolderFault,
@@ -177,8 +176,7 @@ pub fn find_grid<F: Folder>(alloc: Global, folder: &mut F, name: &Name) -> Resul
     ensures names { F.names folder.new ≡ F.names folder.old }
     ensures write_calls { F.write_calls folder.new ≡ F.write_calls folder.old }
     ensures cause { HasCause WalkFault.FolderFault (F.faults folder.old) (F.faults folder.new) result }
-    ensures known { IsKnown result }
-    ensures own { OwnsFaults result }
+    ensures of_file { IfErr result IsOfFile }
 {
     let file = open_file(folder, name)?;
     let length = folder.len(&file);

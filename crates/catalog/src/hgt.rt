@@ -1,5 +1,5 @@
 // SRTM tiles, by their names and lengths.
-ghost use Rattle.std.specs.Prelude.{◌≡◌, ◌≤◌, ℕ, List, length, Some, IfOk, is_some};
+ghost use Rattle.std.specs.Prelude.{◌≡◌, ◌≤◌, ℕ, List, length, Some, IfOk, IfErr, is_some};
 ghost use Rattle.lists_and_answers.specs.Answers.{Gives};
 ghost use Rattle.outside.specs.Outside.{Files};
 ghost use Rattle.outside.specs.Causes.{HasCause};
@@ -7,7 +7,7 @@ ghost use Rattle.outside.specs.Names.{last_part};
 ghost use Rattle.hgt_tiles.specs.Names.{corner_of};
 ghost use Rattle.catalog.specs.Outcomes.{IsOutside};
 ghost use Rattle.catalog.specs.Drivers.{content_kind, Fits};
-ghost use Rattle.catalog.specs.Heads.{hgt_in, IsKnown, OwnsFaults};
+ghost use Rattle.catalog.specs.Heads.{hgt_in, IsOfFile};
 
 use crate::driver::{Content, Found};
 use crate::files::open_file;
@@ -31,8 +31,7 @@ pub fn find_tile<F: Folder>(folder: &mut F, name: &Name) -> Result<Found, WalkFa
     ensures names { F.names folder.new ≡ F.names folder.old }
     ensures write_calls { F.write_calls folder.new ≡ F.write_calls folder.old }
     ensures cause { HasCause WalkFault.FolderFault (F.faults folder.old) (F.faults folder.new) result }
-    ensures known { IsKnown result }
-    ensures own { OwnsFaults result }
+    ensures of_file { IfErr result IsOfFile }
 {
     if !is_tile_name(name) {
         return Err(WalkFault::Malformed {

@@ -7,7 +7,7 @@ ghost use Rattle.catalog.specs.Outcomes.{IsOutside, IsMemory};
 ghost use Rattle.catalog.specs.Dataset.{IsDatasetHead};
 ghost use Rattle.catalog.specs.Drivers.{content_kind, Fits};
 ghost use Rattle.catalog.specs.Mosaics.{mosaic_head};
-ghost use Rattle.catalog.specs.Heads.{vrt_in, IsKnown, OwnsFaults};
+ghost use Rattle.catalog.specs.Heads.{vrt_in, IsOfFile};
 
 use crate::driver::{Content, Found};
 use crate::files::{open_file, read_whole};
@@ -32,8 +32,7 @@ pub fn find_mosaic<F: Folder>(
     ensures names { F.names folder.new ≡ F.names folder.old }
     ensures write_calls { F.write_calls folder.new ≡ F.write_calls folder.old }
     ensures cause { HasCause WalkFault.FolderFault (F.faults folder.old) (F.faults folder.new) result }
-    ensures known { IsKnown result }
-    ensures own { OwnsFaults result }
+    ensures of_file { IfErr result IsOfFile }
 {
     let file = open_file(folder, name)?;
     let length = folder.len(&file);

@@ -7,7 +7,7 @@ ghost use Rattle.outside.specs.Names.{extension_of, is_raw, header_of};
 ghost use Rattle.interleaved_raw.specs.Raw.{needed_of};
 ghost use Rattle.catalog.specs.Outcomes.{IsOutside};
 ghost use Rattle.catalog.specs.Drivers.{content_kind, Fits};
-ghost use Rattle.catalog.specs.Heads.{header_in, raw_in, IsKnown, OwnsFaults};
+ghost use Rattle.catalog.specs.Heads.{header_in, raw_in, IsOfFile};
 
 use crate::driver::{Content, Found};
 use crate::files::{open_file, read_whole};
@@ -27,8 +27,7 @@ fn read_header<F: Folder>(alloc: Global, folder: &mut F, name: &Name) -> Result<
     ensures names { F.names folder.new ≡ F.names folder.old }
     ensures write_calls { F.write_calls folder.new ≡ F.write_calls folder.old }
     ensures cause { HasCause WalkFault.FolderFault (F.faults folder.old) (F.faults folder.new) result }
-    ensures known { IsKnown result }
-    ensures own { OwnsFaults result }
+    ensures of_file { IfErr result IsOfFile }
 {
     let text = open_file(folder, name)?;
     let len = folder.len(&text);
@@ -67,8 +66,7 @@ pub fn find_raw<F: Folder>(alloc: Global, folder: &mut F, name: &Name) -> Result
     ensures names { F.names folder.new ≡ F.names folder.old }
     ensures write_calls { F.write_calls folder.new ≡ F.write_calls folder.old }
     ensures cause { HasCause WalkFault.FolderFault (F.faults folder.old) (F.faults folder.new) result }
-    ensures known { IsKnown result }
-    ensures own { OwnsFaults result }
+    ensures of_file { IfErr result IsOfFile }
 {
     let file = open_file(folder, name)?;
     let header = header_name(alloc, name)?;

@@ -86,10 +86,7 @@ const ROWS: [Row<'static>; 10] = [
     ("a.vrt", &[("a.vrt", &[("t.bil", 2)])], "band t.bil 2", 0),
     (
         "a.vrt",
-        &[
-            ("a.vrt", &[("b.vrt", 2)]),
-            ("b.vrt", &[("N00E000.hgt", 1)]),
-        ],
+        &[("a.vrt", &[("b.vrt", 2)]), ("b.vrt", &[("N00E000.hgt", 1)])],
         "absent N00E000.hgt",
         0,
     ),
@@ -109,7 +106,10 @@ fn walks_of_mosaics(rt: HostRuntime) -> Result<(), Fail> {
     for (name, mosaics, expected, count) in ROWS {
         let mut cat = Catalog::new(alloc);
         let mut files = folder(alloc, mosaics)?;
-        assert_eq!(rt; walked(alloc, &mut cat, &mut files, name)?.as_str(), expected);
+        assert_eq!(rt;
+            walked(alloc, &mut cat, &mut files, name)?.as_str(),
+            expected
+        );
         assert_eq!(rt; cat.count(), count);
     }
     Ok(())
@@ -141,12 +141,18 @@ fn deep_mosaics(rt: HostRuntime) -> Result<(), Fail> {
     let alloc = rt.alloc();
     let mut cat = Catalog::new(alloc);
     let mut files = chain(alloc, 16, 1)?;
-    assert_eq!(rt; walked(alloc, &mut cat, &mut files, "m0.vrt")?.as_str(), "deep m16.vrt");
+    assert_eq!(rt;
+        walked(alloc, &mut cat, &mut files, "m0.vrt")?.as_str(),
+        "deep m16.vrt"
+    );
     assert_eq!(rt; cat.count(), 0);
     assert_eq!(rt; walked(alloc, &mut cat, &mut files, "m1.vrt")?.as_str(), "");
     assert_eq!(rt; cat.count(), 17);
     assert_eq!(rt; cat.height(0), 16);
-    assert_eq!(rt; walked(alloc, &mut cat, &mut files, "m0.vrt")?.as_str(), "deep m16.vrt");
+    assert_eq!(rt;
+        walked(alloc, &mut cat, &mut files, "m0.vrt")?.as_str(),
+        "deep m16.vrt"
+    );
     assert_eq!(rt; cat.count(), 17);
     assert_eq!(rt; walked(alloc, &mut cat, &mut files, "m2.vrt")?.as_str(), "");
     Ok(())
@@ -182,7 +188,10 @@ fn calls_fail_in_turn(rt: HostRuntime) -> Result<(), Fail> {
         files.put(&Name::read(alloc, "a.vrt")?, text.as_bytes())?;
         let mut cat = Catalog::new(alloc);
         let expected = if number <= 5 { "folder" } else { "" };
-        assert_eq!(rt; walked(alloc, &mut cat, &mut files, "a.vrt")?.as_str(), expected);
+        assert_eq!(rt;
+            walked(alloc, &mut cat, &mut files, "a.vrt")?.as_str(),
+            expected
+        );
         assert_eq!(rt; cat.count(), if number <= 5 { 0 } else { 2 });
     }
     Ok(())

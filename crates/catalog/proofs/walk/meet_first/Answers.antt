@@ -13,7 +13,7 @@ pub returns-in_err-dataset : goal.returns-in_err-dataset
 returns-in_err-dataset g c =
     let result = err_is c.from_residual.result c.in_err-dataset.field-0.0 c.from_residual.ensures in
     let e = c.in_err-dataset.ensures in
-    record { meets = rw result (visits_unread c.args.verify c.args.room c.args.name.now c.args.kind c.args.met.now c.requires.kind c.requires.shallow c.requires.fresh _ _ (omega arith) e.names e.write_calls c.in_err-dataset.field-0.0 e.told e.cause e.known e.own) }
+    record { meets = rw result (visits_unread c.args.verify c.args.room c.args.name.now c.args.kind c.args.met.now c.requires.kind c.requires.shallow c.requires.fresh _ _ (omega arith) e.names e.write_calls c.in_err-dataset.field-0.0 e.told e.cause e.of_file) }
 
 pub returns-in_err-id : goal.returns-in_err-id
 returns-in_err-id g c =
