@@ -259,6 +259,7 @@ deep_step st linked room id d l k name met high first deep = record { deep = λ 
         let less : ends.link.height < l.height = omega (arith, above_low st.links room (all_of l.targets) k first, most_low st d.head.name d.content l link.content (omega arith)) in
         again_into st linked (λ p n. again room st.datasets p n) (suc room) path id d l met off
         ∙ ends.ends (TooDeep name) (deep.deep (d.head.name ∷ path) ends.dataset ends.link ends.met (below_off st linked path id d l met off ends.link.height less))
+
     same : (path : List (List ℕ)) (d' : Dataset) (l' : Link) → d ≡ d' → l ≡ l' → IsOff st path l'.height → again (suc room) st.datasets path d'.head.name ≡ Err (TooDeep name)
     same path d' l' e f off = subst (λ (x : Dataset). again (suc room) st.datasets path x.head.name ≡ Err (TooDeep name)) e (here path (subst (λ (x : Link). IsOff st path x.height) (sym f) off))
 

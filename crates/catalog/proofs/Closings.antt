@@ -77,8 +77,8 @@ module _ (verify : Bool) (room : ℕ) (name : List ℕ) (a b c : Seen) (old mid 
         };
       };
       told = λ m told path on.
-        subst (λ (r : Result Met WalkFault). IsOutside f ⊎ (r ≡ Err f)) (sym (o.told m told path on))
-        (subst (λ (n : List ℕ). IsOutside f ⊎ (visit_sources (λ e k. visit m verify (room - 1) (name ∷ path) e k) n (met_of mid) (sources_of o.document) ≡ Err f)) o.named (p.told m (o.names ∙ told) (name ∷ path) (path_first path on)));
+          subst (λ (r : Result Met WalkFault). IsOutside f ⊎ (r ≡ Err f)) (sym (o.told m told path on))
+          (subst (λ (n : List ℕ). IsOutside f ⊎ (visit_sources (λ e k. visit m verify (room - 1) (name ∷ path) e k) n (met_of mid) (sources_of o.document) ≡ Err f)) o.named (p.told m (o.names ∙ told) (name ∷ path) (path_first path on)));
       number = tt;
       low = tt;
       again = λ met. absurd (not_met (number_of old.datasets name) o.fresh met);
@@ -87,6 +87,7 @@ module _ (verify : Bool) (room : ℕ) (name : List ℕ) (a b c : Seen) (old mid 
       where
         p : Passes verify (room - 1) o.dataset.head.name (sources_of o.document) b c mid new (λ rows. ReachesRows new (room - 1) o.dataset.head.name o.document.bands rows) (Err f)
         p = passes opened_here
+
         only : (n : List ℕ) → failed ℕ f ≡ Err (NotRecognized n) → kind_in n ≡ Err (NotRecognized n)
         only n r = p.steps.known n (ap (failed (List (List ℕ))) (fault_is ℕ f (NotRecognized n) r))
 
@@ -137,8 +138,8 @@ module _ (verify : Bool) (room : ℕ) (name : List ℕ) (a b c : Seen) (old mid 
           cause = record { later = (let x = o.later in let y = p.steps.cause.later in omega arith); failed = λ r. absurd (ok≢err r) };
         };
         told = λ m told path on.
-          o.told m told path on
-          ∙ subst (λ (n : List ℕ). visit_sources (λ e k. visit m verify (room - 1) (name ∷ path) e k) n (met_of mid) (sources_of o.document) ≡ Ok (met_of new)) o.named (p.told m (o.names ∙ told) (name ∷ path) (path_first path on));
+            o.told m told path on
+            ∙ subst (λ (n : List ℕ). visit_sources (λ e k. visit m verify (room - 1) (name ∷ path) e k) n (met_of mid) (sources_of o.document) ≡ Ok (met_of new)) o.named (p.told m (o.names ∙ told) (name ∷ path) (path_first path on));
         number = ap (number_of new.datasets) (sym o.named) ∙ goes.linked.apart id o.dataset at;
         low = record { dataset = o.dataset; link = last; met = record { at = at; whole = set_same new.links id (Some last) open_known }; low = (let x = p.reached.low in let y = o.some in omega arith) };
         again = λ met. absurd (not_met (number_of old.datasets name) o.fresh met);

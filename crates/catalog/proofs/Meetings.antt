@@ -74,6 +74,7 @@ module _ (verify : Bool) (room : ℕ) (name : List ℕ) where
     where
       plain : IsPlain f
       plain = subst IsPlain (sym free) tt
+
       steps : Steps 0 a a st st (failed ℕ f)
       steps = steps_plain ℕ 0 a st st f (grows_refl st) plain
   visits_unknown a st f (inr is) = record {
@@ -101,12 +102,16 @@ module _ (verify : Bool) (room : ℕ) (name : List ℕ) where
       by_kind : (o : Option Kind) → ok_or o (NotRecognized name) ≡ Err f → f ≡ NotRecognized name
       by_kind (Some k) e = absurd (ok≢err e)
       by_kind None e = sym (fault_is Kind (NotRecognized name) f e)
+
       named : f ≡ NotRecognized name
       named = by_kind (option_and_then kind_of (extension_of name)) is
+
       malformed : (k : List ℕ) (b : Bad) → NotRecognized name ≡ Malformed k b → ⊥
       malformed k b e = cc
+
       folder : NotRecognized name ≡ FolderFault → ⊥
       folder e = cc
+
       only : (n : List ℕ) → failed ℕ f ≡ Err (NotRecognized n) → kind_in n ≡ Err (NotRecognized n)
       only n r =
           let both : NotRecognized name ≡ NotRecognized n = sym named ∙ fault_is ℕ f (NotRecognized n) r in
@@ -191,8 +196,10 @@ module _ (verify : Bool) (room : ℕ) (name : List ℕ) where
         where
           plain : IsPlain f
           plain = subst IsPlain (sym free) tt
+
           malformed : (k : List ℕ) (y : Bad) → Memory ≡ Malformed k y → ⊥
           malformed k y e = cc
+
           folder : Memory ≡ FolderFault → ⊥
           folder e = cc
 
@@ -210,12 +217,16 @@ module _ (verify : Bool) (room : ℕ) (name : List ℕ) where
           where
             none : sources_in d.content ≡ []
             none = ap sources_in content
+
             low : l.height ≡ 0
             low = ap (λ (x : Link). x.height) flat
+
             link : IsLink (pushed st d (Some l)) d l
             link = record { content = subst (λ c. IsLinkOf (pushed st d (Some l)) d.head.name c l) (sym content) low; shallow = omega (arith, low) }
+
             linked' : IsLinked (pushed st d (Some l))
             linked' = linked_pushed st d (Some l) linked few unmet valid (λ k e. (let same : l ≡ k = cc in subst (λ x. IsLink (pushed st d (Some l)) d x) same link))
+
             whole : Visits verify room name a b st (pushed st d (Some l)) (Ok (length st.datasets))
             whole = record {
               steps = record {
@@ -258,11 +269,14 @@ module _ (verify : Bool) (room : ℕ) (name : List ℕ) where
           where
             vrt : kind_in name ≡ Ok kinds.Vrt
             vrt = ap kind_in (sym named) ∙ valid.kind ∙ ap (λ (h : DatasetHead). Ok h.kind) valid.head ∙ ap (λ c. Ok (content_head d.head.name c).kind) content
+
             kind_vrt : kind ≡ kinds.Vrt
             kind_vrt = (let both : Ok kind ≡ Ok kinds.Vrt = sym is ∙ vrt in cc)
+
             some : (r : ℕ) → room_for r kinds.Vrt name ≡ Ok tt → 0 < r
             some zero e = absurd (ok≢err (sym e))
             some (suc r) e = omega arith
+
             below : (m : Files) (path : List (List ℕ)) (r : ℕ) → 0 < r → IsFirst r path (met_of st) name kind → dataset_by kind m verify name ≡ Ok d → visit m verify r path (met_of st) name ≡ visit_sources (λ e n. visit m verify (r - 1) (name ∷ path) e n) name (met_of (pushed st d None)) (sources_of doc)
             below m path zero more f t = absurd (omega arith)
             below m path (suc r) more f t =

@@ -159,8 +159,8 @@ module _ (verify : Bool) (room : ℕ) (base : List ℕ) (s : SourceValue) where
     source_unvisited T P f v = record {
       steps = steps_err ℕ T 1 1 a b old new f (steps_then Wanted ℕ 1 0 1 a a b old mid new w (Err f) (omega arith) (counted_steps base s a old mid w linked n) v.steps);
       told = λ m told path is.
-        subst (λ (r : Result Met WalkFault). IsOutside f ⊎ (r ≡ Err f)) (sym (visited_as m path))
-        (still_refused (visit m verify room path (met_of mid) w.name) (λ after. has_band after.datasets w.name s.band >>= λ there. Ok after) f (v.told m told path (counted_path path is)));
+          subst (λ (r : Result Met WalkFault). IsOutside f ⊎ (r ≡ Err f)) (sym (visited_as m path))
+          (still_refused (visit m verify room path (met_of mid) w.name) (λ after. has_band after.datasets w.name s.band >>= λ there. Ok after) f (v.told m told path (counted_path path is)));
       reached = tt;
     }
 
@@ -189,16 +189,19 @@ module _ (verify : Bool) (room : ℕ) (base : List ℕ) (s : SourceValue) where
         steps = visited_steps;
         told = λ m told path is. banded_as m told path is ∙ ap (λ r. r >>= λ t. Ok (met_of new)) there;
         reached = (let low = v.low in let height : height_at new.links id ≡ low.link.height = ap height_in low.met.whole in record {
-          targets = (record {
-            name = w.name;
-            dataset = low.dataset;
-            link = low.link;
-            resolves = resolves_to base s w.name (bind_both (one_more_source old.sources) (resolved base s) w.name n.told);
-            number = v.number;
-            at = low.met.at;
-            whole = low.met.whole;
-            band = subst (λ k. k ≤ length low.dataset.head.bands) n.band (band_is low.dataset (named_at new.datasets w.name id low.dataset v.number low.met.at));
-          }, tt);
+          targets = (
+            record {
+              name = w.name;
+              dataset = low.dataset;
+              link = low.link;
+              resolves = resolves_to base s w.name (bind_both (one_more_source old.sources) (resolved base s) w.name n.told);
+              number = v.number;
+              at = low.met.at;
+              whole = low.met.whole;
+              band = subst (λ k. k ≤ length low.dataset.head.bands) n.band (band_is low.dataset (named_at new.datasets w.name id low.dataset v.number low.met.at));
+            },
+            tt,
+          );
           low = (let l = low.low in omega arith);
         });
       }
@@ -279,7 +282,7 @@ module _ (verify : Bool) (room : ℕ) (base : List ℕ) (bands : List BandValue)
     pub bands_more : (v : BandValue) (row : List ℕ) → slice_get bands k ≡ Some v → Passes verify room base v.sources b c mid new (λ row. Reaches new room base v.sources row) (Ok row) → Passes verify room base (flat_map (λ (b : BandValue). b.sources) (take (k + 1) bands)) a c old new (λ rows. ReachesRows new room base (take (k + 1) bands) rows) (Ok (rows ++ row ∷ []))
     bands_more v row at next =
         let whole = passes_then verify room base (List (List ℕ)) (List ℕ) (List (List ℕ)) (sources_from (take k bands)) v.sources a b c old mid new (λ r. ReachesRows mid room base (take k bands) r) (λ r. Reaches new room base v.sources r) (λ r. ReachesRows new room base (take (k + 1) bands) r) rows row (rows ++ row ∷ []) before next
-            (subst (λ (xs : List BandValue). ReachesRows new room base xs (rows ++ row ∷ [])) (sym (item_more bands k v at)) (rows_more mid new room base (take k bands) v rows row next.steps.grows next.steps.goes.linked before.reached next.reached)) in
+        (subst (λ (xs : List BandValue). ReachesRows new room base xs (rows ++ row ∷ [])) (sym (item_more bands k v at)) (rows_more mid new room base (take k bands) v rows row next.steps.grows next.steps.goes.linked before.reached next.reached)) in
         subst (λ (xs : List SourceValue). Passes verify room base xs a c old new (λ rows. ReachesRows new room base (take (k + 1) bands) rows) (Ok (rows ++ row ∷ []))) (sym (from_one bands k v at)) whole
 
     pub bands_end : length bands ≤ k → Passes verify room base (flat_map (λ (b : BandValue). b.sources) bands) a b old mid (λ rows. ReachesRows mid room base bands rows) (Ok rows)

@@ -156,6 +156,7 @@ open_pushed st d x linked fresh name = by_number (number_of st.datasets name) re
         let place : slice_get (st.links ++ x ∷ []) (length st.datasets) ≡ Some x = ap (slice_get (st.links ++ x ∷ [])) (sym linked.long) ∙ last_item st.links x in
         open_known (pushed st d x) name (length st.datasets) (Some x) (number_of_added st.datasets d name none ((bytes_eq-Decides d.head.name name).0 e)) place
     new none false e = open_unknown (pushed st d x) name (number_of_other 0 st.datasets d name none e) ∙ sym (open_unknown st name none)
+
     by_number : (o : Option ℕ) → number_of st.datasets name ≡ o → (b : Bool) → bytes_eq d.head.name name ≡ b → is_open (pushed st d x) name ≡ cond b (is_waiting (Some x)) (is_open st name)
     by_number None none b e = new none b e
     by_number (Some id) is true e = absurd (none≢some (sym fresh ∙ ap (number_of st.datasets) ((bytes_eq-Decides d.head.name name).0 e) ∙ is))
@@ -193,8 +194,10 @@ linked_closed st id d l linked at waits link = record {
   where
     stays : (e : Dataset) (m : Link) → IsLink st e m → IsLink (closed st id l) e m
     stays e m is = link_stays st (closed st id l) e m (grows_closed st id l waits) linked.apart is
+
     eq_or_not : (a b : ℕ) → (a ≡ b) ⊎ (a ≡ b → ⊥)
     eq_or_not a b = grind arith
+
     by_place : (k : ℕ) (e : Dataset) (m : Link) → slice_get st.datasets k ≡ Some e → slice_get (set st.links id (Some l)) k ≡ Some (Some m) → (k ≡ id) ⊎ (k ≡ id → ⊥) → IsLink (closed st id l) e m
     by_place k e m at' whole (inl same) =
         let here : slice_get (set st.links id (Some l)) id ≡ Some (Some l) = set_same st.links id (Some l) (slice_get_within st.links id None waits) in
@@ -212,6 +215,7 @@ open_closed st id d l linked at waits name = by_test (bytes_eq d.head.name name)
         let f = found st.datasets name k is in
         let apart : k ≡ id → ⊥ = λ same. true≢false (sym ((bytes_eq-Decides d.head.name name).1 (ap (λ (x : Dataset). x.head.name) (some_is (sym at ∙ ap (slice_get st.datasets) (sym same) ∙ f.at)) ∙ f.named)) ∙ e) in
         open_known (closed st id l) name k (slice_get st.links k) is (set_other st.links id k (Some l) apart) ∙ sym (open_known st name k (slice_get st.links k) is refl)
+
     by_test : (b : Bool) → bytes_eq d.head.name name ≡ b → is_open (closed st id l) name ≡ cond b false (is_open st name)
     by_test true e = open_known (closed st id l) name id (Some (Some l)) (sym (ap (number_of st.datasets) ((bytes_eq-Decides d.head.name name).0 e)) ∙ linked.apart id d at) (set_same st.links id (Some l) (slice_get_within st.links id None waits))
     by_test false e = other false e (number_of st.datasets name) refl

@@ -107,8 +107,8 @@ module _ (verify : Bool) (room : ℕ) (base : List ℕ) where
   passes_stop A B xs ys a b old new P Q f p = record {
     steps = steps_err A B (length xs) (length (xs ++ ys)) a b old new f p.steps;
     told = λ m told path is.
-      subst (λ (r : Result Met WalkFault). IsOutside f ⊎ (r ≡ Err f)) (sym (sources_append (λ e n. visit m verify room path e n) base (met_of old) xs ys))
-      (still_refused (visit_sources (λ e n. visit m verify room path e n) base (met_of old) xs) (λ e. visit_sources (λ e n. visit m verify room path e n) base e ys) f (p.told m told path is));
+        subst (λ (r : Result Met WalkFault). IsOutside f ⊎ (r ≡ Err f)) (sym (sources_append (λ e n. visit m verify room path e n) base (met_of old) xs ys))
+        (still_refused (visit_sources (λ e n. visit m verify room path e n) base (met_of old) xs) (λ e. visit_sources (λ e n. visit m verify room path e n) base e ys) f (p.told m told path is));
     reached = tt;
   }
 
@@ -117,9 +117,9 @@ module _ (verify : Bool) (room : ℕ) (base : List ℕ) where
   passes_then A B C xs ys a b c old mid new P Q R x y z before next reached = record {
     steps = turned (steps_then A B (length xs) (length ys) (length (xs ++ ys)) a b c old mid new x (Ok y) (sym (length-append xs ys)) before.steps next.steps);
     told = λ m told path is.
-      sources_append (λ e n. visit m verify room path e n) base (met_of old) xs ys
-      ∙ ap (λ r. r >>= λ e. visit_sources (λ e n. visit m verify room path e n) base e ys) (before.told m told path is)
-      ∙ next.told m (before.steps.names ∙ told) path (λ name. is name ∙ before.steps.goes.same_open name);
+        sources_append (λ e n. visit m verify room path e n) base (met_of old) xs ys
+        ∙ ap (λ r. r >>= λ e. visit_sources (λ e n. visit m verify room path e n) base e ys) (before.told m told path is)
+        ∙ next.told m (before.steps.names ∙ told) path (λ name. is name ∙ before.steps.goes.same_open name);
     reached = reached;
   }
     where
@@ -130,9 +130,9 @@ module _ (verify : Bool) (room : ℕ) (base : List ℕ) where
   passes_refused A B C xs ys a b c old mid new P Q R x f before next = record {
     steps = steps_err B C (length (xs ++ ys)) (length (xs ++ ys)) a c old new f (steps_then A B (length xs) (length ys) (length (xs ++ ys)) a b c old mid new x (Err f) (sym (length-append xs ys)) before.steps next.steps);
     told = λ m told path is.
-      subst (λ (r : Result Met WalkFault). IsOutside f ⊎ (r ≡ Err f))
-      (sym (sources_append (λ e n. visit m verify room path e n) base (met_of old) xs ys ∙ ap (λ r. r >>= λ e. visit_sources (λ e n. visit m verify room path e n) base e ys) (before.told m told path is)))
-      (next.told m (before.steps.names ∙ told) path (λ name. is name ∙ before.steps.goes.same_open name));
+        subst (λ (r : Result Met WalkFault). IsOutside f ⊎ (r ≡ Err f))
+        (sym (sources_append (λ e n. visit m verify room path e n) base (met_of old) xs ys ∙ ap (λ r. r >>= λ e. visit_sources (λ e n. visit m verify room path e n) base e ys) (before.told m told path is)))
+        (next.told m (before.steps.names ∙ told) path (λ name. is name ∙ before.steps.goes.same_open name));
     reached = tt;
   }
 

@@ -141,9 +141,6 @@ still_refused r f fault (inl free) = inl free
 still_refused r f fault (inr is) = inr (ap (λ x. x >>= f) is)
 
 module _ (below : Met → List ℕ → Result Met WalkFault) (base : List ℕ) (met : Met) (s : SourceValue) where
-
-
-
   pub source_uncounted : (fault : WalkFault) → IsOutside fault ⊎ (one_more_source met.sources ≡ Err fault) → IsOutside fault ⊎ (visit_source below base met s ≡ Err fault)
   unfolding visit_source
   source_uncounted fault is = still_refused (one_more_source met.sources) (λ c. resolved base s >>= λ name. below (record { datasets = met.datasets; sources = met.sources + 1 }) name >>= λ after. has_band after.datasets name s.band >>= λ there. Ok after) fault is

@@ -44,14 +44,17 @@ whole_goes old new whole goes = record {
   where
     counted : new.sources ≡ sources_among new.datasets
     counted = let a = goes.counted in let b = whole.counted in omega arith
+
     by_link : (id : ℕ) (x : Option Link) → slice_get new.links id ≡ Some x → (l : Link) × (x ≡ Some l)
     by_link id (Some l) is = (l, refl)
     by_link id None is =
         let there = item_there new.datasets id (omega (arith, slice_get_within new.links id None is, goes.linked.long)) in
         let waits : is_open new there.0.head.name ≡ true = open_known new there.0.head.name id (Some None) (goes.linked.apart id there.0 there.1) is in
         absurd (true≢false (sym waits ∙ sym (goes.same_open there.0.head.name) ∙ none_open old whole there.0.head.name))
+
     shut : (id : ℕ) (x : Option Link) → slice_get new.links id ≡ Some x → (l : Link) × (x ≡ Some l)
     shut id x is = by_link id x is
+
     nested : All (λ d. IsNested 16 new.datasets d) new.datasets
     nested k d within =
         let there = item_there new.datasets k within in

@@ -74,10 +74,10 @@ visit_band-returns-in_err-target g t c =
     let result = err_is c.from_residual.result c.in_err-target.field-0.0 c.from_residual.ensures in
     record {
       passes = λ w.
-        let s = item_counted w.value.sources c.behind-met.inside.sources c.loop-source.source c.len-count.result c.loop-source-test.true c.len-count.ensures.count (ap (λ (b : BandValue). b.sources) (c.behind-met.view_is ∙ c.band.ensures.band w)) in
-        let before = c.loop-source.invariant w in
-        let there = source_there c.args.met.now c.loop-source.met c.args.id c.args.band c.loop-source.source before.steps.grows w s.0 s.1 in
-        rw result (band_refused c.args.verify c.args.room w.mosaic.dataset.head.name w.value.sources _ _ _ c.args.met.now c.loop-source.met c.visit_source.new.met c.loop-source.source c.loop-source.row before s.0 c.in_err-target.field-0.0 s.1 (c.in_err-target.ensures.passes there));
+          let s = item_counted w.value.sources c.behind-met.inside.sources c.loop-source.source c.len-count.result c.loop-source-test.true c.len-count.ensures.count (ap (λ (b : BandValue). b.sources) (c.behind-met.view_is ∙ c.band.ensures.band w)) in
+          let before = c.loop-source.invariant w in
+          let there = source_there c.args.met.now c.loop-source.met c.args.id c.args.band c.loop-source.source before.steps.grows w s.0 s.1 in
+          rw result (band_refused c.args.verify c.args.room w.mosaic.dataset.head.name w.value.sources _ _ _ c.args.met.now c.loop-source.met c.visit_source.new.met c.loop-source.source c.loop-source.row before s.0 c.in_err-target.field-0.0 s.1 (c.in_err-target.ensures.passes there));
     }
 
 pub visit_band-returns-in_err-push : goal.visit_band-returns-in_err-push
@@ -85,11 +85,11 @@ visit_band-returns-in_err-push g t c =
     let result = err_is c.from_residual-in_err-push.result Memory c.from_residual-in_err-push.ensures in
     record {
       passes = λ w.
-        let s = item_counted w.value.sources c.behind-met.inside.sources c.loop-source.source c.len-count.result c.loop-source-test.true c.len-count.ensures.count (ap (λ (b : BandValue). b.sources) (c.behind-met.view_is ∙ c.band.ensures.band w)) in
-        let before = c.loop-source.invariant w in
-        let there = source_there c.args.met.now c.loop-source.met c.args.id c.args.band c.loop-source.source before.steps.grows w s.0 s.1 in
-        let more = band_more c.args.verify c.args.room w.mosaic.dataset.head.name w.value.sources _ _ _ c.args.met.now c.loop-source.met c.visit_source.new.met c.loop-source.source c.loop-source.row before s.0 c.in_ok-target.target s.1 (c.in_ok-target.ensures.passes there) in
-        rw result (passes_memory c.args.verify c.args.room w.mosaic.dataset.head.name (List ℕ) (List ℕ) _ w.value.sources _ _ c.args.met.now c.visit_source.new.met _ _ _ Memory refl more);
+          let s = item_counted w.value.sources c.behind-met.inside.sources c.loop-source.source c.len-count.result c.loop-source-test.true c.len-count.ensures.count (ap (λ (b : BandValue). b.sources) (c.behind-met.view_is ∙ c.band.ensures.band w)) in
+          let before = c.loop-source.invariant w in
+          let there = source_there c.args.met.now c.loop-source.met c.args.id c.args.band c.loop-source.source before.steps.grows w s.0 s.1 in
+          let more = band_more c.args.verify c.args.room w.mosaic.dataset.head.name w.value.sources _ _ _ c.args.met.now c.loop-source.met c.visit_source.new.met c.loop-source.source c.loop-source.row before s.0 c.in_ok-target.target s.1 (c.in_ok-target.ensures.passes there) in
+          rw result (passes_memory c.args.verify c.args.room w.mosaic.dataset.head.name (List ℕ) (List ℕ) _ w.value.sources _ _ c.args.met.now c.visit_source.new.met _ _ _ Memory refl more);
     }
 
 pub visit_band-loop-source-preserved : goal.visit_band-loop-source-preserved
@@ -102,8 +102,8 @@ visit_band-loop-source-preserved g t c = λ w.
 pub visit_band-returns : goal.visit_band-returns
 visit_band-returns g t c = record {
   passes = λ w.
-    let same = ap (λ (b : BandValue). length b.sources) (c.behind-met.view_is ∙ c.band.ensures.band w) in
-    band_ends c.args.verify c.args.room w.mosaic.dataset.head.name w.value.sources _ _ (seen (g.F.Folder.names c.loop-source.folder) (g.F.Folder.write_calls c.loop-source.folder) (g.F.Folder.read_calls c.loop-source.folder) (g.F.Folder.faults c.loop-source.folder)) c.args.met.now c.loop-source.met c.loop-source.met c.loop-source.source c.loop-source.row (c.loop-source.invariant w) (omega (arith, same, c.loop-source-test.false, c.len-count.ensures.count));
+      let same = ap (λ (b : BandValue). length b.sources) (c.behind-met.view_is ∙ c.band.ensures.band w) in
+      band_ends c.args.verify c.args.room w.mosaic.dataset.head.name w.value.sources _ _ (seen (g.F.Folder.names c.loop-source.folder) (g.F.Folder.write_calls c.loop-source.folder) (g.F.Folder.read_calls c.loop-source.folder) (g.F.Folder.faults c.loop-source.folder)) c.args.met.now c.loop-source.met c.loop-source.met c.loop-source.source c.loop-source.row (c.loop-source.invariant w) (omega (arith, same, c.loop-source-test.false, c.len-count.ensures.count));
 }
 
 pub visit_bands-visit_band-requires-clause-linked : goal.visit_bands-visit_band-requires-clause-linked
@@ -120,10 +120,10 @@ visit_bands-returns-in_err-row g t c =
     let result = err_is c.from_residual.result c.in_err-row.field-0.0 c.from_residual.ensures in
     record {
       passes = λ w.
-        let b = item_counted w.document.bands c.behind-met.inside.bands c.loop-band.band c.len-count.result c.loop-band-test.true c.len-count.ensures.count (ap (λ (d : DocumentValue). d.bands) (c.behind-met.view_is ∙ c.document.ensures.document w)) in
-        let before = c.loop-band.invariant w in
-        let there = band_there c.args.met.now c.loop-band.met c.args.id c.loop-band.band before.steps.grows w b.0 b.1 in
-        rw result (bands_refused c.args.verify c.args.room w.dataset.head.name w.document.bands _ _ _ c.args.met.now c.loop-band.met c.visit_band.new.met c.loop-band.band c.loop-band.rows before b.0 c.in_err-row.field-0.0 b.1 (c.in_err-row.ensures.passes there));
+          let b = item_counted w.document.bands c.behind-met.inside.bands c.loop-band.band c.len-count.result c.loop-band-test.true c.len-count.ensures.count (ap (λ (d : DocumentValue). d.bands) (c.behind-met.view_is ∙ c.document.ensures.document w)) in
+          let before = c.loop-band.invariant w in
+          let there = band_there c.args.met.now c.loop-band.met c.args.id c.loop-band.band before.steps.grows w b.0 b.1 in
+          rw result (bands_refused c.args.verify c.args.room w.dataset.head.name w.document.bands _ _ _ c.args.met.now c.loop-band.met c.visit_band.new.met c.loop-band.band c.loop-band.rows before b.0 c.in_err-row.field-0.0 b.1 (c.in_err-row.ensures.passes there));
     }
 
 pub visit_bands-returns-in_err-push : goal.visit_bands-returns-in_err-push
@@ -131,11 +131,11 @@ visit_bands-returns-in_err-push g t c =
     let result = err_is c.from_residual-in_err-push.result Memory c.from_residual-in_err-push.ensures in
     record {
       passes = λ w.
-        let b = item_counted w.document.bands c.behind-met.inside.bands c.loop-band.band c.len-count.result c.loop-band-test.true c.len-count.ensures.count (ap (λ (d : DocumentValue). d.bands) (c.behind-met.view_is ∙ c.document.ensures.document w)) in
-        let before = c.loop-band.invariant w in
-        let there = band_there c.args.met.now c.loop-band.met c.args.id c.loop-band.band before.steps.grows w b.0 b.1 in
-        let more = bands_more c.args.verify c.args.room w.dataset.head.name w.document.bands _ _ _ c.args.met.now c.loop-band.met c.visit_band.new.met c.loop-band.band c.loop-band.rows before b.0 c.in_ok-row.row b.1 (c.in_ok-row.ensures.passes there) in
-        rw result (passes_memory c.args.verify c.args.room w.dataset.head.name (List (List ℕ)) (List (List ℕ)) _ (sources_of w.document) _ _ c.args.met.now c.visit_band.new.met _ _ _ Memory refl more);
+          let b = item_counted w.document.bands c.behind-met.inside.bands c.loop-band.band c.len-count.result c.loop-band-test.true c.len-count.ensures.count (ap (λ (d : DocumentValue). d.bands) (c.behind-met.view_is ∙ c.document.ensures.document w)) in
+          let before = c.loop-band.invariant w in
+          let there = band_there c.args.met.now c.loop-band.met c.args.id c.loop-band.band before.steps.grows w b.0 b.1 in
+          let more = bands_more c.args.verify c.args.room w.dataset.head.name w.document.bands _ _ _ c.args.met.now c.loop-band.met c.visit_band.new.met c.loop-band.band c.loop-band.rows before b.0 c.in_ok-row.row b.1 (c.in_ok-row.ensures.passes there) in
+          rw result (passes_memory c.args.verify c.args.room w.dataset.head.name (List (List ℕ)) (List (List ℕ)) _ (sources_of w.document) _ _ c.args.met.now c.visit_band.new.met _ _ _ Memory refl more);
     }
 
 pub visit_bands-loop-band-preserved : goal.visit_bands-loop-band-preserved
@@ -148,6 +148,6 @@ visit_bands-loop-band-preserved g t c = λ w.
 pub visit_bands-returns : goal.visit_bands-returns
 visit_bands-returns g t c = record {
   passes = λ w.
-    let same = ap (λ (d : DocumentValue). length d.bands) (c.behind-met.view_is ∙ c.document.ensures.document w) in
-    bands_end c.args.verify c.args.room w.dataset.head.name w.document.bands _ _ (seen (g.F.Folder.names c.loop-band.folder) (g.F.Folder.write_calls c.loop-band.folder) (g.F.Folder.read_calls c.loop-band.folder) (g.F.Folder.faults c.loop-band.folder)) c.args.met.now c.loop-band.met c.loop-band.met c.loop-band.band c.loop-band.rows (c.loop-band.invariant w) (omega (arith, same, c.loop-band-test.false, c.len-count.ensures.count));
+      let same = ap (λ (d : DocumentValue). length d.bands) (c.behind-met.view_is ∙ c.document.ensures.document w) in
+      bands_end c.args.verify c.args.room w.dataset.head.name w.document.bands _ _ (seen (g.F.Folder.names c.loop-band.folder) (g.F.Folder.write_calls c.loop-band.folder) (g.F.Folder.read_calls c.loop-band.folder) (g.F.Folder.faults c.loop-band.folder)) c.args.met.now c.loop-band.met c.loop-band.met c.loop-band.band c.loop-band.rows (c.loop-band.invariant w) (omega (arith, same, c.loop-band-test.false, c.len-count.ensures.count));
 }

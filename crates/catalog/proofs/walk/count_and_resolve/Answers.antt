@@ -15,8 +15,8 @@ resolve_source-requires c = record { there = counted_source c.args.met.now c.cou
 pub returns : goal.returns
 returns c = record {
   names = λ w.
-    let e = c.in_ok-count_source.ensures in
-    let v = counted_source c.args.met.now c.count_source.new.self c.args.id c.args.band c.args.source e.ok w in
-    let r = c.resolve_source.ensures in
-    names_resolved w.of.mosaic.dataset.head.name w.value c.args.met.now c.count_source.new.self c.resolve_source.result e.told e.ok (r.told v) (r.band v) r.plain;
+      let e = c.in_ok-count_source.ensures in
+      let v = counted_source c.args.met.now c.count_source.new.self c.args.id c.args.band c.args.source e.ok w in
+      let r = c.resolve_source.ensures in
+      names_resolved w.of.mosaic.dataset.head.name w.value c.args.met.now c.count_source.new.self c.resolve_source.result e.told e.ok (r.told v) (r.band v) r.plain;
 }

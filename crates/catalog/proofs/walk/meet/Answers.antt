@@ -15,8 +15,10 @@ pub returns-in_err-check_again : goal.returns-in_err-check_again
 returns-in_err-check_again g c =
     let result = err_is c.from_residual-in_err-check_again.result c.in_err-check_again.field-0.0 c.from_residual-in_err-check_again.ensures in
     let e = c.in_err-check_again.ensures in
-    record { meets = rw result (visits_plain c.args.verify c.args.room c.args.name.now _ c.args.met.now c.in_ok-kind.kind c.in_err-check_again.field-0.0 c.in_ok-kind.ensures.kind e.plain
-    (λ m path on. from_memory _ (e.told m c.args.verify path on))) }
+    record {
+      meets = rw result (visits_plain c.args.verify c.args.room c.args.name.now _ c.args.met.now c.in_ok-kind.kind c.in_err-check_again.field-0.0 c.in_ok-kind.ensures.kind e.plain
+          (λ m path on. from_memory _ (e.told m c.args.verify path on)));
+    }
 
 pub returns-in-Some : goal.returns-in-Some
 returns-in-Some g c =
