@@ -49,7 +49,7 @@ const TWELVE: [u8; 12] = [0; 12];
 // A name, the files, and what is said of it.
 type Row<'a> = (&'a str, &'a [(&'a str, &'a [u8])], &'a str);
 
-const ROWS: [Row<'static>; 6] = [
+const ROWS: [Row<'static>; 13] = [
     ("a.tif", &[], "unknown a.tif"),
     ("a.bil", &[("a.hdr", HEADER)], "absent a.bil"),
     ("./a.bil", &[("a.bil", &TWELVE)], "absent a.hdr"),
@@ -64,6 +64,30 @@ const ROWS: [Row<'static>; 6] = [
         "short a.bil 12 11",
     ),
     ("a.bil", &[("a.bil", &TWELVE), ("a.hdr", HEADER)], ""),
+    ("c.dt0", &[("c.dt0", b"")], "malformed c.dt0 Dted(Short)"),
+    (
+        "c.dt0",
+        &[("c.dt0", &[b' '; 80])],
+        "malformed c.dt0 Dted(NotDted)",
+    ),
+    (
+        "d/S01W180.HGT",
+        &[("d/S01W180.HGT", b"")],
+        "malformed d/S01W180.HGT Hgt(BadLength)",
+    ),
+    (
+        "d/N00.hgt",
+        &[("d/N00.hgt", b"")],
+        "malformed d/N00.hgt Hgt(BadName)",
+    ),
+    // the name of a tile is read before its file is opened
+    (
+        "N91E000.hgt",
+        &[("N91E000.hgt", b"")],
+        "malformed N91E000.hgt Hgt(BadName)",
+    ),
+    ("N91E000.hgt", &[], "malformed N91E000.hgt Hgt(BadName)"),
+    ("N90E000.hgt", &[], "absent N90E000.hgt"),
 ];
 
 #[test]
@@ -197,37 +221,6 @@ fn cells(rt: HostRuntime) -> Result<(), Fail> {
     for (name, sum, verify, said) in CELLS {
         assert_eq!(rt; cell_answer(alloc, name, sum, verify)?.as_str(), said);
     }
-    Ok(())
-}
-
-// Bytes under the name of a cell or a tile, and what is said.
-const WRONG: [(&str, &[u8], &str); 5] = [
-    ("c.dt0", b"", "malformed c.dt0 Dted(Short)"),
-    ("c.dt0", &[b' '; 80], "malformed c.dt0 Dted(NotDted)"),
-    ("N91E000.hgt", b"", "malformed N91E000.hgt Hgt(BadName)"),
-    (
-        "d/S01W180.HGT",
-        b"",
-        "malformed d/S01W180.HGT Hgt(BadLength)",
-    ),
-    ("d/N00.hgt", b"", "malformed d/N00.hgt Hgt(BadName)"),
-];
-
-#[test]
-fn wrong_files(rt: HostRuntime) -> Result<(), Fail> {
-    let alloc = rt.alloc();
-    for (name, bytes, said) in WRONG {
-        assert_eq!(rt; answer(alloc, name, &[(name, bytes)])?.as_str(), said);
-    }
-    // the name of a tile is read before its file is opened
-    assert_eq!(rt;
-        answer(alloc, "N91E000.hgt", &[])?.as_str(),
-        "malformed N91E000.hgt Hgt(BadName)"
-    );
-    assert_eq!(rt;
-        answer(alloc, "N90E000.hgt", &[])?.as_str(),
-        "absent N90E000.hgt"
-    );
     Ok(())
 }
 
