@@ -7,6 +7,7 @@ mod Examples
 pub mod Found
 pub mod Headers
 pub mod Heights
+pub mod Indexed
 pub mod Lengths
 pub mod Listings
 pub mod Loops

@@ -23,7 +23,7 @@ none≢some e = cc
 
 -- items of lists
 
-front_item : {T : Type 0} (xs ys : List T) (id : ℕ) (x : T) → slice_get xs id ≡ Some x → slice_get (xs ++ ys) id ≡ Some x
+pub front_item : {T : Type 0} (xs ys : List T) (id : ℕ) (x : T) → slice_get xs id ≡ Some x → slice_get (xs ++ ys) id ≡ Some x
 front_item [] ys id x is = absurd (none≢some is)
 front_item (y ∷ xs) ys zero x is = is
 front_item (y ∷ xs) ys (suc id) x is = front_item xs ys id x is

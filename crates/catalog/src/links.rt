@@ -1,5 +1,7 @@
 // What a walk keeps of what it has met.
-ghost use Rattle.std.specs.Prelude.{◌≡◌, ◌<◌, ◌≤◌, ◌+◌, ℕ, suc, [], length, All, slice_get, Option, Some, None, option_map, IfOk, IfErr, OnOk, OnErr, max};
+ghost use Rattle.std.specs.Prelude.{◌≡◌, ◌<◌, ◌≤◌, ◌+◌, ℕ, suc, List, [], length, All, slice_get, bytes_eq, Option, Some, None, option_map, if◌then◌else◌, IfOk, IfErr, OnOk, OnErr, max};
+ghost use Rattle.std.specs.Option.{option_or};
+ghost use Rattle.std.specs.BTreeMap.{get_by_text};
 ghost use Rattle.vrt_profile.specs.Values.{BandValue};
 ghost use Rattle.lists_and_answers.specs.Answers.{Gives};
 ghost use Rattle.catalog.specs.Outcomes.{IsMemory};
@@ -14,6 +16,7 @@ use crate::{LimitKind, WalkFault};
 use lists_and_answers::Items;
 use outside::Name;
 use std::alloc::{AllocError, Global};
+use std::collections::BTreeMap;
 use std::marker::Model;
 use vrt_profile::{Document, VrtBand};
 
@@ -37,6 +40,8 @@ pub struct Link {
 #[derive(Drop)]
 pub struct Met {
     datasets: Vec<Dataset>,
+    // The number of each dataset, under its name.
+    numbers: BTreeMap<String, u32>,
     links: Vec<Option<Link>>,
     sources: u32,
 }
@@ -54,26 +59,32 @@ impl Link {
 }
 
 impl Model for Met {
+    ghost use Rattle.std.specs.Prelude.{◌≡◌, List, ℕ};
+    ghost use Rattle.std.specs.BTreeMap.{get_by_text};
+    ghost use Rattle.catalog.specs.Walk.{number_of};
     ghost use Rattle.catalog.specs.Linked.{State};
 
     ghost Value = { State };
 
     ghost view = { λ m. record { datasets = m.datasets.items; links = m.links.items; sources = m.sources } };
+
+    ghost invariant = { λ m. (name : List ℕ) → get_by_text m.numbers name ≡ number_of m.datasets.items name };
 }
 
-// The number of the dataset of a name.
-fn number_of(datasets: &[Dataset], name: &Name) -> Option<u32>
-    requires few { length datasets.now ≤ 65536 }
-    ensures { result ≡ number_of datasets.now name.now }
+// Keeps the number of a dataset under its name, unless the name has one. Where memory is refused,
+// nothing changes.
+fn keep_number(
+    numbers: &mut BTreeMap<String, u32>,
+    alloc: Global,
+    dataset: &Dataset,
+    number: u32,
+) -> Result<(), AllocError>
+    ensures ok { OnOk result ((name : List ℕ) → get_by_text numbers.new name ≡ option_or (get_by_text numbers.old name) (if bytes_eq dataset.now.head.name name then Some number else None)) }
+    ensures err { OnErr result (numbers.new.entries ≡ numbers.old.entries) }
 {
-    let mut at = 0;
-    for dataset in datasets {
-        if dataset.is_of(name) {
-            return Some(at);
-        }
-        at += 1;
-    }
-    None
+    let key = String::from_str(alloc, dataset.head.name.as_str())?;
+    numbers.entry(key)?.or_insert(number);
+    Ok(())
 }
 
 impl Met {
@@ -83,6 +94,7 @@ impl Met {
     {
         Met {
             datasets: Vec::new(alloc),
+            numbers: BTreeMap::new(alloc),
             links: Vec::new(alloc),
             sources: 0,
         }
@@ -108,7 +120,7 @@ impl Met {
         requires few { length self.now.datasets ≤ 65536 }
         ensures number { result ≡ number_of self.now.datasets name.now }
     {
-        number_of(self.datasets.as_slice(), name)
+        self.numbers.get(name.as_str()).copied()
     }
 
     /// A dataset by its number.
@@ -162,8 +174,12 @@ impl Met {
         ensures grows { Grows self.old self.new }
     {
         let id = self.datasets.len() as u32;
-        self.datasets.push(dataset)?;
+        let alloc = *self.datasets.allocator();
         self.links.push(link)?;
+        self.datasets.reserve(1)?;
+        keep_number(&mut self.numbers, alloc, &dataset, id)?;
+        // There is room: no number is kept without its dataset.
+        self.datasets.push(dataset)?;
         Ok(id)
     }
 
@@ -183,6 +199,7 @@ impl Met {
         ensures cut { self.new ≡ cut_to self.old count sources }
     {
         self.datasets.truncate(count as usize);
+        self.numbers.retain(|_, number| *number < count);
         self.links.truncate(count as usize);
         self.sources = sources;
     }
