@@ -4,8 +4,30 @@ use Rattle.std.specs.Prelude.{flat_map, codes}
 use Rattle.std.specs.Fmt.{decimal, signed_decimal}
 use Rattle.std.proofs.lemmas.List.{append-nil, take_more, drop_more}
 use Rattle.std.proofs.lemmas.Grind.{flat_map-append}
+use Rattle.lists_and_answers.specs.Growth.{KeepsFront}
+use Rattle.geotransform.proofs.Written as written
 use Rattle.outside.specs.Streams.{GetsPart}
 use Rattle.location_report.specs.Location.{place_text, band_text, bands_text}
+use Rattle.location_report.proofs.Kept.{kept_then}
+
+-- what stays in front where memory is refused
+pub keeps_itself : (a : List ℕ) → KeepsFront a a
+keeps_itself a = written.keeps_itself a
+
+pub keeps_same : (a b : List ℕ) → b ≡ a → KeepsFront a b
+keeps_same a b p = record { front = ap (take (length a)) p ∙ (written.keeps_itself a).front }
+
+pub keeps_pushed : (a b c e : List ℕ) → b ≡ a ++ e → c ≡ b → KeepsFront a c
+keeps_pushed a b c e p q = written.keeps_append a c e (q ∙ p)
+
+pub keeps_then : (a b c e : List ℕ) → b ≡ a ++ e → KeepsFront b c → KeepsFront a c
+keeps_then a b c e p h = written.keeps_then a b c e p h
+
+pub keeps_both : (a b c : List ℕ) → KeepsFront a b → KeepsFront b c → KeepsFront a c
+keeps_both a b c p q = record { front = kept_then a b c p.front q.front }
+
+pub keeps_more : (a b c e : List ℕ) → KeepsFront a b → c ≡ b ++ e → KeepsFront a c
+keeps_more a b c e p q = keeps_both a b c p (written.keeps_append b c e q)
 
 -- two pieces
 pub two : (o x y a b : List ℕ) → x ≡ o ++ a → y ≡ x ++ b → y ≡ o ++ (a ++ (b ++ []))

@@ -1,3 +1,4 @@
 pub mod Appended
+pub mod Kept
 pub mod Named
 pub mod Same

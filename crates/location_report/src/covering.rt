@@ -1,5 +1,5 @@
 // The names of the files that a mosaic's pixel is covered by.
-ghost use Rattle.std.specs.Prelude.{◌≡◌, ◌<◌, bytes_eq, length, slice_get, OnOk, OnErr, Some};
+ghost use Rattle.std.specs.Prelude.{◌≡◌, ◌<◌, bytes_eq, length, take, slice_get, OnOk, OnErr, Some};
 ghost use Rattle.std.specs.List.{list_any};
 ghost use Rattle.catalog.specs.Drivers.{Dataset};
 ghost use Rattle.catalog.specs.Links.{source_at};
@@ -28,9 +28,11 @@ fn is_listed(names: &[Name], name: &Name) -> bool
 }
 
 // Adds a name that isn't there yet.
+#[tactic(auto, using(crate::proofs::Kept::kept_same, crate::proofs::Kept::kept_added))]
 fn push_new(name: &Name, out: &mut Names) -> Result<(), AllocError>
     ensures ok { OnOk result (out.new ≡ with_name out.old name.now) }
     ensures err { OnErr result (out.new ≡ out.old) }
+    ensures kept { take (length out.old) out.new ≡ out.old }
 {
     if is_listed(out.as_slice(), name) {
         return Ok(());
@@ -39,9 +41,10 @@ fn push_new(name: &Name, out: &mut Names) -> Result<(), AllocError>
     Ok(())
 }
 
-#[tactic(auto, using(crate::proofs::Same::covered))]
+#[tactic(auto, using(crate::proofs::Same::covered, crate::proofs::Kept::kept_same))]
 /// Adds the name of a source's dataset, which has this size in pixels, where the source covers column `x`, line `y`
-/// of its mosaic, of the size `target`, and the name isn't there yet. After want of memory the list is as before.
+/// of its mosaic, of the size `target`, and the name isn't there yet. After want of memory the list is as before, and
+/// what it held always stays in front.
 pub fn push_covering(
     source: &Source,
     target: Size,
@@ -53,6 +56,7 @@ pub fn push_covering(
 ) -> Result<(), AllocError>
     ensures ok { OnOk result (out.new ≡ with_found out.old (covering_name source.now target name.now size x y)) }
     ensures err { OnErr result (out.new ≡ out.old) }
+    ensures kept { take (length out.old) out.new ≡ out.old }
 {
     match cover(source, target, size, x, y) {
         None => Ok(()),
@@ -74,18 +78,20 @@ fn push_target(
     requires known { id < length cat.now }
     requires source { (d : Dataset) → slice_get cat.now id ≡ Some d → source_at d band number ≡ Some source.now }
     ensures ok { (d : Dataset) → slice_get cat.now id ≡ Some d → OnOk result (out.new ≡ with_found out.old (covered_by cat.now d x y source.now)) }
+    ensures err { OnErr result (out.new ≡ out.old) }
+    ensures kept { take (length out.old) out.new ≡ out.old }
 {
     let target = cat.head(cat.target(id, band, number));
     let size = cat.head(id).size;
     push_covering(source, size, &target.name, target.size, x, y, out)
 }
 
-#[tactic(auto, using(crate::proofs::Named::fold_more), unfolding(crate::specs::Covering::with_covering))]
+#[tactic(auto, using(crate::proofs::Named::fold_more, crate::proofs::Kept::kept_same, crate::proofs::Kept::kept_then), unfolding(crate::specs::Covering::with_covering))]
 /// Adds the names of the datasets that cover column `x`, line `y` of a band of a mosaic by its own sources, in the
 /// order of the document, each that isn't there yet. A dataset that is no mosaic adds none. The band is counted
 /// from 0.
 ///
-/// AllocError comes freely; the names that were added until then stay.
+/// AllocError comes freely; the names that were there stay in front of those that were added until then.
 pub fn files_at(
     cat: &Catalog,
     id: u32,
@@ -97,6 +103,7 @@ pub fn files_at(
     requires known { id < length cat.now }
     requires band { (d : Dataset) → slice_get cat.now id ≡ Some d → band < length d.head.bands }
     ensures ok { (d : Dataset) → slice_get cat.now id ≡ Some d → OnOk result (out.new ≡ with_covering cat.now d band x y out.old) }
+    ensures kept { take (length out.old) out.new ≡ out.old }
 {
     let _count = cat.count();
     let Some(document) = cat.document(id) else {

@@ -1,6 +1,7 @@
 // What is told of a place, written to a sink.
 ghost use Rattle.std.specs.Prelude.{◌≡◌, ◌++◌, length, Err, OnOk, OnErr, IfSome};
 ghost use Rattle.std.specs.Option.{option_map};
+ghost use Rattle.lists_and_answers.specs.Growth.{KeepsFront};
 ghost use Rattle.outside.specs.Causes.{HasCause};
 ghost use Rattle.outside.specs.Streams.{Gets, GetsPart};
 ghost use Rattle.location_report.specs.Location.{place_text, report_text, only_text, location_text};
@@ -39,7 +40,8 @@ impl From<AllocError> for ReportFault {
 
 /// Appends the head of a report.
 fn push_place(x: i128, y: i128, out: &mut Vec<u8>) -> Result<(), AllocError>
-    ensures { OnOk result (out.new.items ≡ out.old.items ++ place_text x y) }
+    ensures ok { OnOk result (out.new.items ≡ out.old.items ++ place_text x y) }
+    ensures err { OnErr result (KeepsFront out.old.items out.new.items) }
 {
     let (mut column, mut line) = (Buffer::new(), Buffer::new());
     let column = column.format(x).as_bytes();
@@ -52,7 +54,7 @@ fn push_place(x: i128, y: i128, out: &mut Vec<u8>) -> Result<(), AllocError>
 }
 
 /// Appends a report.
-#[tactic(auto, using(crate::proofs::Appended::two), unfolding(crate::specs::Location::report_text))]
+#[tactic(auto, using(crate::proofs::Appended::two, crate::proofs::Appended::keeps_then, crate::proofs::Appended::keeps_pushed), unfolding(crate::specs::Location::report_text))]
 fn push_report(
     x: i128,
     y: i128,
@@ -61,7 +63,8 @@ fn push_report(
     out: &mut Vec<u8>,
 ) -> Result<(), AllocError>
     requires { IfSome values (λ v. length v.now ≡ length bands.now) }
-    ensures { OnOk result (out.new.items ≡ out.old.items ++ report_text x y (option_map (λ v. v.now) values.entry) bands.now) }
+    ensures ok { OnOk result (out.new.items ≡ out.old.items ++ report_text x y (option_map (λ v. v.now) values.entry) bands.now) }
+    ensures err { OnErr result (KeepsFront out.old.items out.new.items) }
 {
     push_place(x, y, out)?;
     match values {
@@ -73,9 +76,10 @@ fn push_report(
 }
 
 /// Appends the values alone.
-#[tactic(auto, unfolding(crate::specs::Location::only_text))]
+#[tactic(auto, using(crate::proofs::Appended::keeps_same), unfolding(crate::specs::Location::only_text))]
 fn push_only(values: Option<&[Sample]>, out: &mut Vec<u8>) -> Result<(), AllocError>
-    ensures { OnOk result (out.new.items ≡ out.old.items ++ only_text (option_map (λ v. v.now) values.entry)) }
+    ensures ok { OnOk result (out.new.items ≡ out.old.items ++ only_text (option_map (λ v. v.now) values.entry)) }
+    ensures err { OnErr result (KeepsFront out.old.items out.new.items) }
 {
     match values {
         Some(values) => push_values(values, out),
@@ -86,7 +90,7 @@ fn push_only(values: Option<&[Sample]>, out: &mut Vec<u8>) -> Result<(), AllocEr
 /// Appends what is told of column `x`, line `y`: a report, its values alone, or the names of these files alone.
 /// There are as many values as bands, or none where the place is off the raster; bands are counted from 1.
 ///
-/// AllocError comes freely; what was appended until then stays.
+/// AllocError comes freely; what was there then stays in front.
 #[tactic(auto, unfolding(crate::specs::Location::location_text))]
 pub fn push_location(
     form: Form,
@@ -98,7 +102,8 @@ pub fn push_location(
     out: &mut Vec<u8>,
 ) -> Result<(), AllocError>
     requires { IfSome values (λ v. length v.now ≡ length bands.now) }
-    ensures { OnOk result (out.new.items ≡ out.old.items ++ location_text form x y (option_map (λ v. v.now) values.entry) bands.now files.now) }
+    ensures ok { OnOk result (out.new.items ≡ out.old.items ++ location_text form x y (option_map (λ v. v.now) values.entry) bands.now files.now) }
+    ensures err { OnErr result (KeepsFront out.old.items out.new.items) }
 {
     match form {
         Form::Report => push_report(x, y, values, bands, out),

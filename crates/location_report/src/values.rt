@@ -1,5 +1,6 @@
 // The values of a pixel. Each call may be refused memory.
-ghost use Rattle.std.specs.Prelude.{◌≡◌, ◌++◌, length, OnOk};
+ghost use Rattle.std.specs.Prelude.{◌≡◌, ◌++◌, length, OnOk, OnErr};
+ghost use Rattle.lists_and_answers.specs.Growth.{KeepsFront};
 ghost use Rattle.location_report.specs.Location.{value_text, values_text, band_text, bands_text};
 
 use crate::pieces::push_all;
@@ -10,16 +11,18 @@ use std::alloc::AllocError;
 /// Appends the line of a value.
 #[tactic(auto, unfolding(crate::specs::Location::value_text))]
 fn push_value(value: Sample, out: &mut Vec<u8>) -> Result<(), AllocError>
-    ensures { OnOk result (out.new.items ≡ out.old.items ++ value_text value) }
+    ensures ok { OnOk result (out.new.items ≡ out.old.items ++ value_text value) }
+    ensures err { OnErr result (KeepsFront out.old.items out.new.items) }
 {
     let mut buffer = Buffer::new();
     push_all(&[buffer.format(value).as_bytes(), b"\n"], out)
 }
 
 /// Appends the values, one on a line.
-#[tactic(auto, using(crate::proofs::Appended::one_more), unfolding(crate::specs::Location::values_text))]
+#[tactic(auto, using(crate::proofs::Appended::one_more, crate::proofs::Appended::keeps_then), unfolding(crate::specs::Location::values_text))]
 pub fn push_values(values: &[Sample], out: &mut Vec<u8>) -> Result<(), AllocError>
-    ensures { OnOk result (out.new.items ≡ out.old.items ++ values_text values.now) }
+    ensures ok { OnOk result (out.new.items ≡ out.old.items ++ values_text values.now) }
+    ensures err { OnErr result (KeepsFront out.old.items out.new.items) }
 {
     for value in values {
         push_value(*value, out)?;
@@ -29,7 +32,8 @@ pub fn push_values(values: &[Sample], out: &mut Vec<u8>) -> Result<(), AllocErro
 
 /// Appends the lines of a band.
 fn push_band(band: u32, value: Sample, out: &mut Vec<u8>) -> Result<(), AllocError>
-    ensures { OnOk result (out.new.items ≡ out.old.items ++ band_text band value) }
+    ensures ok { OnOk result (out.new.items ≡ out.old.items ++ band_text band value) }
+    ensures err { OnErr result (KeepsFront out.old.items out.new.items) }
 {
     let (mut n, mut v) = (Buffer::new(), Buffer::new());
     let n = n.format(band).as_bytes();
@@ -39,10 +43,11 @@ fn push_band(band: u32, value: Sample, out: &mut Vec<u8>) -> Result<(), AllocErr
 }
 
 /// Appends the lines of the bands, each with its value.
-#[tactic(auto, using(crate::proofs::Appended::one_band_more))]
+#[tactic(auto, using(crate::proofs::Appended::one_band_more, crate::proofs::Appended::keeps_itself, crate::proofs::Appended::keeps_more, crate::proofs::Appended::keeps_both))]
 pub fn push_bands(bands: &[u32], values: &[Sample], out: &mut Vec<u8>) -> Result<(), AllocError>
     requires { length values.now ≡ length bands.now }
-    ensures { OnOk result (out.new.items ≡ out.old.items ++ bands_text bands.now values.now) }
+    ensures ok { OnOk result (out.new.items ≡ out.old.items ++ bands_text bands.now values.now) }
+    ensures err { OnErr result (KeepsFront out.old.items out.new.items) }
 {
     for (at, band) in bands.iter().enumerate() {
         push_band(*band, values[at], out)?;

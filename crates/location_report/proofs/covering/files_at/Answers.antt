@@ -3,6 +3,7 @@ use Rattle.std.proofs.lemmas.List.{take_all}
 use Rattle.std.proofs.lemmas.Option.{slice_get-get_or}
 use Rattle.vrt_profile.specs.Values.{SourceValue, BandValue, DocumentValue}
 use Rattle.location_report.specs.Covering.{with_found, covered_by, with_covering}
+use Rattle.location_report.proofs.Kept.{kept_then}
 use Rattle.location_report.proofs.Named.{few_sources, fold_more, source_stands, sources_are}
 use Rattle.location_report.proofs.covering.files_at.Goals as goal
 
@@ -21,16 +22,19 @@ push_target-requires-clause-source c d at =
     source_stands c.args.cat.now c.args.id c.args.band c.loop-number.number d c.in-Some.document.now c.get.result.now c.source-item.result c.in-Some.ensures.document band_at item at
 
 pub loop-number-preserved : goal.loop-number-preserved
-loop-number-preserved c d at =
-    c.in_ok-push_target.ensures.ok d at
-    ∙ ap (λ (ns : List (List ℕ)). with_found ns (covered_by c.args.cat.now d c.args.x c.args.y c.source-item.result)) (c.loop-number.invariant d at)
-    ∙ sym (fold_more (λ ns s. with_found ns (covered_by c.args.cat.now d c.args.x c.args.y s)) c.args.out.now c.as_slice-source-items.result.now c.loop-number.number c.source-item.result _ c.loop-number-test.true c.source-item.is)
+loop-number-preserved c = record {
+  names = λ d at.
+      c.in_ok-push_target.ensures.ok d at
+      ∙ ap (λ (ns : List (List ℕ)). with_found ns (covered_by c.args.cat.now d c.args.x c.args.y c.source-item.result)) (c.loop-number.invariant.names d at)
+      ∙ sym (fold_more (λ ns s. with_found ns (covered_by c.args.cat.now d c.args.x c.args.y s)) c.args.out.now c.as_slice-source-items.result.now c.loop-number.number c.source-item.result _ c.loop-number-test.true c.source-item.is);
+  kept = kept_then c.args.out.now _ _ c.loop-number.invariant.kept c.in_ok-push_target.ensures.kept;
+}
 
-pub returns : goal.returns
+pub returns-clause-ok : goal.returns-clause-ok
 unfolding with_covering
-returns c = record { ok = λ d at.
+returns-clause-ok c d at =
     let band_at = ap (λ (doc : DocumentValue). slice_get doc.bands c.args.band) (sym c.document-2.view_is) ∙ c.get.ensures.item in
     let all = take_all c.loop-number.number c.as_slice-source-items.result.now c.loop-number-test.false in
     let items = c.as_slice-source-items.ensures.items ∙ ap (λ (b : BandValue). b.sources) c.behind-document.view_is in
-    c.loop-number.invariant d at
-    ∙ ap (λ (ss : List SourceValue). fold (λ ns s. with_found ns (covered_by c.args.cat.now d c.args.x c.args.y s)) c.args.out.now ss) (all ∙ items ∙ sym (sources_are c.args.cat.now c.args.id c.args.band d c.in-Some.document.now c.get.result.now c.in-Some.ensures.document band_at at)) }
+    c.loop-number.invariant.names d at
+    ∙ ap (λ (ss : List SourceValue). fold (λ ns s. with_found ns (covered_by c.args.cat.now d c.args.x c.args.y s)) c.args.out.now ss) (all ∙ items ∙ sym (sources_are c.args.cat.now c.args.id c.args.band d c.in-Some.document.now c.get.result.now c.in-Some.ensures.document band_at at))
