@@ -24,7 +24,7 @@ use Rattle.catalog.specs.declared.driver.Content.TheVariants.{File, Mosaic}
 use Rattle.catalog.specs.declared.mosaic_head.Listing.{Listing}
 use Rattle.catalog.specs.Mosaics.{source_name, is_among, distinct, sources_of}
 use Rattle.catalog.specs.Listed.{HasListed}
-use Rattle.catalog.specs.Heads.{kind_in, resolved, all_resolved, names_within, RefusesUnknown, OwnsFaults}
+use Rattle.catalog.specs.Heads.{kind_in, resolved, all_resolved, names_within, IsOfHead, RefusesUnknown, OwnsFaults}
 use Rattle.catalog.proofs.Mosaics.{distinct_with, among_with}
 
 -- the files
@@ -194,6 +194,9 @@ long_unknown {T = T} kind name content f known is =
 
 pub long_owns : {T : Type 0} (name : List ℕ) (content : Content) (f : WalkFault) → names_within name content ≡ Err f → OwnsFaults {T = T} (Err f)
 long_owns {T = T} name content f is n b here = absurd (limit≢malformed (sym (long_name name content f is).1 ∙ err_same T f _ here))
+
+pub long_of_head : (name : List ℕ) (content : Content) (f : WalkFault) → names_within name content ≡ Err f → IsOfHead f
+long_of_head name content f is = subst IsOfHead (sym (long_name name content f is).1) refl
 
 pub long_cause : {T : Type 0} (name : List ℕ) (content : Content) (f : WalkFault) (before now : ℕ) → names_within name content ≡ Err f → before ≤ now → HasCause {T = T} FolderFault before now (Err f)
 long_cause {T = T} name content f before now is later = record { later = later; failed = λ here. absurd (limit≢outside (sym (long_name name content f is).1 ∙ err_same T f _ here)) }
