@@ -1,9 +1,8 @@
 -- The numbers of datasets.
-use Rattle.std.proofs.Common.{◌≡◌, ◌∙◌, ◌↔◌, ◌⊎◌, inl, inr, ◌+◌, ◌<◌, ◌≤◌, ap, sym, subst, refl, cond, ℕ, zero, suc, List, length-append, [], ◌∷◌, ◌++◌, length, drop, Bool, true, false, Option, Some, None, is_some, IsTrue, arith, true≢false, bytes_eq}
+use Rattle.std.proofs.Common.{◌≡◌, ◌∙◌, ◌⊎◌, inl, inr, ◌+◌, ◌<◌, ◌≤◌, ap, sym, subst, refl, cond, ℕ, zero, suc, List, length-append, [], ◌∷◌, ◌++◌, length, drop, Bool, true, false, Option, Some, None, is_some, IsTrue, arith, true≢false, bytes_eq}
 use Rattle.std.specs.Prelude.{All, slice_get}
 use Rattle.std.proofs.lemmas.List.Elements.{All-append, All-cons, All-nil}
 use Rattle.std.proofs.lemmas.Slice.Eq.{bytes_eq-Decides}
-use Rattle.std.proofs.lemmas.Bool.Decides.{same_from_decides}
 use Rattle.catalog.specs.Drivers.{Dataset}
 use Rattle.catalog.specs.Walk.{number_from, number_of, IsApart}
 
@@ -12,12 +11,6 @@ none≢some e = true≢false (sym (ap is_some e))
 
 some_injective : {T : Type 0} {x y : T} → Some x ≡ Some y → x ≡ y
 some_injective e = cc
-
--- a test that decides whether two texts are the same
-pub same_bytes : (a b : List ℕ) (r : Bool) → (IsTrue r ↔ (a ≡ b)) → r ≡ bytes_eq a b
-same_bytes a b r h = same_from_decides r (bytes_eq a b) h (bytes_eq-Decides a b)
-
--- one dataset behind the others
 
 -- the numbers from one dataset on, by the test of its name
 by_name : ℕ → List Dataset → List ℕ → Bool → Option ℕ

@@ -1,9 +1,6 @@
 // The datasets of a catalog.
-ghost use Rattle.std.specs.Prelude.{◌≡◌, bytes_eq};
-
 use crate::Head;
 use crate::driver::Content;
-use outside::Name;
 use std::marker::Model;
 
 // A dataset: its head, its content, and the length in bytes of the file that has its name.
@@ -23,13 +20,4 @@ impl Model for Dataset {
     ghost view = { λ d. record { head = d.head; content = d.content; length = d.length } };
 
     ghost invariant = { λ d. IsDataset (record { head = d.head; content = d.content; length = d.length }) };
-}
-
-impl Dataset {
-    // Whether this is the dataset of a name.
-    pub fn is_of(&self, name: &Name) -> bool
-        ensures { result ≡ bytes_eq self.now.head.name name.now }
-    {
-        self.head.is_of(name)
-    }
 }

@@ -1,6 +1,4 @@
 // What is known of a dataset.
-ghost use Rattle.std.specs.Prelude.{◌≡◌, bytes_eq};
-
 use crate::{Bands, Kind};
 use geotransform::{GeoTransform, Size};
 use outside::{Name, Names, Text};
@@ -30,14 +28,4 @@ impl Model for Head {
     ghost view = { λ h. record { name = h.name; kind = h.kind; size = h.size; geo = h.geo; srs = h.srs; bands = h.bands; files = h.files } };
 
     ghost invariant = { λ h. IsDatasetHead (record { name = h.name; kind = h.kind; size = h.size; geo = h.geo; srs = h.srs; bands = h.bands; files = h.files }) };
-}
-
-impl Head {
-    // Whether this is the head of the dataset of a name.
-    #[tactic(auto, using(crate::proofs::Numbers::same_bytes))]
-    pub(crate) fn is_of(&self, name: &Name) -> bool
-        ensures { result ≡ bytes_eq self.now.name name.now }
-    {
-        self.name.is(name)
-    }
 }
