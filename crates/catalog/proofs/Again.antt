@@ -1,13 +1,12 @@
 -- What is checked of a dataset that was met whole, by its height.
-use Rattle.std.proofs.Common.{◌≡◌, ◌∙◌, ◌+◌, ◌<◌, ◌≤◌, ap, sym, subst, refl, cond, ℕ, zero, suc, List, [], ◌∷◌, ◌++◌, length, Bool, true, false, Option, Some, None, Result, Ok, Err, arith, true≢false, bytes_eq}
-use Rattle.std.specs.Prelude.{All, slice_get, max, nat_lt, ok_or, ◌||◌}
+use Rattle.std.proofs.Common.{◌≡◌, ◌∙◌, ◌<◌, ◌≤◌, ap, sym, subst, refl, cond, ℕ, zero, suc, List, [], ◌∷◌, length, Bool, true, false, Option, Some, Result, Ok, Err, arith, true≢false, bytes_eq}
+use Rattle.std.specs.Prelude.{All, slice_get, nat_lt, ok_or, ◌||◌}
 use Rattle.std.proofs.lemmas.Bool.Decides.{nat_tests}
 use Rattle.std.proofs.lemmas.Slice.Eq.{bytes_eq-Decides}
 use Rattle.lists_and_answers.specs.Answers.{◌>>=◌}
-use Rattle.vrt_profile.specs.Values.{SourceValue, DocumentValue}
+use Rattle.vrt_profile.specs.Values.{SourceValue}
 use Rattle.vrt_profile.specs.Resolve.{resolved_text}
 use Rattle.catalog.specs.declared.kind.Kind.{Kind}
-use Rattle.catalog.specs.declared.kind.Kind.TheVariants as kinds
 use Rattle.catalog.specs.declared.driver.DriverHead.{DriverHead}
 use Rattle.catalog.specs.declared.driver.DriverHead.TheVariants.{Raw, Dted, Hgt, Ascii}
 use Rattle.catalog.specs.declared.driver.Content.{Content}
@@ -20,8 +19,8 @@ use Rattle.catalog.specs.Drivers.{Dataset, content_head, content_kind, driver_ki
 use Rattle.catalog.specs.Mosaics.{sources_of, source_name, is_among}
 use Rattle.catalog.specs.Heads.{kind_in, resolved}
 use Rattle.catalog.specs.Walk.{number_of, dataset_named, sources_in, unless_on, room_for, again_sources, again_below, again_step, again, IsDataset}
-use Rattle.catalog.specs.Linked.{State, IsLinked, IsLink, IsLinkOf, IsMet, IsHigh, IsOff, IsDeep, IsTarget, Each, all_of, height_in, height_at, most, first_above}
-use Rattle.catalog.proofs.Found.{some_is, of_item, found, named_at, name_at, flat_rows}
+use Rattle.catalog.specs.Linked.{State, IsLinked, IsLinkOf, IsMet, IsHigh, IsOff, IsDeep, IsTarget, Each, all_of, height_in, height_at, most, first_above}
+use Rattle.catalog.proofs.Found.{some_is, of_item, named_at, name_at, flat_rows}
 use Rattle.catalog.proofs.Rows.{rows_known}
 
 -- kinds

@@ -1,24 +1,19 @@
 -- A mosaic is met whole.
-use Rattle.std.proofs.Common.{◌≡◌, ◌∙◌, ◌⊎◌, inl, inr, ◌+◌, ◌-◌, ◌<◌, ◌≤◌, ap, sym, subst, refl, ℕ, zero, suc, List, [], ◌∷◌, ◌++◌, length, Bool, true, false, Option, Some, None, is_some, IsTrue, Result, Ok, Err, arith, true≢false}
-use Rattle.std.specs.Prelude.{All, OnOk, IfOk, slice_get, set}
+use Rattle.std.proofs.Common.{◌≡◌, ◌∙◌, ◌⊎◌, ◌-◌, ◌<◌, ◌≤◌, ap, sym, subst, refl, ℕ, suc, List, [], ◌∷◌, length, Bool, Some, None, Result, Ok, Err, arith}
+use Rattle.std.specs.Prelude.{All, slice_get}
 use Rattle.std.proofs.lemmas.Option.{slice_get_within}
-use Rattle.std.proofs.lemmas.List.Elements.{All-append, All-cons, All-nil}
-use Rattle.lists_and_answers.specs.Answers.{Gives, ◌>>=◌}
-use Rattle.outside.specs.Outside.{Files}
-use Rattle.vrt_profile.specs.Values.{DocumentValue, BandValue, SourceValue}
-use Rattle.catalog.specs.declared.kind.Kind.{Kind}
+use Rattle.std.proofs.lemmas.List.Elements.{All-cons, All-nil}
+use Rattle.vrt_profile.specs.Values.{BandValue, SourceValue}
 use Rattle.catalog.specs.declared.kind.Kind.TheVariants as kinds
-use Rattle.catalog.specs.declared.driver.Content.TheVariants.{File, Mosaic}
 use Rattle.catalog.specs.declared.faults.WalkFault.{WalkFault}
 use Rattle.catalog.specs.declared.faults.WalkFault.TheVariants.{NotRecognized, Malformed, FolderFault}
 use Rattle.catalog.specs.declared.links.Link.{Link}
-use Rattle.catalog.specs.Drivers.{Dataset}
 use Rattle.catalog.specs.Mosaics.{sources_of}
 use Rattle.catalog.specs.Outcomes.{IsOutside}
 use Rattle.catalog.specs.Heads.{kind_in}
-use Rattle.catalog.specs.Walk.{Met, number_of, sources_in, visit, visit_sources, IsWalked}
-use Rattle.catalog.specs.Linked.{State, met_of, IsLinked, IsLink, IsLinkOf, IsMosaicAt, IsMosaicLink, IsPath, IsLow, IsTarget, Each, AreRows, Grows, Goes, most, all_of, pushed, closed}
-use Rattle.catalog.specs.Steps.{Seen, Steps, Visits, IsOpened, Passes, ReachesRows}
+use Rattle.catalog.specs.Walk.{Met, number_of, sources_in, visit, visit_sources}
+use Rattle.catalog.specs.Linked.{State, met_of, IsLinked, IsLink, IsLinkOf, IsMosaicAt, IsPath, IsTarget, Each, AreRows, Grows, Goes, most, all_of, pushed, closed}
+use Rattle.catalog.specs.Steps.{Seen, Visits, IsOpened, Passes, ReachesRows}
 use Rattle.catalog.proofs.States.{grows_trans, grows_pushed, grows_closed, goes_mosaic, stays_open, path_pushed, pushed_at, set_same}
 use Rattle.catalog.proofs.Steps.{failed, fault_is, ok≢err}
 use Rattle.catalog.proofs.Meetings.{not_met}

@@ -1,13 +1,13 @@
 -- The datasets of names, and the datasets that sources name.
-use Rattle.std.proofs.Common.{◌≡◌, ◌∙◌, ◌+◌, ◌<◌, ◌≤◌, ap, sym, subst, refl, cond, ℕ, zero, suc, List, [], ◌∷◌, ◌++◌, length, Bool, true, false, Option, Some, None, is_some, arith, true≢false, bytes_eq}
+use Rattle.std.proofs.Common.{◌≡◌, ◌∙◌, ◌+◌, ap, sym, subst, refl, cond, ℕ, suc, List, [], ◌∷◌, ◌++◌, Bool, true, false, Some, None, is_some, arith, true≢false, bytes_eq}
 use Rattle.std.specs.Prelude.{All, slice_get, flat_map, max}
 use Rattle.std.proofs.lemmas.Option.{slice_get_within, get_or_from_slice_get}
 use Rattle.std.proofs.lemmas.Slice.Eq.{bytes_eq-Decides}
 use Rattle.vrt_profile.specs.Values.{SourceValue, BandValue}
 use Rattle.catalog.specs.declared.links.Link.{Link}
 use Rattle.catalog.specs.Drivers.{Dataset}
-use Rattle.catalog.specs.Walk.{number_from, number_of, dataset_named, IsDataset, IsApart}
-use Rattle.catalog.specs.Linked.{State, IsLinked, Grows, IsTarget, Each, AreRows, all_of, height_in, height_at, most}
+use Rattle.catalog.specs.Walk.{number_from, number_of, dataset_named, IsApart}
+use Rattle.catalog.specs.Linked.{State, Grows, IsTarget, Each, AreRows, all_of, height_in, height_at, most}
 
 none≢some : {T : Type 0} {x : T} → None ≡ Some x → ⊥
 none≢some e = true≢false (sym (ap is_some e))

@@ -1,11 +1,10 @@
 -- Heights of datasets, and their nesting.
-use Rattle.std.proofs.Common.{◌≡◌, ◌∙◌, ◌+◌, ◌<◌, ◌≤◌, ap, sym, subst, refl, cond, ℕ, zero, suc, List, [], ◌∷◌, ◌++◌, length, Bool, true, false, Option, Some, None, Result, Ok, Err, arith}
-use Rattle.std.specs.Prelude.{All, slice_get, max, option_map, option_and_then, ok_or}
+use Rattle.std.proofs.Common.{◌≡◌, ◌∙◌, ◌≤◌, ap, sym, refl, ℕ, zero, suc, List, [], ◌∷◌, length, arith}
+use Rattle.std.specs.Prelude.{All, max, option_map, ok_or}
 use Rattle.std.specs.Option.{unwrap_or}
 use Rattle.std.proofs.lemmas.List.Elements.{All-cons, All-nil}
-use Rattle.std.proofs.lemmas.Option.{slice_get-get_or}
 use Rattle.lists_and_answers.specs.Options.{◌>>=◌}
-use Rattle.vrt_profile.specs.Values.{SourceValue, DocumentValue}
+use Rattle.vrt_profile.specs.Values.{SourceValue}
 use Rattle.vrt_profile.specs.Resolve.{resolved_text}
 use Rattle.catalog.specs.declared.driver.Content.{Content}
 use Rattle.catalog.specs.declared.driver.Content.TheVariants.{File, Mosaic}
@@ -14,10 +13,9 @@ use Rattle.catalog.specs.declared.faults.WalkFault.TheVariants.{Limit}
 use Rattle.catalog.specs.declared.links.Link.{Link}
 use Rattle.catalog.specs.Drivers.{Dataset}
 use Rattle.catalog.specs.Mosaics.{sources_of, source_name}
-use Rattle.catalog.specs.Heads.{resolved}
-use Rattle.catalog.specs.Walk.{number_of, dataset_named, sources_in, sources_among, IsDataset, HasTarget, IsFile, IsNested, IsCatalog}
-use Rattle.catalog.specs.Links.{greatest, height_step, height_within, height_of}
-use Rattle.catalog.specs.Linked.{State, IsMet, IsLinked, IsLink, IsLinkOf, IsTarget, IsWhole, Each, all_of, height_in, height_at, most}
+use Rattle.catalog.specs.Walk.{dataset_named, sources_in, HasTarget, IsFile, IsNested}
+use Rattle.catalog.specs.Links.{greatest, height_step, height_within}
+use Rattle.catalog.specs.Linked.{State, IsMet, IsLinked, IsLinkOf, IsTarget, Each, all_of, height_in, height_at, most}
 use Rattle.catalog.proofs.Found.{named_at, flat_rows}
 
 AreHigh : State → (Dataset → ℕ) → ℕ → Type 0

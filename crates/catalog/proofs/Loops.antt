@@ -1,14 +1,13 @@
 -- The walk through the sources of a mosaic, one behind the other.
-use Rattle.std.proofs.Common.{◌≡◌, ◌∙◌, ◌⊎◌, inl, inr, ◌+◌, ◌<◌, ◌≤◌, ap, sym, subst, refl, ℕ, zero, suc, List, [], ◌∷◌, ◌++◌, length, take, drop, Option, Some, None, Result, Ok, Err, arith, add-one, length-append, append_assoc}
-use Rattle.std.specs.Prelude.{slice_get, flat_map, max}
+use Rattle.std.proofs.Common.{◌≡◌, ◌∙◌, ◌⊎◌, ◌+◌, ◌≤◌, ap, sym, subst, ℕ, zero, suc, List, [], ◌∷◌, ◌++◌, length, take, drop, Some, None, Result, Ok, Err, arith, add-one, length-append}
+use Rattle.std.specs.Prelude.{slice_get, flat_map}
 use Rattle.std.proofs.lemmas.Grind.{flat_map-append}
 use Rattle.lists_and_answers.specs.Answers.{◌>>=◌}
 use Rattle.vrt_profile.specs.Values.{SourceValue, BandValue}
 use Rattle.catalog.specs.declared.faults.WalkFault.{WalkFault}
-use Rattle.catalog.specs.declared.links.Link.{Link}
 use Rattle.catalog.specs.Outcomes.{IsOutside}
 use Rattle.catalog.specs.Walk.{Met, visit_source, visit_sources}
-use Rattle.catalog.specs.Linked.{State, IsLinked, IsTarget, Grows, Each, AreRows, all_of, height_at, most}
+use Rattle.catalog.specs.Linked.{State, IsLinked, IsTarget, Grows, Each, height_at, most}
 use Rattle.catalog.proofs.Found.{each_more, each_map, target_stays, most_stays}
 use Rattle.catalog.proofs.Rows.{most_append}
 use Rattle.catalog.proofs.Visits.{sources_append, still_refused}

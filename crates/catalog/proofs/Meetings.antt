@@ -1,7 +1,6 @@
 -- How the visit of a name begins.
-use Rattle.std.proofs.Common.{◌≡◌, ◌∙◌, ◌⊎◌, inl, inr, ◌+◌, ◌-◌, ◌<◌, ◌≤◌, ap, sym, subst, refl, ℕ, zero, suc, List, [], ◌∷◌, ◌++◌, length, Bool, true, false, Option, Some, None, is_some, IsTrue, Result, Ok, Err, arith, true≢false}
-use Rattle.std.specs.Prelude.{OnOk, IfOk, slice_get, ok_or, option_and_then}
-use Rattle.lists_and_answers.specs.Answers.{Gives, ◌>>=◌}
+use Rattle.std.proofs.Common.{◌≡◌, ◌∙◌, ◌⊎◌, inl, inr, ◌-◌, ◌<◌, ◌≤◌, ap, sym, subst, refl, ℕ, zero, suc, List, [], ◌∷◌, ◌++◌, length, Bool, Option, Some, None, is_some, IsTrue, Result, Ok, Err, arith, true≢false}
+use Rattle.std.specs.Prelude.{slice_get, ok_or, option_and_then}
 use Rattle.outside.specs.Outside.{Files}
 use Rattle.outside.specs.Causes.{HasCause}
 use Rattle.outside.specs.Names.{extension_of}
@@ -17,14 +16,14 @@ use Rattle.catalog.specs.declared.faults.WalkFault.TheVariants.{NotRecognized, M
 use Rattle.catalog.specs.declared.links.Link.{Link}
 use Rattle.catalog.specs.Dataset.{DatasetHead}
 use Rattle.catalog.specs.Drivers.{Dataset, content_head}
-use Rattle.catalog.specs.Mosaics.{is_among, sources_of}
+use Rattle.catalog.specs.Mosaics.{sources_of}
 use Rattle.catalog.specs.Outcomes.{IsOutside, IsMemory}
 use Rattle.catalog.specs.Heads.{kind_in, kind_of, dataset_by, IsOfFile}
 use Rattle.catalog.proofs.Headers.{never_unknown, owns_fault}
 use Rattle.catalog.specs.Walk.{number_of, room_for, sources_in, visit, visit_sources, IsDataset, IsWalked}
 use Rattle.catalog.specs.Linked.{State, met_of, IsLinked, IsLink, IsLinkOf, IsPath, IsLow, Grows, pushed}
-use Rattle.catalog.specs.Steps.{Seen, IsPlain, IsFree, Steps, Visits, IsOpened}
-use Rattle.catalog.proofs.States.{grows_refl, grows_pushed, goes_none, goes_file, linked_pushed, open_unknown, pushed_at, last_item}
+use Rattle.catalog.specs.Steps.{Seen, IsPlain, Steps, Visits, IsOpened}
+use Rattle.catalog.proofs.States.{grows_refl, grows_pushed, goes_file, linked_pushed, open_unknown, pushed_at, last_item}
 use Rattle.catalog.proofs.Steps.{failed, fault_is, ok≢err, plain_known, steps_none, steps_plain}
 use Rattle.catalog.proofs.Visits.{IsFirst, visit_unknown, visit_deep, visit_limit, visit_unread, visit_file, visit_mosaic}
 use Rattle.catalog.proofs.Walked.{one_more_walked, read_so}

@@ -1,5 +1,5 @@
 -- Visits of names, by what a walk keeps.
-use Rattle.std.proofs.Common.{◌≡◌, ◌∙◌, ◌⊎◌, inl, inr, ◌+◌, ◌<◌, ◌≤◌, ◌^◌, ap, sym, subst, refl, cond, ℕ, zero, suc, List, [], ◌∷◌, ◌++◌, length, Bool, true, false, Option, Some, None, Result, Ok, Err, arith}
+use Rattle.std.proofs.Common.{◌≡◌, ◌∙◌, ◌<◌, ◌≤◌, ap, sym, subst, cond, ℕ, List, length, Bool, true, false, Some, None, Ok, Err, arith}
 use Rattle.std.specs.Prelude.{slice_get, nat_lt, ok_or}
 use Rattle.std.proofs.lemmas.Bool.Decides.{nat_tests}
 use Rattle.std.proofs.lemmas.Option.{slice_get_within}
@@ -10,15 +10,13 @@ use Rattle.vrt_profile.specs.Values.{SourceValue}
 use Rattle.vrt_profile.specs.Resolve.{resolved_text}
 use Rattle.catalog.specs.declared.kind.Kind.{Kind}
 use Rattle.catalog.specs.declared.faults.LimitKind.TheVariants as limits
-use Rattle.catalog.specs.declared.faults.WalkFault.{WalkFault}
 use Rattle.catalog.specs.declared.faults.WalkFault.TheVariants.{Cycle, TooDeep, Limit, SourceBand}
 use Rattle.catalog.specs.declared.links.Link.{Link}
 use Rattle.catalog.specs.Drivers.{Dataset}
-use Rattle.catalog.specs.Mosaics.{is_among}
 use Rattle.catalog.specs.Heads.{kind_in, resolved}
-use Rattle.catalog.specs.Walk.{Met, number_of, bands_of, has_band, again, visit, IsDataset}
-use Rattle.catalog.specs.Linked.{State, IsMet, IsLow, IsHigh, IsDeep, IsLinked, IsPath, met_of, is_open}
-use Rattle.catalog.proofs.Found.{some_is, of_item, found, named_at}
+use Rattle.catalog.specs.Walk.{number_of, bands_of, has_band, again, visit, IsDataset}
+use Rattle.catalog.specs.Linked.{State, IsLow, IsHigh, IsDeep, IsLinked, IsPath, met_of}
+use Rattle.catalog.proofs.Found.{of_item, found, named_at}
 use Rattle.catalog.proofs.Again.{again_fine}
 use Rattle.catalog.proofs.States.{open_known, off_path}
 use Rattle.catalog.proofs.Visits.{visit_cycle, visit_again}

@@ -1,7 +1,6 @@
 -- The numbers of datasets.
-use Rattle.std.proofs.Common.{◌≡◌, ◌∙◌, ◌⊎◌, inl, inr, ◌+◌, ◌<◌, ◌≤◌, ap, sym, subst, refl, cond, ℕ, zero, suc, List, length-append, [], ◌∷◌, ◌++◌, length, drop, Bool, true, false, Option, Some, None, is_some, IsTrue, arith, true≢false, bytes_eq}
-use Rattle.std.specs.Prelude.{All, slice_get}
-use Rattle.std.proofs.lemmas.List.Elements.{All-append, All-cons, All-nil}
+use Rattle.std.proofs.Common.{◌≡◌, ◌∙◌, ◌⊎◌, inl, inr, ◌+◌, ap, sym, subst, refl, cond, ℕ, zero, suc, List, [], ◌∷◌, ◌++◌, length, Bool, true, false, Option, Some, None, is_some, arith, true≢false, bytes_eq}
+use Rattle.std.specs.Prelude.{slice_get}
 use Rattle.std.proofs.lemmas.Slice.Eq.{bytes_eq-Decides}
 use Rattle.catalog.specs.Drivers.{Dataset}
 use Rattle.catalog.specs.Walk.{number_from, number_of, IsApart}

@@ -3,7 +3,7 @@ use Rattle.std.proofs.Common.{◌≡◌, ◌∙◌, ◌⊎◌, inl, inr, ◌<◌
 use Rattle.std.specs.Prelude.{slice_get, option_map, option_and_then}
 use Rattle.std.proofs.lemmas.Option.{slice_get_within}
 use Rattle.std.proofs.lemmas.List.Elements.{All-nil}
-use Rattle.lists_and_answers.specs.Answers.{Gives, ◌>>=◌}
+use Rattle.lists_and_answers.specs.Answers.{◌>>=◌}
 use Rattle.outside.specs.Outside.{Files}
 use Rattle.catalog.specs.declared.faults.WalkFault.{WalkFault}
 use Rattle.catalog.specs.declared.links.Link.{Link}

@@ -1,12 +1,12 @@
 -- Walks through the sources of a mosaic.
-use Rattle.std.proofs.Common.{◌≡◌, ◌∙◌, ◌⊎◌, inl, inr, ◌+◌, ◌-◌, ◌<◌, ◌≤◌, ap, sym, subst, refl, ℕ, zero, suc, List, [], ◌∷◌, ◌++◌, length, take, drop, Bool, true, false, cond, Option, Some, None, Result, Ok, Err, arith, append_assoc, add-one}
+use Rattle.std.proofs.Common.{◌≡◌, ◌∙◌, ◌⊎◌, inl, inr, ◌+◌, ◌<◌, ◌≤◌, ap, sym, subst, refl, ℕ, suc, List, [], ◌∷◌, ◌++◌, length, take, drop, Bool, true, false, cond, Option, Some, None, Result, Ok, Err, arith, append_assoc}
 use Rattle.std.specs.Prelude.{IfOk, IfErr, OnOk, slice_get, flat_map, nat_lt, ok_or}
 use Rattle.std.proofs.lemmas.Bool.Decides.{nat_tests}
 use Rattle.std.proofs.lemmas.Grind.{flat_map-append}
 use Rattle.std.proofs.lemmas.List.{take_all, append-nil}
 use Rattle.lists_and_answers.specs.Answers.{Gives, ◌>>=◌}
 use Rattle.outside.specs.Outside.{Files}
-use Rattle.vrt_profile.specs.Values.{SourceValue, BandValue, DocumentValue}
+use Rattle.vrt_profile.specs.Values.{SourceValue, BandValue}
 use Rattle.vrt_profile.specs.Resolve.{resolved_text}
 use Rattle.catalog.specs.declared.faults.LimitKind.TheVariants as limits
 use Rattle.catalog.specs.declared.faults.WalkFault.{WalkFault}
@@ -16,14 +16,14 @@ use Rattle.catalog.specs.Drivers.{Dataset}
 use Rattle.catalog.specs.Mosaics.{source_name}
 use Rattle.catalog.specs.Outcomes.{IsOutside, IsMemory}
 use Rattle.catalog.specs.Heads.{resolved}
-use Rattle.catalog.specs.Walk.{Met, number_of, dataset_named, bands_of, IsWalked, one_more_source, has_band, visit, visit_source, visit_sources}
-use Rattle.catalog.specs.Linked.{State, met_of, IsLinked, IsPath, IsLow, IsTarget, Each, AreRows, Grows, Goes, one_counted, most, all_of, height_at, height_in, IsMosaicAt, HasBand, HasSource}
+use Rattle.catalog.specs.Walk.{Met, dataset_named, bands_of, IsWalked, one_more_source, has_band, visit, visit_source, visit_sources}
+use Rattle.catalog.specs.Linked.{State, met_of, IsLinked, IsPath, IsTarget, Each, Grows, Goes, one_counted, most, all_of, height_at, height_in, IsMosaicAt, HasBand, HasSource}
 use Rattle.catalog.specs.Steps.{Seen, IsPlain, Steps, Visits, Passes, Names, Reaches, ReachesRows}
-use Rattle.catalog.proofs.Found.{some_is, name_at, found, each_more, each_map, target_stays, most_stays, flat_rows, rows_stay, named_at}
+use Rattle.catalog.proofs.Found.{each_more, each_map, target_stays, most_stays, flat_rows, rows_stay, named_at}
 use Rattle.catalog.proofs.Rows.{most_append}
 use Rattle.catalog.proofs.Loops.{item_more, item_split, from_more}
 use Rattle.catalog.proofs.States.{goes_one, grows_refl, item_there}
-use Rattle.catalog.proofs.Steps.{failed, fault_is, ok≢err, steps_none, steps_plain, steps_err, steps_then, passes_none, passes_stop, passes_then, passes_refused, passes_memory}
+use Rattle.catalog.proofs.Steps.{fault_is, ok≢err, steps_plain, steps_err, steps_then, passes_none, passes_stop, passes_then, passes_refused}
 use Rattle.catalog.proofs.Visits.{source_named, still_refused}
 
 -- a source

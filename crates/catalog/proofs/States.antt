@@ -1,22 +1,20 @@
 -- What a walk keeps, as it goes on.
-use Rattle.std.proofs.Common.{◌≡◌, ◌∙◌, ◌⊎◌, inl, inr, ◌+◌, ◌<◌, ◌≤◌, ap, sym, subst, refl, cond, ℕ, zero, suc, List, [], ◌∷◌, ◌++◌, length, take, Bool, true, false, Option, Some, None, arith, true≢false, bytes_eq, length-append}
-use Rattle.std.specs.Prelude.{All, slice_get, set, option_and_then, ◌||◌}
-use Rattle.std.specs.List.{sum_by}
+use Rattle.std.proofs.Common.{◌≡◌, ◌∙◌, ◌⊎◌, inl, inr, ◌+◌, ◌<◌, ap, sym, subst, refl, cond, ℕ, zero, suc, List, [], ◌∷◌, ◌++◌, length, take, Bool, true, false, Option, Some, None, arith, true≢false, bytes_eq, length-append}
+use Rattle.std.specs.Prelude.{slice_get, set, option_and_then, ◌||◌}
 use Rattle.std.proofs.lemmas.List.{length-set}
 use Rattle.std.proofs.lemmas.List.Elements.{All-append, All-cons, All-nil}
 use Rattle.std.proofs.lemmas.List.Sums.{sum_by-append}
-use Rattle.std.proofs.lemmas.Option.{slice_get_within, slice_get-get_or}
+use Rattle.std.proofs.lemmas.Option.{slice_get_within}
 use Rattle.std.proofs.lemmas.Slice.Eq.{bytes_eq-Decides}
 use Rattle.catalog.specs.declared.driver.Content.{Content}
 use Rattle.catalog.specs.declared.driver.Content.TheVariants.{File, Mosaic}
 use Rattle.catalog.specs.declared.links.Link.{Link}
 use Rattle.catalog.specs.Drivers.{Dataset}
 use Rattle.catalog.specs.Mosaics.{is_among}
-use Rattle.catalog.specs.Walk.{number_of, sources_in, sources_among, IsDataset, IsApart, IsNested, IsCatalog}
-use Rattle.catalog.specs.Linked.{State, is_waiting, is_open, all_of, most, IsLinkOf, IsLink, IsMet, IsLinked, IsOff, Grows, Goes, IsWhole, IsPath, pushed, closed, one_counted, cut_to}
+use Rattle.catalog.specs.Walk.{number_of, sources_in, sources_among, IsDataset, IsApart}
+use Rattle.catalog.specs.Linked.{State, is_waiting, is_open, all_of, IsLinkOf, IsLink, IsMet, IsLinked, IsOff, Grows, Goes, IsPath, pushed, closed, one_counted}
 use Rattle.catalog.proofs.Found.{some_is, found, flat_rows, rows_stay, most_stays}
 use Rattle.catalog.proofs.Numbers.{number_kept, number_of_added, number_of_other, apart_more}
-use Rattle.catalog.proofs.Heights.{nested_is}
 
 none≢some : {T : Type 0} {x : T} → None ≡ Some x → ⊥
 none≢some e = cc

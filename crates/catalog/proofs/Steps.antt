@@ -1,17 +1,15 @@
 -- What the steps of a walk ensure, one behind the other.
-use Rattle.std.proofs.Common.{◌≡◌, ◌∙◌, ◌⊎◌, inl, inr, ◌+◌, ◌-◌, ◌<◌, ◌≤◌, ap, sym, subst, refl, ℕ, zero, suc, List, [], ◌∷◌, ◌++◌, length, Bool, true, false, Option, Some, None, is_some, IsTrue, Result, Ok, Err, arith, true≢false, length-append}
-use Rattle.std.specs.Prelude.{IfOk, OnOk, slice_get, min}
-use Rattle.lists_and_answers.specs.Answers.{Gives, ◌>>=◌}
-use Rattle.outside.specs.Outside.{Files}
-use Rattle.outside.specs.Causes.{HasCause, Rose}
+use Rattle.std.proofs.Common.{◌≡◌, ◌∙◌, ◌⊎◌, inl, ◌+◌, ◌≤◌, ap, sym, subst, refl, ℕ, List, [], ◌++◌, length, Bool, Result, Ok, Err, arith, length-append}
+use Rattle.std.specs.Prelude.{OnOk}
+use Rattle.lists_and_answers.specs.Answers.{◌>>=◌}
+use Rattle.outside.specs.Causes.{Rose}
 use Rattle.vrt_profile.specs.Values.{SourceValue}
 use Rattle.catalog.specs.declared.faults.Bad.{Bad}
 use Rattle.catalog.specs.declared.faults.WalkFault.{WalkFault}
 use Rattle.catalog.specs.declared.faults.WalkFault.TheVariants.{NotRecognized, Malformed, FolderFault, Memory}
 use Rattle.catalog.specs.Outcomes.{IsOutside}
-use Rattle.catalog.specs.Heads.{IsOwnFault}
-use Rattle.catalog.specs.Walk.{Met, visit, visit_sources, IsWalked}
-use Rattle.catalog.specs.Linked.{State, met_of, IsLinked, IsPath, Grows, Goes, most}
+use Rattle.catalog.specs.Walk.{Met, visit, visit_sources}
+use Rattle.catalog.specs.Linked.{State, met_of, IsLinked, Grows, Goes}
 use Rattle.catalog.specs.Steps.{Seen, IsPlain, Steps, Passes}
 use Rattle.catalog.proofs.States.{grows_refl, grows_trans, goes_trans, goes_none}
 use Rattle.catalog.proofs.Visits.{sources_append, still_refused}

@@ -1,16 +1,15 @@
 -- What the links of a catalog say of its sources.
-use Rattle.std.proofs.Common.{◌≡◌, ◌∙◌, ◌+◌, ◌<◌, ◌≤◌, ap, sym, subst, refl, ℕ, zero, suc, List, [], ◌∷◌, ◌++◌, length, Option, Some, None, arith}
-use Rattle.std.specs.Prelude.{slice_get, max, option_and_then}
-use Rattle.std.proofs.lemmas.Option.{slice_get_within}
+use Rattle.std.proofs.Common.{◌≡◌, ◌∙◌, ◌<◌, ◌≤◌, ap, subst, refl, ℕ, zero, suc, List, [], ◌∷◌, Option, Some, None, arith}
+use Rattle.std.specs.Prelude.{slice_get, option_and_then}
 use Rattle.lists_and_answers.specs.Options.{◌>>=◌}
-use Rattle.vrt_profile.specs.Values.{SourceValue, BandValue, DocumentValue}
+use Rattle.vrt_profile.specs.Values.{SourceValue, BandValue}
 use Rattle.catalog.specs.declared.driver.Content.{Content}
 use Rattle.catalog.specs.declared.driver.Content.TheVariants.{File, Mosaic}
 use Rattle.catalog.specs.declared.links.Link.{Link}
 use Rattle.catalog.specs.Drivers.{Dataset, document_of}
 use Rattle.catalog.specs.Walk.{number_of}
 use Rattle.catalog.specs.Links.{target_of, source_at, target_at, height_of}
-use Rattle.catalog.specs.Linked.{State, IsMet, IsLinked, IsLinkOf, IsTarget, Each, AreRows, all_of, height_in, height_at, most}
+use Rattle.catalog.specs.Linked.{State, IsMet, IsLinked, IsLinkOf, IsTarget, Each, all_of, height_in, height_at, most}
 use Rattle.catalog.proofs.Found.{some_is}
 use Rattle.catalog.proofs.Heights.{height_is}
 use Rattle.catalog.proofs.Rows.{most_append}

@@ -1,5 +1,5 @@
 -- The steps of a walk.
-use Rattle.std.proofs.Common.{◌≡◌, ◌∙◌, ◌⊎◌, inl, inr, ◌+◌, ◌<◌, ◌≤◌, ap, sym, subst, refl, cond, ℕ, zero, suc, List, [], ◌∷◌, ◌++◌, length, Bool, true, false, Option, Some, None, Result, Ok, Err, arith}
+use Rattle.std.proofs.Common.{◌≡◌, ◌∙◌, ◌⊎◌, inl, inr, ◌+◌, ◌<◌, ◌≤◌, ap, sym, subst, refl, cond, ℕ, zero, suc, List, [], ◌∷◌, ◌++◌, length, Bool, true, false, Some, None, Result, Ok, Err, arith}
 use Rattle.std.specs.Prelude.{nat_lt}
 use Rattle.std.proofs.lemmas.Bool.Decides.{nat_tests}
 use Rattle.lists_and_answers.specs.Answers.{◌>>=◌}
@@ -14,7 +14,7 @@ use Rattle.catalog.specs.Outcomes.{IsOutside}
 use Rattle.catalog.specs.Drivers.{Dataset}
 use Rattle.catalog.specs.Mosaics.{is_among}
 use Rattle.catalog.specs.Heads.{kind_in, dataset_by, resolved}
-use Rattle.catalog.specs.Walk.{Met, number_of, dataset_named, sources_in, unless_on, room_for, one_more_in, one_more_source, has_band, again_below, again_step, again, visit_source, visit_sources, first_met, met_again, met_or_first, visit_step, visit}
+use Rattle.catalog.specs.Walk.{Met, number_of, dataset_named, sources_in, unless_on, room_for, one_more_source, has_band, again_below, again_step, again, visit_source, visit_sources, first_met, met_or_first, visit_step, visit}
 use Rattle.catalog.proofs.Again.{again_begins}
 
 -- names of no kind

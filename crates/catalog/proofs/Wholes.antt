@@ -1,12 +1,11 @@
 -- Catalogs: nothing is open in them.
-use Rattle.std.proofs.Common.{◌≡◌, ◌∙◌, ◌+◌, ◌<◌, ◌≤◌, ap, sym, subst, refl, ℕ, zero, suc, List, [], ◌∷◌, ◌++◌, length, take, Bool, true, false, Option, Some, None, arith, true≢false}
+use Rattle.std.proofs.Common.{◌≡◌, ◌∙◌, ap, sym, subst, refl, ℕ, List, [], length, take, true, false, Option, Some, None, arith, true≢false}
 use Rattle.std.specs.Prelude.{All, slice_get}
 use Rattle.std.proofs.lemmas.Option.{slice_get_within, get_or_from_slice_get}
 use Rattle.catalog.specs.declared.links.Link.{Link}
 use Rattle.catalog.specs.Drivers.{Dataset}
-use Rattle.catalog.specs.Mosaics.{is_among}
-use Rattle.catalog.specs.Walk.{number_of, sources_among, IsNested, IsCatalog}
-use Rattle.catalog.specs.Linked.{State, is_waiting, is_open, IsLinked, Grows, Goes, IsWhole, IsPath, cut_to}
+use Rattle.catalog.specs.Walk.{number_of, sources_among, IsNested}
+use Rattle.catalog.specs.Linked.{State, is_open, Grows, Goes, IsWhole, IsPath, cut_to}
 use Rattle.catalog.proofs.Found.{found}
 use Rattle.catalog.proofs.Heights.{nested_is}
 use Rattle.catalog.proofs.States.{open_known, open_unknown, item_there, front_stays}

@@ -1,6 +1,6 @@
 -- What a walk keeps of what it has met: a mosaic is open while the walk is below it, and every dataset that was met
 -- whole has a link.
-use Rattle.std.specs.Prelude.{◌≡◌, ◌<◌, ◌≤◌, ◌+◌, ℕ, zero, suc, max, Bool, true, false, List, [], ◌∷◌, length, All, flat_map, slice_get, ◌++◌, take, set, Option, Some, None, option_and_then, Err, nat_lt, if◌then◌else◌}
+use Rattle.std.specs.Prelude.{◌≡◌, ◌<◌, ◌≤◌, ◌+◌, ℕ, suc, max, Bool, true, false, List, [], ◌∷◌, length, All, flat_map, slice_get, ◌++◌, take, set, Option, Some, None, option_and_then, Err, nat_lt, if◌then◌else◌}
 use Rattle.vrt_profile.specs.Values.{DocumentValue, BandValue, SourceValue}
 use Rattle.catalog.specs.declared.driver.Content.{Content}
 use Rattle.catalog.specs.declared.driver.Content.TheVariants.{File, Mosaic}

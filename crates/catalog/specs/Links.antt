@@ -1,5 +1,5 @@
 -- How the datasets of a catalog hang together: what sources name, and how deep mosaics are nested.
-use Rattle.std.specs.Prelude.{ℕ, zero, suc, max, List, [], ◌∷◌, slice_get, Option, Some, None, option_map, option_and_then}
+use Rattle.std.specs.Prelude.{ℕ, zero, suc, max, List, [], ◌∷◌, slice_get, Option, option_map, option_and_then}
 use Rattle.std.specs.Option.{unwrap_or}
 use Rattle.lists_and_answers.specs.Options.{◌>>=◌}
 use Rattle.vrt_profile.specs.Values.{SourceValue}

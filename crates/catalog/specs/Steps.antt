@@ -1,5 +1,5 @@
 -- What each step of a walk ensures.
-use Rattle.std.specs.Prelude.{◌≡◌, ◌⊎◌, ◌<◌, ◌≤◌, ◌-◌, ℕ, Bool, List, [], ◌∷◌, length, Option, Some, None, is_some, IsTrue, Result, Ok, Err, IfOk, OnOk, IfErr}
+use Rattle.std.specs.Prelude.{◌≡◌, ◌<◌, ◌≤◌, ◌-◌, ℕ, Bool, List, ◌∷◌, length, Option, Some, None, is_some, IsTrue, Result, Ok, Err, IfOk, OnOk, IfErr}
 use Rattle.lists_and_answers.specs.Answers.{Gives, ◌>>=◌}
 use Rattle.outside.specs.Outside.{Files}
 use Rattle.outside.specs.Causes.{HasCause}
@@ -15,7 +15,7 @@ use Rattle.catalog.specs.Drivers.{Dataset}
 use Rattle.catalog.specs.Mosaics.{sources_of}
 use Rattle.catalog.specs.Outcomes.{IsOutside, IsMemory}
 use Rattle.catalog.specs.Heads.{kind_in, resolved, OwnsFaults}
-use Rattle.catalog.specs.Walk.{Met, number_of, one_more_source, visit, visit_sources, IsWalked, TellsKinds, WalksUnknown}
+use Rattle.catalog.specs.Walk.{number_of, one_more_source, visit, visit_sources, IsWalked, TellsKinds, WalksUnknown}
 use Rattle.catalog.specs.Linked.{State, met_of, most, all_of, IsLinked, IsTarget, Each, AreRows, IsPath, IsLow, Grows, Goes, pushed, one_counted}
 
 -- what a folder tells, and how often it was written, was read and has failed

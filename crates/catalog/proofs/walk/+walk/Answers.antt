@@ -1,4 +1,4 @@
-use Rattle.std.proofs.Common.{◌≡◌, ◌∙◌, ◌⊎◌, inl, inr, ◌<◌, ◌≤◌, ap, sym, refl, subst, ℕ, List, length, arith}
+use Rattle.std.proofs.Common.{◌∙◌, ap, refl, ℕ, List, length, arith}
 use Rattle.vrt_profile.specs.Values.{BandValue, DocumentValue}
 use Rattle.catalog.specs.Mosaics.{sources_of}
 use Rattle.catalog.specs.declared.faults.WalkFault.TheVariants.{Memory}

@@ -1,4 +1,4 @@
-use Rattle.std.proofs.Common.{◌≡◌, ℕ, ◌+◌, ◌*◌, ◌-◌, ◌<◌, ◌≤◌, List, take, length, Ok}
+use Rattle.std.proofs.Common.{◌+◌, ◌*◌, take, Ok}
 use Rattle.std.specs.Prelude.{flat_map}
 use Rattle.vrt_profile.specs.Values.{BandValue}
 use Rattle.catalog.specs.Linked.{IsMosaicAt, HasBand}

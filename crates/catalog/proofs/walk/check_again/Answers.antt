@@ -1,7 +1,5 @@
-use Rattle.std.proofs.Common.{◌≡◌, ◌∙◌, ◌<◌, ap, sym, subst, inr, Err}
+use Rattle.std.proofs.Common.{◌∙◌, ap, sym, inr, Err}
 use Rattle.catalog.specs.declared.faults.WalkFault.TheVariants.{Cycle, TooDeep}
-use Rattle.catalog.specs.declared.links.Link.{Link}
-use Rattle.catalog.proofs.Found.{some_is}
 use Rattle.catalog.proofs.Meets.{place_known, met_cycle, met_fine, met_deep, met_low, met_high}
 use Rattle.catalog.proofs.States.{item_there}
 use Rattle.catalog.proofs.walk.check_again.Goals as goal

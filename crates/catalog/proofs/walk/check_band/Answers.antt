@@ -1,8 +1,7 @@
-use Rattle.std.proofs.Common.{◌≡◌, ◌∙◌, ◌<◌, ◌≤◌, ap, sym, subst, inr, Err, arith}
+use Rattle.std.proofs.Common.{arith}
 use Rattle.std.proofs.lemmas.Option.{slice_get_within}
-use Rattle.catalog.specs.declared.faults.WalkFault.TheVariants.{SourceBand}
 use Rattle.catalog.proofs.Found.{found}
-use Rattle.catalog.proofs.Meets.{band_missing, band_there}
+use Rattle.catalog.proofs.Meets.{band_there}
 use Rattle.catalog.proofs.walk.check_band.Goals as goal
 
 pub band_count-requires : goal.band_count-requires

@@ -1,4 +1,3 @@
-use Rattle.std.proofs.Common.{◌≡◌, ◌∙◌, ap, sym, refl, subst, Ok, Err}
 use Rattle.catalog.proofs.Listings.{err_is}
 use Rattle.catalog.proofs.Passes.{counted_source, names_uncounted, names_resolved}
 use Rattle.catalog.proofs.walk.count_and_resolve.Goals as goal

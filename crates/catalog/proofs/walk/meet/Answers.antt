@@ -1,5 +1,5 @@
-use Rattle.std.proofs.Common.{◌≡◌, ◌∙◌, ◌⊎◌, inl, inr, ◌<◌, ◌≤◌, ap, sym, refl, subst, ℕ, Option, Some, None, Ok, Err, arith, rules}
-use Rattle.catalog.specs.declared.faults.WalkFault.TheVariants.{Memory, TooDeep}
+use Rattle.std.proofs.Common.{◌≡◌, ◌∙◌, inl, ap, sym, None, Ok, rules}
+use Rattle.catalog.specs.declared.faults.WalkFault.TheVariants.{Memory}
 use Rattle.catalog.specs.declared.kind.Kind.TheVariants as kinds
 use Rattle.catalog.specs.Walk.{number_of}
 use Rattle.catalog.proofs.Listings.{err_is}

@@ -1,4 +1,4 @@
-use Rattle.std.proofs.Common.{◌≡◌, ◌∙◌, ◌<◌, ◌≤◌, ap, sym, refl, arith}
+use Rattle.std.proofs.Common.{◌∙◌, ap, sym, refl, arith}
 use Rattle.catalog.specs.declared.faults.WalkFault.TheVariants.{Memory}
 use Rattle.catalog.specs.Drivers.{Dataset}
 use Rattle.catalog.proofs.Listings.{err_is}

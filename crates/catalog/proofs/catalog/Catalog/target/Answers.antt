@@ -1,4 +1,4 @@
-use Rattle.std.proofs.Common.{◌≡◌, ◌<◌, sym, subst, ℕ, List, length, Some}
+use Rattle.std.proofs.Common.{◌≡◌, ◌<◌, sym, subst, List, length, Some}
 use Rattle.std.specs.Prelude.{slice_get, option_and_then}
 use Rattle.catalog.specs.Drivers.{Dataset}
 use Rattle.catalog.specs.Links.{target_at, height_of}

@@ -1,7 +1,7 @@
-use Rattle.std.proofs.Common.{◌≡◌, ◌∙◌, ap, sym}
+use Rattle.std.proofs.Common.{◌∙◌, ap, sym}
 use Rattle.std.specs.Prelude.{slice_get}
 use Rattle.std.proofs.lemmas.Option.{slice_get_within}
-use Rattle.vrt_profile.specs.Values.{DocumentValue, BandValue}
+use Rattle.vrt_profile.specs.Values.{DocumentValue}
 use Rattle.catalog.proofs.Found.{some_is}
 use Rattle.catalog.proofs.links.Met.band.Goals as goal
 
