@@ -1,47 +1,32 @@
 -- What is told of a place, inside the raster and off it, and the pixels that it is made of.
-use Rattle.std.proofs.Common.{◌≡◌, ◌∙◌, ap, sym, subst, refl, ◌⊎◌, inl, inr, ◌+◌, ◌-◌, ◌<◌, ◌≤◌, ℕ, ℤ, pos, Bool, true, false, cond, List, [], ◌∷◌, ◌++◌, length, map, take, set, get_or, add-one, nat_lt, Option, Some, None, arith}
+use Rattle.std.proofs.Common.{◌≡◌, ◌∙◌, ap, sym, refl, ◌⊎◌, inl, inr, ◌+◌, ◌-◌, ◌<◌, ℕ, ℤ, pos, List, [], ◌∷◌, ◌++◌, length, map, take, set, get_or, add-one, nat_lt, Option, Some, None, arith}
 use Rattle.std.specs.Prelude.{slice_get}
 use Rattle.std.proofs.lemmas.Bool.{cond-true, lt-ltb}
 use Rattle.std.proofs.lemmas.List.{map-append, take_more}
 use Rattle.std.proofs.Math.Seq.{take-suc-set}
 use Rattle.outside.specs.Outside.{Files}
-use Rattle.geotransform.specs.declared.types.Rect.{Rect}
 use Rattle.catalog.specs.Drivers.{Dataset}
 use Rattle.catalog.specs.Walk.{IsCatalog, IsWalked}
 use Rattle.catalog.specs.Pixels.{pixel_of, pixel_of_name}
 use Rattle.catalog.specs.Places.{row_by_row}
 use Rattle.catalog.proofs.PixelLaws.{number_is_name}
-use Rattle.nearest_window.specs.Shown.{IsWindow}
 use Rattle.location_report.specs.Covering.{covering_files}
 use Rattle.location_report.specs.Location.{location_text}
 use Rattle.location_report.specs.declared.report.Form.{Form}
 use Rattle.location_report.specs.declared.report.Form.TheVariants.{Report, ValuesOnly, FilesOnly}
 use Rattle.gdal_cli.specs.declared.asked.Asked.{Asked}
 use Rattle.gdal_cli.specs.Location.{within, values_at, files_at, told_text}
-use Rattle.gdal_cli.specs.Pixels.{IsPixel, AreBands}
-use Rattle.gdal_cli.proofs.Reached.{one_dataset}
 
--- a window of one pixel
-pub one_pixel : (cat : List Dataset) (id band x y : ℕ) → IsPixel cat id x y → AreBands cat id (λ count. band < count) → IsWindow cat id band (record { x = x; y = y; w = 1; h = 1 })
-one_pixel cat id band x y p b =
-    let same : b.dataset ≡ p.dataset = one_dataset cat id b.dataset p.dataset b.at p.at in
-    let column = p.column in
-    let line = p.line in
-    record {
-      dataset = p.dataset;
-      at = p.at;
-      has_band = subst (λ (d : Dataset). band < length d.head.bands) same b.holds;
-      across = omega arith;
-      down = omega arith;
-    }
-
--- its pixel
+-- the pixel of a window of one
 pub one_value : (f : ℕ → ℕ → ℤ) (x y : ℕ) → row_by_row f (record { x = x; y = y; w = 1; h = 1 }) ≡ f x y ∷ []
 unfolding row_by_row
 one_value f x y =
     let column : x + 0 ≡ x = omega arith in
     let line : y + 0 ≡ y = omega arith in
     ap (λ k. f k (y + 0) ∷ []) column ∙ ap (λ k. f x k ∷ []) line
+
+pub first_value : (f : ℕ → ℕ → ℤ) (x y : ℕ) (values : List ℤ) → values ≡ row_by_row f (record { x = x; y = y; w = 1; h = 1 }) → get_or values 0 (pos 0) ≡ f x y
+first_value f x y values is = ap (λ (vs : List ℤ). get_or vs 0 (pos 0)) (is ∙ one_value f x y)
 
 -- the pixels by the number of a dataset are those by its name
 map_same : {A B : Type 0} (f g : A → B) (xs : List A) → ((x : A) → f x ≡ g x) → map f xs ≡ map g xs

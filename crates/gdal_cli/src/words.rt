@@ -349,19 +349,29 @@ fn form_of(values_only: Option<u64>, files_only: Option<u64>) -> Result<Form, Wo
 fn locate_job(count: u64, said: Spoken) -> Result<Job, WordFault>
     ensures { result ≡ locate_job count said }
 {
-    let Some(name) = said.name else {
+    let Spoken {
+        values_only,
+        files_only,
+        geoloc,
+        bands,
+        name,
+        x,
+        y,
+        ..
+    } = said;
+    let Some(name) = name else {
         return Err(WordFault::Usage { word: count });
     };
-    let Some(point) = point_of(said.x, said.y) else {
+    let Some(point) = point_of(x, y) else {
         return Err(WordFault::Usage { word: count });
     };
-    let form = form_of(said.values_only, said.files_only)?;
+    let form = form_of(values_only, files_only)?;
     Ok(Job::Locate {
         name,
         point,
-        bands: said.bands,
+        bands,
         form,
-        geoloc: said.geoloc,
+        geoloc,
     })
 }
 
@@ -369,7 +379,8 @@ fn locate_job(count: u64, said: Spoken) -> Result<Job, WordFault>
 fn info_job(count: u64, said: Spoken) -> Result<Job, WordFault>
     ensures { result ≡ info_job count said }
 {
-    match said.name {
+    let Spoken { name, .. } = said;
+    match name {
         Some(name) => Ok(Job::Info { name }),
         None => Err(WordFault::Usage { word: count }),
     }

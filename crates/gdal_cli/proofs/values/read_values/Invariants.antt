@@ -1,4 +1,4 @@
-use Rattle.std.proofs.Common.{◌≡◌, ◌≤◌, ◌-◌, ℕ, Some, take, length, map}
+use Rattle.std.proofs.Common.{◌≡◌, ◌≤◌, ◌-◌, Some, take, length, map}
 use Rattle.outside.specs.Outside.{Files}
 use Rattle.catalog.specs.Pixels.{pixel_of}
 use Rattle.nearest_window.specs.Right.{IsRight}
