@@ -1,5 +1,5 @@
 -- The words of a command line: the command that they are, or the first that doesn't fit.
-use Rattle.std.specs.Prelude.{ℕ, ℤ, max, ◌+◌, ◌==◌, ◌&&◌, ◌||◌, Bool, true, false, not, nat_le, List, [], ◌∷◌, ◌++◌, length, map, codes, bytes_eq, Option, Some, None, Result, Ok, Err, ok_or, if◌then◌else◌}
+use Rattle.std.specs.Prelude.{ℕ, ℤ, max, ◌+◌, ◌==◌, ◌&&◌, ◌||◌, Bool, true, false, not, nat_le, List, [], ◌∷◌, ◌++◌, length, codes, bytes_eq, Option, Some, None, Result, Ok, Err, ok_or, if◌then◌else◌}
 use Rattle.lists_and_answers.specs.Answers.{◌>>=◌}
 use Rattle.geotransform.specs.Decimal.{number_of, is_decimal, ticks_of}
 use Rattle.outside.specs.Names.{same_letters}
