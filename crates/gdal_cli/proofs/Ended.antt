@@ -17,12 +17,14 @@ use Rattle.catalog.specs.Walk.{number_of, dataset_named, walked}
 use Rattle.catalog.proofs.Found.{named_at}
 use Rattle.location_report.specs.declared.report.Form.{Form}
 use Rattle.input_points.specs.declared.entry.Entry.{Entry}
+use Rattle.input_points.specs.Entries.{entries, ended_entries}
 use Rattle.info_report.specs.declared.report.ReportFault.{ReportFault}
 use Rattle.info_report.specs.declared.report.ReportFault.TheVariants as report
 use Rattle.info_report.specs.Report.{info_text}
 use Rattle.gdal_cli.specs.declared.faults.Fault.{Fault}
 use Rattle.gdal_cli.specs.Faults.{fault_of, report_fault_of, by_walk, IsOutside}
 use Rattle.gdal_cli.specs.declared.asked.Asked.{Asked}
+use Rattle.gdal_cli.specs.Input.{AnswersInput, StopsBehind}
 use Rattle.gdal_cli.specs.Location.{Printed, whole, location_in, answers, answers_in, answers_of, asked_in, point_text, PutsText}
 use Rattle.gdal_cli.specs.Run.{ran_of, Ends, info_in}
 
@@ -49,6 +51,10 @@ refused f d old is = subst (λ (e : Result Printed Fault). Ends (ran_of e) (Err 
 
 ended_before : (f : Fault) (d : Result Printed Fault) (old : Option (List ℕ)) → IsOutside f → Ends (ran_of d) (Err f) old old
 ended_before f d old out = inr (out, nothing_put (ran_of d).printed old)
+
+-- where the outside failed before anything was put
+pub ends_outside : (d : Result Printed Fault) (r : Result (Unit {0}) Fault) (f : Fault) (old : Option (List ℕ)) → r ≡ Err f → IsOutside f → Ends (ran_of d) r old old
+ends_outside d r f old is out = subst (λ (e : Result (Unit {0}) Fault). Ends (ran_of d) e old old) (sym is) (ended_before f d old out)
 
 either : (f : Fault) (d : Result Printed Fault) (old : Option (List ℕ)) → IsOutside f ⊎ (d ≡ Err f) → Ends (ran_of d) (Err f) old old
 either f d old (inl out) = ended_before f d old out
@@ -122,3 +128,22 @@ outside_report report.Memory = tt
 -- a fault of the outside before anything was put
 pub fails_before : (r : Result (Unit {0}) Fault) (f : Fault) (text : List ℕ) (old : Option (List ℕ)) → r ≡ Err f → IsOutside f → PutsText text r old old
 fails_before r f text old is out = subst (λ (e : Result (Unit {0}) Fault). PutsText text e old old) (sym is) (out, nothing_put text old)
+
+-- the same of an equal text
+pub equal_put : (text text_now : List ℕ) (result : Result (Unit {0}) Fault) (old new : Option (List ℕ)) → PutsText text_now result old new → text_now ≡ text → Ends (ran_of (Ok (whole text))) result old new
+equal_put text text_now result old new h same = text_put text result old new (subst (λ (t : List ℕ). PutsText t result old new) same h)
+
+-- the lines of an input are answered, up to the first that is refused
+pub lines_put : (tell : ℤ → ℤ → List ℕ) (input : List ℕ) (left : Option (List ℕ)) (result : Result (Unit {0}) Fault) (old new : Option (List ℕ)) → AnswersInput tell input left result old new → Ends (ran_of (Ok (answers tell None (entries input)))) result old new
+lines_put tell input left (Ok done) old new h = (h.0, h.1)
+lines_put tell input left (Err f) old new h = h
+
+-- two ways to say what is printed of lines
+pub stops_same : (p q : List Entry → List ℕ) (input : List ℕ) (left old new : Option (List ℕ)) → StopsBehind p input left old new → ((lines : List Entry) → p lines ≡ q lines) → StopsBehind q input left old new
+stops_same p q input left old new s same = record {
+  given = s.given;
+  rest = s.rest;
+  parts = s.parts;
+  left_is = s.left_is;
+  answered = subst (λ (t : List ℕ). Gets t old new) (same (ended_entries s.given)) s.answered;
+}

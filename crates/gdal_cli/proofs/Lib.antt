@@ -1,6 +1,7 @@
 pub mod Changed
 pub mod Datasets
 pub mod Ended
+pub mod Lacking
 pub mod Lines
 pub mod Listed
 pub mod Outcomes

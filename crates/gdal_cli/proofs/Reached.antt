@@ -1,10 +1,11 @@
 -- Datasets of a catalog by their numbers.
 use Rattle.std.proofs.Common.{◌≡◌, ◌∙◌, ap, sym, subst, ◌⊎◌, inl, inr, ◌<◌, ◌≤◌, ℕ, List, length, get_or, Option, Some, None, arith}
-use Rattle.std.specs.Prelude.{slice_get, option_map}
+use Rattle.std.specs.Prelude.{All, slice_get, option_map}
 use Rattle.std.proofs.lemmas.Option.{slice_get_cases}
 use Rattle.catalog.specs.Dataset.{DatasetHead}
 use Rattle.catalog.specs.Drivers.{Dataset}
-use Rattle.catalog.proofs.Found.{some_is}
+use Rattle.catalog.specs.Walk.{IsDataset, IsCatalog}
+use Rattle.catalog.proofs.Found.{some_is, of_item}
 use Rattle.gdal_cli.specs.Pixels.{AreBands}
 
 -- the dataset of a number
@@ -28,3 +29,10 @@ pub bands_of_head : (cat : List Dataset) (id : ℕ) (head : DatasetHead) (Holds 
 bands_of_head cat id head Holds less told holds =
     let d = there cat id less in
     record { dataset = d.0; at = d.1; holds = subst (λ (h : DatasetHead). Holds (length h.bands)) (sym (told_of (λ (d : Dataset). d.head) cat id d.0 head d.1 told)) holds }
+
+-- a head has 256 bands at the most
+pub few_bands : (cat : List Dataset) (id : ℕ) (head : DatasetHead) → IsCatalog cat → id < length cat → option_map (λ (d : Dataset). d.head) (slice_get cat id) ≡ Some head → length head.bands ≤ 256
+few_bands cat id head valid less told =
+    let d = there cat id less in
+    let is : IsDataset d.0 = of_item IsDataset cat id d.0 valid.each d.1 in
+    subst (λ (h : DatasetHead). length h.bands ≤ 256) (told_of (λ (d : Dataset). d.head) cat id d.0 head d.1 told) is.valid.bands

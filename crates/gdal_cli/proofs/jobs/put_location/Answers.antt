@@ -1,22 +1,20 @@
-use Rattle.std.proofs.Common.{◌≡◌, ◌≤◌, ◌∙◌, ◌⊎◌, ap, sym, subst, false, ℕ, List, [], length, Result, Ok, Err, Option, Some}
-use Rattle.std.specs.Prelude.{All, slice_get}
-use Rattle.std.proofs.lemmas.List.Elements.{All-nil}
+use Rattle.std.proofs.Common.{◌≡◌, ◌∙◌, ◌⊎◌, ap, sym, subst, ℕ, List, [], Result, Ok, Err, Some}
 use Rattle.std.proofs.lemmas.Option.{slice_get_within}
-use Rattle.input_points.specs.declared.entry.Entry.{Entry}
 use Rattle.input_points.specs.Entries.{entries}
-use Rattle.catalog.specs.Outcomes as outcomes
 use Rattle.catalog.specs.Dataset.{DatasetHead}
 use Rattle.catalog.specs.Drivers.{Dataset}
-use Rattle.catalog.specs.Heads.{dataset_in}
-use Rattle.catalog.specs.Walk.{walked, IsWalked}
+use Rattle.catalog.specs.Walk.{walked}
 use Rattle.catalog.proofs.Found.{found}
 use Rattle.gdal_cli.specs.declared.faults.Fault.{Fault}
+use Rattle.gdal_cli.specs.declared.faults.Fault.TheVariants.{Changed}
 use Rattle.gdal_cli.specs.Faults.{fault_of, IsOutside, OwnsFault}
-use Rattle.gdal_cli.specs.Location.{location_in, asked_in}
-use Rattle.gdal_cli.specs.Run.{ran_of, Ends, ended, RefusesUnknown}
-use Rattle.gdal_cli.proofs.Ended.{err_is, location_refused, asked_refused, location_put}
-use Rattle.gdal_cli.proofs.Owned.{own_walk, unknown_walk}
-use Rattle.gdal_cli.proofs.Reached.{told_of, bands_of_head}
+use Rattle.gdal_cli.specs.Location.{Printed, location_in, asked_in, answers, point_text}
+use Rattle.gdal_cli.specs.Run.{ran_of, Ends, ended}
+use Rattle.gdal_cli.proofs.Changed.{no_change}
+use Rattle.gdal_cli.proofs.Ended.{err_is, asked_refused, location_told, location_put, stops_same}
+use Rattle.gdal_cli.proofs.Lacking.{asked_unchanged, one_fault}
+use Rattle.gdal_cli.proofs.Owned.{own_refused}
+use Rattle.gdal_cli.proofs.Reached.{told_of, few_bands}
 use Rattle.gdal_cli.proofs.jobs.put_location.Goals as goal
 
 pub head-requires : goal.head-requires
@@ -24,25 +22,11 @@ head-requires g c =
     let d = found c.open_all.new.cat c.args.name.now c.in_ok-id.id c.in_ok-id.ensures.number in
     record { known = slice_get_within c.open_all.new.cat c.in_ok-id.id d.dataset d.at }
 
-pub returns-in_err-id-clause-told : goal.returns-in_err-id-clause-told
-returns-in_err-id-clause-told g c = λ m is i left.
-    let f = c.in_err-id.field-0.0 in
-    let walk = subst (λ (cat : List Dataset). outcomes.IsOutside f ⊎ (walked m c.args.verify cat c.args.name.now ≡ Err f)) c.new-cat.ensures.empty (c.in_err-id.ensures.told m is) in
-    subst (λ (r : Result (Unit {0}) Fault). Ends (ran_of (location_in m c.args.verify c.args.name.now c.args.point c.args.bands.now c.args.form c.args.geoloc (entries i))) r (g.O.Sink.got c.args.out.now) (g.O.Sink.got c.args.out.now))
-    (sym (err_is c.from_residual.result (fault_of f) c.from_residual.ensures))
-    (location_refused m c.args.verify c.args.name.now c.args.point c.args.bands.now c.args.form c.args.geoloc (entries i) f (g.O.Sink.got c.args.out.now) walk)
-
-pub returns-in_err-id-clause-unknown : goal.returns-in_err-id-clause-unknown
-returns-in_err-id-clause-unknown g c =
-    let f = c.in_err-id.field-0.0 in
-    subst (λ (r : Result (Unit {0}) Fault). RefusesUnknown false c.args.name.now r) (sym (err_is c.from_residual.result (fault_of f) c.from_residual.ensures))
-    (unknown_walk c.args.name.now f c.in_err-id.ensures.unknown)
-
 pub returns-in_err-id-clause-own : goal.returns-in_err-id-clause-own
 returns-in_err-id-clause-own g c =
     let f = c.in_err-id.field-0.0 in
     subst (λ (r : Result (Unit {0}) Fault). OwnsFault (ended r)) (sym (err_is c.from_residual.result (fault_of f) c.from_residual.ensures))
-    (own_walk f c.in_err-id.ensures.own)
+    (own_refused f c.in_err-id.ensures.own)
 
 pub returns-in_err-asked-clause-told : goal.returns-in_err-asked-clause-told
 returns-in_err-asked-clause-told g c = λ m is i left.
@@ -55,16 +39,6 @@ returns-in_err-asked-clause-told g c = λ m is i left.
     (sym (err_is c.from_residual-in_err-asked.result f c.from_residual-in_err-asked.ensures))
     (asked_refused m c.args.verify c.args.name.now c.args.point c.args.bands.now c.args.form c.args.geoloc (entries i) c.open_all.new.cat c.in_ok-id.id d.dataset walk c.in_ok-id.ensures.number d.at f (g.O.Sink.got c.args.out.now) choice)
 
-pub put_answers-requires-clause-walked : goal.put_answers-requires-clause-walked
-put_answers-requires-clause-walked g c κs within = λ m is.
-    let none = subst (λ (cat : List Dataset). IsWalked m cat) (sym c.new-cat.ensures.empty) (All-nil (λ (d : Dataset). dataset_in m false d.head.name ≡ Ok d)) in
-    c.in_ok-id.ensures.walked m (sym c.in_ok-id.ensures.names ∙ is) none
-
-pub put_answers-requires-clause-bands : goal.put_answers-requires-clause-bands
-put_answers-requires-clause-bands g c κs within =
-    let d = found c.open_all.new.cat c.args.name.now c.in_ok-id.id c.in_ok-id.ensures.number in
-    bands_of_head c.open_all.new.cat c.in_ok-id.id c.head.result.now (λ count. All (λ band. (1 ≤ band) × (band ≤ count)) c.in_ok-asked.asked.bands) (slice_get_within c.open_all.new.cat c.in_ok-id.id d.dataset d.at) c.head.ensures.head c.in_ok-asked.ensures.within
-
 pub returns-clause-told : goal.returns-clause-told
 returns-clause-told g c = λ m is i left.
     let walk = subst (λ (cat : List Dataset). walked m c.args.verify cat c.args.name.now ≡ Ok c.open_all.new.cat) c.new-cat.ensures.empty (c.in_ok-id.ensures.told m is) in
@@ -73,3 +47,27 @@ returns-clause-told g c = λ m is i left.
     let choice = subst (λ (h : DatasetHead). asked_in c.args.form c.args.bands.now c.args.geoloc h ≡ Ok c.in_ok-asked.asked) head c.in_ok-asked.ensures.gives in
     location_put m c.args.verify c.args.name.now c.args.point c.args.bands.now c.args.form c.args.geoloc (entries i) c.open_all.new.cat c.in_ok-id.id d.dataset walk c.in_ok-id.ensures.number d.at c.in_ok-asked.asked c.put_answers.result (g.O.Sink.got c.args.out.now) (g.O.Sink.got c.put_answers.new.out) choice
     (c.put_answers.ensures.told m (c.in_ok-id.ensures.names ∙ is) d.dataset d.at i left)
+
+pub asked_in-requires : goal.asked_in-requires
+asked_in-requires g c =
+    let d = found c.open_all.new.cat c.args.name.now c.in_ok-id.id c.in_ok-id.ensures.number in
+    record { few = few_bands c.open_all.new.cat c.in_ok-id.id c.head.result.now c.in_ok-id.ensures.valid (slice_get_within c.open_all.new.cat c.in_ok-id.id d.dataset d.at) c.head.ensures.head }
+
+pub returns-in_err-asked-clause-changed : goal.returns-in_err-asked-clause-changed
+returns-in_err-asked-clause-changed g c =
+    let r = c.from_residual-in_err-asked.result in
+    let f = c.in_err-asked.field-0.0 in
+    no_change (g.F.Folder.names c.args.folder.now) r
+    (λ name was now is. asked_unchanged c.args.form c.args.bands.now c.args.geoloc c.head.result.now f c.in_err-asked.ensures.gives name was now
+    (one_fault r f (Changed name was now) (err_is r f c.from_residual-in_err-asked.ensures) is))
+
+pub returns-clause-stopped : goal.returns-clause-stopped
+returns-clause-stopped g c = λ so m is i left.
+    let walk = subst (λ (cat : List Dataset). walked m c.args.verify cat c.args.name.now ≡ Ok c.open_all.new.cat) c.new-cat.ensures.empty (c.in_ok-id.ensures.told m is) in
+    let d = found c.open_all.new.cat c.args.name.now c.in_ok-id.id c.in_ok-id.ensures.number in
+    let head : c.head.result.now ≡ d.dataset.head = sym (told_of (λ (d : Dataset). d.head) c.open_all.new.cat c.in_ok-id.id d.dataset c.head.result.now d.at c.head.ensures.head) in
+    let choice = subst (λ (h : DatasetHead). asked_in c.args.form c.args.bands.now c.args.geoloc h ≡ Ok c.in_ok-asked.asked) head c.in_ok-asked.ensures.gives in
+    stops_same (λ lines. (answers (point_text m c.open_all.new.cat d.dataset c.in_ok-asked.asked) c.args.point lines).text)
+    (λ lines. (ran_of (location_in m c.args.verify c.args.name.now c.args.point c.args.bands.now c.args.form c.args.geoloc lines)).printed)
+    i _ _ _ (c.put_answers.ensures.stopped so m (c.in_ok-id.ensures.names ∙ is) d.dataset d.at i left)
+    (λ lines. ap (λ (e : Result Printed Fault). (ran_of e).printed) (sym (location_told m c.args.verify c.args.name.now c.args.point c.args.bands.now c.args.form c.args.geoloc lines c.open_all.new.cat c.in_ok-id.id d.dataset walk c.in_ok-id.ensures.number d.at c.in_ok-asked.asked choice)))

@@ -2,10 +2,11 @@ use Rattle.std.proofs.Common.{◌≡◌, ◌∙◌, ◌⊎◌, ◌≤◌, ap, ma
 use Rattle.outside.specs.Outside.{Files}
 use Rattle.input_points.specs.Entries.{entries}
 use Rattle.gdal_cli.specs.declared.faults.Fault.{Fault}
-use Rattle.gdal_cli.specs.declared.faults.Fault.TheVariants.{Memory}
+use Rattle.gdal_cli.specs.declared.faults.Fault.TheVariants.{InputFault, Memory}
 use Rattle.gdal_cli.specs.Faults.{status_of}
 use Rattle.gdal_cli.specs.Texts.{line_of}
 use Rattle.gdal_cli.specs.Run.{printed_in, run_of, ended, Answers, Says}
+use Rattle.gdal_cli.proofs.Datasets.{refused_so}
 use Rattle.gdal_cli.proofs.Outcomes.{answered, ended_early, completed}
 use Rattle.gdal_cli.proofs.Said.{said}
 use Rattle.gdal_cli.proofs.running.run.Goals as goal
@@ -23,6 +24,11 @@ returns-clause-early_end g c = λ high m told i input_told.
     let status = c.tell.ensures.status ∙ ap status_of c.ended-fault.ensures in
     let many = subst (λ (n : ℕ). 2 ≤ n) status high in
     ended_early (printed_in m (entries i) (map string_bytes c.args.words.now)) c.perform.result m _ _ _ many (c.perform.ensures.names ∙ told) (c.perform.ensures.told m told i input_told)
+
+pub returns-clause-input_stopped : goal.returns-clause-input_stopped
+returns-clause-input_stopped g c = λ so m told i left.
+    let fault = c.tell.ensures.fault ∙ c.ended-fault.ensures in
+    c.perform.ensures.stopped (refused_so c.perform.result InputFault (sym fault ∙ so)) m told i left
 
 pub returns-clause-complete : goal.returns-clause-complete
 returns-clause-complete g c = λ m told i input_told calm quiet still.

@@ -1,4 +1,3 @@
-use Rattle.std.proofs.Common.{rules}
 use Rattle.gdal_cli.proofs.texts.put_fault.Goals as goal
 
 pub returns-in-Usage-clause-ok : goal.returns-in-Usage-clause-ok
@@ -84,3 +83,15 @@ returns-in-SourceBand-clause-ok g c = rw c.in-SourceBand.is c.put_lacking.ensure
 
 pub returns-in-SourceBand-clause-err : goal.returns-in-SourceBand-clause-err
 returns-in-SourceBand-clause-err g c = rw c.in-SourceBand.is c.put_lacking.ensures.err
+
+pub returns-in-BadPoint-clause-ok : goal.returns-in-BadPoint-clause-ok
+returns-in-BadPoint-clause-ok g c = rw c.in-BadPoint.is (rw c.from.ensures at c.put_number-in-BadPoint.ensures.ok)
+
+pub returns-in-BadPoint-clause-err : goal.returns-in-BadPoint-clause-err
+returns-in-BadPoint-clause-err g c = rw c.in-BadPoint.is (rw c.from.ensures at c.put_number-in-BadPoint.ensures.err)
+
+pub returns-in-InputFault-clause-ok : goal.returns-in-InputFault-clause-ok
+returns-in-InputFault-clause-ok g c = rw c.in-InputFault.is c.put-in-InputFault.ensures.ok
+
+pub returns-in-InputFault-clause-err : goal.returns-in-InputFault-clause-err
+returns-in-InputFault-clause-err g c = rw c.in-InputFault.is c.put-in-InputFault.ensures.err
