@@ -6,6 +6,7 @@ pub mod Lines
 pub mod Listed
 pub mod Outcomes
 pub mod Owned
+pub mod Pieces
 pub mod Placed
 pub mod Reached
 pub mod Said

@@ -1,9 +1,10 @@
 -- How the answers to lines go together.
-use Rattle.std.proofs.Common.{◌≡◌, ◌∙◌, ap, sym, subst, refl, ◌⊎◌, inl, inr, ℕ, ℤ, ◌+◌, ◌<◌, ◌≤◌, Bool, true, false, List, [], ◌∷◌, ◌++◌, length, length-append, append_assoc, Result, Ok, Err, Option, Some, None, arith}
-use Rattle.std.specs.Prelude.{flat_map, if◌then◌else◌}
+use Rattle.std.proofs.Common.{◌≡◌, ◌∙◌, ap, sym, subst, refl, ◌⊎◌, inl, inr, ℕ, ℤ, ◌+◌, ◌<◌, ◌≤◌, Bool, true, false, List, [], ◌∷◌, ◌++◌, ◌-◌, take, drop, length, length-append, length-drop, append_assoc, Result, Ok, Err, Option, Some, None, arith}
+use Rattle.std.specs.Prelude.{flat_map, IfSome, if◌then◌else◌}
+use Rattle.std.specs.Option.{option_to_list}
 use Rattle.std.specs.Str.Lines.{lines}
 use Rattle.std.proofs.lemmas.Grind.{flat_map-append}
-use Rattle.std.proofs.lemmas.List.{append-nil}
+use Rattle.std.proofs.lemmas.List.{append-nil, take_all, drop-drop}
 use Rattle.outside.specs.Streams.{Gets, GetsPart}
 use Rattle.outside.proofs.Sinks.{gets-none, gets-then, gets-then-part, gets-whole, part-first}
 use Rattle.input_points.specs.declared.entry.Entry.{Entry}
@@ -13,9 +14,20 @@ use Rattle.input_points.specs.Lines.{ended_lines}
 use Rattle.input_points.specs.Entries.{ends, entries, ended_entries}
 use Rattle.input_points.specs.Reading.{Reading, start, kept, behind, coming}
 use Rattle.gdal_cli.specs.declared.faults.Fault.{Fault}
+use Rattle.gdal_cli.specs.declared.faults.Fault.TheVariants.{Changed}
 use Rattle.gdal_cli.specs.Faults.{IsOutside}
 use Rattle.gdal_cli.specs.Location.{line_text, line_fault, first_fault, lines_text, lines_fault, PutsText}
 use Rattle.gdal_cli.specs.Input.{IsReading, room_of, Passed, Answered, EndsLines, AnswersInput, StopsBehind}
+
+abbrev pub stopped_by : Fault → Result (Unit {0}) Fault
+stopped_by f = Err f
+
+abbrev pub gone_on : Unit {0} → Result (Unit {0}) Fault
+gone_on done = Ok done
+
+-- a fault of the outside is no change
+pub not_changed : (f : Fault) (name : List ℕ) (was : ℕ) (now : Option ℕ) → IsOutside f → stopped_by f ≡ Err (Changed name was now) → ⊥
+not_changed f name was now out is = let same : f ≡ Changed name was now = cc in subst IsOutside same out
 
 -- a line that doesn't end the reading has no fault, and one that ends it has no answer
 
@@ -30,6 +42,16 @@ ends_on number Blank f is = cc
 ends_on number (Point x y) f is = cc
 ends_on number Bad f is = refl
 ends_on number TooMany f is = refl
+
+-- a line behind which the reading goes on
+not_stopped : (g : Fault) → gone_on tt ≡ Err g → ⊥
+not_stopped g is = cc
+
+pub goes_on_at : (number : ℕ) (kind : LineKind) (after before : Option (List ℕ)) → ((g : Fault) → line_fault number kind ≡ Some g → (gone_on tt ≡ Err g) × (after ≡ before)) → (ends kind ≡ false) × (line_fault number kind ≡ None)
+goes_on_at number Blank after before refused = (refl, refl)
+goes_on_at number (Point x y) after before refused = (refl, refl)
+goes_on_at number Bad after before refused = absurd (not_stopped _ (refused _ refl).0)
+goes_on_at number TooMany after before refused = absurd (not_stopped _ (refused _ refl).0)
 
 no_answer : (tell : ℤ → ℤ → List ℕ) (number : ℕ) (kind : LineKind) (f : Fault) → line_fault number kind ≡ Some f → line_text tell kind ≡ []
 no_answer tell number Blank f is = cc
@@ -55,10 +77,14 @@ more_kept r new bytes is some same few =
     let most = is.most in
     (record { going = over ∙ is.going; most = omega arith; few = few }, omega arith)
 
+-- the reading behind a line with this number, which ends it or not
+abbrev behind_by : ℕ → Bool → Reading
+behind_by number last = record { line = if last then number else number + 1; held = []; over = last }
+
 -- a reading goes on behind a line
 pub line_behind : (r new : Reading) (kind : LineKind) → IsReading r → new ≡ behind r.line kind → ends kind ≡ false → new.line ≤ 16777217 → IsReading new × (room_of new < room_of r)
 line_behind r new kind is same goes most =
-    let state : new ≡ record { line = r.line + 1; held = []; over = false } = same ∙ ap (λ (b : Bool). record { line = if b then r.line else r.line + 1; held = []; over = b }) goes in
+    let state : new ≡ behind_by r.line false = same ∙ ap (behind_by r.line) goes in
     let over : new.over ≡ false = ap (λ (x : Reading). x.over) state in
     let line : new.line ≡ r.line + 1 = ap (λ (x : Reading). x.line) state in
     let held : length new.held ≡ 0 = ap (λ (x : Reading). length x.held) state in
@@ -127,6 +153,60 @@ module _ (tell : ℤ → ℤ → List ℕ) where
   -- the outside failed while a line was answered
   pub line_failed : (e : Entry) (more : List Entry) (f : Fault) (before after : Option (List ℕ)) → PutsText (line_text tell e.kind) (Err f) before after → EndsLines tell (e ∷ more) f before after
   line_failed e more f before after put = inr (put.0, part-first (line_text tell e.kind) (lines_text tell more) before after put.1)
+
+  -- a line that was refused, or whose answer failed
+  pub line_stops : (e : Entry) (more : List Entry) (f : Fault) (before after : Option (List ℕ)) → (ends e.kind ≡ true → more ≡ []) → (line_fault e.line e.kind ≡ None → PutsText (line_text tell e.kind) (Err f) before after) → ((g : Fault) → line_fault e.line e.kind ≡ Some g → (stopped_by f ≡ Err g) × (after ≡ before)) → EndsLines tell (e ∷ more) f before after
+  line_stops e more f before after last told refused = by (line_fault e.line e.kind) refl
+    where
+      by : (o : Option Fault) → line_fault e.line e.kind ≡ o → EndsLines tell (e ∷ more) f before after
+      by None is = line_failed e more f before after (told is)
+      by (Some g) is =
+          let h = refused g is in
+          let same : g ≡ f = cc in
+          subst (λ (o : Option (List ℕ)). EndsLines tell (e ∷ more) f before o) (sym h.1)
+          (subst (λ (k : Fault). EndsLines tell (e ∷ more) k before before) same (last_line e more g before is (last (ends_on e.line e.kind g is))))
+
+  -- the same where it ended in a piece
+  pub next_stops : (r new : Reading) (piece rest : List ℕ) (entry : Option Entry) (e : Entry) (f : Fault) (before after : Option (List ℕ)) → entry ≡ Some e → ((more : List ℕ) → coming lines r (piece ++ more) ≡ option_to_list entry ++ coming lines new (rest ++ more)) → IfSome entry (λ e. ends e.kind ≡ true → (more : List ℕ) → coming lines new more ≡ []) → (line_fault e.line e.kind ≡ None → PutsText (line_text tell e.kind) (Err f) before after) → ((g : Fault) → line_fault e.line e.kind ≡ Some g → (stopped_by f ≡ Err g) × (after ≡ before)) → (more : List ℕ) → EndsLines tell (coming lines r (piece ++ more)) f before after
+  next_stops r new piece rest entry e f before after is all last told refused more =
+      let over = subst (λ (o : Option Entry). IfSome o (λ e. ends e.kind ≡ true → (more : List ℕ) → coming lines new more ≡ [])) is last in
+      let next : coming lines r (piece ++ more) ≡ e ∷ coming lines new (rest ++ more) = all more ∙ ap (λ (o : Option Entry). option_to_list o ++ coming lines new (rest ++ more)) is in
+      subst (λ (es : List Entry). EndsLines tell es f before after) (sym next)
+      (line_stops e (coming lines new (rest ++ more)) f before after (λ k. over k (rest ++ more)) told refused)
+
+  -- a line that ended in a piece, and was answered
+  pub next_line : (r new : Reading) (piece rest : List ℕ) (entry : Option Entry) (e : Entry) (before after : Option (List ℕ)) → entry ≡ Some e → ((more : List ℕ) → coming lines r (piece ++ more) ≡ option_to_list entry ++ coming lines new (rest ++ more)) → (IfSome entry (λ e. ends e.kind ≡ false) → (more : List ℕ) → coming ended_lines r (piece ++ more) ≡ option_to_list entry ++ coming ended_lines new (rest ++ more)) → ((g : Fault) → line_fault e.line e.kind ≡ Some g → (gone_on tt ≡ Err g) × (after ≡ before)) → (line_fault e.line e.kind ≡ None → Gets (line_text tell e.kind) before after) → Answered tell r piece new rest before after
+  next_line r new piece rest entry e before after is all ended refused told =
+      let good = goes_on_at e.line e.kind after before refused in
+      let goes = subst (λ (o : Option Entry). IfSome o (λ e. ends e.kind ≡ false)) (sym is) good.0 in
+      one_line r new piece rest e before after good.1
+      (λ more. all more ∙ ap (λ (o : Option Entry). option_to_list o ++ coming lines new (rest ++ more)) is)
+      (λ more. ended goes more ∙ ap (λ (o : Option Entry). option_to_list o ++ coming ended_lines new (rest ++ more)) is)
+      (told good.1)
+
+  -- no line ended in a piece
+  pub next_none : (r new : Reading) (piece rest : List ℕ) (entry : Option Entry) (old : Option (List ℕ)) → entry ≡ None → ((more : List ℕ) → coming lines r (piece ++ more) ≡ option_to_list entry ++ coming lines new (rest ++ more)) → (IfSome entry (λ e. ends e.kind ≡ false) → (more : List ℕ) → coming ended_lines r (piece ++ more) ≡ option_to_list entry ++ coming ended_lines new (rest ++ more)) → Answered tell r piece new rest old old
+  next_none r new piece rest entry old is all ended =
+      let goes = subst (λ (o : Option Entry). IfSome o (λ e. ends e.kind ≡ false)) (sym is) tt in
+      no_line r new piece rest old
+      (λ more. all more ∙ ap (λ (o : Option Entry). option_to_list o ++ coming lines new (rest ++ more)) is)
+      (λ more. ended goes more ∙ ap (λ (o : Option Entry). option_to_list o ++ coming ended_lines new (rest ++ more)) is)
+
+  -- the next line of the rest of a piece behind those before it
+  rest_is : (piece : List ℕ) (at : ℕ) → take (length piece - at) (drop at piece) ≡ drop at piece
+  rest_is piece at = take_all (length piece - at) (drop at piece) (omega (arith, length-drop at piece))
+
+  pub piece_then : (a b c : Reading) (piece : List ℕ) (at used : ℕ) (before mid after : Option (List ℕ)) → Answered tell a piece b (drop at piece) before mid → Answered tell b (take (length piece - at) (drop at piece)) c (drop used (take (length piece - at) (drop at piece))) mid after → Answered tell a piece c (drop (at + used) piece) before after
+  piece_then a b c piece at used before mid after first second =
+      let next = subst (λ (s : List ℕ). Answered tell b s c (drop used s) mid after) (rest_is piece at) second in
+      subst (λ (s : List ℕ). Answered tell a piece c s before after) (drop-drop used at piece) (answered_then a b c piece (drop at piece) (drop used (drop at piece)) before mid after first next)
+
+  -- what ends the lines of a rest ends them behind those that were answered
+  pub rest_stops : (a b : Reading) (piece : List ℕ) (at : ℕ) (f : Fault) (before mid after : Option (List ℕ)) → Answered tell a piece b (drop at piece) before mid → ((more : List ℕ) → EndsLines tell (coming lines b (take (length piece - at) (drop at piece) ++ more)) f mid after) → (more : List ℕ) → EndsLines tell (coming lines a (piece ++ more)) f before after
+  rest_stops a b piece at f before mid after first h more =
+      let next = subst (λ (s : List ℕ). EndsLines tell (coming lines b (s ++ more)) f mid after) (rest_is piece at) (h more) in
+      subst (λ (es : List Entry). EndsLines tell es f before after) (sym (first.passed.all more))
+      (ends_behind first.given (coming lines b (drop at piece ++ more)) f before mid after first.passed.good first.put next)
 
   -- the outside failed behind lines that were answered
   pub failed_behind : (es fs : List Entry) (f : Fault) (before after : Option (List ℕ)) → IsOutside f → Gets (lines_text tell es) before after → EndsLines tell (es ++ fs) f before after

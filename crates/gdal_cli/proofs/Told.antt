@@ -3,7 +3,7 @@ use Rattle.std.proofs.Common.{◌≡◌, ◌∙◌, ap, sym, refl, ◌⊎◌, in
 use Rattle.std.specs.Prelude.{slice_get}
 use Rattle.std.proofs.lemmas.Bool.{cond-true, lt-ltb}
 use Rattle.std.proofs.lemmas.List.{map-append, take_more}
-use Rattle.std.proofs.Math.Seq.{take-suc-set}
+use Rattle.std.proofs.Math.Seq.{take-suc-set, take-append_seam}
 use Rattle.outside.specs.Outside.{Files}
 use Rattle.catalog.specs.Drivers.{Dataset}
 use Rattle.catalog.specs.Walk.{IsCatalog, IsWalked}
@@ -46,6 +46,15 @@ values_more f bands values i band d v less room is one so_far =
     ∙ sym (map-append f (take i bands) (get_or bands i d ∷ []))
     ∙ ap (map f) (sym (take_more bands i d less))
 
+-- values that were written over all of a list
+pub written_back : (n : ℕ) (shown values rest : List ℤ) → shown ≡ take n (values ++ rest) → length values ≡ n → shown ≡ values
+written_back n shown values rest is size = is ∙ ap (λ (k : ℕ). take k (values ++ rest)) (sym size) ∙ take-append_seam values rest
+
+-- the forms that tell values
+pub not_files : (form : Form) → (form ≡ Report) ⊎ (form ≡ ValuesOnly) → form ≡ FilesOnly → ⊥
+not_files form (inl is) files = cc
+not_files form (inr is) files = cc
+
 -- a column or a line of the side
 within_side : (side n : ℕ) → n < side → within side (pos n) ≡ Some n
 within_side side n less = cond-true (nat_lt n side) (Some n) None (lt-ltb n side less)
@@ -80,6 +89,31 @@ module _ (m : Files) (cat : List Dataset) (d : Dataset) (asked : Asked) where
   told_values x y values column line other is =
       ap (λ (vs : List ℤ). location_text asked.form (pos x) (pos y) (Some vs) asked.bands []) is
       ∙ no_files asked.form (pos x) (pos y) _ _ other ∙ inside x y column line
+
+  -- the text of the names of files, made behind an empty one
+  pub files_told : (id x y : ℕ) (text old : List ℕ) (column line : ℤ) (bands : List ℕ) (files : List (List ℕ)) → IsPixel cat id x y → slice_get cat id ≡ Some d → asked.form ≡ FilesOnly → text ≡ old ++ location_text asked.form column line None bands files → old ≡ [] → column ≡ pos x → line ≡ pos y → bands ≡ asked.bands → files ≡ covering_files cat d x y bands → text ≡ told_text m cat d asked (pos x, pos y)
+  files_told id x y text old column line bands files p at form is empty col row same names =
+      let here : p.dataset ≡ d = one_dataset cat id p.dataset d p.at at in
+      is
+      ∙ ap (λ (o : List ℕ). o ++ location_text asked.form column line None bands files) empty
+      ∙ ap (λ (k : ℤ). location_text asked.form k line None bands files) col
+      ∙ ap (λ (k : ℤ). location_text asked.form (pos x) k None bands files) row
+      ∙ ap (λ (bs : List ℕ). location_text asked.form (pos x) (pos y) None bs files) same
+      ∙ ap (location_text asked.form (pos x) (pos y) None asked.bands) (names ∙ ap (covering_files cat d x y) same)
+      ∙ told_files x y (subst (λ (e : Dataset). x < e.head.size.w) here p.column) (subst (λ (e : Dataset). y < e.head.size.h) here p.line) form
+
+  -- the same of values
+  pub values_told : (id x y : ℕ) (text old : List ℕ) (column line : ℤ) (bands : List ℕ) (values : List ℤ) (files : List (List ℕ)) → IsCatalog cat → IsWalked m cat → IsPixel cat id x y → slice_get cat id ≡ Some d → (asked.form ≡ FilesOnly → ⊥) → text ≡ old ++ location_text asked.form column line (Some values) bands files → old ≡ [] → column ≡ pos x → line ≡ pos y → bands ≡ asked.bands → files ≡ [] → values ≡ map (λ band. pixel_of m cat id (band - 1) x y) bands → text ≡ told_text m cat d asked (pos x, pos y)
+  values_told id x y text old column line bands values files valid walked p at other is empty col row same none are =
+      let here : p.dataset ≡ d = one_dataset cat id p.dataset d p.at at in
+      let named : values ≡ map (λ band. pixel_of_name m d.head.name (band - 1) x y) asked.bands = are ∙ values_named m cat id x y d bands valid walked at ∙ ap (map (λ band. pixel_of_name m d.head.name (band - 1) x y)) same in
+      is
+      ∙ ap (λ (o : List ℕ). o ++ location_text asked.form column line (Some values) bands files) empty
+      ∙ ap (λ (k : ℤ). location_text asked.form k line (Some values) bands files) col
+      ∙ ap (λ (k : ℤ). location_text asked.form (pos x) k (Some values) bands files) row
+      ∙ ap (λ (bs : List ℕ). location_text asked.form (pos x) (pos y) (Some values) bs files) same
+      ∙ ap (location_text asked.form (pos x) (pos y) (Some values) asked.bands) none
+      ∙ told_values x y values (subst (λ (e : Dataset). x < e.head.size.w) here p.column) (subst (λ (e : Dataset). y < e.head.size.h) here p.line) other named
 
   -- off the raster
   pub told_outside : (column line : ℤ) → (within d.head.size.w column ≡ None) ⊎ (within d.head.size.h line ≡ None) → location_text asked.form column line None asked.bands [] ≡ told_text m cat d asked (column, line)

@@ -1,5 +1,5 @@
 -- How the lines of an input are answered while it is read.
-use Rattle.std.specs.Prelude.{◌≡◌, ◌⊎◌, ◌≤◌, false, ℕ, ℤ, ◌*◌, ◌-◌, List, [], ◌++◌, length, Option, Some, None, Result, Ok, Err}
+use Rattle.std.specs.Prelude.{◌≡◌, ◌⊎◌, ◌≤◌, false, ℕ, ℤ, ◌*◌, ◌-◌, List, [], ◌++◌, length, drop, Option, Some, None, Result, Ok, Err}
 use Rattle.std.specs.Str.Lines.{lines}
 use Rattle.outside.specs.Streams.{Gets, GetsPart}
 use Rattle.input_points.specs.declared.entry.Entry.{Entry}
@@ -36,6 +36,11 @@ pub record Answered (tell : ℤ → ℤ → List ℕ) (old : Reading) (text : Li
 abbrev pub EndsLines : (ℤ → ℤ → List ℕ) → List Entry → Fault → Option (List ℕ) → Option (List ℕ) → Type 0
 EndsLines tell coming_lines fault before after =
     ((lines_fault coming_lines ≡ Some fault) × Gets (lines_text tell coming_lines) before after) ⊎ (IsOutside fault × GetsPart (lines_text tell coming_lines) before after)
+
+-- a call that answers the next line which ends in a piece, and reads so many bytes of it
+abbrev pub AnswersNext : (ℤ → ℤ → List ℕ) → Reading → List ℕ → Reading → Result ℕ Fault → Option (List ℕ) → Option (List ℕ) → Type 0
+AnswersNext tell old piece new (Ok used) before after = Answered tell old piece new (drop used piece) before after
+AnswersNext tell old piece new (Err fault) before after = (more : List ℕ) → EndsLines tell (coming lines old (piece ++ more)) fault before after
 
 -- a call that answers the lines which end in a piece
 abbrev pub AnswersPiece : (ℤ → ℤ → List ℕ) → Reading → List ℕ → Reading → Result (Unit {0}) Fault → Option (List ℕ) → Option (List ℕ) → Type 0

@@ -1,5 +1,5 @@
 // The points of an input.
-ghost use Rattle.std.specs.Prelude.{◌≡◌, ◌≤◌, ◌<◌, ℕ, List, All, IfErr, OnOk, Err, Some, None, [], IfOk, true, length, slice_get};
+ghost use Rattle.std.specs.Prelude.{◌≡◌, ◌≤◌, ◌<◌, ℕ, List, All, IfErr, OnOk, Option, Err, Some, None, [], IfOk, true, length, slice_get};
 ghost use Rattle.outside.specs.Outside.{Files};
 ghost use Rattle.outside.specs.Causes.{HasCause};
 ghost use Rattle.input_points.specs.Entries.{ends};
@@ -9,7 +9,7 @@ ghost use Rattle.catalog.specs.Drivers.{Dataset};
 ghost use Rattle.catalog.specs.Walk.{IsWalked};
 ghost use Rattle.nearest_window.specs.Right.{IsRight};
 ghost use Rattle.gdal_cli.specs.Faults.{IsLate, Differs, HasCauses};
-ghost use Rattle.gdal_cli.specs.Input.{IsReading, room_of, AnswersPiece, AnswersInput, StopsBehind};
+ghost use Rattle.gdal_cli.specs.Input.{IsReading, room_of, AnswersNext, AnswersPiece, AnswersInput, StopsBehind};
 ghost use Rattle.gdal_cli.specs.Location.{point_text, line_text, line_fault, lines_text, PutsText};
 ghost use Rattle.gdal_cli.specs.Pixels.{AreBands};
 
@@ -51,6 +51,7 @@ fn answer_line<F: Folder, O: Sink, L: Ledger>(
     ensures told { (m : Files) → F.names folder.old ≡ Some m → (d : Dataset) → slice_get cat.now id ≡ Some d → line_fault line kind ≡ None → PutsText (line_text (point_text m cat.now d asked.now) kind) result (O.got out.old) (O.got out.new) }
     ensures refused { (f : Fault) → line_fault line kind ≡ Some f → (result ≡ Err f) × (O.got out.new ≡ O.got out.old) }
     ensures ends { ends kind ≡ true → IfOk result (λ done. ⊥) }
+    ensures never { (m : Files) → F.names folder.old ≡ Some m → (name : List ℕ) (was : ℕ) (now : Option ℕ) → result ≡ Err (Fault.Changed name was now) → ⊥ }
     ensures cause { HasCauses (F.faults folder.old) (F.faults folder.new) (O.faults out.old) (O.faults out.new) result }
     ensures not_input { result ≡ Err Fault.InputFault → ⊥ }
     ensures right { IsRight F.file_bytes F.file_len (F.names folder.new) cat.now lane.new.pool lane.new.files }
@@ -69,6 +70,52 @@ fn answer_line<F: Folder, O: Sink, L: Ledger>(
             what: LimitKind::Points,
             value: TOO_MANY,
         }),
+    }
+}
+
+// Answers the next line that ends in a piece, if there is one, and gives the number of the piece's bytes that were read.
+fn answer_next<F: Folder, O: Sink, L: Ledger>(
+    alloc: Global,
+    cat: &Catalog,
+    folder: &mut F,
+    out: &mut O,
+    lane: &mut Lane<F>,
+    loads: &mut Steps<L>,
+    id: u32,
+    asked: &Asked,
+    room: &mut Room,
+    reader: &mut PointLines,
+    piece: &[u8],
+) -> Result<usize, Fault>
+    requires right { IsRight F.file_bytes F.file_len (F.names folder.old) cat.now lane.old.pool lane.old.files }
+    requires walked { (m : Files) → F.names folder.old ≡ Some m → IsWalked m cat.now }
+    requires bands { AreBands cat.now id (λ count. All (λ band. (1 ≤ band) × (band ≤ count)) asked.now.bands) }
+    requires room { length room.old.values.items ≡ length asked.now.bands }
+    requires reading { IsReading reader.old }
+    requires some { 0 < length piece.now }
+    ensures told { (m : Files) → F.names folder.old ≡ Some m → (d : Dataset) → slice_get cat.now id ≡ Some d → AnswersNext (point_text m cat.now d asked.now) reader.old piece.now reader.new result (O.got out.old) (O.got out.new) }
+    ensures used { IfOk result (λ used. (0 < used) × (used ≤ length piece.now)) }
+    // no line that has an end is left unanswered, and less can be taken than before
+    ensures reading { OnOk result (IsReading reader.new × (room_of reader.new < room_of reader.old)) }
+    ensures none { OnOk result (coming ended_lines reader.new [] ≡ []) }
+    ensures never { (m : Files) → F.names folder.old ≡ Some m → (name : List ℕ) (was : ℕ) (now : Option ℕ) → result ≡ Err (Fault.Changed name was now) → ⊥ }
+    ensures cause { HasCauses (F.faults folder.old) (F.faults folder.new) (O.faults out.old) (O.faults out.new) result }
+    ensures not_input { result ≡ Err Fault.InputFault → ⊥ }
+    ensures right { IsRight F.file_bytes F.file_len (F.names folder.new) cat.now lane.new.pool lane.new.files }
+    ensures room { length room.new.values.items ≡ length room.old.values.items }
+    ensures late { IfErr result IsLate }
+    ensures differs { Differs result }
+    ensures names { F.names folder.new ≡ F.names folder.old }
+{
+    let (entry, used) = reader.next(piece);
+    match entry {
+        Some(found) => {
+            answer_line(
+                alloc, cat, folder, out, lane, loads, id, asked, room, found.line, found.kind,
+            )?;
+            Ok(used)
+        }
+        None => Ok(used),
     }
 }
 
@@ -96,6 +143,7 @@ fn answer_piece<F: Folder, O: Sink, L: Ledger>(
     ensures reading { OnOk result (IsReading reader.new) }
     ensures none { OnOk result (0 < length piece.now → coming ended_lines reader.new [] ≡ []) }
     ensures forward { OnOk result (0 < length piece.now → room_of reader.new < room_of reader.old) }
+    ensures never { (m : Files) → F.names folder.old ≡ Some m → (name : List ℕ) (was : ℕ) (now : Option ℕ) → result ≡ Err (Fault.Changed name was now) → ⊥ }
     ensures cause { HasCauses (F.faults folder.old) (F.faults folder.new) (O.faults out.old) (O.faults out.new) result }
     ensures not_input { result ≡ Err Fault.InputFault → ⊥ }
     ensures right { IsRight F.file_bytes F.file_len (F.names folder.new) cat.now lane.new.pool lane.new.files }
@@ -106,12 +154,10 @@ fn answer_piece<F: Folder, O: Sink, L: Ledger>(
 {
     let mut at = 0;
     while at < piece.len() {
-        let (entry, used) = reader.next(&piece[at..]);
-        if let Some(Entry { line, kind }) = entry {
-            answer_line(
-                alloc, cat, folder, out, lane, loads, id, asked, room, line, kind,
-            )?;
-        }
+        let rest = &piece[at..];
+        let used = answer_next(
+            alloc, cat, folder, out, lane, loads, id, asked, room, reader, rest,
+        )?;
         at += used;
     }
     Ok(())
@@ -142,6 +188,9 @@ pub fn answer_input<F: Folder, I: Input, O: Sink, L: Ledger>(
     requires room { length room.old.values.items ≡ length asked.now.bands }
     ensures told { (m : Files) → F.names folder.old ≡ Some m → (d : Dataset) → slice_get cat.now id ≡ Some d → (i : List ℕ) → I.left input.old ≡ Some i → AnswersInput (point_text m cat.now d asked.now) i (I.left input.new) result (O.got out.old) (O.got out.new) }
     ensures stopped { result ≡ Err Fault.InputFault → (m : Files) → F.names folder.old ≡ Some m → (d : Dataset) → slice_get cat.now id ≡ Some d → (i : List ℕ) → I.left input.old ≡ Some i → StopsBehind (lines_text (point_text m cat.now d asked.now)) i (I.left input.new) (O.got out.old) (O.got out.new) }
+    // over every folder, success is at the end of the input; over one that tells its names, no length is said to have changed
+    ensures read { OnOk result ((i : List ℕ) → I.left input.old ≡ Some i → I.left input.new ≡ Some []) }
+    ensures never { (m : Files) → F.names folder.old ≡ Some m → (name : List ℕ) (was : ℕ) (now : Option ℕ) → result ≡ Err (Fault.Changed name was now) → ⊥ }
     ensures cause { HasCauses (F.faults folder.old) (F.faults folder.new) (O.faults out.old) (O.faults out.new) result }
     ensures input_cause { HasCause Fault.InputFault (I.faults input.old) (I.faults input.new) result }
     ensures right { IsRight F.file_bytes F.file_len (F.names folder.new) cat.now lane.new.pool lane.new.files }

@@ -1,5 +1,5 @@
 // What is told of one point.
-ghost use Rattle.std.specs.Prelude.{◌≡◌, ◌≤◌, pos, [], All, IfErr, IfOk, OnOk, Err, Some, length, slice_get};
+ghost use Rattle.std.specs.Prelude.{◌≡◌, ◌≤◌, ℕ, pos, List, [], All, IfErr, IfOk, OnOk, Err, Option, Some, length, slice_get};
 ghost use Rattle.outside.specs.Outside.{Files};
 ghost use Rattle.outside.specs.Causes.{HasCause};
 ghost use Rattle.catalog.specs.Drivers.{Dataset};
@@ -93,6 +93,7 @@ fn make_inside<F: Folder, L: Ledger>(
     ensures differs { Differs result }
     ensures names { F.names folder.new ≡ F.names folder.old }
 {
+    let _count = cat.count();
     let bands = asked.bands.as_slice();
     let (column, line) = (i128::from(x), i128::from(y));
     match asked.form {
@@ -191,6 +192,7 @@ pub fn put_point<F: Folder, O: Sink, L: Ledger>(
     requires bands { AreBands cat.now id (λ count. All (λ band. (1 ≤ band) × (band ≤ count)) asked.now.bands) }
     requires room { length room.old.values.items ≡ length asked.now.bands }
     ensures told { (m : Files) → F.names folder.old ≡ Some m → (d : Dataset) → slice_get cat.now id ≡ Some d → PutsText (point_text m cat.now d asked.now x y) result (O.got out.old) (O.got out.new) }
+    ensures never { (m : Files) → F.names folder.old ≡ Some m → (name : List ℕ) (was : ℕ) (now : Option ℕ) → result ≡ Err (Fault.Changed name was now) → ⊥ }
     ensures cause { HasCauses (F.faults folder.old) (F.faults folder.new) (O.faults out.old) (O.faults out.new) result }
     ensures not_input { result ≡ Err Fault.InputFault → ⊥ }
     ensures right { IsRight F.file_bytes F.file_len (F.names folder.new) cat.now lane.new.pool lane.new.files }

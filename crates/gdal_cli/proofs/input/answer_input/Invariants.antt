@@ -12,6 +12,7 @@ use Rattle.gdal_cli.proofs.input.answer_input.Given as goal
 abbrev pub invariant-pieces : goal.invariant-pieces
 invariant-pieces g l = record {
   told : (m : Files) → g.F.Folder.names l.fn.folder ≡ Some m → (d : Dataset) → slice_get l.cat l.id ≡ Some d → (i : List ℕ) → g.I.Input.left l.fn.input ≡ Some i → Taken (λ given. Answered (point_text m l.cat d l.asked) start given l.reader [] (g.O.Sink.got l.fn.out) (g.O.Sink.got l.out)) i (g.I.Input.left l.input);
+  rest : (i : List ℕ) → g.I.Input.left l.fn.input ≡ Some i → (r : List ℕ) × (g.I.Input.left l.input ≡ Some r);
   reading : IsReading l.reader;
   none : coming ended_lines l.reader [] ≡ [];
   some : 0 < length l.bytes.items;

@@ -15,7 +15,7 @@ invariant-loop-at g l = record {
   told : (m : Files) → g.F.Folder.names l.fn.folder ≡ Some m → (d : Dataset) → slice_get l.cat l.id ≡ Some d → Answered (point_text m l.cat d l.asked) l.fn.reader l.piece l.reader (drop l.at l.piece) (g.O.Sink.got l.fn.out) (g.O.Sink.got l.out);
   reading : IsReading l.reader;
   none : 0 < l.at → coming ended_lines l.reader [] ≡ [];
-  same : l.at ≡ 0 → l.reader ≡ l.fn.reader;
+  most : room_of l.reader ≤ room_of l.fn.reader;
   less : 0 < l.at → room_of l.reader < room_of l.fn.reader;
   room : length l.room.values.items ≡ length l.fn.room.values.items;
   right : IsRight g.F.Folder.file_bytes g.F.Folder.file_len (g.F.Folder.names l.folder) l.cat l.lane.pool l.lane.files;

@@ -1,0 +1,112 @@
+-- How an input is answered that is taken in pieces.
+use Rattle.std.proofs.Common.{◌≡◌, ◌∙◌, ap, sym, subst, refl, ◌⊎◌, inl, inr, ℕ, ℤ, ◌≤◌, List, [], ◌∷◌, ◌++◌, take, drop, append_assoc, Result, Ok, Err, Option, Some, None}
+use Rattle.std.specs.Str.Lines.{lines}
+use Rattle.std.proofs.lemmas.List.{append-nil, take-append-drop}
+use Rattle.outside.specs.Streams.{Gets}
+use Rattle.outside.specs.Streams as streams
+use Rattle.input_points.specs.declared.entry.Entry.{Entry}
+use Rattle.input_points.specs.Lines.{ended_lines}
+use Rattle.input_points.specs.Entries.{ends, entries, ended_entries}
+use Rattle.input_points.specs.Reading.{Reading, start, coming}
+use Rattle.gdal_cli.specs.declared.faults.Fault.{Fault}
+use Rattle.gdal_cli.specs.Faults.{IsOutside}
+use Rattle.gdal_cli.specs.Location.{line_text, line_fault, lines_text, PutsText}
+use Rattle.gdal_cli.specs.Input.{Answered, EndsLines, AnswersInput, StopsBehind, Taken}
+use Rattle.gdal_cli.proofs.Ended.{nothing_put}
+use Rattle.gdal_cli.proofs.Lines.{answered_none, answered_more, ends_of, failed_behind, stopped, whole_input, last_input, line_stops, ends_behind, gone_on}
+
+not_refused : (done : Unit {0}) (g : Fault) → gone_on done ≡ Err g → ⊥
+not_refused done g is = cc
+
+-- what is to come at the start are all lines
+from_start : (text : List ℕ) → coming lines start text ≡ entries text
+unfolding coming entries
+from_start text = refl
+
+ended_from_start : (text : List ℕ) → coming ended_lines start text ≡ ended_entries text
+unfolding coming ended_entries
+ended_from_start text = refl
+
+module _ (tell : ℤ → ℤ → List ℕ) where
+  abbrev pub TakenSo : Reading → Option (List ℕ) → Option (List ℕ) → List ℕ → Option (List ℕ) → Type 0
+  TakenSo r before mid input left = Taken (λ given. Answered tell start given r [] before mid) input left
+
+  -- the outside failed before anything was taken
+  pub fails_first : (input : List ℕ) (left : Option (List ℕ)) (r : Result (Unit {0}) Fault) (f : Fault) (old : Option (List ℕ)) → r ≡ Err f → IsOutside f → AnswersInput tell input left r old old
+  fails_first input left r f old is out = subst (λ (e : Result (Unit {0}) Fault). AnswersInput tell input left e old old) (sym is) (inr (out, nothing_put (lines_text tell (entries input)) old))
+
+  -- nothing was taken
+  pub nothing_taken : (r : Reading) (input : List ℕ) (left old : Option (List ℕ)) → r ≡ start → left ≡ Some input → TakenSo r old old input left
+  nothing_taken r input left old is left_is = record {
+    given = [];
+    rest = input;
+    parts = refl;
+    left_is = left_is;
+    holds = subst (λ (s : Reading). Answered tell start [] s [] old old) (sym is) (answered_none tell start [] old);
+  }
+
+  -- a piece was taken, and the lines that ended in it were answered
+  pub taken_more : (r new : Reading) (input bytes piece : List ℕ) (n : ℕ) (left now before mid after : Option (List ℕ)) → TakenSo r before mid input left → ((b : List ℕ) → left ≡ Some b → streams.Taken b bytes now n) → piece ≡ take n bytes → Answered tell r piece new [] mid after → TakenSo new before after input now
+  taken_more r new input bytes piece n left now before mid after t took is answered =
+      let got = took t.rest t.left_is in
+      let same : piece ≡ take n t.rest = is ∙ got.bytes in
+      let parts : t.rest ≡ piece ++ drop n t.rest = sym (take-append-drop n t.rest) ∙ ap (λ (p : List ℕ). p ++ drop n t.rest) (sym same) in
+      record {
+        given = t.given ++ piece;
+        rest = drop n t.rest;
+        parts = t.parts ∙ ap (λ (s : List ℕ). t.given ++ s) parts ∙ sym (append_assoc t.given piece (drop n t.rest));
+        left_is = got.rest;
+        holds = answered_more tell start r new t.given piece before mid after t.holds answered;
+      }
+
+  -- the lines end in a piece
+  pub piece_stops : (r : Reading) (input bytes piece : List ℕ) (n : ℕ) (f : Fault) (left now before mid after : Option (List ℕ)) → TakenSo r before mid input left → ((b : List ℕ) → left ≡ Some b → streams.Taken b bytes now n) → piece ≡ take n bytes → ((more : List ℕ) → EndsLines tell (coming lines r (piece ++ more)) f mid after) → EndsLines tell (entries input) f before after
+  piece_stops r input bytes piece n f left now before mid after t took is h =
+      let got = took t.rest t.left_is in
+      let same : piece ≡ take n t.rest = is ∙ got.bytes in
+      let parts : piece ++ drop n t.rest ≡ t.rest = ap (λ (p : List ℕ). p ++ drop n t.rest) same ∙ take-append-drop n t.rest in
+      subst (λ (i : List ℕ). EndsLines tell (entries i) f before after) (sym t.parts)
+      (ends_of tell r t.given t.rest f before mid after t.holds from_start (subst (λ (s : List ℕ). EndsLines tell (coming lines r s) f mid after) parts (h (drop n t.rest))))
+
+  -- the input failed
+  pub input_stops : (r : Reading) (input : List ℕ) (left now before after : Option (List ℕ)) → TakenSo r before after input left → ((b : List ℕ) → left ≡ Some b → now ≡ Some b) → coming ended_lines r [] ≡ [] → StopsBehind (lines_text tell) input now before after
+  input_stops r input left now before after t kept none = stopped tell r input t.given t.rest now before after t.holds t.parts (kept t.rest t.left_is) none ended_from_start
+
+  pub input_failed : (r : Reading) (input : List ℕ) (f : Fault) (left before after : Option (List ℕ)) → TakenSo r before after input left → IsOutside f → EndsLines tell (entries input) f before after
+  input_failed r input f left before after t out =
+      subst (λ (es : List Entry). EndsLines tell es f before after) (sym (t.holds.passed.all t.rest) ∙ from_start (t.given ++ t.rest) ∙ ap entries (sym t.parts))
+      (failed_behind tell t.holds.given (coming lines r t.rest) f before after out t.holds.put)
+
+  all_given : (input given rest : List ℕ) → input ≡ given ++ rest → rest ≡ [] → given ≡ input
+  all_given input given rest parts none = sym (parts ∙ ap (λ (s : List ℕ). given ++ s) none ∙ append-nil given)
+
+  -- the input was read to its end, where no line is left
+  pub input_ends : (r : Reading) (input bytes : List ℕ) (left now before after : Option (List ℕ)) → TakenSo r before after input left → ((b : List ℕ) → left ≡ Some b → streams.Taken b bytes now 0) → coming lines r [] ≡ [] → AnswersInput tell input now (Ok tt) before after
+  input_ends r input bytes left now before after t took none =
+      let got = took t.rest t.left_is in
+      let at_end : t.rest ≡ [] = got.at_end refl in
+      let left_is : now ≡ Some [] = got.rest ∙ ap (λ (s : List ℕ). Some s) at_end in
+      subst (λ (i : List ℕ). AnswersInput tell i now (Ok tt) before after) (all_given input t.given t.rest t.parts at_end)
+      (whole_input tell r t.given now before after t.holds from_start none left_is)
+
+  -- the same where a last line without an end is answered, or ends the lines
+  pub last_ends : (r : Reading) (input bytes : List ℕ) (e : Entry) (result : Result (Unit {0}) Fault) (left now before mid after : Option (List ℕ)) → TakenSo r before mid input left → ((b : List ℕ) → left ≡ Some b → streams.Taken b bytes now 0) → coming lines r [] ≡ e ∷ [] → (line_fault e.line e.kind ≡ None → PutsText (line_text tell e.kind) result mid after) → ((g : Fault) → line_fault e.line e.kind ≡ Some g → (result ≡ Err g) × (after ≡ mid)) → AnswersInput tell input now result before after
+  last_ends r input bytes e (Ok done) left now before mid after t took one told refused =
+      let got = took t.rest t.left_is in
+      let at_end : t.rest ≡ [] = got.at_end refl in
+      let left_is : now ≡ Some [] = got.rest ∙ ap (λ (s : List ℕ). Some s) at_end in
+      subst (λ (i : List ℕ). AnswersInput tell i now (Ok tt) before after) (all_given input t.given t.rest t.parts at_end)
+      (last_input tell r t.given e now before mid after t.holds from_start one left_is good (told good))
+    where
+      by : (o : Option Fault) → line_fault e.line e.kind ≡ o → line_fault e.line e.kind ≡ None
+      by None is = is
+      by (Some g) is = let h = refused g is in absurd (not_refused done g h.0)
+
+      good : line_fault e.line e.kind ≡ None
+      good = by (line_fault e.line e.kind) refl
+  last_ends r input bytes e (Err f) left now before mid after t took one told refused =
+      let got = took t.rest t.left_is in
+      let at_end : t.rest ≡ [] = got.at_end refl in
+      let all_of : entries input ≡ t.holds.given ++ e ∷ [] = ap entries (sym (all_given input t.given t.rest t.parts at_end)) ∙ sym (from_start t.given) ∙ ap (coming lines start) (sym (append-nil t.given)) ∙ t.holds.passed.all [] ∙ ap (λ (es : List Entry). t.holds.given ++ es) one in
+      subst (λ (es : List Entry). EndsLines tell es f before after) (sym all_of)
+      (ends_behind tell t.holds.given (e ∷ []) f before mid after t.holds.passed.good t.holds.put (line_stops tell e [] f mid after (λ over. refl) told refused))
