@@ -1,8 +1,6 @@
 -- Commands whose dataset's name tells no kind which they read.
-use Rattle.std.proofs.Common.{◌≡◌, ◌∙◌, ap, subst, sym, ◌⊎◌, inl, inr, ℕ, false, not, List, Result, Ok, Err, Option, Some, None}
-use Rattle.catalog.specs.declared.faults.WalkFault.{WalkFault}
+use Rattle.std.proofs.Common.{◌≡◌, ap, subst, sym, ◌⊎◌, inl, inr, ℕ, false, not, List, Result, Ok, Err, Some}
 use Rattle.catalog.specs.declared.faults.WalkFault.TheVariants as walk
-use Rattle.catalog.specs.declared.kind.Kind.{Kind}
 use Rattle.catalog.specs.Heads.{kind_in}
 use Rattle.gdal_cli.specs.declared.command.Command.{Command}
 use Rattle.gdal_cli.specs.declared.spoken.WordFault.{WordFault}

@@ -1,5 +1,5 @@
 -- How jobs end.
-use Rattle.std.proofs.Common.{◌≡◌, ◌∙◌, ap, subst, sym, ◌⊎◌, inl, inr, ℕ, ℤ, Bool, List, [], ◌++◌, take, refl, Result, Ok, Err, Option, Some, None}
+use Rattle.std.proofs.Common.{◌≡◌, ◌∙◌, ap, subst, sym, ◌⊎◌, inl, inr, ℕ, ℤ, Bool, List, [], refl, Result, Ok, Err, Option, Some, None}
 use Rattle.std.proofs.lemmas.List.{append-nil}
 use Rattle.lists_and_answers.specs.Answers.{◌>>=◌}
 use Rattle.outside.specs.Outside.{Files}

@@ -1,6 +1,6 @@
 -- How the answers to lines go together.
-use Rattle.std.proofs.Common.{◌≡◌, ◌∙◌, ap, sym, subst, refl, ◌⊎◌, inl, inr, ℕ, ℤ, ◌+◌, ◌<◌, ◌≤◌, Bool, true, false, List, [], ◌∷◌, ◌++◌, ◌-◌, take, drop, length, length-append, length-drop, append_assoc, Result, Ok, Err, Option, Some, None, arith}
-use Rattle.std.specs.Prelude.{flat_map, IfSome, if◌then◌else◌}
+use Rattle.std.proofs.Common.{◌≡◌, ◌∙◌, ap, sym, subst, refl, inl, inr, ℕ, ℤ, ◌+◌, ◌<◌, ◌≤◌, Bool, true, false, List, [], ◌∷◌, ◌++◌, ◌-◌, take, drop, length, length-append, length-drop, append_assoc, Result, Ok, Err, Option, Some, None, arith}
+use Rattle.std.specs.Prelude.{IfSome, if◌then◌else◌}
 use Rattle.std.specs.Option.{option_to_list}
 use Rattle.std.specs.Str.Lines.{lines}
 use Rattle.std.proofs.lemmas.Grind.{flat_map-append}
@@ -17,7 +17,7 @@ use Rattle.gdal_cli.specs.declared.faults.Fault.{Fault}
 use Rattle.gdal_cli.specs.declared.faults.Fault.TheVariants.{Changed}
 use Rattle.gdal_cli.specs.Faults.{IsOutside}
 use Rattle.gdal_cli.specs.Location.{line_text, line_fault, first_fault, lines_text, lines_fault, PutsText}
-use Rattle.gdal_cli.specs.Input.{IsReading, room_of, Passed, Answered, EndsLines, AnswersInput, StopsBehind}
+use Rattle.gdal_cli.specs.Input.{IsReading, room_of, Answered, EndsLines, AnswersInput, StopsBehind}
 
 abbrev pub stopped_by : Fault → Result (Unit {0}) Fault
 stopped_by f = Err f

@@ -1,5 +1,5 @@
 -- How a run answers, by how its job ended.
-use Rattle.std.proofs.Common.{◌≡◌, ap, sym, ◌⊎◌, inl, inr, ◌≤◌, ℕ, List, take, refl, arith, Result, Ok, Err, Option, Some, None}
+use Rattle.std.proofs.Common.{◌≡◌, ap, sym, ◌⊎◌, inl, inr, ◌≤◌, ℕ, List, take, refl, arith, Result, Ok, Err, Option, Some}
 use Rattle.outside.specs.Outside.{Files}
 use Rattle.outside.specs.Causes.{HasCause, Rose}
 use Rattle.outside.proofs.Sinks.{gets-whole}

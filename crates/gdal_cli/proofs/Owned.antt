@@ -4,7 +4,6 @@ use Rattle.catalog.specs.Heads.{IsOwnFault, OwnsFaults}
 use Rattle.catalog.specs.declared.faults.Bad.{Bad}
 use Rattle.catalog.specs.declared.faults.WalkFault.{WalkFault}
 use Rattle.catalog.specs.declared.faults.WalkFault.TheVariants as walk
-use Rattle.gdal_cli.specs.declared.faults.Fault.{Fault}
 use Rattle.gdal_cli.specs.Faults.{fault_of, OwnsFault}
 
 own_walk : (f : WalkFault) → ((name : List ℕ) (b : Bad) → f ≡ walk.Malformed name b → IsOwnFault b) → OwnsFault (Some (fault_of f))

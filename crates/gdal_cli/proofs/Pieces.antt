@@ -1,19 +1,22 @@
 -- How an input is answered that is taken in pieces.
-use Rattle.std.proofs.Common.{◌≡◌, ◌∙◌, ap, sym, subst, refl, ◌⊎◌, inl, inr, ℕ, ℤ, ◌≤◌, List, [], ◌∷◌, ◌++◌, take, drop, append_assoc, Result, Ok, Err, Option, Some, None}
+use Rattle.std.proofs.Common.{◌≡◌, ◌∙◌, ap, sym, subst, refl, inr, ℕ, ℤ, ◌<◌, ◌≤◌, arith, List, [], ◌∷◌, ◌++◌, length, take, drop, append_assoc, Result, Ok, Err, Option, Some, None}
+use Rattle.std.specs.Prelude.{OnOk}
 use Rattle.std.specs.Str.Lines.{lines}
-use Rattle.std.proofs.lemmas.List.{append-nil, take-append-drop}
+use Rattle.std.proofs.lemmas.List.{append-nil, take-append-drop, length-take-le}
 use Rattle.outside.specs.Streams.{Gets}
 use Rattle.outside.specs.Streams as streams
+use Rattle.outside.specs.Causes.{Rose}
 use Rattle.input_points.specs.declared.entry.Entry.{Entry}
 use Rattle.input_points.specs.Lines.{ended_lines}
-use Rattle.input_points.specs.Entries.{ends, entries, ended_entries}
+use Rattle.input_points.specs.Entries.{entries, ended_entries}
 use Rattle.input_points.specs.Reading.{Reading, start, coming}
 use Rattle.gdal_cli.specs.declared.faults.Fault.{Fault}
-use Rattle.gdal_cli.specs.Faults.{IsOutside}
+use Rattle.gdal_cli.specs.declared.faults.Fault.TheVariants.{FolderFault, InputFault, OutFault}
+use Rattle.gdal_cli.specs.Faults.{IsOutside, HasCauses}
 use Rattle.gdal_cli.specs.Location.{line_text, line_fault, lines_text, PutsText}
-use Rattle.gdal_cli.specs.Input.{Answered, EndsLines, AnswersInput, StopsBehind, Taken}
+use Rattle.gdal_cli.specs.Input.{IsReading, Answered, EndsLines, AnswersPieces, AnswersInput, StopsBehind, Taken}
 use Rattle.gdal_cli.proofs.Ended.{nothing_put}
-use Rattle.gdal_cli.proofs.Lines.{answered_none, answered_more, ends_of, failed_behind, stopped, whole_input, last_input, line_stops, ends_behind, gone_on}
+use Rattle.gdal_cli.proofs.Lines.{answered_none, answered_more, ends_of, failed_behind, stopped, whole_input, last_input, line_stops, ends_behind, gone_on, stopped_by}
 
 not_refused : (done : Unit {0}) (g : Fault) → gone_on done ≡ Err g → ⊥
 not_refused done g is = cc
@@ -26,6 +29,52 @@ from_start text = refl
 ended_from_start : (text : List ℕ) → coming ended_lines start text ≡ ended_entries text
 unfolding coming ended_entries
 ended_from_start text = refl
+
+-- a reading at its start
+pub start_reads : (r : Reading) → r ≡ start → IsReading r
+start_reads r is = subst IsReading (sym is) (record { going = refl; most = omega arith; few = omega arith })
+
+none_at_start : coming ended_lines start [] ≡ []
+unfolding coming
+none_at_start = refl
+
+pub start_none : (r : Reading) → r ≡ start → coming ended_lines r [] ≡ []
+start_none r is = ap (λ (s : Reading). coming ended_lines s []) is ∙ none_at_start
+
+-- a piece that has bytes
+pub taken_some : (n : ℕ) (bytes : List ℕ) → n ≤ length bytes → (n ≡ 0 → ⊥) → 0 < length (take n bytes)
+taken_some n bytes within some = omega (arith, length-take-le n bytes within, some)
+
+-- what is left at the end
+pub left_none : (n : ℕ) (rest : List ℕ) (now : Option (List ℕ)) → n ≡ 0 → rest ≡ [] → now ≡ Some (drop n rest) → now ≡ Some []
+left_none n rest now none at_end is = is ∙ ap (λ (k : ℕ). Some (drop k rest)) none ∙ ap (λ (s : List ℕ). Some s) at_end
+
+-- what holds of every answer
+pub always_ok : (r : Result (Unit {0}) Fault) (P : Type 0) → P → OnOk r P
+always_ok (Ok done) P p = p
+always_ok (Err f) P p = tt
+
+input_no_folder : stopped_by InputFault ≡ Err FolderFault → ⊥
+input_no_folder is = cc
+
+input_no_out : stopped_by InputFault ≡ Err OutFault → ⊥
+input_no_out is = cc
+
+-- a count that rose later rose since an earlier moment
+rose_later : (a b c : ℕ) → a ≤ b → Rose b c → Rose a c
+rose_later a b c later rose = omega (arith, later, rose)
+
+-- counts that had risen before have risen since an earlier moment
+pub causes_later : (a b c p q r : ℕ) (result : Result (Unit {0}) Fault) → a ≤ b → p ≤ q → HasCauses b c q r result → HasCauses a c p r result
+causes_later a b c p q r result folder out h = record {
+  folder_later = omega (arith, folder, h.folder_later);
+  out_later = omega (arith, out, h.out_later);
+  folder_failed = λ is. rose_later a b c folder (h.folder_failed is);
+  out_failed = λ is. rose_later p q r out (h.out_failed is);
+}
+
+pub stopped_causes : (a b p q : ℕ) → a ≤ b → p ≤ q → HasCauses {T = Unit {0}} a b p q (Err InputFault)
+stopped_causes a b p q folder out = record { folder_later = folder; out_later = out; folder_failed = λ is. absurd (input_no_folder is); out_failed = λ is. absurd (input_no_out is) }
 
 module _ (tell : ℤ → ℤ → List ℕ) where
   abbrev pub TakenSo : Reading → Option (List ℕ) → Option (List ℕ) → List ℕ → Option (List ℕ) → Type 0
@@ -80,23 +129,20 @@ module _ (tell : ℤ → ℤ → List ℕ) where
   all_given : (input given rest : List ℕ) → input ≡ given ++ rest → rest ≡ [] → given ≡ input
   all_given input given rest parts none = sym (parts ∙ ap (λ (s : List ℕ). given ++ s) none ∙ append-nil given)
 
-  -- the input was read to its end, where no line is left
-  pub input_ends : (r : Reading) (input bytes : List ℕ) (left now before after : Option (List ℕ)) → TakenSo r before after input left → ((b : List ℕ) → left ≡ Some b → streams.Taken b bytes now 0) → coming lines r [] ≡ [] → AnswersInput tell input now (Ok tt) before after
-  input_ends r input bytes left now before after t took none =
+  -- the input was taken to its end
+  pub pieces_end : (r : Reading) (input bytes : List ℕ) (n : ℕ) (left now before after : Option (List ℕ)) → TakenSo r before after input left → ((b : List ℕ) → left ≡ Some b → streams.Taken b bytes now n) → n ≡ 0 → AnswersPieces tell input now r (Ok tt) before after
+  pieces_end r input bytes n left now before after t took none =
       let got = took t.rest t.left_is in
-      let at_end : t.rest ≡ [] = got.at_end refl in
-      let left_is : now ≡ Some [] = got.rest ∙ ap (λ (s : List ℕ). Some s) at_end in
-      subst (λ (i : List ℕ). AnswersInput tell i now (Ok tt) before after) (all_given input t.given t.rest t.parts at_end)
-      (whole_input tell r t.given now before after t.holds from_start none left_is)
+      let at_end : t.rest ≡ [] = got.at_end none in
+      (subst (λ (i : List ℕ). Answered tell start i r [] before after) (all_given input t.given t.rest t.parts at_end) t.holds, left_none n t.rest now none at_end got.rest)
 
-  -- the same where a last line without an end is answered, or ends the lines
-  pub last_ends : (r : Reading) (input bytes : List ℕ) (e : Entry) (result : Result (Unit {0}) Fault) (left now before mid after : Option (List ℕ)) → TakenSo r before mid input left → ((b : List ℕ) → left ≡ Some b → streams.Taken b bytes now 0) → coming lines r [] ≡ e ∷ [] → (line_fault e.line e.kind ≡ None → PutsText (line_text tell e.kind) result mid after) → ((g : Fault) → line_fault e.line e.kind ≡ Some g → (result ≡ Err g) × (after ≡ mid)) → AnswersInput tell input now result before after
-  last_ends r input bytes e (Ok done) left now before mid after t took one told refused =
-      let got = took t.rest t.left_is in
-      let at_end : t.rest ≡ [] = got.at_end refl in
-      let left_is : now ≡ Some [] = got.rest ∙ ap (λ (s : List ℕ). Some s) at_end in
-      subst (λ (i : List ℕ). AnswersInput tell i now (Ok tt) before after) (all_given input t.given t.rest t.parts at_end)
-      (last_input tell r t.given e now before mid after t.holds from_start one left_is good (told good))
+  -- no line is left then
+  pub input_ends : (r : Reading) (input : List ℕ) (left before after : Option (List ℕ)) → Answered tell start input r [] before after × (left ≡ Some []) → coming lines r [] ≡ [] → AnswersInput tell input left (Ok tt) before after
+  input_ends r input left before after taken none = whole_input tell r input left before after taken.0 from_start none taken.1
+
+  -- or a last line without an end is answered, or ends the lines
+  pub last_ends : (r : Reading) (input : List ℕ) (e : Entry) (result : Result (Unit {0}) Fault) (left before mid after : Option (List ℕ)) → Answered tell start input r [] before mid × (left ≡ Some []) → coming lines r [] ≡ e ∷ [] → (line_fault e.line e.kind ≡ None → PutsText (line_text tell e.kind) result mid after) → ((g : Fault) → line_fault e.line e.kind ≡ Some g → (result ≡ Err g) × (after ≡ mid)) → AnswersInput tell input left result before after
+  last_ends r input e (Ok done) left before mid after taken one told refused = last_input tell r input e left before mid after taken.0 from_start one taken.1 good (told good)
     where
       by : (o : Option Fault) → line_fault e.line e.kind ≡ o → line_fault e.line e.kind ≡ None
       by None is = is
@@ -104,9 +150,8 @@ module _ (tell : ℤ → ℤ → List ℕ) where
 
       good : line_fault e.line e.kind ≡ None
       good = by (line_fault e.line e.kind) refl
-  last_ends r input bytes e (Err f) left now before mid after t took one told refused =
-      let got = took t.rest t.left_is in
-      let at_end : t.rest ≡ [] = got.at_end refl in
-      let all_of : entries input ≡ t.holds.given ++ e ∷ [] = ap entries (sym (all_given input t.given t.rest t.parts at_end)) ∙ sym (from_start t.given) ∙ ap (coming lines start) (sym (append-nil t.given)) ∙ t.holds.passed.all [] ∙ ap (λ (es : List Entry). t.holds.given ++ es) one in
+  last_ends r input e (Err f) left before mid after taken one told refused =
+      let t = taken.0 in
+      let all_of : entries input ≡ t.given ++ e ∷ [] = sym (from_start input) ∙ ap (coming lines start) (sym (append-nil input)) ∙ t.passed.all [] ∙ ap (λ (es : List Entry). t.given ++ es) one in
       subst (λ (es : List Entry). EndsLines tell es f before after) (sym all_of)
-      (ends_behind tell t.holds.given (e ∷ []) f before mid after t.holds.passed.good t.holds.put (line_stops tell e [] f mid after (λ over. refl) told refused))
+      (ends_behind tell t.given (e ∷ []) f before mid after t.passed.good t.put (line_stops tell e [] f mid after (λ over. refl) told refused))

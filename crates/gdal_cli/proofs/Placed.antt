@@ -1,5 +1,5 @@
 -- Numbers that are near enough to be placed.
-use Rattle.std.proofs.Common.{◌≡◌, ℤ, arith}
+use Rattle.std.proofs.Common.{ℤ, arith}
 use Rattle.geotransform.specs.Decimal.{IsRead}
 use Rattle.geotransform.specs.Geo.{IsNear}
 

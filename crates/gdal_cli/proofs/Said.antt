@@ -1,5 +1,5 @@
 -- What the error stream gets.
-use Rattle.std.proofs.Common.{◌≡◌, ◌∙◌, ap, ℕ, List, ◌++◌, length, take, refl, Result, Ok, Err, Option, Some, None, sym}
+use Rattle.std.proofs.Common.{◌∙◌, ap, ℕ, List, ◌++◌, length, refl, Result, Ok, Err, Option, Some, sym}
 use Rattle.std.specs.Prelude.{OnOk, OnErr}
 use Rattle.std.proofs.lemmas.List.{take_all}
 use Rattle.std.proofs.Math.Nat.{le_refl}

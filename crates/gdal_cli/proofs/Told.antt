@@ -1,5 +1,5 @@
 -- What is told of a place, inside the raster and off it, and the pixels that it is made of.
-use Rattle.std.proofs.Common.{◌≡◌, ◌∙◌, ap, sym, refl, ◌⊎◌, inl, inr, ◌+◌, ◌-◌, ◌<◌, ℕ, ℤ, pos, List, [], ◌∷◌, ◌++◌, length, map, take, set, get_or, add-one, nat_lt, Option, Some, None, arith}
+use Rattle.std.proofs.Common.{◌≡◌, ◌∙◌, ap, sym, subst, refl, ◌⊎◌, inl, inr, ◌+◌, ◌-◌, ◌<◌, ℕ, ℤ, pos, List, [], ◌∷◌, ◌++◌, length, map, take, set, get_or, add-one, nat_lt, Option, Some, None, arith}
 use Rattle.std.specs.Prelude.{slice_get}
 use Rattle.std.proofs.lemmas.Bool.{cond-true, lt-ltb}
 use Rattle.std.proofs.lemmas.List.{map-append, take_more}
@@ -16,6 +16,8 @@ use Rattle.location_report.specs.declared.report.Form.{Form}
 use Rattle.location_report.specs.declared.report.Form.TheVariants.{Report, ValuesOnly, FilesOnly}
 use Rattle.gdal_cli.specs.declared.asked.Asked.{Asked}
 use Rattle.gdal_cli.specs.Location.{within, values_at, files_at, told_text}
+use Rattle.gdal_cli.specs.Pixels.{IsPixel}
+use Rattle.gdal_cli.proofs.Reached.{one_dataset}
 
 -- the pixel of a window of one
 pub one_value : (f : ℕ → ℕ → ℤ) (x y : ℕ) → row_by_row f (record { x = x; y = y; w = 1; h = 1 }) ≡ f x y ∷ []

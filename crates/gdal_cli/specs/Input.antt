@@ -5,7 +5,7 @@ use Rattle.outside.specs.Streams.{Gets, GetsPart}
 use Rattle.input_points.specs.declared.entry.Entry.{Entry}
 use Rattle.input_points.specs.Lines.{ended_lines}
 use Rattle.input_points.specs.Entries.{entries, ended_entries}
-use Rattle.input_points.specs.Reading.{Reading, coming}
+use Rattle.input_points.specs.Reading.{Reading, start, coming}
 use Rattle.gdal_cli.specs.declared.faults.Fault.{Fault}
 use Rattle.gdal_cli.specs.Faults.{IsOutside}
 use Rattle.gdal_cli.specs.Location.{lines_text, lines_fault}
@@ -46,6 +46,11 @@ AnswersNext tell old piece new (Err fault) before after = (more : List ℕ) → 
 abbrev pub AnswersPiece : (ℤ → ℤ → List ℕ) → Reading → List ℕ → Reading → Result (Unit {0}) Fault → Option (List ℕ) → Option (List ℕ) → Type 0
 AnswersPiece tell old piece new (Ok done) before after = Answered tell old piece new [] before after
 AnswersPiece tell old piece new (Err fault) before after = (more : List ℕ) → EndsLines tell (coming lines old (piece ++ more)) fault before after
+
+-- a call that answers the lines which end in an input, from the start of a reading, and takes it to its end
+abbrev pub AnswersPieces : (ℤ → ℤ → List ℕ) → List ℕ → Option (List ℕ) → Reading → Result (Unit {0}) Fault → Option (List ℕ) → Option (List ℕ) → Type 0
+AnswersPieces tell input left new (Ok done) before after = Answered tell start input new [] before after × (left ≡ Some [])
+AnswersPieces tell input left new (Err fault) before after = EndsLines tell (entries input) fault before after
 
 -- a call that answers all lines of an input, which it reads to the end
 abbrev pub AnswersInput : (ℤ → ℤ → List ℕ) → List ℕ → Option (List ℕ) → Result (Unit {0}) Fault → Option (List ℕ) → Option (List ℕ) → Type 0

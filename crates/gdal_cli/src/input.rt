@@ -4,12 +4,12 @@ ghost use Rattle.outside.specs.Outside.{Files};
 ghost use Rattle.outside.specs.Causes.{HasCause};
 ghost use Rattle.input_points.specs.Entries.{ends};
 ghost use Rattle.input_points.specs.Lines.{ended_lines};
-ghost use Rattle.input_points.specs.Reading.{coming};
+ghost use Rattle.input_points.specs.Reading.{start, coming};
 ghost use Rattle.catalog.specs.Drivers.{Dataset};
 ghost use Rattle.catalog.specs.Walk.{IsWalked};
 ghost use Rattle.nearest_window.specs.Right.{IsRight};
 ghost use Rattle.gdal_cli.specs.Faults.{IsLate, Differs, HasCauses};
-ghost use Rattle.gdal_cli.specs.Input.{IsReading, room_of, AnswersNext, AnswersPiece, AnswersInput, StopsBehind};
+ghost use Rattle.gdal_cli.specs.Input.{IsReading, room_of, AnswersNext, AnswersPiece, AnswersPieces, AnswersInput, StopsBehind};
 ghost use Rattle.gdal_cli.specs.Location.{point_text, line_text, line_fault, lines_text, PutsText};
 ghost use Rattle.gdal_cli.specs.Pixels.{AreBands};
 
@@ -163,6 +163,54 @@ fn answer_piece<F: Folder, O: Sink, L: Ledger>(
     Ok(())
 }
 
+// Answers the lines that end in the input, which is taken in pieces up to its end.
+fn answer_pieces<F: Folder, I: Input, O: Sink, L: Ledger>(
+    alloc: Global,
+    cat: &Catalog,
+    folder: &mut F,
+    input: &mut I,
+    out: &mut O,
+    lane: &mut Lane<F>,
+    loads: &mut Steps<L>,
+    id: u32,
+    asked: &Asked,
+    room: &mut Room,
+    reader: &mut PointLines,
+    bytes: &mut [u8],
+) -> Result<(), Fault>
+    requires right { IsRight F.file_bytes F.file_len (F.names folder.old) cat.now lane.old.pool lane.old.files }
+    requires walked { (m : Files) → F.names folder.old ≡ Some m → IsWalked m cat.now }
+    requires bands { AreBands cat.now id (λ count. All (λ band. (1 ≤ band) × (band ≤ count)) asked.now.bands) }
+    requires room { length room.old.values.items ≡ length asked.now.bands }
+    requires start { reader.old ≡ start }
+    requires some { 0 < length bytes.old }
+    ensures told { (m : Files) → F.names folder.old ≡ Some m → (d : Dataset) → slice_get cat.now id ≡ Some d → (i : List ℕ) → I.left input.old ≡ Some i → AnswersPieces (point_text m cat.now d asked.now) i (I.left input.new) reader.new result (O.got out.old) (O.got out.new) }
+    ensures stopped { result ≡ Err Fault.InputFault → (m : Files) → F.names folder.old ≡ Some m → (d : Dataset) → slice_get cat.now id ≡ Some d → (i : List ℕ) → I.left input.old ≡ Some i → StopsBehind (lines_text (point_text m cat.now d asked.now)) i (I.left input.new) (O.got out.old) (O.got out.new) }
+    ensures read { OnOk result ((i : List ℕ) → I.left input.old ≡ Some i → I.left input.new ≡ Some []) }
+    ensures never { (m : Files) → F.names folder.old ≡ Some m → (name : List ℕ) (was : ℕ) (now : Option ℕ) → result ≡ Err (Fault.Changed name was now) → ⊥ }
+    ensures cause { HasCauses (F.faults folder.old) (F.faults folder.new) (O.faults out.old) (O.faults out.new) result }
+    ensures input_cause { HasCause Fault.InputFault (I.faults input.old) (I.faults input.new) result }
+    ensures right { IsRight F.file_bytes F.file_len (F.names folder.new) cat.now lane.new.pool lane.new.files }
+    ensures room { length room.new.values.items ≡ length room.old.values.items }
+    ensures late { IfErr result IsLate }
+    ensures differs { Differs result }
+    ensures names { F.names folder.new ≡ F.names folder.old }
+{
+    'pieces: loop {
+        let count = match input.take(bytes) {
+            Ok(count) => count,
+            Err(Failed) => return Err(Fault::InputFault),
+        };
+        if count == 0 {
+            return Ok(());
+        }
+        let piece = &bytes[..count];
+        answer_piece(
+            alloc, cat, folder, out, lane, loads, id, asked, room, reader, piece,
+        )?;
+    }
+}
+
 /// Answers the lines of the input, in pieces: the points of a piece are answered before the next piece is asked for.
 /// It takes memory for a piece of 65,536 bytes and for one line.
 ///
@@ -201,32 +249,23 @@ pub fn answer_input<F: Folder, I: Input, O: Sink, L: Ledger>(
 {
     let mut reader = PointLines::new(alloc)?;
     let mut bytes = vec![in alloc; 0u8; PIECE]?;
-    'pieces: loop {
-        let count = match input.take(&mut bytes) {
-            Ok(count) => count,
-            Err(Failed) => return Err(Fault::InputFault),
-        };
-        if count == 0 {
-            break 'pieces;
-        }
-        let piece = &bytes[..count];
-        answer_piece(
-            alloc,
-            cat,
-            folder,
-            out,
-            lane,
-            loads,
-            id,
-            asked,
-            room,
-            &mut reader,
-            piece,
-        )?;
-    }
+    answer_pieces(
+        alloc,
+        cat,
+        folder,
+        input,
+        out,
+        lane,
+        loads,
+        id,
+        asked,
+        room,
+        &mut reader,
+        &mut bytes,
+    )?;
     match reader.finish() {
-        Some(Entry { line, kind }) => answer_line(
-            alloc, cat, folder, out, lane, loads, id, asked, room, line, kind,
+        Some(last) => answer_line(
+            alloc, cat, folder, out, lane, loads, id, asked, room, last.line, last.kind,
         ),
         None => Ok(()),
     }

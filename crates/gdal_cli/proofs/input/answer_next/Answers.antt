@@ -1,5 +1,4 @@
-use Rattle.std.proofs.Common.{◌≡◌, subst, sym, ℕ, drop, Result, Some, None}
-use Rattle.input_points.specs.declared.entry.Entry.{Entry}
+use Rattle.std.proofs.Common.{subst, sym, ℕ, drop, Result}
 use Rattle.gdal_cli.specs.declared.faults.Fault.{Fault}
 use Rattle.gdal_cli.specs.Input.{AnswersNext}
 use Rattle.gdal_cli.specs.Location.{point_text}

@@ -1,4 +1,4 @@
-use Rattle.std.proofs.Common.{◌≡◌, ◌∙◌, ◌+◌, ◌-◌, ◌<◌, ◌≤◌, ap, subst, sym, arith, ℕ, List, take, drop, length, length-drop, Result, Err}
+use Rattle.std.proofs.Common.{◌≡◌, ◌∙◌, ◌-◌, subst, sym, arith, ℕ, List, take, drop, length, length-drop, Result}
 use Rattle.std.proofs.lemmas.List.{drop_all, length-take-le}
 use Rattle.gdal_cli.specs.declared.faults.Fault.{Fault}
 use Rattle.gdal_cli.specs.Input.{Answered, AnswersPiece}

@@ -1,4 +1,4 @@
-use Rattle.std.proofs.Common.{◌≡◌, ◌≤◌, ◌<◌, ◌-◌, ℕ, [], Some, length, drop, slice_get}
+use Rattle.std.proofs.Common.{◌≡◌, ◌≤◌, ◌<◌, ◌-◌, [], Some, length, drop, slice_get}
 use Rattle.outside.specs.Outside.{Files}
 use Rattle.input_points.specs.Lines.{ended_lines}
 use Rattle.input_points.specs.Reading.{coming}

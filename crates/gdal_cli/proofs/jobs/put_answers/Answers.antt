@@ -1,4 +1,4 @@
-use Rattle.std.proofs.Common.{rules, arith, ◌≡◌, sym, subst, ℕ, ℤ, List, Result, Ok, Option}
+use Rattle.std.proofs.Common.{rules, arith, sym, subst, ℤ, Ok, Option}
 use Rattle.std.proofs.lemmas.Grind.{common_steps}
 use Rattle.input_points.specs.Entries.{entries}
 use Rattle.gdal_cli.specs.declared.faults.Fault.TheVariants.{Memory}

@@ -1,4 +1,4 @@
-use Rattle.std.proofs.Common.{◌≡◌, sym, subst, Result, Ok, Err}
+use Rattle.std.proofs.Common.{sym, subst, Result, Ok, Err}
 use Rattle.gdal_cli.specs.declared.faults.Fault.{Fault}
 use Rattle.gdal_cli.specs.Faults.{fault_of, report_fault_of}
 use Rattle.gdal_cli.specs.Run.{ran_of, Ends, info_in}

@@ -1,4 +1,4 @@
-use Rattle.std.proofs.Common.{rules, ◌≡◌}
+use Rattle.std.proofs.Common.{rules}
 use Rattle.gdal_cli.specs.Run.{ran_of, printed_by}
 use Rattle.gdal_cli.proofs.Ended.{stops_same}
 use Rattle.gdal_cli.proofs.jobs.put_job.Goals as goal

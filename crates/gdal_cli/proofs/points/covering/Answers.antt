@@ -1,4 +1,4 @@
-use Rattle.std.proofs.Common.{◌≡◌, ◌∙◌, ap, sym, ◌-◌, ℕ, List, [], fold, get_or, refl}
+use Rattle.std.proofs.Common.{◌∙◌, ap, sym, ◌-◌, ℕ, List, [], fold, get_or, refl}
 use Rattle.std.proofs.lemmas.List.{take_all}
 use Rattle.location_report.specs.Covering.{with_covering, covering_files}
 use Rattle.location_report.proofs.Named.{fold_more}

@@ -1,4 +1,4 @@
-use Rattle.std.proofs.Common.{◌≡◌, ap, sym, map, string_bytes, Result}
+use Rattle.std.proofs.Common.{ap, sym, map, string_bytes, Result}
 use Rattle.gdal_cli.specs.declared.faults.Fault.{Fault}
 use Rattle.gdal_cli.specs.Location.{Printed}
 use Rattle.gdal_cli.specs.Run.{ran_of, run_over, printed_by}

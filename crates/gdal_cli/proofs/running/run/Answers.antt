@@ -1,11 +1,10 @@
 use Rattle.std.proofs.Common.{◌≡◌, ◌∙◌, ◌⊎◌, ◌≤◌, ap, map, string_bytes, sym, subst, ℕ, Option, Some}
-use Rattle.outside.specs.Outside.{Files}
 use Rattle.input_points.specs.Entries.{entries}
 use Rattle.gdal_cli.specs.declared.faults.Fault.{Fault}
 use Rattle.gdal_cli.specs.declared.faults.Fault.TheVariants.{InputFault, Memory}
 use Rattle.gdal_cli.specs.Faults.{status_of}
 use Rattle.gdal_cli.specs.Texts.{line_of}
-use Rattle.gdal_cli.specs.Run.{printed_in, run_of, ended, Answers, Says}
+use Rattle.gdal_cli.specs.Run.{printed_in, run_of, Answers, Says}
 use Rattle.gdal_cli.proofs.Datasets.{refused_so}
 use Rattle.gdal_cli.proofs.Outcomes.{answered, ended_early, completed}
 use Rattle.gdal_cli.proofs.Said.{said}

@@ -1,4 +1,4 @@
-use Rattle.std.proofs.Common.{◌≡◌, ◌∙◌, sym, Option, None, Some, ℕ}
+use Rattle.std.proofs.Common.{◌≡◌, ◌∙◌, sym, None, Some}
 use Rattle.gdal_cli.specs.Texts.{place_of}
 use Rattle.gdal_cli.proofs.texts.put_dted.Goals as goal
 

@@ -1,4 +1,4 @@
-use Rattle.std.proofs.Common.{◌≡◌, ◌∙◌, sym, Option, None, Some, ℕ}
+use Rattle.std.proofs.Common.{◌≡◌, ◌∙◌, sym, None, Some}
 use Rattle.vrt_profile.specs.Faults.{fault_place}
 use Rattle.gdal_cli.proofs.texts.put_vrt.Goals as goal
 

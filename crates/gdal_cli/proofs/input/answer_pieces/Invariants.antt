@@ -1,4 +1,4 @@
-use Rattle.std.proofs.Common.{◌≡◌, ◌≤◌, ◌<◌, ◌++◌, ℕ, List, [], Some, length, slice_get}
+use Rattle.std.proofs.Common.{◌≡◌, ◌≤◌, ◌<◌, ℕ, List, [], Some, length, slice_get}
 use Rattle.outside.specs.Outside.{Files}
 use Rattle.input_points.specs.Lines.{ended_lines}
 use Rattle.input_points.specs.Reading.{start, coming}
@@ -6,7 +6,7 @@ use Rattle.catalog.specs.Drivers.{Dataset}
 use Rattle.nearest_window.specs.Right.{IsRight}
 use Rattle.gdal_cli.specs.Input.{IsReading, Answered, Taken, room_of}
 use Rattle.gdal_cli.specs.Location.{point_text}
-use Rattle.gdal_cli.proofs.input.answer_input.Given as goal
+use Rattle.gdal_cli.proofs.input.answer_pieces.Given as goal
 
 -- the lines that ended in the bytes so far are answered
 abbrev pub invariant-pieces : goal.invariant-pieces
@@ -15,7 +15,7 @@ invariant-pieces g l = record {
   rest : (i : List ℕ) → g.I.Input.left l.fn.input ≡ Some i → (r : List ℕ) × (g.I.Input.left l.input ≡ Some r);
   reading : IsReading l.reader;
   none : coming ended_lines l.reader [] ≡ [];
-  some : 0 < length l.bytes.items;
+  some : 0 < length l.bytes;
   room : length l.room.values.items ≡ length l.fn.room.values.items;
   right : IsRight g.F.Folder.file_bytes g.F.Folder.file_len (g.F.Folder.names l.folder) l.cat l.lane.pool l.lane.files;
   names : g.F.Folder.names l.folder ≡ g.F.Folder.names l.fn.folder;
