@@ -13,7 +13,7 @@ fn fault_of(alloc: Global, text: &[u8]) -> (u8, u64) {
 }
 
 // Whole documents, each with the number of its fault and its place.
-const DOCUMENTS: [(&[u8], u8, u64); 41] = [
+const DOCUMENTS: [(&[u8], u8, u64); 46] = [
     (
         b"<VRTDataset rasterXSize=\"1\" rasterYSize=\"1\"><Foo/></VRTDataset>",
         2,
@@ -42,6 +42,19 @@ const DOCUMENTS: [(&[u8], u8, u64); 41] = [
     (b"<VRTDataset rasterXSize='0' rasterYSize='1'/>", 4, 0),
     (b"<VRTDataset rasterXSize='4194305' rasterYSize='x'/>", 6, 0),
     (b"<VRTDataset rasterXSize='4194304' rasterYSize='1'/>", 3, 0),
+    (b"<VRTDataset rasterXSize='1' rasterYSize='0'/>", 4, 0),
+    (b"<VRTDataset rasterXSize='1' rasterYSize='4194305'/>", 6, 0),
+    (b"<VRTDataset rasterXSize='1' rasterYSize='4194304'/>", 3, 0),
+    (
+        b"<VRTDataset rasterXSize='999999999' rasterYSize='1'/>",
+        6,
+        0,
+    ),
+    (
+        b"<VRTDataset rasterXSize='1000000000' rasterYSize='1'/>",
+        4,
+        0,
+    ),
     (
         b"<VRTDataset rasterXSize='1' rasterYSize='1' subClass='VRTDataset'/>",
         5,
@@ -262,8 +275,13 @@ fn source_fault(alloc: Global, kind: &[u8], parts: &[u8]) -> Result<u8, Fail> {
 }
 
 // Parts of a ComplexSource, each with the number of its fault and that in a SimpleSource.
-const PARTS: [(&[u8], u8, u8); 37] = [
+const PARTS: [(&[u8], u8, u8); 42] = [
     (b"<SourceFilename>b</SourceFilename>", 5, 5),
+    (b"<SourceBand/><SourceBand>1</SourceBand>", 4, 4),
+    (b"<SourceBand>1</SourceBand><SourceBand/>", 5, 5),
+    (b"<ScaleOffset>1</ScaleOffset><ScaleOffset/>", 5, 0),
+    (b"<ScaleRatio>1</ScaleRatio><ScaleRatio/>", 5, 0),
+    (b"<LUT>0:0</LUT><LUT/>", 5, 0),
     (b"<Metadata/>", 2, 2),
     (b"<SourceProperties RasterXSize='x'/>", 0, 0),
     (b"<SourceBand> 256 </SourceBand>", 0, 0),
@@ -367,6 +385,34 @@ fn pairs_fault(alloc: Global, count: u32) -> Result<u8, Fail> {
 fn most_pairs(rt: HostRuntime) -> Result<(), Fail> {
     assert_eq!(rt; pairs_fault(rt.alloc(), 65536)?, 0);
     assert_eq!(rt; pairs_fault(rt.alloc(), 65537)?, 6);
+    Ok(())
+}
+
+/// The front of a dataset up to its second band, behind a first one of so many sources.
+fn sources(alloc: Global, count: u32) -> Result<Vec<u8>, Fail> {
+    let mut bands: Vec<u8> = Vec::new(alloc);
+    bands.extend_from_slice(b"<VRTRasterBand>")?;
+    for _ in 0..count {
+        bands.extend_from_slice(
+            b"<SimpleSource><SourceFilename>a</SourceFilename></SimpleSource>",
+        )?;
+    }
+    bands.extend_from_slice(b"</VRTRasterBand><VRTRasterBand>")?;
+    Ok(bands)
+}
+
+// The 262,144th source of a document is read; the next one is past the limit before anything else of it is judged.
+#[test]
+fn most_sources(rt: HostRuntime) -> Result<(), Fail> {
+    let mut bands = sources(rt.alloc(), 262_143)?;
+    bands.extend_from_slice(
+        b"<SimpleSource><SourceFilename>b</SourceFilename></SimpleSource></VRTRasterBand>",
+    )?;
+    assert_eq!(rt; dataset_fault(rt.alloc(), &bands)?, (0, 0));
+    bands.extend_from_slice(
+        b"<VRTRasterBand><SimpleSource resampling='cubic'><Foo/></SimpleSource></VRTRasterBand>",
+    )?;
+    assert_eq!(rt; dataset_fault(rt.alloc(), &bands)?, (6, 0));
     Ok(())
 }
 
