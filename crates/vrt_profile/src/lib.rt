@@ -19,13 +19,9 @@ pub mod rectangle;
 mod source;
 pub mod source_names;
 pub mod spelling;
-#[cfg(test)]
-mod tests;
 mod text;
 pub mod text_law;
 mod writing;
-#[cfg(test)]
-mod writing_tests;
 pub mod written_law;
 
 pub use document::{Document, Source, Sources, VrtBand, VrtBands};

@@ -1,10 +1,8 @@
-use crate::document::{Document, Source, VrtBand};
-use crate::reader::read;
-use crate::source_names::{relate, resolve, resolved_len};
-use crate::spelling::write;
+// Documents that are written, and names of sources.
 use outside::{Name, NameFault};
 use std::alloc::Global;
 use std::test::*;
+use vrt_profile::{Document, Source, VrtBand, read, relate, resolve, resolved_len, write};
 
 /// Two tiles side by side, in another layout than the written one.
 const LOOSE: &[u8] = b"\xef\xbb\xbf<?xml version='1.0'?><!-- two tiles -->

@@ -1,8 +1,7 @@
-use crate::document::{Document, Source, VrtBand};
-use crate::fault::VrtFault;
-use crate::reader::read;
+// Documents that are read, and those that are refused.
 use std::alloc::Global;
 use std::test::*;
+use vrt_profile::{Document, Source, VrtBand, VrtFault, read};
 
 /// The number of the fault of a document, 0 for none, and its place, 0 where it has none.
 fn fault_of(alloc: Global, text: &[u8]) -> (u8, u64) {
