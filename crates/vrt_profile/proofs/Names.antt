@@ -94,6 +94,7 @@ left_tells {X} {R} o same ties flips xs ys moved sorted = both_ways (length (ded
         let rises = IsDistinct-from_sorted R ys (subst (IsStrictlySortedBy R) stood (IsStrictlySortedBy-dedup o ties ys sorted)) in
         let own : IsDistinct same ys = subst (λ e. IsDistinct e ys) (λ i x y. sym (ties x y) i) rises in
         apart_from_distinct same xs (IsDistinct-IsPermutation same flips ys xs (IsPermutation-sym xs ys moved) own)
+
     from : apart same xs ≡ true → (length (dedup same ys) == length xs) ≡ true
     from e =
         let own = IsDistinct-IsPermutation same flips xs ys moved (distinct_from_apart same xs e) in
@@ -129,8 +130,10 @@ same_names a b = by_case (is_equal a b) refl ∙ equal_flips a b
     and_false : (x : Bool) → (x && false) ≡ false
     and_false true = refl
     and_false false = refl
+
     and_true : (x : Bool) → x ≡ true → (x && true) ≡ true
     and_true x e = ap (λ y. y && true) e
+
     by_case : (t : Bool) → is_equal a b ≡ t → ((last_bytes 0 a == last_bytes 0 b) && is_equal a b) ≡ is_equal a b
     by_case true e = ap (λ y. (last_bytes 0 a == last_bytes 0 b) && y) e ∙ and_true (last_bytes 0 a == last_bytes 0 b) (ap (λ n. last_bytes 0 a == last_bytes 0 n) (sym (same_text a b (sym e))) ∙ same_itself (last_bytes 0 a)) ∙ sym e
     by_case false e = ap (λ y. (last_bytes 0 a == last_bytes 0 b) && y) e ∙ and_false (last_bytes 0 a == last_bytes 0 b) ∙ sym e
