@@ -90,9 +90,7 @@ fn text_nodes<'a>(
             Item::NoMemory => return Err(VrtFault::Memory),
             Item::Comment(more) => rest = more,
             Item::Run(raw, more) => {
-                if push_decoded(&mut text, raw).is_err() {
-                    return Err(VrtFault::Memory);
-                }
+                push_decoded(&mut text, raw)?;
                 rest = more;
             }
             Item::Close(other, more) if is_equal(other, name) => return Ok((
