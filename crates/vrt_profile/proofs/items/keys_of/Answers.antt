@@ -1,4 +1,4 @@
-use Rattle.std.proofs.Common.{◌∙◌, ap, sym, refl}
+use Rattle.std.proofs.Common.{◌∙◌, ap, sym}
 use Rattle.vrt_profile.specs.Views.{pair_view}
 use Rattle.vrt_profile.proofs.Names.{keys_more}
 use Rattle.vrt_profile.proofs.items.keys_of.Goals as goal
