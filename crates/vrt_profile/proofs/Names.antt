@@ -1,82 +1,167 @@
--- A set of the names so far tells of the attributes that follow whether one of them stands twice.
-use Rattle.std.proofs.Common.{◌≡◌, ℕ, Bool, true, false, cond, not, ◌||◌, ◌&&◌, List, [], ◌∷◌, Option, Some, refl, sym, ap, ◌∙◌}
-use Rattle.std.specs.Ordering.{nat_cmp, is_eq, match_ordering}
+-- Names in order, each one once, are as many as before just where no attribute stands twice.
+use Rattle.std.proofs.Common.{◌≡◌, ℕ, ◌+◌, ◌≤◌, Bool, true, false, cond, not, ◌||◌, ◌&&◌, List, [], ◌∷◌, ◌++◌, map, length, Option, Some, refl, sym, ap, ◌∙◌, subst, arith, ◌==◌, IsPermutation, IsSorted}
 use Rattle.std.specs.declared.cmp.Ordering.{Ordering}
-use Rattle.std.specs.declared.cmp.Ordering.TheVariants.{Less, Equal, Greater}
-use Rattle.std.specs.List.{list_any}
-use Rattle.std.specs.Cmp.Lexicographic.{slice_cmp}
-use Rattle.std.specs.BTreeSet.{insert_key}
-use Rattle.std.proofs.lemmas.Map.Lookups.{exact_bytes}
-use Rattle.std.proofs.lemmas.Map.Text.{is_eq-slice_cmp}
+use Rattle.std.specs.Ordering.{nat_cmp, eq_by_cmp, ordering_then}
+use Rattle.std.specs.List.{list_any, AllByRecursion, IsDistinct, dedup, dedup_from}
+use Rattle.std.specs.List.Sorted.{IsStrictlySortedBy}
+use Rattle.std.specs.Cmp.{IsTotalOrder, then_total, on_total, nat_cmp_total, unsigned_ties, both_tied}
+use Rattle.std.specs.Cmp.Lexicographic.{slice_cmp, on_texts, texts_ties, same_text}
+use Rattle.std.proofs.lemmas.Bool.Decides.{nat_tests}
+use Rattle.std.proofs.lemmas.List.{map-append, append_assoc}
+use Rattle.std.proofs.lemmas.List.Kept.{IsStrictlySortedBy-dedup}
+use Rattle.std.proofs.lemmas.List.Sorted.{IsPermutation-sym, length_permutation}
+use Rattle.std.proofs.lemmas.Map.Keys.{IsDistinct-from_sorted, IsDistinct-IsPermutation, IsDistinct-head, IsDistinct-tail, IsDistinct-cons}
 use Rattle.vrt_profile.specs.Items.{Pair, attribute, is_distinct, is_equal, is_some, pair_at, pairs}
+use Rattle.vrt_profile.specs.Keys.{key_of, last_bytes}
 use Rattle.vrt_profile.proofs.Shorter.{pairs_next}
 
--- whether a name is among the keys
-abbrev pub has : {K : Type 0} (f : K → List ℕ) → List ℕ → List K → Bool
-has f name ks = list_any (λ k. is_eq (slice_cmp nat_cmp name (f k))) ks
+-- whether no element is the same as one behind it
+abbrev pub apart : {X : Type 0} → (X → X → Bool) → List X → Bool
+apart same [] = true
+apart same (x ∷ xs) = not (list_any (same x) xs) && apart same xs
 
--- whether no attribute has a name that is among the keys
-abbrev pub free : {K : Type 0} (f : K → List ℕ) → List K → List Pair → Bool
-free f ks [] = true
-free f ks (p ∷ ps) = not (has f p.name ks) && free f ks ps
+both_ways : (a b : Bool) → (a ≡ true → b ≡ true) → (b ≡ true → a ≡ true) → a ≡ b
+both_ways true b to from = sym (to refl)
+both_ways false true to from = from refl
+both_ways false false to from = refl
 
--- the keys with one more
-abbrev pub with_key : {K : Type 0} (f : K → List ℕ) → List K → K → List K
-with_key f ks k = insert_key (λ x y. slice_cmp nat_cmp (f x) (f y)) ks k
+any_case : {X : Type 0} (p : X → Bool) (x : X) (xs : List X) (a b : Bool) → p x ≡ a → list_any p xs ≡ b → (list_any p xs ≡ false → AllByRecursion (λ y. p y ≡ false) xs) → (a || b) ≡ false → AllByRecursion (λ y. p y ≡ false) (x ∷ xs)
+any_case p x xs true b e f ih h = absurd cc
+any_case p x xs false true e f ih h = absurd cc
+any_case p x xs false false e f ih h = (e, ih f)
 
-has_case : {K : Type 0} (f : K → List ℕ) (q : List ℕ) (k x : K) (xs : List K) (o : Ordering) → slice_cmp nat_cmp (f k) (f x) ≡ o → has f q (with_key f xs k) ≡ (is_eq (slice_cmp nat_cmp q (f k)) || has f q xs) → has f q (match_ordering o (k ∷ x ∷ xs) (x ∷ xs) (x ∷ with_key f xs k)) ≡ (is_eq (slice_cmp nat_cmp q (f k)) || (is_eq (slice_cmp nat_cmp q (f x)) || has f q xs))
-has_case f q k x xs Less e ih = refl
-has_case f q k x xs Equal e ih = ap (λ n. is_eq (slice_cmp nat_cmp q n) || has f q xs) (sym (exact_bytes (f k) (f x) e)) ∙ twice (is_eq (slice_cmp nat_cmp q (f k))) (has f q xs) ∙ ap (λ n. is_eq (slice_cmp nat_cmp q (f k)) || (is_eq (slice_cmp nat_cmp q n) || has f q xs)) (exact_bytes (f k) (f x) e)
+none_same : {X : Type 0} (p : X → Bool) (xs : List X) → list_any p xs ≡ false → AllByRecursion (λ y. p y ≡ false) xs
+none_same p [] h = tt
+none_same p (x ∷ xs) h = any_case p x xs (p x) (list_any p xs) refl refl (none_same p xs) h
+
+same_none : {X : Type 0} (p : X → Bool) (xs : List X) → AllByRecursion (λ y. p y ≡ false) xs → list_any p xs ≡ false
+same_none p [] h = refl
+same_none p (x ∷ xs) h = ap (λ b. b || list_any p xs) h.0 ∙ same_none p xs h.1
+
+apart_case : {X : Type 0} (same : X → X → Bool) (x : X) (xs : List X) (a b : Bool) → list_any (same x) xs ≡ a → apart same xs ≡ b → (apart same xs ≡ true → IsDistinct same xs) → (not a && b) ≡ true → IsDistinct same (x ∷ xs)
+apart_case same x xs true b e f ih h = absurd cc
+apart_case same x xs false false e f ih h = absurd cc
+apart_case same x xs false true e f ih h = IsDistinct-cons same x xs (none_same (same x) xs e) (ih f)
+
+distinct_from_apart : {X : Type 0} (same : X → X → Bool) (xs : List X) → apart same xs ≡ true → IsDistinct same xs
+unfolding IsDistinct
+distinct_from_apart same [] h = tt
+distinct_from_apart same (x ∷ xs) h = apart_case same x xs (list_any (same x) xs) (apart same xs) refl refl (distinct_from_apart same xs) h
+
+apart_from_distinct : {X : Type 0} (same : X → X → Bool) (xs : List X) → IsDistinct same xs → apart same xs ≡ true
+apart_from_distinct same [] d = refl
+apart_from_distinct same (x ∷ xs) d = ap (λ b. not b && apart same xs) (same_none (same x) xs (IsDistinct-head same x xs d)) ∙ apart_from_distinct same xs (IsDistinct-tail same x xs d)
+
+-- A list without two of the same stays as it is.
+stays_from : {X : Type 0} (same : X → X → Bool) (flips : (x y : X) → same x y ≡ same y x) (k : X) (xs : List X) → AllByRecursion (λ y. same k y ≡ false) xs → IsDistinct same xs → dedup_from same k xs ≡ k ∷ xs
+stays_from same flips k [] all d = refl
+stays_from same flips k (x ∷ xs) all d =
+    ap (λ b. cond b (dedup_from same k xs) (k ∷ dedup_from same x xs)) (flips x k ∙ all.0)
+    ∙ ap (λ ys. k ∷ ys) (stays_from same flips x xs (IsDistinct-head same x xs d) (IsDistinct-tail same x xs d))
+
+stays : {X : Type 0} (same : X → X → Bool) (flips : (x y : X) → same x y ≡ same y x) (xs : List X) → IsDistinct same xs → dedup same xs ≡ xs
+stays same flips [] d = refl
+stays same flips (x ∷ xs) d = stays_from same flips x xs (IsDistinct-head same x xs d) (IsDistinct-tail same x xs d)
+
+-- No list gets longer, and one that gets no shorter stays as it is.
+long_case : {X : Type 0} (b : Bool) (us vs : List X) (n : ℕ) → length us ≤ n → length vs ≤ n → length (cond b us vs) ≤ n
+long_case true us vs n u v = u
+long_case false us vs n u v = v
+
+from_long : {X : Type 0} (same : X → X → Bool) (k : X) (xs : List X) → length (dedup_from same k xs) ≤ length xs + 1
+from_long same k [] = omega arith
+from_long same k (x ∷ xs) = long_case (same x k) (dedup_from same k xs) (k ∷ dedup_from same x xs) (length (x ∷ xs) + 1) (omega (arith, from_long same k xs)) (omega (arith, from_long same x xs))
+
+whole_case : {X : Type 0} (b : Bool) (us vs : List X) (k x : X) (xs : List X) → length us ≤ length xs + 1 → (length vs ≡ length xs + 1 → vs ≡ x ∷ xs) → length (cond b us (k ∷ vs)) ≡ length xs + 2 → cond b us (k ∷ vs) ≡ k ∷ x ∷ xs
+whole_case true us vs k x xs le ih e = absurd (omega (arith, le, e))
+whole_case false us vs k x xs le ih e = ap (λ ys. k ∷ ys) (ih (omega (arith, e)))
+
+whole_from : {X : Type 0} (same : X → X → Bool) (k : X) (xs : List X) → length (dedup_from same k xs) ≡ length xs + 1 → dedup_from same k xs ≡ k ∷ xs
+whole_from same k [] e = refl
+whole_from same k (x ∷ xs) e = whole_case (same x k) (dedup_from same k xs) (dedup_from same x xs) k x xs (from_long same k xs) (whole_from same x xs) (omega (arith, e))
+
+whole : {X : Type 0} (same : X → X → Bool) (xs : List X) → length (dedup same xs) ≡ length xs → dedup same xs ≡ xs
+whole same [] e = refl
+whole same (x ∷ xs) e = whole_from same x xs (omega (arith, e))
+
+-- What is left of a list in order tells whether the list had two of the same.
+pub left_tells : {X : Type 0} {R : X → X → Ordering} (o : IsTotalOrder R) (same : X → X → Bool) (ties : (x y : X) → same x y ≡ eq_by_cmp R x y) (flips : (x y : X) → same x y ≡ same y x) (xs ys : List X) → IsPermutation xs ys → IsSorted R ys → (length (dedup same ys) == length xs) ≡ apart same xs
+left_tells {X} {R} o same ties flips xs ys moved sorted = both_ways (length (dedup same ys) == length xs) (apart same xs) to from
   where
-    twice : (a b : Bool) → (a || b) ≡ (a || (a || b))
-    twice true b = refl
-    twice false b = refl
-has_case f q k x xs Greater e ih = ap (λ b. is_eq (slice_cmp nat_cmp q (f x)) || b) ih ∙ turn (is_eq (slice_cmp nat_cmp q (f x))) (is_eq (slice_cmp nat_cmp q (f k))) (has f q xs)
+    to : (length (dedup same ys) == length xs) ≡ true → apart same xs ≡ true
+    to e =
+        let stood = whole same ys (grind (arith, nat_tests, e, length_permutation xs ys moved)) in
+        let rises = IsDistinct-from_sorted R ys (subst (IsStrictlySortedBy R) stood (IsStrictlySortedBy-dedup o ties ys sorted)) in
+        let own : IsDistinct same ys = subst (λ e. IsDistinct e ys) (λ i x y. sym (ties x y) i) rises in
+        apart_from_distinct same xs (IsDistinct-IsPermutation same flips ys xs (IsPermutation-sym xs ys moved) own)
+
+    from : apart same xs ≡ true → (length (dedup same ys) == length xs) ≡ true
+    from e =
+        let own = IsDistinct-IsPermutation same flips xs ys moved (distinct_from_apart same xs e) in
+        grind (arith, nat_tests, ap length (stays same flips ys own), length_permutation xs ys moved)
+
+apart_map : {X Y : Type 0} (f : X → Y) (same : Y → Y → Bool) (xs : List X) → apart (λ x y. same (f x) (f y)) xs ≡ apart same (map f xs)
+apart_map f same [] = refl
+apart_map f same (x ∷ xs) = ap (λ b. not b && apart (λ x y. same (f x) (f y)) xs) (any_map xs) ∙ ap (λ b. not (list_any (same (f x)) (map f xs)) && b) (apart_map f same xs)
   where
-    turn : (a b c : Bool) → (a || (b || c)) ≡ (b || (a || c))
-    turn true true c = refl
-    turn true false c = refl
-    turn false true c = refl
-    turn false false c = refl
+    any_map : (ys : List _) → list_any (λ y. same (f x) (f y)) ys ≡ list_any (same (f x)) (map f ys)
+    any_map [] = refl
+    any_map (y ∷ ys) = ap (λ b. same (f x) (f y) || b) (any_map ys)
 
-has_with : {K : Type 0} (f : K → List ℕ) (q : List ℕ) (ks : List K) (k : K) → has f q (with_key f ks k) ≡ (is_eq (slice_cmp nat_cmp q (f k)) || has f q ks)
-has_with f q [] k = refl
-has_with f q (x ∷ xs) k = has_case f q k x xs (slice_cmp nat_cmp (f k) (f x)) refl (has_with f q xs k)
+-- keys of names
+abbrev pub same_key : ℕ × List ℕ → ℕ × List ℕ → Bool
+same_key x y = (x.0 == y.0) && is_equal x.1 y.1
 
-free_case : (a h r : Bool) (o : Option (List ℕ)) (v : List ℕ) → (not (a || h) && (r && not (is_some o))) ≡ ((not h && r) && not (is_some (cond a (Some v) o)))
-free_case true h r o v = none (not h && r)
+nat_flips : (x y : ℕ) → (x == y) ≡ (y == x)
+nat_flips x y = grind (arith, nat_tests)
+
+equal_flips : (a b : List ℕ) → is_equal a b ≡ is_equal b a
+equal_flips [] [] = refl
+equal_flips [] (y ∷ ys) = refl
+equal_flips (x ∷ xs) [] = refl
+equal_flips (x ∷ xs) (y ∷ ys) = ap (λ b. b && is_equal xs ys) (nat_flips x y) ∙ ap (λ b. (y == x) && b) (equal_flips xs ys)
+
+same_itself : (n : ℕ) → (n == n) ≡ true
+same_itself n = grind (arith, nat_tests)
+
+same_names : (a b : List ℕ) → ((last_bytes 0 a == last_bytes 0 b) && is_equal a b) ≡ is_equal b a
+same_names a b = by_case (is_equal a b) refl ∙ equal_flips a b
   where
-    none : (b : Bool) → false ≡ (b && false)
-    none true = refl
-    none false = refl
-free_case false true r o v = refl
-free_case false false r o v = refl
+    and_false : (x : Bool) → (x && false) ≡ false
+    and_false true = refl
+    and_false false = refl
 
-free_with : {K : Type 0} (f : K → List ℕ) (ks : List K) (k : K) (ps : List Pair) → free f (with_key f ks k) ps ≡ (free f ks ps && not (is_some (attribute (f k) ps)))
-free_with f ks k [] = refl
-free_with f ks k (p ∷ ps) =
-    ap (λ b. not b && free f (with_key f ks k) ps) (has_with f p.name ks k ∙ ap (λ b. b || has f p.name ks) (is_eq-slice_cmp p.name (f k)))
-    ∙ ap (λ b. not (is_equal p.name (f k) || has f p.name ks) && b) (free_with f ks k ps)
-    ∙ free_case (is_equal p.name (f k)) (has f p.name ks) (free f ks ps) (attribute (f k) ps) p.value
+    and_true : (x : Bool) → x ≡ true → (x && true) ≡ true
+    and_true x e = ap (λ y. y && true) e
 
--- What is left of a tag has no name twice, and none that is among the keys.
-abbrev pub is_free : {K : Type 0} (f : K → List ℕ) → List K → List ℕ → Bool
-is_free f ks text = free f ks (pairs text).0 && is_distinct (pairs text).0
+    by_case : (t : Bool) → is_equal a b ≡ t → ((last_bytes 0 a == last_bytes 0 b) && is_equal a b) ≡ is_equal a b
+    by_case true e = ap (λ y. (last_bytes 0 a == last_bytes 0 b) && y) e ∙ and_true (last_bytes 0 a == last_bytes 0 b) (ap (λ n. last_bytes 0 a == last_bytes 0 n) (sym (same_text a b (sym e))) ∙ same_itself (last_bytes 0 a)) ∙ sym e
+    by_case false e = ap (λ y. (last_bytes 0 a == last_bytes 0 b) && y) e ∙ and_false (last_bytes 0 a == last_bytes 0 b) ∙ sym e
 
-free_none : {K : Type 0} (f : K → List ℕ) (ps : List Pair) → free f [] ps ≡ true
-free_none f [] = refl
-free_none f (p ∷ ps) = free_none f ps
-
-pub free_first : {K : Type 0} (f : K → List ℕ) (ks : List K) (t : List ℕ) → ks ≡ [] → is_free f ks t ≡ is_distinct (pairs t).0
-free_first f ks t e = ap (λ x. is_free f x t) e ∙ ap (λ b. b && is_distinct (pairs t).0) (free_none f (pairs t).0)
-
-pub free_new : {K : Type 0} (f : K → List ℕ) (ks : List K) (k : K) (t : List ℕ) (p : Pair) (r : List ℕ) → pair_at t ≡ Some (p, r) → f k ≡ p.name → true ≡ not (has f p.name ks) → is_free f (with_key f ks k) r ≡ is_free f ks t
-free_new f ks k t p r e same new =
-    ap (λ b. b && is_distinct (pairs r).0) (free_with f ks k (pairs r).0 ∙ ap (λ n. free f ks (pairs r).0 && not (is_some (attribute n (pairs r).0))) same)
-    ∙ both (free f ks (pairs r).0) (not (is_some (attribute p.name (pairs r).0))) (is_distinct (pairs r).0)
-    ∙ ap (λ b. (b && free f ks (pairs r).0) && (not (is_some (attribute p.name (pairs r).0)) && is_distinct (pairs r).0)) new
-    ∙ ap (λ (x : List Pair × List ℕ). free f ks x.0 && is_distinct x.0) (sym (pairs_next t p r e))
+any_name : (p : Pair) (ps : List Pair) → list_any (same_key (key_of p)) (map key_of ps) ≡ is_some (attribute p.name ps)
+any_name p [] = refl
+any_name p (q ∷ qs) = ap (λ b. b || list_any (same_key (key_of p)) (map key_of qs)) (same_names p.name q.name) ∙ ap (λ b. is_equal q.name p.name || b) (any_name p qs) ∙ found (is_equal q.name p.name) (attribute p.name qs)
   where
-    both : (a b c : Bool) → ((a && b) && c) ≡ (a && (b && c))
-    both true b c = refl
-    both false b c = refl
+    found : (b : Bool) (o : Option (List ℕ)) → (b || is_some o) ≡ is_some (cond b (Some q.value) o)
+    found true o = refl
+    found false o = refl
+
+apart_names : (ps : List Pair) → apart same_key (map key_of ps) ≡ is_distinct ps
+apart_names [] = refl
+apart_names (p ∷ ps) = ap (λ b. not b && apart same_key (map key_of ps)) (any_name p ps) ∙ ap (λ b. not (is_some (attribute p.name ps)) && b) (apart_names ps)
+
+-- One attribute more gives its key.
+pub keys_more : {K : Type 0} (f : K → ℕ × List ℕ) (ks ms : List K) (k : K) (t : List ℕ) (p : Pair) (r : List ℕ) → ms ≡ ks ++ k ∷ [] → f k ≡ key_of p → pair_at t ≡ Some (p, r) → map f ms ++ map key_of (pairs r).0 ≡ map f ks ++ map key_of (pairs t).0
+keys_more f ks ms k t p r more same e =
+    ap (λ xs. map f xs ++ map key_of (pairs r).0) more
+    ∙ ap (λ xs. xs ++ map key_of (pairs r).0) (map-append f ks (k ∷ []))
+    ∙ append_assoc (map f ks) (f k ∷ []) (map key_of (pairs r).0)
+    ∙ ap (λ x. map f ks ++ x ∷ map key_of (pairs r).0) same
+    ∙ ap (λ (x : List Pair × List ℕ). map f ks ++ map key_of x.0) (sym (pairs_next t p r e))
+
+-- What is left of the keys in order tells whether no attribute stands twice.
+pub keys_tell : {K : Type 0} (f : K → ℕ × List ℕ) (xs ys zs : List K) (ps : List Pair) → map f xs ≡ map key_of ps → IsPermutation xs ys → IsSorted (λ x y. ordering_then (nat_cmp (f x).0 (f y).0) (slice_cmp nat_cmp (f x).1 (f y).1)) ys → zs ≡ dedup (λ x y. same_key (f x) (f y)) ys → (length zs == length xs) ≡ is_distinct ps
+keys_tell f xs ys zs ps keys moved sorted left =
+    ap (λ ws. length ws == length xs) left
+    ∙ left_tells (then_total (on_total (λ x. (f x).0) nat_cmp_total) (on_texts (λ x. (f x).1))) (λ x y. same_key (f x) (f y)) (λ x y. both_tied _ _ (nat_cmp (f x).0 (f y).0) (slice_cmp nat_cmp (f x).1 (f y).1) (unsigned_ties (f x).0 (f y).0) (texts_ties (f x).1 (f y).1)) (λ x y. ap (λ b. b && is_equal (f x).1 (f y).1) (nat_flips (f x).0 (f y).0) ∙ ap (λ b. ((f y).0 == (f x).0) && b) (equal_flips (f x).1 (f y).1)) xs ys moved sorted
+    ∙ apart_map f same_key xs ∙ ap (apart same_key) keys ∙ apart_names ps

@@ -5,6 +5,7 @@ pub mod Fields
 pub mod Forest
 pub mod Items
 pub mod Kept
+pub mod Keys
 pub mod Means
 pub mod NumberViews
 pub mod Numbers

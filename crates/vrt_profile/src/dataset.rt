@@ -274,25 +274,18 @@ fn dataset_nodes<'a>(
         blank: true,
     };
     'items: loop {
+        let place = (total - rest.len()) as u64;
         match item_at(alloc, rest) {
             Item::NoMemory => return Err(VrtFault::Memory),
-            Item::Bad => return Err(VrtFault::BadText((total - rest.len()) as u64)),
             Item::Comment(more) => rest = more,
             Item::Run(raw, more) => {
                 seen.blank = seen.blank & is_blank(raw);
                 rest = more;
             }
-            Item::Close(other, more) => {
-                if is_equal(other, name) {
-                    return Ok((seen, more));
-                }
-                return Err(VrtFault::BadText((total - rest.len()) as u64));
-            }
+            Item::Close(other, more) if is_equal(other, name) => return Ok((seen, more)),
+            Item::Bad | Item::Close(_, _) => return Err(VrtFault::BadText(place)),
+            Item::Open(_, _) if depth >= 64 => return Err(VrtFault::Limit),
             Item::Open(tag, more) => {
-                if depth >= 64 {
-                    return Err(VrtFault::Limit);
-                }
-                let place = (total - rest.len()) as u64;
                 match dataset_next(alloc, total, depth, seen.kept, place, tag, more) {
                     Ok((kept, behind)) => {
                         seen.kept = kept;

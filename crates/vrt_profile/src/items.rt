@@ -1,12 +1,12 @@
 // The items of a document: comments, tags and runs of text.
-ghost use Rattle.std.specs.Prelude.{◌≡◌, ℕ, ◌<◌, ◌≤◌, ◌+◌, length, IfSome, IfOk, List, Option, Some, None, [], ◌∷◌};
+ghost use Rattle.std.specs.Prelude.{◌≡◌, ℕ, ◌<◌, ◌≤◌, ◌+◌, length, map, IfSome, IfOk, List, Option, Some, None, [], ◌∷◌};
 ghost use Rattle.std.specs.Option.{option_map};
 ghost use Rattle.std.specs.List.{prefix_len};
 ghost use Rattle.vrt_profile.specs.Items.{strip, is_white, trim_front, is_first, is_later, has_first, name_at, byte_at, after_comment, entity_at, ends_at, plain_len, spaces_at, quote_at, value_at, pair_at, is_equal, begins, pairs, pairs_by, attribute, is_distinct, tag_end, tag_front, tag_item, tag_at, close_at, run_at, item_at};
+ghost use Rattle.vrt_profile.specs.Keys.{last_bytes, key_of};
 ghost use Rattle.vrt_profile.specs.Views.{pair_view, tag_view, Finds, Shortens};
 
 use std::alloc::{AllocError, Global};
-use std::collections::BTreeSet;
 
 /// What stands behind the front, where the text begins so.
 pub fn strip<'a>(text: &'a [u8], front: &[u8]) -> Option<&'a [u8]>
@@ -231,22 +231,44 @@ pub fn attribute<'a>(text: &'a [u8], name: &[u8]) -> Option<&'a [u8]>
     None
 }
 
+/// The number that the last eight bytes of a name make.
+fn last_bytes(name: &[u8]) -> u64
+    ensures number { result ≡ last_bytes 0 name.now }
+{
+    let mut word: u64 = 0;
+    let mut rest = name;
+    while let [c, more @ ..] = rest {
+        word = word % 0x0100_0000_0000_0000 * 256 + u64::from(*c);
+        rest = more;
+    }
+    word
+}
+
+/// The attributes' names, each behind the number of its last bytes, by which most names differ
+/// already.
 #[tactic(auto, using(crate::proofs::Shorter::pairs_next, crate::proofs::Shorter::pairs_none))]
-/// Whether no attribute stands twice. Each name is looked up in a set of those before it, since a tag
-/// may have any number of attributes.
+fn keys_of(alloc: Global, text: &[u8]) -> Result<Vec<(u64, &[u8])>, AllocError>
+    ensures keys { IfOk result (λ v. map (λ k. (k.0, k.1.now)) v.items ≡ map key_of (pairs text.now).0) }
+{
+    let mut keys = Vec::new(alloc);
+    let mut rest = text;
+    while let Some((pair, more)) = pair_at(rest) {
+        keys.push((last_bytes(pair.name), pair.name))?;
+        rest = more;
+    }
+    Ok(keys)
+}
+
+/// Whether no attribute stands twice. The names are sorted, since a tag may have any number of
+/// attributes: what stands twice stands side by side then.
 fn is_distinct(alloc: Global, text: &[u8]) -> Result<bool, AllocError>
     ensures { IfOk result (λ b. b ≡ is_distinct (pairs text.now).0) }
 {
-    let mut names = BTreeSet::new(alloc);
-    let mut rest = text;
-    while let Some((pair, more)) = pair_at(rest) {
-        match names.insert(pair.name) {
-            Ok(true) => rest = more,
-            Ok(false) => return Ok(false),
-            Err(_) => return Err(AllocError),
-        }
-    }
-    Ok(true)
+    let mut keys = keys_of(alloc, text)?;
+    let count = keys.len();
+    keys.sort_unstable();
+    keys.dedup();
+    Ok(keys.len() == count)
 }
 
 /// Whether a tag ends as an empty one, and what stands behind it.

@@ -318,6 +318,26 @@ fn number_element<'a>(
     }
 }
 
+// What is kept, with a child element that is read past.
+fn past_child<'a>(
+    alloc: Global,
+    total: usize,
+    depth: usize,
+    kept: Result<SourceParts, VrtFault>,
+    tag: Tag,
+    bytes: &'a [u8],
+) -> Result<(Result<SourceParts, VrtFault>, &'a [u8]), VrtFault>
+    requires within { length bytes.now ≤ total }
+    requires depth { depth < 64 }
+    ensures child { Gives (λ x. (x.0, x.1.now)) result (read_as (λ f. kept) (inner total depth (tag_view tag.entry) bytes.now)) }
+    ensures shorter { IfOk result (λ x. length x.1.now ≤ length bytes.now) }
+{
+    match past_element(alloc, total, depth, tag, bytes) {
+        Ok(rest) => Ok((kept, rest)),
+        Err(error) => Err(error),
+    }
+}
+
 // The parts with a child element of a source.
 fn source_child<'a>(
     alloc: Global,
@@ -348,14 +368,11 @@ fn source_child<'a>(
             Err(error) => Err(error),
         },
         SourcePart::Number(part) => number_element(alloc, total, depth, part, parts, tag, bytes),
-        SourcePart::Past => match past_element(alloc, total, depth, tag, bytes) {
-            Ok(rest) => Ok((Ok(parts), rest)),
-            Err(error) => Err(error),
-        },
-        SourcePart::Unknown => match past_element(alloc, total, depth, tag, bytes) {
-            Ok(rest) => Ok((Err(VrtFault::UnknownElement(place)), rest)),
-            Err(error) => Err(error),
-        },
+        SourcePart::Past => past_child(alloc, total, depth, Ok(parts), tag, bytes),
+        SourcePart::Unknown => {
+            let unknown = Err(VrtFault::UnknownElement(place));
+            past_child(alloc, total, depth, unknown, tag, bytes)
+        }
     }
 }
 
@@ -411,25 +428,18 @@ fn source_nodes<'a>(
         blank: true,
     };
     'items: loop {
+        let place = (total - rest.len()) as u64;
         match item_at(alloc, rest) {
             Item::NoMemory => return Err(VrtFault::Memory),
-            Item::Bad => return Err(VrtFault::BadText((total - rest.len()) as u64)),
             Item::Comment(more) => rest = more,
             Item::Run(raw, more) => {
                 seen.blank = seen.blank & is_blank(raw);
                 rest = more;
             }
-            Item::Close(other, more) => {
-                if is_equal(other, name) {
-                    return Ok((seen, more));
-                }
-                return Err(VrtFault::BadText((total - rest.len()) as u64));
-            }
+            Item::Close(other, more) if is_equal(other, name) => return Ok((seen, more)),
+            Item::Bad | Item::Close(_, _) => return Err(VrtFault::BadText(place)),
+            Item::Open(_, _) if depth >= 64 => return Err(VrtFault::Limit),
             Item::Open(tag, more) => {
-                if depth >= 64 {
-                    return Err(VrtFault::Limit);
-                }
-                let place = (total - rest.len()) as u64;
                 match source_next(alloc, total, depth, complex, seen.kept, place, tag, more) {
                     Ok((kept, behind)) => {
                         seen.kept = kept;

@@ -85,29 +85,24 @@ fn text_nodes<'a>(
     let mut text = Vec::new(alloc);
     let mut child = None;
     loop {
+        let place = (total - rest.len()) as u64;
         match item_at(alloc, rest) {
             Item::NoMemory => return Err(VrtFault::Memory),
-            Item::Bad => return Err(VrtFault::BadText((total - rest.len()) as u64)),
             Item::Comment(more) => rest = more,
             Item::Run(raw, more) => {
-                if push_decoded(&mut text, raw).is_err() {
-                    return Err(VrtFault::Memory);
-                }
+                push_decoded(&mut text, raw)?;
                 rest = more;
             }
-            Item::Close(other, more) => {
-                if is_equal(other, name) {
-                    return Ok((Words { text, child }, more));
-                }
-                return Err(VrtFault::BadText((total - rest.len()) as u64));
-            }
+            Item::Close(other, more) if is_equal(other, name) => return Ok((
+                Words { text, child },
+                more,
+            )),
+            Item::Bad | Item::Close(_, _) => return Err(VrtFault::BadText(place)),
+            Item::Open(_, _) if depth >= 64 => return Err(VrtFault::Limit),
             Item::Open(tag, more) => {
-                if depth >= 64 {
-                    return Err(VrtFault::Limit);
-                }
                 match past_element(alloc, total, depth, tag, more) {
                     Ok(behind) => {
-                        child = first_child(child, (total - rest.len()) as u64);
+                        child = first_child(child, place);
                         rest = behind;
                     }
                     Err(error) => return Err(error),
@@ -168,27 +163,21 @@ fn lone_nodes<'a>(
         child: None,
     };
     'items: loop {
+        let place = (total - rest.len()) as u64;
         match item_at(alloc, rest) {
             Item::NoMemory => return Err(VrtFault::Memory),
-            Item::Bad => return Err(VrtFault::BadText((total - rest.len()) as u64)),
             Item::Comment(more) => rest = more,
             Item::Run(raw, more) => {
                 marks.blank = marks.blank & is_blank(raw);
                 rest = more;
             }
-            Item::Close(other, more) => {
-                if is_equal(other, name) {
-                    return Ok((marks, more));
-                }
-                return Err(VrtFault::BadText((total - rest.len()) as u64));
-            }
+            Item::Close(other, more) if is_equal(other, name) => return Ok((marks, more)),
+            Item::Bad | Item::Close(_, _) => return Err(VrtFault::BadText(place)),
+            Item::Open(_, _) if depth >= 64 => return Err(VrtFault::Limit),
             Item::Open(tag, more) => {
-                if depth >= 64 {
-                    return Err(VrtFault::Limit);
-                }
                 match past_element(alloc, total, depth, tag, more) {
                     Ok(behind) => {
-                        marks.child = first_child(marks.child, (total - rest.len()) as u64);
+                        marks.child = first_child(marks.child, place);
                         rest = behind;
                     }
                     Err(error) => return Err(error),
