@@ -336,11 +336,12 @@ fn names_of_sources(rt: HostRuntime) -> Result<(), Fail> {
     Ok(())
 }
 
-const STEPS: [Step<'static>; 4] = [
-    ("d/A.BIL", Ok(0), 1),
-    ("d/A.BIL", Ok(0), 1),
-    ("b.bil", Err(Said::Absent("b.bil")), 1),
-    ("c.dt0", Ok(1), 2),
+// Whether sums are asked for, and how the walk goes.
+const STEPS: [(bool, Step<'static>); 4] = [
+    (false, ("d/A.BIL", Ok(0), 1)),
+    (false, ("d/A.BIL", Ok(0), 1)),
+    (false, ("b.bil", Err(Said::Absent("b.bil")), 1)),
+    (true, ("c.dt0", Ok(1), 2)),
 ];
 
 // The length and the size of a dataset, where there is one of this number.
@@ -359,9 +360,9 @@ fn walks(rt: HostRuntime) -> Result<(), Fail> {
     let files = [data, header, ("c.dt0", file.as_slice())];
     let mut folder = folder_of(rt.alloc(), 9, &files)?;
     let mut cat = Catalog::new(rt.alloc());
-    for step in STEPS {
+    for (verify, step) in STEPS {
         assert!(rt;
-            goes(rt.alloc(), &mut cat, &mut folder, step)?,
+            goes(rt.alloc(), &mut cat, &mut folder, verify, step)?,
             "{}",
             step.0
         );

@@ -8,15 +8,16 @@ use std::test::*;
 /// datasets then.
 pub type Step<'a> = (&'a str, Result<u32, Said<'a>>, u32);
 
-/// Whether the walk goes so.
+/// Whether the walk goes so; `verify` asks for sums.
 pub fn goes<F: Folder>(
     alloc: Global,
     cat: &mut Catalog,
     folder: &mut F,
+    verify: bool,
     (name, expected, count): Step,
 ) -> Result<bool, Fail> {
     let name = Name::read(alloc, name)?;
-    let goes = match open_all(alloc, cat, folder, &name, true) {
+    let goes = match open_all(alloc, cat, folder, &name, verify) {
         Ok(id) => expected == Ok(id),
         Err(fault) => expected == Err(told(&fault)),
     };
@@ -108,7 +109,7 @@ const ROWS: [Row<'static>; 16] = [
 // Whether the first walk over these mosaics goes so.
 fn goes_first(alloc: Global, (mosaics, call, step): Row) -> Result<bool, Fail> {
     let mut folder = with_mosaics(alloc, call, mosaics)?;
-    goes(alloc, &mut Catalog::new(alloc), &mut folder, step)
+    goes(alloc, &mut Catalog::new(alloc), &mut folder, false, step)
 }
 
 #[test]
@@ -183,7 +184,7 @@ fn deep_mosaics(rt: HostRuntime) -> Result<(), Fail> {
     let mut cat = Catalog::new(rt.alloc());
     for step in STEPS {
         assert!(rt;
-            goes(rt.alloc(), &mut cat, &mut folder, step)?,
+            goes(rt.alloc(), &mut cat, &mut folder, false, step)?,
             "{}",
             step.0
         );
@@ -225,7 +226,15 @@ fn is_linked(cat: &Catalog) -> bool {
 fn each_name_once(rt: HostRuntime) -> Result<(), Fail> {
     let mut folder = Tally::new(with_mosaics(rt.alloc(), 0, &TWICE)?);
     let mut cat = Catalog::new(rt.alloc());
-    assert!(rt; goes(rt.alloc(), &mut cat, &mut folder, ("m0.vrt", Ok(0), 17))?);
+    assert!(rt;
+        goes(
+            rt.alloc(),
+            &mut cat,
+            &mut folder,
+            false,
+            ("m0.vrt", Ok(0), 17)
+        )?
+    );
     assert!(rt; folder.opens() == 18);
     assert!(rt; is_linked(&cat));
     Ok(())
