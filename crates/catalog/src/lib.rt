@@ -7,6 +7,8 @@ mod driver;
 mod dted;
 mod faults;
 mod files;
+#[cfg(test)]
+mod fixtures;
 mod grid;
 mod head;
 mod heads;

@@ -1,258 +1,20 @@
-use crate::{Catalog, Head, Kind, WalkFault, head_of, open_all};
+use crate::fixtures::{File, Row, Said, Source, cell, document, folder_of, head_in, is_said};
+use crate::walk_tests::{Step, goes};
+use crate::{Bad, BandHead, Catalog, Head, Kind, LimitKind};
+use dted_records::DtedFault;
 use esri_hdr::HdrFault;
-use geotransform::{PixelType, Size};
-use lists_and_answers::Items;
-use outside::{CalmFolder, Failing, Folder, Listed, MemFolder, Name, Never};
-use std::alloc::Global;
+use geotransform::{GeoTransform, PixelType, Size};
+use hgt_tiles::HgtFault;
+use std::alloc::{AllocError, Global};
 use std::test::*;
+use vrt_profile::VrtFault;
 
 const HEADER: &[u8] = b"NROWS 2\nNCOLS 3\nNBANDS 2\nNBITS 8\nLAYOUT BIL\nNODATA 9\n";
 
-// The text of a fault, with the name and the numbers that it carries.
-pub fn said(alloc: Global, fault: &WalkFault) -> Result<String, Fail> {
-    let text = match fault {
-        WalkFault::Absent { name } => format!(in alloc; "absent {}", name.as_str())?,
-        WalkFault::NotRecognized { name } => format!(in alloc; "unknown {}", name.as_str())?,
-        WalkFault::Malformed { name, bad } => {
-            format!(in alloc; "malformed {} {:?}", name.as_str(), *bad)?
-        }
-        WalkFault::Short { name, needed, has } => {
-            format!(in alloc; "short {} {} {}", name.as_str(), *needed, *has)?
-        }
-        WalkFault::Cycle { name } => format!(in alloc; "cycle {}", name.as_str())?,
-        WalkFault::TooDeep { name } => format!(in alloc; "deep {}", name.as_str())?,
-        WalkFault::SourceBand { name, band } => {
-            format!(in alloc; "band {} {}", name.as_str(), *band)?
-        }
-        WalkFault::Limit { what, value } => format!(in alloc; "limit {:?} {}", *what, *value)?,
-        WalkFault::FolderFault => format!(in alloc; "folder")?,
-        WalkFault::Memory => format!(in alloc; "memory")?,
-    };
-    Ok(text)
-}
-
-// What `head_of` says of a name over these files: nothing where it is Ok.
-fn answer(alloc: Global, name: &str, files: &[(&str, &[u8])]) -> Result<String, Fail> {
-    let mut folder = CalmFolder::new(alloc, Never);
-    for (name, bytes) in files {
-        folder.put(&Name::read(alloc, name)?, bytes)?;
-    }
-    let name = Name::read(alloc, name)?;
-    match head_of(alloc, &mut folder, &name, false) {
-        Ok(_) => Ok(String::new(alloc)),
-        Err(fault) => said(alloc, &fault),
-    }
-}
-
 const TWELVE: [u8; 12] = [0; 12];
 
-// A name, the files, and what is said of it.
-type Row<'a> = (&'a str, &'a [(&'a str, &'a [u8])], &'a str);
-
-const ROWS: [Row<'static>; 13] = [
-    ("a.tif", &[], "unknown a.tif"),
-    ("a.bil", &[("a.hdr", HEADER)], "absent a.bil"),
-    ("./a.bil", &[("a.bil", &TWELVE)], "absent a.hdr"),
-    (
-        "a.bil",
-        &[("a.bil", &TWELVE), ("a.hdr", b"")],
-        "malformed a.hdr Hdr(MissingKey)",
-    ),
-    (
-        "a.bil",
-        &[("a.bil", &[0; 11]), ("a.hdr", HEADER)],
-        "short a.bil 12 11",
-    ),
-    ("a.bil", &[("a.bil", &TWELVE), ("a.hdr", HEADER)], ""),
-    ("c.dt0", &[("c.dt0", b"")], "malformed c.dt0 Dted(Short)"),
-    (
-        "c.dt0",
-        &[("c.dt0", &[b' '; 80])],
-        "malformed c.dt0 Dted(NotDted)",
-    ),
-    (
-        "d/S01W180.HGT",
-        &[("d/S01W180.HGT", b"")],
-        "malformed d/S01W180.HGT Hgt(BadLength)",
-    ),
-    (
-        "d/N00.hgt",
-        &[("d/N00.hgt", b"")],
-        "malformed d/N00.hgt Hgt(BadName)",
-    ),
-    // the name of a tile is read before its file is opened
-    (
-        "N91E000.hgt",
-        &[("N91E000.hgt", b"")],
-        "malformed N91E000.hgt Hgt(BadName)",
-    ),
-    ("N91E000.hgt", &[], "malformed N91E000.hgt Hgt(BadName)"),
-    ("N90E000.hgt", &[], "absent N90E000.hgt"),
-];
-
-#[test]
-fn refusals(rt: HostRuntime) -> Result<(), Fail> {
-    let alloc = rt.alloc();
-    for (name, files, said) in ROWS {
-        assert_eq!(rt; answer(alloc, name, files)?.as_str(), said);
-    }
-    Ok(())
-}
-
-fn failing(alloc: Global, calls: &[Failing]) -> Result<Listed, Fail> {
-    let mut list = Items::new(alloc);
-    for call in calls {
-        list.push(*call)?;
-    }
-    Ok(Listed::new(list))
-}
-
-// The data and the header of `d/A.BIL`, over a folder whose call of this number fails.
-fn with_failing(alloc: Global, number: u64) -> Result<MemFolder, Fail> {
-    let mut folder = MemFolder::new(alloc, failing(alloc, &[Failing::Call(number)])?);
-    folder.put(&Name::read(alloc, "d/A.BIL")?, &[0; 12])?;
-    folder.put(&Name::read(alloc, "d/A.HDR")?, HEADER)?;
-    Ok(folder)
-}
-
-#[test]
-fn each_call_fails(rt: HostRuntime) -> Result<(), Fail> {
-    let alloc = rt.alloc();
-    let name = Name::read(alloc, "d/A.BIL")?;
-    for number in [1u64, 2, 3] {
-        let mut folder = with_failing(alloc, number)?;
-        match head_of(alloc, &mut folder, &name, false) {
-            Ok(_) => assert!(rt; false, "call {number} fails"),
-            Err(fault) => assert_eq!(rt; said(alloc, &fault)?.as_str(), "folder"),
-        }
-    }
-    Ok(())
-}
-
-#[test]
-fn a_head(rt: HostRuntime) -> Result<(), Fail> {
-    let alloc = rt.alloc();
-    let name = Name::read(alloc, "./d//A.BIL")?;
-    let mut folder = with_failing(alloc, 4)?;
-    let head = head_of(alloc, &mut folder, &name, true)
-        .ok()
-        .ok_or("it is there")?;
-    assert!(rt; head.kind == Kind::Raw);
-    assert_eq!(rt; head.size, Size { w: 3, h: 2 });
-    assert!(rt; head.geo.is_none());
-    assert!(rt; head.srs.is_none());
-    assert_eq!(rt; head.bands.len(), 2);
-    for band in head.bands.as_slice() {
-        assert_eq!(rt; band.kind, PixelType::Byte);
-        assert_eq!(rt; band.nodata, Some(9));
-        assert_eq!(rt; band.block, Size { w: 3, h: 1 });
-    }
-    assert_eq!(rt; head.name.as_str(), "d/A.BIL");
-    assert_eq!(rt; head.files.len(), 2);
-    assert_eq!(rt; head.files.get(0).as_str(), "d/A.BIL");
-    assert_eq!(rt; head.files.get(1).as_str(), "d/A.HDR");
-    Ok(())
-}
-
-// A header of `len` bytes: what it says, behind blanks.
-fn long_header(alloc: Global, len: usize) -> Result<Vec<u8>, Fail> {
-    let mut text = vec![in alloc; b' '; len.saturating_sub(HEADER.len() + 1)]?;
-    text.push(b'\n')?;
-    text.extend_from_slice(HEADER)?;
-    Ok(text)
-}
-
-// A header past its limit is refused before it is read.
-#[test]
-fn limits(rt: HostRuntime) -> Result<(), Fail> {
-    let alloc = rt.alloc();
-    let twelve = [0u8; 12];
-    let data = ("a.bil", twelve.as_slice());
-    let most = long_header(alloc, 1_048_576)?;
-    let past = long_header(alloc, 1_048_577)?;
-    assert_eq!(rt;
-        answer(alloc, "a.bil", &[data, ("a.hdr", &most)])?.as_str(),
-        ""
-    );
-    let mut folder = MemFolder::new(alloc, failing(alloc, &[Failing::Call(3)])?);
-    folder.put(&Name::read(alloc, "a.bil")?, &twelve)?;
-    folder.put(&Name::read(alloc, "a.hdr")?, &past)?;
-    match head_of(alloc, &mut folder, &Name::read(alloc, "a.bil")?, false) {
-        Ok(_) => assert!(rt; false, "it is too long"),
-        Err(fault) => assert_eq!(rt; said(alloc, &fault)?.as_str(), "malformed a.hdr Hdr(Limit)"),
-    }
-    Ok(())
-}
-
-// A cell of one line of longitude and four points, whose elevations are 0, the null elevation, -5 and 5
-// from the north, with this sum.
-fn cell(alloc: Global, sum: u8) -> Result<Vec<u8>, Fail> {
-    let mut file = vec![in alloc; b' '; 3428]?;
-    file[..33].copy_from_slice(b"UHL10100000E0200000N03000300NA  U");
-    file[47..56].copy_from_slice(b"000100040");
-    file[80..84].copy_from_slice(b"DSIU");
-    file[728..731].copy_from_slice(b"ACC");
-    file.extend_from_slice(&[0xaa, 0, 0, 0, 0, 0, 0, 0])?;
-    file.extend_from_slice(&[0, 5, 0x80, 5, 0xff, 0xff, 0x80, 0, 0, 0, 3, sum])?;
-    Ok(file)
-}
-
-// The name of a cell or a tile, whether sums are asked for, and what is said.
-const CELLS: [(&str, u8, bool, &str); 4] = [
-    ("c.dt0", 0xb2, false, ""),
-    ("c.dt1", 0xb3, false, ""),
-    ("c.dt2", 0xb2, true, ""),
-    ("c.dt2", 0xb3, true, "malformed c.dt2 Dted(BadRecord(0))"),
-];
-
-fn cell_answer(alloc: Global, name: &str, sum: u8, verify: bool) -> Result<String, Fail> {
-    let name = Name::read(alloc, name)?;
-    let mut folder = CalmFolder::new(alloc, Never);
-    folder.put(&name, &cell(alloc, sum)?)?;
-    match head_of(alloc, &mut folder, &name, verify) {
-        Ok(_) => Ok(String::new(alloc)),
-        Err(fault) => said(alloc, &fault),
-    }
-}
-
-#[test]
-fn cells(rt: HostRuntime) -> Result<(), Fail> {
-    let alloc = rt.alloc();
-    for (name, sum, verify, said) in CELLS {
-        assert_eq!(rt; cell_answer(alloc, name, sum, verify)?.as_str(), said);
-    }
-    Ok(())
-}
-
-// Each dataset is read once, and a refusal leaves the catalog as it was.
-#[test]
-fn walks(rt: HostRuntime) -> Result<(), Fail> {
-    let alloc = rt.alloc();
-    let raw = Name::read(alloc, "d/A.BIL")?;
-    let dted = Name::read(alloc, "c.dt0")?;
-    let absent = Name::read(alloc, "b.bil")?;
-    let mut folder = with_failing(alloc, 9)?;
-    folder.put(&dted, &cell(alloc, 0xb2)?)?;
-    let mut cat = Catalog::new(alloc);
-    assert_eq!(rt;
-        open_all(alloc, &mut cat, &mut folder, &raw, false).ok(),
-        Some(0)
-    );
-    assert_eq!(rt;
-        open_all(alloc, &mut cat, &mut folder, &raw, false).ok(),
-        Some(0)
-    );
-    assert!(rt; open_all(alloc, &mut cat, &mut folder, &absent, false).is_err());
-    assert_eq!(rt; cat.count(), 1);
-    assert_eq!(rt;
-        open_all(alloc, &mut cat, &mut folder, &dted, true).ok(),
-        Some(1)
-    );
-    assert_eq!(rt; cat.count(), 2);
-    assert_eq!(rt; cat.length(1), 3448);
-    assert_eq!(rt; cat.head(1).size, Size { w: 1, h: 4 });
-    Ok(())
-}
+// The data and the header of `d/A.BIL`.
+const DATA: [File<'static>; 2] = [("d/A.BIL", &TWELVE), ("d/A.HDR", HEADER)];
 
 // The mosaic of two tiles beside each other.
 const TWO_TILES: &[u8] = b"<VRTDataset rasterXSize=\"2401\" rasterYSize=\"1201\">
@@ -277,161 +39,334 @@ const TWO_TILES: &[u8] = b"<VRTDataset rasterXSize=\"2401\" rasterYSize=\"1201\"
 </VRTDataset>
 ";
 
-// What `head_of` says of a mosaic of one file, over a folder whose call of this number fails.
-fn mosaic_head(
-    alloc: Global,
-    name: &str,
-    text: &[u8],
-    call: u64,
-) -> Result<Result<Head, WalkFault>, Fail> {
-    let name = Name::read(alloc, name)?;
-    let mut folder = MemFolder::new(alloc, failing(alloc, &[Failing::Call(call)])?);
-    folder.put(&name, text)?;
-    Ok(head_of(alloc, &mut folder, &name, false))
+const ROWS: [Row<'static>; 21] = [
+    ("a.tif", &[], 0, Some(Said::Unknown("a.tif"))),
+    (
+        "a.bil",
+        &[("a.hdr", HEADER)],
+        0,
+        Some(Said::Absent("a.bil")),
+    ),
+    (
+        "./a.bil",
+        &[("a.bil", &TWELVE)],
+        0,
+        Some(Said::Absent("a.hdr")),
+    ),
+    (
+        "a.bil",
+        &[("a.bil", &TWELVE), ("a.hdr", b"")],
+        0,
+        Some(Said::Malformed("a.hdr", Bad::Hdr(HdrFault::MissingKey))),
+    ),
+    (
+        "a.bil",
+        &[("a.bil", &[0; 11]), ("a.hdr", HEADER)],
+        0,
+        Some(Said::Short("a.bil", 12, 11)),
+    ),
+    ("a.bil", &[("a.bil", &TWELVE), ("a.hdr", HEADER)], 0, None),
+    (
+        "c.dt0",
+        &[("c.dt0", b"")],
+        0,
+        Some(Said::Malformed("c.dt0", Bad::Dted(DtedFault::Short))),
+    ),
+    (
+        "c.dt0",
+        &[("c.dt0", &[b' '; 80])],
+        0,
+        Some(Said::Malformed("c.dt0", Bad::Dted(DtedFault::NotDted))),
+    ),
+    (
+        "d/S01W180.HGT",
+        &[("d/S01W180.HGT", b"")],
+        0,
+        Some(Said::Malformed("d/S01W180.HGT", Bad::Hgt(HgtFault::BadLength))),
+    ),
+    (
+        "d/N00.hgt",
+        &[("d/N00.hgt", b"")],
+        0,
+        Some(Said::Malformed("d/N00.hgt", Bad::Hgt(HgtFault::BadName))),
+    ),
+    // the name of a tile is read before its file is opened
+    (
+        "N91E000.hgt",
+        &[("N91E000.hgt", b"")],
+        0,
+        Some(Said::Malformed("N91E000.hgt", Bad::Hgt(HgtFault::BadName))),
+    ),
+    (
+        "N91E000.hgt",
+        &[],
+        0,
+        Some(Said::Malformed("N91E000.hgt", Bad::Hgt(HgtFault::BadName))),
+    ),
+    ("N90E000.hgt", &[], 0, Some(Said::Absent("N90E000.hgt"))),
+    // each call fails
+    ("d/A.BIL", &DATA, 1, Some(Said::Folder)),
+    ("d/A.BIL", &DATA, 2, Some(Said::Folder)),
+    ("d/A.BIL", &DATA, 3, Some(Said::Folder)),
+    ("m.vrt", &[("m.vrt", TWO_TILES)], 1, Some(Said::Folder)),
+    ("m.vrt", &[("m.vrt", TWO_TILES)], 2, Some(Said::Folder)),
+    ("m.vrt", &[("m.vrt", TWO_TILES)], 3, None),
+    // broken documents
+    (
+        "m.vrt",
+        &[(
+            "m.vrt",
+            b"<VRTDataset rasterXSize=\"1\" rasterYSize=\"1\"><Foo/></VRTDataset>",
+        )],
+        3,
+        Some(Said::Malformed("m.vrt", Bad::Vrt(VrtFault::UnknownElement(44)))),
+    ),
+    (
+        "m.vrt",
+        &[("m.vrt", b"<VRTDataset rasterXSize=\"1\" rasterYSize=\"1\">")],
+        3,
+        Some(Said::Malformed("m.vrt", Bad::Vrt(VrtFault::BadText(44)))),
+    ),
+];
+
+#[test]
+fn refusals(rt: HostRuntime) -> Result<(), Fail> {
+    for row in ROWS {
+        assert!(rt; is_said(rt.alloc(), false, row)?, "{}", row.0);
+    }
+    Ok(())
+}
+
+// A header of `len` bytes: what it says, behind blanks.
+fn long_header(alloc: Global, len: usize) -> Result<Vec<u8>, AllocError> {
+    let mut text = vec![in alloc; b' '; len.saturating_sub(HEADER.len() + 1)]?;
+    text.push(b'\n')?;
+    text.extend_from_slice(HEADER)?;
+    Ok(text)
+}
+
+// The length of a header, the call that fails, and what is said. A header past its limit is refused before it is
+// read.
+const HEADERS: [(usize, u64, Option<Said<'static>>); 2] = [
+    (1_048_576, 0, None),
+    (
+        1_048_577,
+        3,
+        Some(Said::Malformed("a.hdr", Bad::Hdr(HdrFault::Limit))),
+    ),
+];
+
+#[test]
+fn limits(rt: HostRuntime) -> Result<(), Fail> {
+    for (len, call, said) in HEADERS {
+        let header = long_header(rt.alloc(), len)?;
+        let files = [("a.bil", TWELVE.as_slice()), ("a.hdr", header.as_slice())];
+        assert!(rt;
+            is_said(rt.alloc(), false, ("a.bil", &files, call, said))?,
+            "{len}"
+        );
+    }
+    Ok(())
+}
+
+// The name of a cell, the last byte of its sum, whether sums are asked for, and what is said.
+const CELLS: [(&str, u8, bool, Option<Said<'static>>); 4] = [
+    ("c.dt0", 0xb2, false, None),
+    ("c.dt1", 0xb3, false, None),
+    ("c.dt2", 0xb2, true, None),
+    (
+        "c.dt2",
+        0xb3,
+        true,
+        Some(Said::Malformed("c.dt2", Bad::Dted(DtedFault::BadRecord(0)))),
+    ),
+];
+
+#[test]
+fn cells(rt: HostRuntime) -> Result<(), Fail> {
+    for (name, sum, verify, said) in CELLS {
+        let file = cell(rt.alloc(), sum)?;
+        let files = [(name, file.as_slice())];
+        assert!(rt;
+            is_said(rt.alloc(), verify, (name, &files, 0, said))?,
+            "{name}"
+        );
+    }
+    Ok(())
+}
+
+// Whether a head has this kind, this size, no text of a coordinate system, and so many bands that are all so.
+fn is_shaped(head: &Head, kind: Kind, size: Size, count: usize, band: BandHead) -> bool {
+    for other in head.bands.as_slice() {
+        if other.kind != band.kind || other.nodata != band.nodata || other.block != band.block {
+            return false;
+        }
+    }
+    head.kind == kind && head.size == size && head.srs.is_none() && head.bands.len() == count
+}
+
+// Whether a head has these files, and the name of the first.
+fn is_named(head: &Head, names: &[&str]) -> bool {
+    let files = head.files.as_slice();
+    if files.len() != names.len() {
+        return false;
+    }
+    for (file, name) in files.iter().zip(names) {
+        if file.as_str() != *name {
+            return false;
+        }
+    }
+    names.first() == Some(&head.name.as_str())
+}
+
+fn is_at(geo: GeoTransform, corner: (i128, i128), step: (i128, i128)) -> bool {
+    (geo.ox.get(), geo.oy.get()) == corner && (geo.dx.get(), geo.dy.get()) == step
+}
+
+#[test]
+fn a_head(rt: HostRuntime) -> Result<(), Fail> {
+    let head = head_in(rt.alloc(), "./d//A.BIL", &DATA, 4, true)?
+        .ok()
+        .ok_or("it is there")?;
+    let band = BandHead {
+        kind: PixelType::Byte,
+        nodata: Some(9),
+        block: Size { w: 3, h: 1 },
+    };
+    assert!(rt; is_shaped(&head, Kind::Raw, Size { w: 3, h: 2 }, 2, band));
+    assert!(rt; is_named(&head, &["d/A.BIL", "d/A.HDR"]));
+    assert!(rt; head.geo.is_none());
+    Ok(())
 }
 
 // No source is opened: the tiles aren't there, and a third call of the folder would fail.
 #[test]
 fn a_mosaic(rt: HostRuntime) -> Result<(), Fail> {
-    let alloc = rt.alloc();
-    let head = mosaic_head(alloc, "d/out.vrt", TWO_TILES, 3)?
+    let files = [("d/out.vrt", TWO_TILES)];
+    let head = head_in(rt.alloc(), "d/out.vrt", &files, 3, false)?
         .ok()
         .ok_or("it is there")?;
-    assert!(rt; head.kind == Kind::Vrt);
-    assert_eq!(rt; head.name.as_str(), "d/out.vrt");
-    assert_eq!(rt; head.size, Size { w: 2401, h: 1201 });
+    let band = BandHead {
+        kind: PixelType::Int16,
+        nodata: Some(-32_768),
+        block: Size { w: 128, h: 128 },
+    };
+    assert!(rt; is_shaped(&head, Kind::Vrt, Size { w: 2401, h: 1201 }, 1, band));
+    assert!(rt; is_named(&head, &["d/out.vrt", "d/N00E000.hgt", "d/N00E001.hgt"]));
     let geo = head.geo.ok_or("it is placed")?;
-    assert_eq!(rt; geo.ox.get(), -75_000_000_000_006);
-    assert_eq!(rt; geo.oy.get(), 180_075_000_000_000_006);
-    assert_eq!(rt; geo.dx.get(), 149_999_999_999_994);
-    assert_eq!(rt; geo.dy.get(), -149_999_999_999_994);
-    assert!(rt; head.srs.is_none());
-    assert_eq!(rt; head.bands.len(), 1);
-    for band in head.bands.as_slice() {
-        assert_eq!(rt; band.kind, PixelType::Int16);
-        assert_eq!(rt; band.nodata, Some(-32_768));
-        assert_eq!(rt; band.block, Size { w: 128, h: 128 });
-    }
-    assert_eq!(rt;
-        listed(alloc, &head)?.as_str(),
-        "d/out.vrt d/N00E000.hgt d/N00E001.hgt "
-    );
+    let corner = (-75_000_000_000_006, 180_075_000_000_000_006);
+    assert!(rt; is_at(geo, corner, (149_999_999_999_994, -149_999_999_999_994)));
     Ok(())
 }
 
-// The files of a dataset, with a blank behind each.
-fn listed(alloc: Global, head: &Head) -> Result<String, Fail> {
-    let mut text = String::new(alloc);
-    for name in head.files.as_slice() {
-        text.push_str(name.as_str())?;
-        text.push(' ')?;
-    }
-    Ok(text)
-}
-
-// A document of one pixel, one band and sources of these texts, each relative to it.
-fn document(alloc: Global, texts: &[&str]) -> Result<String, Fail> {
-    let mut document = String::from_str(
-        alloc,
-        "<VRTDataset rasterXSize=\"1\" rasterYSize=\"1\"><VRTRasterBand dataType=\"Byte\" band=\"1\">",
-    )?;
-    for text in texts {
-        document.push_str("<SimpleSource><SourceFilename relativeToVRT=\"1\">")?;
-        document.push_str(text)?;
-        document.push_str("</SourceFilename><SourceBand>1</SourceBand></SimpleSource>")?;
-    }
-    document.push_str("</VRTRasterBand></VRTDataset>")?;
-    Ok(document)
-}
-
-// The name of a mosaic, the texts of its sources, and its files.
-type Listing<'a> = (&'a str, &'a [&'a str], &'a str);
+// The name of a mosaic, its sources, and its files.
+type Listing<'a> = (&'a str, &'a [Source<'a>], &'a [&'a str]);
 
 const LISTINGS: [Listing<'static>; 4] = [
-    ("m.vrt", &[], "m.vrt "),
+    ("m.vrt", &[], &["m.vrt"]),
     (
         "m.vrt",
-        &["b.bil", "./a.bil", "b.bil"],
-        "m.vrt b.bil a.bil ",
+        &[("b.bil", "1"), ("./a.bil", "1"), ("b.bil", "1")],
+        &["m.vrt", "b.bil", "a.bil"],
     ),
     (
         "d/m.vrt",
-        &["b.bil", "/a.bil", "e//b.bil", ".//b.bil"],
-        "d/m.vrt d/b.bil /a.bil d/e/b.bil ",
+        &[
+            ("b.bil", "1"),
+            ("/a.bil", "1"),
+            ("e//b.bil", "1"),
+            (".//b.bil", "1"),
+        ],
+        &["d/m.vrt", "d/b.bil", "/a.bil", "d/e/b.bil"],
     ),
-    ("m.vrt", &["./m.vrt", "m.vrt"], "m.vrt m.vrt "),
+    (
+        "m.vrt",
+        &[("./m.vrt", "1"), ("m.vrt", "1")],
+        &["m.vrt", "m.vrt"],
+    ),
 ];
+
+// Whether a mosaic of these sources has these files.
+fn is_listed(alloc: Global, (name, sources, files): Listing) -> Result<bool, Fail> {
+    let text = document(alloc, sources)?;
+    Ok(
+        match head_in(alloc, name, &[(name, text.as_bytes())], 3, false)? {
+            Ok(head) => is_named(&head, files),
+            Err(_) => false,
+        },
+    )
+}
 
 // Each name of a source is listed once, in document order, behind the mosaic's own.
 #[test]
 fn files_of_mosaics(rt: HostRuntime) -> Result<(), Fail> {
-    let alloc = rt.alloc();
-    for (name, texts, files) in LISTINGS {
-        let text = document(alloc, texts)?;
-        match mosaic_head(alloc, name, text.as_bytes(), 3)? {
-            Ok(head) => assert_eq!(rt; listed(alloc, &head)?.as_str(), files),
-            Err(fault) => assert_eq!(rt; said(alloc, &fault)?.as_str(), ""),
-        }
+    for row in LISTINGS {
+        assert!(rt; is_listed(rt.alloc(), row)?, "{}", row.0);
     }
     Ok(())
 }
 
-// A text of so many letters.
-fn letters(alloc: Global, count: usize) -> Result<String, Fail> {
-    let mut text = String::new(alloc);
+// A document whose second source has a name of so many letters.
+fn long_named(alloc: Global, count: usize) -> Result<String, AllocError> {
+    let mut name = String::new(alloc);
     for _ in 0..count {
-        text.push('a')?;
+        name.push('a')?;
     }
-    Ok(text)
+    document(alloc, &[("b.bil", "1"), (name.as_str(), "1")])
 }
 
 // The name of a mosaic, the letters of its source's text, and what is said.
-const LENGTHS: [(&str, usize, &str); 4] = [
-    ("m.vrt", 4096, ""),
-    ("m.vrt", 4097, "limit Name 4097"),
-    ("d/m.vrt", 4094, ""),
-    ("d/m.vrt", 4096, "limit Name 4098"),
+const LENGTHS: [(&str, usize, Option<Said<'static>>); 4] = [
+    ("m.vrt", 4096, None),
+    ("m.vrt", 4097, Some(Said::Limit(LimitKind::Name, 4097))),
+    ("d/m.vrt", 4094, None),
+    ("d/m.vrt", 4096, Some(Said::Limit(LimitKind::Name, 4098))),
 ];
 
 #[test]
 fn names_of_sources(rt: HostRuntime) -> Result<(), Fail> {
-    let alloc = rt.alloc();
-    for (name, count, expected) in LENGTHS {
-        let long = letters(alloc, count)?;
-        let text = document(alloc, &["b.bil", long.as_str()])?;
-        match mosaic_head(alloc, name, text.as_bytes(), 3)? {
-            Ok(_) => assert_eq!(rt; expected, ""),
-            Err(fault) => assert_eq!(rt; said(alloc, &fault)?.as_str(), expected),
-        }
+    for (name, count, said) in LENGTHS {
+        let text = long_named(rt.alloc(), count)?;
+        let files = [(name, text.as_bytes())];
+        assert!(rt;
+            is_said(rt.alloc(), false, (name, &files, 3, said))?,
+            "{name} {count}"
+        );
     }
     Ok(())
 }
 
-// Bytes of a document, the call that fails, and what is said.
-const BROKEN: [(&[u8], u64, &str); 5] = [
-    (
-        b"<VRTDataset rasterXSize=\"1\" rasterYSize=\"1\"><Foo/></VRTDataset>",
-        3,
-        "malformed m.vrt Vrt(UnknownElement(44))",
-    ),
-    (
-        b"<VRTDataset rasterXSize=\"1\" rasterYSize=\"1\">",
-        3,
-        "malformed m.vrt Vrt(BadText(44))",
-    ),
-    (TWO_TILES, 1, "folder"),
-    (TWO_TILES, 2, "folder"),
-    (TWO_TILES, 3, ""),
+// Whether sums are asked for, and how the walk goes.
+const STEPS: [(bool, Step<'static>); 4] = [
+    (false, ("d/A.BIL", Ok(0), 1)),
+    (false, ("d/A.BIL", Ok(0), 1)),
+    (false, ("b.bil", Err(Said::Absent("b.bil")), 1)),
+    (true, ("c.dt0", Ok(1), 2)),
 ];
 
-#[test]
-fn broken_mosaics(rt: HostRuntime) -> Result<(), Fail> {
-    let alloc = rt.alloc();
-    for (text, call, expected) in BROKEN {
-        match mosaic_head(alloc, "m.vrt", text, call)? {
-            Ok(_) => assert_eq!(rt; expected, ""),
-            Err(fault) => assert_eq!(rt; said(alloc, &fault)?.as_str(), expected),
-        }
+// The length and the size of a dataset, where there is one of this number.
+fn measured(cat: &Catalog, id: u32) -> Option<(u64, Size)> {
+    if id >= cat.count() {
+        return None;
     }
+    Some((cat.length(id), cat.head(id).size))
+}
+
+// Each dataset is read once, and a refusal leaves the catalog as it was.
+#[test]
+fn walks(rt: HostRuntime) -> Result<(), Fail> {
+    let file = cell(rt.alloc(), 0xb2)?;
+    let [data, header] = DATA;
+    let files = [data, header, ("c.dt0", file.as_slice())];
+    let mut folder = folder_of(rt.alloc(), 9, &files)?;
+    let mut cat = Catalog::new(rt.alloc());
+    for (verify, step) in STEPS {
+        assert!(rt;
+            goes(rt.alloc(), &mut cat, &mut folder, verify, step)?,
+            "{}",
+            step.0
+        );
+    }
+    assert!(rt; measured(&cat, 1) == Some((3448, Size { w: 1, h: 4 })));
     Ok(())
 }

@@ -1,59 +1,127 @@
-use crate::tests::said;
+use crate::fixtures::{Said, Source, document, folder_of, put_all, told};
 use crate::{Catalog, open_all};
-use lists_and_answers::Items;
-use outside::{CalmFolder, Failing, Folder, Listed, MemFolder, Name, Never, Tally};
+use outside::{Folder, MemFolder, Name, Tally};
 use std::alloc::Global;
 use std::test::*;
 
-// The text of a source, and its band.
-type Source<'a> = (&'a str, u8);
+/// The name that a walk begins with, the number of its dataset or what is said, and the number of
+/// datasets then.
+pub type Step<'a> = (&'a str, Result<u32, Said<'a>>, u32);
+
+/// Whether the walk goes so; `verify` asks for sums.
+pub fn goes<F: Folder>(
+    alloc: Global,
+    cat: &mut Catalog,
+    folder: &mut F,
+    verify: bool,
+    (name, expected, count): Step,
+) -> Result<bool, Fail> {
+    let name = Name::read(alloc, name)?;
+    let goes = match open_all(alloc, cat, folder, &name, verify) {
+        Ok(id) => expected == Ok(id),
+        Err(fault) => expected == Err(told(&fault)),
+    };
+    Ok(goes && cat.count() == count)
+}
 
 // A mosaic: its name and its sources.
 type Mosaic<'a> = (&'a str, &'a [Source<'a>]);
 
-// A document of one pixel and one band.
-fn document(alloc: Global, sources: &[Source]) -> Result<String, Fail> {
-    let mut text = String::from_str(
-        alloc,
-        "<VRTDataset rasterXSize=\"1\" rasterYSize=\"1\"><VRTRasterBand dataType=\"Byte\" band=\"1\">",
-    )?;
-    for (name, band) in sources {
-        text.push_str("<SimpleSource><SourceFilename relativeToVRT=\"1\">")?;
-        text.push_str(name)?;
-        text.push_str("</SourceFilename><SourceBand>")?;
-        text.push_str(format!(in alloc; "{}", *band)?.as_str())?;
-        text.push_str("</SourceBand></SimpleSource>")?;
-    }
-    text.push_str("</VRTRasterBand></VRTDataset>")?;
-    Ok(text)
-}
-
-const PIXEL: &[u8] = b"NROWS 1\nNCOLS 1\n";
-
-// A folder with these mosaics, and with the data of one pixel under `t.bil`.
-fn folder(alloc: Global, mosaics: &[Mosaic]) -> Result<CalmFolder, Fail> {
-    let mut folder = CalmFolder::new(alloc, Never);
-    folder.put(&Name::read(alloc, "t.bil")?, &[7])?;
-    folder.put(&Name::read(alloc, "t.hdr")?, PIXEL)?;
+fn put_mosaics(alloc: Global, folder: &mut MemFolder, mosaics: &[Mosaic]) -> Result<(), Fail> {
     for (name, sources) in mosaics {
         let text = document(alloc, sources)?;
-        folder.put(&Name::read(alloc, name)?, text.as_bytes())?;
+        put_all(alloc, folder, &[(*name, text.as_bytes())])?;
     }
+    Ok(())
+}
+
+// A folder with these mosaics, and with the data of one pixel under `t.bil`, whose call of this number fails.
+fn with_mosaics(alloc: Global, call: u64, mosaics: &[Mosaic]) -> Result<MemFolder, Fail> {
+    let files: [(&str, &[u8]); 2] = [("t.bil", &[7]), ("t.hdr", b"NROWS 1\nNCOLS 1\n")];
+    let mut folder = folder_of(alloc, call, &files)?;
+    put_mosaics(alloc, &mut folder, mosaics)?;
     Ok(folder)
 }
 
-// What the walk from a name says: nothing where it is Ok.
-fn walked<F: Folder>(
-    alloc: Global,
-    cat: &mut Catalog,
-    folder: &mut F,
-    name: &str,
-) -> Result<String, Fail> {
-    let name = Name::read(alloc, name)?;
-    match open_all(alloc, cat, folder, &name, false) {
-        Ok(_) => Ok(String::new(alloc)),
-        Err(fault) => said(alloc, &fault),
+// The mosaics, the call that fails, and how the walk goes.
+type Row<'a> = (&'a [Mosaic<'a>], u64, Step<'a>);
+
+const ONE: [Mosaic<'static>; 1] = [("a.vrt", &[("t.bil", "1")])];
+
+const ROWS: [Row<'static>; 16] = [
+    (&[("a.vrt", &[])], 0, ("./a.vrt", Ok(0), 1)),
+    (
+        &[("a.vrt", &[("./a.vrt", "1")])],
+        0,
+        ("a.vrt", Err(Said::Cycle("a.vrt")), 0),
+    ),
+    (
+        &[("a.vrt", &[("./b.vrt", "1")]), ("b.vrt", &[("a.vrt", "1")])],
+        0,
+        ("a.vrt", Err(Said::Cycle("a.vrt")), 0),
+    ),
+    (
+        &[
+            ("a.vrt", &[("b.vrt", "1"), ("./b.vrt", "1")]),
+            ("b.vrt", &[("t.bil", "1")]),
+        ],
+        0,
+        ("a.vrt", Ok(0), 3),
+    ),
+    (
+        &[("d/a.vrt", &[("N00E000.hgt", "1")])],
+        0,
+        ("d/a.vrt", Err(Said::Absent("d/N00E000.hgt")), 0),
+    ),
+    (
+        &[("a.vrt", &[("t.bil", "2")])],
+        0,
+        ("a.vrt", Err(Said::Band("t.bil", 2)), 0),
+    ),
+    (
+        &[
+            ("a.vrt", &[("b.vrt", "2")]),
+            ("b.vrt", &[("N00E000.hgt", "1")]),
+        ],
+        0,
+        ("a.vrt", Err(Said::Absent("N00E000.hgt")), 0),
+    ),
+    (
+        &[("a.vrt", &[("x.tif", "1")])],
+        0,
+        ("a.vrt", Err(Said::Unknown("x.tif")), 0),
+    ),
+    (&[], 0, ("a.vrt", Err(Said::Absent("a.vrt")), 0)),
+    (
+        &[("a.vrt", &[("t.bil", "1"), ("t.bil", "3"), ("x.tif", "1")])],
+        0,
+        ("a.vrt", Err(Said::Band("t.bil", 3)), 0),
+    ),
+    // The mosaic takes two calls of the folder, and the data of its source three.
+    (&ONE, 1, ("a.vrt", Err(Said::Folder), 0)),
+    (&ONE, 2, ("a.vrt", Err(Said::Folder), 0)),
+    (&ONE, 3, ("a.vrt", Err(Said::Folder), 0)),
+    (&ONE, 4, ("a.vrt", Err(Said::Folder), 0)),
+    (&ONE, 5, ("a.vrt", Err(Said::Folder), 0)),
+    (&ONE, 6, ("a.vrt", Ok(0), 2)),
+];
+
+// Whether the first walk over these mosaics goes so.
+fn goes_first(alloc: Global, (mosaics, call, step): Row) -> Result<bool, Fail> {
+    let mut folder = with_mosaics(alloc, call, mosaics)?;
+    goes(alloc, &mut Catalog::new(alloc), &mut folder, false, step)
+}
+
+#[test]
+fn walks_of_mosaics(rt: HostRuntime) -> Result<(), Fail> {
+    for (mosaics, call, step) in ROWS {
+        assert!(rt;
+            goes_first(rt.alloc(), (mosaics, call, step))?,
+            "{} {call}",
+            step.0
+        );
     }
+    Ok(())
 }
 
 // The number of the dataset that a source of a mosaic names, where there is such a source.
@@ -81,143 +149,93 @@ fn height(cat: &Catalog, id: u32) -> Option<u32> {
     Some(cat.height(id))
 }
 
-// The name that the walk begins with, the mosaics, what is said, and the number of datasets then.
-type Row<'a> = (&'a str, &'a [Mosaic<'a>], &'a str, u32);
-
-const ROWS: [Row<'static>; 10] = [
-    ("./a.vrt", &[("a.vrt", &[])], "", 1),
-    ("a.vrt", &[("a.vrt", &[("./a.vrt", 1)])], "cycle a.vrt", 0),
-    (
-        "a.vrt",
-        &[("a.vrt", &[("./b.vrt", 1)]), ("b.vrt", &[("a.vrt", 1)])],
-        "cycle a.vrt",
-        0,
-    ),
-    (
-        "a.vrt",
-        &[
-            ("a.vrt", &[("b.vrt", 1), ("./b.vrt", 1)]),
-            ("b.vrt", &[("t.bil", 1)]),
-        ],
-        "",
-        3,
-    ),
-    (
-        "d/a.vrt",
-        &[("d/a.vrt", &[("N00E000.hgt", 1)])],
-        "absent d/N00E000.hgt",
-        0,
-    ),
-    ("a.vrt", &[("a.vrt", &[("t.bil", 2)])], "band t.bil 2", 0),
-    (
-        "a.vrt",
-        &[("a.vrt", &[("b.vrt", 2)]), ("b.vrt", &[("N00E000.hgt", 1)])],
-        "absent N00E000.hgt",
-        0,
-    ),
-    ("a.vrt", &[("a.vrt", &[("x.tif", 1)])], "unknown x.tif", 0),
-    ("a.vrt", &[], "absent a.vrt", 0),
-    (
-        "a.vrt",
-        &[("a.vrt", &[("t.bil", 1), ("t.bil", 3), ("x.tif", 1)])],
-        "band t.bil 3",
-        0,
-    ),
+// Seventeen mosaics, each of which names the next.
+const CHAIN: [Mosaic<'static>; 17] = [
+    ("m0.vrt", &[("m1.vrt", "1")]),
+    ("m1.vrt", &[("m2.vrt", "1")]),
+    ("m2.vrt", &[("m3.vrt", "1")]),
+    ("m3.vrt", &[("m4.vrt", "1")]),
+    ("m4.vrt", &[("m5.vrt", "1")]),
+    ("m5.vrt", &[("m6.vrt", "1")]),
+    ("m6.vrt", &[("m7.vrt", "1")]),
+    ("m7.vrt", &[("m8.vrt", "1")]),
+    ("m8.vrt", &[("m9.vrt", "1")]),
+    ("m9.vrt", &[("m10.vrt", "1")]),
+    ("m10.vrt", &[("m11.vrt", "1")]),
+    ("m11.vrt", &[("m12.vrt", "1")]),
+    ("m12.vrt", &[("m13.vrt", "1")]),
+    ("m13.vrt", &[("m14.vrt", "1")]),
+    ("m14.vrt", &[("m15.vrt", "1")]),
+    ("m15.vrt", &[("m16.vrt", "1")]),
+    ("m16.vrt", &[("t.bil", "1")]),
 ];
 
-#[test]
-fn walks_of_mosaics(rt: HostRuntime) -> Result<(), Fail> {
-    let alloc = rt.alloc();
-    for (name, mosaics, expected, count) in ROWS {
-        let mut cat = Catalog::new(alloc);
-        let mut files = folder(alloc, mosaics)?;
-        assert_eq!(rt;
-            walked(alloc, &mut cat, &mut files, name)?.as_str(),
-            expected
-        );
-        assert_eq!(rt; cat.count(), count);
-    }
-    Ok(())
-}
-
-// `m0.vrt` to the mosaic of this number, each of which names the next this often; the last names `t.bil`.
-fn chain(alloc: Global, last: u32, times: usize) -> Result<CalmFolder, Fail> {
-    let mut files = folder(alloc, &[])?;
-    for number in 0..=last {
-        let next = if number == last {
-            format!(in alloc; "t.bil")?
-        } else {
-            format!(in alloc; "m{}.vrt", number + 1)?
-        };
-        let mut sources = Vec::new(alloc);
-        for _ in 0..times {
-            sources.push((next.as_str(), 1))?;
-        }
-        let text = document(alloc, &sources)?;
-        let name = format!(in alloc; "m{number}.vrt")?;
-        files.put(&Name::read(alloc, name.as_str())?, text.as_bytes())?;
-    }
-    Ok(files)
-}
+const STEPS: [Step<'static>; 4] = [
+    ("m0.vrt", Err(Said::Deep("m16.vrt")), 0),
+    ("m1.vrt", Ok(0), 17),
+    ("m0.vrt", Err(Said::Deep("m16.vrt")), 17),
+    ("m2.vrt", Ok(1), 17),
+];
 
 // The seventeenth mosaic on a path is one too many, also where it was met whole on a shorter one.
 #[test]
 fn deep_mosaics(rt: HostRuntime) -> Result<(), Fail> {
-    let alloc = rt.alloc();
-    let mut cat = Catalog::new(alloc);
-    let mut files = chain(alloc, 16, 1)?;
-    assert_eq!(rt;
-        walked(alloc, &mut cat, &mut files, "m0.vrt")?.as_str(),
-        "deep m16.vrt"
-    );
-    assert_eq!(rt; cat.count(), 0);
-    assert_eq!(rt; walked(alloc, &mut cat, &mut files, "m1.vrt")?.as_str(), "");
-    assert_eq!(rt; cat.count(), 17);
-    assert_eq!(rt; height(&cat, 0), Some(16));
-    assert_eq!(rt;
-        walked(alloc, &mut cat, &mut files, "m0.vrt")?.as_str(),
-        "deep m16.vrt"
-    );
-    assert_eq!(rt; cat.count(), 17);
-    assert_eq!(rt; walked(alloc, &mut cat, &mut files, "m2.vrt")?.as_str(), "");
+    let mut folder = with_mosaics(rt.alloc(), 0, &CHAIN)?;
+    let mut cat = Catalog::new(rt.alloc());
+    for step in STEPS {
+        assert!(rt;
+            goes(rt.alloc(), &mut cat, &mut folder, false, step)?,
+            "{}",
+            step.0
+        );
+    }
+    assert!(rt; height(&cat, 0) == Some(16));
     Ok(())
+}
+
+// Sixteen mosaics, each of which names the next twice.
+const TWICE: [Mosaic<'static>; 16] = [
+    ("m0.vrt", &[("m1.vrt", "1"), ("m1.vrt", "1")]),
+    ("m1.vrt", &[("m2.vrt", "1"), ("m2.vrt", "1")]),
+    ("m2.vrt", &[("m3.vrt", "1"), ("m3.vrt", "1")]),
+    ("m3.vrt", &[("m4.vrt", "1"), ("m4.vrt", "1")]),
+    ("m4.vrt", &[("m5.vrt", "1"), ("m5.vrt", "1")]),
+    ("m5.vrt", &[("m6.vrt", "1"), ("m6.vrt", "1")]),
+    ("m6.vrt", &[("m7.vrt", "1"), ("m7.vrt", "1")]),
+    ("m7.vrt", &[("m8.vrt", "1"), ("m8.vrt", "1")]),
+    ("m8.vrt", &[("m9.vrt", "1"), ("m9.vrt", "1")]),
+    ("m9.vrt", &[("m10.vrt", "1"), ("m10.vrt", "1")]),
+    ("m10.vrt", &[("m11.vrt", "1"), ("m11.vrt", "1")]),
+    ("m11.vrt", &[("m12.vrt", "1"), ("m12.vrt", "1")]),
+    ("m12.vrt", &[("m13.vrt", "1"), ("m13.vrt", "1")]),
+    ("m13.vrt", &[("m14.vrt", "1"), ("m14.vrt", "1")]),
+    ("m14.vrt", &[("m15.vrt", "1"), ("m15.vrt", "1")]),
+    ("m15.vrt", &[("t.bil", "1"), ("t.bil", "1")]),
+];
+
+// Whether the mosaics and the data are linked as they name each other.
+fn is_linked(cat: &Catalog) -> bool {
+    height(cat, 0) == Some(16)
+        && height(cat, 16) == Some(0)
+        && target(cat, 0, 0, 1) == Some(1)
+        && target(cat, 15, 0, 0) == Some(16)
 }
 
 // Each name is read once, however often it is named.
 #[test]
 fn each_name_once(rt: HostRuntime) -> Result<(), Fail> {
-    let alloc = rt.alloc();
-    let mut cat = Catalog::new(alloc);
-    let mut files = Tally::new(chain(alloc, 15, 2)?);
-    assert_eq!(rt; walked(alloc, &mut cat, &mut files, "m0.vrt")?.as_str(), "");
-    assert_eq!(rt; files.opens(), 18);
-    assert_eq!(rt; cat.count(), 17);
-    assert_eq!(rt; height(&cat, 0), Some(16));
-    assert_eq!(rt; height(&cat, 16), Some(0));
-    assert_eq!(rt; target(&cat, 0, 0, 1), Some(1));
-    assert_eq!(rt; target(&cat, 15, 0, 0), Some(16));
-    Ok(())
-}
-
-// The mosaic takes two calls of the folder, and the data of its source three.
-#[test]
-fn calls_fail_in_turn(rt: HostRuntime) -> Result<(), Fail> {
-    let alloc = rt.alloc();
-    let text = document(alloc, &[("t.bil", 1)])?;
-    for number in 1u64..=6 {
-        let mut calls = Items::new(alloc);
-        calls.push(Failing::Call(number))?;
-        let mut files = MemFolder::new(alloc, Listed::new(calls));
-        files.put(&Name::read(alloc, "t.bil")?, &[7])?;
-        files.put(&Name::read(alloc, "t.hdr")?, PIXEL)?;
-        files.put(&Name::read(alloc, "a.vrt")?, text.as_bytes())?;
-        let mut cat = Catalog::new(alloc);
-        let expected = if number <= 5 { "folder" } else { "" };
-        assert_eq!(rt;
-            walked(alloc, &mut cat, &mut files, "a.vrt")?.as_str(),
-            expected
-        );
-        assert_eq!(rt; cat.count(), if number <= 5 { 0 } else { 2 });
-    }
+    let mut folder = Tally::new(with_mosaics(rt.alloc(), 0, &TWICE)?);
+    let mut cat = Catalog::new(rt.alloc());
+    assert!(rt;
+        goes(
+            rt.alloc(),
+            &mut cat,
+            &mut folder,
+            false,
+            ("m0.vrt", Ok(0), 17)
+        )?
+    );
+    assert!(rt; folder.opens() == 18);
+    assert!(rt; is_linked(&cat));
     Ok(())
 }
