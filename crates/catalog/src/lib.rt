@@ -7,8 +7,6 @@ mod driver;
 mod dted;
 mod faults;
 mod files;
-#[cfg(test)]
-mod fixtures;
 mod grid;
 mod head;
 mod heads;
@@ -19,11 +17,7 @@ mod links;
 mod mosaic;
 mod mosaic_head;
 mod raw;
-#[cfg(test)]
-mod tests;
 mod walk;
-#[cfg(test)]
-mod walk_tests;
 
 pub use catalog::{Catalog, head_of, open_all};
 pub use driver::DriverHead;

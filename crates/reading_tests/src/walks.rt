@@ -1,7 +1,7 @@
 use crate::fixtures::{Said, Source, document, folder_of, put_all, told};
-use crate::{Catalog, open_all};
+use catalog::{Catalog, LimitKind, open_all};
 use outside::{Folder, MemFolder, Name, Tally};
-use std::alloc::Global;
+use std::alloc::{AllocError, Global};
 use std::test::*;
 
 /// The name that a walk begins with, the number of its dataset or what is said, and the number of
@@ -237,5 +237,43 @@ fn each_name_once(rt: HostRuntime) -> Result<(), Fail> {
     );
     assert!(rt; folder.opens() == 18);
     assert!(rt; is_linked(&cat));
+    Ok(())
+}
+
+// A document of 262,143 sources, the last of which is `b.vrt`.
+fn long_document(alloc: Global) -> Result<String, AllocError> {
+    let mut text = String::from_str(
+        alloc,
+        "<VRTDataset rasterXSize=\"1\" rasterYSize=\"1\"><VRTRasterBand dataType=\"Byte\">",
+    )?;
+    for _ in 0..262_142 {
+        text.push_str("<SimpleSource><SourceFilename>t.bil</SourceFilename></SimpleSource>")?;
+    }
+    text.push_str("<SimpleSource><SourceFilename>b.vrt</SourceFilename></SimpleSource>")?;
+    text.push_str("</VRTRasterBand></VRTDataset>")?;
+    Ok(text)
+}
+
+const FEW: [Mosaic<'static>; 2] = [("b.vrt", &[("t.bil", "1")]), ("c.vrt", &[("x.tif", "1")])];
+
+const COUNTED: [Step<'static>; 2] = [
+    ("a.vrt", Ok(0), 3),
+    ("c.vrt", Err(Said::Limit(LimitKind::Sources, 262_145)), 3),
+];
+
+// The sources of all mosaics are counted together, and each before its name is resolved.
+#[test]
+fn sources_of_all_mosaics(rt: HostRuntime) -> Result<(), Fail> {
+    let text = long_document(rt.alloc())?;
+    let mut folder = with_mosaics(rt.alloc(), 0, &FEW)?;
+    put_all(rt.alloc(), &mut folder, &[("a.vrt", text.as_bytes())])?;
+    let mut cat = Catalog::new(rt.alloc());
+    for step in COUNTED {
+        assert!(rt;
+            goes(rt.alloc(), &mut cat, &mut folder, false, step)?,
+            "{}",
+            step.0
+        );
+    }
     Ok(())
 }

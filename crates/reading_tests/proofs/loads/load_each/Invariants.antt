@@ -1,5 +1,5 @@
 use Rattle.band_blocks.specs.Open.{AreGood}
-use Rattle.band_blocks.proofs.load_tests.load_each.Given as goal
+use Rattle.reading_tests.proofs.loads.load_each.Given as goal
 
 abbrev pub invariant-loop-id : goal.invariant-loop-id
 invariant-loop-id g l = AreGood g.F.Folder.file_bytes g.F.Folder.file_len (g.F.Folder.names l.folder) l.cat l.files

@@ -1,4 +1,4 @@
-use crate::Block;
+use band_blocks::Block;
 use geotransform::{PixelType, Sample, holds};
 use std::test::*;
 

@@ -1,6 +1,6 @@
 use crate::fixtures::{File, Row, Said, Source, cell, document, folder_of, head_in, is_said};
-use crate::walk_tests::{Step, goes};
-use crate::{Bad, BandHead, Catalog, Head, Kind, LimitKind};
+use crate::walks::{Step, goes};
+use catalog::{Bad, BandHead, Catalog, Head, Kind, LimitKind};
 use dted_records::DtedFault;
 use esri_hdr::HdrFault;
 use geotransform::{GeoTransform, PixelType, Size};

@@ -1,5 +1,5 @@
 // What the tests share: folders in memory, documents, heads, and what is said of them.
-use crate::{Bad, Head, LimitKind, WalkFault, head_of};
+use catalog::{Bad, Head, LimitKind, WalkFault, head_of};
 use lists_and_answers::Items;
 use outside::{Failing, Listed, MemFolder, Name};
 use std::alloc::{AllocError, Global};

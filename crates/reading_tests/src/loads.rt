@@ -3,7 +3,7 @@ ghost use Rattle.catalog.specs.Drivers.{Dataset, driver_of};
 ghost use Rattle.band_blocks.specs.Keys.{IsKey};
 ghost use Rattle.band_blocks.specs.Open.{AreGood};
 
-use crate::{Block, BlockKey, LoadFault, OpenFiles, Steps, block_at, load_block};
+use band_blocks::{Block, BlockKey, LoadFault, OpenFiles, Steps, block_at, load_block};
 use catalog::{Catalog, open_all};
 use outside::{CalmFolder, Folder, Name, Never, Tally};
 use std::alloc::Global;
