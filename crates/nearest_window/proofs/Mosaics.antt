@@ -1,9 +1,10 @@
 -- The blocks of mosaics.
-use Rattle.std.proofs.Common.{◌≡◌, ◌∙◌, ap, sym, subst, refl, ◌+◌, ◌*◌, ◌/◌, ◌%◌, ◌<◌, ◌≤◌, ℕ, ℤ, zero, suc, List, [], ◌∷◌, ◌++◌, length, map, take, replicate, get_or, pos, Option, Some, None, true, arith}
+use Rattle.std.proofs.Common.{◌≡◌, ◌∙◌, ap, sym, subst, refl, ◌+◌, ◌*◌, ◌/◌, ◌%◌, ◌^◌, ◌<◌, ◌≤◌, ℕ, ℤ, zero, suc, List, [], ◌∷◌, ◌++◌, length, map, take, replicate, get_or, pos, Option, Some, None, true, arith}
 use Rattle.std.specs.Prelude.{slice_get, option_map, IfSome}
 use Rattle.std.specs.Option.{unwrap_or, option_or}
 use Rattle.std.proofs.lemmas.Bool.Decides.{nat_tests}
 use Rattle.std.proofs.lemmas.Int.{ints}
+use Rattle.std.proofs.Math.Nat.{mul-le-mul}
 use Rattle.std.proofs.lemmas.List.Sums.{sum_by-cons, sum-map}
 use Rattle.std.specs.List.{sum_by}
 use Rattle.std.proofs.lemmas.List.{length-map, get_or-map, get_or-replicate, length-replicate, take_all}
@@ -25,13 +26,12 @@ use Rattle.catalog.specs.Walk.{IsDataset, IsCatalog}
 use Rattle.catalog.specs.Links.{source_at}
 use Rattle.catalog.specs.Pixels.{pixel_of, target_size, target_pixel}
 use Rattle.catalog.specs.Places.{block_rect_of, row_by_row}
-use Rattle.catalog.specs.Blocks.{block_pixels, block_by}
+use Rattle.catalog.specs.Blocks.{block_by}
 use Rattle.catalog.proofs.Pixels.{item}
 use Rattle.catalog.proofs.PixelLaws.{mosaic_is_of_its_targets}
 use Rattle.band_blocks.specs.declared.key.BlockKey.{BlockKey}
 use Rattle.band_blocks.specs.Blocks.{BlockView, block_view, IsPacked}
-use Rattle.band_blocks.specs.Contents.{IsBlockOf}
-use Rattle.nearest_window.specs.Right.{IsBlock, IsMosaicKey}
+use Rattle.nearest_window.specs.Right.{IsBlock, IsPartBlock, IsMosaicKey}
 use Rattle.nearest_window.specs.Shown.{IsSourceShown, AreSourcesShown}
 use Rattle.nearest_window.proofs.Painted.{painted_none, painted_same, painted_then}
 use Rattle.nearest_window.proofs.Shown.{filled_row_by_row}
@@ -130,6 +130,20 @@ module _ (cat : List Dataset) (valid : IsCatalog cat) (id : ℕ) (d : Dataset) (
   pub pixels_are : (m : Files) (band x y : ℕ) (b : BandValue) → slice_get doc.bands band ≡ Some b → pixel_of m cat id band x y ≡ mosaic_pixel b d.head.size (target_size cat d band) (target_pixel m cat d band) x y
   pixels_are m band x y b e = mosaic_is_of_its_targets m cat id band x y d doc b valid at is e ∙ ap (λ s. mosaic_pixel b s (target_size cat d band) (target_pixel m cat d band) x y) (sym size_told)
 
+-- a rectangle that has no more pixels than a block of a mosaic
+pub few_pixels : (cat : List Dataset) (key : BlockKey) (b : BandValue) → IsCatalog cat → IsMosaicKey cat key b → (d : Dataset) → slice_get cat key.file ≡ Some d → (block part : Rect) → block ≡ block_rect_of d.head key.block → part.w * part.h ≤ block.w * block.h → part.w * part.h < 2 ^ 32
+few_pixels cat key b valid mosaic d at block part block_is less =
+    let there = mosaic.in_range.at in
+    let same : mosaic.dataset ≡ d = cc in
+    let columns = narrow cat valid key.file mosaic.dataset there mosaic.document mosaic.content key.block in
+    let lines = low cat valid key.file mosaic.dataset there mosaic.document mosaic.content key.block in
+    let w : block.w ≡ (block_rect_of mosaic.dataset.head key.block).w = ap (λ (r : Rect). r.w) block_is ∙ sym (ap (λ (d : Dataset). (block_rect_of d.head key.block).w) same) in
+    let h : block.h ≡ (block_rect_of mosaic.dataset.head key.block).h = ap (λ (r : Rect). r.h) block_is ∙ sym (ap (λ (d : Dataset). (block_rect_of d.head key.block).h) same) in
+    let wide : block.w ≤ 128 = omega arith in
+    let high : block.h ≤ 128 = omega arith in
+    let most : block.w * block.h ≤ 128 * 128 = mul-le-mul wide high in
+    omega arith
+
 clamp_given : (kind : PixelType) (o : Option ℤ) (v : ℤ) → clamp kind v ≡ v → clamp kind (unwrap_or o v) ≡ unwrap_or (option_map (clamp kind) o) v
 clamp_given kind (Some x) v e = refl
 clamp_given kind None v e = e
@@ -156,41 +170,32 @@ nodata_kept b rules = on b.nodata rules.nodata
     on (Some n) h = in_itself b.kind n h
     on None h = zero_kept b.kind
 
--- a whole block is packed
-pub filled_block : (told : Option Files) (cat : List Dataset) (key : BlockKey) (b : BandValue) (mosaic : IsMosaicKey cat key b) (count : ℕ) (rect : Rect) (xs : List ℤ) (block : BlockView) → IsCatalog cat → IsBand b
-    → rect ≡ block_rect_of mosaic.dataset.head key.block → 0 < rect.w → length xs ≡ rect.w * rect.h → length b.sources ≤ count
+-- the samples of a rectangle are packed
+pub filled_part : (told : Option Files) (cat : List Dataset) (key : BlockKey) (b : BandValue) (mosaic : IsMosaicKey cat key b) (count : ℕ) (rect : Rect) (xs : List ℤ) (block : BlockView) → IsCatalog cat → IsBand b
+    → length xs ≡ rect.w * rect.h → length b.sources ≤ count
     → AreSourcesShown told cat mosaic.dataset key.band count b.sources rect (replicate (rect.w * rect.h) (unwrap_or b.nodata (pos 0))) xs
-    → block ≡ block_view b.kind (map (clamp b.kind) xs) → IsPacked block → IsBlock told cat key block
-filled_block told cat key b mosaic count rect xs block valid rules rect_is some size all filled packed fits =
-    record { dataset = mosaic.dataset; in_range = mosaic.in_range; shape = shape; content = content }
+    → block ≡ block_view b.kind (map (clamp b.kind) xs) → IsPacked block → IsPartBlock told cat key rect block
+filled_part told cat key b mosaic count rect xs block valid rules size all filled packed fits = record {
+  dataset = mosaic.dataset;
+  in_range = mosaic.in_range;
+  kind = band_told cat valid key.file mosaic.dataset mosaic.in_range.at mosaic.document mosaic.content key.band b mosaic.band_at ∙ ap (λ (v : BlockView). Some v.kind) (sym packed);
+  count = whole;
+  range = fits.range;
+  content = content;
+}
   where
-    abbrev_d : Dataset
-    abbrev_d = mosaic.dataset
-
     made : block.samples ≡ map (clamp b.kind) xs
     made = ap (λ (v : BlockView). v.samples) packed
 
     whole : length block.samples ≡ rect.w * rect.h
     whole = ap length made ∙ length-map xs (clamp b.kind) ∙ size
 
-    shape : IsBlockOf mosaic.dataset key block
-    shape = record {
-      kind = band_told cat valid key.file mosaic.dataset mosaic.in_range.at mosaic.document mosaic.content key.band b mosaic.band_at ∙ ap (λ (v : BlockView). Some v.kind) (sym packed);
-      count = whole ∙ ap (λ (r : Rect). r.w * r.h) rect_is;
-      range = fits.range;
-    }
-
-    content : (m : Files) → told ≡ Some m → block.samples ≡ block_pixels m cat key.file key.band key.block
+    content : (m : Files) → told ≡ Some m → block.samples ≡ row_by_row (pixel_of m cat key.file key.band) rect
     content m e =
         filled_row_by_row (pixel_of m cat key.file key.band) rect block.samples (pos 0) whole
         (λ k p.
         let q : k < length xs = subst (λ n. k < n) (sym size) p in
-        let n : ℕ = rect.w * rect.h in
         let f = filled m e in
-        let x : ℕ = rect.x + k % rect.w in
-        let y : ℕ = rect.y + k / rect.w in
-        let v = unwrap_or b.nodata (pos 0) in
-        let last = last_given b.sources 0 mosaic.dataset.head.size (target_size cat mosaic.dataset key.band) (target_pixel m cat mosaic.dataset key.band) (rect.x + k % rect.w) (rect.y + k / rect.w) in
         ap (λ l. get_or l k (pos 0)) made
         ∙ get_or-map (clamp b.kind) xs k (pos 0) (pos 0) q
         ∙ ap (clamp b.kind) (f.each k (subst (λ n. k < n) (sym (length-replicate (rect.w * rect.h) (unwrap_or b.nodata (pos 0)))) p)
@@ -198,8 +203,18 @@ filled_block told cat key b mosaic count rect xs block valid rules rect_is some 
         ∙ ap (unwrap_or (last_given b.sources 0 mosaic.dataset.head.size (target_size cat mosaic.dataset key.band) (target_pixel m cat mosaic.dataset key.band) (rect.x + k % rect.w) (rect.y + k / rect.w))) (get_or-replicate (rect.w * rect.h) k (unwrap_or b.nodata (pos 0)) (pos 0) p))
         ∙ clamp_given b.kind (last_given b.sources 0 mosaic.dataset.head.size (target_size cat mosaic.dataset key.band) (target_pixel m cat mosaic.dataset key.band) (rect.x + k % rect.w) (rect.y + k / rect.w)) (unwrap_or b.nodata (pos 0)) (nodata_kept b rules)
         ∙ sym (pixels_are cat valid key.file mosaic.dataset mosaic.in_range.at mosaic.document mosaic.content m key.band (rect.x + k % rect.w) (rect.y + k / rect.w) b mosaic.band_at))
-        ∙ ap (row_by_row (pixel_of m cat key.file key.band)) rect_is
-        ∙ sym (ap (block_by m cat key.file key.band key.block) mosaic.in_range.at)
+
+-- the samples of a block's rectangle are the block
+pub whole_block : (told : Option Files) (cat : List Dataset) (key : BlockKey) (rect : Rect) (block : BlockView) → ((d : Dataset) → slice_get cat key.file ≡ Some d → rect ≡ block_rect_of d.head key.block)
+    → IsPartBlock told cat key rect block → IsBlock told cat key block
+whole_block told cat key rect block rect_is part =
+    let same = rect_is part.dataset part.in_range.at in
+    record {
+      dataset = part.dataset;
+      in_range = part.in_range;
+      shape = record { kind = part.kind; count = part.count ∙ ap (λ (r : Rect). r.w * r.h) same; range = part.range };
+      content = λ m e. part.content m e ∙ ap (row_by_row (pixel_of m cat key.file key.band)) same ∙ sym (ap (block_by m cat key.file key.band key.block) part.in_range.at);
+    }
 
 abbrev sources_in : BandValue → ℕ
 sources_in b = length b.sources

@@ -1,11 +1,14 @@
 -- When a lane is right for a catalog and a folder, and what a call does to a lane.
-use Rattle.std.specs.Prelude.{◌≡◌, ℕ, ◌+◌, ◌*◌, ◌≤◌, List, length, Option, Some, None, Contains, Result, Ok, Err, slice_get}
+use Rattle.std.specs.Prelude.{◌≡◌, ℕ, ◌+◌, ◌*◌, ◌≤◌, List, length, Option, Some, None, Contains, Result, Ok, Err, option_map, slice_get}
+use Rattle.geotransform.specs.declared.types.Rect.{Rect}
 use Rattle.outside.specs.Outside.{Files}
 use Rattle.vrt_profile.specs.Values.{BandValue, DocumentValue}
 use Rattle.catalog.specs.Drivers.{Dataset, document_of}
 use Rattle.catalog.specs.Blocks.{block_pixels, all_blocks}
+use Rattle.catalog.specs.Pixels.{pixel_of}
+use Rattle.catalog.specs.Places.{row_by_row}
 use Rattle.band_blocks.specs.declared.key.BlockKey.{BlockKey}
-use Rattle.band_blocks.specs.Blocks.{BlockView}
+use Rattle.band_blocks.specs.Blocks.{BlockView, AreIn}
 use Rattle.band_blocks.specs.Contents.{IsBlockOf, most_calls}
 use Rattle.band_blocks.specs.Keys.{IsKeyOf}
 use Rattle.band_blocks.specs.declared.load.LoadFault.{LoadFault}
@@ -21,6 +24,16 @@ pub record IsBlock (told : Option Files) (cat : List Dataset) (key : BlockKey) (
   pub in_range : IsKeyOf cat key dataset
   pub shape : IsBlockOf dataset key block
   pub content : (m : Files) → told ≡ Some m → block.samples ≡ block_pixels m cat key.file key.band key.block
+
+-- the block is that of a rectangle of its key's band: it has a sample of the band's type for each pixel, and over a folder
+-- that tells its files they are the rectangle's pixels
+pub record IsPartBlock (told : Option Files) (cat : List Dataset) (key : BlockKey) (rect : Rect) (block : BlockView) : Type 0 where
+  pub dataset : Dataset
+  pub in_range : IsKeyOf cat key dataset
+  pub kind : option_map (λ band. band.kind) (slice_get dataset.head.bands key.band) ≡ Some block.kind
+  pub count : length block.samples ≡ rect.w * rect.h
+  pub range : AreIn block.kind block.samples
+  pub content : (m : Files) → told ≡ Some m → block.samples ≡ row_by_row (pixel_of m cat key.file key.band) rect
 
 -- each held block is that of its key
 abbrev pub AreBlocks : Option Files → List Dataset → List (BlockKey × Entry) → Type 0

@@ -14,11 +14,12 @@ ghost use Rattle.band_blocks.specs.Open.{IsUnchanged};
 ghost use Rattle.block_cache.specs.Entries.{pool_view, entry_of, held_at, moved_to_front, admitted, IsPool};
 ghost use Rattle.nearest_window.specs.Painted.{IsPainted, in_columns};
 ghost use Rattle.nearest_window.specs.Pictures.{IsPicture, from_block};
-ghost use Rattle.nearest_window.specs.Right.{IsBlock, IsRight, IsFileKey, IsMosaicKey, Serves, lane_state, slack_of, TellsChangeIn};
-ghost use Rattle.nearest_window.specs.Shown.{IsPictureOf, IsShown, IsBandOf, IsPartOf, IsSourceShown, IsSourceOf};
+ghost use Rattle.nearest_window.specs.Right.{IsPartBlock, IsRight, IsFileKey, IsMosaicKey, Serves, lane_state, slack_of, TellsChangeIn};
+ghost use Rattle.nearest_window.specs.Shown.{IsPictureOf, IsShown, IsBandOf, IsPartOf, IsLonePart, IsSourceShown, IsSourceOf};
 ghost use Rattle.nearest_window.specs.Taken.{place_at};
 
 use crate::paint::paint_rows;
+use crate::parts::{Part, small_part};
 use crate::picture::Picture;
 use crate::targets::{Around, band_of, block_around, mosaic_rect, seen_in};
 use band_blocks::{Block, BlockKey, LoadFault, OpenFiles, Steps, load_block};
@@ -151,13 +152,15 @@ impl<F: Folder> Lane<F> {
         match band_of(cat, key) {
             None => return self.load_kept(alloc, cat, folder, key, loads),
             Some(band) => {
-                let block = self.fill(alloc, cat, folder, key, band, loads)?;
+                let rect = mosaic_rect(cat, key);
+                let block = self.fill(alloc, cat, folder, key, band, rect, loads)?;
                 return keep(&mut self.pool, key, block);
             }
         }
     }
 
-    // A block of a mosaic's band, made of the blocks of its sources: each is painted over those before it.
+    // The samples of a rectangle of a mosaic's band, made of the blocks of its sources: each is painted over
+    // those before it.
     #[cycle(read)]
     fn fill<L: Ledger>(
         &mut self,
@@ -166,21 +169,23 @@ impl<F: Folder> Lane<F> {
         folder: &mut F,
         key: BlockKey,
         band: &VrtBand,
+        rect: Rect,
         loads: &mut Steps<L>,
     ) -> Result<Block, LoadFault>
         requires right { IsRight F.file_bytes F.file_len (F.names folder.old) cat.now self.old.pool self.old.files }
         requires walked { (m : Files) → F.names folder.old ≡ Some m → IsWalked m cat.now }
         requires key { IsMosaicKey cat.now key band.now }
-        requires few { length band.now.sources < 2 ^ 32 }
+        requires sources { length band.now.sources < 2 ^ 32 }
+        requires within { (d : Dataset) → slice_get cat.now key.file ≡ Some d → IsWithin rect d.head.size }
+        requires few { rect.w * rect.h < 2 ^ 32 }
         ensures serves { Serves F.file_bytes F.file_len cat.now (slack_of result) (lane_state (F.names folder.old) self.old.pool self.old.files (F.faults folder.old) (F.read_calls folder.old) (F.write_calls folder.old) loads.old) (lane_state (F.names folder.new) self.new.pool self.new.files (F.faults folder.new) (F.read_calls folder.new) (F.write_calls folder.new) loads.new) }
         ensures cause { HasCause LoadFault.FolderFault (F.faults folder.old) (F.faults folder.new) result }
         ensures changed { IfErr result (TellsChangeIn cat.now) }
         ensures never { (m : Files) → F.names folder.old ≡ Some m → IfErr result IsUnchanged }
-        ensures block { IfOk result (λ b. IsBlock (F.names folder.new) cat.now key b) }
+        ensures block { IfOk result (λ b. IsPartBlock (F.names folder.new) cat.now key rect b) }
     {
         let _count = cat.count();
         band.rules();
-        let rect = mosaic_rect(cat, key);
         let nodata = band.nodata.unwrap_or(0);
         let mut samples = vec![in alloc; nodata; (rect.w * rect.h) as usize]?;
         for number in 0..band.sources.len() {
@@ -314,6 +319,70 @@ impl<F: Folder> Lane<F> {
         Ok(())
     }
 
+    // The part of a block that is painted without the block: a small one of a mosaic, where the pool doesn't
+    // hold the block and has no room for it.
+    fn lone_part<'a>(
+        &self,
+        cat: &'a Catalog,
+        key: BlockKey,
+        rect: Rect,
+        picture: &Picture,
+        column: u32,
+        columns: u32,
+        line: u32,
+        lines: u32,
+    ) -> Option<Part<'a>>
+        requires picture { IsPictureOf cat.now picture.now }
+        requires part { IsPartOf cat.now key rect picture.now column columns line lines }
+        requires columns { column + columns ≤ picture.now.width }
+        requires some { 0 < columns }
+        requires lines { line + lines ≤ picture.now.height }
+        requires some_lines { 0 < lines }
+        ensures part { IfSome result (λ p. IsLonePart cat.now key picture.now column columns line lines p.band.now p.rect) }
+    {
+        if self.pool.held() < self.pool.capacity() || self.pool.holds(&key) {
+            return None;
+        }
+        small_part(cat, key, rect, picture, column, columns, line, lines)
+    }
+
+    // Paints a part of a picture that lies in a part of a mosaic's block, without the block.
+    #[cycle(read)]
+    fn paint_part<L: Ledger>(
+        &mut self,
+        alloc: Global,
+        cat: &Catalog,
+        folder: &mut F,
+        key: BlockKey,
+        part: Part,
+        picture: &Picture,
+        column: u32,
+        columns: u32,
+        line: u32,
+        lines: u32,
+        out: &mut [Sample],
+        loads: &mut Steps<L>,
+    ) -> Result<(), LoadFault>
+        requires right { IsRight F.file_bytes F.file_len (F.names folder.old) cat.now self.old.pool self.old.files }
+        requires walked { (m : Files) → F.names folder.old ≡ Some m → IsWalked m cat.now }
+        requires picture { IsPictureOf cat.now picture.now }
+        requires part { IsLonePart cat.now key picture.now column columns line lines part.band.now part.rect }
+        requires columns { column + columns ≤ picture.now.width }
+        requires some { 0 < columns }
+        requires lines { line + lines ≤ picture.now.height }
+        requires rows { length out.old ≡ lines * picture.now.stride }
+        ensures serves { Serves F.file_bytes F.file_len cat.now (slack_of result) (lane_state (F.names folder.old) self.old.pool self.old.files (F.faults folder.old) (F.read_calls folder.old) (F.write_calls folder.old) loads.old) (lane_state (F.names folder.new) self.new.pool self.new.files (F.faults folder.new) (F.read_calls folder.new) (F.write_calls folder.new) loads.new) }
+        ensures cause { HasCause LoadFault.FolderFault (F.faults folder.old) (F.faults folder.new) result }
+        ensures changed { IfErr result (TellsChangeIn cat.now) }
+        ensures never { (m : Files) → F.names folder.old ≡ Some m → IfErr result IsUnchanged }
+        ensures painted { OnOk result (IsShown (F.names folder.new) cat.now picture.now column columns line out.old out.new) }
+    {
+        let Part { band, rect } = part;
+        let block = self.fill(alloc, cat, folder, key, band, rect, loads)?;
+        paint_rows(&block, rect, picture, column, columns, line, lines, out);
+        Ok(())
+    }
+
     // Paints a part of a picture that lies in one block.
     #[cycle(read)]
     fn paint_block<L: Ledger>(
@@ -338,6 +407,7 @@ impl<F: Folder> Lane<F> {
         requires columns { column + columns ≤ picture.now.width }
         requires some { 0 < columns }
         requires lines { line + lines ≤ picture.now.height }
+        requires some_lines { 0 < lines }
         requires rows { length out.old ≡ lines * picture.now.stride }
         ensures serves { Serves F.file_bytes F.file_len cat.now (slack_of result) (lane_state (F.names folder.old) self.old.pool self.old.files (F.faults folder.old) (F.read_calls folder.old) (F.write_calls folder.old) loads.old) (lane_state (F.names folder.new) self.new.pool self.new.files (F.faults folder.new) (F.read_calls folder.new) (F.write_calls folder.new) loads.new) }
         ensures cause { HasCause LoadFault.FolderFault (F.faults folder.old) (F.faults folder.new) result }
@@ -345,6 +415,11 @@ impl<F: Folder> Lane<F> {
         ensures never { (m : Files) → F.names folder.old ≡ Some m → IfErr result IsUnchanged }
         ensures painted { OnOk result (IsShown (F.names folder.new) cat.now picture.now column columns line out.old out.new) }
     {
+        if let Some(part) = self.lone_part(cat, key, rect, picture, column, columns, line, lines) {
+            return self.paint_part(
+                alloc, cat, folder, key, part, picture, column, columns, line, lines, out, loads,
+            );
+        }
         self.hold(alloc, cat, folder, key, loads)?;
         paint_held(
             &mut self.pool,

@@ -4,6 +4,7 @@
 mod lane;
 mod laws;
 mod paint;
+mod parts;
 mod picture;
 mod places;
 mod taking;

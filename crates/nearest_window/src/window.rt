@@ -51,7 +51,7 @@ impl<F: Folder> Lane<F> {
     ///
     /// Each block of a file that isn't held is loaded, which ticks `loads` once. A block of a mosaic is
     /// made of the blocks of its sources, through every nesting, and takes memory for its samples until it
-    /// is whole.
+    /// is whole. Where the pool is full, a small part of such a block is made without the block.
     ///
     /// FolderFault comes only where the folder's count rose, Memory freely. Changed comes only where a
     /// file was opened again and had another length than the walk found, or was absent: never over a

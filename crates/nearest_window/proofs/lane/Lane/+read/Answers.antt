@@ -1,4 +1,4 @@
-use Rattle.std.proofs.Common.{◌≡◌, List, ◌+◌, ◌-◌, ◌*◌, ◌^◌, ◌<◌, ◌≤◌, ◌++◌, Some, refl, sym, ap, ◌∙◌, subst, arith, rules, length, take, drop, pos, false, replicate, map, to_z, of_z}
+use Rattle.std.proofs.Common.{◌≡◌, List, ◌+◌, ◌-◌, ◌*◌, ◌<◌, ◌≤◌, ◌++◌, Some, refl, sym, ap, ◌∙◌, subst, arith, rules, length, take, drop, pos, false, replicate, map, to_z, of_z}
 use Rattle.std.specs.Prelude.{slice_get, unwrap_or}
 use Rattle.std.proofs.Math.Nat.{mul-le-mul, mul_comm}
 use Rattle.std.proofs.Math.Seq.{take-append_seam}
@@ -19,29 +19,29 @@ use Rattle.nearest_window.specs.Taken.{place_at}
 use Rattle.nearest_window.specs.Shown.{shown, IsShown, IsSourceOf, IsSourceShown, AreSourcesShown}
 use Rattle.nearest_window.proofs.Keys.{held_kept}
 use Rattle.nearest_window.proofs.Steps.{held_blocks, serves_moved, serves_trans, serves_keep}
-use Rattle.nearest_window.proofs.Shown.{held_size, block_shown}
-use Rattle.nearest_window.proofs.Mosaics.{sources_more, source_stands, filled_block}
+use Rattle.nearest_window.proofs.Shown.{held_size, block_shown, rect_shown}
+use Rattle.nearest_window.proofs.Mosaics.{sources_more, source_stands, filled_part, whole_block}
 use Rattle.nearest_window.proofs.Fills.{source_unseen, source_part, columns_more, bands_more, part_length, on_ok}
 use Rattle.nearest_window.proofs.Painted.{painted_whole}
 use Rattle.nearest_window.proofs.Blocks.{around_at, in_row, from_row}
 use Rattle.nearest_window.proofs.lane.Lane.+read.Goals as goal
 
+pub hold-fill-requires-clause-few : goal.hold-fill-requires-clause-few
+hold-fill-requires-clause-few g t c κs within =
+    let narrow = c.mosaic_rect-rect.ensures.narrow in
+    let low = c.mosaic_rect-rect.ensures.low in
+    let big : c.mosaic_rect-rect.result.w * c.mosaic_rect-rect.result.h ≤ 128 * 128 = mul-le-mul narrow low in
+    omega arith
+
 pub hold-returns-in-Some-clause-serves : goal.hold-returns-in-Some-clause-serves
 hold-returns-in-Some-clause-serves g t c =
     let filled = c.in_ok-block-in-Some.ensures.serves in
-    let kept = serves_keep g.F.Folder.file_bytes g.F.Folder.file_len c.args.cat.now c.keep.result (g.F.Folder.names c.fill.new.folder) c.fill.new.self.pool c.keep.new.pool c.fill.new.self.files (g.F.Folder.faults c.fill.new.folder) (g.F.Folder.read_calls c.fill.new.folder) (g.F.Folder.write_calls c.fill.new.folder) c.fill.new.loads c.args.key (entry_of c.in_ok-block-in-Some.block false) filled.right c.in_ok-block-in-Some.ensures.block c.keep.ensures.kept c.keep.ensures.refused c.keep.ensures.valid in
+    let whole = whole_block (g.F.Folder.names c.fill.new.folder) c.args.cat.now c.args.key c.mosaic_rect-rect.result c.in_ok-block-in-Some.block c.mosaic_rect-rect.ensures.rect c.in_ok-block-in-Some.ensures.block in
+    let kept = serves_keep g.F.Folder.file_bytes g.F.Folder.file_len c.args.cat.now c.keep.result (g.F.Folder.names c.fill.new.folder) c.fill.new.self.pool c.keep.new.pool c.fill.new.self.files (g.F.Folder.faults c.fill.new.folder) (g.F.Folder.read_calls c.fill.new.folder) (g.F.Folder.write_calls c.fill.new.folder) c.fill.new.loads c.args.key (entry_of c.in_ok-block-in-Some.block false) filled.right whole c.keep.ensures.kept c.keep.ensures.refused c.keep.ensures.valid in
     serves_trans g.F.Folder.file_bytes g.F.Folder.file_len c.args.cat.now (slack_of c.keep.result) _ _ _ filled kept
 
 pub hold-returns-in-Some-clause-held : goal.hold-returns-in-Some-clause-held
 hold-returns-in-Some-clause-held g t c = held_kept c.keep.result c.fill.new.self.pool c.keep.new.pool c.args.key (entry_of c.in_ok-block-in-Some.block false) c.keep.ensures.kept
-
-pub fill-overflow_mul-rect : goal.fill-overflow_mul-rect
-fill-overflow_mul-rect g t c =
-    let narrow = c.mosaic_rect-rect.ensures.narrow in
-    let low = c.mosaic_rect-rect.ensures.low in
-    let big : c.mosaic_rect-rect.result.w * c.mosaic_rect-rect.result.h ≤ 128 * 128 = mul-le-mul narrow low in
-    let small : c.mosaic_rect-rect.result.w * c.mosaic_rect-rect.result.h < 2 ^ 32 = omega arith in
-    search (rules, small)
 
 pub fill-paint-requires : goal.fill-paint-requires
 fill-paint-requires g t c =
@@ -52,9 +52,10 @@ fill-paint-requires g t c =
     let item : slice_get c.args.band.now.sources c.loop-number.number ≡ Some c.get-source.result.now = ap (λ (l : List SourceValue). slice_get l c.loop-number.number) (sym (ap (λ (b : BandValue). b.sources) c.band.view_is)) ∙ c.get-source.ensures.item in
     let source : IsSourceOf c.args.cat.now c.args.key c.loop-number.number c.get-source.result.now = record { dataset = k.dataset; in_range = k.in_range; source = source_stands c.args.cat.now c.args.key c.args.band.now k c.loop-number.number c.get-source.result.now item } in
     let fall : 6 * height_at c.args.cat.now c.args.key.file < t = (let m : 6 * height_at c.args.cat.now c.args.key.file + 1 ≡ t = c.decreases in omega arith) in
-    let within : (d : Dataset) → slice_get c.args.cat.now c.args.key.file ≡ Some d → IsWithin c.mosaic_rect-rect.result d.head.size = c.mosaic_rect-rect.ensures.within in
-    let some : 0 < c.mosaic_rect-rect.result.w = c.mosaic_rect-rect.ensures.some in
-    let size : length c.as_mut_slice-out.result.now ≡ c.mosaic_rect-rect.result.w * c.mosaic_rect-rect.result.h = ap length c.as_mut_slice-out.ensures.value ∙ c.loop-number.invariant.size in
+    let within : (d : Dataset) → slice_get c.args.cat.now c.args.key.file ≡ Some d → IsWithin c.args.rect d.head.size = c.requires.within in
+    let inside = c.requires.within k.dataset k.in_range.at in
+    let some : 0 < c.args.rect.w = inside.columns in
+    let size : length c.as_mut_slice-out.result.now ≡ c.args.rect.w * c.args.rect.h = ap length c.as_mut_slice-out.ensures.value ∙ c.loop-number.invariant.size in
     search (rules, fall, right, walked, source, within, some, size)
 
 pub fill-loop-number-preserved : goal.fill-loop-number-preserved
@@ -69,32 +70,28 @@ fill-loop-number-preserved g t c =
     record {
       serves = serves_trans g.F.Folder.file_bytes g.F.Folder.file_len c.args.cat.now 0 _ _ _ before.serves o.serves;
       size = ap length whole ∙ kept ∙ ap length same ∙ before.size;
-      filled = λ d at. sources_more (g.F.Folder.names c.loop-number.folder) (g.F.Folder.names c.paint.new.folder) c.args.cat.now d c.args.key.band c.loop-number.number c.args.band.now.sources c.get-source.result.now c.mosaic_rect-rect.result _ c.loop-number.samples.items
+      filled = λ d at. sources_more (g.F.Folder.names c.loop-number.folder) (g.F.Folder.names c.paint.new.folder) c.args.cat.now d c.args.key.band c.loop-number.number c.args.band.now.sources c.get-source.result.now c.args.rect _ c.loop-number.samples.items
           (take c.loop-number.samples.len (c.paint.new.samples ++ drop (length c.paint.new.samples) c.loop-number.samples.items)) o.serves.told item (before.filled d at)
-          (subst (λ xs. IsSourceShown (g.F.Folder.names c.paint.new.folder) c.args.cat.now d c.args.key.band c.loop-number.number c.get-source.result.now c.mosaic_rect-rect.result c.loop-number.samples.items xs) (sym whole)
-          (subst (λ xs. IsSourceShown (g.F.Folder.names c.paint.new.folder) c.args.cat.now d c.args.key.band c.loop-number.number c.get-source.result.now c.mosaic_rect-rect.result xs c.paint.new.samples) same (o.painted d at)));
+          (subst (λ xs. IsSourceShown (g.F.Folder.names c.paint.new.folder) c.args.cat.now d c.args.key.band c.loop-number.number c.get-source.result.now c.args.rect c.loop-number.samples.items xs) (sym whole)
+          (subst (λ xs. IsSourceShown (g.F.Folder.names c.paint.new.folder) c.args.cat.now d c.args.key.band c.loop-number.number c.get-source.result.now c.args.rect xs c.paint.new.samples) same (o.painted d at)));
     }
 
 pub fill-pack_clamped-requires : goal.fill-pack_clamped-requires
 fill-pack_clamped-requires g t c =
-    let narrow = c.mosaic_rect-rect.ensures.narrow in
-    let low = c.mosaic_rect-rect.ensures.low in
-    let big : c.mosaic_rect-rect.result.w * c.mosaic_rect-rect.result.h ≤ 128 * 128 = mul-le-mul narrow low in
-    let size : length c.as_slice.result.now ≡ c.mosaic_rect-rect.result.w * c.mosaic_rect-rect.result.h = ap length c.as_slice.ensures.value ∙ c.loop-number.invariant.size in
+    let few = c.requires.few in
+    let size : length c.as_slice.result.now ≡ c.args.rect.w * c.args.rect.h = ap length c.as_slice.ensures.value ∙ c.loop-number.invariant.size in
     record { few = omega arith }
 
 pub fill-returns-clause-block : goal.fill-returns-clause-block
 fill-returns-clause-block g t c =
     let k = c.requires.key in
     let before = c.loop-number.invariant in
-    let rect = c.mosaic_rect-rect.result in
     let shown = c.band.view_is in
     let count : c.len-number-end.result ≡ length c.args.band.now.sources = c.len-number-end.ensures.count ∙ ap (λ (b : BandValue). length b.sources) shown in
     let test = c.loop-number-test.false in
     let nodata : to_z w128 (of_z w128 c.unwrap_or-nodata.result) ≡ unwrap_or c.args.band.now.nodata (pos 0) = (let n : to_z w128 (of_z w128 c.unwrap_or-nodata.result) ≡ c.unwrap_or-nodata.result = search rules in n ∙ c.unwrap_or-nodata.ensures ∙ ap (λ (b : BandValue). unwrap_or b.nodata (pos 0)) shown) in
-    filled_block (g.F.Folder.names c.loop-number.folder) c.args.cat.now c.args.key c.args.band.now k c.loop-number.number c.mosaic_rect-rect.result c.loop-number.samples.items c.in_ok-block.block c.count-count.ensures.valid c.rules.ensures.rules
-    (c.mosaic_rect-rect.ensures.rect k.dataset k.in_range.at) c.mosaic_rect-rect.ensures.some before.size (omega arith)
-    (subst (λ v. AreSourcesShown (g.F.Folder.names c.loop-number.folder) c.args.cat.now k.dataset c.args.key.band c.loop-number.number c.args.band.now.sources c.mosaic_rect-rect.result (replicate (c.mosaic_rect-rect.result.w * c.mosaic_rect-rect.result.h) v) c.loop-number.samples.items) nodata (before.filled k.dataset k.in_range.at))
+    filled_part (g.F.Folder.names c.loop-number.folder) c.args.cat.now c.args.key c.args.band.now k c.loop-number.number c.args.rect c.loop-number.samples.items c.in_ok-block.block c.count-count.ensures.valid c.rules.ensures.rules before.size (omega arith)
+    (subst (λ v. AreSourcesShown (g.F.Folder.names c.loop-number.folder) c.args.cat.now k.dataset c.args.key.band c.loop-number.number c.args.band.now.sources c.args.rect (replicate (c.args.rect.w * c.args.rect.h) v) c.loop-number.samples.items) nodata (before.filled k.dataset k.in_range.at))
     (c.in_ok-block.ensures.samples ∙ ap (λ l. block_view c.band.inside.kind (map (clamp c.band.inside.kind) l)) c.as_slice.ensures.value ∙ ap (λ (b : BandValue). block_view b.kind (map (clamp b.kind) c.loop-number.samples.items)) shown)
     c.len-len.ensures.valid
 
@@ -187,6 +184,13 @@ paint_band-returns-clause-painted g t c =
     let below = before.below in
     let all : c.loop-column.column ≡ c.args.picture.now.width = omega arith in
     subst (λ n. IsShown (g.F.Folder.names c.loop-column.folder) c.args.cat.now c.args.picture.now 0 n c.args.line c.args.out.now c.loop-column.out) all before.painted
+
+pub paint_part-returns-clause-painted : goal.paint_part-returns-clause-painted
+paint_part-returns-clause-painted g t c = λ m e.
+    let part = c.requires.part in
+    let made = c.in_ok-block.ensures.block in
+    let rows = c.requires.rows in
+    rect_shown m c.args.cat.now c.args.key.file c.args.key.band c.args.part.rect c.args.picture.now c.args.column c.args.columns c.args.line c.args.lines c.in_ok-block.block c.args.out.now c.paint_rows.new.out part.file part.band_is part.across part.down (made.content m e) c.requires.picture.picture.some (omega arith) c.paint_rows.ensures.painted
 
 pub paint_block-paint_held-requires-clause-held : goal.paint_block-paint_held-requires-clause-held
 paint_block-paint_held-requires-clause-held g t c =
