@@ -58,7 +58,7 @@ fn load_counted<F: Folder, L: Ledger>(
 }
 
 // What a load of the block of a pixel gives.
-#[tactic(auto, using(crate::proofs::Loads::key_in, crate::proofs::Loads::file_known))]
+#[tactic(auto, using(band_blocks::proofs::Loads::key_in, band_blocks::proofs::Loads::file_known))]
 fn load_at<F: Folder>(
     alloc: Global,
     cat: &Catalog,
@@ -91,7 +91,7 @@ fn load_at<F: Folder>(
 
 // What a first load of the block of a pixel gives, once the catalog was walked over one folder, from
 // another.
-#[tactic(auto, using(crate::proofs::Opened::good_none))]
+#[tactic(auto, using(band_blocks::proofs::Opened::good_none))]
 fn first_load<F: Folder, G: Folder>(
     alloc: Global,
     walked: &mut F,
@@ -394,7 +394,7 @@ fn seventeen(alloc: Global, cat: &mut Catalog) -> Result<CalmFolder, Fail> {
 }
 
 // Loads the first blocks of these datasets one after the other, and says how many files were opened.
-#[tactic(auto, using(crate::proofs::Opened::good_none))]
+#[tactic(auto, using(band_blocks::proofs::Opened::good_none))]
 fn opened(alloc: Global, ids: &[u32]) -> Result<(String, u64), Fail> {
     let mut cat = Catalog::new(alloc);
     let mut folder = Tally::new(seventeen(alloc, &mut cat)?);
