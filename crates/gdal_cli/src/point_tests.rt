@@ -1,6 +1,6 @@
 // Runs over the points of an input, and over mosaics of mosaics.
-use crate::trials::{FileOf, Row, Said, folder_of, run_in, run_pieces, try_rows};
-use outside::{Failing, Method, Name};
+use crate::trials::{FileOf, Row, Said, folder_of, run_fed, run_in, run_pieces, try_rows};
+use outside::{CalmInput, Failing, Method, Name, Never, Tally};
 use std::alloc::Global;
 use std::test::*;
 use std::thread::Threads;
@@ -242,25 +242,88 @@ fn failing_inputs(rt: HostRuntime) -> Result<(), Fail> {
     Ok(())
 }
 
-// Each call of the folder, of the input and of the output fails in turn; what was printed is a first part of the text.
+// Three points of a mosaic. A run opens the document and each raster with its header, and reads the document and the
+// headers; for the first point it opens and reads each raster, and for the others nothing. The input gives three pieces
+// and its end, and each answer is put.
+const MOSAIC: &str = "gdallocationinfo -valonly --blocks 1 m.vrt";
+
+const THREE: &[u8] = b"0 0\n1 0\n2 0\n";
+
+const OPENS: u64 = 7;
+
+const READS: u64 = 5;
+
+#[test]
+fn counted_calls_of_points(rt: HostRuntime) -> Result<(), Fail> {
+    let alloc = rt.alloc();
+    let mut folder = Tally::new(folder_of(alloc, &FILES, &[])?);
+    let mut bytes = Vec::new(alloc);
+    bytes.extend_from_slice(THREE)?;
+    let mut input = CalmInput::in_pieces(bytes, 4, Never);
+    let said = run_fed(&rt, alloc, &mut folder, &mut input, MOSAIC, &[])?;
+    assert_eq!(rt; said.out.as_str(), "5\n-1\n9\n");
+    assert_eq!(rt;
+        (folder.opens(), folder.reads(), folder.writes()),
+        (OPENS, READS, 0)
+    );
+    Ok(())
+}
+
+// Calls of the folder, of the input and of the output that fail, and the status, what is printed and what is told.
+type FailingRow<'a> = (
+    &'a [Failing],
+    &'a [Failing],
+    &'a [Failing],
+    u8,
+    &'a str,
+    &'a str,
+);
+
+// Whether runs over the points whose calls fail so end so.
+fn try_failed<R: Threads + Sync>(
+    rt: &R,
+    alloc: Global,
+    rows: &[FailingRow<'_>],
+) -> Result<bool, Fail> {
+    for (calls, takes, puts, status, out, err) in rows {
+        let said = run_pieces(rt, alloc, &FILES, MOSAIC, (THREE, 4), (calls, takes, puts))?;
+        if said.status != *status || said.out.as_str() != *out || said.err.as_str() != *err {
+            return Ok(false);
+        }
+    }
+    Ok(true)
+}
+
+const READING: &str = "ERROR 3: reading the input failed\n";
+
+const WRITING: &str = "ERROR 3: writing the output failed\n";
+
+// Where a call fails, the answers before it stand; behind the last call nothing fails.
+const STREAMS: [FailingRow<'static>; 9] = [
+    (&[], &[Failing::Call(1)], &[], 2, "", READING),
+    (&[], &[Failing::Call(2)], &[], 2, "5\n", READING),
+    (&[], &[Failing::Call(3)], &[], 2, "5\n-1\n", READING),
+    (&[], &[Failing::Call(4)], &[], 2, "5\n-1\n9\n", READING),
+    (&[], &[Failing::Call(5)], &[], 0, "5\n-1\n9\n", ""),
+    (&[], &[], &[Failing::Call(1)], 2, "", WRITING),
+    (&[], &[], &[Failing::Call(2)], 2, "5\n", WRITING),
+    (&[], &[], &[Failing::Call(3)], 2, "5\n-1\n", WRITING),
+    (&[], &[], &[Failing::Call(4)], 0, "5\n-1\n9\n", ""),
+];
+
+// Each call of the folder, of the input and of the output fails in turn.
 #[test]
 fn failing_calls_of_points(rt: HostRuntime) -> Result<(), Fail> {
     let alloc = rt.alloc();
-    let line = "gdallocationinfo -valonly --blocks 1 m.vrt";
-    let whole = "5\n-1\n9\n";
-    for number in 1..=40u64 {
-        let failing = [Failing::Call(number)];
-        let plans: [(&[Failing], &[Failing], &[Failing]); 3] = [
-            (&failing, &[], &[]),
-            (&[], &failing, &[]),
-            (&[], &[], &failing),
-        ];
-        for calls in plans {
-            let said = run_pieces(&rt, alloc, &FILES, line, (b"0 0\n1 0\n2 0\n", 4), calls)?;
-            assert!(rt; whole.starts_with(said.out.as_str()));
-            assert!(rt; said.status == 2 || (said.status == 0 && said.out.as_str() == whole));
-        }
+    for number in 1..=OPENS + READS {
+        let calls = [Failing::Call(number)];
+        let row: FailingRow<'_> = (&calls, &[], &[], 2, "", "ERROR 3: a file call failed\n");
+        assert!(rt; try_failed(&rt, alloc, &[row])?);
     }
+    let behind = [Failing::Call(OPENS + READS + 1)];
+    let row: FailingRow<'_> = (&behind, &[], &[], 0, "5\n-1\n9\n", "");
+    assert!(rt; try_failed(&rt, alloc, &[row])?);
+    assert!(rt; try_failed(&rt, alloc, &STREAMS)?);
     Ok(())
 }
 
