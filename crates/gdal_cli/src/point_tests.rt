@@ -1,6 +1,6 @@
 // Runs over the points of an input, and over mosaics of mosaics.
-use crate::trials::{FileOf, Row, Said, folder_of, run_fed, run_in, run_pieces, try_rows};
-use outside::{CalmInput, Failing, Method, Name, Never, Tally};
+use crate::trials::{FileOf, Row, Said, folder_of, run_in, run_pieces, try_rows};
+use outside::{Failing, MemFolder, Method, Name};
 use std::alloc::Global;
 use std::test::*;
 use std::thread::Threads;
@@ -195,8 +195,7 @@ fn inputs(rt: HostRuntime) -> Result<(), Fail> {
     for (line, input, out) in INPUTS {
         for most in [1, 5, 65_536] {
             let said = fed(&rt, rt.alloc(), line, input.as_bytes(), most)?;
-            assert_eq!(rt; said.status, 0);
-            assert_eq!(rt; said.out.as_str(), out);
+            assert!(rt; said.is(0, out, ""));
         }
     }
     Ok(())
@@ -209,14 +208,13 @@ fn bad_points(rt: HostRuntime) -> Result<(), Fail> {
     let input = b"0 0\n9 9\n2 1\nx\n0 0\n";
     for most in [1, 7, 65_536] {
         let said = fed(&rt, alloc, "gdallocationinfo -valonly two.bil", input, most)?;
-        assert_eq!(rt; said.status, 1);
-        assert_eq!(rt; said.out.as_str(), "1\n4\n\n9\n12\n");
-        assert_eq!(rt; said.err.as_str(), "ERROR 5: input line 4 is no point\n");
+        let told = "ERROR 5: input line 4 is no point\n";
+        assert!(rt; said.is(1, "1\n4\n\n9\n12\n", told));
     }
     let report =
         "Report:\n  Location: (9P,9L)\n  Location is off this file! No further details to report.\n";
     let said = fed(&rt, alloc, "gdallocationinfo two.bil", b"9 9\n", 2)?;
-    assert_eq!(rt; said.out.as_str(), report);
+    assert!(rt; said.is(0, report, ""));
     Ok(())
 }
 
@@ -235,9 +233,7 @@ fn failing_inputs(rt: HostRuntime) -> Result<(), Fail> {
         let takes = [Failing::Of(Method::Take, number)];
         let calls: (&[Failing], &[Failing], &[Failing]) = (&[], &takes, &[]);
         let said = run_pieces(&rt, alloc, &FILES, line, (input, most), calls)?;
-        assert_eq!(rt; said.status, 2);
-        assert_eq!(rt; said.out.as_str(), out);
-        assert_eq!(rt; said.err.as_str(), "ERROR 3: reading the input failed\n");
+        assert!(rt; said.is(2, out, READING));
     }
     Ok(())
 }
@@ -252,22 +248,6 @@ const THREE: &[u8] = b"0 0\n1 0\n2 0\n";
 const OPENS: u64 = 7;
 
 const READS: u64 = 5;
-
-#[test]
-fn counted_calls_of_points(rt: HostRuntime) -> Result<(), Fail> {
-    let alloc = rt.alloc();
-    let mut folder = Tally::new(folder_of(alloc, &FILES, &[])?);
-    let mut bytes = Vec::new(alloc);
-    bytes.extend_from_slice(THREE)?;
-    let mut input = CalmInput::in_pieces(bytes, 4, Never);
-    let said = run_fed(&rt, alloc, &mut folder, &mut input, MOSAIC, &[])?;
-    assert_eq!(rt; said.out.as_str(), "5\n-1\n9\n");
-    assert_eq!(rt;
-        (folder.opens(), folder.reads(), folder.writes()),
-        (OPENS, READS, 0)
-    );
-    Ok(())
-}
 
 // Calls of the folder, of the input and of the output that fail, and the status, what is printed and what is told.
 type FailingRow<'a> = (
@@ -287,16 +267,55 @@ fn try_failed<R: Threads + Sync>(
 ) -> Result<bool, Fail> {
     for (calls, takes, puts, status, out, err) in rows {
         let said = run_pieces(rt, alloc, &FILES, MOSAIC, (THREE, 4), (calls, takes, puts))?;
-        if said.status != *status || said.out.as_str() != *out || said.err.as_str() != *err {
+        if !said.is(*status, out, err) {
             return Ok(false);
         }
     }
     Ok(true)
 }
 
+const FOLDER: &str = "ERROR 3: a file call failed\n";
+
 const READING: &str = "ERROR 3: reading the input failed\n";
 
 const WRITING: &str = "ERROR 3: writing the output failed\n";
+
+// The folder's last calls, and those that would come behind them.
+const BEHIND: [FailingRow<'static>; 5] = [
+    (&[Failing::Of(Method::Open, OPENS)], &[], &[], 2, "", FOLDER),
+    (
+        &[Failing::Of(Method::ReadAt, READS)],
+        &[],
+        &[],
+        2,
+        "",
+        FOLDER,
+    ),
+    (
+        &[Failing::Of(Method::Open, OPENS + 1)],
+        &[],
+        &[],
+        0,
+        "5\n-1\n9\n",
+        "",
+    ),
+    (
+        &[Failing::Of(Method::ReadAt, READS + 1)],
+        &[],
+        &[],
+        0,
+        "5\n-1\n9\n",
+        "",
+    ),
+    (
+        &[Failing::Call(OPENS + READS + 1)],
+        &[],
+        &[],
+        0,
+        "5\n-1\n9\n",
+        "",
+    ),
+];
 
 // Where a call fails, the answers before it stand; behind the last call nothing fails.
 const STREAMS: [FailingRow<'static>; 9] = [
@@ -317,42 +336,46 @@ fn failing_calls_of_points(rt: HostRuntime) -> Result<(), Fail> {
     let alloc = rt.alloc();
     for number in 1..=OPENS + READS {
         let calls = [Failing::Call(number)];
-        let row: FailingRow<'_> = (&calls, &[], &[], 2, "", "ERROR 3: a file call failed\n");
+        let row: FailingRow<'_> = (&calls, &[], &[], 2, "", FOLDER);
         assert!(rt; try_failed(&rt, alloc, &[row])?);
     }
-    let behind = [Failing::Call(OPENS + READS + 1)];
-    let row: FailingRow<'_> = (&behind, &[], &[], 0, "5\n-1\n9\n", "");
-    assert!(rt; try_failed(&rt, alloc, &[row])?);
+    assert!(rt; try_failed(&rt, alloc, &BEHIND)?);
     assert!(rt; try_failed(&rt, alloc, &STREAMS)?);
     Ok(())
 }
 
+// A mosaic of one pixel, which is that of its one source.
+fn put_mosaic(alloc: Global, folder: &mut MemFolder, name: &str, source: &str) -> Result<(), Fail> {
+    let mut document = String::from_str(
+        alloc,
+        "<VRTDataset rasterXSize='1' rasterYSize='1'><VRTRasterBand><SimpleSource><SourceFilename>",
+    )?;
+    document.push_str(source)?;
+    document.push_str("</SourceFilename></SimpleSource></VRTRasterBand></VRTDataset>")?;
+    folder.put(&Name::read(alloc, name)?, document.as_bytes())?;
+    Ok(())
+}
+
 // Seventeen mosaics, each of which names the next one, and the last one a file.
+const NESTED: [&str; 18] = [
+    "m1.vrt", "m2.vrt", "m3.vrt", "m4.vrt", "m5.vrt", "m6.vrt", "m7.vrt", "m8.vrt", "m9.vrt",
+    "m10.vrt", "m11.vrt", "m12.vrt", "m13.vrt", "m14.vrt", "m15.vrt", "m16.vrt", "m17.vrt",
+    "a.bil",
+];
+
 #[test]
 fn nested_mosaics(rt: HostRuntime) -> Result<(), Fail> {
     let alloc = rt.alloc();
     let files: [FileOf<'_>; 2] = [("a.bil", &[7]), ("a.hdr", b"NROWS 1\nNCOLS 1\n")];
     let mut folder = folder_of(alloc, &files, &[])?;
-    for number in 1..=17u32 {
-        let next = if number == 17 {
-            String::from_str(alloc, "a.bil")?
-        } else {
-            format!(in alloc; "m{}.vrt", number + 1)?
-        };
-        let document = format!(in alloc;
-            "<VRTDataset rasterXSize='1' rasterYSize='1'><VRTRasterBand><SimpleSource><SourceFilename>{}</SourceFilename></SimpleSource></VRTRasterBand></VRTDataset>",
-            next
-        )?;
-        let name = format!(in alloc; "m{}.vrt", number)?;
-        folder.put(&Name::read(alloc, name.as_str())?, document.as_bytes())?;
+    for at in 0..17usize {
+        put_mosaic(alloc, &mut folder, NESTED[at], NESTED[at + 1])?;
     }
     let line = "gdallocationinfo -valonly m1.vrt 0 0";
     let said = run_in(&rt, alloc, &mut folder, line, &[])?;
-    assert_eq!(rt; said.status, 1);
-    assert_eq!(rt; said.err.as_str(), "ERROR 1: m17.vrt: nested too deep\n");
+    assert!(rt; said.is(1, "", "ERROR 1: m17.vrt: nested too deep\n"));
     let line = "gdallocationinfo -valonly m2.vrt 0 0";
     let said = run_in(&rt, alloc, &mut folder, line, &[])?;
-    assert_eq!(rt; said.status, 0);
-    assert_eq!(rt; said.out.as_str(), "7\n");
+    assert!(rt; said.is(0, "7\n", ""));
     Ok(())
 }

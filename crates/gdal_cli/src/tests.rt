@@ -165,24 +165,20 @@ fn refusals(rt: HostRuntime) -> Result<(), Fail> {
     Ok(())
 }
 
-// Each call of the folder and of the output fails in turn; what was printed is a first part of the text.
+// Each call of the folder and of the output fails in turn; nothing was printed then.
 #[test]
 fn failing_calls(rt: HostRuntime) -> Result<(), Fail> {
     let alloc = rt.alloc();
     let line = "gdallocationinfo -valonly a.bil 2 1";
     for number in 1..=6u64 {
         let said = run_over(&rt, alloc, &FILES, line, &[Failing::Call(number)], &[])?;
-        assert_eq!(rt; said.status, 2);
-        assert_eq!(rt; said.out.as_str(), "");
-        assert_eq!(rt; said.err.as_str(), "ERROR 3: a file call failed\n");
+        assert!(rt; said.is(2, "", "ERROR 3: a file call failed\n"));
     }
     let said = run_over(&rt, alloc, &FILES, line, &[Failing::Call(7)], &[])?;
-    assert_eq!(rt; said.status, 0);
+    assert!(rt; said.is(0, "9\n12\n", ""));
     let puts = [Failing::Of(Method::Put, 1)];
     let said = run_over(&rt, alloc, &FILES, line, &[], &puts)?;
-    assert_eq!(rt; said.status, 2);
-    assert!(rt; "9\n12\n".starts_with(said.out.as_str()));
-    assert_eq!(rt; said.err.as_str(), "ERROR 3: writing the output failed\n");
+    assert!(rt; said.is(2, "", "ERROR 3: writing the output failed\n"));
     Ok(())
 }
 
@@ -195,7 +191,6 @@ fn the_widest_raster(rt: HostRuntime) -> Result<(), Fail> {
     folder.put(&Name::read(alloc, "w.bil")?, &bytes)?;
     let line = "gdallocationinfo -valonly w.bil 4194303 0";
     let said = run_in(&rt, alloc, &mut folder, line, &[])?;
-    assert_eq!(rt; said.status, 0);
-    assert_eq!(rt; said.out.as_str(), "7\n");
+    assert!(rt; said.is(0, "7\n", ""));
     Ok(())
 }
