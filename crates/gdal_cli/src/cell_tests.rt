@@ -202,20 +202,21 @@ const NAMES: [(&str, &str); 8] = [
     ),
 ];
 
+const TILES: [FileOf<'static>; 7] = [
+    ("N90E180.hgt", b""),
+    ("S90W180.hgt", b""),
+    ("d/n00w000.HGT", b""),
+    ("s01e007_1.x.hgt", b""),
+    ("N91E000.hgt", b""),
+    ("N00E181.hgt", b""),
+    ("N0E0000.hgt", b""),
+];
+
 #[test]
 fn names_of_tiles(rt: HostRuntime) -> Result<(), Fail> {
     let alloc = rt.alloc();
-    let files: [FileOf<'static>; 7] = [
-        ("N90E180.hgt", b""),
-        ("S90W180.hgt", b""),
-        ("d/n00w000.HGT", b""),
-        ("s01e007_1.x.hgt", b""),
-        ("N91E000.hgt", b""),
-        ("N00E181.hgt", b""),
-        ("N0E0000.hgt", b""),
-    ];
     for (line, err) in NAMES {
-        let said = run_over(&rt, alloc, &files, line, &[], &[])?;
+        let said = run_over(&rt, alloc, &TILES, line, &[], &[])?;
         assert!(rt; said.is(1, "", err));
     }
     Ok(())

@@ -1,4 +1,4 @@
-use crate::trials::{FileOf, folder_of, run_in, run_over, try_rows};
+use crate::trials::{FileOf, Row, folder_of, run_in, run_over, try_rows};
 use outside::{Failing, Method, Name};
 use std::test::*;
 
@@ -29,139 +29,141 @@ const FILES: [FileOf<'static>; 14] = [
     ),
 ];
 
+const VALUES: [Row<'static>; 9] = [
+    ("gdallocationinfo -valonly a.bil 2 1", 0, "9\n12\n", ""),
+    ("gdallocationinfo -valonly b.BIP 2 1", 0, "11\n12\n", ""),
+    (
+        "gdallocationinfo -valonly d/../d/c.bsq 2 1",
+        0,
+        "6\n12\n",
+        "",
+    ),
+    (
+        "gdallocationinfo a.bil -b 2 2.9 -valonly 1.5",
+        0,
+        "12\n",
+        "",
+    ),
+    (
+        "gdallocationinfo -valonly -b 2 -b 1 a.bil 0 0",
+        0,
+        "4\n1\n",
+        "",
+    ),
+    ("gdallocationinfo -valonly a.bil 3 1", 0, "\n", ""),
+    ("gdallocationinfo -valonly a.bil 2 -0.5", 0, "\n", ""),
+    (
+        "gdallocationinfo --config A B -valonly w.bil 0 0",
+        0,
+        "-2\n",
+        "",
+    ),
+    (
+        "gdalinfo n.bil",
+        0,
+        "Driver: EHdr\nFiles: n.bil\n       n.hdr\nSize is 2, 1\nBand 1 Block=2x1 Type=Byte\n  NoData Value=9\n",
+        "",
+    ),
+];
+
 #[test]
 fn values(rt: HostRuntime) -> Result<(), Fail> {
-    let rows = [
-        ("gdallocationinfo -valonly a.bil 2 1", 0, "9\n12\n", ""),
-        ("gdallocationinfo -valonly b.BIP 2 1", 0, "11\n12\n", ""),
-        (
-            "gdallocationinfo -valonly d/../d/c.bsq 2 1",
-            0,
-            "6\n12\n",
-            "",
-        ),
-        (
-            "gdallocationinfo a.bil -b 2 2.9 -valonly 1.5",
-            0,
-            "12\n",
-            "",
-        ),
-        (
-            "gdallocationinfo -valonly -b 2 -b 1 a.bil 0 0",
-            0,
-            "4\n1\n",
-            "",
-        ),
-        ("gdallocationinfo -valonly a.bil 3 1", 0, "\n", ""),
-        ("gdallocationinfo -valonly a.bil 2 -0.5", 0, "\n", ""),
-        (
-            "gdallocationinfo --config A B -valonly w.bil 0 0",
-            0,
-            "-2\n",
-            "",
-        ),
-        (
-            "gdalinfo n.bil",
-            0,
-            "Driver: EHdr\nFiles: n.bil\n       n.hdr\nSize is 2, 1\nBand 1 Block=2x1 Type=Byte\n  NoData Value=9\n",
-            "",
-        ),
-    ];
-    assert!(rt; try_rows(&rt, rt.alloc(), &FILES, &rows)?);
+    assert!(rt; try_rows(&rt, rt.alloc(), &FILES, &VALUES)?);
     Ok(())
 }
 
+const REFUSALS: [Row<'static>; 16] = [
+    ("", 1, "", "ERROR 1: word 0 doesn't fit\n"),
+    ("gdalinfo", 1, "", "ERROR 1: word 1 doesn't fit\n"),
+    (
+        "gdalinfo a.bil b.bil",
+        1,
+        "",
+        "ERROR 1: word 2 doesn't fit\n",
+    ),
+    (
+        "gdalinfo --config A",
+        1,
+        "",
+        "ERROR 1: word 3 doesn't fit\n",
+    ),
+    (
+        "gdallocationinfo -valonly a.bil 1 0 7",
+        1,
+        "",
+        "ERROR 1: word 5 doesn't fit\n",
+    ),
+    (
+        "gdallocationinfo a.bil 1",
+        1,
+        "",
+        "ERROR 1: word 3 doesn't fit\n",
+    ),
+    (
+        "gdallocationinfo -lifonly a.bil -b x 1 0",
+        1,
+        "",
+        "ERROR 1: word 4 doesn't fit\n",
+    ),
+    (
+        "gdallocationinfo -lifonly -valonly -lifonly a.bil 1 0",
+        1,
+        "",
+        "ERROR 1: word 3 doesn't fit\n",
+    ),
+    (
+        "gdallocationinfo --blocks 65537 a.bil 1 0",
+        1,
+        "",
+        "ERROR 1: word 2 doesn't fit\n",
+    ),
+    (
+        "gdalinfo --blocks 0 a.bil",
+        1,
+        "",
+        "ERROR 1: word 2 doesn't fit\n",
+    ),
+    (
+        "gdallocationinfo --workers 2 a.bil 1 0",
+        1,
+        "",
+        "ERROR 1: word 1 doesn't fit\n",
+    ),
+    (
+        "gdalinfo none.bil",
+        1,
+        "",
+        "ERROR 4: none.bil: no such file\n",
+    ),
+    (
+        "gdalinfo a.tif",
+        1,
+        "",
+        "ERROR 4: a.tif: not recognized as a supported format\n",
+    ),
+    (
+        "gdallocationinfo -valonly s.bsq 1 0",
+        1,
+        "",
+        "ERROR 4: s.bsq: needs 4 bytes, has 3\n",
+    ),
+    (
+        "gdalinfo m.bil",
+        1,
+        "",
+        "ERROR 4: m.hdr: malformed hdr (3)\n",
+    ),
+    (
+        "gdallocationinfo -valonly a.bil -b 3 2 1",
+        1,
+        "",
+        "ERROR 5: no band 3\n",
+    ),
+];
+
 #[test]
 fn refusals(rt: HostRuntime) -> Result<(), Fail> {
-    let rows = [
-        ("", 1, "", "ERROR 1: word 0 doesn't fit\n"),
-        ("gdalinfo", 1, "", "ERROR 1: word 1 doesn't fit\n"),
-        (
-            "gdalinfo a.bil b.bil",
-            1,
-            "",
-            "ERROR 1: word 2 doesn't fit\n",
-        ),
-        (
-            "gdalinfo --config A",
-            1,
-            "",
-            "ERROR 1: word 3 doesn't fit\n",
-        ),
-        (
-            "gdallocationinfo -valonly a.bil 1 0 7",
-            1,
-            "",
-            "ERROR 1: word 5 doesn't fit\n",
-        ),
-        (
-            "gdallocationinfo a.bil 1",
-            1,
-            "",
-            "ERROR 1: word 3 doesn't fit\n",
-        ),
-        (
-            "gdallocationinfo -lifonly a.bil -b x 1 0",
-            1,
-            "",
-            "ERROR 1: word 4 doesn't fit\n",
-        ),
-        (
-            "gdallocationinfo -lifonly -valonly -lifonly a.bil 1 0",
-            1,
-            "",
-            "ERROR 1: word 3 doesn't fit\n",
-        ),
-        (
-            "gdallocationinfo --blocks 65537 a.bil 1 0",
-            1,
-            "",
-            "ERROR 1: word 2 doesn't fit\n",
-        ),
-        (
-            "gdalinfo --blocks 0 a.bil",
-            1,
-            "",
-            "ERROR 1: word 2 doesn't fit\n",
-        ),
-        (
-            "gdallocationinfo --workers 2 a.bil 1 0",
-            1,
-            "",
-            "ERROR 1: word 1 doesn't fit\n",
-        ),
-        (
-            "gdalinfo none.bil",
-            1,
-            "",
-            "ERROR 4: none.bil: no such file\n",
-        ),
-        (
-            "gdalinfo a.tif",
-            1,
-            "",
-            "ERROR 4: a.tif: not recognized as a supported format\n",
-        ),
-        (
-            "gdallocationinfo -valonly s.bsq 1 0",
-            1,
-            "",
-            "ERROR 4: s.bsq: needs 4 bytes, has 3\n",
-        ),
-        (
-            "gdalinfo m.bil",
-            1,
-            "",
-            "ERROR 4: m.hdr: malformed hdr (3)\n",
-        ),
-        (
-            "gdallocationinfo -valonly a.bil -b 3 2 1",
-            1,
-            "",
-            "ERROR 5: no band 3\n",
-        ),
-    ];
-    assert!(rt; try_rows(&rt, rt.alloc(), &FILES, &rows)?);
+    assert!(rt; try_rows(&rt, rt.alloc(), &FILES, &REFUSALS)?);
     Ok(())
 }
 
