@@ -8,7 +8,7 @@ use Rattle.catalog.proofs.Found.{found}
 use Rattle.gdal_cli.specs.declared.faults.Fault.{Fault}
 use Rattle.gdal_cli.specs.declared.faults.Fault.TheVariants.{Changed}
 use Rattle.gdal_cli.specs.Faults.{fault_of, IsOutside, OwnsFault}
-use Rattle.gdal_cli.specs.Location.{Printed, location_in, asked_in, answers, point_text}
+use Rattle.gdal_cli.specs.Location.{location_in, asked_in, answers, point_text}
 use Rattle.gdal_cli.specs.Run.{ran_of, Ends, ended}
 use Rattle.gdal_cli.proofs.Changed.{no_change}
 use Rattle.gdal_cli.proofs.Ended.{err_is, asked_refused, location_told, location_put, stops_same}

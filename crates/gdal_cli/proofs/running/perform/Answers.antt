@@ -1,6 +1,4 @@
-use Rattle.std.proofs.Common.{ap, sym, map, string_bytes, Result}
-use Rattle.gdal_cli.specs.declared.faults.Fault.{Fault}
-use Rattle.gdal_cli.specs.Location.{Printed}
+use Rattle.std.proofs.Common.{ap, sym, map, string_bytes}
 use Rattle.gdal_cli.specs.Run.{ran_of, run_over, printed_by}
 use Rattle.gdal_cli.proofs.Datasets.{dataset_refused, command_said}
 use Rattle.gdal_cli.proofs.Ended.{stops_same}
