@@ -1,5 +1,5 @@
 -- How jobs end.
-use Rattle.std.proofs.Common.{◌≡◌, ◌∙◌, ap, subst, sym, ◌⊎◌, inl, inr, ℕ, ℤ, Bool, List, [], refl, Result, Ok, Err, Option, Some, None}
+use Rattle.std.proofs.Common.{◌≡◌, ◌∙◌, ap, subst, sym, ◌⊎◌, inl, inr, ℕ, ℤ, Bool, false, List, [], refl, Result, Ok, Err, Option, Some, None}
 use Rattle.std.proofs.lemmas.List.{append-nil}
 use Rattle.lists_and_answers.specs.Answers.{◌>>=◌}
 use Rattle.outside.specs.Outside.{Files}
@@ -9,12 +9,10 @@ use Rattle.catalog.specs.declared.faults.WalkFault.{WalkFault}
 use Rattle.catalog.specs.declared.faults.WalkFault.TheVariants as walk
 use Rattle.catalog.specs.Outcomes as outcomes
 use Rattle.catalog.specs.Dataset.{DatasetHead}
-use Rattle.std.specs.Prelude.{slice_get}
 use Rattle.std.specs.Result.{IsErr, IsErrAnd}
 use Rattle.catalog.specs.Drivers.{Dataset}
-use Rattle.catalog.specs.Heads.{head_in}
-use Rattle.catalog.specs.Walk.{number_of, dataset_named, walked}
-use Rattle.catalog.proofs.Found.{named_at}
+use Rattle.catalog.specs.Heads.{dataset_in, head_in}
+use Rattle.catalog.specs.Walk.{walked}
 use Rattle.location_report.specs.declared.report.Form.{Form}
 use Rattle.input_points.specs.declared.entry.Entry.{Entry}
 use Rattle.input_points.specs.Entries.{entries, ended_entries}
@@ -25,8 +23,8 @@ use Rattle.gdal_cli.specs.declared.faults.Fault.{Fault}
 use Rattle.gdal_cli.specs.Faults.{fault_of, report_fault_of, by_walk, IsOutside}
 use Rattle.gdal_cli.specs.declared.asked.Asked.{Asked}
 use Rattle.gdal_cli.specs.Input.{AnswersInput, StopsBehind}
-use Rattle.gdal_cli.specs.Location.{Printed, whole, location_in, answers, answers_in, answers_of, asked_in, point_text, PutsText}
-use Rattle.gdal_cli.specs.Run.{ran_of, Ends, info_in}
+use Rattle.gdal_cli.specs.Location.{Printed, whole, location_in, answers, answers_in, asked_in, point_text, PutsText}
+use Rattle.gdal_cli.specs.Run.{Ran, ran_of, Ends, info_in}
 
 -- where nothing was put, a first part of every text was
 pub nothing_put : (text : List ℕ) (old : Option (List ℕ)) → GetsPart text old old
@@ -76,17 +74,17 @@ module _ (m : Files) (verify : Bool) (name : List ℕ) (point : Option (ℤ × �
   -- a location ends with what the walk answers
   pub location_refused : (f : WalkFault) (old : Option (List ℕ)) → outcomes.IsOutside f ⊎ (walked m verify [] name ≡ Err f) → Ends (ran_of location) (Err (fault_of f)) old old
   unfolding location_in
-  location_refused f old h = either (fault_of f) _ old (walk_fails f (walked m verify [] name) (λ cat. answers_of m cat point bands form geoloc lines (dataset_named cat name)) h)
+  location_refused f old h = either (fault_of f) _ old (walk_fails f (walked m verify [] name) (λ cat. by_walk (dataset_in m false name) >>= (λ d. answers_in m cat point bands form geoloc lines d)) h)
 
-  module _ (cat : List Dataset) (id : ℕ) (d : Dataset) (is : walked m verify [] name ≡ Ok cat) (number : number_of cat name ≡ Some id) (at : slice_get cat id ≡ Some d) where
+  module _ (cat : List Dataset) (d : Dataset) (is : walked m verify [] name ≡ Ok cat) (read : dataset_in m false name ≡ Ok d) where
     abbrev told : Asked → Result Printed Fault
     told asked = Ok (answers (point_text m cat d asked) point lines)
 
     walked_to : location ≡ (asked_in form bands geoloc d.head >>= told)
     unfolding location_in answers_in
     walked_to =
-        ap (λ (e : Result (List Dataset) WalkFault). by_walk e >>= (λ (c : List Dataset). answers_of m c point bands form geoloc lines (dataset_named c name))) is
-        ∙ ap (λ (o : Option Dataset). answers_of m cat point bands form geoloc lines o) (named_at cat name id d number at)
+        ap (λ (e : Result (List Dataset) WalkFault). by_walk e >>= (λ (c : List Dataset). by_walk (dataset_in m false name) >>= (λ (x : Dataset). answers_in m c point bands form geoloc lines x))) is
+        ∙ ap (λ (e : Result Dataset WalkFault). by_walk e >>= (λ (x : Dataset). answers_in m cat point bands form geoloc lines x)) read
 
     -- with what the dataset lacks
     pub asked_refused : (f : Fault) (old : Option (List ℕ)) → IsOutside f ⊎ (asked_in form bands geoloc d.head ≡ Err f) → Ends (ran_of location) (Err f) old old
@@ -138,12 +136,13 @@ pub lines_put : (tell : ℤ → ℤ → List ℕ) (input : List ℕ) (left : Opt
 lines_put tell input left (Ok done) old new h = (h.0, h.1)
 lines_put tell input left (Err f) old new h = h
 
--- two ways to say what is printed of lines
-pub stops_same : (p q : List Entry → List ℕ) (input : List ℕ) (left old new : Option (List ℕ)) → StopsBehind p input left old new → ((lines : List Entry) → p lines ≡ q lines) → StopsBehind q input left old new
+-- two ways to say what a run over lines does
+pub stops_same : (p q : List Entry → Ran) (input : List ℕ) (left old new : Option (List ℕ)) → StopsBehind p input left old new → ((lines : List Entry) → p lines ≡ q lines) → StopsBehind q input left old new
 stops_same p q input left old new s same = record {
   given = s.given;
   rest = s.rest;
   parts = s.parts;
   left_is = s.left_is;
-  answered = subst (λ (t : List ℕ). Gets t old new) (same (ended_entries s.given)) s.answered;
+  not_refused = ap (λ (r : Ran). r.fault) (sym (same (ended_entries s.given))) ∙ s.not_refused;
+  answered = subst (λ (r : Ran). Gets r.printed old new) (same (ended_entries s.given)) s.answered;
 }

@@ -18,6 +18,7 @@ use Rattle.gdal_cli.specs.declared.faults.Fault.TheVariants.{Changed}
 use Rattle.gdal_cli.specs.Faults.{IsOutside}
 use Rattle.gdal_cli.specs.Location.{line_text, line_fault, first_fault, lines_text, lines_fault, PutsText}
 use Rattle.gdal_cli.specs.Input.{IsReading, room_of, Answered, EndsLines, AnswersInput, StopsBehind}
+use Rattle.gdal_cli.specs.Run.{ran_lines}
 
 abbrev pub stopped_by : Fault → Result (Unit {0}) Fault
 stopped_by f = Err f
@@ -219,15 +220,18 @@ module _ (tell : ℤ → ℤ → List ℕ) where
       (ends_behind a.given (coming lines r rest) f before mid after a.passed.good a.put h)
 
   -- the input failed
-  pub stopped : (r : Reading) (input given rest : List ℕ) (left before after : Option (List ℕ)) (a : Answered tell start given r [] before after) → input ≡ given ++ rest → left ≡ Some rest → coming ended_lines r [] ≡ [] → ((text : List ℕ) → coming ended_lines start text ≡ ended_entries text) → StopsBehind (lines_text tell) input left before after
+  pub stopped : (r : Reading) (input given rest : List ℕ) (left before after : Option (List ℕ)) (a : Answered tell start given r [] before after) → input ≡ given ++ rest → left ≡ Some rest → coming ended_lines r [] ≡ [] → ((text : List ℕ) → coming ended_lines start text ≡ ended_entries text) → StopsBehind (ran_lines tell) input left before after
   stopped r input given rest left before after a parts left_is none ended = record {
     given = given;
     rest = rest;
     parts = parts;
     left_is = left_is;
-    answered = subst (λ (es : List Entry). Gets (lines_text tell es) before after)
-        (sym (append-nil a.given) ∙ ap (λ (es : List Entry). a.given ++ es) (sym none) ∙ sym (a.passed.ended []) ∙ ap (coming ended_lines start) (append-nil given) ∙ ended given) a.put;
+    not_refused = ap lines_fault (sym lines_are) ∙ a.passed.good;
+    answered = subst (λ (es : List Entry). Gets (lines_text tell es) before after) lines_are a.put;
   }
+    where
+      lines_are : a.given ≡ ended_entries given
+      lines_are = sym (append-nil a.given) ∙ ap (λ (es : List Entry). a.given ++ es) (sym none) ∙ sym (a.passed.ended []) ∙ ap (coming ended_lines start) (append-nil given) ∙ ended given
 
   -- the input was read to its end, where no line is left
   pub whole_input : (r : Reading) (given : List ℕ) (left before after : Option (List ℕ)) (a : Answered tell start given r [] before after) → ((text : List ℕ) → coming lines start text ≡ entries text) → coming lines r [] ≡ [] → left ≡ Some [] → AnswersInput tell given left (Ok tt) before after

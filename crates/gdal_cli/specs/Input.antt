@@ -9,6 +9,7 @@ use Rattle.input_points.specs.Reading.{Reading, start, coming}
 use Rattle.gdal_cli.specs.declared.faults.Fault.{Fault}
 use Rattle.gdal_cli.specs.Faults.{IsOutside}
 use Rattle.gdal_cli.specs.Location.{lines_text, lines_fault}
+use Rattle.gdal_cli.specs.Run.{Ran}
 
 -- a reading goes on, within the limits on lines
 pub record IsReading (r : Reading) : Type 0 where
@@ -57,14 +58,15 @@ abbrev pub AnswersInput : (ℤ → ℤ → List ℕ) → List ℕ → Option (Li
 AnswersInput tell input left (Ok done) before after = (lines_fault (entries input) ≡ None) × Gets (lines_text tell (entries input)) before after × (left ≡ Some [])
 AnswersInput tell input left (Err fault) before after = EndsLines tell (entries input) fault before after
 
--- The input gave a first part of its bytes, and what is printed are the answers to the whole lines among them, and
--- nothing more. `printed` gives the answers to lines.
-pub record StopsBehind (printed : List Entry → List ℕ) (input : List ℕ) (left before after : Option (List ℕ)) : Type 0 where
+-- The input gave a first part of its bytes. The run over the whole lines among them, which `ran` gives, isn't refused,
+-- and all that it prints is printed, and nothing more.
+pub record StopsBehind (ran : List Entry → Ran) (input : List ℕ) (left before after : Option (List ℕ)) : Type 0 where
   pub given : List ℕ
   pub rest : List ℕ
   pub parts : input ≡ given ++ rest
   pub left_is : left ≡ Some rest
-  pub answered : Gets (printed (ended_entries given)) before after
+  pub not_refused : (ran (ended_entries given)).fault ≡ None
+  pub answered : Gets (ran (ended_entries given)).printed before after
 
 -- what holds of the bytes that an input gave, behind which these are left
 pub record Taken (Holds : List ℕ → Type 0) (input : List ℕ) (left : Option (List ℕ)) : Type 0 where

@@ -13,7 +13,8 @@ use Rattle.input_points.specs.declared.entry.LineKind.{LineKind}
 use Rattle.input_points.specs.declared.entry.LineKind.TheVariants.{Blank, Point, Bad, TooMany}
 use Rattle.catalog.specs.Dataset.{DatasetHead}
 use Rattle.catalog.specs.Drivers.{Dataset}
-use Rattle.catalog.specs.Walk.{dataset_named, walked}
+use Rattle.catalog.specs.Heads.{dataset_in}
+use Rattle.catalog.specs.Walk.{walked}
 use Rattle.catalog.specs.Pixels.{pixel_of_name}
 use Rattle.catalog.specs.declared.faults.LimitKind.TheVariants as limits
 use Rattle.location_report.specs.Covering.{covering_files}
@@ -128,16 +129,12 @@ answers_in m cat point bands form geoloc lines d = do
   asked ← asked_in form bands geoloc d.head
   Ok (answers (point_text m cat d asked) point lines)
 
--- the same of the dataset that a walk began with, which it has met
-abbrev pub answers_of : Files → List Dataset → Option (ℤ × ℤ) → List ℕ → Form → Bool → List Entry → Option Dataset → Result Printed Fault
-answers_of m cat point bands form geoloc lines None = Ok (whole [])
-answers_of m cat point bands form geoloc lines (Some d) = answers_in m cat point bands form geoloc lines d
-
--- the answers of the dataset of a name, or the first refusal
+-- the answers of the dataset of a name, or the first refusal; the walk has verified what is to be
 unfoldable pub location_in : Files → Bool → List ℕ → Option (ℤ × ℤ) → List ℕ → Form → Bool → List Entry → Result Printed Fault
 location_in m verify name point bands form geoloc lines = do
   cat ← by_walk (walked m verify [] name)
-  answers_of m cat point bands form geoloc lines (dataset_named cat name)
+  d ← by_walk (dataset_in m false name)
+  answers_in m cat point bands form geoloc lines d
 
 -- a call puts a whole text, or a first part of it behind which the outside failed
 abbrev pub PutsText : List ℕ → Result (Unit {0}) Fault → Option (List ℕ) → Option (List ℕ) → Type 0

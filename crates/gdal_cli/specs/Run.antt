@@ -1,5 +1,5 @@
 -- A run of the program, by what its words, files and input mean.
-use Rattle.std.specs.Prelude.{ℕ, ◌≡◌, ◌⊎◌, ◌≤◌, Bool, true, false, List, [], ◌∷◌, ◌++◌, take, Option, Some, None, Result, Ok, Err}
+use Rattle.std.specs.Prelude.{ℕ, ℤ, ◌≡◌, ◌⊎◌, ◌≤◌, Bool, true, false, List, [], ◌∷◌, ◌++◌, take, Option, Some, None, Result, Ok, Err}
 use Rattle.std.specs.FinMap.{insert}
 use Rattle.lists_and_answers.specs.Answers.{◌>>=◌}
 use Rattle.outside.specs.Outside.{Files}
@@ -22,7 +22,7 @@ use Rattle.gdal_cli.specs.declared.faults.Fault.{Fault}
 use Rattle.gdal_cli.specs.declared.faults.Fault.TheVariants.{Usage, NotRecognized, Memory}
 use Rattle.gdal_cli.specs.Faults.{by_words, by_walk, fault_of, IsOutside, status_of}
 use Rattle.gdal_cli.specs.Texts.{line_of}
-use Rattle.gdal_cli.specs.Location.{Printed, whole, location_in}
+use Rattle.gdal_cli.specs.Location.{Printed, whole, answers, location_in}
 use Rattle.gdal_cli.specs.Words.{words_of}
 
 -- what a run answers, prints, warns of and publishes
@@ -73,6 +73,10 @@ printed_in m lines words = do
 abbrev pub ran_of : Result Printed Fault → Ran
 ran_of (Ok printed) = record { fault = printed.fault; printed = printed.text; warned = []; published = [] }
 ran_of (Err fault) = record { fault = Some fault; printed = []; warned = []; published = [] }
+
+-- a run that answers these lines, where `tell` tells of a point
+abbrev pub ran_lines : (ℤ → ℤ → List ℕ) → List Entry → Ran
+ran_lines tell lines = ran_of (Ok (answers tell None lines))
 
 -- the run of these words over these files and these lines of an input
 abbrev pub run_over : List (List ℕ) → Files → List Entry → Ran

@@ -133,14 +133,12 @@ fn cut_cells(rt: HostRuntime) -> Result<(), Fail> {
         let (front, _) = cell.split_at(len.min(cell.len()));
         let line = "gdallocationinfo -valonly c.dt0 0 3";
         let said = run_over(&rt, alloc, &[("c.dt0", front)], line, &[], &[])?;
-        assert_eq!(rt; said.err.as_str(), err);
+        assert!(rt; said.err.as_str() == err);
     }
     let large = head(alloc, b"99999999")?;
     let said = run_over(&rt, alloc, &[("l.dt2", &large)], "gdalinfo l.dt2", &[], &[])?;
-    assert_eq!(rt;
-        said.err.as_str(),
-        "ERROR 4: l.dt2: needs 200083418 bytes, has 3428\n"
-    );
+    let told = "ERROR 4: l.dt2: needs 200083418 bytes, has 3428\n";
+    assert!(rt; said.is(1, "", told));
     Ok(())
 }
 
@@ -154,9 +152,7 @@ fn failing_calls_of_a_cell(rt: HostRuntime) -> Result<(), Fail> {
     for number in [1u64, 2, 3, 4, 5] {
         let calls = [Failing::Call(number)];
         let said = run_over(&rt, alloc, &[("c.dt0", &cell)], line, &calls, &[])?;
-        assert_eq!(rt; said.status, 2);
-        assert_eq!(rt; said.out.as_str(), "");
-        assert_eq!(rt; said.err.as_str(), "ERROR 3: a file call failed\n");
+        assert!(rt; said.is(2, "", "ERROR 3: a file call failed\n"));
     }
     let said = run_over(
         &rt,
@@ -166,7 +162,7 @@ fn failing_calls_of_a_cell(rt: HostRuntime) -> Result<(), Fail> {
         &[Failing::Call(6)],
         &[],
     )?;
-    assert_eq!(rt; said.out.as_str(), "-5\n");
+    assert!(rt; said.is(0, "-5\n", ""));
     Ok(())
 }
 
@@ -206,22 +202,22 @@ const NAMES: [(&str, &str); 8] = [
     ),
 ];
 
+const TILES: [FileOf<'static>; 7] = [
+    ("N90E180.hgt", b""),
+    ("S90W180.hgt", b""),
+    ("d/n00w000.HGT", b""),
+    ("s01e007_1.x.hgt", b""),
+    ("N91E000.hgt", b""),
+    ("N00E181.hgt", b""),
+    ("N0E0000.hgt", b""),
+];
+
 #[test]
 fn names_of_tiles(rt: HostRuntime) -> Result<(), Fail> {
     let alloc = rt.alloc();
-    let files: [FileOf<'static>; 7] = [
-        ("N90E180.hgt", b""),
-        ("S90W180.hgt", b""),
-        ("d/n00w000.HGT", b""),
-        ("s01e007_1.x.hgt", b""),
-        ("N91E000.hgt", b""),
-        ("N00E181.hgt", b""),
-        ("N0E0000.hgt", b""),
-    ];
     for (line, err) in NAMES {
-        let said = run_over(&rt, alloc, &files, line, &[], &[])?;
-        assert_eq!(rt; said.status, 1);
-        assert_eq!(rt; said.err.as_str(), err);
+        let said = run_over(&rt, alloc, &TILES, line, &[], &[])?;
+        assert!(rt; said.is(1, "", err));
     }
     Ok(())
 }
@@ -277,9 +273,7 @@ fn changed_files(rt: HostRuntime) -> Result<(), Fail> {
             "gdallocationinfo -valonly N00E000.hgt 1 1",
             &[],
         )?;
-        assert_eq!(rt; said.status, 2);
-        assert_eq!(rt; said.out.as_str(), "");
-        assert_eq!(rt; said.err.as_str(), err);
+        assert!(rt; said.is(2, "", err));
     }
     let mut folder = Fickle {
         first: Some(2_884_802),
@@ -294,6 +288,6 @@ fn changed_files(rt: HostRuntime) -> Result<(), Fail> {
         "gdallocationinfo -valonly N00E000.hgt 1201 1",
         &[],
     )?;
-    assert_eq!(rt; said.out.as_str(), "\n");
+    assert!(rt; said.is(0, "\n", ""));
     Ok(())
 }

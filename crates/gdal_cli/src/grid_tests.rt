@@ -108,9 +108,7 @@ fn failing_calls_of_a_grid(rt: HostRuntime) -> Result<(), Fail> {
     for number in [1u64, 2, 3, 4] {
         let calls = [Failing::Call(number)];
         let said = run_over(&rt, alloc, &[("g.asc", GRID)], line, &calls, &[])?;
-        assert_eq!(rt; said.status, 2);
-        assert_eq!(rt; said.out.as_str(), "");
-        assert_eq!(rt; said.err.as_str(), "ERROR 3: a file call failed\n");
+        assert!(rt; said.is(2, "", "ERROR 3: a file call failed\n"));
     }
     let said = run_over(
         &rt,
@@ -120,6 +118,6 @@ fn failing_calls_of_a_grid(rt: HostRuntime) -> Result<(), Fail> {
         &[Failing::Call(5)],
         &[],
     )?;
-    assert_eq!(rt; said.out.as_str(), "4\n");
+    assert!(rt; said.is(0, "4\n", ""));
     Ok(())
 }

@@ -10,8 +10,9 @@ ghost use Rattle.catalog.specs.Walk.{IsWalked};
 ghost use Rattle.nearest_window.specs.Right.{IsRight};
 ghost use Rattle.gdal_cli.specs.Faults.{IsLate, Differs, HasCauses};
 ghost use Rattle.gdal_cli.specs.Input.{IsReading, room_of, AnswersNext, AnswersPiece, AnswersPieces, AnswersInput, StopsBehind};
-ghost use Rattle.gdal_cli.specs.Location.{point_text, line_text, line_fault, lines_text, PutsText};
+ghost use Rattle.gdal_cli.specs.Location.{point_text, line_text, line_fault, PutsText};
 ghost use Rattle.gdal_cli.specs.Pixels.{AreBands};
+ghost use Rattle.gdal_cli.specs.Run.{ran_lines};
 
 use crate::Fault;
 use crate::asked::Asked;
@@ -185,7 +186,7 @@ fn answer_pieces<F: Folder, I: Input, O: Sink, L: Ledger>(
     requires start { reader.old ≡ start }
     requires some { 0 < length bytes.old }
     ensures told { (m : Files) → F.names folder.old ≡ Some m → (d : Dataset) → slice_get cat.now id ≡ Some d → (i : List ℕ) → I.left input.old ≡ Some i → AnswersPieces (point_text m cat.now d asked.now) i (I.left input.new) reader.new result (O.got out.old) (O.got out.new) }
-    ensures stopped { result ≡ Err Fault.InputFault → (m : Files) → F.names folder.old ≡ Some m → (d : Dataset) → slice_get cat.now id ≡ Some d → (i : List ℕ) → I.left input.old ≡ Some i → StopsBehind (lines_text (point_text m cat.now d asked.now)) i (I.left input.new) (O.got out.old) (O.got out.new) }
+    ensures stopped { result ≡ Err Fault.InputFault → (m : Files) → F.names folder.old ≡ Some m → (d : Dataset) → slice_get cat.now id ≡ Some d → (i : List ℕ) → I.left input.old ≡ Some i → StopsBehind (ran_lines (point_text m cat.now d asked.now)) i (I.left input.new) (O.got out.old) (O.got out.new) }
     ensures read { OnOk result ((i : List ℕ) → I.left input.old ≡ Some i → I.left input.new ≡ Some []) }
     ensures never { (m : Files) → F.names folder.old ≡ Some m → (name : List ℕ) (was : ℕ) (now : Option ℕ) → result ≡ Err (Fault.Changed name was now) → ⊥ }
     ensures cause { HasCauses (F.faults folder.old) (F.faults folder.new) (O.faults out.old) (O.faults out.new) result }
@@ -235,7 +236,7 @@ pub fn answer_input<F: Folder, I: Input, O: Sink, L: Ledger>(
     requires bands { AreBands cat.now id (λ count. All (λ band. (1 ≤ band) × (band ≤ count)) asked.now.bands) }
     requires room { length room.old.values.items ≡ length asked.now.bands }
     ensures told { (m : Files) → F.names folder.old ≡ Some m → (d : Dataset) → slice_get cat.now id ≡ Some d → (i : List ℕ) → I.left input.old ≡ Some i → AnswersInput (point_text m cat.now d asked.now) i (I.left input.new) result (O.got out.old) (O.got out.new) }
-    ensures stopped { result ≡ Err Fault.InputFault → (m : Files) → F.names folder.old ≡ Some m → (d : Dataset) → slice_get cat.now id ≡ Some d → (i : List ℕ) → I.left input.old ≡ Some i → StopsBehind (lines_text (point_text m cat.now d asked.now)) i (I.left input.new) (O.got out.old) (O.got out.new) }
+    ensures stopped { result ≡ Err Fault.InputFault → (m : Files) → F.names folder.old ≡ Some m → (d : Dataset) → slice_get cat.now id ≡ Some d → (i : List ℕ) → I.left input.old ≡ Some i → StopsBehind (ran_lines (point_text m cat.now d asked.now)) i (I.left input.new) (O.got out.old) (O.got out.new) }
     // over every folder, success is at the end of the input; over one that tells its names, no length is said to have changed
     ensures read { OnOk result ((i : List ℕ) → I.left input.old ≡ Some i → I.left input.new ≡ Some []) }
     ensures never { (m : Files) → F.names folder.old ≡ Some m → (name : List ℕ) (was : ℕ) (now : Option ℕ) → result ≡ Err (Fault.Changed name was now) → ⊥ }

@@ -69,7 +69,7 @@ fn put_answers<F: Folder, I: Input, O: Sink, L: Ledger>(
     requires bands { AreBands cat.now id (λ count. All (λ band. (1 ≤ band) × (band ≤ count)) asked.now.bands) }
     ensures told { (m : Files) → F.names folder.old ≡ Some m → (d : Dataset) → slice_get cat.now id ≡ Some d → (i : List ℕ) → I.left input.old ≡ Some i → Ends (ran_of (Ok (answers (point_text m cat.now d asked.now) point (entries i)))) result (O.got out.old) (O.got out.new) }
     ensures never { (m : Files) → F.names folder.old ≡ Some m → (name : List ℕ) (was : ℕ) (now : Option ℕ) → result ≡ Err (Fault.Changed name was now) → ⊥ }
-    ensures stopped { result ≡ Err Fault.InputFault → (m : Files) → F.names folder.old ≡ Some m → (d : Dataset) → slice_get cat.now id ≡ Some d → (i : List ℕ) → I.left input.old ≡ Some i → StopsBehind (λ lines. (answers (point_text m cat.now d asked.now) point lines).text) i (I.left input.new) (O.got out.old) (O.got out.new) }
+    ensures stopped { result ≡ Err Fault.InputFault → (m : Files) → F.names folder.old ≡ Some m → (d : Dataset) → slice_get cat.now id ≡ Some d → (i : List ℕ) → I.left input.old ≡ Some i → StopsBehind (λ lines. ran_of (Ok (answers (point_text m cat.now d asked.now) point lines))) i (I.left input.new) (O.got out.old) (O.got out.new) }
     ensures read { OnOk result (is_some point ≡ false → (i : List ℕ) → I.left input.old ≡ Some i → I.left input.new ≡ Some []) }
     ensures untouched { is_some point ≡ true → input.new ≡ input.old }
     ensures cause { HasCauses (F.faults folder.old) (F.faults folder.new) (O.faults out.old) (O.faults out.new) result }
@@ -108,7 +108,7 @@ fn put_location<F: Folder, I: Input, O: Sink>(
     blocks: BlockCount,
 ) -> Result<(), Fault>
     ensures told { (m : Files) → F.names folder.old ≡ Some m → (i : List ℕ) → I.left input.old ≡ Some i → Ends (ran_of (location_in m verify name.now point bands.now form geoloc (entries i))) result (O.got out.old) (O.got out.new) }
-    ensures stopped { result ≡ Err Fault.InputFault → (m : Files) → F.names folder.old ≡ Some m → (i : List ℕ) → I.left input.old ≡ Some i → StopsBehind (λ lines. (ran_of (location_in m verify name.now point bands.now form geoloc lines)).printed) i (I.left input.new) (O.got out.old) (O.got out.new) }
+    ensures stopped { result ≡ Err Fault.InputFault → (m : Files) → F.names folder.old ≡ Some m → (i : List ℕ) → I.left input.old ≡ Some i → StopsBehind (λ lines. ran_of (location_in m verify name.now point bands.now form geoloc lines)) i (I.left input.new) (O.got out.old) (O.got out.new) }
     ensures read { OnOk result (is_some point ≡ false → (i : List ℕ) → I.left input.old ≡ Some i → I.left input.new ≡ Some []) }
     ensures untouched { is_some point ≡ true → input.new ≡ input.old }
     ensures names { F.names folder.new ≡ F.names folder.old }
@@ -144,7 +144,7 @@ pub fn put_job<F: Folder, I: Input, O: Sink>(
     command: Command,
 ) -> Result<(), Fault>
     ensures told { (m : Files) → F.names folder.old ≡ Some m → (i : List ℕ) → I.left input.old ≡ Some i → Ends (ran_of (printed_by command.job m command.verify (entries i))) result (O.got out.old) (O.got out.new) }
-    ensures stopped { result ≡ Err Fault.InputFault → (m : Files) → F.names folder.old ≡ Some m → (i : List ℕ) → I.left input.old ≡ Some i → StopsBehind (λ lines. (ran_of (printed_by command.job m command.verify lines)).printed) i (I.left input.new) (O.got out.old) (O.got out.new) }
+    ensures stopped { result ≡ Err Fault.InputFault → (m : Files) → F.names folder.old ≡ Some m → (i : List ℕ) → I.left input.old ≡ Some i → StopsBehind (λ lines. ran_of (printed_by command.job m command.verify lines)) i (I.left input.new) (O.got out.old) (O.got out.new) }
     ensures read { OnOk result (reads_input command.job ≡ true → (i : List ℕ) → I.left input.old ≡ Some i → I.left input.new ≡ Some []) }
     ensures untouched { reads_input command.job ≡ false → input.new ≡ input.old }
     ensures names { F.names folder.new ≡ F.names folder.old }

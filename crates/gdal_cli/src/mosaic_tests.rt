@@ -143,7 +143,7 @@ fn long_names(rt: HostRuntime) -> Result<(), Fail> {
         )?;
         let files: [FileOf<'_>; 1] = [("d/m.vrt", &document)];
         let said = run_over(&rt, alloc, &files, "gdalinfo d/m.vrt", &[], &[])?;
-        assert_eq!(rt; said.err.as_str(), err);
+        assert!(rt; said.err.as_str() == err);
     }
     Ok(())
 }
@@ -156,12 +156,9 @@ fn failing_calls_of_a_mosaic(rt: HostRuntime) -> Result<(), Fail> {
     for number in [1u64, 2] {
         let calls = [Failing::Call(number)];
         let said = run_over(&rt, alloc, &FILES, line, &calls, &[])?;
-        assert_eq!(rt; said.status, 2);
-        assert_eq!(rt; said.out.as_str(), "");
-        assert_eq!(rt; said.err.as_str(), "ERROR 3: a file call failed\n");
+        assert!(rt; said.is(2, "", "ERROR 3: a file call failed\n"));
     }
     let said = run_over(&rt, alloc, &FILES, line, &[Failing::Call(3)], &[])?;
-    assert_eq!(rt; said.status, 0);
-    assert_eq!(rt; said.out.as_str(), WIDE_REPORT);
+    assert!(rt; said.is(0, WIDE_REPORT, ""));
     Ok(())
 }

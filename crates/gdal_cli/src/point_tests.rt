@@ -1,6 +1,6 @@
 // Runs over the points of an input, and over mosaics of mosaics.
 use crate::trials::{FileOf, Row, Said, folder_of, run_in, run_pieces, try_rows};
-use outside::{Failing, Method, Name};
+use outside::{Failing, MemFolder, Method, Name};
 use std::alloc::Global;
 use std::test::*;
 use std::thread::Threads;
@@ -195,8 +195,7 @@ fn inputs(rt: HostRuntime) -> Result<(), Fail> {
     for (line, input, out) in INPUTS {
         for most in [1, 5, 65_536] {
             let said = fed(&rt, rt.alloc(), line, input.as_bytes(), most)?;
-            assert_eq!(rt; said.status, 0);
-            assert_eq!(rt; said.out.as_str(), out);
+            assert!(rt; said.is(0, out, ""));
         }
     }
     Ok(())
@@ -209,14 +208,13 @@ fn bad_points(rt: HostRuntime) -> Result<(), Fail> {
     let input = b"0 0\n9 9\n2 1\nx\n0 0\n";
     for most in [1, 7, 65_536] {
         let said = fed(&rt, alloc, "gdallocationinfo -valonly two.bil", input, most)?;
-        assert_eq!(rt; said.status, 1);
-        assert_eq!(rt; said.out.as_str(), "1\n4\n\n9\n12\n");
-        assert_eq!(rt; said.err.as_str(), "ERROR 5: input line 4 is no point\n");
+        let told = "ERROR 5: input line 4 is no point\n";
+        assert!(rt; said.is(1, "1\n4\n\n9\n12\n", told));
     }
     let report =
         "Report:\n  Location: (9P,9L)\n  Location is off this file! No further details to report.\n";
     let said = fed(&rt, alloc, "gdallocationinfo two.bil", b"9 9\n", 2)?;
-    assert_eq!(rt; said.out.as_str(), report);
+    assert!(rt; said.is(0, report, ""));
     Ok(())
 }
 
@@ -235,61 +233,149 @@ fn failing_inputs(rt: HostRuntime) -> Result<(), Fail> {
         let takes = [Failing::Of(Method::Take, number)];
         let calls: (&[Failing], &[Failing], &[Failing]) = (&[], &takes, &[]);
         let said = run_pieces(&rt, alloc, &FILES, line, (input, most), calls)?;
-        assert_eq!(rt; said.status, 2);
-        assert_eq!(rt; said.out.as_str(), out);
-        assert_eq!(rt; said.err.as_str(), "ERROR 3: reading the input failed\n");
+        assert!(rt; said.is(2, out, READING));
     }
     Ok(())
 }
 
-// Each call of the folder, of the input and of the output fails in turn; what was printed is a first part of the text.
+// Three points of a mosaic. A run opens the document and each raster with its header, and reads the document and the
+// headers; for the first point it opens and reads each raster, and for the others nothing. The input gives three pieces
+// and its end, and each answer is put.
+const MOSAIC: &str = "gdallocationinfo -valonly --blocks 1 m.vrt";
+
+const THREE: &[u8] = b"0 0\n1 0\n2 0\n";
+
+const OPENS: u64 = 7;
+
+const READS: u64 = 5;
+
+// Calls of the folder, of the input and of the output that fail, and the status, what is printed and what is told.
+type FailingRow<'a> = (
+    &'a [Failing],
+    &'a [Failing],
+    &'a [Failing],
+    u8,
+    &'a str,
+    &'a str,
+);
+
+// Whether runs over the points whose calls fail so end so.
+fn try_failed<R: Threads + Sync>(
+    rt: &R,
+    alloc: Global,
+    rows: &[FailingRow<'_>],
+) -> Result<bool, Fail> {
+    for (calls, takes, puts, status, out, err) in rows {
+        let said = run_pieces(rt, alloc, &FILES, MOSAIC, (THREE, 4), (calls, takes, puts))?;
+        if !said.is(*status, out, err) {
+            return Ok(false);
+        }
+    }
+    Ok(true)
+}
+
+const FOLDER: &str = "ERROR 3: a file call failed\n";
+
+const READING: &str = "ERROR 3: reading the input failed\n";
+
+const WRITING: &str = "ERROR 3: writing the output failed\n";
+
+// The folder's last calls, and those that would come behind them.
+const BEHIND: [FailingRow<'static>; 5] = [
+    (&[Failing::Of(Method::Open, OPENS)], &[], &[], 2, "", FOLDER),
+    (
+        &[Failing::Of(Method::ReadAt, READS)],
+        &[],
+        &[],
+        2,
+        "",
+        FOLDER,
+    ),
+    (
+        &[Failing::Of(Method::Open, OPENS + 1)],
+        &[],
+        &[],
+        0,
+        "5\n-1\n9\n",
+        "",
+    ),
+    (
+        &[Failing::Of(Method::ReadAt, READS + 1)],
+        &[],
+        &[],
+        0,
+        "5\n-1\n9\n",
+        "",
+    ),
+    (
+        &[Failing::Call(OPENS + READS + 1)],
+        &[],
+        &[],
+        0,
+        "5\n-1\n9\n",
+        "",
+    ),
+];
+
+// Where a call fails, the answers before it stand; behind the last call nothing fails.
+const STREAMS: [FailingRow<'static>; 9] = [
+    (&[], &[Failing::Call(1)], &[], 2, "", READING),
+    (&[], &[Failing::Call(2)], &[], 2, "5\n", READING),
+    (&[], &[Failing::Call(3)], &[], 2, "5\n-1\n", READING),
+    (&[], &[Failing::Call(4)], &[], 2, "5\n-1\n9\n", READING),
+    (&[], &[Failing::Call(5)], &[], 0, "5\n-1\n9\n", ""),
+    (&[], &[], &[Failing::Call(1)], 2, "", WRITING),
+    (&[], &[], &[Failing::Call(2)], 2, "5\n", WRITING),
+    (&[], &[], &[Failing::Call(3)], 2, "5\n-1\n", WRITING),
+    (&[], &[], &[Failing::Call(4)], 0, "5\n-1\n9\n", ""),
+];
+
+// Each call of the folder, of the input and of the output fails in turn.
 #[test]
 fn failing_calls_of_points(rt: HostRuntime) -> Result<(), Fail> {
     let alloc = rt.alloc();
-    let line = "gdallocationinfo -valonly --blocks 1 m.vrt";
-    let whole = "5\n-1\n9\n";
-    for number in 1..=40u64 {
-        let failing = [Failing::Call(number)];
-        let plans: [(&[Failing], &[Failing], &[Failing]); 3] = [
-            (&failing, &[], &[]),
-            (&[], &failing, &[]),
-            (&[], &[], &failing),
-        ];
-        for calls in plans {
-            let said = run_pieces(&rt, alloc, &FILES, line, (b"0 0\n1 0\n2 0\n", 4), calls)?;
-            assert!(rt; whole.starts_with(said.out.as_str()));
-            assert!(rt; said.status == 2 || (said.status == 0 && said.out.as_str() == whole));
-        }
+    for number in 1..=OPENS + READS {
+        let calls = [Failing::Call(number)];
+        let row: FailingRow<'_> = (&calls, &[], &[], 2, "", FOLDER);
+        assert!(rt; try_failed(&rt, alloc, &[row])?);
     }
+    assert!(rt; try_failed(&rt, alloc, &BEHIND)?);
+    assert!(rt; try_failed(&rt, alloc, &STREAMS)?);
+    Ok(())
+}
+
+// A mosaic of one pixel, which is that of its one source.
+fn put_mosaic(alloc: Global, folder: &mut MemFolder, name: &str, source: &str) -> Result<(), Fail> {
+    let mut document = String::from_str(
+        alloc,
+        "<VRTDataset rasterXSize='1' rasterYSize='1'><VRTRasterBand><SimpleSource><SourceFilename>",
+    )?;
+    document.push_str(source)?;
+    document.push_str("</SourceFilename></SimpleSource></VRTRasterBand></VRTDataset>")?;
+    folder.put(&Name::read(alloc, name)?, document.as_bytes())?;
     Ok(())
 }
 
 // Seventeen mosaics, each of which names the next one, and the last one a file.
+const NESTED: [&str; 18] = [
+    "m1.vrt", "m2.vrt", "m3.vrt", "m4.vrt", "m5.vrt", "m6.vrt", "m7.vrt", "m8.vrt", "m9.vrt",
+    "m10.vrt", "m11.vrt", "m12.vrt", "m13.vrt", "m14.vrt", "m15.vrt", "m16.vrt", "m17.vrt",
+    "a.bil",
+];
+
 #[test]
 fn nested_mosaics(rt: HostRuntime) -> Result<(), Fail> {
     let alloc = rt.alloc();
     let files: [FileOf<'_>; 2] = [("a.bil", &[7]), ("a.hdr", b"NROWS 1\nNCOLS 1\n")];
     let mut folder = folder_of(alloc, &files, &[])?;
-    for number in 1..=17u32 {
-        let next = if number == 17 {
-            String::from_str(alloc, "a.bil")?
-        } else {
-            format!(in alloc; "m{}.vrt", number + 1)?
-        };
-        let document = format!(in alloc;
-            "<VRTDataset rasterXSize='1' rasterYSize='1'><VRTRasterBand><SimpleSource><SourceFilename>{}</SourceFilename></SimpleSource></VRTRasterBand></VRTDataset>",
-            next
-        )?;
-        let name = format!(in alloc; "m{}.vrt", number)?;
-        folder.put(&Name::read(alloc, name.as_str())?, document.as_bytes())?;
+    for at in 0..17usize {
+        put_mosaic(alloc, &mut folder, NESTED[at], NESTED[at + 1])?;
     }
     let line = "gdallocationinfo -valonly m1.vrt 0 0";
     let said = run_in(&rt, alloc, &mut folder, line, &[])?;
-    assert_eq!(rt; said.status, 1);
-    assert_eq!(rt; said.err.as_str(), "ERROR 1: m17.vrt: nested too deep\n");
+    assert!(rt; said.is(1, "", "ERROR 1: m17.vrt: nested too deep\n"));
     let line = "gdallocationinfo -valonly m2.vrt 0 0";
     let said = run_in(&rt, alloc, &mut folder, line, &[])?;
-    assert_eq!(rt; said.status, 0);
-    assert_eq!(rt; said.out.as_str(), "7\n");
+    assert!(rt; said.is(0, "7\n", ""));
     Ok(())
 }

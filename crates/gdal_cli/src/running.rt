@@ -28,7 +28,7 @@ fn perform<F: Folder, I: Input, O: Sink>(
     out: &mut O,
 ) -> Result<(), Fault>
     ensures told { (m : Files) → F.names folder.old ≡ Some m → (i : List ℕ) → I.left input.old ≡ Some i → Ends (ran_of (printed_in m (entries i) (map string_bytes words.now))) result (O.got out.old) (O.got out.new) }
-    ensures stopped { result ≡ Err Fault.InputFault → (m : Files) → F.names folder.old ≡ Some m → (i : List ℕ) → I.left input.old ≡ Some i → StopsBehind (λ lines. (run_over (map string_bytes words.now) m lines).printed) i (I.left input.new) (O.got out.old) (O.got out.new) }
+    ensures stopped { result ≡ Err Fault.InputFault → (m : Files) → F.names folder.old ≡ Some m → (i : List ℕ) → I.left input.old ≡ Some i → StopsBehind (run_over (map string_bytes words.now) m) i (I.left input.new) (O.got out.old) (O.got out.new) }
     ensures read { OnOk result (words_read_input (words_of (map string_bytes words.now)) ≡ true → (i : List ℕ) → I.left input.old ≡ Some i → I.left input.new ≡ Some []) }
     ensures untouched { words_read_input (words_of (map string_bytes words.now)) ≡ false → input.new ≡ input.old }
     ensures input_cause { HasCause Fault.InputFault (I.faults input.old) (I.faults input.new) result }
@@ -120,9 +120,9 @@ pub fn run<R: Threads + Sync, F: Folder, I: Input, O: Sink, E: Sink>(
     ensures input { words_read_input (words_of (map string_bytes words.now)) ≡ false → input.new ≡ input.old }
     ensures input_read { words_read_input (words_of (map string_bytes words.now)) ≡ true → result.status ≡ 0 → (i : List ℕ) → I.left input.old ≡ Some i → I.left input.new ≡ Some [] }
 
-    // Where the input failed, exactly the whole lines among the bytes that it gave are answered.
+    // Where the input failed, exactly the whole lines among the bytes that it gave are answered, none of which is refused.
     ensures input_stopped { result.fault ≡ Some Fault.InputFault → (m : Files) → F.names folder.old ≡ Some m → (i : List ℕ) → I.left input.old ≡ Some i
-        → StopsBehind (λ lines. (run_over (map string_bytes words.now) m lines).printed) i (I.left input.new) (O.got out.old) (O.got out.new) }
+        → StopsBehind (run_over (map string_bytes words.now) m) i (I.left input.new) (O.got out.old) (O.got out.new) }
 
     // Each fault has its status, and each of the outside its cause.
     ensures status { result.status ≡ status_of result.fault }

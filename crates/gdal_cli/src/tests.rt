@@ -1,4 +1,4 @@
-use crate::trials::{FileOf, folder_of, run_in, run_over, try_rows};
+use crate::trials::{FileOf, Row, folder_of, run_in, run_over, try_rows};
 use outside::{Failing, Method, Name};
 use std::test::*;
 
@@ -29,160 +29,158 @@ const FILES: [FileOf<'static>; 14] = [
     ),
 ];
 
+const VALUES: [Row<'static>; 9] = [
+    ("gdallocationinfo -valonly a.bil 2 1", 0, "9\n12\n", ""),
+    ("gdallocationinfo -valonly b.BIP 2 1", 0, "11\n12\n", ""),
+    (
+        "gdallocationinfo -valonly d/../d/c.bsq 2 1",
+        0,
+        "6\n12\n",
+        "",
+    ),
+    (
+        "gdallocationinfo a.bil -b 2 2.9 -valonly 1.5",
+        0,
+        "12\n",
+        "",
+    ),
+    (
+        "gdallocationinfo -valonly -b 2 -b 1 a.bil 0 0",
+        0,
+        "4\n1\n",
+        "",
+    ),
+    ("gdallocationinfo -valonly a.bil 3 1", 0, "\n", ""),
+    ("gdallocationinfo -valonly a.bil 2 -0.5", 0, "\n", ""),
+    (
+        "gdallocationinfo --config A B -valonly w.bil 0 0",
+        0,
+        "-2\n",
+        "",
+    ),
+    (
+        "gdalinfo n.bil",
+        0,
+        "Driver: EHdr\nFiles: n.bil\n       n.hdr\nSize is 2, 1\nBand 1 Block=2x1 Type=Byte\n  NoData Value=9\n",
+        "",
+    ),
+];
+
 #[test]
 fn values(rt: HostRuntime) -> Result<(), Fail> {
-    let rows = [
-        ("gdallocationinfo -valonly a.bil 2 1", 0, "9\n12\n", ""),
-        ("gdallocationinfo -valonly b.BIP 2 1", 0, "11\n12\n", ""),
-        (
-            "gdallocationinfo -valonly d/../d/c.bsq 2 1",
-            0,
-            "6\n12\n",
-            "",
-        ),
-        (
-            "gdallocationinfo a.bil -b 2 2.9 -valonly 1.5",
-            0,
-            "12\n",
-            "",
-        ),
-        (
-            "gdallocationinfo -valonly -b 2 -b 1 a.bil 0 0",
-            0,
-            "4\n1\n",
-            "",
-        ),
-        ("gdallocationinfo -valonly a.bil 3 1", 0, "\n", ""),
-        ("gdallocationinfo -valonly a.bil 2 -0.5", 0, "\n", ""),
-        (
-            "gdallocationinfo --config A B -valonly w.bil 0 0",
-            0,
-            "-2\n",
-            "",
-        ),
-        (
-            "gdalinfo n.bil",
-            0,
-            "Driver: EHdr\nFiles: n.bil\n       n.hdr\nSize is 2, 1\nBand 1 Block=2x1 Type=Byte\n  NoData Value=9\n",
-            "",
-        ),
-    ];
-    assert!(rt; try_rows(&rt, rt.alloc(), &FILES, &rows)?);
+    assert!(rt; try_rows(&rt, rt.alloc(), &FILES, &VALUES)?);
     Ok(())
 }
+
+const REFUSALS: [Row<'static>; 16] = [
+    ("", 1, "", "ERROR 1: word 0 doesn't fit\n"),
+    ("gdalinfo", 1, "", "ERROR 1: word 1 doesn't fit\n"),
+    (
+        "gdalinfo a.bil b.bil",
+        1,
+        "",
+        "ERROR 1: word 2 doesn't fit\n",
+    ),
+    (
+        "gdalinfo --config A",
+        1,
+        "",
+        "ERROR 1: word 3 doesn't fit\n",
+    ),
+    (
+        "gdallocationinfo -valonly a.bil 1 0 7",
+        1,
+        "",
+        "ERROR 1: word 5 doesn't fit\n",
+    ),
+    (
+        "gdallocationinfo a.bil 1",
+        1,
+        "",
+        "ERROR 1: word 3 doesn't fit\n",
+    ),
+    (
+        "gdallocationinfo -lifonly a.bil -b x 1 0",
+        1,
+        "",
+        "ERROR 1: word 4 doesn't fit\n",
+    ),
+    (
+        "gdallocationinfo -lifonly -valonly -lifonly a.bil 1 0",
+        1,
+        "",
+        "ERROR 1: word 3 doesn't fit\n",
+    ),
+    (
+        "gdallocationinfo --blocks 65537 a.bil 1 0",
+        1,
+        "",
+        "ERROR 1: word 2 doesn't fit\n",
+    ),
+    (
+        "gdalinfo --blocks 0 a.bil",
+        1,
+        "",
+        "ERROR 1: word 2 doesn't fit\n",
+    ),
+    (
+        "gdallocationinfo --workers 2 a.bil 1 0",
+        1,
+        "",
+        "ERROR 1: word 1 doesn't fit\n",
+    ),
+    (
+        "gdalinfo none.bil",
+        1,
+        "",
+        "ERROR 4: none.bil: no such file\n",
+    ),
+    (
+        "gdalinfo a.tif",
+        1,
+        "",
+        "ERROR 4: a.tif: not recognized as a supported format\n",
+    ),
+    (
+        "gdallocationinfo -valonly s.bsq 1 0",
+        1,
+        "",
+        "ERROR 4: s.bsq: needs 4 bytes, has 3\n",
+    ),
+    (
+        "gdalinfo m.bil",
+        1,
+        "",
+        "ERROR 4: m.hdr: malformed hdr (3)\n",
+    ),
+    (
+        "gdallocationinfo -valonly a.bil -b 3 2 1",
+        1,
+        "",
+        "ERROR 5: no band 3\n",
+    ),
+];
 
 #[test]
 fn refusals(rt: HostRuntime) -> Result<(), Fail> {
-    let rows = [
-        ("", 1, "", "ERROR 1: word 0 doesn't fit\n"),
-        ("gdalinfo", 1, "", "ERROR 1: word 1 doesn't fit\n"),
-        (
-            "gdalinfo a.bil b.bil",
-            1,
-            "",
-            "ERROR 1: word 2 doesn't fit\n",
-        ),
-        (
-            "gdalinfo --config A",
-            1,
-            "",
-            "ERROR 1: word 3 doesn't fit\n",
-        ),
-        (
-            "gdallocationinfo -valonly a.bil 1 0 7",
-            1,
-            "",
-            "ERROR 1: word 5 doesn't fit\n",
-        ),
-        (
-            "gdallocationinfo a.bil 1",
-            1,
-            "",
-            "ERROR 1: word 3 doesn't fit\n",
-        ),
-        (
-            "gdallocationinfo -lifonly a.bil -b x 1 0",
-            1,
-            "",
-            "ERROR 1: word 4 doesn't fit\n",
-        ),
-        (
-            "gdallocationinfo -lifonly -valonly -lifonly a.bil 1 0",
-            1,
-            "",
-            "ERROR 1: word 3 doesn't fit\n",
-        ),
-        (
-            "gdallocationinfo --blocks 65537 a.bil 1 0",
-            1,
-            "",
-            "ERROR 1: word 2 doesn't fit\n",
-        ),
-        (
-            "gdalinfo --blocks 0 a.bil",
-            1,
-            "",
-            "ERROR 1: word 2 doesn't fit\n",
-        ),
-        (
-            "gdallocationinfo --workers 2 a.bil 1 0",
-            1,
-            "",
-            "ERROR 1: word 1 doesn't fit\n",
-        ),
-        (
-            "gdalinfo none.bil",
-            1,
-            "",
-            "ERROR 4: none.bil: no such file\n",
-        ),
-        (
-            "gdalinfo a.tif",
-            1,
-            "",
-            "ERROR 4: a.tif: not recognized as a supported format\n",
-        ),
-        (
-            "gdallocationinfo -valonly s.bsq 1 0",
-            1,
-            "",
-            "ERROR 4: s.bsq: needs 4 bytes, has 3\n",
-        ),
-        (
-            "gdalinfo m.bil",
-            1,
-            "",
-            "ERROR 4: m.hdr: malformed hdr (3)\n",
-        ),
-        (
-            "gdallocationinfo -valonly a.bil -b 3 2 1",
-            1,
-            "",
-            "ERROR 5: no band 3\n",
-        ),
-    ];
-    assert!(rt; try_rows(&rt, rt.alloc(), &FILES, &rows)?);
+    assert!(rt; try_rows(&rt, rt.alloc(), &FILES, &REFUSALS)?);
     Ok(())
 }
 
-// Each call of the folder and of the output fails in turn; what was printed is a first part of the text.
+// Each call of the folder and of the output fails in turn; nothing was printed then.
 #[test]
 fn failing_calls(rt: HostRuntime) -> Result<(), Fail> {
     let alloc = rt.alloc();
     let line = "gdallocationinfo -valonly a.bil 2 1";
     for number in 1..=6u64 {
         let said = run_over(&rt, alloc, &FILES, line, &[Failing::Call(number)], &[])?;
-        assert_eq!(rt; said.status, 2);
-        assert_eq!(rt; said.out.as_str(), "");
-        assert_eq!(rt; said.err.as_str(), "ERROR 3: a file call failed\n");
+        assert!(rt; said.is(2, "", "ERROR 3: a file call failed\n"));
     }
     let said = run_over(&rt, alloc, &FILES, line, &[Failing::Call(7)], &[])?;
-    assert_eq!(rt; said.status, 0);
+    assert!(rt; said.is(0, "9\n12\n", ""));
     let puts = [Failing::Of(Method::Put, 1)];
     let said = run_over(&rt, alloc, &FILES, line, &[], &puts)?;
-    assert_eq!(rt; said.status, 2);
-    assert!(rt; "9\n12\n".starts_with(said.out.as_str()));
-    assert_eq!(rt; said.err.as_str(), "ERROR 3: writing the output failed\n");
+    assert!(rt; said.is(2, "", "ERROR 3: writing the output failed\n"));
     Ok(())
 }
 
@@ -195,7 +193,6 @@ fn the_widest_raster(rt: HostRuntime) -> Result<(), Fail> {
     folder.put(&Name::read(alloc, "w.bil")?, &bytes)?;
     let line = "gdallocationinfo -valonly w.bil 4194303 0";
     let said = run_in(&rt, alloc, &mut folder, line, &[])?;
-    assert_eq!(rt; said.status, 0);
-    assert_eq!(rt; said.out.as_str(), "7\n");
+    assert!(rt; said.is(0, "7\n", ""));
     Ok(())
 }

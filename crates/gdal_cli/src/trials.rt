@@ -16,6 +16,13 @@ pub struct Said {
     pub err: String,
 }
 
+impl Said {
+    // Whether a run ended with this status, and printed and told these texts.
+    pub fn is(&self, status: u8, out: &str, err: &str) -> bool {
+        self.status == status && self.out.as_str() == out && self.err.as_str() == err
+    }
+}
+
 // A name and its bytes.
 pub type FileOf<'a> = (&'a str, &'a [u8]);
 
@@ -128,7 +135,7 @@ pub fn try_rows<R: Threads + Sync>(
 ) -> Result<bool, Fail> {
     for (line, status, out, err) in rows {
         let said = run_over(rt, alloc, files, line, &[], &[])?;
-        if said.status != *status || said.out.as_str() != *out || said.err.as_str() != *err {
+        if !said.is(*status, out, err) {
             return Ok(false);
         }
     }

@@ -6,7 +6,6 @@ ghost use Rattle.outside.specs.Streams.{joined};
 use std::alloc::AllocError;
 
 /// Appends these parts.
-#[tactic(auto, using(crate::proofs::Appended::one_more, crate::proofs::Appended::keeps_pushed))]
 pub fn push_all(parts: &[&[u8]], out: &mut Vec<u8>) -> Result<(), AllocError>
     ensures ok { OnOk result (out.new.items ≡ out.old.items ++ joined parts.now) }
     ensures err { OnErr result (KeepsFront out.old.items out.new.items) }

@@ -19,7 +19,7 @@ fn push_value(value: Sample, out: &mut Vec<u8>) -> Result<(), AllocError>
 }
 
 /// Appends the values, one on a line.
-#[tactic(auto, using(crate::proofs::Appended::one_more, crate::proofs::Appended::keeps_then), unfolding(crate::specs::Location::values_text))]
+#[tactic(auto, unfolding(crate::specs::Location::values_text))]
 pub fn push_values(values: &[Sample], out: &mut Vec<u8>) -> Result<(), AllocError>
     ensures ok { OnOk result (out.new.items ≡ out.old.items ++ values_text values.now) }
     ensures err { OnErr result (KeepsFront out.old.items out.new.items) }
@@ -43,7 +43,6 @@ fn push_band(band: u32, value: Sample, out: &mut Vec<u8>) -> Result<(), AllocErr
 }
 
 /// Appends the lines of the bands, each with its value.
-#[tactic(auto, using(crate::proofs::Appended::one_band_more, crate::proofs::Appended::keeps_itself, crate::proofs::Appended::keeps_more, crate::proofs::Appended::keeps_both))]
 pub fn push_bands(bands: &[u32], values: &[Sample], out: &mut Vec<u8>) -> Result<(), AllocError>
     requires { length values.now ≡ length bands.now }
     ensures ok { OnOk result (out.new.items ≡ out.old.items ++ bands_text bands.now values.now) }

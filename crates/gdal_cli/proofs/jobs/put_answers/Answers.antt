@@ -33,6 +33,6 @@ returns-clause-told g c = λ m is d at i left.
 
 pub returns-clause-stopped : goal.returns-clause-stopped
 returns-clause-stopped g c = λ so m is d at i left.
-    subst (λ (p : Option (ℤ × ℤ)). StopsBehind (λ lines. (answers (point_text m c.args.cat.now d c.args.asked.now) p lines).text) i (g.I.Input.left c.answer_input.new.input) (g.O.Sink.got c.args.out.now) (g.O.Sink.got c.answer_input.new.out))
+    subst (λ (p : Option (ℤ × ℤ)). StopsBehind (λ lines. ran_of (Ok (answers (point_text m c.args.cat.now d c.args.asked.now) p lines))) i (g.I.Input.left c.answer_input.new.input) (g.O.Sink.got c.args.out.now) (g.O.Sink.got c.answer_input.new.out))
     (sym c.in-None.is)
     (c.answer_input.ensures.stopped so m is d at i left)

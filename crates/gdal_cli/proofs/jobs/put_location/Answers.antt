@@ -8,13 +8,13 @@ use Rattle.catalog.proofs.Found.{found}
 use Rattle.gdal_cli.specs.declared.faults.Fault.{Fault}
 use Rattle.gdal_cli.specs.declared.faults.Fault.TheVariants.{Changed}
 use Rattle.gdal_cli.specs.Faults.{fault_of, IsOutside, OwnsFault}
-use Rattle.gdal_cli.specs.Location.{Printed, location_in, asked_in, answers, point_text}
+use Rattle.gdal_cli.specs.Location.{location_in, asked_in, answers, point_text}
 use Rattle.gdal_cli.specs.Run.{ran_of, Ends, ended}
 use Rattle.gdal_cli.proofs.Changed.{no_change}
 use Rattle.gdal_cli.proofs.Ended.{err_is, asked_refused, location_told, location_put, stops_same}
 use Rattle.gdal_cli.proofs.Lacking.{asked_unchanged, one_fault}
 use Rattle.gdal_cli.proofs.Owned.{own_refused}
-use Rattle.gdal_cli.proofs.Reached.{told_of, few_bands}
+use Rattle.gdal_cli.proofs.Reached.{told_of, few_bands, walked_read}
 use Rattle.gdal_cli.proofs.jobs.put_location.Goals as goal
 
 pub head-requires : goal.head-requires
@@ -37,7 +37,7 @@ returns-in_err-asked-clause-told g c = λ m is i left.
     let choice = subst (λ (h : DatasetHead). IsOutside f ⊎ (asked_in c.args.form c.args.bands.now c.args.geoloc h ≡ Err f)) head c.in_err-asked.ensures.gives in
     subst (λ (r : Result (Unit {0}) Fault). Ends (ran_of (location_in m c.args.verify c.args.name.now c.args.point c.args.bands.now c.args.form c.args.geoloc (entries i))) r (g.O.Sink.got c.args.out.now) (g.O.Sink.got c.args.out.now))
     (sym (err_is c.from_residual-in_err-asked.result f c.from_residual-in_err-asked.ensures))
-    (asked_refused m c.args.verify c.args.name.now c.args.point c.args.bands.now c.args.form c.args.geoloc (entries i) c.open_all.new.cat c.in_ok-id.id d.dataset walk c.in_ok-id.ensures.number d.at f (g.O.Sink.got c.args.out.now) choice)
+    (asked_refused m c.args.verify c.args.name.now c.args.point c.args.bands.now c.args.form c.args.geoloc (entries i) c.open_all.new.cat d.dataset walk (walked_read m c.new-cat.result c.open_all.new.cat c.args.name.now c.in_ok-id.id d.dataset c.new-cat.ensures.empty (c.in_ok-id.ensures.walked m is) d.at d.named) f (g.O.Sink.got c.args.out.now) choice)
 
 pub returns-clause-told : goal.returns-clause-told
 returns-clause-told g c = λ m is i left.
@@ -45,7 +45,7 @@ returns-clause-told g c = λ m is i left.
     let d = found c.open_all.new.cat c.args.name.now c.in_ok-id.id c.in_ok-id.ensures.number in
     let head : c.head.result.now ≡ d.dataset.head = sym (told_of (λ (d : Dataset). d.head) c.open_all.new.cat c.in_ok-id.id d.dataset c.head.result.now d.at c.head.ensures.head) in
     let choice = subst (λ (h : DatasetHead). asked_in c.args.form c.args.bands.now c.args.geoloc h ≡ Ok c.in_ok-asked.asked) head c.in_ok-asked.ensures.gives in
-    location_put m c.args.verify c.args.name.now c.args.point c.args.bands.now c.args.form c.args.geoloc (entries i) c.open_all.new.cat c.in_ok-id.id d.dataset walk c.in_ok-id.ensures.number d.at c.in_ok-asked.asked c.put_answers.result (g.O.Sink.got c.args.out.now) (g.O.Sink.got c.put_answers.new.out) choice
+    location_put m c.args.verify c.args.name.now c.args.point c.args.bands.now c.args.form c.args.geoloc (entries i) c.open_all.new.cat d.dataset walk (walked_read m c.new-cat.result c.open_all.new.cat c.args.name.now c.in_ok-id.id d.dataset c.new-cat.ensures.empty (c.in_ok-id.ensures.walked m is) d.at d.named) c.in_ok-asked.asked c.put_answers.result (g.O.Sink.got c.args.out.now) (g.O.Sink.got c.put_answers.new.out) choice
     (c.put_answers.ensures.told m (c.in_ok-id.ensures.names ∙ is) d.dataset d.at i left)
 
 pub asked_in-requires : goal.asked_in-requires
@@ -67,7 +67,7 @@ returns-clause-stopped g c = λ so m is i left.
     let d = found c.open_all.new.cat c.args.name.now c.in_ok-id.id c.in_ok-id.ensures.number in
     let head : c.head.result.now ≡ d.dataset.head = sym (told_of (λ (d : Dataset). d.head) c.open_all.new.cat c.in_ok-id.id d.dataset c.head.result.now d.at c.head.ensures.head) in
     let choice = subst (λ (h : DatasetHead). asked_in c.args.form c.args.bands.now c.args.geoloc h ≡ Ok c.in_ok-asked.asked) head c.in_ok-asked.ensures.gives in
-    stops_same (λ lines. (answers (point_text m c.open_all.new.cat d.dataset c.in_ok-asked.asked) c.args.point lines).text)
-    (λ lines. (ran_of (location_in m c.args.verify c.args.name.now c.args.point c.args.bands.now c.args.form c.args.geoloc lines)).printed)
+    stops_same (λ lines. ran_of (Ok (answers (point_text m c.open_all.new.cat d.dataset c.in_ok-asked.asked) c.args.point lines)))
+    (λ lines. ran_of (location_in m c.args.verify c.args.name.now c.args.point c.args.bands.now c.args.form c.args.geoloc lines))
     i _ _ _ (c.put_answers.ensures.stopped so m (c.in_ok-id.ensures.names ∙ is) d.dataset d.at i left)
-    (λ lines. ap (λ (e : Result Printed Fault). (ran_of e).printed) (sym (location_told m c.args.verify c.args.name.now c.args.point c.args.bands.now c.args.form c.args.geoloc lines c.open_all.new.cat c.in_ok-id.id d.dataset walk c.in_ok-id.ensures.number d.at c.in_ok-asked.asked choice)))
+    (λ lines. ap ran_of (sym (location_told m c.args.verify c.args.name.now c.args.point c.args.bands.now c.args.form c.args.geoloc lines c.open_all.new.cat d.dataset walk (walked_read m c.new-cat.result c.open_all.new.cat c.args.name.now c.in_ok-id.id d.dataset c.new-cat.ensures.empty (c.in_ok-id.ensures.walked m is) d.at d.named) c.in_ok-asked.asked choice)))

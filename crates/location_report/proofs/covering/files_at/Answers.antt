@@ -1,4 +1,4 @@
-use Rattle.std.proofs.Common.{◌≡◌, ◌∙◌, ap, sym, arith, length, fold, take, slice_get, List, ℕ, Option, Some}
+use Rattle.std.proofs.Common.{◌∙◌, ap, sym, arith, length, fold, slice_get, List, ℕ, Some}
 use Rattle.std.proofs.lemmas.List.{take_all}
 use Rattle.std.proofs.lemmas.Option.{slice_get-get_or}
 use Rattle.vrt_profile.specs.Values.{SourceValue, BandValue, DocumentValue}
