@@ -2,29 +2,15 @@
 #![tactic(auto)]
 
 mod asked;
-#[cfg(test)]
-mod cell_tests;
 mod command;
 mod faults;
-#[cfg(test)]
-mod fickle;
-#[cfg(test)]
-mod grid_tests;
 mod input;
 mod jobs;
-#[cfg(test)]
-mod mosaic_tests;
 mod places;
-#[cfg(test)]
-mod point_tests;
 mod points;
 mod running;
 mod spoken;
-#[cfg(test)]
-mod tests;
 mod texts;
-#[cfg(test)]
-mod trials;
 mod values;
 mod words;
 

@@ -1,5 +1,5 @@
 // Runs over files in memory.
-use crate::{Outcome, run};
+use gdal_cli::{Outcome, run};
 use lists_and_answers::Items;
 use outside::{
     CalmInput, Failing, Folder, Input, Listed, MemFolder, MemInput, MemSink, Name, Never,

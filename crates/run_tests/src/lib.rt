@@ -1,0 +1,18 @@
+// Tests of whole runs: words and files in memory, with what must be printed and told. A check of tests proves the
+// crate that they stand in once more, so those of large crates have one of their own.
+#![tactic(auto)]
+
+#[cfg(test)]
+mod cells;
+#[cfg(test)]
+mod fickle;
+#[cfg(test)]
+mod grids;
+#[cfg(test)]
+mod mosaics;
+#[cfg(test)]
+mod points;
+#[cfg(test)]
+mod raw;
+#[cfg(test)]
+mod trials;
