@@ -68,47 +68,49 @@ fn has_bytes(rt: &HostRuntime, file: &str, bytes: &[u8]) -> bool {
 }
 
 // Whether a folder and a view of it have `bc` in the file `a`.
-fn has_a<F: Folder>(rt: &HostRuntime, folder: &mut F, at: &str) -> Result<bool, NameFault> {
-    let a = name(rt, at, "a")?;
-    let has = has_two(folder, &a, *b"bc");
-    Ok(has && view_has_two(folder, &a, *b"bc")?)
+fn has_a<F: Folder>(rt: &HostRuntime, folder: &mut F, at: &str) -> bool {
+    match name(rt, at, "a") {
+        Ok(a) => {
+            has_two(folder, &a, *b"bc") && matches!(view_has_two(folder, &a, *b"bc"), Ok(true))
+        }
+        Err(_) => false,
+    }
 }
 
 // Whether a file in a folder is absent.
-fn is_absent<F: Folder>(
-    rt: &HostRuntime,
-    folder: &mut F,
-    (at, last): (&str, &str),
-) -> Result<bool, NameFault> {
-    let absent = name(rt, at, last)?;
-    Ok(open_fault(folder, &absent) == Some(OpenFault::Absent))
+fn is_absent<F: Folder>(rt: &HostRuntime, folder: &mut F, at: &str, last: &str) -> bool {
+    match name(rt, at, last) {
+        Ok(absent) => open_fault(folder, &absent) == Some(OpenFault::Absent),
+        Err(_) => false,
+    }
 }
 
 // Whether a path leads to what is neither opened nor written.
-fn is_refused<F: Folder>(alloc: Global, folder: &mut F, other: &str) -> Result<bool, NameFault> {
-    let other = Name::read(alloc, other)?;
-    let opened = open_fault(folder, &other);
-    let written = write_file(folder, &other);
-    Ok(opened == Some(OpenFault::Failed) && written == Err(Method::Create))
+fn is_refused<F: Folder>(alloc: Global, folder: &mut F, other: &str) -> bool {
+    match Name::read(alloc, other) {
+        Ok(other) => {
+            open_fault(folder, &other) == Some(OpenFault::Failed)
+                && write_file(folder, &other) == Err(Method::Create)
+        }
+        Err(_) => false,
+    }
 }
 
 // Whether regular files alone are opened.
-fn opens_files<F: Folder>(rt: &HostRuntime, folder: &mut F, at: &str) -> Result<bool, NameFault> {
-    let regular = has_a(rt, folder, at)?;
-    let absent = is_absent(rt, folder, (at, "none"))? && is_absent(rt, folder, (at, "a/b"))?;
-    let alloc = rt.alloc();
-    let refused = is_refused(alloc, folder, at)? && is_refused(alloc, folder, "/dev/null")?;
-    Ok(regular && absent && refused)
+fn opens_files<F: Folder>(rt: &HostRuntime, folder: &mut F, at: &str) -> bool {
+    has_a(rt, folder, at)
+        && is_absent(rt, folder, at, "none")
+        && is_absent(rt, folder, at, "a/b")
+        && is_refused(rt.alloc(), folder, at)
+        && is_refused(rt.alloc(), folder, "/dev/null")
 }
 
 #[test]
-fn regular_files_alone_are_opened(rt: HostRuntime) -> Result<(), Fail> {
+fn regular_files_alone_are_opened(rt: HostRuntime) -> io::Result<()> {
     let at = fixture(&rt, "opens")?;
     let mut folder = DiskFolder::new(rt.clone()?, process::id(rt.process()), rt.alloc());
-    let opens = opens_files(&rt, &mut folder, at.as_str());
-    assert!(rt; opens == Ok(true));
-    fs::remove_dir_all(&rt, at.as_str())?;
-    Ok(())
+    assert!(rt; opens_files(&rt, &mut folder, at.as_str()));
+    fs::remove_dir_all(&rt, at.as_str())
 }
 
 // Whether a draft is one of three files while it stands, and leaves nothing.
@@ -128,18 +130,18 @@ fn writes_third<F: Folder>(rt: &HostRuntime, folder: &mut F, at: &str, b: &Name)
     is_written(folder, b) && has_files(rt, at, 3)
 }
 
-// Whether drafts beside a file that a process left are published twice or leave nothing.
-fn publishes<F: Folder>(
-    rt: &HostRuntime,
-    folder: &mut F,
-    (at, left): (&str, &str),
-) -> Result<bool, NameFault> {
-    let b = name(rt, at, "b")?;
-    let discarded = leaves_nothing(rt, folder, at, &b);
-    let first = writes_third(rt, folder, at, &b);
-    let second = writes_third(rt, folder, at, &b);
-    let bytes = has_bytes(rt, b.as_str(), b"\0xy\0z") && has_bytes(rt, left, b"left");
-    Ok(discarded && first && second && bytes)
+// Whether drafts leave nothing or are published, twice, beside a file that a process left.
+fn publishes<F: Folder>(rt: &HostRuntime, folder: &mut F, at: &str, left: &str) -> bool {
+    match name(rt, at, "b") {
+        Ok(b) => {
+            leaves_nothing(rt, folder, at, &b)
+                && writes_third(rt, folder, at, &b)
+                && writes_third(rt, folder, at, &b)
+                && has_bytes(rt, b.as_str(), b"\0xy\0z")
+                && has_bytes(rt, left, b"left")
+        }
+        Err(_) => false,
+    }
 }
 
 // The path of the first draft of a process.
@@ -148,16 +150,14 @@ fn draft_path(rt: &HostRuntime, at: &str, process: u32) -> Result<String, AllocE
 }
 
 #[test]
-fn drafts_are_published_or_leave_nothing(rt: HostRuntime) -> Result<(), Fail> {
+fn drafts_are_published_or_leave_nothing(rt: HostRuntime) -> io::Result<()> {
     let at = fixture(&rt, "drafts")?;
     let process = process::id(rt.process());
     let left = draft_path(&rt, at.as_str(), process)?;
     fs::write(&rt, left.as_str(), b"left".as_slice())?;
     let mut folder = DiskFolder::new(rt.clone()?, process, rt.alloc());
-    let published = publishes(&rt, &mut folder, (at.as_str(), left.as_str()));
-    assert!(rt; published == Ok(true));
-    fs::remove_dir_all(&rt, at.as_str())?;
-    Ok(())
+    assert!(rt; publishes(&rt, &mut folder, at.as_str(), left.as_str()));
+    fs::remove_dir_all(&rt, at.as_str())
 }
 
 // Whether a draft isn't published where a folder has come to stand.
@@ -172,22 +172,30 @@ fn refuses_publish<F: Folder>(rt: &HostRuntime, folder: &mut F, b: &Name) -> boo
     }
 }
 
+// Whether nothing is written in a folder that is none.
+fn refuses_below<F: Folder>(rt: &HostRuntime, folder: &mut F, at: &str) -> bool {
+    match name(rt, at, "none/b") {
+        Ok(below) => write_file(folder, &below) == Err(Method::Create),
+        Err(_) => false,
+    }
+}
+
 // Whether refused drafts leave nothing.
-fn refuses<F: Folder>(rt: &HostRuntime, folder: &mut F, at: &str) -> Result<bool, NameFault> {
-    let b = name(rt, at, "b")?;
-    let below = name(rt, at, "none/b")?;
-    let refused = refuses_publish(rt, folder, &b) && has_files(rt, at, 2);
-    Ok(refused && write_file(folder, &below) == Err(Method::Create))
+fn refuses<F: Folder>(rt: &HostRuntime, folder: &mut F, at: &str) -> bool {
+    match name(rt, at, "b") {
+        Ok(b) => {
+            refuses_publish(rt, folder, &b) && has_files(rt, at, 2) && refuses_below(rt, folder, at)
+        }
+        Err(_) => false,
+    }
 }
 
 #[test]
-fn a_refused_publish_leaves_nothing(rt: HostRuntime) -> Result<(), Fail> {
+fn a_refused_publish_leaves_nothing(rt: HostRuntime) -> io::Result<()> {
     let at = fixture(&rt, "refused")?;
     let mut folder = DiskFolder::new(rt.clone()?, process::id(rt.process()), rt.alloc());
-    let refused = refuses(&rt, &mut folder, at.as_str());
-    assert!(rt; refused == Ok(true));
-    fs::remove_dir_all(&rt, at.as_str())?;
-    Ok(())
+    assert!(rt; refuses(&rt, &mut folder, at.as_str()));
+    fs::remove_dir_all(&rt, at.as_str())
 }
 
 // A file of ten bytes 0 to 9, of which the first call is interrupted, and each later one moves one byte.

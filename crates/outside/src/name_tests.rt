@@ -6,7 +6,7 @@ use std::test::*;
 const LONGEST: usize = 4096;
 
 // A text, and the name that it gives.
-const NORMAL: [(&str, &str); 20] = [
+static NORMAL: [(&str, &str); 20] = [
     ("a", "a"),
     ("a/b", "a/b"),
     ("/a/b", "/a/b"),
@@ -30,7 +30,7 @@ const NORMAL: [(&str, &str); 20] = [
 ];
 
 // A name, and its kind.
-const KINDS: [(&str, Option<Ext>); 19] = [
+static KINDS: [(&str, Option<Ext>); 19] = [
     ("a.bil", Some(Ext::Bil)),
     ("a.bip", Some(Ext::Bip)),
     ("a.BSQ", Some(Ext::Bsq)),
@@ -53,7 +53,7 @@ const KINDS: [(&str, Option<Ext>); 19] = [
 ];
 
 // Raw data, and the header beside it.
-const HEADERS: [(&str, &str); 6] = [
+static HEADERS: [(&str, &str); 6] = [
     ("a.bsq", "a.hdr"),
     ("a.Bsq", "a.hdr"),
     ("A.BIP", "A.HDR"),
@@ -70,7 +70,7 @@ fn is_read(alloc: Global, text: &str, name: &str) -> Result<bool, NameFault> {
 
 #[test]
 fn reads_names(rt: HostRuntime) -> Result<(), NameFault> {
-    for (text, name) in NORMAL {
+    for (text, name) in &NORMAL {
         assert!(rt; is_read(rt.alloc(), text, name)?, "from {text}");
     }
     Ok(())
@@ -107,8 +107,8 @@ fn is_kind(alloc: Global, text: &str, kind: Option<Ext>) -> Result<bool, NameFau
 
 #[test]
 fn tells_kinds(rt: HostRuntime) -> Result<(), NameFault> {
-    for (text, kind) in KINDS {
-        assert!(rt; is_kind(rt.alloc(), text, kind)?, "of {text}");
+    for (text, kind) in &KINDS {
+        assert!(rt; is_kind(rt.alloc(), text, *kind)?, "of {text}");
     }
     Ok(())
 }
@@ -126,7 +126,7 @@ fn has_header(alloc: Global, text: &str, header: &str) -> Result<bool, NameFault
 
 #[test]
 fn names_headers(rt: HostRuntime) -> Result<(), NameFault> {
-    for (text, header) in HEADERS {
+    for (text, header) in &HEADERS {
         assert!(rt; has_header(rt.alloc(), text, header)?, "beside {text}");
     }
     Ok(())
