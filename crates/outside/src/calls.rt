@@ -1,7 +1,8 @@
 // Runs of a folder's calls, for tests.
 ghost use Rattle.std.specs.Prelude.{◌≡◌};
 
-use crate::{Folder, Method, Name};
+use crate::{Folder, Method, Name, OpenFault};
+use std::alloc::AllocError;
 
 // Fills an empty draft with `0 x y 0 z`, by one call of each method. The first call that fails is the answer.
 fn fill<F: Folder>(folder: &mut F, draft: &mut F::Draft) -> Result<[u8; 5], Method>
@@ -59,4 +60,31 @@ pub(crate) fn read_two<F: Folder>(folder: &mut F, name: &Name) -> Result<Option<
             }
         }
     }
+}
+
+/// Whether the second and the third byte of a file are read, and are these.
+pub(crate) fn has_two<F: Folder>(folder: &mut F, name: &Name, two: [u8; 2]) -> bool {
+    read_two(folder, name) == Ok(Some(two))
+}
+
+/// Whether `0 x y 0 z` is put under a name, and was read from the draft.
+pub(crate) fn is_written<F: Folder>(folder: &mut F, name: &Name) -> bool {
+    write_file(folder, name) == Ok(*b"\0xy\0z")
+}
+
+/// Why a file isn't opened, or None where it is.
+pub(crate) fn open_fault<F: Folder>(folder: &mut F, name: &Name) -> Option<OpenFault> {
+    folder.open(name).err()
+}
+
+/// Whether a view of a folder has these two bytes in a file; it ends before the answer.
+pub(crate) fn view_has_two<F: Folder>(
+    folder: &mut F,
+    name: &Name,
+    two: [u8; 2],
+) -> Result<bool, AllocError> {
+    let mut view = folder.fork()?;
+    let has = has_two(&mut view, name, two);
+    folder.absorb(view);
+    Ok(has)
 }

@@ -1,35 +1,51 @@
-use crate::calls::{read_two, write_file};
+use crate::calls::{has_two, is_written, open_fault, view_has_two, write_file};
 use crate::system::{fill_at, put_at};
-use crate::{DiskFolder, Folder, Method, Name, OpenFault, WriteFault};
+use crate::{DiskFolder, Folder, Method, Name, NameFault, OpenFault, WriteFault};
+use std::alloc::{AllocError, Global};
 use std::cell::Cell;
 use std::io::{self, ErrorKind};
 use std::os::unix::fs::FileExt;
 use std::test::*;
 use std::{fs, process};
 
-// A new folder with the file `a`.
-fn fixture(rt: &HostRuntime, test: &str) -> Result<String, Fail> {
+// The path of a file in a folder.
+fn path(rt: &HostRuntime, folder: &str, last: &str) -> Result<String, AllocError> {
+    let mut path = String::from_str(rt.alloc(), folder)?;
+    path.push_str("/")?;
+    path.push_str(last)?;
+    Ok(path)
+}
+
+// The path of a test's folder.
+fn folder_path(rt: &HostRuntime, test: &str) -> Result<String, AllocError> {
     let process = process::id(rt.process());
-    let folder = format!(in rt.alloc(); "/tmp/outside_{test}_{process}")?;
-    if fs::exists(rt, folder.as_str())? {
-        fs::remove_dir_all(rt, folder.as_str())?;
+    format!(in rt.alloc(); "/tmp/outside_{test}_{process}")
+}
+
+// Makes a new folder, with the file `a`.
+fn make_folder(rt: &HostRuntime, folder: &str) -> io::Result<()> {
+    if fs::exists(rt, folder)? {
+        fs::remove_dir_all(rt, folder)?;
     }
-    fs::create_dir(rt, folder.as_str())?;
-    fs::write(
-        rt,
-        format!(in rt.alloc(); "{folder}/a")?.as_str(),
-        b"abc".as_slice(),
-    )?;
+    fs::create_dir(rt, folder)?;
+    let a = path(rt, folder, "a")?;
+    fs::write(rt, a.as_str(), b"abc".as_slice())
+}
+
+// A new folder with the file `a`.
+fn fixture(rt: &HostRuntime, test: &str) -> io::Result<String> {
+    let folder = folder_path(rt, test)?;
+    make_folder(rt, folder.as_str())?;
     Ok(folder)
 }
 
-fn name(rt: &HostRuntime, folder: &str, last: &str) -> Result<Name, Fail> {
-    let text = format!(in rt.alloc(); "{folder}/{last}")?;
-    Ok(Name::read(rt.alloc(), text.as_str())?)
+fn name(rt: &HostRuntime, folder: &str, last: &str) -> Result<Name, NameFault> {
+    let text = path(rt, folder, last)?;
+    Name::read(rt.alloc(), text.as_str())
 }
 
 // How many files stand in a folder.
-fn count(rt: &HostRuntime, folder: &str) -> Result<u64, Fail> {
+fn count(rt: &HostRuntime, folder: &str) -> io::Result<u64> {
     let mut count = 0u64;
     for entry in fs::read_dir(rt, folder)? {
         let _ = entry?;
@@ -38,77 +54,148 @@ fn count(rt: &HostRuntime, folder: &str) -> Result<u64, Fail> {
     Ok(count)
 }
 
+// Whether so many files stand in a folder.
+fn has_files(rt: &HostRuntime, folder: &str, files: u64) -> bool {
+    matches!(count(rt, folder), Ok(found) if found == files)
+}
+
+// Whether a file of the system has these bytes.
+fn has_bytes(rt: &HostRuntime, file: &str, bytes: &[u8]) -> bool {
+    match fs::read(rt, file) {
+        Ok(found) => found.as_slice() == bytes,
+        Err(_) => false,
+    }
+}
+
+// Whether a folder and a view of it have `bc` in the file `a`.
+fn has_a<F: Folder>(rt: &HostRuntime, folder: &mut F, at: &str) -> bool {
+    match name(rt, at, "a") {
+        Ok(a) => {
+            has_two(folder, &a, *b"bc") && matches!(view_has_two(folder, &a, *b"bc"), Ok(true))
+        }
+        Err(_) => false,
+    }
+}
+
+// Whether a file in a folder is absent.
+fn is_absent<F: Folder>(rt: &HostRuntime, folder: &mut F, at: &str, last: &str) -> bool {
+    match name(rt, at, last) {
+        Ok(absent) => open_fault(folder, &absent) == Some(OpenFault::Absent),
+        Err(_) => false,
+    }
+}
+
+// Whether a path leads to what is neither opened nor written.
+fn is_refused<F: Folder>(alloc: Global, folder: &mut F, other: &str) -> bool {
+    match Name::read(alloc, other) {
+        Ok(other) => {
+            open_fault(folder, &other) == Some(OpenFault::Failed)
+                && write_file(folder, &other) == Err(Method::Create)
+        }
+        Err(_) => false,
+    }
+}
+
+// Whether regular files alone are opened.
+fn opens_files<F: Folder>(rt: &HostRuntime, folder: &mut F, at: &str) -> bool {
+    has_a(rt, folder, at)
+        && is_absent(rt, folder, at, "none")
+        && is_absent(rt, folder, at, "a/b")
+        && is_refused(rt.alloc(), folder, at)
+        && is_refused(rt.alloc(), folder, "/dev/null")
+}
+
 #[test]
-fn regular_files_alone_are_opened(rt: HostRuntime) -> Result<(), Fail> {
+fn regular_files_alone_are_opened(rt: HostRuntime) -> io::Result<()> {
     let at = fixture(&rt, "opens")?;
     let mut folder = DiskFolder::new(rt.clone()?, process::id(rt.process()), rt.alloc());
-    let a = name(&rt, at.as_str(), "a")?;
-    assert_eq!(rt; read_two(&mut folder, &a), Ok(Some(*b"bc")));
-    let mut view = folder.fork()?;
-    assert_eq!(rt; read_two(&mut view, &a), Ok(Some(*b"bc")));
-    folder.absorb(view);
-    let none = name(&rt, at.as_str(), "none")?;
-    assert_eq!(rt; folder.open(&none).err(), Some(OpenFault::Absent));
-    let below = name(&rt, at.as_str(), "a/b")?;
-    assert_eq!(rt; folder.open(&below).err(), Some(OpenFault::Absent));
-    for other in [at.as_str(), "/dev/null"] {
-        let other = Name::read(rt.alloc(), other)?;
-        assert_eq!(rt; folder.open(&other).err(), Some(OpenFault::Failed));
-        assert_eq!(rt; write_file(&mut folder, &other), Err(Method::Create));
+    assert!(rt; opens_files(&rt, &mut folder, at.as_str()));
+    fs::remove_dir_all(&rt, at.as_str())
+}
+
+// Whether a draft is one of three files while it stands, and leaves nothing.
+fn leaves_nothing<F: Folder>(rt: &HostRuntime, folder: &mut F, at: &str, b: &Name) -> bool {
+    match folder.create(b) {
+        Ok(draft) => {
+            let stands = has_files(rt, at, 3);
+            folder.discard(draft);
+            stands && has_files(rt, at, 2)
+        }
+        Err(_) => false,
     }
-    fs::remove_dir_all(&rt, at.as_str())?;
-    Ok(())
+}
+
+// Whether a file is written, one of three.
+fn writes_third<F: Folder>(rt: &HostRuntime, folder: &mut F, at: &str, b: &Name) -> bool {
+    is_written(folder, b) && has_files(rt, at, 3)
+}
+
+// Whether drafts leave nothing or are published, twice, beside a file that a process left.
+fn publishes<F: Folder>(rt: &HostRuntime, folder: &mut F, at: &str, left: &str) -> bool {
+    match name(rt, at, "b") {
+        Ok(b) => {
+            leaves_nothing(rt, folder, at, &b)
+                && writes_third(rt, folder, at, &b)
+                && writes_third(rt, folder, at, &b)
+                && has_bytes(rt, b.as_str(), b"\0xy\0z")
+                && has_bytes(rt, left, b"left")
+        }
+        Err(_) => false,
+    }
+}
+
+// The path of the first draft of a process.
+fn draft_path(rt: &HostRuntime, at: &str, process: u32) -> Result<String, AllocError> {
+    format!(in rt.alloc(); "{at}/.jirovamby.{process}.1.tmp")
 }
 
 #[test]
-fn drafts_are_published_or_leave_nothing(rt: HostRuntime) -> Result<(), Fail> {
+fn drafts_are_published_or_leave_nothing(rt: HostRuntime) -> io::Result<()> {
     let at = fixture(&rt, "drafts")?;
     let process = process::id(rt.process());
-    let left = format!(in rt.alloc(); "{at}/.jirovamby.{process}.1.tmp")?;
+    let left = draft_path(&rt, at.as_str(), process)?;
     fs::write(&rt, left.as_str(), b"left".as_slice())?;
     let mut folder = DiskFolder::new(rt.clone()?, process, rt.alloc());
-    let b = name(&rt, at.as_str(), "b")?;
-    match folder.create(&b) {
+    assert!(rt; publishes(&rt, &mut folder, at.as_str(), left.as_str()));
+    fs::remove_dir_all(&rt, at.as_str())
+}
+
+// Whether a draft isn't published where a folder has come to stand.
+fn refuses_publish<F: Folder>(rt: &HostRuntime, folder: &mut F, b: &Name) -> bool {
+    match folder.create(b) {
         Ok(draft) => {
-            assert_eq!(rt; count(&rt, at.as_str())?, 3);
-            folder.discard(draft);
+            let made = fs::create_dir(rt, b.as_str()).is_ok();
+            let refused = folder.publish(draft) == Err(WriteFault::Failed);
+            made && refused
         }
-        Err(_) => assert!(rt; false),
+        Err(_) => false,
     }
-    assert_eq!(rt; count(&rt, at.as_str())?, 2);
-    for _ in 0..2 {
-        assert_eq!(rt; write_file(&mut folder, &b), Ok(*b"\0xy\0z"));
-        assert_eq!(rt; count(&rt, at.as_str())?, 3);
+}
+
+// Whether nothing is written in a folder that is none.
+fn refuses_below<F: Folder>(rt: &HostRuntime, folder: &mut F, at: &str) -> bool {
+    match name(rt, at, "none/b") {
+        Ok(below) => write_file(folder, &below) == Err(Method::Create),
+        Err(_) => false,
     }
-    assert_eq!(rt;
-        fs::read(&rt, b.as_str())?.as_slice(),
-        b"\0xy\0z".as_slice()
-    );
-    assert_eq!(rt;
-        fs::read(&rt, left.as_str())?.as_slice(),
-        b"left".as_slice()
-    );
-    fs::remove_dir_all(&rt, at.as_str())?;
-    Ok(())
+}
+
+// Whether refused drafts leave nothing.
+fn refuses<F: Folder>(rt: &HostRuntime, folder: &mut F, at: &str) -> bool {
+    match name(rt, at, "b") {
+        Ok(b) => {
+            refuses_publish(rt, folder, &b) && has_files(rt, at, 2) && refuses_below(rt, folder, at)
+        }
+        Err(_) => false,
+    }
 }
 
 #[test]
-fn a_refused_publish_leaves_nothing(rt: HostRuntime) -> Result<(), Fail> {
+fn a_refused_publish_leaves_nothing(rt: HostRuntime) -> io::Result<()> {
     let at = fixture(&rt, "refused")?;
     let mut folder = DiskFolder::new(rt.clone()?, process::id(rt.process()), rt.alloc());
-    let b = name(&rt, at.as_str(), "b")?;
-    match folder.create(&b) {
-        Ok(draft) => {
-            fs::create_dir(&rt, b.as_str())?;
-            assert_eq!(rt; folder.publish(draft), Err(WriteFault::Failed));
-        }
-        Err(_) => assert!(rt; false),
-    }
-    assert_eq!(rt; count(&rt, at.as_str())?, 2);
-    let below = name(&rt, at.as_str(), "none/b")?;
-    assert_eq!(rt; write_file(&mut folder, &below), Err(Method::Create));
-    fs::remove_dir_all(&rt, at.as_str())?;
-    Ok(())
+    assert!(rt; refuses(&rt, &mut folder, at.as_str()));
+    fs::remove_dir_all(&rt, at.as_str())
 }
 
 // A file of ten bytes 0 to 9, of which the first call is interrupted, and each later one moves one byte.
@@ -156,17 +243,26 @@ impl FileExt for Slow {
     }
 }
 
+// A place, whether three bytes from it lie in the file, and what they are, behind those of the row before.
+const PLACES: [(u64, bool, [u8; 3]); 3] = [
+    (2, true, [2, 3, 4]),
+    (7, true, [7, 8, 9]),
+    (8, false, [8, 9, 9]),
+];
+
+// Whether each place is read and written so.
+fn goes_on() -> bool {
+    let mut out = [0; 3];
+    for (pos, done, bytes) in PLACES {
+        let read = fill_at(&Slow::new(), pos, &mut out) == done && out == bytes;
+        if !read || put_at(&Slow::new(), pos, &out) != done {
+            return false;
+        }
+    }
+    true
+}
+
 #[test]
 fn short_reads_and_writes_go_on(rt: HostRuntime) {
-    let mut out = [0; 3];
-    for (pos, done, bytes) in [
-        (2, true, [2, 3, 4]),
-        (7, true, [7, 8, 9]),
-        (8, false, [8, 9, 9]),
-    ] {
-        assert_eq!(rt; fill_at(&Slow::new(), pos, &mut out), done);
-        assert_eq!(rt; out, bytes);
-        assert_eq!(rt; put_at(&Slow::new(), pos, &out), done);
-    }
-    assert!(rt; fill_at(&Slow::new(), 20, &mut []));
+    assert!(rt; goes_on() && fill_at(&Slow::new(), 20, &mut []));
 }

@@ -1,11 +1,12 @@
 use crate::{Ext, Name, NameFault, Text};
+use std::alloc::{AllocError, Global};
 use std::test::*;
 
 // The longest text that gives a name, and one byte.
 const LONGEST: usize = 4096;
 
 // A text, and the name that it gives.
-const NORMAL: [(&str, &str); 20] = [
+static NORMAL: [(&str, &str); 20] = [
     ("a", "a"),
     ("a/b", "a/b"),
     ("/a/b", "/a/b"),
@@ -29,7 +30,7 @@ const NORMAL: [(&str, &str); 20] = [
 ];
 
 // A name, and its kind.
-const KINDS: [(&str, Option<Ext>); 19] = [
+static KINDS: [(&str, Option<Ext>); 19] = [
     ("a.bil", Some(Ext::Bil)),
     ("a.bip", Some(Ext::Bip)),
     ("a.BSQ", Some(Ext::Bsq)),
@@ -52,7 +53,7 @@ const KINDS: [(&str, Option<Ext>); 19] = [
 ];
 
 // Raw data, and the header beside it.
-const HEADERS: [(&str, &str); 6] = [
+static HEADERS: [(&str, &str); 6] = [
     ("a.bsq", "a.hdr"),
     ("a.Bsq", "a.hdr"),
     ("A.BIP", "A.HDR"),
@@ -61,67 +62,104 @@ const HEADERS: [(&str, &str); 6] = [
     ("../a.bip", "../a.hdr"),
 ];
 
+// Whether a text gives this name.
+fn is_read(alloc: Global, text: &str, name: &str) -> Result<bool, NameFault> {
+    let read = Name::read(alloc, text)?;
+    Ok(read.as_str() == name)
+}
+
 #[test]
 fn reads_names(rt: HostRuntime) -> Result<(), NameFault> {
-    for (text, name) in NORMAL {
-        let read = Name::read(rt.alloc(), text)?;
-        assert_eq!(rt; read.as_str(), name, "from {text}");
+    for (text, name) in &NORMAL {
+        assert!(rt; is_read(rt.alloc(), text, name)?, "from {text}");
     }
     Ok(())
+}
+
+// Why a text gives no name, or None where it gives one.
+fn refusal(alloc: Global, text: &str) -> Option<NameFault> {
+    Name::read(alloc, text).err()
+}
+
+// Whether the empty text and one that is a byte too long are refused, and the longest one gives a name.
+fn are_bounded(alloc: Global) -> Result<bool, NameFault> {
+    let mut text = String::from_str(alloc, "")?;
+    let empty = refusal(alloc, text.as_str()) == Some(NameFault::Empty);
+    for _ in 0..LONGEST {
+        text.push_str("a")?;
+    }
+    let longest = Name::read(alloc, text.as_str())?.as_str().len() == LONGEST;
+    text.push_str("/")?;
+    Ok(empty && longest && refusal(alloc, text.as_str()) == Some(NameFault::TooLong))
 }
 
 #[test]
 fn refuses_names(rt: HostRuntime) -> Result<(), NameFault> {
-    let mut text = String::from_str(rt.alloc(), "")?;
-    assert!(rt; matches!(Name::read(rt.alloc(), text.as_str()), Err(NameFault::Empty)));
-    for _ in 0..LONGEST {
-        text.push_str("a")?;
-    }
-    let name = Name::read(rt.alloc(), text.as_str())?;
-    assert_eq!(rt; name.as_str().len(), LONGEST);
-    text.push_str("/")?;
-    assert!(rt;
-        matches!(
-            Name::read(rt.alloc(), text.as_str()),
-            Err(NameFault::TooLong)
-        )
-    );
+    assert!(rt; are_bounded(rt.alloc())?);
     Ok(())
+}
+
+// Whether a name is of this kind.
+fn is_kind(alloc: Global, text: &str, kind: Option<Ext>) -> Result<bool, NameFault> {
+    let name = Name::read(alloc, text)?;
+    Ok(name.extension() == kind)
 }
 
 #[test]
 fn tells_kinds(rt: HostRuntime) -> Result<(), NameFault> {
-    for (text, kind) in KINDS {
-        let name = Name::read(rt.alloc(), text)?;
-        assert!(rt; name.extension() == kind, "of {text}");
+    for (text, kind) in &KINDS {
+        assert!(rt; is_kind(rt.alloc(), text, *kind)?, "of {text}");
     }
     Ok(())
+}
+
+// Whether a name is that of raw data, with this header beside it.
+fn has_header(alloc: Global, text: &str, header: &str) -> Result<bool, NameFault> {
+    let name = Name::read(alloc, text)?;
+    if let Some(Ext::Bil | Ext::Bip | Ext::Bsq) = name.extension() {
+        let beside = name.header(alloc)?;
+        Ok(beside.as_str() == header)
+    } else {
+        Ok(false)
+    }
 }
 
 #[test]
 fn names_headers(rt: HostRuntime) -> Result<(), NameFault> {
-    for (text, header) in HEADERS {
-        let name = Name::read(rt.alloc(), text)?;
-        if let Some(Ext::Bil | Ext::Bip | Ext::Bsq) = name.extension() {
-            assert_eq!(rt; name.header(rt.alloc())?.as_str(), header, "beside {text}");
-        } else {
-            assert!(rt; false, "{text} is raw data");
-        }
+    for (text, header) in &HEADERS {
+        assert!(rt; has_header(rt.alloc(), text, header)?, "beside {text}");
     }
     Ok(())
 }
 
+// Whether the folder of a name is this one.
+fn is_in(alloc: Global, text: &str, folder: Option<&str>) -> bool {
+    match Name::read(alloc, text) {
+        Ok(name) => name.folder_part() == folder,
+        Err(_) => false,
+    }
+}
+
+// Whether a name keeps its last part, and is its copy.
+fn keeps_name(alloc: Global) -> Result<bool, NameFault> {
+    let name = Name::read(alloc, "d/a.bil")?;
+    let copy = name.try_clone()?;
+    Ok(name.last_part() == "a.bil" && name.is(&copy))
+}
+
+// Whether a text is kept as it is, is its copy, and is no other.
+fn keeps_text(alloc: Global) -> Result<bool, AllocError> {
+    let text = Text::new(alloc, "no/../name")?;
+    let copy = text.try_clone()?;
+    let other = Text::new(alloc, "name")?;
+    Ok(text.as_str() == "no/../name" && text.is(&copy) && !text.is(&other))
+}
+
 #[test]
 fn keeps_texts(rt: HostRuntime) -> Result<(), NameFault> {
-    let name = Name::read(rt.alloc(), "d/a.bil")?;
-    assert_eq!(rt; name.last_part(), "a.bil");
-    assert!(rt; name.folder_part() == Some("d"));
-    assert!(rt; Name::read(rt.alloc(), "/a")?.folder_part() == Some(""));
-    assert!(rt; Name::read(rt.alloc(), "a")?.folder_part().is_none());
-    assert!(rt; name.is(&name.try_clone()?));
-    let text = Text::new(rt.alloc(), "no/../name")?;
-    assert_eq!(rt; text.as_str(), "no/../name");
-    assert!(rt; text.is(&text.try_clone()?));
-    assert!(rt; !text.is(&Text::new(rt.alloc(), "name")?));
+    let alloc = rt.alloc();
+    let kept = keeps_name(alloc)? && keeps_text(alloc)?;
+    assert!(rt; kept && is_in(alloc, "d/a.bil", Some("d")));
+    assert!(rt; is_in(alloc, "/a", Some("")) && is_in(alloc, "a", None));
     Ok(())
 }

@@ -1,7 +1,8 @@
-use crate::calls::{read_two, write_file};
+use crate::calls::{has_two, is_written, open_fault, read_two, write_file};
 use crate::{
     CalmFolder, CalmInput, CalmSink, Failed, Failing, Folder, Input, Listed, MemFolder, MemInput,
-    MemSink, Method, Name, Never, OpenFault, Sink, StdInput, StdSink, Tally, put_all,
+    MemSink, MemoryFolder, Method, Name, NameFault, Never, OpenFault, Plan, Sink, StdInput,
+    StdSink, Tally, put_all,
 };
 use lists_and_answers::Items;
 use std::alloc::{AllocError, Global};
@@ -25,116 +26,190 @@ fn first_failing(folder: &mut MemFolder, a: &Name, b: &Name) -> Option<Method> {
     }
 }
 
-#[test]
-fn each_listed_call_fails(rt: HostRuntime) -> Result<(), Fail> {
-    let alloc = rt.alloc();
+// A folder with `abc` in the file `a`, of which these calls fail.
+fn folder_of(alloc: Global, a: &Name, calls: &[Failing]) -> Result<MemFolder, AllocError> {
+    let mut folder = MemFolder::new(alloc, plan(alloc, calls)?);
+    folder.put(a, b"abc")?;
+    Ok(folder)
+}
+
+// Whether a file of a folder has these bytes.
+fn has_bytes<P: Plan>(folder: &MemoryFolder<P>, name: &Name, bytes: &[u8]) -> bool {
+    folder.bytes(name) == Some(bytes)
+}
+
+// Whether a method fails the first time and nothing is put then, and nothing fails the second time.
+fn fails_once(folder: &mut MemFolder, a: &Name, b: &Name, method: Method) -> bool {
+    first_failing(folder, a, b) == Some(method)
+        && folder.bytes(b).is_none()
+        && first_failing(folder, a, b).is_none()
+        && has_bytes(folder, b, b"\0xy\0z")
+        && has_bytes(folder, a, b"abc")
+}
+
+// Whether this call of a folder fails, which is one of this method.
+fn fails_in(alloc: Global, failing: Failing, method: Method) -> Result<bool, NameFault> {
     let a = Name::read(alloc, "a")?;
     let b = Name::read(alloc, "b")?;
-    let methods = [
-        Method::Open,
-        Method::ReadAt,
-        Method::Create,
-        Method::Grow,
-        Method::WriteAt,
-        Method::Append,
-        Method::DraftRead,
-        Method::Publish,
-    ];
+    let mut folder = folder_of(alloc, &a, &[failing])?;
+    Ok(fails_once(&mut folder, &a, &b, method))
+}
+
+// The methods of a folder, as `first_failing` calls them.
+static METHODS: [Method; 8] = [
+    Method::Open,
+    Method::ReadAt,
+    Method::Create,
+    Method::Grow,
+    Method::WriteAt,
+    Method::Append,
+    Method::DraftRead,
+    Method::Publish,
+];
+
+#[test]
+fn each_listed_call_fails(rt: HostRuntime) -> Result<(), NameFault> {
     let mut number = 0u64;
-    for method in methods {
+    for method in &METHODS {
         number = number.saturating_add(1);
-        for failing in [Failing::Of(method, 1), Failing::Call(number)] {
-            let mut folder = MemFolder::new(alloc, plan(alloc, &[failing])?);
-            folder.put(&a, b"abc")?;
-            assert_eq!(rt; first_failing(&mut folder, &a, &b), Some(method));
-            assert_eq!(rt; folder.bytes(&b), None);
-            assert_eq!(rt; first_failing(&mut folder, &a, &b), None);
-            assert_eq!(rt; folder.bytes(&b), Some(b"\0xy\0z".as_slice()));
-            assert_eq!(rt; folder.bytes(&a), Some(b"abc".as_slice()));
-        }
+        let first = fails_in(rt.alloc(), Failing::Of(*method, 1), *method)?;
+        let call = fails_in(rt.alloc(), Failing::Call(number), *method)?;
+        assert!(rt; first && call, "call {number}");
     }
     Ok(())
 }
 
-#[test]
-fn a_view_counts_on(rt: HostRuntime) -> Result<(), Fail> {
-    let alloc = rt.alloc();
+// Whether a read fails.
+fn fails_to_read(folder: &mut MemFolder, name: &Name) -> bool {
+    read_two(folder, name) == Err(Method::ReadAt)
+}
+
+// Whether the second read of a view fails.
+fn view_fails(folder: &mut MemFolder, a: &Name) -> bool {
+    match folder.fork() {
+        Ok(mut view) => {
+            let fails = has_two(&mut view, a, *b"bc") && fails_to_read(&mut view, a);
+            folder.absorb(view);
+            fails
+        }
+        Err(_) => false,
+    }
+}
+
+// Whether the third and the fourth read fail, of which the first comes in a view.
+fn counts_on(alloc: Global) -> Result<bool, NameFault> {
     let a = Name::read(alloc, "a")?;
     let failing = [
         Failing::Of(Method::ReadAt, 3),
         Failing::Of(Method::ReadAt, 4),
     ];
-    let mut folder = MemFolder::new(alloc, plan(alloc, &failing)?);
-    folder.put(&a, b"abc")?;
-    assert_eq!(rt; read_two(&mut folder, &a), Ok(Some(*b"bc")));
-    let mut view = folder.fork()?;
-    assert_eq!(rt; read_two(&mut view, &a), Ok(Some(*b"bc")));
-    assert_eq!(rt; read_two(&mut view, &a), Err(Method::ReadAt));
-    folder.absorb(view);
-    assert_eq!(rt; read_two(&mut folder, &a), Err(Method::ReadAt));
-    assert_eq!(rt; read_two(&mut folder, &a), Ok(Some(*b"bc")));
-    Ok(())
+    let mut folder = folder_of(alloc, &a, &failing)?;
+    Ok(
+        has_two(&mut folder, &a, *b"bc")
+            && view_fails(&mut folder, &a)
+            && fails_to_read(&mut folder, &a)
+            && has_two(&mut folder, &a, *b"bc"),
+    )
 }
 
 #[test]
-fn a_tally_counts(rt: HostRuntime) -> Result<(), Fail> {
-    let alloc = rt.alloc();
+fn a_view_counts_on(rt: HostRuntime) -> Result<(), NameFault> {
+    assert!(rt; counts_on(rt.alloc())?);
+    Ok(())
+}
+
+// Whether a folder has opened, read and written so many times.
+fn has_counts<F: Folder>(folder: &Tally<F>, opens: u64, reads: u64, writes: u64) -> bool {
+    folder.opens() == opens && folder.reads() == reads && folder.writes() == writes
+}
+
+// Whether a view counts from nothing.
+fn view_counts<F: Folder>(folder: &mut Tally<F>, a: &Name) -> bool {
+    match folder.fork() {
+        Ok(mut view) => {
+            let counts = has_two(&mut view, a, *b"bc") && has_counts(&view, 1, 1, 0);
+            folder.absorb(view);
+            counts
+        }
+        Err(_) => false,
+    }
+}
+
+// Whether each call is counted, and those of a view with it.
+fn counts_calls<F: Folder>(folder: &mut Tally<F>, a: &Name, b: &Name) -> bool {
+    open_fault(folder, b) == Some(OpenFault::Absent)
+        && is_written(folder, b)
+        && has_two(folder, b, *b"xy")
+        && view_counts(folder, a)
+        && has_counts(folder, 3, 2, 1)
+}
+
+// Whether a tally counts, and its folder gets what was put.
+fn tallies(alloc: Global) -> Result<bool, NameFault> {
     let a = Name::read(alloc, "a")?;
     let b = Name::read(alloc, "b")?;
     let mut inner = CalmFolder::new(alloc, Never);
     inner.put(&a, b"abc")?;
     let mut folder = Tally::new(inner);
-    assert_eq!(rt; folder.open(&b).err(), Some(OpenFault::Absent));
-    assert_eq!(rt; write_file(&mut folder, &b), Ok(*b"\0xy\0z"));
-    assert_eq!(rt; read_two(&mut folder, &b), Ok(Some(*b"xy")));
-    let mut view = folder.fork()?;
-    assert_eq!(rt; read_two(&mut view, &a), Ok(Some(*b"bc")));
-    assert_eq!(rt; (view.opens(), view.reads(), view.writes()), (1, 1, 0));
-    folder.absorb(view);
-    assert_eq!(rt;
-        (folder.opens(), folder.reads(), folder.writes()),
-        (3, 2, 1)
-    );
-    assert_eq!(rt; folder.into_inner().bytes(&b), Some(b"\0xy\0z".as_slice()));
-    Ok(())
+    let counts = counts_calls(&mut folder, &a, &b);
+    Ok(counts && has_bytes(&folder.into_inner(), &b, b"\0xy\0z"))
 }
 
 #[test]
-fn inputs_give_pieces(rt: HostRuntime) -> Result<(), Fail> {
-    let alloc = rt.alloc();
-    let bytes = b"abcdefg".as_slice();
+fn a_tally_counts(rt: HostRuntime) -> Result<(), NameFault> {
+    assert!(rt; tallies(rt.alloc())?);
+    Ok(())
+}
+
+const LETTERS: &[u8] = b"abcdefg";
+
+// Whether an input of four and three bytes gives them, and then nothing.
+fn gives_all(alloc: Global) -> Result<bool, AllocError> {
     let mut out = [0; 4];
-    let mut calm = CalmInput::new(bytes.to_vec(alloc)?, Never);
-    assert_eq!(rt; (calm.take(&mut out), &out), (Ok(4), b"abcd"));
-    assert_eq!(rt; (calm.take(&mut out), calm.left()), (Ok(3), b"".as_slice()));
-    assert_eq!(rt; calm.take(&mut out), Ok(0));
+    let mut calm = CalmInput::new(LETTERS.to_vec(alloc)?, Never);
+    let first = calm.take(&mut out) == Ok(4) && out == *b"abcd";
+    let second = calm.take(&mut out) == Ok(3) && calm.left().is_empty();
+    Ok(first && second && calm.take(&mut out) == Ok(0))
+}
+
+// Whether an input gives two bytes at a time, and none at the call that fails.
+fn gives_pieces(alloc: Global) -> Result<bool, AllocError> {
+    let mut out = [0; 4];
     let plan = plan(alloc, &[Failing::Of(Method::Take, 2)])?;
-    let mut pieces = MemInput::in_pieces(bytes.to_vec(alloc)?, 2, plan);
-    assert_eq!(rt; pieces.take(&mut out), Ok(2));
-    assert_eq!(rt;
-        (pieces.take(&mut out), pieces.left()),
-        (Err(Failed), b"cdefg".as_slice())
-    );
-    assert_eq!(rt;
-        (pieces.take(&mut out), pieces.left()),
-        (Ok(2), b"efg".as_slice())
-    );
-    Ok(())
+    let mut pieces = MemInput::in_pieces(LETTERS.to_vec(alloc)?, 2, plan);
+    let first = pieces.take(&mut out) == Ok(2);
+    let second = pieces.take(&mut out) == Err(Failed) && pieces.left() == b"cdefg".as_slice();
+    let third = pieces.take(&mut out) == Ok(2) && pieces.left() == b"efg".as_slice();
+    Ok(first && second && third)
 }
 
 #[test]
-fn sinks_get_parts(rt: HostRuntime) -> Result<(), Fail> {
-    let alloc = rt.alloc();
-    let parts: [&[u8]; 3] = [b"ab", b"", b"cd"];
+fn inputs_give_pieces(rt: HostRuntime) -> Result<(), AllocError> {
+    assert!(rt; gives_all(rt.alloc())? && gives_pieces(rt.alloc())?);
+    Ok(())
+}
+
+const PARTS: [&[u8]; 3] = [b"ab", b"", b"cd"];
+
+// Whether a sink gets parts and what follows them.
+fn gets_all(alloc: Global) -> bool {
     let mut calm = CalmSink::new(alloc);
-    assert_eq!(rt; put_all(&mut calm, &parts), Ok(()));
-    assert_eq!(rt; calm.put(b"e"), Ok(()));
-    assert_eq!(rt; calm.got(), Some(b"abcde".as_slice()));
+    let parts = put_all(&mut calm, &PARTS) == Ok(());
+    let more = calm.put(b"e") == Ok(());
+    parts && more && calm.got() == Some(b"abcde".as_slice())
+}
+
+// Whether a sink gets the parts before the call that fails, and all of them at the next time.
+fn gets_parts(alloc: Global) -> Result<bool, AllocError> {
     let mut sink = MemSink::new(alloc, plan(alloc, &[Failing::Call(3)])?);
-    assert_eq!(rt; put_all(&mut sink, &parts), Err(Failed));
-    assert_eq!(rt; sink.got(), b"ab".as_slice());
-    assert_eq!(rt; put_all(&mut sink, &parts), Ok(()));
-    assert_eq!(rt; sink.got(), b"ababcd".as_slice());
+    let first = put_all(&mut sink, &PARTS) == Err(Failed) && sink.got() == b"ab".as_slice();
+    let second = put_all(&mut sink, &PARTS) == Ok(()) && sink.got() == b"ababcd".as_slice();
+    Ok(first && second)
+}
+
+#[test]
+fn sinks_get_parts(rt: HostRuntime) -> Result<(), AllocError> {
+    assert!(rt; gets_all(rt.alloc()) && gets_parts(rt.alloc())?);
     Ok(())
 }
 
@@ -190,16 +265,23 @@ impl Write for Halting {
     }
 }
 
-#[test]
-fn streams_try_again(rt: HostRuntime) -> Result<(), Fail> {
+// Whether an input asks again after an interruption, and fails at the next fault.
+fn takes_again() -> bool {
     let mut out = [0; 4];
     let mut input = StdInput::new(Halting::new(1));
-    assert_eq!(rt; (input.take(&mut out), &out), (Ok(1), b"r\0\0\0"));
-    assert_eq!(rt; input.take(&mut out), Err(Failed));
+    let first = input.take(&mut out) == Ok(1) && out == *b"r\0\0\0";
+    first && input.take(&mut out) == Err(Failed)
+}
+
+// Whether a sink goes on after an interruption and short writes, and fails at the next fault.
+fn puts_again() -> bool {
     let mut sink = StdSink::new(Halting::new(3));
-    assert_eq!(rt; sink.put(b""), Ok(()));
-    assert_eq!(rt; sink.put(b"abc"), Ok(()));
-    assert_eq!(rt; sink.put(b"d"), Err(Failed));
-    assert_eq!(rt; StdSink::new(rt.stdout()).put(b"put\n"), Ok(()));
-    Ok(())
+    let put = sink.put(b"") == Ok(()) && sink.put(b"abc") == Ok(());
+    put && sink.put(b"d") == Err(Failed)
+}
+
+#[test]
+fn streams_try_again(rt: HostRuntime) {
+    let put = StdSink::new(rt.stdout()).put(b"put\n") == Ok(());
+    assert!(rt; takes_again() && puts_again() && put);
 }
