@@ -8,7 +8,5 @@ mod places;
 mod report;
 #[cfg(test)]
 mod tests;
-#[cfg(test)]
-mod vast;
 
 pub use report::{ReportFault, write_info};

@@ -1,19 +1,12 @@
+ghost use Rattle.std.specs.Prelude.{◌≡◌, length, IfSome};
+
 use crate::{Form, ReportFault, push_covering, write_location};
 use geotransform::{Sample, Size};
 use lists_and_answers::Items;
 use outside::{Failing, Listed, MemSink, Name, Names};
-use std::alloc::Global;
+use std::alloc::{AllocError, Global};
 use std::test::*;
-use vrt_profile::read;
-
-// A sink whose first call fails where `fails` is true.
-fn sink(alloc: Global, fails: bool) -> Result<MemSink, Fail> {
-    let mut calls = Items::new(alloc);
-    if fails {
-        calls.push(Failing::Call(1))?;
-    }
-    Ok(MemSink::new(alloc, Listed::new(calls)))
-}
+use vrt_profile::{Document, VrtBand, read};
 
 // Two files of a mosaic.
 fn two_files(alloc: Global) -> Result<Names, Fail> {
@@ -23,31 +16,57 @@ fn two_files(alloc: Global) -> Result<Names, Fail> {
     Ok(files)
 }
 
+// Whether this is what a sink gets of the report of a place.
+fn is_written(
+    alloc: Global,
+    form: Form,
+    place: (Sample, Sample),
+    values: Option<&[Sample]>,
+    bands: &[u32],
+    files: &Names,
+    want: &[u8],
+) -> bool
+    requires { IfSome values (λ v. length v.now ≡ length bands.now) }
+{
+    let (x, y) = place;
+    let mut sink = MemSink::new(alloc, Listed::new(Items::new(alloc)));
+    let answer = write_location(alloc, form, x, y, values, bands, files, &mut sink);
+    answer.is_ok() && sink.got() == want
+}
+
+// Whether this is the report of column 1, line -1 with two bands, or of that place off the raster.
+fn is_told(alloc: Global, form: Form, on: bool, files: &Names, want: &[u8]) -> bool {
+    let bands = [1, 2];
+    if on {
+        is_written(alloc, form, (1, -1), Some(&[4, -12]), &bands, files, want)
+    } else {
+        is_written(alloc, form, (1, -1), None, &bands, files, want)
+    }
+}
+
+// A form, whether the place is on the raster, and what is told of it.
+const FORMS: [(Form, bool, &[u8]); 5] = [
+    (
+        Form::Report,
+        true,
+        b"Report:\n  Location: (1P,-1L)\n  Band 1:\n    Value: 4\n  Band 2:\n    Value: -12\n",
+    ),
+    (
+        Form::Report,
+        false,
+        b"Report:\n  Location: (1P,-1L)\n  Location is off this file! No further details to report.\n",
+    ),
+    (Form::ValuesOnly, true, b"4\n-12\n"),
+    (Form::ValuesOnly, false, b"\n"),
+    (Form::FilesOnly, true, b"a.bil\nb.bil\n"),
+];
+
 // Two bands of a pixel, and a place off the raster, in each form.
 #[test]
 fn each_form(rt: HostRuntime) -> Result<(), Fail> {
-    let alloc = rt.alloc();
-    let pixel: &[Sample] = &[4, -12];
-    let report =
-        b"Report:\n  Location: (1P,-1L)\n  Band 1:\n    Value: 4\n  Band 2:\n    Value: -12\n";
-    let off =
-        b"Report:\n  Location: (1P,-1L)\n  Location is off this file! No further details to report.\n";
-    let cases: [(Form, Option<&[Sample]>, &[u8]); 5] = [
-        (Form::Report, Some(pixel), report),
-        (Form::Report, None, off),
-        (Form::ValuesOnly, Some(pixel), b"4\n-12\n"),
-        (Form::ValuesOnly, None, b"\n"),
-        (Form::FilesOnly, Some(pixel), b"a.bil\nb.bil\n"),
-    ];
-    let files = two_files(alloc)?;
-    for (form, values, want) in cases {
-        let mut sink = sink(alloc, false)?;
-        if let Some(values) = values {
-            assert_eq!(rt; values.len(), 2);
-        }
-        let answer = write_location(alloc, form, 1, -1, values, &[1, 2], &files, &mut sink);
-        assert_eq!(rt; answer, Ok(()));
-        assert_eq!(rt; sink.got(), want);
+    let files = two_files(rt.alloc())?;
+    for &(form, on, want) in &FORMS {
+        assert!(rt; is_told(rt.alloc(), form, on, &files, want));
     }
     Ok(())
 }
@@ -56,31 +75,24 @@ fn each_form(rt: HostRuntime) -> Result<(), Fail> {
 #[test]
 fn no_files(rt: HostRuntime) -> Result<(), Fail> {
     let alloc = rt.alloc();
-    let mut sink = sink(alloc, false)?;
-    write_location(
-        alloc,
-        Form::FilesOnly,
-        9,
-        9,
-        None,
-        &[1],
-        &Items::new(alloc),
-        &mut sink,
-    )
-    .ok()
-    .ok_or("nothing fails")?;
-    assert_eq!(rt; sink.got(), b"".as_slice());
+    let files = Items::new(alloc);
+    assert!(rt; is_written(alloc, Form::FilesOnly, (9, 9), None, &[1], &files, b""));
     Ok(())
+}
+
+// Whether a sink whose first call fails makes the report fail, with no other text got.
+fn is_refused(alloc: Global, files: &Names) -> Result<bool, AllocError> {
+    let mut calls = Items::new(alloc);
+    calls.push(Failing::Call(1))?;
+    let mut sink = MemSink::new(alloc, Listed::new(calls));
+    let answer = write_location(alloc, Form::Report, 0, 0, None, &[], files, &mut sink);
+    Ok(answer == Err(ReportFault::OutFault) && b"Report:\n".starts_with(sink.got()))
 }
 
 #[test]
 fn a_failing_sink(rt: HostRuntime) -> Result<(), Fail> {
-    let alloc = rt.alloc();
-    let mut sink = sink(alloc, true)?;
-    let files = two_files(alloc)?;
-    let answer = write_location(alloc, Form::Report, 0, 0, None, &[], &files, &mut sink);
-    assert_eq!(rt; answer, Err(ReportFault::OutFault));
-    assert!(rt; b"Report:\n".starts_with(sink.got()));
+    let files = two_files(rt.alloc())?;
+    assert!(rt; is_refused(rt.alloc(), &files)?);
     Ok(())
 }
 
@@ -94,30 +106,47 @@ const MOSAIC: &[u8] = b"<VRTDataset rasterXSize='3' rasterYSize='1'>
 <DstRect xOff='2' yOff='0' xSize='1' ySize='1'/></SimpleSource>
 </VRTRasterBand></VRTDataset>";
 
-// The files, all of 3 x 1 pixels, that cover a column of the mosaic.
+// Adds the files, all of 3 x 1 pixels, that cover a column of a band.
+fn add_band(
+    alloc: Global,
+    whole: Size,
+    band: &VrtBand,
+    x: u32,
+    out: &mut Names,
+) -> Result<(), Fail> {
+    let size = Size { w: 3, h: 1 };
+    for source in band.sources.as_slice() {
+        let name = Name::read(alloc, source.file.as_str())?;
+        push_covering(source, whole, &name, size, x, 0, out)?;
+    }
+    Ok(())
+}
+
+// Adds the files that cover a column of a mosaic.
+fn add_all(alloc: Global, document: &Document, x: u32, out: &mut Names) -> Result<(), Fail> {
+    for band in document.bands.as_slice() {
+        add_band(alloc, document.size, band, x, out)?;
+    }
+    Ok(())
+}
+
+// The files that cover a column of the mosaic.
 fn covering(alloc: Global, x: u32) -> Result<Names, Fail> {
     let document = read(alloc, MOSAIC).ok().ok_or("it is a mosaic")?;
-    let size = Size { w: 3, h: 1 };
     let mut out = Items::new(alloc);
-    for band in document.bands.as_slice() {
-        for source in band.sources.as_slice() {
-            let name = Name::read(alloc, source.file.as_str())?;
-            push_covering(source, document.size, &name, size, x, 0, &mut out)?;
-        }
-    }
+    add_all(alloc, &document, x, &mut out)?;
     Ok(out)
 }
+
+// A column, and the files that cover it.
+const COLUMNS: [(u32, &[u8]); 2] = [(0, b"a.bil\nb.bil\n"), (2, b"a.bil\nb.bil\nc.bil\n")];
 
 #[test]
 fn covering_files(rt: HostRuntime) -> Result<(), Fail> {
     let alloc = rt.alloc();
-    let cases: [(u32, &[u8]); 2] = [(0, b"a.bil\nb.bil\n"), (2, b"a.bil\nb.bil\nc.bil\n")];
-    for (x, want) in cases {
+    for &(x, want) in &COLUMNS {
         let files = covering(alloc, x)?;
-        let mut sink = sink(alloc, false)?;
-        let answer = write_location(alloc, Form::FilesOnly, 0, 0, None, &[1], &files, &mut sink);
-        assert_eq!(rt; answer, Ok(()));
-        assert_eq!(rt; sink.got(), want);
+        assert!(rt; is_written(alloc, Form::FilesOnly, (0, 0), None, &[1], &files, want));
     }
     Ok(())
 }
