@@ -5,3 +5,4 @@ pub mod ValuesAgain
 pub mod HeadAgain
 pub mod Writes
 pub mod Placed
+pub mod Heads

@@ -1,17 +1,19 @@
 -- The head that a header's text gives, or its first fault.
-use Rattle.std.specs.Prelude.{◌≡◌, ◌<◌, ◌≤◌, ◌⊎◌, IfSome, ℕ, ℤ, pos, neg_ℤ, ◌+ℤ◌, ◌-ℤ◌, ◌*◌, ◌/◌, ◌^◌, Bool, true, ◌&&◌, List, length, Option, Some, None, Result, Ok, Err, nat_lt, if◌then◌else◌, unsigned_abs, int_lt}
+use Rattle.std.specs.Prelude.{◌≡◌, ◌<◌, ◌≤◌, ◌⊎◌, IfSome, ℕ, ℤ, pos, neg_ℤ, ◌+ℤ◌, ◌-ℤ◌, ◌*ℤ◌, ◌*◌, ◌/◌, ◌^◌, Bool, true, false, ◌&&◌, List, length, Option, Some, None, Result, Ok, Err, nat_lt, if◌then◌else◌, unsigned_abs, int_lt}
 use Rattle.std.specs.Option.{option_map}
 use Rattle.lists_and_answers.specs.Answers.{◌>>=◌}
 use Rattle.geotransform.specs.Decimal.{ticks_of, whole_of, IsRead}
 use Rattle.geotransform.specs.Print.{unit}
 use Rattle.geotransform.specs.Types.{is_in}
-use Rattle.geotransform.specs.Geo.{Transform}
+use Rattle.geotransform.specs.Places.{half, sixteen_places}
+use Rattle.geotransform.specs.Geo.{Transform, is_near, is_north_up, sizes_held}
 use Rattle.geotransform.specs.declared.types.Size.{Size}
 use Rattle.geotransform.specs.declared.types.PixelType.{PixelType}
 use Rattle.geotransform.specs.declared.types.PixelType.TheVariants.{Byte, UInt16, Int16, UInt32, Int32}
 use Rattle.esri_hdr.specs.declared.parts.HdrFault.{HdrFault}
 use Rattle.esri_hdr.specs.declared.parts.HdrFault.TheVariants.{MissingKey, BadValue, Limit}
 use Rattle.esri_hdr.specs.declared.parts.Layout.{Layout}
+use Rattle.esri_hdr.specs.declared.parts.Layout.TheVariants.{Bil, Bip, Bsq}
 use Rattle.esri_hdr.specs.declared.parts.RawGeo.{RawGeo}
 use Rattle.esri_hdr.specs.declared.parts.Shape.{Shape}
 use Rattle.esri_hdr.specs.declared.parts.Rows.{Rows}
@@ -175,3 +177,29 @@ placed g = record { ox = g.ulx -ℤ half_of g.xdim; oy = g.uly +ℤ half_of g.yd
 -- the geotransform of a head that has the centre of its first pixel
 abbrev pub geotransform_of : Head → Option Transform
 geotransform_of h = option_map placed h.geo
+
+-- the centre of the first pixel and the sizes of a pixel of a geotransform, each rounded to 16 places; the half of a tick is rounded with the rest
+abbrev pub raw_geo : Transform → RawGeo
+raw_geo g = record { ulx = pos 18 *ℤ half (pos 2 *ℤ g.ox +ℤ g.dx) 36; uly = pos 18 *ℤ half (pos 2 *ℤ g.oy +ℤ g.dy) 36; xdim = sixteen_places g.dx; ydim = sixteen_places (neg_ℤ g.dy) }
+
+-- a header can hold the centre, and the outer corner that is computed from it
+abbrev pub is_origin : RawGeo → Bool
+is_origin r = (is_near r.ulx && is_near r.uly) && (is_half_near (r.ulx +ℤ r.ulx -ℤ r.xdim) && is_half_near (r.uly +ℤ r.uly +ℤ r.ydim))
+
+-- a header can hold a geotransform: it runs from west to east and from north to south, and its sizes and its origin can be held
+abbrev pub holds_transform : Transform → Bool
+holds_transform g = is_north_up g && (sizes_held g && is_origin (raw_geo g))
+
+-- what a header says of a geotransform, where it can hold it
+abbrev pub raw_geo_of : Transform → Option RawGeo
+raw_geo_of g = if holds_transform g then Some (raw_geo g) else None
+
+-- the bytes of a line of all bands that has no padding
+abbrev pub plain_row : Layout → ℕ → ℕ → ℕ
+plain_row Bil bands row = bands * row
+plain_row Bip bands row = row * bands
+plain_row Bsq bands row = row
+
+-- the head of a raster whose file has its samples alone, with the byte that counts least in front
+abbrev pub plain_head : Size → ℕ → PixelType → Layout → Option ℤ → Option RawGeo → Head
+plain_head size bands kind layout nodata geo = record { size = size; bands = bands; kind = kind; big = false; layout = layout; skip = 0; band_row = size.w * sample_len kind; total_row = plain_row layout bands (size.w * sample_len kind); gap = 0; nodata = nodata; geo = geo }

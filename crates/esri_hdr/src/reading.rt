@@ -6,6 +6,7 @@ ghost use Rattle.geotransform.specs.Decimal.{IsRead};
 ghost use Rattle.geotransform.specs.Types.{is_in};
 ghost use Rattle.esri_hdr.specs.Head.{IsShape, RowsFit, GeoFits, place_in, step_in, geo_in, is_half_near, when_in, nodata_in, shape_of, row_len, rows_of, geo_of, head_from, head_of, esri_head, IsHead};
 
+use crate::centre::{is_left_near, is_top_near};
 use crate::head::RawHead;
 use crate::keys::{
     BANDGAPBYTES, BANDROWBYTES, BYTEORDER, LAYOUT, NBANDS, NBITS, NCOLS, NODATA, NROWS, PIXELTYPE,
@@ -105,24 +106,6 @@ fn step_in(text: Option<&[u8]>) -> Result<Ticks, HdrFault>
     } else {
         Err(HdrFault::BadValue)
     }
-}
-
-fn is_half_near(twice: i128) -> bool
-    ensures { result ≡ is_half_near twice }
-{
-    twice.unsigned_abs() < 360_000_000_000_000_000_000_000_000_000
-}
-
-fn is_left_near(ulx: Ticks, xdim: Ticks) -> bool
-    ensures { result ≡ is_half_near (ulx +ℤ ulx -ℤ xdim) }
-{
-    is_half_near(ulx.get() + ulx.get() - xdim.get())
-}
-
-fn is_top_near(uly: Ticks, ydim: Ticks) -> bool
-    ensures { result ≡ is_half_near (uly +ℤ uly +ℤ ydim) }
-{
-    is_half_near(uly.get() + uly.get() + ydim.get())
 }
 
 #[tactic(auto, unfolding(crate::specs::Head::geo_in))]

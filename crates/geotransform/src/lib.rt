@@ -7,17 +7,21 @@ mod geo;
 mod parts;
 mod places;
 pub mod print;
+mod sizes;
 #[cfg(test)]
 mod tests;
 pub mod types;
 mod units;
+mod whole_degrees;
 
 pub use decimal::{
     is_decimal, is_negative_decimal, read_decimal, read_number, read_places, read_whole,
 };
 pub use faults::{PlanFault, Unfit};
 pub use geo::{GeoTransform, corner_is_located};
-pub use places::{floor_is_exact, floor_of, half, half_is_nearest, round16};
+pub use places::{floor_is_exact, floor_of, half, half_is_nearest, is_near, round16, rounded_up};
 pub use print::{print_decimal, print_short, short_reads_back};
+pub use sizes::{is_north_up, sizes_held};
 pub use types::{PixelType, Rect, Sample, Size, clamp, holds, name_reads_back};
 pub use units::Ticks;
+pub use whole_degrees::{degree_near, degrees, is_at, lat_of, lon_of, twice_centre, twice_south};
