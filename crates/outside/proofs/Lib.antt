@@ -1,5 +1,6 @@
 pub mod Cuts
 pub mod Headers
+pub mod Listing
 pub mod Normal
 pub mod Parts
 pub mod PathParts

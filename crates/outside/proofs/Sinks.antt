@@ -1,8 +1,9 @@
 -- What a sink gets by two calls, one after the other.
-use Rattle.std.proofs.Common.{ℕ, ◌+◌, min, List, [], ◌++◌, length, take, ap, sym, ◌∙◌, Option, Some, append_assoc, arith}
+use Rattle.std.proofs.Common.{◌≡◌, ℕ, ◌+◌, min, List, [], ◌++◌, length, take, ap, sym, ◌∙◌, Option, Some, Bool, true, false, inl, inr, append_assoc, arith}
 use Rattle.std.proofs.lemmas.List.{take_min, append-nil, take-append-le}
 use Rattle.std.proofs.Math.Seq.{take-append-add, take-length}
-use Rattle.outside.specs.Streams.{Gets, GetsPart}
+use Rattle.std.specs.Prelude.{if◌then◌else◌}
+use Rattle.outside.specs.Streams.{Gets, GetsPart, GetsFront}
 
 -- nothing was put
 pub gets-none : (old : Option (List ℕ)) → Gets [] old old
@@ -29,3 +30,10 @@ part-first a b old new first = λ g is.
 -- a whole text is a part of itself
 pub gets-whole : (a : List ℕ) (old new : Option (List ℕ)) → Gets a old new → GetsPart a old new
 gets-whole a old new whole = λ g is. (length a, whole g is ∙ ap (λ t. Some (g ++ t)) (sym (take-length a)))
+
+-- a first part is put where there is room for it
+pub front-or-none : (r : Bool) (old new bytes : List ℕ) (m n : ℕ) → m ≡ min n (length bytes) → new ≡ (if r then old ++ take m bytes else old) → GetsFront n bytes (Some old) (Some new)
+front-or-none true old new bytes m n is put = λ g same.
+    let e : take m bytes ≡ take n bytes = ap (λ k. take k bytes) is ∙ take_min n bytes in
+    inl (cc (put, e, same))
+front-or-none false old new bytes m n is put = λ g same. inr (ap Some put)

@@ -17,6 +17,11 @@ added a b = min (a + b) last_count
 abbrev pub Rose : ℕ → ℕ → Type 0
 Rose before now = one_more before ≤ now
 
+-- the count rises by one where this holds, and stays otherwise
+pub record CountsWhere (P : Type 0) (before now : ℕ) : Type 0 where
+  pub rises : P → now ≡ one_more before
+  pub stays : ¬ P → now ≡ before
+
 -- the count doesn't fall, and has risen where the call answers this fault
 pub record HasCause {T E : Type 0} (fault : E) (before now : ℕ) (result : Result T E) : Type 0 where
   pub later : before ≤ now

@@ -4,6 +4,6 @@ pub mod Memory
 pub mod Names
 pub mod Outside
 pub mod Paths
-pub mod Plans
+pub mod Schedules
 pub mod Streams
 pub mod Tallies

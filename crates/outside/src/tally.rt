@@ -1,7 +1,7 @@
 // A folder that counts calls of the one that it holds, and tells what that one tells.
-ghost use Rattle.std.specs.Prelude.{◌≡◌, IfOk};
-ghost use Rattle.outside.specs.Causes.{HasCause, Absorbed, one_more, added};
-ghost use Rattle.outside.specs.Outside.{Opened, IsLong, NotThere, IsView};
+ghost use Rattle.std.specs.Prelude.{◌≡◌, ◌+◌, ◌≤◌, length, IfOk, OnOk, OnErr};
+ghost use Rattle.outside.specs.Causes.{HasCause, FailsWith, Absorbed, one_more, added};
+ghost use Rattle.outside.specs.Outside.{Opened, IsLong, NotThere, Reads, Created, Grown, Written, Appended, Published, ChangesOnly, IsView};
 ghost use Rattle.outside.specs.Tallies.{opens_of};
 
 use crate::{Failed, Folder, Name, OpenFault, WriteFault};
@@ -111,37 +111,108 @@ impl<F: Folder> Folder for Tally<F> {
         self.inner.len(file)
     }
 
-    fn read_at(&mut self, file: &mut F::File, pos: u64, out: &mut [u8]) -> Result<(), Failed> {
+    fn read_at(&mut self, file: &mut F::File, pos: u64, out: &mut [u8]) -> Result<(), Failed>
+        requires { pos + length out.old ≤ F.file_len file.old }
+        ensures ok { OnOk result (Reads (F.file_bytes file.old) pos (length out.old) out.new) }
+        ensures bytes { F.file_bytes file.new ≡ F.file_bytes file.old }
+        ensures len { F.file_len file.new ≡ F.file_len file.old }
+        ensures names { F.names self.new.inner ≡ F.names self.old.inner }
+        ensures read_calls { self.new.reads ≡ one_more self.old.reads }
+        ensures write_calls { self.new.writes ≡ self.old.writes }
+        ensures cause { FailsWith (F.faults self.old.inner) (F.faults self.new.inner) result }
+        ensures opens { opens_of self.new ≡ opens_of self.old }
+    {
         self.reads = self.reads.saturating_add(1);
         self.inner.read_at(file, pos, out)
     }
 
-    fn create(&mut self, name: &Name) -> Result<F::Draft, WriteFault> {
+    fn create(&mut self, name: &Name) -> Result<F::Draft, WriteFault>
+        ensures ok { IfOk result (λ draft. Created (F.names self.old.inner) name.now (F.draft_name draft) (F.draft_bytes draft) (F.draft_len draft)) }
+        ensures names { F.names self.new.inner ≡ F.names self.old.inner }
+        ensures read_calls { self.new.reads ≡ self.old.reads }
+        ensures write_calls { self.new.writes ≡ self.old.writes }
+        ensures cause { HasCause WriteFault.Failed (F.faults self.old.inner) (F.faults self.new.inner) result }
+        ensures opens { opens_of self.new ≡ opens_of self.old }
+    {
         self.inner.create(name)
     }
 
-    fn grow(&mut self, draft: &mut F::Draft, len: u64) -> Result<(), WriteFault> {
+    fn grow(&mut self, draft: &mut F::Draft, len: u64) -> Result<(), WriteFault>
+        requires { F.draft_len draft.old ≤ len }
+        ensures ok { OnOk result (Grown len (F.draft_bytes draft.old) (F.draft_bytes draft.new)) }
+        ensures len { OnOk result (F.draft_len draft.new ≡ len) }
+        ensures name { F.draft_name draft.new ≡ F.draft_name draft.old }
+        ensures names { F.names self.new.inner ≡ F.names self.old.inner }
+        ensures read_calls { self.new.reads ≡ self.old.reads }
+        ensures write_calls { self.new.writes ≡ self.old.writes }
+        ensures cause { HasCause WriteFault.Failed (F.faults self.old.inner) (F.faults self.new.inner) result }
+        ensures opens { opens_of self.new ≡ opens_of self.old }
+    {
         self.inner.grow(draft, len)
     }
 
-    fn write_at(&mut self, draft: &mut F::Draft, pos: u64, bytes: &[u8]) -> Result<(), WriteFault> {
+    fn write_at(&mut self, draft: &mut F::Draft, pos: u64, bytes: &[u8]) -> Result<(), WriteFault>
+        requires { pos + length bytes.now ≤ F.draft_len draft.old }
+        ensures ok { OnOk result (Written pos bytes.now (F.draft_bytes draft.old) (F.draft_bytes draft.new)) }
+        ensures len { OnOk result (F.draft_len draft.new ≡ F.draft_len draft.old) }
+        ensures name { F.draft_name draft.new ≡ F.draft_name draft.old }
+        ensures names { F.names self.new.inner ≡ F.names self.old.inner }
+        ensures read_calls { self.new.reads ≡ self.old.reads }
+        ensures write_calls { self.new.writes ≡ one_more self.old.writes }
+        ensures cause { HasCause WriteFault.Failed (F.faults self.old.inner) (F.faults self.new.inner) result }
+        ensures opens { opens_of self.new ≡ opens_of self.old }
+    {
         self.writes = self.writes.saturating_add(1);
         self.inner.write_at(draft, pos, bytes)
     }
 
-    fn append(&mut self, draft: &mut F::Draft, bytes: &[u8]) -> Result<(), WriteFault> {
+    fn append(&mut self, draft: &mut F::Draft, bytes: &[u8]) -> Result<(), WriteFault>
+        ensures ok { OnOk result (Appended bytes.now (F.draft_bytes draft.old) (F.draft_bytes draft.new)) }
+        ensures len { OnOk result (F.draft_len draft.new ≡ F.draft_len draft.old + length bytes.now) }
+        ensures name { F.draft_name draft.new ≡ F.draft_name draft.old }
+        ensures names { F.names self.new.inner ≡ F.names self.old.inner }
+        ensures read_calls { self.new.reads ≡ self.old.reads }
+        ensures write_calls { self.new.writes ≡ self.old.writes }
+        ensures cause { HasCause WriteFault.Failed (F.faults self.old.inner) (F.faults self.new.inner) result }
+        ensures opens { opens_of self.new ≡ opens_of self.old }
+    {
         self.inner.append(draft, bytes)
     }
 
-    fn draft_read(&mut self, draft: &mut F::Draft, pos: u64, out: &mut [u8]) -> Result<(), Failed> {
+    fn draft_read(&mut self, draft: &mut F::Draft, pos: u64, out: &mut [u8]) -> Result<(), Failed>
+        requires { pos + length out.old ≤ F.draft_len draft.old }
+        ensures ok { OnOk result (Reads (F.draft_bytes draft.old) pos (length out.old) out.new) }
+        ensures bytes { F.draft_bytes draft.new ≡ F.draft_bytes draft.old }
+        ensures len { F.draft_len draft.new ≡ F.draft_len draft.old }
+        ensures name { F.draft_name draft.new ≡ F.draft_name draft.old }
+        ensures names { F.names self.new.inner ≡ F.names self.old.inner }
+        ensures read_calls { self.new.reads ≡ self.old.reads }
+        ensures write_calls { self.new.writes ≡ self.old.writes }
+        ensures cause { FailsWith (F.faults self.old.inner) (F.faults self.new.inner) result }
+        ensures opens { opens_of self.new ≡ opens_of self.old }
+    {
         self.inner.draft_read(draft, pos, out)
     }
 
-    fn publish(&mut self, draft: F::Draft) -> Result<(), WriteFault> {
+    fn publish(&mut self, draft: F::Draft) -> Result<(), WriteFault>
+        ensures ok { OnOk result (Published (F.draft_name draft) (F.draft_bytes draft) (F.names self.old.inner) (F.names self.new.inner)) }
+        ensures others { OnOk result (ChangesOnly (F.draft_name draft) (F.names self.old.inner) (F.names self.new.inner)) }
+        ensures err { OnErr result (F.names self.new.inner ≡ F.names self.old.inner) }
+        ensures read_calls { self.new.reads ≡ self.old.reads }
+        ensures write_calls { self.new.writes ≡ self.old.writes }
+        ensures cause { HasCause WriteFault.Failed (F.faults self.old.inner) (F.faults self.new.inner) result }
+        ensures opens { opens_of self.new ≡ opens_of self.old }
+    {
         self.inner.publish(draft)
     }
 
-    fn discard(&mut self, draft: F::Draft) {
+    fn discard(&mut self, draft: F::Draft)
+        ensures names { F.names self.new.inner ≡ F.names self.old.inner }
+        ensures read_calls { self.new.reads ≡ self.old.reads }
+        ensures write_calls { self.new.writes ≡ self.old.writes }
+        ensures faults { F.faults self.new.inner ≡ F.faults self.old.inner }
+        ensures opens { opens_of self.new ≡ opens_of self.old }
+    {
         self.inner.discard(draft)
     }
 

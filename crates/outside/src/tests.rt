@@ -1,7 +1,7 @@
 use crate::calls::{has_two, is_written, open_fault, read_two, write_file};
 use crate::{
     CalmFolder, CalmInput, CalmSink, Failed, Failing, Folder, Input, Listed, MemFolder, MemInput,
-    MemSink, MemoryFolder, Method, Name, NameFault, Never, OpenFault, Plan, Sink, StdInput,
+    MemSink, MemoryFolder, Method, Name, NameFault, Never, OpenFault, Schedule, Sink, StdInput,
     StdSink, Tally, put_all,
 };
 use lists_and_answers::Items;
@@ -34,7 +34,7 @@ fn folder_of(alloc: Global, a: &Name, calls: &[Failing]) -> Result<MemFolder, Al
 }
 
 // Whether a file of a folder has these bytes.
-fn has_bytes<P: Plan>(folder: &MemoryFolder<P>, name: &Name, bytes: &[u8]) -> bool {
+fn has_bytes<P: Schedule>(folder: &MemoryFolder<P>, name: &Name, bytes: &[u8]) -> bool {
     folder.bytes(name) == Some(bytes)
 }
 

@@ -1,5 +1,5 @@
 use Rattle.std.proofs.Common.{◌≡◌, take}
-use Rattle.outside.proofs.plan.copy_failing.Given as goal
+use Rattle.outside.proofs.schedule.copy_failing.Given as goal
 
 -- what was copied so far
 abbrev pub invariant-loop-call : goal.invariant-loop-call

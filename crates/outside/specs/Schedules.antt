@@ -1,12 +1,12 @@
 -- Which calls of a fake fail.
-use Rattle.std.specs.Prelude.{ℕ, ◌⊎◌, max, List, Contains}
+use Rattle.std.specs.Prelude.{ℕ, ◌≡◌, ◌⊎◌, max, List, Contains}
 use Rattle.outside.specs.Causes.{one_more}
-use Rattle.outside.specs.declared.plan.Failing.{Failing}
-use Rattle.outside.specs.declared.plan.Failing.TheVariants.{Call, Of}
-use Rattle.outside.specs.declared.plan.Listed.{Listed}
-use Rattle.outside.specs.declared.plan.Made.{Made}
-use Rattle.outside.specs.declared.plan.Method.{Method}
-use Rattle.outside.specs.declared.plan.Method.TheVariants.{Open, ReadAt, Create, Grow, WriteAt, Append, DraftRead, Publish, Take, Put}
+use Rattle.outside.specs.declared.schedule.Failing.{Failing}
+use Rattle.outside.specs.declared.schedule.Failing.TheVariants.{Call, Of}
+use Rattle.outside.specs.declared.schedule.Listed.{Listed}
+use Rattle.outside.specs.declared.schedule.Made.{Made}
+use Rattle.outside.specs.declared.schedule.Method.{Method}
+use Rattle.outside.specs.declared.schedule.Method.TheVariants.{Open, ReadAt, Create, Grow, WriteAt, Append, DraftRead, Publish, Take, Put}
 
 -- the number of calls of a method
 abbrev pub number_of : Made → Method → ℕ
@@ -34,6 +34,22 @@ counted made Publish = record made { all = one_more made.all; publish = one_more
 counted made Take = record made { all = one_more made.all; take = one_more made.take }
 counted made Put = record made { all = one_more made.all; put = one_more made.put }
 
+-- no call was made
+abbrev pub no_call : Made
+no_call = record {
+  all = 0;
+  «open» = 0;
+  read_at = 0;
+  create = 0;
+  grow = 0;
+  write_at = 0;
+  append = 0;
+  draft_read = 0;
+  publish = 0;
+  take = 0;
+  put = 0;
+}
+
 -- the greater number of two, each by itself
 abbrev pub later_of : Made → Made → Made
 later_of a b = record {
@@ -50,18 +66,32 @@ later_of a b = record {
   put = max a.put b.put;
 }
 
--- the list of a plan
+-- the calls that are to fail
 abbrev pub failing_of : Listed → List Failing
-failing_of plan = plan.failing
+failing_of schedule = schedule.failing
 
--- the calls that were made under a plan
+-- the calls that were made
 abbrev pub made_of : Listed → Made
-made_of plan = plan.made
+made_of schedule = schedule.made
 
 -- how many of them failed
 abbrev pub faults_of : Listed → ℕ
-faults_of plan = plan.faults
+faults_of schedule = schedule.faults
 
 -- the list has the last call, which was one of this method, by its number among all or among those of the method
 abbrev pub IsPlanned : List Failing → Made → Method → Type 0
 IsPlanned failing made method = Contains failing (Call made.all) ⊎ Contains failing (Of method (number_of made method))
+
+-- the next call is to fail, if it is one of this method
+abbrev pub Plans : Listed → Method → Type 0
+Plans schedule method = IsPlanned (failing_of schedule) (counted (made_of schedule) method) method
+
+-- a view's schedule has the folder's list, and counts on from the folder's numbers
+pub record Forked (folder view : Listed) : Type 0 where
+  pub list : failing_of view ≡ failing_of folder
+  pub numbers : made_of view ≡ made_of folder
+
+-- the folder's numbers move to the view's where those are greater, and its list stays
+pub record Moved (before view now : Listed) : Type 0 where
+  pub list : failing_of now ≡ failing_of before
+  pub numbers : made_of now ≡ later_of (made_of before) (made_of view)

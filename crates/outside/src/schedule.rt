@@ -1,7 +1,8 @@
 // Which calls of a folder, an input or a sink in memory fail.
-ghost use Rattle.std.specs.Prelude.{◌≡◌, ◌≤◌, ℕ, IsTrue, IfOk, ◌↔◌};
-ghost use Rattle.outside.specs.Causes.{Rose, Absorbed, one_more};
-ghost use Rattle.outside.specs.Plans.{number_of, counted, later_of, IsPlanned, failing_of, made_of, faults_of};
+ghost use Rattle.std.specs.Prelude.{◌≡◌, ◌≤◌, ℕ, ⊤, IsTrue, IfOk, ◌↔◌};
+ghost use Rattle.outside.specs.Causes.{Rose, Absorbed, CountsWhere, one_more};
+ghost use Rattle.outside.specs.Schedules.{number_of, counted, later_of, no_call, Plans, Forked, Moved, failing_of, made_of, faults_of, IsPlanned};
+ghost use Rattle.outside.specs.declared.schedule.Method.{Method};
 
 use lists_and_answers::Items;
 use std::alloc::{AllocError, Global};
@@ -160,33 +161,60 @@ impl Made {
 }
 
 /// Says of each call whether it is to fail, and counts those that do.
-pub trait Plan: Sized + Send + Drop {
+pub trait Schedule: Sized + Send + Drop {
     /// How many calls failed.
     ghost faults: { Self → ℕ };
 
+    /// The next call is to fail, if it is one of this method.
+    ghost plans: { Self → Method → Type 0 };
+
+    /// The schedule of a view, which goes on from the folder's at the fork.
+    ghost forked: { Self → Self → Type 0 };
+
+    /// The schedule of a folder before and after it took in that of a view, which stands between the two.
+    ghost moved: { Self → Self → Self → Type 0 };
+
     /// Counts a call of this method, and says whether it is to fail.
     fn fails(&mut self, method: Method) -> bool
+        ensures planned { IsTrue result ↔ plans self.old method }
+        ensures count { CountsWhere (plans self.old method) (faults self.old) (faults self.new) }
         ensures later { faults self.old ≤ faults self.new }
         ensures risen { IsTrue result → Rose (faults self.old) (faults self.new) };
 
-    /// The plan for a view: it counts on from these numbers, and no call of it failed.
-    fn fork(&self, alloc: Global) -> Result<Self, AllocError>
-        ensures view { IfOk result (λ view. faults view ≡ 0) };
+    /// How many calls failed.
+    fn faults(&self) -> u64
+        ensures faults { result ≡ faults self.now };
 
-    /// Ends a view's plan.
+    /// The schedule of a view: it counts on from these numbers, and no call of it failed.
+    fn fork(&self, alloc: Global) -> Result<Self, AllocError>
+        ensures view { IfOk result (λ view. faults view ≡ 0) }
+        ensures schedule { IfOk result (λ view. forked self.now view) };
+
+    /// Ends a view's schedule.
     fn absorb(&mut self, view: Self)
-        ensures faults { Absorbed (faults self.old) (faults view) (faults self.new) };
+        ensures faults { Absorbed (faults self.old) (faults view) (faults self.new) }
+        ensures schedule { moved self.old view self.new };
 }
 
 /// No call fails.
 #[derive(Clone, Copy, Debug, Drop, PartialEq, Eq)]
 pub struct Never;
 
-impl Plan for Never {
+impl Schedule for Never {
     ghost faults = { λ _. 0 };
+
+    ghost plans = { λ _ _. ⊥ };
+
+    ghost forked = { λ _ _. ⊤ };
+
+    ghost moved = { λ _ _ _. ⊤ };
 
     fn fails(&mut self, _: Method) -> bool {
         false
+    }
+
+    fn faults(&self) -> u64 {
+        0
     }
 
     fn fork(&self, _: Global) -> Result<Self, AllocError> {
@@ -227,7 +255,8 @@ impl Listed {
     /// These calls are to fail, and none was made yet.
     pub fn new(failing: Items<Failing>) -> Self
         ensures failing { failing_of result ≡ failing }
-        ensures faults { ⟦<Listed as Plan>⟧.faults result ≡ 0 }
+        ensures made { made_of result ≡ no_call }
+        ensures faults { ⟦<Listed as Schedule>⟧.faults result ≡ 0 }
     {
         Listed {
             failing,
@@ -238,8 +267,8 @@ impl Listed {
 
     /// Counts a call that failed though no list names it.
     pub fn add_fault(&mut self)
-        ensures faults { ⟦<Listed as Plan>⟧.faults self.new ≡ one_more (⟦<Listed as Plan>⟧.faults self.old) }
-        ensures later { ⟦<Listed as Plan>⟧.faults self.old ≤ ⟦<Listed as Plan>⟧.faults self.new }
+        ensures faults { ⟦<Listed as Schedule>⟧.faults self.new ≡ one_more (⟦<Listed as Schedule>⟧.faults self.old) }
+        ensures later { ⟦<Listed as Schedule>⟧.faults self.old ≤ ⟦<Listed as Schedule>⟧.faults self.new }
         ensures failing { failing_of self.new ≡ failing_of self.old }
         ensures made { made_of self.new ≡ made_of self.old }
     {
@@ -247,15 +276,22 @@ impl Listed {
     }
 }
 
-impl Plan for Listed {
+impl Schedule for Listed {
     ghost faults = { λ s. s.faults };
 
+    ghost plans = { Plans };
+
+    ghost forked = { Forked };
+
+    ghost moved = { Moved };
+
     fn fails(&mut self, method: Method) -> bool
+        ensures planned { IsTrue result ↔ Plans self.old method }
+        ensures count { CountsWhere (Plans self.old method) (faults_of self.old) (faults_of self.new) }
         ensures later { faults_of self.old ≤ faults_of self.new }
         ensures risen { IsTrue result → Rose (faults_of self.old) (faults_of self.new) }
         ensures failing { failing_of self.new ≡ failing_of self.old }
         ensures made { made_of self.new ≡ counted (made_of self.old) method }
-        ensures planned { IsTrue result ↔ IsPlanned (failing_of self.old) (made_of self.new) method }
     {
         self.made = self.made.count(method);
         let fails = is_planned(self.failing.as_slice(), self.made, method);
@@ -265,11 +301,11 @@ impl Plan for Listed {
         fails
     }
 
-    fn fork(&self, alloc: Global) -> Result<Self, AllocError>
-        ensures view { IfOk result (λ view. faults_of view ≡ 0) }
-        ensures failing { IfOk result (λ view. failing_of view ≡ failing_of self.now) }
-        ensures made { IfOk result (λ view. made_of view ≡ made_of self.now) }
-    {
+    fn faults(&self) -> u64 {
+        self.faults
+    }
+
+    fn fork(&self, alloc: Global) -> Result<Self, AllocError> {
         Ok(Listed {
             failing: copy_failing(alloc, self.failing.as_slice())?,
             made: self.made,
@@ -277,11 +313,7 @@ impl Plan for Listed {
         })
     }
 
-    fn absorb(&mut self, view: Self)
-        ensures faults { Absorbed (faults_of self.old) (faults_of view) (faults_of self.new) }
-        ensures failing { failing_of self.new ≡ failing_of self.old }
-        ensures made { made_of self.new ≡ later_of (made_of self.old) (made_of view) }
-    {
+    fn absorb(&mut self, view: Self) {
         self.made = self.made.later(view.made);
         self.faults = self.faults.saturating_add(view.faults);
     }
