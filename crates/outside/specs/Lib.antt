@@ -5,5 +5,6 @@ pub mod Names
 pub mod Outside
 pub mod Paths
 pub mod Plans
+pub mod Reading
 pub mod Streams
 pub mod Tallies
