@@ -4,6 +4,7 @@ pub mod Memory
 pub mod Names
 pub mod Outside
 pub mod Paths
+pub mod Reading
 pub mod Schedules
 pub mod Streams
 pub mod Tallies
