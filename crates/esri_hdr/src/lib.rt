@@ -7,8 +7,6 @@ pub mod law;
 mod lines;
 pub mod parts;
 pub mod reading;
-#[cfg(test)]
-mod tests;
 mod values;
 pub mod writing;
 

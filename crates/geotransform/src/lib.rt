@@ -7,8 +7,6 @@ mod geo;
 mod parts;
 mod places;
 pub mod print;
-#[cfg(test)]
-mod tests;
 pub mod types;
 mod units;
 

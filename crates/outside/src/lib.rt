@@ -1,19 +1,13 @@
 // The outside of the program: files by name, an input, and sinks.
 #![tactic(auto)]
 
-#[cfg(test)]
-mod calls;
 mod calm_sink;
 mod disk;
-#[cfg(test)]
-mod disk_tests;
 mod folder;
 mod history;
 mod memory;
 mod memory_streams;
 mod name;
-#[cfg(test)]
-mod name_tests;
 mod path;
 mod plan;
 mod standard;
