@@ -11,8 +11,6 @@ mod placing;
 pub mod row;
 pub mod scanner;
 mod steps;
-#[cfg(test)]
-mod tests;
 mod tokens;
 mod values;
 pub mod writing;

@@ -2,7 +2,5 @@
 #![tactic(auto)]
 
 mod pool;
-#[cfg(test)]
-mod tests;
 
 pub use pool::{Entry, Evicted, Pool};

@@ -7,8 +7,6 @@ pub mod laws;
 pub mod places;
 pub mod reading;
 pub mod records;
-#[cfg(test)]
-mod tests;
 
 pub use head::{DtedFault, DtedHead};
 pub use reading::read_head;

@@ -9,8 +9,6 @@ mod lines;
 pub mod parts;
 mod plain;
 pub mod reading;
-#[cfg(test)]
-mod tests;
 mod values;
 pub mod writing;
 

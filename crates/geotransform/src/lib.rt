@@ -8,8 +8,6 @@ mod parts;
 mod places;
 pub mod print;
 mod sizes;
-#[cfg(test)]
-mod tests;
 pub mod types;
 mod units;
 mod whole_degrees;

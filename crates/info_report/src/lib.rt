@@ -6,7 +6,5 @@ mod dataset;
 mod pieces;
 mod places;
 mod report;
-#[cfg(test)]
-mod tests;
 
 pub use report::{ReportFault, write_info};

@@ -5,8 +5,6 @@ pub mod entry;
 pub mod laws;
 pub mod position;
 pub mod reading;
-#[cfg(test)]
-mod tests;
 mod words;
 
 pub use entry::{Entry, LineKind};

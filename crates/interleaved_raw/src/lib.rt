@@ -4,8 +4,6 @@
 pub mod laws;
 pub mod places;
 pub mod samples;
-#[cfg(test)]
-mod tests;
 
 pub use esri_hdr::sample_len;
 pub use places::{needed_len, position, stride};

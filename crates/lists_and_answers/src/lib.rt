@@ -2,7 +2,5 @@
 #![tactic(auto)]
 
 mod items;
-#[cfg(test)]
-mod tests;
 
 pub use items::Items;

@@ -5,8 +5,6 @@ pub mod covering;
 mod files;
 mod pieces;
 mod report;
-#[cfg(test)]
-mod tests;
 mod values;
 
 pub use covering::{files_at, push_covering};

@@ -9,8 +9,6 @@ pub mod pixel;
 mod products;
 pub mod run;
 mod spans;
-#[cfg(test)]
-mod tests;
 
 pub use axis::Axis;
 pub use covering::{columns, cover, lines};

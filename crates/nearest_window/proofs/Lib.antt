@@ -1,4 +1,4 @@
-mod Blocks
+pub mod Blocks
 mod Columns
 mod Counting
 mod Covers

@@ -9,8 +9,6 @@ mod picture;
 mod places;
 mod taking;
 mod targets;
-#[cfg(test)]
-mod tests;
 mod window;
 
 pub use lane::Lane;

@@ -1,12 +1,8 @@
 // The outside of the program: files by name, an input, and sinks.
 #![tactic(auto)]
 
-#[cfg(test)]
-mod calls;
 mod calm_sink;
 mod disk;
-#[cfg(test)]
-mod disk_tests;
 mod folder;
 mod history;
 mod memory;
@@ -14,8 +10,6 @@ mod memory_input;
 mod memory_sink;
 mod memory_streams;
 mod name;
-#[cfg(test)]
-mod name_tests;
 mod path;
 mod schedule;
 mod standard;

@@ -1,14 +1,27 @@
-// Tests of `catalog` and `band_blocks`, by their public calls alone: heads, walks, blocks and their loads. A check of
-// tests proves the crate that they stand in once more, so those of large crates have one of their own.
+// Tests of `outside`, of `catalog` and of what reads blocks and windows, by their public calls alone: names, folders and
+// streams, heads and walks, blocks with their loads, the pool and lanes. A check of tests proves the crate that they
+// stand in once more, so they have one of their own.
 #![tactic(auto)]
 
 #[cfg(test)]
 mod blocks;
 #[cfg(test)]
+mod calls;
+#[cfg(test)]
+mod disk;
+#[cfg(test)]
 mod fixtures;
+#[cfg(test)]
+mod folders;
 #[cfg(test)]
 mod heads;
 #[cfg(test)]
 mod loads;
 #[cfg(test)]
+mod names;
+#[cfg(test)]
+mod pools;
+#[cfg(test)]
 mod walks;
+#[cfg(test)]
+mod windows;

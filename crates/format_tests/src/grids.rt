@@ -1,0 +1,434 @@
+use ascii_grid::faults::GridFault;
+use ascii_grid::head::GridHead;
+use ascii_grid::row::{RowState, decode_more};
+use ascii_grid::scanner::Scanner;
+use ascii_grid::writing::{write_head, write_row};
+use geotransform::{GeoTransform, Sample, Size, Ticks};
+use std::alloc::Global;
+use std::test::*;
+
+/// Two rows of two values; the rows begin at bytes 53 and 58.
+const GRID: &[u8] = b"ncols 2\nnrows\t2\nxllcenter 10\nyllcenter 20\ncellsize 2\n1\t-2\n30 4\n";
+
+/// The head of a grid of one value, whose body begins at byte 51.
+const HEAD: &[u8] = b"ncols 1\nnrows 1\nxllcorner 0\nyllcorner 0\ncellsize 1\n";
+
+// Scans a text that comes in two pieces.
+fn scan(alloc: Global, front: &[u8], back: &[u8]) -> Result<GridHead, GridFault> {
+    let mut scanner = Scanner::new(alloc);
+    scanner.feed(front)?;
+    scanner.feed(back)?;
+    scanner.finish()
+}
+
+// The number and the place of the fault of a text, 0 and none where it is a grid.
+fn fault_of(alloc: Global, text: &[u8]) -> (u8, Option<u64>) {
+    match scan(alloc, text, b"") {
+        Ok(_) => (0, None),
+        Err(fault) => (fault.number(), fault.place()),
+    }
+}
+
+// The edges of the lower left pixel are half a pixel from its centre.
+#[test]
+fn scans_each_cut(rt: HostRuntime) -> Result<(), Fail> {
+    let alloc = rt.alloc();
+    for cut in 0..=GRID.len() {
+        let (front, back) = GRID.split_at(cut);
+        let head = scan(alloc, front, back).ok().ok_or("it is a grid")?;
+        assert!(rt; head.size == Size { w: 2, h: 2 });
+        assert!(rt; head.geo == transform(9, 23, 2, -2).ok_or("it is near")?);
+        assert!(rt; head.nodata.is_none());
+        assert_eq!(rt; head.rows.as_slice(), [53u64, 58].as_slice());
+    }
+    Ok(())
+}
+
+// The geotransform of whole units.
+fn transform(ox: i64, oy: i64, dx: i64, dy: i64) -> Option<GeoTransform> {
+    GeoTransform::new(units(ox)?, units(oy)?, units(dx)?, units(dy)?)
+}
+
+fn units(n: i64) -> Option<Ticks> {
+    Ticks::new((n as i128).checked_mul(Ticks::UNIT.get())?)
+}
+
+// A text, the number of its fault, 0 for none, and its place.
+const FAULTS: [(&[u8], u8, Option<u64>); 57] = [
+    (b"", 1, None),
+    (b" \n", 1, None),
+    (b"ncols 1", 1, None),
+    (b"ncols 1 3.5", 1, None),
+    (b"ncols", 1, None),
+    (b"ncols 1 nrows 1 xllcorner 0 yllcorner 0 dx 1 7", 1, None),
+    (b"ncols 1 nrows 1 xllcorner 0 yllcorner 0 dy 1 7", 1, None),
+    (
+        b"ncols 1 nrows 1 xllcorner 0 yllcorner 0 dx 1 dy 1 7",
+        0,
+        None,
+    ),
+    (b"ncols 1 nrows 1 xllcorner 0 cellsize 1 7", 1, None),
+    (
+        b"NCOLS 1 NRows 1 XLLCORNER 0 yllCorner 0 CELLSIZE 1 nodata_VALUE 5 7",
+        0,
+        None,
+    ),
+    (
+        b"ncols\t1\r\nnrows\t1\r\nxllcorner\t0\r\nyllcorner\t0\r\ncellsize\t1\r\n7\r\n",
+        0,
+        None,
+    ),
+    (
+        b"\x0b\x0cncols 9 ncols 1 nrows 1 xllcorner 0 yllcorner 0 cellsize 1 7",
+        0,
+        None,
+    ),
+    (b"ncols 0", 2, Some(6)),
+    (b"ncols 1234567890", 2, Some(6)),
+    (b"ncols +1", 2, Some(6)),
+    (b"ncols 1.0", 2, Some(6)),
+    (b"ncols 4194305 x", 6, None),
+    (
+        b"ncols 4194304 nrows 4194304 xllcorner 0 yllcorner 0 cellsize 1",
+        4,
+        None,
+    ),
+    (
+        b"ncols 4194304 nrows 4194304 xllcorner 0 yllcorner 0 cellsize 1 7",
+        4,
+        None,
+    ),
+    (b"xllcorner 1e12 ", 2, Some(10)),
+    (b"yllcenter 5. ", 2, Some(10)),
+    (b"cellsize 0", 2, Some(9)),
+    (b"dx -1", 2, Some(3)),
+    (b"dy 1e-17", 2, Some(3)),
+    (b"NODATA_value none", 2, Some(13)),
+    (b"cols 1", 2, Some(0)),
+    (b"cols", 2, Some(0)),
+    (b"ncols x", 2, Some(6)),
+    (
+        b"ncols 1 nrows 2 xllcorner 0 yllcorner 999999999999 cellsize 1 1 x",
+        6,
+        None,
+    ),
+    (
+        b"ncols 1 nrows 1 xllcorner 0 yllcorner 0 cellsize 1 ",
+        4,
+        None,
+    ),
+    (
+        b"ncols 1 nrows 1 xllcorner 0 yllcorner 0 cellsize 1 dx",
+        4,
+        None,
+    ),
+    (
+        b"ncols 1 nrows 1 xllcorner 0 yllcorner 0 cellsize 1 dz",
+        2,
+        Some(51),
+    ),
+    (
+        b"ncols 1 nrows 1 xllcorner 0 yllcorner 0 cellsize 1 x",
+        2,
+        Some(51),
+    ),
+    (
+        b"ncols 1 nrows 1 xllcorner 0 yllcorner 0 cellsize 1 7",
+        0,
+        None,
+    ),
+    (
+        b"ncols 1 nrows 1 xllcorner 0 yllcorner 0 cellsize 1 +7",
+        0,
+        None,
+    ),
+    (
+        b"ncols 1 nrows 1 xllcorner 0 yllcorner 0 cellsize 1 -7",
+        0,
+        None,
+    ),
+    (
+        b"ncols 1 nrows 1 xllcorner 0 yllcorner 0 cellsize 1 007",
+        0,
+        None,
+    ),
+    (
+        b"ncols 1 nrows 1 xllcorner 0 yllcorner 0 cellsize 1 3.0",
+        0,
+        None,
+    ),
+    (
+        b"ncols 1 nrows 1 xllcorner 0 yllcorner 0 cellsize 1 -3.00",
+        0,
+        None,
+    ),
+    (
+        b"ncols 1 nrows 1 xllcorner 0 yllcorner 0 cellsize 1 2147483647",
+        0,
+        None,
+    ),
+    (
+        b"ncols 1 nrows 1 xllcorner 0 yllcorner 0 cellsize 1 -2147483648",
+        0,
+        None,
+    ),
+    (
+        b"ncols 1 nrows 1 xllcorner 0 yllcorner 0 cellsize 1 3.5",
+        3,
+        Some(51),
+    ),
+    (
+        b"ncols 1 nrows 1 xllcorner 0 yllcorner 0 cellsize 1 1e2",
+        3,
+        Some(51),
+    ),
+    (
+        b"ncols 1 nrows 1 xllcorner 0 yllcorner 0 cellsize 1 .0",
+        3,
+        Some(51),
+    ),
+    (
+        b"ncols 1 nrows 1 xllcorner 0 yllcorner 0 cellsize 1 3.05",
+        3,
+        Some(51),
+    ),
+    (
+        b"ncols 1 nrows 1 xllcorner 0 yllcorner 0 cellsize 1 3.",
+        2,
+        Some(51),
+    ),
+    (
+        b"ncols 1 nrows 1 xllcorner 0 yllcorner 0 cellsize 1 7x",
+        2,
+        Some(51),
+    ),
+    (
+        b"ncols 1 nrows 1 xllcorner 0 yllcorner 0 cellsize 1 -",
+        2,
+        Some(51),
+    ),
+    (
+        b"ncols 1 nrows 1 xllcorner 0 yllcorner 0 cellsize 1 +.",
+        2,
+        Some(51),
+    ),
+    (
+        b"ncols 1 nrows 1 xllcorner 0 yllcorner 0 cellsize 1 0x1",
+        2,
+        Some(51),
+    ),
+    (
+        b"ncols 1 nrows 1 xllcorner 0 yllcorner 0 cellsize 1 2147483648",
+        6,
+        None,
+    ),
+    (
+        b"ncols 1 nrows 1 xllcorner 0 yllcorner 0 cellsize 1 -2147483649",
+        6,
+        None,
+    ),
+    (
+        b"ncols 1 nrows 1 xllcorner 0 yllcorner 0 cellsize 1 99999999999999999999",
+        6,
+        None,
+    ),
+    (
+        b"ncols 1 nrows 1 xllcorner 0 yllcorner 0 cellsize 1 7 8",
+        5,
+        Some(53),
+    ),
+    (
+        b"ncols 1 nrows 1 xllcorner 0 yllcorner 0 cellsize 1 7 x",
+        5,
+        Some(53),
+    ),
+    (
+        b"ncols 1 nrows 1 xllcorner 0 yllcorner 0 cellsize 1 7 3.5 ",
+        5,
+        Some(53),
+    ),
+    (
+        b"ncols 1 nrows 1 xllcorner 0 yllcorner 0 cellsize 1 x 7",
+        2,
+        Some(51),
+    ),
+];
+
+#[test]
+fn tells_faults(rt: HostRuntime) -> Result<(), Fail> {
+    let alloc = rt.alloc();
+    for (text, number, place) in FAULTS {
+        assert!(rt; fault_of(alloc, text) == (number, place));
+    }
+    Ok(())
+}
+
+// One cut at each place changes no fault.
+#[test]
+fn cuts_change_no_fault(rt: HostRuntime) -> Result<(), Fail> {
+    let alloc = rt.alloc();
+    let text = b"ncols 2\nnrows\t2\nxllcenter 10\nyllcenter 20\ncellsize 2\n1\t-2\n30 3.5\n";
+    for cut in 0..=text.len() {
+        let (front, back) = text.split_at(cut);
+        match scan(alloc, front, back) {
+            Ok(_) => assert!(rt; false, "3.5 isn't whole"),
+            Err(fault) => assert!(rt; fault == GridFault::NotInteger(61)),
+        }
+    }
+    Ok(())
+}
+
+// A token of so many zeros and a 7.
+#[test]
+fn takes_64_bytes(rt: HostRuntime) -> Result<(), Fail> {
+    for (zeros, wanted) in [(63, Ok(())), (64, Err(GridFault::BadToken(51)))] {
+        let mut scanner = Scanner::new(rt.alloc());
+        let _ = scanner.feed(HEAD);
+        for _ in 0..zeros {
+            assert!(rt; scanner.feed(b"0").is_ok());
+        }
+        assert!(rt; scanner.feed(b"7").is_ok());
+        assert!(rt; scanner.feed(b"\n") == wanted);
+        assert!(rt; scanner.finish().map(|_| ()) == wanted);
+    }
+    Ok(())
+}
+
+#[test]
+fn stays_refused(rt: HostRuntime) -> Result<(), Fail> {
+    let mut scanner = Scanner::new(rt.alloc());
+    let refused = Err(GridFault::BadToken(0));
+    assert!(rt; scanner.feed(b"cols 1 ") == refused);
+    assert!(rt; scanner.feed(HEAD) == refused);
+    assert!(rt; scanner.finish().map(|_| ()) == refused);
+    Ok(())
+}
+
+// What stands behind HEAD, and the NODATA.
+const NODATA: [(&[u8], Option<Sample>); 7] = [
+    (b"NODATA_value -9999 7", Some(-9999)),
+    (b"NODATA_value 1e3 7", Some(1000)),
+    (b"NODATA_value 5.0 7", Some(5)),
+    (b"NODATA_value 0.5 7", None),
+    (b"NODATA_value 2147483648 7", None),
+    (b"NODATA_value NaN 7", None),
+    (b"NODATA_value 5 nodata_value nan 7", None),
+];
+
+#[test]
+fn reads_nodata(rt: HostRuntime) -> Result<(), Fail> {
+    for (text, wanted) in NODATA {
+        let head = scan(rt.alloc(), HEAD, text).ok().ok_or("it is a grid")?;
+        assert!(rt; head.nodata == wanted);
+    }
+    Ok(())
+}
+
+// What stands behind HEAD, and the origin and the sizes in units.
+const PLACES: [(&[u8], (i64, i64, i64, i64)); 5] = [
+    (b"7", (0, 1, 1, -1)),
+    (b"dx 3 dy 4 7", (0, 1, 1, -1)),
+    (b"cellsize 2 cellsize 4 xllcenter 5 7", (3, 4, 4, -4)),
+    (b"yllcenter 5 cellsize 2 7", (0, 6, 2, -2)),
+    (
+        b"xllcenter 5 yllcenter 5 yllcorner 8 xllcorner 6 7",
+        (6, 9, 1, -1),
+    ),
+];
+
+#[test]
+fn places_grids(rt: HostRuntime) -> Result<(), Fail> {
+    for (text, (ox, oy, dx, dy)) in PLACES {
+        let head = scan(rt.alloc(), HEAD, text).ok().ok_or("it is a grid")?;
+        assert!(rt; head.geo == transform(ox, oy, dx, dy).ok_or("it is near")?);
+    }
+    Ok(())
+}
+
+// Reads a row from bytes in two pieces and, where they end within it, an empty one.
+fn read_row(front: &[u8], back: &[u8], out: &mut [Sample]) {
+    let mut state = RowState::new();
+    if !decode_more(&mut state, front, out) && !decode_more(&mut state, back, out) {
+        decode_more(&mut state, b"", out);
+    }
+}
+
+// The second piece isn't empty where it is asked for.
+#[test]
+fn reads_rows_of_each_cut(rt: HostRuntime) -> Result<(), Fail> {
+    for (place, wanted) in [(53usize, [1, -2]), (58, [30, 4])] {
+        let (_, rest) = GRID.split_at(place.min(GRID.len()));
+        for cut in 1..rest.len() {
+            let (front, back) = rest.split_at(cut.min(rest.len()));
+            let mut out = [9; 2];
+            read_row(front, back, &mut out);
+            assert!(rt; out == wanted);
+        }
+    }
+    Ok(())
+}
+
+// Two pieces of a row of three values, and what is read of them.
+const ROWS: [(&[u8], &[u8], [Sample; 3]); 6] = [
+    (b"1 2 3", b"4 5", [1, 2, 34]),
+    (b"1 2", b"", [1, 2, 0]),
+    (b" \t1", b"\n", [1, 0, 0]),
+    (b"x 3.5 2147483648 ", b"", [0, 0, 0]),
+    (b"-2147483648 3.0 +", b"2 9", [-2147483648, 3, 2]),
+    (b"", b"1 2 3 ", [0, 0, 0]),
+];
+
+#[test]
+fn reads_rows(rt: HostRuntime) -> Result<(), Fail> {
+    for (front, back, wanted) in ROWS {
+        let mut out = [9; 3];
+        read_row(front, back, &mut out);
+        assert!(rt; out == wanted);
+    }
+    Ok(())
+}
+
+// The size, the place in units, the NODATA and the text.
+#[test]
+fn writes_heads(rt: HostRuntime) -> Result<(), Fail> {
+    let size = Size { w: 2, h: 2 };
+    for (geo, nodata, wanted) in [
+        (transform(9, 23, 2, -2), None, SAME),
+        (transform(9, 23, 2, -3), Some(-7), OTHER),
+        (None, None, NOWHERE),
+    ] {
+        let mut text = Vec::new(rt.alloc());
+        write_head(size, geo.as_ref(), nodata, &mut text)?;
+        assert!(rt; text.as_slice() == wanted);
+    }
+    Ok(())
+}
+
+const SAME: &[u8] =
+    b"ncols        2\nnrows        2\nxllcorner    9\nyllcorner    19\ncellsize     2\n";
+
+const OTHER: &[u8] =
+    b"ncols        2\nnrows        2\nxllcorner    9\nyllcorner    17\ndx           2\ndy           3\nNODATA_value -7\n";
+
+const NOWHERE: &[u8] =
+    b"ncols        2\nnrows        2\nxllcorner    0\nyllcorner    0\ncellsize     1\n";
+
+#[test]
+fn writes_a_grid(rt: HostRuntime) -> Result<(), Fail> {
+    let size = Size { w: 2, h: 2 };
+    let geo = transform(9, 23, 2, -2);
+    let mut text = Vec::new(rt.alloc());
+    write_head(size, geo.as_ref(), None, &mut text)?;
+    write_row(&[1, -2], &mut text)?;
+    write_row(&[30, 4], &mut text)?;
+    assert!(rt;
+        text.as_slice()
+            == b"ncols        2\nnrows        2\nxllcorner    9\nyllcorner    19\ncellsize     2\n1 -2\n30 4\n".as_slice()
+    );
+    let head = scan(rt.alloc(), text.as_slice(), b"")
+        .ok()
+        .ok_or("it is a grid")?;
+    assert!(rt; head.size == size);
+    assert!(rt; Some(head.geo) == geo);
+    Ok(())
+}

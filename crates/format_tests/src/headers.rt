@@ -1,0 +1,233 @@
+use esri_hdr::head::RawHead;
+use esri_hdr::parts::{HdrFault, Layout};
+use esri_hdr::reading::read;
+use esri_hdr::writing::write;
+use geotransform::PixelType;
+use std::test::*;
+
+// One row for each rule, in the order in which they are checked: a header, and the fault's number.
+const REFUSED: [(&str, u8); 46] = [
+    ("", 1),
+    ("NROWS 2", 1),
+    ("NCOLS 0", 1),
+    ("NROWS\nNCOLS 3", 1),
+    ("NROWS 2\nXCOLS 3", 1),
+    ("NROWS 0\nNCOLS x", 2),
+    ("NCOLS 0\nNROWS 4194305", 4),
+    ("NROWS 2\nNCOLS 4194305", 4),
+    ("NROWS 2\nNCOLS 3.0", 2),
+    ("NROWS 2\nNCOLS 0000000000000000003", 2),
+    ("NROWS 2\nNCOLS 3\nNCOLS 0", 2),
+    ("NROWS 2\nNCOLS 3\nNBANDS 0\nNBITS 7", 2),
+    ("NROWS 2\nNCOLS 3\nNBITS 7\nNBANDS 257", 4),
+    ("NROWS 2\nNCOLS 3\nNBITS 64\nBYTEORDER X", 3),
+    ("NROWS 2\nNCOLS 3\nNBITS 0", 3),
+    ("NROWS 2\nNCOLS 3\nNBITS -8", 2),
+    ("NROWS 2\nNCOLS 3\nSKIPBYTES 1099511627777\nBYTEORDER X", 2),
+    ("NROWS 2\nNCOLS 3\nSKIPBYTES 1099511627777\nLAYOUT BI", 2),
+    ("NROWS 2\nNCOLS 3\nPIXELTYPE x\nSKIPBYTES 1099511627777", 4),
+    ("NROWS 2\nNCOLS 3\nBANDROWBYTES 2\nPIXELTYPE FLOAT", 3),
+    ("NROWS 2\nNCOLS 3\nNBITS 32\nPIXELTYPE float", 3),
+    ("NROWS 2\nNCOLS 3\nPIXELTYPE SIGNEDINT", 3),
+    ("NROWS 2\nNCOLS 3\nNBITS 16\nPIXELTYPE SIGNED", 2),
+    (
+        "NROWS 2\nNCOLS 3\nBANDROWBYTES 2\nTOTALROWBYTES 8589934593",
+        2,
+    ),
+    (
+        "NROWS 2\nNCOLS 3\nBANDROWBYTES 8589934593\nTOTALROWBYTES 2",
+        4,
+    ),
+    ("NROWS 2\nNCOLS 3\nTOTALROWBYTES 2\nULXMAP x", 2),
+    ("NROWS 2\nNCOLS 3\nTOTALROWBYTES 8589934593\nULXMAP x", 4),
+    (
+        "NROWS 2\nNCOLS 3\nNBANDS 2\nBANDROWBYTES 4\nTOTALROWBYTES 7",
+        2,
+    ),
+    ("NROWS 2\nNCOLS 3\nNBANDS 2\nBANDROWBYTES 8589934592", 4),
+    (
+        "NROWS 2\nNCOLS 3\nNBANDS 2\nBANDROWBYTES 8589934592\nTOTALROWBYTES 8589934593",
+        2,
+    ),
+    (
+        "NROWS 2\nNCOLS 3\nNBANDS 2\nLAYOUT bip\nNBITS 16\nTOTALROWBYTES 11",
+        2,
+    ),
+    ("NROWS 2\nNCOLS 3\nLAYOUT BIP\nTOTALROWBYTES x", 2),
+    (
+        "NROWS 2\nNCOLS 3\nLAYOUT BSQ\nBANDGAPBYTES 1099511627777\nXDIM 0",
+        4,
+    ),
+    ("NROWS 2\nNCOLS 3\nLAYOUT BSQ\nBANDGAPBYTES 1e3", 2),
+    ("NROWS 2\nNCOLS 3\nULXMAP x", 2),
+    ("NROWS 2\nNCOLS 3\nULYMAP 5.", 2),
+    ("NROWS 2\nNCOLS 3\nULXMAP 1e12", 2),
+    ("NROWS 2\nNCOLS 3\nXDIM 0", 2),
+    ("NROWS 2\nNCOLS 3\nXDIM 0.00000000000000001", 2),
+    ("NROWS 2\nNCOLS 3\nYDIM -1", 2),
+    ("NROWS 2\nNCOLS 3\nULXMAP -999999999999.9\nULYMAP 0", 2),
+    ("NROWS 2\nNCOLS 3\nULXMAP -999999999999.5\nULYMAP 0", 2),
+    ("NROWS 2\nNCOLS 3\nULXMAP 0\nULYMAP 999999999999.75", 2),
+    ("nrows 2\rncols 3\r\nnbits\t16\r\npixeltype\t float", 3),
+    ("  NROWS 2\nNCOLS  3 4\nNBITS 16 8\nLAYOUT BILBIL", 2),
+    ("NROWS 2\x0cNCOLS 3", 1),
+];
+
+#[test]
+fn refuses_by_each_rule(rt: HostRuntime) {
+    for (text, number) in REFUSED {
+        let got = read(text.as_bytes()).err().map(|fault| fault.number());
+        assert!(rt; got == Some(number), "{text}");
+    }
+}
+
+const ROW_OF_FOUR: &str = "BYTEORDER      I
+LAYOUT         BIL
+NROWS          1
+NCOLS          4
+NBANDS         1
+NBITS          8
+SKIPBYTES      0
+BANDROWBYTES   4
+TOTALROWBYTES  4
+BANDGAPBYTES   0
+PIXELTYPE      UNSIGNEDINT
+NODATA         9
+";
+
+const WORLD: &str = "BYTEORDER      M
+LAYOUT         BIL
+NROWS          6000
+NCOLS          4800
+NBANDS         1
+NBITS          16
+SKIPBYTES      0
+BANDROWBYTES   9600
+TOTALROWBYTES  9600
+BANDGAPBYTES   0
+PIXELTYPE      SIGNEDINT
+NODATA         -9999
+ULXMAP         -99.99583333333334
+ULYMAP         89.99583333333334
+XDIM           0.00833333333333
+YDIM           0.00833333333333
+";
+
+const GAPS: &str = "BYTEORDER      I
+LAYOUT         BSQ
+NROWS          2
+NCOLS          3
+NBANDS         2
+NBITS          32
+SKIPBYTES      1099511627776
+BANDROWBYTES   12
+TOTALROWBYTES  12
+BANDGAPBYTES   1099511627776
+PIXELTYPE      UNSIGNEDINT
+";
+
+// A header, and the text that is written of its head.
+const WRITTEN: [(&str, &str); 6] = [
+    (ROW_OF_FOUR, ROW_OF_FOUR),
+    (
+        "ncols 9\nNCOLS 4\nNROWS 1\nNODATA 9\nNOTHING 3\nULXMAP 5\n",
+        ROW_OF_FOUR,
+    ),
+    (
+        "NROWS 1\rNCOLS 4\rBANDGAPBYTES x\r\nNODATA 0.9e1\rPIXELTYPE unsignedint",
+        ROW_OF_FOUR,
+    ),
+    (WORLD, WORLD),
+    (
+        "BYTEORDER MSBFIRST\r\nLAYOUT bil\r\nNROWS 6000\r\nNCOLS 4800\r\nNBANDS 1\r\nNBITS 16\r\nBANDROWBYTES 9600\r\nTOTALROWBYTES 9600\r\nBANDGAPBYTES 0\r\nNODATA -9999\r\nULXMAP -99.99583333333334\r\nULYMAP 89.99583333333334\r\nXDIM 0.00833333333333\r\nYDIM 0.00833333333333\r\n",
+        WORLD,
+    ),
+    (
+        "NROWS 2\nNCOLS 3\nLAYOUT BSQ\nNBANDS 2\nNBITS 32\nSKIPBYTES 1099511627776\nBANDGAPBYTES 1099511627776\nBANDROWBYTES 1\nTOTALROWBYTES x\nBYTEORDER lsb\nNODATA -0.0\nNODATA none\nXDIM 7\nULYMAP 1",
+        GAPS,
+    ),
+];
+
+#[test]
+fn writes_what_it_reads(rt: HostRuntime) -> Result<(), Fail> {
+    for (text, wanted) in WRITTEN {
+        let head = read(text.as_bytes()).ok().ok_or("it is a header")?;
+        let mut out = Vec::new(rt.alloc());
+        write(&head, &mut out)?;
+        assert!(rt; out.as_slice() == wanted.as_bytes(), "{text}");
+    }
+    Ok(())
+}
+
+fn kind_of(text: &str) -> Option<(PixelType, Option<i128>)> {
+    let head = read(text.as_bytes()).ok()?;
+    Some((head.kind, head.nodata))
+}
+
+#[test]
+fn reads_types_and_no_data(rt: HostRuntime) {
+    assert!(rt;
+        kind_of("NROWS 2\nNCOLS 3\nNBITS 16\nNODATA -1") == Some((PixelType::Int16, Some(-1)))
+    );
+    assert!(rt;
+        kind_of("NROWS 2\nNCOLS 3\nNBITS 32\nNODATA -0.5") == Some((PixelType::Int32, None))
+    );
+    assert!(rt;
+        kind_of("NROWS 2\nNCOLS 3\nNBITS 16\nNODATA -0") == Some((PixelType::UInt16, Some(0)))
+    );
+    assert!(rt; kind_of("NROWS 2\nNCOLS 3\nNBITS 8\nNODATA -1") == Some((PixelType::Byte, None)));
+    assert!(rt; kind_of("NROWS 2\nNCOLS 3\nNODATA 256") == Some((PixelType::Byte, None)));
+    assert!(rt;
+        kind_of("NROWS 2\nNCOLS 3\nNBITS 32\nNODATA -1\nPIXELTYPE UNSIGNEDINT")
+            == Some((PixelType::UInt32, None))
+    );
+}
+
+fn layout_of(text: &str) -> Option<(Layout, u64, u64, u64)> {
+    let head = read(text.as_bytes()).ok()?;
+    Some((head.layout, head.band_row, head.total_row, head.gap))
+}
+
+#[test]
+fn counts_rows_by_layout(rt: HostRuntime) {
+    assert!(rt;
+        layout_of("NROWS 2\nNCOLS 3\nNBANDS 2\nBANDROWBYTES 5") == Some((Layout::Bil, 5, 10, 0))
+    );
+    assert!(rt;
+        layout_of("NROWS 2\nNCOLS 3\nNBANDS 2\nLAYOUT BIP\nBANDROWBYTES 1\nTOTALROWBYTES 7")
+            == Some((Layout::Bip, 3, 7, 0))
+    );
+    assert!(rt;
+        layout_of("NROWS 2\nNCOLS 3\nNBANDS 2\nLAYOUT BSQ\nTOTALROWBYTES 1\nBANDGAPBYTES 4")
+            == Some((Layout::Bsq, 3, 3, 4))
+    );
+}
+
+/// The numbers of a head's geotransform, in ticks.
+fn places_of(head: &RawHead) -> Option<(i128, i128, i128, i128)> {
+    let t = head.transform()?;
+    Some((t.ox.get(), t.oy.get(), t.dx.get(), t.dy.get()))
+}
+
+#[test]
+fn transforms(rt: HostRuntime) -> Result<(), Fail> {
+    let unit = 180_000_000_000_000_000;
+    let head = read(b"NROWS 2\nNCOLS 3\nULXMAP 10\nULYMAP 20.5\nXDIM 3")
+        .ok()
+        .ok_or("it is a header")?;
+    assert!(rt; places_of(&head) == Some((unit * 17 / 2, 21 * unit, 3 * unit, -unit)));
+    let plain = read(b"NROWS 2\nNCOLS 3\nULXMAP 10")
+        .ok()
+        .ok_or("it is a header")?;
+    assert!(rt; places_of(&plain).is_none());
+    Ok(())
+}
+
+#[test]
+fn refuses_a_long_header(rt: HostRuntime) -> Result<(), Fail> {
+    let mut text = vec![in rt.alloc(); b' '; 1_048_576]?;
+    assert!(rt; read(&text).err() == Some(HdrFault::MissingKey));
+    text.push(b'\n')?;
+    assert!(rt; read(&text).err() == Some(HdrFault::Limit));
+    Ok(())
+}

@@ -1,0 +1,453 @@
+ghost use Rattle.std.specs.Prelude.{◌<◌, ◌≤◌, ◌^◌, unsigned_abs};
+ghost use Rattle.geotransform.specs.Geo.{IsRaster};
+
+use geotransform::decimal::{
+    is_decimal, is_negative_decimal, read_decimal, read_number, read_whole,
+};
+use geotransform::print::{print_decimal, print_short};
+use geotransform::types::{PixelType, Size, clamp, holds};
+use geotransform::{GeoTransform, Ticks, round16};
+use std::test::*;
+
+// The values of the four tables were computed outside this program, with the exact fractions of
+// Python's standard library: a regular expression of the form, the digits over a power of ten, and
+// half away from zero on the fraction. The texts that are refused stand between them.
+
+const DECIMALS: [(&str, Option<i128>); 78] = [
+    ("1e-16", Some(18)),
+    ("5e-17", Some(18)),
+    ("4e-17", Some(0)),
+    ("-5e-17", Some(-18)),
+    ("-4e-17", Some(0)),
+    ("4.9999999999999999999999999e-17", Some(0)),
+    (".5", Some(90_000_000_000_000_000)),
+    ("-.25", Some(-45_000_000_000_000_000)),
+    ("+.125", Some(22_500_000_000_000_000)),
+    ("8.3333333333333339e-04", Some(149_999_999_999_994)),
+    ("-99.99583333333334", Some(-17_999_250_000_000_001_200)),
+    ("0.00833333333333", Some(1_499_999_999_999_400)),
+    ("0", Some(0)),
+    ("-0", Some(0)),
+    ("+0.0", Some(0)),
+    ("00012", Some(2_160_000_000_000_000_000)),
+    ("+12.50", Some(2_250_000_000_000_000_000)),
+    ("1E2", Some(18_000_000_000_000_000_000)),
+    ("1e+2", Some(18_000_000_000_000_000_000)),
+    ("1e-2", Some(1_800_000_000_000_000)),
+    ("1e002", Some(18_000_000_000_000_000_000)),
+    ("-1.5E-005", Some(-2_700_000_000_000)),
+    ("0.00000000000000005", Some(18)),
+    ("-0.00000000000000005", Some(-18)),
+    ("0.00000000000000015", Some(36)),
+    ("-0.00000000000000015", Some(-36)),
+    ("2.5e-16", Some(54)),
+    ("-2.5e-16", Some(-54)),
+    ("2.4999999999999999e-16", Some(36)),
+    ("-1.00000000000000025", Some(-180_000_000_000_000_054)),
+    ("0e999", Some(0)),
+    ("-0.0e-999", Some(0)),
+    ("1e-999", Some(0)),
+    ("-9.9e-999", Some(0)),
+    ("1e999", None),
+    ("-9e999", None),
+    ("1e11", Some(18_000_000_000_000_000_000_000_000_000)),
+    ("1e12", None),
+    ("-1e12", None),
+    (
+        "999999999999.9999999999999999",
+        Some(179_999_999_999_999_999_999_999_999_982),
+    ),
+    (
+        "-999999999999.9999999999999999",
+        Some(-179_999_999_999_999_999_999_999_999_982),
+    ),
+    (
+        "999999999999.99999999999999994",
+        Some(179_999_999_999_999_999_999_999_999_982),
+    ),
+    ("999999999999.99999999999999995", None),
+    ("-999999999999.99999999999999995", None),
+    (
+        "0.11111111111111111111111111111111111111111111111111111111111111",
+        Some(19_999_999_999_999_998),
+    ),
+    (
+        "0.111111111111111111111111111111111111111111111111111111111111111",
+        None,
+    ),
+    (
+        "100000000000000000000000000000000000000000000000000000000000e-59",
+        Some(180_000_000_000_000_000),
+    ),
+    (
+        "-77777777777777777777777777777777777777777777777777777777777e-59",
+        Some(-140_000_000_000_000_004),
+    ),
+    (
+        ".00000000000000000000000000000000000000000000000000000000001e70",
+        Some(18_000_000_000_000_000_000_000_000_000),
+    ),
+    (
+        ".00000000000000000000000000000000000000000000000000000000001e71",
+        None,
+    ),
+    (
+        "999999999999999999999999999999999999999999999999999999999999e-49",
+        Some(18_000_000_000_000_000_000_000_000_000),
+    ),
+    (
+        "999999999999999999999999999999999999999999999999999999999999e-48",
+        None,
+    ),
+    (
+        "0000000000000000000000000000000000000000000000000000000000000000",
+        Some(0),
+    ),
+    (
+        "00000000000000000000000000000000000000000000000000000000000000000",
+        None,
+    ),
+    (
+        "44444444444444444444444444444444444444444444444445e-66",
+        Some(0),
+    ),
+    (
+        "-44444444444444444444444444444444444444444444444445e-66",
+        Some(0),
+    ),
+    (
+        "555555555555555555555555555555555555555555555555555555555555e-77",
+        Some(0),
+    ),
+    ("", None),
+    (".", None),
+    ("-", None),
+    ("+", None),
+    ("5.", None),
+    ("-.", None),
+    ("e5", None),
+    (".e5", None),
+    ("1e", None),
+    ("1e+", None),
+    ("1e0002", None),
+    ("1e1234", None),
+    ("1x", None),
+    (" 1", None),
+    ("1 ", None),
+    ("--1", None),
+    ("1.2.3", None),
+    ("1e1.5", None),
+    ("0x10", None),
+    ("1,5", None),
+    ("nan", None),
+];
+
+const WHOLES: [(&str, Option<i128>); 32] = [
+    ("0", Some(0)),
+    ("-0", Some(0)),
+    ("7", Some(7)),
+    ("+7", Some(7)),
+    ("-9999.000", Some(-9_999)),
+    ("1200e-2", Some(12)),
+    ("1201e-2", None),
+    ("-12e2", Some(-1_200)),
+    ("0.5", None),
+    ("5e-1", None),
+    ("50e-1", Some(5)),
+    ("99999999999999999999", Some(99_999_999_999_999_999_999)),
+    ("-99999999999999999999", Some(-99_999_999_999_999_999_999)),
+    ("100000000000000000000", None),
+    ("1e20", None),
+    ("1e19", Some(10_000_000_000_000_000_000)),
+    ("-1e19", Some(-10_000_000_000_000_000_000)),
+    ("99999999999999999999.0", Some(99_999_999_999_999_999_999)),
+    ("0.0000000000000000001e19", Some(1)),
+    ("12345678901234567890e-1", Some(1_234_567_890_123_456_789)),
+    ("0e999", Some(0)),
+    ("0e-999", Some(0)),
+    ("1e-999", None),
+    ("1e999", None),
+    (
+        "100000000000000000000000000000000000000000000000000000000000e-59",
+        Some(1),
+    ),
+    (
+        "0000000000000000000000000000000000000000000099999999999999999999",
+        Some(99_999_999_999_999_999_999),
+    ),
+    (
+        "00000000000000000000000000000000000000000000099999999999999999999",
+        None,
+    ),
+    ("", None),
+    ("-", None),
+    ("5.", None),
+    ("1e0002", None),
+    ("12a", None),
+];
+
+const FIXED: [(i128, u32, &str); 31] = [
+    (-1, 3, "0.000"),
+    (1, 0, "0"),
+    (0, 0, "0"),
+    (0, 16, "0.0000000000000000"),
+    (-90_000_000_000_000_000, 0, "-1"),
+    (90_000_000_000_000_000, 0, "1"),
+    (89_999_999_999_999_999, 0, "0"),
+    (-89_999_999_999_999_999, 0, "0"),
+    (180_000_000_000_000_000, 0, "1"),
+    (180_000_000_000_000_000, 1, "1.0"),
+    (-180_000_000_000_000_000, 16, "-1.0000000000000000"),
+    (89_999_999_999_999, 3, "0.000"),
+    (90_000_000_000_000, 3, "0.001"),
+    (-90_000_000_000_000, 3, "-0.001"),
+    (-89_999_999_999_999, 3, "0.000"),
+    (9, 16, "0.0000000000000001"),
+    (8, 16, "0.0000000000000000"),
+    (-9, 16, "-0.0000000000000001"),
+    (-8, 16, "0.0000000000000000"),
+    (27, 16, "0.0000000000000002"),
+    (-27, 16, "-0.0000000000000002"),
+    (26, 16, "0.0000000000000001"),
+    (-17_999_250_000_000_001_200, 9, "-99.995833333"),
+    (-17_999_250_000_000_001_200, 15, "-99.995833333333340"),
+    (-1_800_000_000_000_000_000, 2, "-10.00"),
+    (149_999_999_999_994, 15, "0.000833333333333"),
+    (
+        9_999_999_999_999_999_999_999_999_999_999_999_999,
+        16,
+        "55555555555555555555.5555555555555556",
+    ),
+    (
+        -9_999_999_999_999_999_999_999_999_999_999_999_999,
+        16,
+        "-55555555555555555555.5555555555555556",
+    ),
+    (
+        9_999_999_999_999_999_999_999_999_999_999_999_999,
+        0,
+        "55555555555555555556",
+    ),
+    (179_999_999_999_910_000_000_000_000_000, 0, "1000000000000"),
+    (-18_000_000_000_000_000_900, 15, "-100.000000000000005"),
+];
+
+const SHORT: [(i128, &str); 20] = [
+    (0, "0"),
+    (1, "0"),
+    (8, "0"),
+    (9, "0.0000000000000001"),
+    (-9, "-0.0000000000000001"),
+    (-8, "0"),
+    (18, "0.0000000000000001"),
+    (-18, "-0.0000000000000001"),
+    (180_000_000_000_000_000, "1"),
+    (-180_000_000_000_000_000, "-1"),
+    (90_000_000_000_000_000, "0.5"),
+    (-45_000_000_000_000_000, "-0.25"),
+    (1_800_000_000_000_000_000, "10"),
+    (-17_999_250_000_000_001_200, "-99.99583333333334"),
+    (1_499_999_999_999_400, "0.00833333333333"),
+    (149_999_999_999_994, "0.0008333333333333"),
+    (
+        9_999_999_999_999_999_999_999_999_999_999_999_999,
+        "55555555555555555555.5555555555555556",
+    ),
+    (
+        -9_999_999_999_999_999_999_999_999_999_999_999_999,
+        "-55555555555555555555.5555555555555556",
+    ),
+    (
+        179_999_999_999_999_999_999_999_999_982,
+        "999999999999.9999999999999999",
+    ),
+    (
+        -179_999_999_999_999_999_999_999_999_982,
+        "-999999999999.9999999999999999",
+    ),
+];
+
+#[test]
+fn reads_decimals(rt: HostRuntime) {
+    for (text, ticks) in &DECIMALS {
+        let value = match read_decimal(text.as_bytes()) {
+            Some(value) => Some(value.get()),
+            None => None,
+        };
+        assert_eq!(rt; value, *ticks, "{text}");
+    }
+    for (text, whole) in &WHOLES {
+        assert_eq!(rt; read_whole(text.as_bytes()), *whole, "{text}");
+    }
+    assert!(rt; is_decimal(b"1e999") && !is_decimal(b"5."));
+    assert!(rt; is_negative_decimal(b"-1e-999") && !is_negative_decimal(b"-0.0e5"));
+    assert_eq!(rt; read_number(b"000000000000000012"), Some(12));
+    assert_eq!(rt; read_number(b"0000000000000000012"), None);
+}
+
+#[test]
+fn prints_decimals(rt: HostRuntime) -> Result<(), Fail> {
+    for (value, places, text) in &FIXED {
+        let mut out = Vec::new(rt.alloc());
+        out.push(b'=')?;
+        if *places <= 16 {
+            print_decimal(ticks(*value), *places, &mut out)?;
+        }
+        assert_eq!(rt; &out[1..], text.as_bytes(), "{value} at {places}");
+        assert_eq!(rt; out[0], b'=');
+    }
+    for (value, text) in &SHORT {
+        let mut out = Vec::new(rt.alloc());
+        print_short(ticks(*value), &mut out)?;
+        assert_eq!(rt; out.as_slice(), text.as_bytes(), "{value}");
+    }
+    Ok(())
+}
+
+/// So many ticks, or one unit, which no table expects in their place.
+fn ticks(n: i128) -> Ticks {
+    Ticks::new(n).unwrap_or(Ticks::UNIT)
+}
+
+#[test]
+fn keeps_types(rt: HostRuntime) {
+    let kinds = [
+        (PixelType::Byte, "Byte", "bYTE", 0, 255),
+        (PixelType::UInt16, "UInt16", "uint16", 0, 65_535),
+        (PixelType::Int16, "Int16", "INT16", -32_768, 32_767),
+        (PixelType::UInt32, "UInt32", "uInt32", 0, 4_294_967_295),
+        (
+            PixelType::Int32,
+            "Int32",
+            "int32",
+            -2_147_483_648,
+            2_147_483_647,
+        ),
+    ];
+    for (kind, name, other_case, least, greatest) in &kinds {
+        assert_eq!(rt; kind.name(), *name);
+        assert_eq!(rt; PixelType::read_name(name.as_bytes(), false), Some(*kind));
+        assert_eq!(rt;
+            PixelType::read_name(other_case.as_bytes(), true),
+            Some(*kind)
+        );
+        assert_eq!(rt; PixelType::read_name(other_case.as_bytes(), false), None);
+        assert_eq!(rt; clamp(*kind, i128::MIN), *least);
+        assert_eq!(rt; clamp(*kind, i128::MAX), *greatest);
+        assert_eq!(rt; clamp(*kind, 77), 77);
+        assert!(rt; holds(*kind, *least) && holds(*kind, *greatest));
+        assert!(rt;
+            !holds(*kind, least.saturating_sub(1)) && !holds(*kind, greatest.saturating_add(1))
+        );
+    }
+    for text in &["", "byte ", "Float32", "UInt1", "UInt166"] {
+        assert_eq!(rt; PixelType::read_name(text.as_bytes(), true), None);
+    }
+}
+
+fn geo(ox: i128, oy: i128, dx: i128, dy: i128) -> Option<GeoTransform> {
+    GeoTransform::new(ticks(ox), ticks(oy), ticks(dx), ticks(dy))
+}
+
+#[test]
+fn finds_places(rt: HostRuntime) {
+    const FAR: i128 = 180_000_000_000_000_000_000_000_000_000;
+    assert!(rt; geo(1 - FAR, FAR - 1, FAR - 1, 1 - FAR).is_some());
+    assert!(rt; geo(0, FAR, 1, -1).is_none() && geo(0, 0, 0, -1).is_none());
+    assert!(rt; geo(0, 0, 1, 0).is_none() && geo(0, 0, -FAR, -1).is_none());
+    let made = geo(
+        -18_000_000_000_000_000_000,
+        16_200_000_000_000_000_000,
+        1_499_999_999_999_400,
+        -1_499_999_999_999_400,
+    );
+    assert!(rt; made.is_some());
+    if let Some(geo) = made {
+        let (x, y) = geo.corner(4800, 6000);
+        assert_eq!(rt; x.get(), -10_800_000_000_002_880_000);
+        assert_eq!(rt; y.get(), 7_200_000_000_003_600_000);
+        let (x, y) = geo.corner(-16_777_216, -16_777_216);
+        assert_eq!(rt; x.get(), -25_183_823_999_989_933_670_400);
+        assert_eq!(rt; y.get(), 25_182_023_999_989_933_670_400);
+        assert_eq!(rt; geo.locate(geo.ox, geo.oy), (0, 0));
+        let (px, py) = (
+            Ticks::of(-18_000_000_000_000_000_001),
+            Ticks::of(16_200_000_000_000_000_001),
+        );
+        assert_eq!(rt; geo.locate(px, py), (-1, -1));
+        let (px, py) = (
+            Ticks::of(-17_998_500_000_000_000_601),
+            Ticks::of(16_198_500_000_000_000_601),
+        );
+        assert_eq!(rt; geo.locate(px, py), (0, 0));
+        let (px, py) = (
+            Ticks::of(-17_998_500_000_000_000_600),
+            Ticks::of(16_198_500_000_000_000_600),
+        );
+        assert_eq!(rt; geo.locate(px, py), (1, 1));
+        let (px, py) = (Ticks::of(FAR - 1), Ticks::of(1 - FAR));
+        assert_eq!(rt;
+            geo.locate(px, py),
+            (120_000_000_012_048, 120_000_000_010_848)
+        );
+    }
+    assert_eq!(rt; round16(Ticks::of(9)).get(), 18);
+    assert_eq!(rt; round16(Ticks::of(-9)).get(), -18);
+    assert_eq!(rt; round16(Ticks::of(-8)).get(), 0);
+}
+
+type Numbers = (i128, i128, i128, i128);
+
+fn window(of: Numbers, ul: (i128, i128), lr: (i128, i128)) -> Option<Numbers>
+    requires ul { (unsigned_abs ul.0 < 10 ^ 6) × (unsigned_abs ul.1 < 10 ^ 6) }
+    requires lr { (unsigned_abs lr.0 < 10 ^ 6) × (unsigned_abs lr.1 < 10 ^ 6) }
+{
+    let geo = geo(of.0, of.1, of.2, of.3)?;
+    Some(geo.window_of(
+        Ticks::of(ul.0),
+        Ticks::of(ul.1),
+        Ticks::of(lr.0),
+        Ticks::of(lr.1),
+    ))
+}
+
+fn cut(of: Numbers, src: Size, out: Size) -> Option<Numbers>
+    requires src { IsRaster src }
+    requires out { IsRaster out }
+{
+    let geo = geo(of.0, of.1, of.2, of.3)?;
+    let part = geo.cut(3, -4, src, out)?;
+    Some((part.ox.get(), part.oy.get(), part.dx.get(), part.dy.get()))
+}
+
+fn size(w: u32, h: u32) -> Size
+    requires { (0 < w) × (w ≤ 4194304) × (0 < h) × (h ≤ 4194304) }
+    ensures { IsRaster result }
+{
+    Size { w, h }
+}
+
+#[test]
+fn cuts_windows(rt: HostRuntime) {
+    let north = (7, -5, 1000, -1000);
+    assert_eq!(rt; window(north, (6, -4), (1505, -1503)), Some((0, 0, 1, 1)));
+    assert_eq!(rt; window(north, (5, -3), (1506, -1504)), Some((-1, -1, 2, 2)));
+    assert_eq!(rt;
+        window(north, (1006, -1004), (1007, -1005)),
+        Some((1, 1, 0, 0))
+    );
+    let south = (-7, 5, -1000, 1000);
+    assert_eq!(rt; window(south, (-6, 4), (-1505, 1503)), Some((0, 0, 1, 1)));
+    assert_eq!(rt; window(south, (-5, 3), (-1506, 1504)), Some((-1, -1, 2, 2)));
+    assert_eq!(rt;
+        cut(north, size(1, 1), size(2, 2)),
+        Some((3007, 3995, 500, -500))
+    );
+    let fine = (7, -5, 1, -1);
+    assert_eq!(rt; cut(fine, size(1, 1), size(2, 2)), Some((10, -1, 1, -1)));
+    assert_eq!(rt; cut(fine, size(3, 3), size(2, 2)), Some((10, -1, 2, -2)));
+    assert_eq!(rt; cut(fine, size(1, 1), size(3, 2)), None);
+    assert_eq!(rt; cut(fine, size(1, 1), size(2, 3)), None);
+    let wide = (0, 0, 60_000_000_000_000_000_000_000_000_000, -1);
+    assert_eq!(rt; cut(wide, size(1, 1), size(1, 1)), None);
+}

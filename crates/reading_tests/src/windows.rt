@@ -1,0 +1,514 @@
+ghost use Rattle.std.specs.Prelude.{◌≡◌, ◌<◌, ◌≤◌, ℕ, Some, length};
+ghost use Rattle.outside.specs.Outside.{Files};
+ghost use Rattle.catalog.specs.Walk.{IsWalked};
+ghost use Rattle.nearest_window.specs.Right.{IsRight};
+
+use band_blocks::{LoadFault, Steps};
+use catalog::{Catalog, open_all};
+use geotransform::{Rect, Sample, Size};
+use lists_and_answers::Items;
+use nearest_window::Lane;
+use outside::{CalmFolder, Failing, Folder, Listed, MemoryFolder, Name, Never, Schedule, Tally};
+use std::alloc::Global;
+use std::marker::Brand;
+use std::sync::ledger::{Blank, Ledger};
+use std::test::*;
+
+// What a read answered.
+fn said(answer: &Result<(), LoadFault>) -> &'static str {
+    match answer {
+        Ok(()) => "",
+        Err(LoadFault::FolderFault) => "folder",
+        Err(LoadFault::Changed { .. }) => "changed",
+        Err(LoadFault::Memory) => "memory",
+    }
+}
+
+// The samples of the first band of a small dataset, read twice through a lane of this capacity, behind
+// what was answered.
+fn read_twice<F: Folder, L: Ledger>(
+    alloc: Global,
+    cat: &Catalog,
+    folder: &mut F,
+    id: u32,
+    capacity: u32,
+    blank: Blank,
+) -> Result<String, Fail>
+    requires id { id < length cat.now }
+    requires walked { (m : Files) → F.names folder.old ≡ Some m → IsWalked m cat.now }
+    requires room { 1 ≤ capacity }
+    requires few { capacity ≤ 65536 }
+    requires name { blank.name ≡ L.name }
+    requires parts { blank.parts ≡ L.parts }
+    requires some { 0 < blank.parts }
+{
+    let Size { w, h } = cat.head(id).size;
+    if w > 16 || h > 16 {
+        return Ok(String::from_str(alloc, "large")?);
+    }
+    let rect = Rect { x: 0, y: 0, w, h };
+    let mut out = vec![in alloc; 0i128; (w * h) as usize]?;
+    let mut lane = Lane::new(alloc, capacity)?;
+    let mut loads: Steps<L> = Steps::open(blank);
+    let samples = out.as_mut_slice();
+    let first = lane.read_window(alloc, cat, folder, id, 0, rect, samples, &mut loads);
+    let second = lane.read_window(alloc, cat, folder, id, 0, rect, samples, &mut loads);
+    let mut text = String::from_str(alloc, said(&first))?;
+    text.push_str(said(&second))?;
+    for sample in samples.iter() {
+        let one = format!(in alloc; " {}", *sample)?;
+        text.push_str(&one)?;
+    }
+    Ok(text)
+}
+
+// The samples of the dataset of a name.
+fn read_name<F: Folder>(
+    alloc: Global,
+    folder: &mut F,
+    name: &str,
+    capacity: u32,
+) -> Result<String, Fail>
+    requires room { 1 ≤ capacity }
+    requires few { capacity ≤ 65536 }
+{
+    let name = Name::read(alloc, name)?;
+    let mut cat = Catalog::new(alloc);
+    let Ok(id) = open_all(alloc, &mut cat, folder, &name, false) else {
+        return Ok(String::from_str(alloc, "no walk")?);
+    };
+    if id >= cat.count() {
+        return Ok(String::from_str(alloc, "no dataset")?);
+    }
+    read_twice::<F, Brand>(alloc, &cat, folder, id, capacity, Blank::new(1))
+}
+
+const HEADER: &[u8] = b"NROWS 1\nNCOLS 3\nNBITS 16\nPIXELTYPE SIGNEDINT\nBYTEORDER I\n";
+
+const MOSAIC: &[u8] =
+    b"<VRTDataset rasterXSize=\"3\" rasterYSize=\"1\"><VRTRasterBand dataType=\"Int16\" band=\"1\"><NoDataValue>-1</NoDataValue><ComplexSource><SourceFilename relativeToVRT=\"1\">a.bil</SourceFilename><SourceBand>1</SourceBand><NODATA>0</NODATA></ComplexSource><ComplexSource><SourceFilename relativeToVRT=\"1\">b.bil</SourceFilename><SourceBand>1</SourceBand><NODATA>0</NODATA></ComplexSource></VRTRasterBand></VRTDataset>";
+
+const SIMPLE: &[u8] =
+    b"<VRTDataset rasterXSize=\"3\" rasterYSize=\"1\"><VRTRasterBand dataType=\"Int16\" band=\"1\"><NoDataValue>-1</NoDataValue><SimpleSource><SourceFilename relativeToVRT=\"1\">a.bil</SourceFilename><SourceBand>1</SourceBand></SimpleSource><SimpleSource><SourceFilename relativeToVRT=\"1\">b.bil</SourceFilename><SourceBand>1</SourceBand></SimpleSource></VRTRasterBand></VRTDataset>";
+
+const INNER: &[u8] =
+    b"<VRTDataset rasterXSize=\"3\" rasterYSize=\"1\"><VRTRasterBand dataType=\"Int16\" band=\"1\"><SimpleSource><SourceFilename relativeToVRT=\"1\">m.vrt</SourceFilename><SourceBand>1</SourceBand></SimpleSource></VRTRasterBand></VRTDataset>";
+
+const OUTER: &[u8] =
+    b"<VRTDataset rasterXSize=\"3\" rasterYSize=\"1\"><VRTRasterBand dataType=\"Int16\" band=\"1\"><SimpleSource><SourceFilename relativeToVRT=\"1\">n.vrt</SourceFilename><SourceBand>1</SourceBand></SimpleSource></VRTRasterBand></VRTDataset>";
+
+const SCALED: &[u8] =
+    b"<VRTDataset rasterXSize=\"2\" rasterYSize=\"1\"><VRTRasterBand dataType=\"Byte\" band=\"1\"><SimpleSource><SourceFilename relativeToVRT=\"1\">five.bil</SourceFilename><SourceBand>1</SourceBand><SrcRect xOff=\"0\" yOff=\"0\" xSize=\"5\" ySize=\"1\"/><DstRect xOff=\"0\" yOff=\"0\" xSize=\"2\" ySize=\"1\"/></SimpleSource></VRTRasterBand></VRTDataset>";
+
+const FILES: [(&str, &[u8]); 11] = [
+    ("a.bil", &[5, 0, 0, 0, 7, 0]),
+    ("a.hdr", HEADER),
+    ("b.bil", &[0, 0, 0, 0, 9, 0]),
+    ("b.hdr", HEADER),
+    ("five.bil", &[1, 2, 3, 4, 5]),
+    ("five.hdr", b"NROWS 1\nNCOLS 5\n"),
+    ("m.vrt", MOSAIC),
+    ("s.vrt", SIMPLE),
+    ("n.vrt", INNER),
+    ("o.vrt", OUTER),
+    ("w.vrt", SCALED),
+];
+
+// A folder that holds the files, whose calls fail by a schedule.
+fn holding<P: Schedule>(alloc: Global, schedule: P) -> Result<MemoryFolder<P>, Fail> {
+    let mut folder = MemoryFolder::new(alloc, schedule);
+    for (name, bytes) in FILES {
+        folder.put(&Name::read(alloc, name)?, bytes)?;
+    }
+    Ok(folder)
+}
+
+// A folder that holds the files.
+fn calm(alloc: Global) -> Result<CalmFolder, Fail> {
+    holding(alloc, Never)
+}
+
+// A name, and the samples of its dataset.
+const ROWS: [(&str, &str); 6] = [
+    ("a.bil", " 5 0 7"),
+    ("m.vrt", " 5 -1 9"),
+    ("s.vrt", " 0 0 9"),
+    ("n.vrt", " 5 -1 9"),
+    ("o.vrt", " 5 -1 9"),
+    ("w.vrt", " 2 4"),
+];
+
+#[test]
+fn every_capacity_gives_the_same(rt: HostRuntime) -> Result<(), Fail> {
+    let alloc = rt.alloc();
+    for (name, said) in ROWS {
+        for capacity in [1, 2, 3, 64] {
+            let mut folder = calm(alloc)?;
+            assert_eq!(rt;
+                read_name(alloc, &mut folder, name, capacity)?.as_str(),
+                said
+            );
+        }
+    }
+    Ok(())
+}
+
+// With room for all blocks each of the two files is opened once and its one block read once, beside the
+// four files that the walk reads.
+#[test]
+fn loads_once(rt: HostRuntime) -> Result<(), Fail> {
+    let alloc = rt.alloc();
+    let mut walked = Tally::new(calm(alloc)?);
+    let name = Name::read(alloc, "o.vrt")?;
+    let mut cat = Catalog::new(alloc);
+    let _id = open_all(alloc, &mut cat, &mut walked, &name, false);
+    let mut folder = Tally::new(calm(alloc)?);
+    assert_eq!(rt;
+        read_name(alloc, &mut folder, "o.vrt", 64)?.as_str(),
+        " 5 -1 9"
+    );
+    assert_eq!(rt; folder.reads().saturating_sub(walked.reads()), 2);
+    assert_eq!(rt; folder.opens().saturating_sub(walked.opens()), 2);
+    Ok(())
+}
+
+// Each call of the folder fails in turn. The walk makes the first of them and refuses then; the window
+// opens and reads the two files, and is read whole once the call has failed.
+#[test]
+fn a_lane_goes_on_behind_a_failed_call(rt: HostRuntime) -> Result<(), Fail> {
+    let alloc = rt.alloc();
+    let mut failed = 0u64;
+    for at in 1..30 {
+        let mut failing = Items::new(alloc);
+        failing.push(Failing::Call(at))?;
+        let mut folder = holding(alloc, Listed::new(failing))?;
+        let said = read_name(alloc, &mut folder, "o.vrt", 2)?;
+        match said.as_str() {
+            "no walk" => assert_eq!(rt; failed, 0),
+            "folder 5 -1 9" => failed += 1,
+            other => assert_eq!(rt; other, " 5 -1 9"),
+        }
+    }
+    assert_eq!(rt; failed, 4);
+    Ok(())
+}
+
+// Files of several lines and mosaics of several blocks.
+#[derive(Clone, Copy)]
+enum Image {
+    // 130 columns, without a 0.
+    Left,
+    // 80 columns, of which each fifth is 0.
+    Right,
+    // `Left`, and over it from the column 60 on `Right` where that isn't 0.
+    Wide,
+    // `Wide` from the column 10 and the line 1 on, and over it each second column of `Left`.
+    Nested,
+}
+
+fn left(x: u32, y: u32) -> u8
+    requires x { x < 1000 }
+    requires y { y < 1000 }
+{
+    ((x + 50 * y) % 199 + 1) as u8
+}
+
+fn right(x: u32, y: u32) -> u8
+    requires x { x < 1000 }
+    requires y { y < 1000 }
+{
+    ((x + 2 * y) % 5 * 40) as u8
+}
+
+// The NODATA of this one is 255.
+fn wide(x: u32, y: u32) -> u8
+    requires x { x < 1000 }
+    requires y { y < 1000 }
+{
+    if x >= 60 && right(x - 60, y) != 0 {
+        return right(x - 60, y);
+    }
+    if x < 130 {
+        return left(x, y);
+    }
+    255
+}
+
+// The middle of the column x lies in the column 2x + 1 of `Left`.
+fn nested(x: u32, y: u32) -> u8
+    requires x { x < 1000 }
+    requires y { y < 1000 }
+{
+    if x < 65 && y < 3 {
+        return left(2 * x + 1, y);
+    }
+    if x >= 10 && x < 150 && y >= 1 && y < 4 {
+        return wide(x - 10, y - 1);
+    }
+    0
+}
+
+// The pixel of an image by its definition.
+fn pixel(image: Image, x: u32, y: u32) -> u8
+    requires x { x < 1000 }
+    requires y { y < 1000 }
+{
+    match image {
+        Image::Left => left(x, y),
+        Image::Right => right(x, y),
+        Image::Wide => wide(x, y),
+        Image::Nested => nested(x, y),
+    }
+}
+
+const WIDE: &[u8] =
+    b"<VRTDataset rasterXSize=\"140\" rasterYSize=\"3\"><VRTRasterBand dataType=\"Byte\" band=\"1\"><NoDataValue>255</NoDataValue><SimpleSource><SourceFilename relativeToVRT=\"1\">left.bil</SourceFilename><SourceBand>1</SourceBand><SrcRect xOff=\"0\" yOff=\"0\" xSize=\"130\" ySize=\"3\"/><DstRect xOff=\"0\" yOff=\"0\" xSize=\"130\" ySize=\"3\"/></SimpleSource><ComplexSource><SourceFilename relativeToVRT=\"1\">right.bil</SourceFilename><SourceBand>1</SourceBand><SrcRect xOff=\"0\" yOff=\"0\" xSize=\"80\" ySize=\"3\"/><DstRect xOff=\"60\" yOff=\"0\" xSize=\"80\" ySize=\"3\"/><NODATA>0</NODATA></ComplexSource></VRTRasterBand></VRTDataset>";
+
+const NESTED: &[u8] =
+    b"<VRTDataset rasterXSize=\"155\" rasterYSize=\"5\"><VRTRasterBand dataType=\"Byte\" band=\"1\"><SimpleSource><SourceFilename relativeToVRT=\"1\">wide.vrt</SourceFilename><SourceBand>1</SourceBand><SrcRect xOff=\"0\" yOff=\"0\" xSize=\"140\" ySize=\"3\"/><DstRect xOff=\"10\" yOff=\"1\" xSize=\"140\" ySize=\"3\"/></SimpleSource><SimpleSource><SourceFilename relativeToVRT=\"1\">left.bil</SourceFilename><SourceBand>1</SourceBand><SrcRect xOff=\"0\" yOff=\"0\" xSize=\"130\" ySize=\"3\"/><DstRect xOff=\"0\" yOff=\"0\" xSize=\"65\" ySize=\"3\"/></SimpleSource></VRTRasterBand></VRTDataset>";
+
+// The bytes of a file of 3 lines.
+fn raw(alloc: Global, image: Image, columns: u32) -> Result<Vec<u8>, Fail>
+    requires few { columns < 1000 }
+{
+    let mut bytes = Vec::new(alloc);
+    for place in 0..3 * columns {
+        bytes.push(pixel(image, place % columns, place / columns))?;
+    }
+    Ok(bytes)
+}
+
+// A folder that holds the images.
+fn drawn(alloc: Global) -> Result<CalmFolder, Fail> {
+    let mut folder = MemoryFolder::new(alloc, Never);
+    let left = raw(alloc, Image::Left, 130)?;
+    let right = raw(alloc, Image::Right, 80)?;
+    folder.put(&Name::read(alloc, "left.bil")?, left.as_slice())?;
+    folder.put(&Name::read(alloc, "left.hdr")?, b"NROWS 3\nNCOLS 130\n")?;
+    folder.put(&Name::read(alloc, "right.bil")?, right.as_slice())?;
+    folder.put(&Name::read(alloc, "right.hdr")?, b"NROWS 3\nNCOLS 80\n")?;
+    folder.put(&Name::read(alloc, "wide.vrt")?, WIDE)?;
+    folder.put(&Name::read(alloc, "nested.vrt")?, NESTED)?;
+    Ok(folder)
+}
+
+// The pixel of the first band, or -1 where there is none or it isn't read.
+fn point<F: Folder, L: Ledger>(
+    alloc: Global,
+    lane: &mut Lane<F>,
+    cat: &Catalog,
+    folder: &mut F,
+    id: u32,
+    x: u32,
+    y: u32,
+    loads: &mut Steps<L>,
+) -> Sample
+    requires id { id < length cat.now }
+    requires right { IsRight F.file_bytes F.file_len (F.names folder.old) cat.now lane.old.pool lane.old.files }
+    requires walked { (m : Files) → F.names folder.old ≡ Some m → IsWalked m cat.now }
+    ensures right { IsRight F.file_bytes F.file_len (F.names folder.new) cat.now lane.new.pool lane.new.files }
+    ensures names { F.names folder.new ≡ F.names folder.old }
+{
+    let Size { w, h } = cat.head(id).size;
+    if x >= w || y >= h {
+        return -1;
+    }
+    let rect = Rect { x, y, w: 1, h: 1 };
+    let mut out = [0; 1];
+    match lane.read_window(alloc, cat, folder, id, 0, rect, &mut out, loads) {
+        Ok(()) => return out[0],
+        Err(_) => return -1,
+    }
+}
+
+// How many pixels of a dataset a lane of this capacity gives otherwise than the image has them, where they
+// are asked for one by one, each 59 places behind the last.
+fn wrong_points<F: Folder, L: Ledger>(
+    alloc: Global,
+    cat: &Catalog,
+    folder: &mut F,
+    id: u32,
+    image: Image,
+    capacity: u32,
+    blank: Blank,
+) -> Result<u32, Fail>
+    requires id { id < length cat.now }
+    requires walked { (m : Files) → F.names folder.old ≡ Some m → IsWalked m cat.now }
+    requires room { 1 ≤ capacity }
+    requires few { capacity ≤ 65536 }
+    requires name { blank.name ≡ L.name }
+    requires parts { blank.parts ≡ L.parts }
+    requires some { 0 < blank.parts }
+    ensures names { F.names folder.new ≡ F.names folder.old }
+{
+    let Size { w, h } = cat.head(id).size;
+    if w > 200 || h > 10 {
+        return Ok(1);
+    }
+    let mut lane = Lane::new(alloc, capacity)?;
+    let mut loads: Steps<L> = Steps::open(blank);
+    let mut wrong = 0;
+    for step in 0..w * h {
+        let place = step * 59 % (w * h);
+        let (x, y) = (place % w, place / w);
+        if point(alloc, &mut lane, cat, folder, id, x, y, &mut loads)
+            != pixel(image, x, y) as Sample
+        {
+            wrong += 1;
+        }
+    }
+    Ok(wrong)
+}
+
+// The same, where all are asked for at once.
+fn wrong_pixels<F: Folder, L: Ledger>(
+    alloc: Global,
+    cat: &Catalog,
+    folder: &mut F,
+    id: u32,
+    image: Image,
+    capacity: u32,
+    blank: Blank,
+) -> Result<u32, Fail>
+    requires id { id < length cat.now }
+    requires walked { (m : Files) → F.names folder.old ≡ Some m → IsWalked m cat.now }
+    requires room { 1 ≤ capacity }
+    requires few { capacity ≤ 65536 }
+    requires name { blank.name ≡ L.name }
+    requires parts { blank.parts ≡ L.parts }
+    requires some { 0 < blank.parts }
+{
+    let Size { w, h } = cat.head(id).size;
+    if w > 200 || h > 10 {
+        return Ok(1);
+    }
+    let rect = Rect { x: 0, y: 0, w, h };
+    let mut out = vec![in alloc; 0i128; (w * h) as usize]?;
+    let mut lane = Lane::new(alloc, capacity)?;
+    let mut loads: Steps<L> = Steps::open(blank);
+    let samples = out.as_mut_slice();
+    let answer = lane.read_window(alloc, cat, folder, id, 0, rect, samples, &mut loads);
+    let mut wrong = if answer.is_ok() { 0 } else { 1 };
+    for place in 0..w * h {
+        if samples[place as usize] != pixel(image, place % w, place / w) as Sample {
+            wrong += 1;
+        }
+    }
+    Ok(wrong)
+}
+
+// An image and its name.
+const IMAGES: [(Image, &str); 4] = [
+    (Image::Left, "left.bil"),
+    (Image::Right, "right.bil"),
+    (Image::Wide, "wide.vrt"),
+    (Image::Nested, "nested.vrt"),
+];
+
+// How many pixels of the dataset of a name are wrong, one by one and all at once.
+fn wrong_in<F: Folder>(
+    alloc: Global,
+    folder: &mut F,
+    image: Image,
+    name: &str,
+    capacity: u32,
+) -> Result<(u32, u32), Fail>
+    requires room { 1 ≤ capacity }
+    requires few { capacity ≤ 65536 }
+{
+    let name = Name::read(alloc, name)?;
+    let mut cat = Catalog::new(alloc);
+    let Ok(id) = open_all(alloc, &mut cat, folder, &name, false) else {
+        return Ok((1, 1));
+    };
+    if id >= cat.count() {
+        return Ok((1, 1));
+    }
+    let points = wrong_points::<F, Brand>(alloc, &cat, folder, id, image, capacity, Blank::new(1))?;
+    let pixels = wrong_pixels::<F, Brand>(alloc, &cat, folder, id, image, capacity, Blank::new(1))?;
+    Ok((points, pixels))
+}
+
+#[test]
+fn jumping_points_are_those_of_the_window(rt: HostRuntime) -> Result<(), Fail> {
+    let alloc = rt.alloc();
+    for (image, name) in IMAGES {
+        for capacity in [1, 2, 64] {
+            let mut folder = drawn(alloc)?;
+            let wrong = wrong_in(alloc, &mut folder, image, name, capacity)?;
+            assert_eq!(rt; wrong, (0, 0));
+        }
+    }
+    Ok(())
+}
+
+// Reads pixels of a dataset one by one, through a pool of one block.
+fn read_points<F: Folder, L: Ledger>(
+    alloc: Global,
+    cat: &Catalog,
+    folder: &mut F,
+    id: u32,
+    places: &[(u32, u32)],
+    blank: Blank,
+) -> Result<(), Fail>
+    requires id { id < length cat.now }
+    requires walked { (m : Files) → F.names folder.old ≡ Some m → IsWalked m cat.now }
+    requires name { blank.name ≡ L.name }
+    requires parts { blank.parts ≡ L.parts }
+    requires some { 0 < blank.parts }
+{
+    let mut lane = Lane::new(alloc, 1)?;
+    let mut loads: Steps<L> = Steps::open(blank);
+    for (x, y) in places.iter() {
+        let _pixel = point(alloc, &mut lane, cat, folder, id, *x, *y, &mut loads);
+    }
+    Ok(())
+}
+
+// The same of the dataset of a name.
+fn read_points_of<F: Folder>(
+    alloc: Global,
+    folder: &mut F,
+    name: &str,
+    places: &[(u32, u32)],
+) -> Result<(), Fail> {
+    let name = Name::read(alloc, name)?;
+    let mut cat = Catalog::new(alloc);
+    let Ok(id) = open_all(alloc, &mut cat, folder, &name, false) else {
+        return Ok(());
+    };
+    if id >= cat.count() {
+        return Ok(());
+    }
+    read_points::<F, Brand>(alloc, &cat, folder, id, places, Blank::new(1))
+}
+
+// How many reads they take beside those of the walk.
+fn reads_in(alloc: Global, name: &str, places: &[(u32, u32)]) -> Result<u64, Fail> {
+    let mut walked = Tally::new(drawn(alloc)?);
+    read_points_of(alloc, &mut walked, name, &[])?;
+    let mut folder = Tally::new(drawn(alloc)?);
+    read_points_of(alloc, &mut folder, name, places)?;
+    Ok(folder.reads().saturating_sub(walked.reads()))
+}
+
+const WIDE_PLACES: [(u32, u32); 5] = [(0, 0), (139, 2), (100, 0), (5, 1), (70, 2)];
+
+const NESTED_PLACES: [(u32, u32); 6] = [(154, 4), (154, 4), (0, 0), (20, 3), (20, 1), (120, 3)];
+
+// The first pixel makes its block, since there is room: for each block of `Wide` in it, it loads all three
+// lines of both files. Each of the others only loads the line of each source that covers it.
+#[test]
+fn a_point_loads_one_block_of_each_source(rt: HostRuntime) -> Result<(), Fail> {
+    let alloc = rt.alloc();
+    for (count, reads) in [(1, 6), (2, 7), (3, 9), (4, 10), (5, 12)] {
+        assert_eq!(rt; reads_in(alloc, "wide.vrt", &WIDE_PLACES[..count])?, reads);
+    }
+    for (count, reads) in [(1, 12), (2, 12), (3, 13), (4, 14), (5, 16), (6, 18)] {
+        assert_eq!(rt;
+            reads_in(alloc, "nested.vrt", &NESTED_PLACES[..count])?,
+            reads
+        );
+    }
+    Ok(())
+}

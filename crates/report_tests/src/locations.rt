@@ -1,0 +1,152 @@
+ghost use Rattle.std.specs.Prelude.{◌≡◌, length, IfSome};
+
+use geotransform::{Sample, Size};
+use lists_and_answers::Items;
+use location_report::{Form, ReportFault, push_covering, write_location};
+use outside::{Failing, Listed, MemSink, Name, Names};
+use std::alloc::{AllocError, Global};
+use std::test::*;
+use vrt_profile::{Document, VrtBand, read};
+
+// Two files of a mosaic.
+fn two_files(alloc: Global) -> Result<Names, Fail> {
+    let mut files = Items::new(alloc);
+    files.push(Name::read(alloc, "a.bil")?)?;
+    files.push(Name::read(alloc, "b.bil")?)?;
+    Ok(files)
+}
+
+// Whether this is what a sink gets of the report of a place.
+fn is_written(
+    alloc: Global,
+    form: Form,
+    place: (Sample, Sample),
+    values: Option<&[Sample]>,
+    bands: &[u32],
+    files: &Names,
+    want: &[u8],
+) -> bool
+    requires { IfSome values (λ v. length v.now ≡ length bands.now) }
+{
+    let (x, y) = place;
+    let mut sink = MemSink::new(alloc, Listed::new(Items::new(alloc)));
+    let answer = write_location(alloc, form, x, y, values, bands, files, &mut sink);
+    answer.is_ok() && sink.got() == want
+}
+
+// Whether this is the report of column 1, line -1 with two bands, or of that place off the raster.
+fn is_told(alloc: Global, form: Form, on: bool, files: &Names, want: &[u8]) -> bool {
+    let bands = [1, 2];
+    if on {
+        is_written(alloc, form, (1, -1), Some(&[4, -12]), &bands, files, want)
+    } else {
+        is_written(alloc, form, (1, -1), None, &bands, files, want)
+    }
+}
+
+// A form, whether the place is on the raster, and what is told of it.
+const FORMS: [(Form, bool, &[u8]); 5] = [
+    (
+        Form::Report,
+        true,
+        b"Report:\n  Location: (1P,-1L)\n  Band 1:\n    Value: 4\n  Band 2:\n    Value: -12\n",
+    ),
+    (
+        Form::Report,
+        false,
+        b"Report:\n  Location: (1P,-1L)\n  Location is off this file! No further details to report.\n",
+    ),
+    (Form::ValuesOnly, true, b"4\n-12\n"),
+    (Form::ValuesOnly, false, b"\n"),
+    (Form::FilesOnly, true, b"a.bil\nb.bil\n"),
+];
+
+// Two bands of a pixel, and a place off the raster, in each form.
+#[test]
+fn each_form(rt: HostRuntime) -> Result<(), Fail> {
+    let files = two_files(rt.alloc())?;
+    for &(form, on, want) in &FORMS {
+        assert!(rt; is_told(rt.alloc(), form, on, &files, want));
+    }
+    Ok(())
+}
+
+// Off the raster no file is named.
+#[test]
+fn no_files(rt: HostRuntime) -> Result<(), Fail> {
+    let alloc = rt.alloc();
+    let files = Items::new(alloc);
+    assert!(rt; is_written(alloc, Form::FilesOnly, (9, 9), None, &[1], &files, b""));
+    Ok(())
+}
+
+// Whether a sink whose first call fails makes the report fail, with no other text got.
+fn is_refused(alloc: Global, files: &Names) -> Result<bool, AllocError> {
+    let mut calls = Items::new(alloc);
+    calls.push(Failing::Call(1))?;
+    let mut sink = MemSink::new(alloc, Listed::new(calls));
+    let answer = write_location(alloc, Form::Report, 0, 0, None, &[], files, &mut sink);
+    Ok(answer == Err(ReportFault::OutFault) && b"Report:\n".starts_with(sink.got()))
+}
+
+#[test]
+fn a_failing_sink(rt: HostRuntime) -> Result<(), Fail> {
+    let files = two_files(rt.alloc())?;
+    assert!(rt; is_refused(rt.alloc(), &files)?);
+    Ok(())
+}
+
+// Two files that cover all of a mosaic, the first of them again, and one that covers the last column.
+const MOSAIC: &[u8] = b"<VRTDataset rasterXSize='3' rasterYSize='1'>
+<VRTRasterBand dataType='Int16'><NoDataValue>-1</NoDataValue>
+<ComplexSource><SourceFilename>a.bil</SourceFilename><NODATA>0</NODATA></ComplexSource>
+<ComplexSource><SourceFilename>b.bil</SourceFilename><NODATA>0</NODATA></ComplexSource>
+<SimpleSource><SourceFilename>a.bil</SourceFilename></SimpleSource>
+<SimpleSource><SourceFilename>c.bil</SourceFilename>
+<DstRect xOff='2' yOff='0' xSize='1' ySize='1'/></SimpleSource>
+</VRTRasterBand></VRTDataset>";
+
+// Adds the files, all of 3 x 1 pixels, that cover a column of a band.
+fn add_band(
+    alloc: Global,
+    whole: Size,
+    band: &VrtBand,
+    x: u32,
+    out: &mut Names,
+) -> Result<(), Fail> {
+    let size = Size { w: 3, h: 1 };
+    for source in band.sources.as_slice() {
+        let name = Name::read(alloc, source.file.as_str())?;
+        push_covering(source, whole, &name, size, x, 0, out)?;
+    }
+    Ok(())
+}
+
+// Adds the files that cover a column of a mosaic.
+fn add_all(alloc: Global, document: &Document, x: u32, out: &mut Names) -> Result<(), Fail> {
+    for band in document.bands.as_slice() {
+        add_band(alloc, document.size, band, x, out)?;
+    }
+    Ok(())
+}
+
+// The files that cover a column of the mosaic.
+fn covering(alloc: Global, x: u32) -> Result<Names, Fail> {
+    let document = read(alloc, MOSAIC).ok().ok_or("it is a mosaic")?;
+    let mut out = Items::new(alloc);
+    add_all(alloc, &document, x, &mut out)?;
+    Ok(out)
+}
+
+// A column, and the files that cover it.
+const COLUMNS: [(u32, &[u8]); 2] = [(0, b"a.bil\nb.bil\n"), (2, b"a.bil\nb.bil\nc.bil\n")];
+
+#[test]
+fn covering_files(rt: HostRuntime) -> Result<(), Fail> {
+    let alloc = rt.alloc();
+    for &(x, want) in &COLUMNS {
+        let files = covering(alloc, x)?;
+        assert!(rt; is_written(alloc, Form::FilesOnly, (0, 0), None, &[1], &files, want));
+    }
+    Ok(())
+}
