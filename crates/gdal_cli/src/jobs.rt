@@ -9,7 +9,7 @@ ghost use Rattle.gdal_cli.specs.Faults.{HasCauses, HasChanged, OwnsFault, IsLate
 ghost use Rattle.gdal_cli.specs.Input.{StopsBehind};
 ghost use Rattle.gdal_cli.specs.Location.{answers, point_text, location_in};
 ghost use Rattle.gdal_cli.specs.Pixels.{AreBands};
-ghost use Rattle.gdal_cli.specs.Run.{Ends, ran_of, info_in, printed_by, name_read, reads_sources, reads_input, ended, RefusesUnknown};
+ghost use Rattle.gdal_cli.specs.Run.{Ends, ran_of, info_in, printed_by, name_read, reads_sources, reads_input, ended, RefusesKind};
 
 use crate::Fault;
 use crate::asked::asked_in;
@@ -53,7 +53,7 @@ fn put_info<F: Folder, O: Sink>(
     ensures names { F.names folder.new ≡ F.names folder.old }
     ensures cause { HasCauses (F.faults folder.old) (F.faults folder.new) (O.faults out.old) (O.faults out.new) result }
     ensures not_input { result ≡ Err Fault.InputFault → ⊥ }
-    ensures unknown { RefusesUnknown true name.now result }
+    ensures unknown { RefusesKind true name.now result }
     ensures changed { HasChanged (F.names folder.old) (ended result) }
     ensures own { OwnsFault (ended result) }
 {
@@ -114,7 +114,7 @@ fn put_location<F: Folder, I: Input, O: Sink>(
     ensures names { F.names folder.new ≡ F.names folder.old }
     ensures cause { HasCauses (F.faults folder.old) (F.faults folder.new) (O.faults out.old) (O.faults out.new) result }
     ensures input_cause { HasCause Fault.InputFault (I.faults input.old) (I.faults input.new) result }
-    ensures unknown { RefusesUnknown false name.now result }
+    ensures unknown { RefusesKind false name.now result }
     ensures changed { HasChanged (F.names folder.old) (ended result) }
     ensures own { OwnsFault (ended result) }
 {
@@ -153,7 +153,7 @@ pub fn put_job<F: Folder, I: Input, O: Sink>(
     ensures names { F.names folder.new ≡ F.names folder.old }
     ensures cause { HasCauses (F.faults folder.old) (F.faults folder.new) (O.faults out.old) (O.faults out.new) result }
     ensures input_cause { HasCause Fault.InputFault (I.faults input.old) (I.faults input.new) result }
-    ensures unknown { RefusesUnknown (not (reads_sources command.job)) (name_read command.job) result }
+    ensures unknown { RefusesKind (not (reads_sources command.job)) (name_read command.job) result }
     ensures changed { HasChanged (F.names folder.old) (ended result) }
     ensures own { OwnsFault (ended result) }
 {
