@@ -167,13 +167,13 @@ pub record HasTarget (IsAsked : Dataset → Type 0) (cat : List Dataset) (base :
   pub asked : IsAsked dataset
 
 -- the content isn't a mosaic's
-abbrev pub IsFile : Content → Type 0
-IsFile (File h) = Unit {0}
-IsFile (Mosaic d) = ⊥
+abbrev pub IsNoMosaic : Content → Type 0
+IsNoMosaic (File h) = Unit {0}
+IsNoMosaic (Mosaic d) = ⊥
 
 -- each source names a dataset of the catalog, and so on through at most so many nestings
 abbrev pub IsNested : ℕ → List Dataset → Dataset → Type 0
-IsNested zero cat d = IsFile d.content
+IsNested zero cat d = IsNoMosaic d.content
 IsNested (suc room) cat d = All (HasTarget (λ t. IsNested room cat t) cat d.head.name) (sources_in d.content)
 
 -- what every catalog keeps

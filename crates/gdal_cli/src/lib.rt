@@ -8,6 +8,7 @@ mod input;
 mod jobs;
 mod places;
 mod points;
+mod reader;
 mod running;
 mod spoken;
 mod texts;

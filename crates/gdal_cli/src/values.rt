@@ -9,32 +9,26 @@ ghost use Rattle.gdal_cli.specs.Faults.{IsOutside, IsLate, Differs};
 ghost use Rattle.gdal_cli.specs.Pixels.{IsPixel, AreBands};
 
 use crate::Fault;
-use band_blocks::Steps;
-use catalog::Catalog;
+use crate::reader::{PixelReader, Question};
 use geotransform::{Rect, Sample};
-use nearest_window::Lane;
 use outside::Folder;
-use std::alloc::Global;
 use std::sync::ledger::Ledger;
 
 // The value of a band, counted from 0, in a column and a line.
 fn read_value<F: Folder, L: Ledger>(
-    alloc: Global,
-    cat: &Catalog,
+    question: &Question,
+    pixels: &mut PixelReader<F, L>,
     folder: &mut F,
-    lane: &mut Lane<F>,
-    loads: &mut Steps<L>,
-    id: u32,
     band: u32,
     x: u32,
     y: u32,
 ) -> Result<Sample, Fault>
-    requires right { IsRight F.file_bytes F.file_len (F.names folder.old) cat.now lane.old.pool lane.old.files }
-    requires walked { (m : Files) → F.names folder.old ≡ Some m → IsWalked m cat.now }
-    requires pixel { IsPixel cat.now id x y }
-    requires band { AreBands cat.now id (λ count. band < count) }
-    ensures value { (m : Files) → F.names folder.old ≡ Some m → IfOk result (λ v. v ≡ pixel_of m cat.now id band x y) }
-    ensures right { IsRight F.file_bytes F.file_len (F.names folder.new) cat.now lane.new.pool lane.new.files }
+    requires right { IsRight F.file_bytes F.file_len (F.names folder.old) question.now.cat pixels.old.lane.pool pixels.old.lane.files }
+    requires walked { (m : Files) → F.names folder.old ≡ Some m → IsWalked m question.now.cat }
+    requires pixel { IsPixel question.now.cat question.now.id x y }
+    requires band { AreBands question.now.cat question.now.id (λ count. band < count) }
+    ensures value { (m : Files) → F.names folder.old ≡ Some m → IfOk result (λ v. v ≡ pixel_of m question.now.cat question.now.id band x y) }
+    ensures right { IsRight F.file_bytes F.file_len (F.names folder.new) question.now.cat pixels.new.lane.pool pixels.new.lane.files }
     ensures never { (m : Files) → F.names folder.old ≡ Some m → IfErr result IsOutside }
     ensures late { IfErr result IsLate }
     ensures differs { Differs result }
@@ -45,7 +39,17 @@ fn read_value<F: Folder, L: Ledger>(
 {
     let rect = Rect { x, y, w: 1, h: 1 };
     let mut value = [0; 1];
-    lane.read_window(alloc, cat, folder, id, band, rect, &mut value, loads)?;
+    let lane = &mut pixels.lane;
+    lane.read_window(
+        question.alloc,
+        &question.cat,
+        folder,
+        question.id,
+        band,
+        rect,
+        &mut value,
+        &mut pixels.loads,
+    )?;
     Ok(value[0])
 }
 
@@ -55,25 +59,22 @@ fn read_value<F: Folder, L: Ledger>(
 /// a file was opened again and had another length than the walk found or was absent, Memory freely. After a refusal
 /// `values` are unknown.
 pub fn read_values<F: Folder, L: Ledger>(
-    alloc: Global,
-    cat: &Catalog,
+    question: &Question,
+    pixels: &mut PixelReader<F, L>,
     folder: &mut F,
-    lane: &mut Lane<F>,
-    loads: &mut Steps<L>,
-    id: u32,
     bands: &[u32],
     x: u32,
     y: u32,
     values: &mut [Sample],
 ) -> Result<(), Fault>
-    requires right { IsRight F.file_bytes F.file_len (F.names folder.old) cat.now lane.old.pool lane.old.files }
-    requires walked { (m : Files) → F.names folder.old ≡ Some m → IsWalked m cat.now }
-    requires pixel { IsPixel cat.now id x y }
-    requires bands { AreBands cat.now id (λ count. All (λ band. (1 ≤ band) × (band ≤ count)) bands.now) }
+    requires right { IsRight F.file_bytes F.file_len (F.names folder.old) question.now.cat pixels.old.lane.pool pixels.old.lane.files }
+    requires walked { (m : Files) → F.names folder.old ≡ Some m → IsWalked m question.now.cat }
+    requires pixel { IsPixel question.now.cat question.now.id x y }
+    requires bands { AreBands question.now.cat question.now.id (λ count. All (λ band. (1 ≤ band) × (band ≤ count)) bands.now) }
     requires room { length values.old ≡ length bands.now }
-    ensures values { (m : Files) → F.names folder.old ≡ Some m → OnOk result (values.new ≡ map (λ band. pixel_of m cat.now id (band - 1) x y) bands.now) }
+    ensures values { (m : Files) → F.names folder.old ≡ Some m → OnOk result (values.new ≡ map (λ band. pixel_of m question.now.cat question.now.id (band - 1) x y) bands.now) }
     ensures room { length values.new ≡ length values.old }
-    ensures right { IsRight F.file_bytes F.file_len (F.names folder.new) cat.now lane.new.pool lane.new.files }
+    ensures right { IsRight F.file_bytes F.file_len (F.names folder.new) question.now.cat pixels.new.lane.pool pixels.new.lane.files }
     ensures never { (m : Files) → F.names folder.old ≡ Some m → IfErr result IsOutside }
     ensures late { IfErr result IsLate }
     ensures differs { Differs result }
@@ -83,7 +84,7 @@ pub fn read_values<F: Folder, L: Ledger>(
     ensures not_out { result ≡ Err Fault.OutFault → ⊥ }
 {
     for (at, band) in bands.iter().enumerate() {
-        values[at] = read_value(alloc, cat, folder, lane, loads, id, *band - 1, x, y)?;
+        values[at] = read_value(question, pixels, folder, *band - 1, x, y)?;
     }
     Ok(())
 }
