@@ -2,8 +2,7 @@ use crate::calls::{has_two, is_written, open_fault, read_two, write_file};
 use lists_and_answers::Items;
 use outside::{
     CalmFolder, CalmInput, CalmSink, Failed, Failing, Folder, Input, Listed, MemFolder, MemInput,
-    MemSink, MemoryFolder, Method, Name, NameFault, Never, OpenFault, Schedule, Sink,
-    StdInput,
+    MemSink, MemoryFolder, Method, Name, NameFault, Never, OpenFault, Schedule, Sink, StdInput,
     StdSink, Tally, put_all,
 };
 use std::alloc::{AllocError, Global};
