@@ -1,7 +1,6 @@
 // Runs over cells and tiles.
 use crate::fickle::Fickle;
-use crate::trials::{FileOf, Row, folder_of, run_in, run_over, try_rows};
-use outside::{Failing, Name};
+use crate::trials::{FileOf, Row, Said, first_harmless, first_wrong, run_in};
 use std::alloc::Global;
 use std::test::*;
 use std::thread::Threads;
@@ -96,108 +95,159 @@ const CELLS: [Row<'static>; 15] = [
     ),
 ];
 
+// Cells with right and wrong sums.
+#[derive(Drop)]
+struct CellFiles {
+    right: Vec<u8>,
+    wrong: Vec<u8>,
+    two: Vec<u8>,
+    broken: Vec<u8>,
+}
+
+fn all_cells(alloc: Global) -> Result<CellFiles, Fail> {
+    Ok(CellFiles {
+        right: one_line(alloc, 0xb2)?,
+        wrong: one_line(alloc, 0xb3)?,
+        two: two_lines(alloc, 0x35)?,
+        broken: two_lines(alloc, 0x36)?,
+    })
+}
+
+fn try_cells<R: Threads + Sync>(rt: &R, alloc: Global) -> Result<usize, Fail> {
+    let cells = all_cells(alloc)?;
+    let files: [FileOf<'_>; 4] = [
+        ("c.dt0", &cells.right),
+        ("w.dt2", &cells.wrong),
+        ("d.DT1", &cells.two),
+        ("e.dt1", &cells.broken),
+    ];
+    first_wrong(rt, alloc, &files, &CELLS)
+}
+
 #[test]
 fn cells(rt: HostRuntime) -> Result<(), Fail> {
-    let alloc = rt.alloc();
-    let (right, wrong) = (one_line(alloc, 0xb2)?, one_line(alloc, 0xb3)?);
-    let (two, broken) = (two_lines(alloc, 0x35)?, two_lines(alloc, 0x36)?);
-    let files: [FileOf<'_>; 4] = [
-        ("c.dt0", &right),
-        ("w.dt2", &wrong),
-        ("d.DT1", &two),
-        ("e.dt1", &broken),
-    ];
-    assert!(rt; try_rows(&rt, alloc, &files, &CELLS)?);
+    assert_eq!(rt; try_cells(&rt, rt.alloc())?, CELLS.len());
     Ok(())
 }
 
-// So many bytes of the cell, and what is told of them.
-const CUTS: [(usize, &str); 10] = [
-    (0, "ERROR 4: c.dt0: malformed dted (3)\n"),
-    (3, "ERROR 4: c.dt0: malformed dted (3)\n"),
-    (79, "ERROR 4: c.dt0: malformed dted (3)\n"),
-    (80, "ERROR 4: c.dt0: malformed dted (3)\n"),
-    (728, "ERROR 4: c.dt0: malformed dted (3)\n"),
-    (3427, "ERROR 4: c.dt0: malformed dted (3)\n"),
-    (3428, "ERROR 4: c.dt0: needs 3448 bytes, has 3428\n"),
-    (3444, "ERROR 4: c.dt0: needs 3448 bytes, has 3444\n"),
-    (3447, "ERROR 4: c.dt0: needs 3448 bytes, has 3447\n"),
-    (3448, ""),
+// So many bytes of the cell, and the status, what is printed and what is told of them.
+const CUTS: [(usize, u8, &str, &str); 10] = [
+    (0, 1, "", "ERROR 4: c.dt0: malformed dted (3)\n"),
+    (3, 1, "", "ERROR 4: c.dt0: malformed dted (3)\n"),
+    (79, 1, "", "ERROR 4: c.dt0: malformed dted (3)\n"),
+    (80, 1, "", "ERROR 4: c.dt0: malformed dted (3)\n"),
+    (728, 1, "", "ERROR 4: c.dt0: malformed dted (3)\n"),
+    (3427, 1, "", "ERROR 4: c.dt0: malformed dted (3)\n"),
+    (3428, 1, "", "ERROR 4: c.dt0: needs 3448 bytes, has 3428\n"),
+    (3444, 1, "", "ERROR 4: c.dt0: needs 3448 bytes, has 3444\n"),
+    (3447, 1, "", "ERROR 4: c.dt0: needs 3448 bytes, has 3447\n"),
+    (3448, 0, "5\n", ""),
 ];
+
+// The first of these cuts of a cell of which something else is said, or how many cuts there are.
+fn first_wrong_cut<R: Threads + Sync>(rt: &R, alloc: Global, cell: &[u8]) -> Result<usize, Fail> {
+    let line = "gdallocationinfo -valonly c.dt0 0 3";
+    for (at, (len, status, out, err)) in CUTS.iter().enumerate() {
+        let (front, _) = cell.split_at((*len).min(cell.len()));
+        if first_wrong(rt, alloc, &[("c.dt0", front)], &[(line, *status, out, err)])? == 0 {
+            return Ok(at);
+        }
+    }
+    Ok(CUTS.len())
+}
+
+fn try_cuts<R: Threads + Sync>(rt: &R, alloc: Global) -> Result<usize, Fail> {
+    let cell = one_line(alloc, 0xb2)?;
+    first_wrong_cut(rt, alloc, &cell)
+}
 
 #[test]
 fn cut_cells(rt: HostRuntime) -> Result<(), Fail> {
-    let alloc = rt.alloc();
-    let cell = one_line(alloc, 0xb2)?;
-    for (len, err) in CUTS {
-        let (front, _) = cell.split_at(len.min(cell.len()));
-        let line = "gdallocationinfo -valonly c.dt0 0 3";
-        let said = run_over(&rt, alloc, &[("c.dt0", front)], line, &[], &[])?;
-        assert!(rt; said.err.as_str() == err);
-    }
-    let large = head(alloc, b"99999999")?;
-    let said = run_over(&rt, alloc, &[("l.dt2", &large)], "gdalinfo l.dt2", &[], &[])?;
-    let told = "ERROR 4: l.dt2: needs 200083418 bytes, has 3428\n";
-    assert!(rt; said.is(1, "", told));
+    assert_eq!(rt; try_cuts(&rt, rt.alloc())?, CUTS.len());
     Ok(())
+}
+
+const LARGE: [Row<'static>; 1] = [(
+    "gdalinfo l.dt2",
+    1,
+    "",
+    "ERROR 4: l.dt2: needs 200083418 bytes, has 3428\n",
+)];
+
+fn try_large<R: Threads + Sync>(rt: &R, alloc: Global) -> Result<usize, Fail> {
+    let large = head(alloc, b"99999999")?;
+    first_wrong(rt, alloc, &[("l.dt2", &large)], &LARGE)
+}
+
+#[test]
+fn a_large_cell(rt: HostRuntime) -> Result<(), Fail> {
+    assert_eq!(rt; try_large(&rt, rt.alloc())?, LARGE.len());
+    Ok(())
+}
+
+fn harmless_of_cell<R: Threads + Sync>(rt: &R, alloc: Global) -> Result<(u64, bool), Fail> {
+    let cell = one_line(alloc, 0xb2)?;
+    let line = "gdallocationinfo --config DTED_VERIFY_CHECKSUM YES -valonly c.dt0 0 2";
+    first_harmless(rt, alloc, &[("c.dt0", &cell)], (line, (b"", 1)), "-5\n")
 }
 
 // Each call of the folder fails in turn: the cell is opened, its head and its record are read, and it is opened
 // and its record is read again.
 #[test]
 fn failing_calls_of_a_cell(rt: HostRuntime) -> Result<(), Fail> {
-    let alloc = rt.alloc();
-    let cell = one_line(alloc, 0xb2)?;
-    let line = "gdallocationinfo --config DTED_VERIFY_CHECKSUM YES -valonly c.dt0 0 2";
-    for number in [1u64, 2, 3, 4, 5] {
-        let calls = [Failing::Call(number)];
-        let said = run_over(&rt, alloc, &[("c.dt0", &cell)], line, &calls, &[])?;
-        assert!(rt; said.is(2, "", "ERROR 3: a file call failed\n"));
-    }
-    let said = run_over(
-        &rt,
-        alloc,
-        &[("c.dt0", &cell)],
-        line,
-        &[Failing::Call(6)],
-        &[],
-    )?;
-    assert!(rt; said.is(0, "-5\n", ""));
+    let found = harmless_of_cell(&rt, rt.alloc())?;
+    assert!(rt; found == (6, true), "call {}", found.0);
     Ok(())
 }
 
 // Files whose names are those of tiles are refused for their length alone.
-const NAMES: [(&str, &str); 8] = [
+const NAMES: [Row<'static>; 8] = [
     (
         "gdalinfo N90E180.hgt",
+        1,
+        "",
         "ERROR 4: N90E180.hgt: malformed hgt (2)\n",
     ),
     (
         "gdalinfo S90W180.hgt",
+        1,
+        "",
         "ERROR 4: S90W180.hgt: malformed hgt (2)\n",
     ),
     (
         "gdalinfo d/n00w000.HGT",
+        1,
+        "",
         "ERROR 4: d/n00w000.HGT: malformed hgt (2)\n",
     ),
     (
         "gdalinfo s01e007_1.x.hgt",
+        1,
+        "",
         "ERROR 4: s01e007_1.x.hgt: malformed hgt (2)\n",
     ),
     (
         "gdalinfo N91E000.hgt",
+        1,
+        "",
         "ERROR 4: N91E000.hgt: malformed hgt (1)\n",
     ),
     (
         "gdalinfo N00E181.hgt",
+        1,
+        "",
         "ERROR 4: N00E181.hgt: malformed hgt (1)\n",
     ),
     (
         "gdallocationinfo -valonly N0E0000.hgt 0 0",
+        1,
+        "",
         "ERROR 4: N0E0000.hgt: malformed hgt (1)\n",
     ),
     (
         "gdallocationinfo -valonly N00E001.hgt 0 0",
+        1,
+        "",
         "ERROR 4: N00E001.hgt: no such file\n",
     ),
 ];
@@ -214,80 +264,102 @@ const TILES: [FileOf<'static>; 7] = [
 
 #[test]
 fn names_of_tiles(rt: HostRuntime) -> Result<(), Fail> {
-    let alloc = rt.alloc();
-    for (line, err) in NAMES {
-        let said = run_over(&rt, alloc, &TILES, line, &[], &[])?;
-        assert!(rt; said.is(1, "", err));
-    }
+    assert_eq!(rt; first_wrong(&rt, rt.alloc(), &TILES, &NAMES)?, NAMES.len());
     Ok(())
 }
 
-// A sample of a tile: the pixel in column 0 of the last line, whose centre the name tells.
-fn try_tile<R: Threads + Sync>(rt: &R, alloc: Global) -> Result<bool, Fail> {
+// A tile of which one sample isn't 0: that in column 0 of the last line.
+fn tile(alloc: Global) -> Result<Vec<u8>, Fail> {
     let mut bytes = vec![in alloc; 0u8; 2_884_802]?;
     bytes[2_882_400] = 0xff;
     bytes[2_882_401] = 0xfe;
-    let mut folder = folder_of(alloc, &[], &[])?;
-    folder.put(&Name::read(alloc, "S01W180.hgt")?, &bytes)?;
-    let line = "gdallocationinfo -valonly S01W180.hgt 0.5 1200.5";
-    let said = run_in(rt, alloc, &mut folder, line, &[])?;
-    Ok(said.status == 0 && said.out.as_str() == "-2\n")
+    Ok(bytes)
+}
+
+// The centre of that pixel is what the name tells.
+const CORNER: [Row<'static>; 1] = [(
+    "gdallocationinfo -valonly S01W180.hgt 0.5 1200.5",
+    0,
+    "-2\n",
+    "",
+)];
+
+fn try_tile<R: Threads + Sync>(rt: &R, alloc: Global) -> Result<usize, Fail> {
+    let bytes = tile(alloc)?;
+    first_wrong(rt, alloc, &[("S01W180.hgt", &bytes)], &CORNER)
 }
 
 #[test]
 fn a_tile(rt: HostRuntime) -> Result<(), Fail> {
-    assert!(rt; try_tile(&rt, rt.alloc())?);
+    assert_eq!(rt; try_tile(&rt, rt.alloc())?, CORNER.len());
     Ok(())
 }
 
-// What is told where the file of a tile is another when it is opened again.
-const CHANGES: [(Option<u64>, &str); 3] = [
+// The length of the file of a tile when it is opened again, the words, and the status, what is printed and what is
+// told.
+const CHANGES: [(Option<u64>, &str, (u8, &str, &str)); 4] = [
     (
         Some(25_934_402),
-        "ERROR 3: N00E000.hgt: length changed from 2884802 to 25934402\n",
+        "gdallocationinfo -valonly N00E000.hgt 1 1",
+        (
+            2,
+            "",
+            "ERROR 3: N00E000.hgt: length changed from 2884802 to 25934402\n",
+        ),
     ),
     (
         Some(2_884_801),
-        "ERROR 3: N00E000.hgt: length changed from 2884802 to 2884801\n",
+        "gdallocationinfo -valonly N00E000.hgt 1 1",
+        (
+            2,
+            "",
+            "ERROR 3: N00E000.hgt: length changed from 2884802 to 2884801\n",
+        ),
     ),
     (
         None,
-        "ERROR 3: N00E000.hgt: length changed from 2884802 to none\n",
+        "gdallocationinfo -valonly N00E000.hgt 1 1",
+        (
+            2,
+            "",
+            "ERROR 3: N00E000.hgt: length changed from 2884802 to none\n",
+        ),
+    ),
+    (
+        None,
+        "gdallocationinfo -valonly N00E000.hgt 1201 1",
+        (0, "\n", ""),
     ),
 ];
 
-#[test]
-fn changed_files(rt: HostRuntime) -> Result<(), Fail> {
-    let alloc = rt.alloc();
-    for (again, err) in CHANGES {
-        let mut folder = Fickle {
-            first: Some(2_884_802),
-            again,
-            reads: 0,
-            writes: 0,
-        };
-        let said = run_in(
-            &rt,
-            alloc,
-            &mut folder,
-            "gdallocationinfo -valonly N00E000.hgt 1 1",
-            &[],
-        )?;
-        assert!(rt; said.is(2, "", err));
-    }
+// A run over a tile whose file has this length when it is opened again.
+fn run_changed<R: Threads + Sync>(
+    rt: &R,
+    alloc: Global,
+    again: Option<u64>,
+    line: &str,
+) -> Result<Said, Fail> {
     let mut folder = Fickle {
         first: Some(2_884_802),
-        again: None,
+        again,
         reads: 0,
         writes: 0,
     };
-    let said = run_in(
-        &rt,
-        alloc,
-        &mut folder,
-        "gdallocationinfo -valonly N00E000.hgt 1201 1",
-        &[],
-    )?;
-    assert!(rt; said.is(0, "\n", ""));
+    run_in(rt, alloc, &mut folder, line)
+}
+
+// The first of these runs that says something else than is listed, or how many runs there are.
+fn first_wrong_change<R: Threads + Sync>(rt: &R, alloc: Global) -> Result<usize, Fail> {
+    for (at, (again, line, (status, out, err))) in CHANGES.iter().enumerate() {
+        if !run_changed(rt, alloc, *again, line)?.is(*status, out, err) {
+            return Ok(at);
+        }
+    }
+    Ok(CHANGES.len())
+}
+
+#[test]
+fn changed_files(rt: HostRuntime) -> Result<(), Fail> {
+    assert_eq!(rt; first_wrong_change(&rt, rt.alloc())?, CHANGES.len());
     Ok(())
 }

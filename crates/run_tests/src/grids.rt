@@ -1,6 +1,5 @@
 // Runs over ASCII grids.
-use crate::trials::{FileOf, Row, run_over, try_rows};
-use outside::Failing;
+use crate::trials::{FileOf, Row, first_harmless, first_wrong};
 use std::test::*;
 
 const GRID: &[u8] = b"ncols 2\nnrows\t2\nxllcenter 10\nyllcenter 20\ncellsize 2\n1\t-2\n30 4\n";
@@ -96,28 +95,16 @@ const GRIDS: [Row<'static>; 14] = [
 
 #[test]
 fn grids(rt: HostRuntime) -> Result<(), Fail> {
-    assert!(rt; try_rows(&rt, rt.alloc(), &FILES, &GRIDS)?);
+    assert_eq!(rt; first_wrong(&rt, rt.alloc(), &FILES, &GRIDS)?, GRIDS.len());
     Ok(())
 }
 
 // Each call of the folder fails in turn: the grid is opened and scanned, and it is opened and its row is read again.
 #[test]
 fn failing_calls_of_a_grid(rt: HostRuntime) -> Result<(), Fail> {
-    let alloc = rt.alloc();
     let line = "gdallocationinfo -valonly g.asc 1 1";
-    for number in [1u64, 2, 3, 4] {
-        let calls = [Failing::Call(number)];
-        let said = run_over(&rt, alloc, &[("g.asc", GRID)], line, &calls, &[])?;
-        assert!(rt; said.is(2, "", "ERROR 3: a file call failed\n"));
-    }
-    let said = run_over(
-        &rt,
-        alloc,
-        &[("g.asc", GRID)],
-        line,
-        &[Failing::Call(5)],
-        &[],
-    )?;
-    assert!(rt; said.is(0, "4\n", ""));
+    let files: [FileOf<'_>; 1] = [("g.asc", GRID)];
+    let found = first_harmless(&rt, rt.alloc(), &files, (line, (b"", 1)), "4\n")?;
+    assert!(rt; found == (5, true), "call {}", found.0);
     Ok(())
 }

@@ -1,7 +1,8 @@
 // Runs over mosaics.
-use crate::trials::{FileOf, Row, run_over, try_rows};
-use outside::Failing;
+use crate::trials::{FileOf, Row, first_harmless, first_wrong, run_over};
+use std::alloc::Global;
 use std::test::*;
+use std::thread::Threads;
 
 // The document that `gdalbuildvrt` makes of two tiles which lie side by side.
 const WIDE: &[u8] = b"<VRTDataset rasterXSize=\"2401\" rasterYSize=\"1201\">
@@ -119,46 +120,57 @@ const ROWS: [Row<'static>; 9] = [
 
 #[test]
 fn mosaics(rt: HostRuntime) -> Result<(), Fail> {
-    assert!(rt; try_rows(&rt, rt.alloc(), &FILES, &ROWS)?);
+    assert_eq!(rt; first_wrong(&rt, rt.alloc(), &FILES, &ROWS)?, ROWS.len());
     Ok(())
 }
 
 // A source whose name would be as many bytes long before it is normalised, and what is told.
 const NAMES: [(usize, &str); 2] = [(4096, ""), (4097, "ERROR 6: limit of name passed (4097)\n")];
 
+// A document whose source has a name of so many bytes, but for the name of the folder and the slash that stand before it.
+fn with_name(alloc: Global, len: usize) -> Result<Vec<u8>, Fail> {
+    let mut document = Vec::new(alloc);
+    document.extend_from_slice(
+        b"<VRTDataset rasterXSize='1' rasterYSize='1'><VRTRasterBand><SimpleSource><SourceFilename relativeToVRT='1'>",
+    )?;
+    document.resize(document.len().saturating_add(len.saturating_sub(2)), b'n')?;
+    document.extend_from_slice(b"</SourceFilename></SimpleSource></VRTRasterBand></VRTDataset>")?;
+    Ok(document)
+}
+
+// Whether this is told of such a document.
+fn tells_name<R: Threads + Sync>(
+    rt: &R,
+    alloc: Global,
+    len: usize,
+    err: &str,
+) -> Result<bool, Fail> {
+    let document = with_name(alloc, len)?;
+    let said = run_over(rt, alloc, &[("d/m.vrt", &document)], "gdalinfo d/m.vrt")?;
+    Ok(said.tells(err))
+}
+
+// The first of these names of which something else is told, or how many names there are.
+fn first_wrong_name<R: Threads + Sync>(rt: &R, alloc: Global) -> Result<usize, Fail> {
+    for (at, (len, err)) in NAMES.iter().enumerate() {
+        if !tells_name(rt, alloc, *len, err)? {
+            return Ok(at);
+        }
+    }
+    Ok(NAMES.len())
+}
+
 #[test]
 fn long_names(rt: HostRuntime) -> Result<(), Fail> {
-    let alloc = rt.alloc();
-    for (len, err) in NAMES {
-        let mut document = Vec::new(alloc);
-        document.extend_from_slice(
-            b"<VRTDataset rasterXSize='1' rasterYSize='1'><VRTRasterBand><SimpleSource><SourceFilename relativeToVRT='1'>",
-        )?;
-        // The name of the folder and a slash stand before it.
-        for _byte in 2..len {
-            document.push(b'n')?;
-        }
-        document.extend_from_slice(
-            b"</SourceFilename></SimpleSource></VRTRasterBand></VRTDataset>",
-        )?;
-        let files: [FileOf<'_>; 1] = [("d/m.vrt", &document)];
-        let said = run_over(&rt, alloc, &files, "gdalinfo d/m.vrt", &[], &[])?;
-        assert!(rt; said.err.as_str() == err);
-    }
+    assert_eq!(rt; first_wrong_name(&rt, rt.alloc())?, NAMES.len());
     Ok(())
 }
 
 // Each call of the folder fails in turn: the document is opened and read, and nothing else is.
 #[test]
 fn failing_calls_of_a_mosaic(rt: HostRuntime) -> Result<(), Fail> {
-    let alloc = rt.alloc();
-    let line = "gdalinfo wide.vrt";
-    for number in [1u64, 2] {
-        let calls = [Failing::Call(number)];
-        let said = run_over(&rt, alloc, &FILES, line, &calls, &[])?;
-        assert!(rt; said.is(2, "", "ERROR 3: a file call failed\n"));
-    }
-    let said = run_over(&rt, alloc, &FILES, line, &[Failing::Call(3)], &[])?;
-    assert!(rt; said.is(0, WIDE_REPORT, ""));
+    let fed = ("gdalinfo wide.vrt", (b"".as_slice(), 1));
+    let found = first_harmless(&rt, rt.alloc(), &FILES, fed, WIDE_REPORT)?;
+    assert!(rt; found == (3, true), "call {}", found.0);
     Ok(())
 }

@@ -1,6 +1,9 @@
 // Runs over the points of an input, and over mosaics of mosaics.
-use crate::trials::{FileOf, Row, Said, folder_of, run_in, run_pieces, try_rows};
-use outside::{Failing, MemFolder, Method, Name};
+use crate::trials::{
+    Calls, FOLDER, Fed, FileOf, READING, Row, Trial, WRITING, first_failing, first_harmless,
+    first_wrong,
+};
+use outside::{Failing, Method};
 use std::alloc::Global;
 use std::test::*;
 use std::thread::Threads;
@@ -141,241 +144,357 @@ const ROWS: [Row<'static>; 16] = [
 
 #[test]
 fn points(rt: HostRuntime) -> Result<(), Fail> {
-    assert!(rt; try_rows(&rt, rt.alloc(), &FILES, &ROWS)?);
+    assert_eq!(rt; first_wrong(&rt, rt.alloc(), &FILES, &ROWS)?, ROWS.len());
     Ok(())
 }
 
-// What a run prints over an input that comes in pieces of at most so many bytes.
-fn fed<R: Threads + Sync>(
-    rt: &R,
-    alloc: Global,
-    line: &str,
-    input: &[u8],
-    most: usize,
-) -> Result<Said, Fail> {
-    run_pieces(rt, alloc, &FILES, line, (input, most), (&[], &[], &[]))
-}
+const CALM: Calls<'static> = (&[], &[], &[]);
 
-// The words, the input and what is printed.
-const INPUTS: [(&str, &str, &str); 6] = [
+// The words, the input, and the status, what is printed and what is told.
+type Answer<'a> = (&'a str, &'a [u8], (u8, &'a str, &'a str));
+
+const INPUTS: [Answer<'static>; 6] = [
     (
         "gdallocationinfo -valonly m.vrt",
-        "0 0\n1 0\n2 0\n",
-        "5\n-1\n9\n",
+        b"0 0\n1 0\n2 0\n",
+        (0, "5\n-1\n9\n", ""),
     ),
     (
         "gdallocationinfo -valonly simple.vrt",
-        "0 0\n1 0\n2 0\n",
-        "0\n0\n9\n",
+        b"0 0\n1 0\n2 0\n",
+        (0, "0\n0\n9\n", ""),
     ),
     (
         "gdallocationinfo --blocks 1 -valonly o.vrt",
-        "0 0\n1 0\n2 0\n",
-        "5\n-1\n9\n",
+        b"0 0\n1 0\n2 0\n",
+        (0, "5\n-1\n9\n", ""),
     ),
     (
         "gdallocationinfo --blocks 64 -valonly o.vrt",
-        "0 0\n1 0\n2 0",
-        "5\n-1\n9\n",
+        b"0 0\n1 0\n2 0",
+        (0, "5\n-1\n9\n", ""),
     ),
     (
         "gdallocationinfo -valonly lut.vrt",
-        "0 0\r\n1 0\r\n2 0\r\n3 0\r\n",
-        "0\n30\n100\n100\n",
+        b"0 0\r\n1 0\r\n2 0\r\n3 0\r\n",
+        (0, "0\n30\n100\n100\n", ""),
     ),
     (
         "gdallocationinfo -valonly half.vrt",
-        " \n1 0 \n\n\t4\t0",
-        "2\n-2\n",
+        b" \n1 0 \n\n\t4\t0",
+        (0, "2\n-2\n", ""),
     ),
 ];
 
-#[test]
-fn inputs(rt: HostRuntime) -> Result<(), Fail> {
-    for (line, input, out) in INPUTS {
-        for most in [1, 5, 65_536] {
-            let said = fed(&rt, rt.alloc(), line, input.as_bytes(), most)?;
-            assert!(rt; said.is(0, out, ""));
+// The first of these runs over an input in pieces of at most so many bytes that says something else than is listed, or
+// how many runs there are.
+fn first_unfed<R: Threads + Sync>(
+    rt: &R,
+    alloc: Global,
+    rows: &[Answer<'_>],
+    most: usize,
+) -> Result<usize, Fail> {
+    for (at, (line, input, said)) in rows.iter().enumerate() {
+        let trial: Trial<'_> = ((*line, (*input, most)), CALM, *said);
+        if first_failing(rt, alloc, &FILES, &[trial])? == 0 {
+            return Ok(at);
         }
     }
+    Ok(rows.len())
+}
+
+// The same, for three sizes of the pieces.
+fn first_unfed_of<R: Threads + Sync>(
+    rt: &R,
+    alloc: Global,
+    rows: &[Answer<'_>],
+    sizes: [usize; 3],
+) -> Result<(usize, usize), Fail> {
+    for most in sizes {
+        let at = first_unfed(rt, alloc, rows, most)?;
+        if at < rows.len() {
+            return Ok((most, at));
+        }
+    }
+    Ok((0, rows.len()))
+}
+
+#[test]
+fn inputs(rt: HostRuntime) -> Result<(), Fail> {
+    let wrong = first_unfed_of(&rt, rt.alloc(), &INPUTS, [1, 5, 65_536])?;
+    assert!(rt;
+        wrong == (0, INPUTS.len()),
+        "pieces of {}, row {}",
+        wrong.0,
+        wrong.1
+    );
     Ok(())
 }
 
 // A line that is no point is told with its number, behind the answers to those before it.
+const BAD: [Answer<'static>; 1] = [(
+    "gdallocationinfo -valonly two.bil",
+    b"0 0\n9 9\n2 1\nx\n0 0\n",
+    (1, "1\n4\n\n9\n12\n", "ERROR 5: input line 4 is no point\n"),
+)];
+
 #[test]
 fn bad_points(rt: HostRuntime) -> Result<(), Fail> {
-    let alloc = rt.alloc();
-    let input = b"0 0\n9 9\n2 1\nx\n0 0\n";
-    for most in [1, 7, 65_536] {
-        let said = fed(&rt, alloc, "gdallocationinfo -valonly two.bil", input, most)?;
-        let told = "ERROR 5: input line 4 is no point\n";
-        assert!(rt; said.is(1, "1\n4\n\n9\n12\n", told));
-    }
-    let report =
-        "Report:\n  Location: (9P,9L)\n  Location is off this file! No further details to report.\n";
-    let said = fed(&rt, alloc, "gdallocationinfo two.bil", b"9 9\n", 2)?;
-    assert!(rt; said.is(0, report, ""));
+    let wrong = first_unfed_of(&rt, rt.alloc(), &BAD, [1, 7, 65_536])?;
+    assert!(rt; wrong == (0, BAD.len()), "pieces of {}", wrong.0);
     Ok(())
 }
 
-// Where the input fails, the whole lines among the bytes that it gave are answered, and nothing more.
+const TWO: &str = "gdallocationinfo -valonly two.bil";
+
+const FIVE: &[u8] = b"0 0\n9";
+
+// A report of a point of the input; and inputs that fail: the whole lines among the bytes that they gave are answered,
+// and nothing more.
+const FED: [Trial<'static>; 5] = [
+    (
+        ("gdallocationinfo two.bil", (b"9 9\n", 2)),
+        CALM,
+        (
+            0,
+            "Report:\n  Location: (9P,9L)\n  Location is off this file! No further details to report.\n",
+            "",
+        ),
+    ),
+    (
+        (TWO, (FIVE, 5)),
+        (&[], &[Failing::Of(Method::Take, 2)], &[]),
+        (2, "1\n4\n", READING),
+    ),
+    (
+        (TWO, (FIVE, 2)),
+        (&[], &[Failing::Of(Method::Take, 2)], &[]),
+        (2, "", READING),
+    ),
+    (
+        (TWO, (FIVE, 4)),
+        (&[], &[Failing::Of(Method::Take, 2)], &[]),
+        (2, "1\n4\n", READING),
+    ),
+    (
+        (TWO, (FIVE, 5)),
+        (&[], &[Failing::Of(Method::Take, 1)], &[]),
+        (2, "", READING),
+    ),
+];
+
 #[test]
 fn failing_inputs(rt: HostRuntime) -> Result<(), Fail> {
-    let alloc = rt.alloc();
-    let line = "gdallocationinfo -valonly two.bil";
-    let input = b"0 0\n9";
-    for (most, number, out) in [
-        (5, 2u64, "1\n4\n"),
-        (2, 2, ""),
-        (4, 2, "1\n4\n"),
-        (5, 1, ""),
-    ] {
-        let takes = [Failing::Of(Method::Take, number)];
-        let calls: (&[Failing], &[Failing], &[Failing]) = (&[], &takes, &[]);
-        let said = run_pieces(&rt, alloc, &FILES, line, (input, most), calls)?;
-        assert!(rt; said.is(2, out, READING));
-    }
+    assert_eq!(rt; first_failing(&rt, rt.alloc(), &FILES, &FED)?, FED.len());
     Ok(())
 }
 
 // Three points of a mosaic. A run opens the document and each raster with its header, and reads the document and the
 // headers; for the first point it opens and reads each raster, and for the others nothing. The input gives three pieces
 // and its end, and each answer is put.
-const MOSAIC: &str = "gdallocationinfo -valonly --blocks 1 m.vrt";
-
-const THREE: &[u8] = b"0 0\n1 0\n2 0\n";
+const MOSAIC: Fed<'static> = (
+    "gdallocationinfo -valonly --blocks 1 m.vrt",
+    (b"0 0\n1 0\n2 0\n", 4),
+);
 
 const OPENS: u64 = 7;
 
 const READS: u64 = 5;
 
-// Calls of the folder, of the input and of the output that fail, and the status, what is printed and what is told.
-type FailingRow<'a> = (
-    &'a [Failing],
-    &'a [Failing],
-    &'a [Failing],
-    u8,
-    &'a str,
-    &'a str,
-);
-
-// Whether runs over the points whose calls fail so end so.
-fn try_failed<R: Threads + Sync>(
-    rt: &R,
-    alloc: Global,
-    rows: &[FailingRow<'_>],
-) -> Result<bool, Fail> {
-    for (calls, takes, puts, status, out, err) in rows {
-        let said = run_pieces(rt, alloc, &FILES, MOSAIC, (THREE, 4), (calls, takes, puts))?;
-        if !said.is(*status, out, err) {
-            return Ok(false);
-        }
-    }
-    Ok(true)
-}
-
-const FOLDER: &str = "ERROR 3: a file call failed\n";
-
-const READING: &str = "ERROR 3: reading the input failed\n";
-
-const WRITING: &str = "ERROR 3: writing the output failed\n";
-
 // The folder's last calls, and those that would come behind them.
-const BEHIND: [FailingRow<'static>; 5] = [
-    (&[Failing::Of(Method::Open, OPENS)], &[], &[], 2, "", FOLDER),
+const BEHIND: [Trial<'static>; 5] = [
     (
-        &[Failing::Of(Method::ReadAt, READS)],
-        &[],
-        &[],
-        2,
-        "",
-        FOLDER,
+        MOSAIC,
+        (&[Failing::Of(Method::Open, OPENS)], &[], &[]),
+        (2, "", FOLDER),
     ),
     (
-        &[Failing::Of(Method::Open, OPENS + 1)],
-        &[],
-        &[],
-        0,
-        "5\n-1\n9\n",
-        "",
+        MOSAIC,
+        (&[Failing::Of(Method::ReadAt, READS)], &[], &[]),
+        (2, "", FOLDER),
     ),
     (
-        &[Failing::Of(Method::ReadAt, READS + 1)],
-        &[],
-        &[],
-        0,
-        "5\n-1\n9\n",
-        "",
+        MOSAIC,
+        (&[Failing::Of(Method::Open, OPENS + 1)], &[], &[]),
+        (0, "5\n-1\n9\n", ""),
     ),
     (
-        &[Failing::Call(OPENS + READS + 1)],
-        &[],
-        &[],
-        0,
-        "5\n-1\n9\n",
-        "",
+        MOSAIC,
+        (&[Failing::Of(Method::ReadAt, READS + 1)], &[], &[]),
+        (0, "5\n-1\n9\n", ""),
+    ),
+    (
+        MOSAIC,
+        (&[Failing::Call(OPENS + READS + 1)], &[], &[]),
+        (0, "5\n-1\n9\n", ""),
     ),
 ];
 
 // Where a call fails, the answers before it stand; behind the last call nothing fails.
-const STREAMS: [FailingRow<'static>; 9] = [
-    (&[], &[Failing::Call(1)], &[], 2, "", READING),
-    (&[], &[Failing::Call(2)], &[], 2, "5\n", READING),
-    (&[], &[Failing::Call(3)], &[], 2, "5\n-1\n", READING),
-    (&[], &[Failing::Call(4)], &[], 2, "5\n-1\n9\n", READING),
-    (&[], &[Failing::Call(5)], &[], 0, "5\n-1\n9\n", ""),
-    (&[], &[], &[Failing::Call(1)], 2, "", WRITING),
-    (&[], &[], &[Failing::Call(2)], 2, "5\n", WRITING),
-    (&[], &[], &[Failing::Call(3)], 2, "5\n-1\n", WRITING),
-    (&[], &[], &[Failing::Call(4)], 0, "5\n-1\n9\n", ""),
+const STREAMS: [Trial<'static>; 9] = [
+    (MOSAIC, (&[], &[Failing::Call(1)], &[]), (2, "", READING)),
+    (MOSAIC, (&[], &[Failing::Call(2)], &[]), (2, "5\n", READING)),
+    (
+        MOSAIC,
+        (&[], &[Failing::Call(3)], &[]),
+        (2, "5\n-1\n", READING),
+    ),
+    (
+        MOSAIC,
+        (&[], &[Failing::Call(4)], &[]),
+        (2, "5\n-1\n9\n", READING),
+    ),
+    (
+        MOSAIC,
+        (&[], &[Failing::Call(5)], &[]),
+        (0, "5\n-1\n9\n", ""),
+    ),
+    (MOSAIC, (&[], &[], &[Failing::Call(1)]), (2, "", WRITING)),
+    (MOSAIC, (&[], &[], &[Failing::Call(2)]), (2, "5\n", WRITING)),
+    (
+        MOSAIC,
+        (&[], &[], &[Failing::Call(3)]),
+        (2, "5\n-1\n", WRITING),
+    ),
+    (
+        MOSAIC,
+        (&[], &[], &[Failing::Call(4)]),
+        (0, "5\n-1\n9\n", ""),
+    ),
 ];
 
-// Each call of the folder, of the input and of the output fails in turn.
+// Each call of the folder fails in turn.
 #[test]
 fn failing_calls_of_points(rt: HostRuntime) -> Result<(), Fail> {
-    let alloc = rt.alloc();
-    for number in 1..=OPENS + READS {
-        let calls = [Failing::Call(number)];
-        let row: FailingRow<'_> = (&calls, &[], &[], 2, "", FOLDER);
-        assert!(rt; try_failed(&rt, alloc, &[row])?);
-    }
-    assert!(rt; try_failed(&rt, alloc, &BEHIND)?);
-    assert!(rt; try_failed(&rt, alloc, &STREAMS)?);
+    let found = first_harmless(&rt, rt.alloc(), &FILES, MOSAIC, "5\n-1\n9\n")?;
+    assert!(rt; found == (OPENS + READS + 1, true), "call {}", found.0);
     Ok(())
 }
 
-// A mosaic of one pixel, which is that of its one source.
-fn put_mosaic(alloc: Global, folder: &mut MemFolder, name: &str, source: &str) -> Result<(), Fail> {
-    let mut document = String::from_str(
-        alloc,
-        "<VRTDataset rasterXSize='1' rasterYSize='1'><VRTRasterBand><SimpleSource><SourceFilename>",
-    )?;
-    document.push_str(source)?;
-    document.push_str("</SourceFilename></SimpleSource></VRTRasterBand></VRTDataset>")?;
-    folder.put(&Name::read(alloc, name)?, document.as_bytes())?;
+#[test]
+fn last_calls_of_points(rt: HostRuntime) -> Result<(), Fail> {
+    assert_eq!(rt;
+        first_failing(&rt, rt.alloc(), &FILES, &BEHIND)?,
+        BEHIND.len()
+    );
     Ok(())
 }
 
-// Seventeen mosaics, each of which names the next one, and the last one a file.
-const NESTED: [&str; 18] = [
-    "m1.vrt", "m2.vrt", "m3.vrt", "m4.vrt", "m5.vrt", "m6.vrt", "m7.vrt", "m8.vrt", "m9.vrt",
-    "m10.vrt", "m11.vrt", "m12.vrt", "m13.vrt", "m14.vrt", "m15.vrt", "m16.vrt", "m17.vrt",
-    "a.bil",
+#[test]
+fn failing_streams_of_points(rt: HostRuntime) -> Result<(), Fail> {
+    assert_eq!(rt;
+        first_failing(&rt, rt.alloc(), &FILES, &STREAMS)?,
+        STREAMS.len()
+    );
+    Ok(())
+}
+
+// Seventeen mosaics of one pixel, each of which names the next one, and the last one a file.
+const NESTED: [FileOf<'static>; 19] = [
+    ("a.bil", &[7]),
+    ("a.hdr", b"NROWS 1\nNCOLS 1\n"),
+    (
+        "m1.vrt",
+        b"<VRTDataset rasterXSize='1' rasterYSize='1'><VRTRasterBand>
+<SimpleSource><SourceFilename>m2.vrt</SourceFilename></SimpleSource></VRTRasterBand></VRTDataset>",
+    ),
+    (
+        "m2.vrt",
+        b"<VRTDataset rasterXSize='1' rasterYSize='1'><VRTRasterBand>
+<SimpleSource><SourceFilename>m3.vrt</SourceFilename></SimpleSource></VRTRasterBand></VRTDataset>",
+    ),
+    (
+        "m3.vrt",
+        b"<VRTDataset rasterXSize='1' rasterYSize='1'><VRTRasterBand>
+<SimpleSource><SourceFilename>m4.vrt</SourceFilename></SimpleSource></VRTRasterBand></VRTDataset>",
+    ),
+    (
+        "m4.vrt",
+        b"<VRTDataset rasterXSize='1' rasterYSize='1'><VRTRasterBand>
+<SimpleSource><SourceFilename>m5.vrt</SourceFilename></SimpleSource></VRTRasterBand></VRTDataset>",
+    ),
+    (
+        "m5.vrt",
+        b"<VRTDataset rasterXSize='1' rasterYSize='1'><VRTRasterBand>
+<SimpleSource><SourceFilename>m6.vrt</SourceFilename></SimpleSource></VRTRasterBand></VRTDataset>",
+    ),
+    (
+        "m6.vrt",
+        b"<VRTDataset rasterXSize='1' rasterYSize='1'><VRTRasterBand>
+<SimpleSource><SourceFilename>m7.vrt</SourceFilename></SimpleSource></VRTRasterBand></VRTDataset>",
+    ),
+    (
+        "m7.vrt",
+        b"<VRTDataset rasterXSize='1' rasterYSize='1'><VRTRasterBand>
+<SimpleSource><SourceFilename>m8.vrt</SourceFilename></SimpleSource></VRTRasterBand></VRTDataset>",
+    ),
+    (
+        "m8.vrt",
+        b"<VRTDataset rasterXSize='1' rasterYSize='1'><VRTRasterBand>
+<SimpleSource><SourceFilename>m9.vrt</SourceFilename></SimpleSource></VRTRasterBand></VRTDataset>",
+    ),
+    (
+        "m9.vrt",
+        b"<VRTDataset rasterXSize='1' rasterYSize='1'><VRTRasterBand>
+<SimpleSource><SourceFilename>m10.vrt</SourceFilename></SimpleSource></VRTRasterBand></VRTDataset>",
+    ),
+    (
+        "m10.vrt",
+        b"<VRTDataset rasterXSize='1' rasterYSize='1'><VRTRasterBand>
+<SimpleSource><SourceFilename>m11.vrt</SourceFilename></SimpleSource></VRTRasterBand></VRTDataset>",
+    ),
+    (
+        "m11.vrt",
+        b"<VRTDataset rasterXSize='1' rasterYSize='1'><VRTRasterBand>
+<SimpleSource><SourceFilename>m12.vrt</SourceFilename></SimpleSource></VRTRasterBand></VRTDataset>",
+    ),
+    (
+        "m12.vrt",
+        b"<VRTDataset rasterXSize='1' rasterYSize='1'><VRTRasterBand>
+<SimpleSource><SourceFilename>m13.vrt</SourceFilename></SimpleSource></VRTRasterBand></VRTDataset>",
+    ),
+    (
+        "m13.vrt",
+        b"<VRTDataset rasterXSize='1' rasterYSize='1'><VRTRasterBand>
+<SimpleSource><SourceFilename>m14.vrt</SourceFilename></SimpleSource></VRTRasterBand></VRTDataset>",
+    ),
+    (
+        "m14.vrt",
+        b"<VRTDataset rasterXSize='1' rasterYSize='1'><VRTRasterBand>
+<SimpleSource><SourceFilename>m15.vrt</SourceFilename></SimpleSource></VRTRasterBand></VRTDataset>",
+    ),
+    (
+        "m15.vrt",
+        b"<VRTDataset rasterXSize='1' rasterYSize='1'><VRTRasterBand>
+<SimpleSource><SourceFilename>m16.vrt</SourceFilename></SimpleSource></VRTRasterBand></VRTDataset>",
+    ),
+    (
+        "m16.vrt",
+        b"<VRTDataset rasterXSize='1' rasterYSize='1'><VRTRasterBand>
+<SimpleSource><SourceFilename>m17.vrt</SourceFilename></SimpleSource></VRTRasterBand></VRTDataset>",
+    ),
+    (
+        "m17.vrt",
+        b"<VRTDataset rasterXSize='1' rasterYSize='1'><VRTRasterBand>
+<SimpleSource><SourceFilename>a.bil</SourceFilename></SimpleSource></VRTRasterBand></VRTDataset>",
+    ),
+];
+
+const DEPTHS: [Row<'static>; 2] = [
+    (
+        "gdallocationinfo -valonly m1.vrt 0 0",
+        1,
+        "",
+        "ERROR 1: m17.vrt: nested too deep\n",
+    ),
+    ("gdallocationinfo -valonly m2.vrt 0 0", 0, "7\n", ""),
 ];
 
 #[test]
 fn nested_mosaics(rt: HostRuntime) -> Result<(), Fail> {
-    let alloc = rt.alloc();
-    let files: [FileOf<'_>; 2] = [("a.bil", &[7]), ("a.hdr", b"NROWS 1\nNCOLS 1\n")];
-    let mut folder = folder_of(alloc, &files, &[])?;
-    for at in 0..17usize {
-        put_mosaic(alloc, &mut folder, NESTED[at], NESTED[at + 1])?;
-    }
-    let line = "gdallocationinfo -valonly m1.vrt 0 0";
-    let said = run_in(&rt, alloc, &mut folder, line, &[])?;
-    assert!(rt; said.is(1, "", "ERROR 1: m17.vrt: nested too deep\n"));
-    let line = "gdallocationinfo -valonly m2.vrt 0 0";
-    let said = run_in(&rt, alloc, &mut folder, line, &[])?;
-    assert!(rt; said.is(0, "7\n", ""));
+    assert_eq!(rt;
+        first_wrong(&rt, rt.alloc(), &NESTED, &DEPTHS)?,
+        DEPTHS.len()
+    );
     Ok(())
 }

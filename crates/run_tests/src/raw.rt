@@ -1,6 +1,8 @@
-use crate::trials::{FileOf, Row, folder_of, run_in, run_over, try_rows};
-use outside::{Failing, Method, Name};
+use crate::trials::{FileOf, Row, Trial, WRITING, first_failing, first_harmless, first_wrong};
+use outside::{Failing, Method};
+use std::alloc::Global;
 use std::test::*;
+use std::thread::Threads;
 
 const TWELVE: [u8; 12] = [1, 2, 3, 4, 5, 6, 7, 8, 9, 10, 11, 12];
 
@@ -68,7 +70,10 @@ const VALUES: [Row<'static>; 9] = [
 
 #[test]
 fn values(rt: HostRuntime) -> Result<(), Fail> {
-    assert!(rt; try_rows(&rt, rt.alloc(), &FILES, &VALUES)?);
+    assert_eq!(rt;
+        first_wrong(&rt, rt.alloc(), &FILES, &VALUES)?,
+        VALUES.len()
+    );
     Ok(())
 }
 
@@ -163,36 +168,46 @@ const REFUSALS: [Row<'static>; 16] = [
 
 #[test]
 fn refusals(rt: HostRuntime) -> Result<(), Fail> {
-    assert!(rt; try_rows(&rt, rt.alloc(), &FILES, &REFUSALS)?);
+    assert_eq!(rt;
+        first_wrong(&rt, rt.alloc(), &FILES, &REFUSALS)?,
+        REFUSALS.len()
+    );
     Ok(())
 }
 
-// Each call of the folder and of the output fails in turn; nothing was printed then.
+const LINE: &str = "gdallocationinfo -valonly a.bil 2 1";
+
+// Each call of the folder fails in turn; nothing was printed then.
 #[test]
 fn failing_calls(rt: HostRuntime) -> Result<(), Fail> {
-    let alloc = rt.alloc();
-    let line = "gdallocationinfo -valonly a.bil 2 1";
-    for number in 1..=6u64 {
-        let said = run_over(&rt, alloc, &FILES, line, &[Failing::Call(number)], &[])?;
-        assert!(rt; said.is(2, "", "ERROR 3: a file call failed\n"));
-    }
-    let said = run_over(&rt, alloc, &FILES, line, &[Failing::Call(7)], &[])?;
-    assert!(rt; said.is(0, "9\n12\n", ""));
-    let puts = [Failing::Of(Method::Put, 1)];
-    let said = run_over(&rt, alloc, &FILES, line, &[], &puts)?;
-    assert!(rt; said.is(2, "", "ERROR 3: writing the output failed\n"));
+    let found = first_harmless(&rt, rt.alloc(), &FILES, (LINE, (b"", 1)), "9\n12\n")?;
+    assert!(rt; found == (7, true), "call {}", found.0);
     Ok(())
+}
+
+const PUTS: [Trial<'static>; 1] = [(
+    (LINE, (b"", 1)),
+    (&[], &[], &[Failing::Of(Method::Put, 1)]),
+    (2, "", WRITING),
+)];
+
+#[test]
+fn a_failing_output(rt: HostRuntime) -> Result<(), Fail> {
+    assert_eq!(rt; first_failing(&rt, rt.alloc(), &FILES, &PUTS)?, PUTS.len());
+    Ok(())
+}
+
+const WIDEST: [Row<'static>; 1] = [("gdallocationinfo -valonly w.bil 4194303 0", 0, "7\n", "")];
+
+fn try_widest<R: Threads + Sync>(rt: &R, alloc: Global) -> Result<usize, Fail> {
+    let bytes = vec![in alloc; 7u8; 4_194_304]?;
+    let files: [FileOf<'_>; 2] = [("w.hdr", b"NROWS 1\nNCOLS 4194304\n"), ("w.bil", &bytes)];
+    first_wrong(rt, alloc, &files, &WIDEST)
 }
 
 // The greatest width is read, to its last column.
 #[test]
 fn the_widest_raster(rt: HostRuntime) -> Result<(), Fail> {
-    let alloc = rt.alloc();
-    let mut folder = folder_of(alloc, &[("w.hdr", b"NROWS 1\nNCOLS 4194304\n")], &[])?;
-    let bytes = vec![in alloc; 7u8; 4_194_304]?;
-    folder.put(&Name::read(alloc, "w.bil")?, &bytes)?;
-    let line = "gdallocationinfo -valonly w.bil 4194303 0";
-    let said = run_in(&rt, alloc, &mut folder, line, &[])?;
-    assert!(rt; said.is(0, "7\n", ""));
+    assert_eq!(rt; try_widest(&rt, rt.alloc())?, WIDEST.len());
     Ok(())
 }

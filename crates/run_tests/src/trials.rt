@@ -12,21 +12,26 @@ use std::thread::Threads;
 #[derive(Drop)]
 pub struct Said {
     pub status: u8,
-    pub out: String,
-    pub err: String,
+    pub out: MemSink,
+    pub err: MemSink,
 }
 
 impl Said {
     // Whether a run ended with this status, and printed and told these texts.
     pub fn is(&self, status: u8, out: &str, err: &str) -> bool {
-        self.status == status && self.out.as_str() == out && self.err.as_str() == err
+        self.status == status && self.out.got() == out.as_bytes() && self.tells(err)
+    }
+
+    // Whether a run told this text.
+    pub fn tells(&self, err: &str) -> bool {
+        self.err.got() == err.as_bytes()
     }
 }
 
 // A name and its bytes.
 pub type FileOf<'a> = (&'a str, &'a [u8]);
 
-pub fn plan(alloc: Global, calls: &[Failing]) -> Result<Listed, Fail> {
+fn plan(alloc: Global, calls: &[Failing]) -> Result<Listed, Fail> {
     let mut failing = Items::new(alloc);
     for call in calls {
         failing.push(*call)?;
@@ -42,27 +47,32 @@ fn split(alloc: Global, line: &str) -> Result<Vec<String>, Fail> {
     Ok(words)
 }
 
-pub fn folder_of(
-    alloc: Global,
-    files: &[FileOf<'_>],
-    calls: &[Failing],
-) -> Result<MemFolder, Fail> {
-    let mut folder = MemFolder::new(alloc, plan(alloc, calls)?);
+fn put_all(alloc: Global, folder: &mut MemFolder, files: &[FileOf<'_>]) -> Result<(), Fail> {
     for (name, bytes) in files {
         folder.put(&Name::read(alloc, name)?, bytes)?;
     }
+    Ok(())
+}
+
+// A folder with these files, whose calls fail as they are listed.
+fn folder_of(alloc: Global, files: &[FileOf<'_>], calls: &[Failing]) -> Result<MemFolder, Fail> {
+    let mut folder = MemFolder::new(alloc, plan(alloc, calls)?);
+    put_all(alloc, &mut folder, files)?;
     Ok(folder)
 }
 
-fn text(alloc: Global, bytes: &[u8]) -> Result<String, Fail> {
-    match std::str::from_utf8(bytes) {
-        Ok(text) => Ok(String::from_str(alloc, text)?),
-        Err(_) => Ok(String::from_str(alloc, "no text")?),
-    }
+// An input of these bytes, which comes in pieces of at most so many, and whose calls fail as they are listed.
+fn input_of(
+    alloc: Global,
+    (bytes, most): (&[u8], usize),
+    calls: &[Failing],
+) -> Result<MemInput, Fail> {
+    let plan = plan(alloc, calls)?;
+    Ok(MemInput::in_pieces(bytes.to_vec(alloc)?, most, plan))
 }
 
 // A run of these words over a folder and an input, whose output's calls fail as they are listed.
-pub fn run_fed<R: Threads + Sync, F: Folder, I: Input>(
+fn run_fed<R: Threads + Sync, F: Folder, I: Input>(
     rt: &R,
     alloc: Global,
     folder: &mut F,
@@ -72,72 +82,109 @@ pub fn run_fed<R: Threads + Sync, F: Folder, I: Input>(
 ) -> Result<Said, Fail> {
     let words = split(alloc, line)?;
     let mut out = MemSink::new(alloc, plan(alloc, puts)?);
-    let mut err = MemSink::new(alloc, plan(alloc, &[])?);
+    let mut err = MemSink::new(alloc, Listed::new(Items::new(alloc)));
     let Outcome { status, .. } = run(rt, alloc, &words, folder, input, &mut out, &mut err);
-    Ok(Said {
-        status,
-        out: text(alloc, out.got())?,
-        err: text(alloc, err.got())?,
-    })
+    Ok(Said { status, out, err })
 }
 
-// The same where the input is empty.
+// The same where the input is empty, and no call of the output fails.
 pub fn run_in<R: Threads + Sync, F: Folder>(
     rt: &R,
     alloc: Global,
     folder: &mut F,
     line: &str,
-    puts: &[Failing],
 ) -> Result<Said, Fail> {
     let mut input = CalmInput::new(Vec::new(alloc), Never);
-    run_fed(rt, alloc, folder, &mut input, line, puts)
+    run_fed(rt, alloc, folder, &mut input, line, &[])
 }
 
-// A run of these words over these files and an input that comes in pieces of at most so many bytes, whose calls fail
-// as they are listed for the folder, for the input and for the output.
-pub fn run_pieces<R: Threads + Sync>(
-    rt: &R,
-    alloc: Global,
-    files: &[FileOf<'_>],
-    line: &str,
-    input: (&[u8], usize),
-    calls: (&[Failing], &[Failing], &[Failing]),
-) -> Result<Said, Fail> {
-    let mut folder = folder_of(alloc, files, calls.0)?;
-    let mut bytes = Vec::new(alloc);
-    bytes.extend_from_slice(input.0)?;
-    let mut input = MemInput::in_pieces(bytes, input.1, plan(alloc, calls.1)?);
-    run_fed(rt, alloc, &mut folder, &mut input, line, calls.2)
-}
-
-// A run of these words over these files, whose calls fail as they are listed for the folder and for the output.
+// A run of these words over these files, where the input is empty and no call fails.
 pub fn run_over<R: Threads + Sync>(
     rt: &R,
     alloc: Global,
     files: &[FileOf<'_>],
     line: &str,
-    calls: &[Failing],
-    puts: &[Failing],
 ) -> Result<Said, Fail> {
-    let mut folder = folder_of(alloc, files, calls)?;
-    run_in(rt, alloc, &mut folder, line, puts)
+    let mut folder = folder_of(alloc, files, &[])?;
+    run_in(rt, alloc, &mut folder, line)
 }
 
 // A line of words, the status, what is printed and what is told.
 pub type Row<'a> = (&'a str, u8, &'a str, &'a str);
 
-// Whether runs over these files say what is listed.
-pub fn try_rows<R: Threads + Sync>(
+// The first of these runs over these files that says something else than is listed, or how many runs there are.
+pub fn first_wrong<R: Threads + Sync>(
     rt: &R,
     alloc: Global,
     files: &[FileOf<'_>],
     rows: &[Row<'_>],
-) -> Result<bool, Fail> {
-    for (line, status, out, err) in rows {
-        let said = run_over(rt, alloc, files, line, &[], &[])?;
-        if !said.is(*status, out, err) {
-            return Ok(false);
+) -> Result<usize, Fail> {
+    for (at, (line, status, out, err)) in rows.iter().enumerate() {
+        if !run_over(rt, alloc, files, line)?.is(*status, out, err) {
+            return Ok(at);
         }
     }
-    Ok(true)
+    Ok(rows.len())
+}
+
+// The calls of the folder, of the input and of the output that fail.
+pub type Calls<'a> = (&'a [Failing], &'a [Failing], &'a [Failing]);
+
+// A line of words over an input that comes in pieces of at most so many bytes.
+pub type Fed<'a> = (&'a str, (&'a [u8], usize));
+
+// A run over these files, some of whose calls fail.
+fn run_failing<R: Threads + Sync>(
+    rt: &R,
+    alloc: Global,
+    files: &[FileOf<'_>],
+    (line, input): Fed<'_>,
+    (calls, takes, puts): Calls<'_>,
+) -> Result<Said, Fail> {
+    let mut folder = folder_of(alloc, files, calls)?;
+    let mut input = input_of(alloc, input, takes)?;
+    run_fed(rt, alloc, &mut folder, &mut input, line, puts)
+}
+
+// A run, the calls that fail, and the status, what is printed and what is told.
+pub type Trial<'a> = (Fed<'a>, Calls<'a>, (u8, &'a str, &'a str));
+
+// The first of these runs over these files that says something else than is listed, or how many runs there are.
+pub fn first_failing<R: Threads + Sync>(
+    rt: &R,
+    alloc: Global,
+    files: &[FileOf<'_>],
+    trials: &[Trial<'_>],
+) -> Result<usize, Fail> {
+    for (at, (fed, calls, (status, out, err))) in trials.iter().enumerate() {
+        if !run_failing(rt, alloc, files, *fed, *calls)?.is(*status, out, err) {
+            return Ok(at);
+        }
+    }
+    Ok(trials.len())
+}
+
+pub const FOLDER: &str = "ERROR 3: a file call failed\n";
+
+pub const READING: &str = "ERROR 3: reading the input failed\n";
+
+pub const WRITING: &str = "ERROR 3: writing the output failed\n";
+
+// The first call of the folder that may fail without ending the run with nothing printed, and whether the run then
+// prints this.
+pub fn first_harmless<R: Threads + Sync>(
+    rt: &R,
+    alloc: Global,
+    files: &[FileOf<'_>],
+    fed: Fed<'_>,
+    out: &str,
+) -> Result<(u64, bool), Fail> {
+    for number in 1..=64u64 {
+        let calls: Calls<'_> = (&[Failing::Call(number)], &[], &[]);
+        let said = run_failing(rt, alloc, files, fed, calls)?;
+        if !said.is(2, "", FOLDER) {
+            return Ok((number, said.is(0, out, "")));
+        }
+    }
+    Ok((0, false))
 }
