@@ -17,8 +17,6 @@ mod steps;
 mod streams;
 mod system;
 mod tally;
-#[cfg(test)]
-mod tests;
 mod text;
 
 pub use calm_sink::CalmSink;
@@ -31,5 +29,6 @@ pub use schedule::{Failing, Listed, Made, Method, Never, Schedule};
 pub use standard::{StdInput, StdSink};
 pub use steps::Steps;
 pub use streams::{Input, Sink, put_all};
+pub use system::{fill_at, put_at};
 pub use tally::Tally;
 pub use text::Text;

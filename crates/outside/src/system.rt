@@ -7,7 +7,7 @@ use std::rt::Files;
 
 /// Fills `out` with a file's bytes from a place on, over short reads. An interrupted read is tried again. False where
 /// a read failed, or the file ended before.
-pub(crate) fn fill_at<T: FileExt>(file: &T, pos: u64, out: &mut [u8]) -> bool {
+pub fn fill_at<T: FileExt>(file: &T, pos: u64, out: &mut [u8]) -> bool {
     let mut filled = 0;
     for _ in 0..u64::MAX {
         if filled >= out.len() {
@@ -28,7 +28,7 @@ pub(crate) fn fill_at<T: FileExt>(file: &T, pos: u64, out: &mut [u8]) -> bool {
 
 /// Writes these bytes from a place on, over short writes. An interrupted write is tried again. False where a write
 /// failed or wrote nothing.
-pub(crate) fn put_at<T: FileExt>(file: &T, pos: u64, bytes: &[u8]) -> bool {
+pub fn put_at<T: FileExt>(file: &T, pos: u64, bytes: &[u8]) -> bool {
     let mut written = 0;
     for _ in 0..u64::MAX {
         if written >= bytes.len() {

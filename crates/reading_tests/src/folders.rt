@@ -10,7 +10,8 @@ use std::cell::Cell;
 use std::io::{self, ErrorKind, Read, Write};
 use std::test::*;
 
-fn plan(alloc: Global, calls: &[Failing]) -> Result<Listed, AllocError> {
+// These calls are to fail.
+pub fn listed(alloc: Global, calls: &[Failing]) -> Result<Listed, AllocError> {
     let mut failing = Items::new(alloc);
     for call in calls {
         failing.push(*call)?;
@@ -19,7 +20,7 @@ fn plan(alloc: Global, calls: &[Failing]) -> Result<Listed, AllocError> {
 }
 
 // Reads `a`, and copies two of its bytes and three more to `b`: the method whose call fails first.
-fn first_failing(folder: &mut MemFolder, a: &Name, b: &Name) -> Option<Method> {
+pub fn first_failing(folder: &mut MemFolder, a: &Name, b: &Name) -> Option<Method> {
     match read_two(folder, a) {
         Err(method) => Some(method),
         Ok(_) => write_file(folder, b).err(),
@@ -27,14 +28,14 @@ fn first_failing(folder: &mut MemFolder, a: &Name, b: &Name) -> Option<Method> {
 }
 
 // A folder with `abc` in the file `a`, of which these calls fail.
-fn folder_of(alloc: Global, a: &Name, calls: &[Failing]) -> Result<MemFolder, AllocError> {
-    let mut folder = MemFolder::new(alloc, plan(alloc, calls)?);
+pub fn folder_of(alloc: Global, a: &Name, calls: &[Failing]) -> Result<MemFolder, AllocError> {
+    let mut folder = MemFolder::new(alloc, listed(alloc, calls)?);
     folder.put(a, b"abc")?;
     Ok(folder)
 }
 
 // Whether a file of a folder has these bytes.
-fn has_bytes<P: Schedule>(folder: &MemoryFolder<P>, name: &Name, bytes: &[u8]) -> bool {
+pub fn has_bytes<P: Schedule>(folder: &MemoryFolder<P>, name: &Name, bytes: &[u8]) -> bool {
     folder.bytes(name) == Some(bytes)
 }
 
@@ -67,16 +68,23 @@ static METHODS: [Method; 8] = [
     Method::Publish,
 ];
 
-#[test]
-fn each_listed_call_fails(rt: HostRuntime) -> Result<(), NameFault> {
+// Whether the first call of each method fails, and each call by its number.
+fn each_fails(alloc: Global) -> bool {
     let mut number = 0u64;
     for method in &METHODS {
         number = number.saturating_add(1);
-        let first = fails_in(rt.alloc(), Failing::Of(*method, 1), *method)?;
-        let call = fails_in(rt.alloc(), Failing::Call(number), *method)?;
-        assert!(rt; first && call, "call {number}");
+        let first = fails_in(alloc, Failing::Of(*method, 1), *method);
+        let call = fails_in(alloc, Failing::Call(number), *method);
+        if first != Ok(true) || call != Ok(true) {
+            return false;
+        }
     }
-    Ok(())
+    true
+}
+
+#[test]
+fn each_listed_call_fails(rt: HostRuntime) {
+    assert!(rt; each_fails(rt.alloc()));
 }
 
 // Whether a read fails.
@@ -175,8 +183,8 @@ fn gives_all(alloc: Global) -> Result<bool, AllocError> {
 // Whether an input gives two bytes at a time, and none at the call that fails.
 fn gives_pieces(alloc: Global) -> Result<bool, AllocError> {
     let mut out = [0; 4];
-    let plan = plan(alloc, &[Failing::Of(Method::Take, 2)])?;
-    let mut pieces = MemInput::in_pieces(LETTERS.to_vec(alloc)?, 2, plan);
+    let schedule = listed(alloc, &[Failing::Of(Method::Take, 2)])?;
+    let mut pieces = MemInput::in_pieces(LETTERS.to_vec(alloc)?, 2, schedule);
     let first = pieces.take(&mut out) == Ok(2);
     let second = pieces.take(&mut out) == Err(Failed) && pieces.left() == b"cdefg".as_slice();
     let third = pieces.take(&mut out) == Ok(2) && pieces.left() == b"efg".as_slice();
@@ -189,7 +197,7 @@ fn inputs_give_pieces(rt: HostRuntime) -> Result<(), AllocError> {
     Ok(())
 }
 
-const PARTS: [&[u8]; 3] = [b"ab", b"", b"cd"];
+pub const PARTS: [&[u8]; 3] = [b"ab", b"", b"cd"];
 
 // Whether a sink gets parts and what follows them.
 fn gets_all(alloc: Global) -> bool {
@@ -201,7 +209,7 @@ fn gets_all(alloc: Global) -> bool {
 
 // Whether a sink gets the parts before the call that fails, and all of them at the next time.
 fn gets_parts(alloc: Global) -> Result<bool, AllocError> {
-    let mut sink = MemSink::new(alloc, plan(alloc, &[Failing::Call(3)])?);
+    let mut sink = MemSink::new(alloc, listed(alloc, &[Failing::Call(3)])?);
     let first = put_all(&mut sink, &PARTS) == Err(Failed) && sink.got() == b"ab".as_slice();
     let second = put_all(&mut sink, &PARTS) == Ok(()) && sink.got() == b"ababcd".as_slice();
     Ok(first && second)

@@ -10,6 +10,8 @@ mod calls;
 #[cfg(test)]
 mod disk;
 #[cfg(test)]
+mod fakes;
+#[cfg(test)]
 mod fixtures;
 #[cfg(test)]
 mod folders;
@@ -21,6 +23,8 @@ mod loads;
 mod names;
 #[cfg(test)]
 mod pools;
+#[cfg(test)]
+mod short_calls;
 #[cfg(test)]
 mod walks;
 #[cfg(test)]

@@ -1,4 +1,4 @@
-use crate::system::{fill_at, put_at};
+use outside::{fill_at, put_at};
 use std::cell::Cell;
 use std::io::{self, ErrorKind};
 use std::os::unix::fs::FileExt;
