@@ -67,15 +67,21 @@ static METHODS: [Method; 8] = [
     Method::Publish,
 ];
 
+// The first of the methods whose call doesn't fail, or how many methods there are.
+fn first_unfailed(alloc: Global) -> Result<usize, NameFault> {
+    for (at, method) in METHODS.iter().enumerate() {
+        let number = (at as u64).saturating_add(1);
+        let first = fails_in(alloc, Failing::Of(*method, 1), *method)?;
+        if !first || !fails_in(alloc, Failing::Call(number), *method)? {
+            return Ok(at);
+        }
+    }
+    Ok(METHODS.len())
+}
+
 #[test]
 fn each_listed_call_fails(rt: HostRuntime) -> Result<(), NameFault> {
-    let mut number = 0u64;
-    for method in &METHODS {
-        number = number.saturating_add(1);
-        let first = fails_in(rt.alloc(), Failing::Of(*method, 1), *method)?;
-        let call = fails_in(rt.alloc(), Failing::Call(number), *method)?;
-        assert!(rt; first && call, "call {number}");
-    }
+    assert_eq!(rt; first_unfailed(rt.alloc())?, METHODS.len());
     Ok(())
 }
 
