@@ -1,5 +1,6 @@
 use band_blocks::Block;
 use geotransform::{PixelType, Sample, holds};
+use std::alloc::{AllocError, Global};
 use std::test::*;
 
 const EXTREMES: [(PixelType, [Sample; 4]); 5] = [
@@ -36,67 +37,129 @@ fn pair_at(block: &Block, at: u32) -> Option<[Sample; 2]> {
     Some(pair)
 }
 
+// Whether a new block of a type has zeros.
+fn begins(alloc: Global, kind: PixelType) -> Result<bool, AllocError> {
+    let block = Block::new(alloc, kind, 3)?;
+    Ok(
+        block.kind() == kind
+            && block.len() == 3
+            && pair_at(&block, 1) == Some([0, 0])
+            && sample_at(&block, 0) == Some(0),
+    )
+}
+
+// The first type of which that isn't so, or how many types there are.
+fn first_begun(alloc: Global) -> Result<usize, AllocError> {
+    for (at, (kind, _)) in EXTREMES.iter().enumerate() {
+        if !begins(alloc, *kind)? {
+            return Ok(at);
+        }
+    }
+    Ok(EXTREMES.len())
+}
+
 #[test]
 fn begins_with_zeros(rt: HostRuntime) -> Result<(), Fail> {
-    for (kind, _) in EXTREMES {
-        let block = Block::new(rt.alloc(), kind, 3)?;
-        assert!(rt; block.kind() == kind);
-        assert_eq!(rt; block.len(), 3);
-        assert!(rt; pair_at(&block, 1) == Some([0, 0]));
-        assert!(rt; sample_at(&block, 0) == Some(0));
-    }
+    assert_eq!(rt; first_begun(rt.alloc())?, EXTREMES.len());
     Ok(())
+}
+
+// A block of these samples, each of which was put.
+fn block_of(alloc: Global, kind: PixelType, samples: &[Sample; 4]) -> Result<Block, AllocError> {
+    let mut block = Block::new(alloc, kind, 4)?;
+    for at in 0..4 {
+        put(&mut block, at, samples[at as usize]);
+    }
+    Ok(block)
+}
+
+// Whether a block keeps what was put.
+fn keeps(alloc: Global, kind: PixelType, samples: &[Sample; 4]) -> Result<bool, AllocError> {
+    let block = block_of(alloc, kind, samples)?;
+    for at in 0..4 {
+        if sample_at(&block, at) != Some(samples[at as usize]) {
+            return Ok(false);
+        }
+    }
+    Ok(pair_at(&block, 2) == Some([samples[2], samples[3]]))
+}
+
+// The first type of which a block doesn't, or how many types there are.
+fn first_lost(alloc: Global) -> Result<usize, AllocError> {
+    for (at, (kind, samples)) in EXTREMES.iter().enumerate() {
+        if !keeps(alloc, *kind, samples)? {
+            return Ok(at);
+        }
+    }
+    Ok(EXTREMES.len())
 }
 
 #[test]
 fn keeps_extremes(rt: HostRuntime) -> Result<(), Fail> {
-    for (kind, samples) in EXTREMES {
-        let mut block = Block::new(rt.alloc(), kind, 4)?;
-        for at in 0..4 {
-            put(&mut block, at, samples[at as usize]);
-        }
-        for at in 0..4 {
-            assert!(rt; sample_at(&block, at) == Some(samples[at as usize]), "{at}");
-        }
-        assert!(rt; pair_at(&block, 2) == Some([samples[2], samples[3]]));
-    }
+    assert_eq!(rt; first_lost(rt.alloc())?, EXTREMES.len());
     Ok(())
 }
 
-// The middle of a block goes into the middle of another, and into one of its own.
+// Whether the middle of a block goes into the middle of another, and into one of its own.
+fn moves(alloc: Global, kind: PixelType, samples: &[Sample; 4]) -> Result<bool, AllocError> {
+    let mut block = block_of(alloc, kind, samples)?;
+    if block.len() != 4 {
+        return Ok(false);
+    }
+    let mut run = [7; 2];
+    block.copy_run(1, &mut run);
+    let packed = Block::pack(alloc, block.kind(), &run)?;
+    block.write_run(2, &run);
+    Ok(
+        packed.kind() == kind
+            && pair_at(&packed, 0) == Some([samples[1], samples[2]])
+            && pair_at(&block, 0) == Some([samples[0], samples[1]])
+            && pair_at(&block, 2) == Some([samples[1], samples[2]]),
+    )
+}
+
+// The first type of which it doesn't, or how many types there are.
+fn first_unmoved(alloc: Global) -> Result<usize, AllocError> {
+    for (at, (kind, samples)) in EXTREMES.iter().enumerate() {
+        if !moves(alloc, *kind, samples)? {
+            return Ok(at);
+        }
+    }
+    Ok(EXTREMES.len())
+}
+
 #[test]
 fn moves_runs(rt: HostRuntime) -> Result<(), Fail> {
-    for (kind, samples) in EXTREMES {
-        let mut block = Block::new(rt.alloc(), kind, 4)?;
-        for at in 0..4 {
-            put(&mut block, at, samples[at as usize]);
-        }
-        let mut run = [7; 2];
-        if block.len() == 4 {
-            block.copy_run(1, &mut run);
-            let packed = Block::pack(rt.alloc(), block.kind(), &run)?;
-            assert!(rt; packed.kind() == kind);
-            assert!(rt; pair_at(&packed, 0) == Some([samples[1], samples[2]]));
-            block.write_run(2, &run);
-        }
-        assert!(rt; pair_at(&block, 0) == Some([samples[0], samples[1]]));
-        assert!(rt; pair_at(&block, 2) == Some([samples[1], samples[2]]));
-    }
+    assert_eq!(rt; first_unmoved(rt.alloc())?, EXTREMES.len());
     Ok(())
+}
+
+const CLAMPED: [(PixelType, [Sample; 2]); 5] = [
+    (PixelType::Byte, [0, 255]),
+    (PixelType::UInt16, [0, 65_535]),
+    (PixelType::Int16, [-32_768, 32_767]),
+    (PixelType::UInt32, [0, 4_294_967_295]),
+    (PixelType::Int32, [-2_147_483_648, 2_147_483_647]),
+];
+
+// Whether samples beyond the range of a type become these.
+fn clamps(alloc: Global, kind: PixelType, wanted: [Sample; 2]) -> Result<bool, AllocError> {
+    let block = Block::pack_clamped(alloc, kind, &[-5_000_000_000, 5_000_000_000])?;
+    Ok(block.kind() == kind && pair_at(&block, 0) == Some(wanted))
+}
+
+// The first type of which they don't, or how many types there are.
+fn first_unclamped(alloc: Global) -> Result<usize, AllocError> {
+    for (at, (kind, wanted)) in CLAMPED.iter().enumerate() {
+        if !clamps(alloc, *kind, *wanted)? {
+            return Ok(at);
+        }
+    }
+    Ok(CLAMPED.len())
 }
 
 #[test]
 fn clamps_to_the_type(rt: HostRuntime) -> Result<(), Fail> {
-    for (kind, wanted) in [
-        (PixelType::Byte, [0, 255]),
-        (PixelType::UInt16, [0, 65_535]),
-        (PixelType::Int16, [-32_768, 32_767]),
-        (PixelType::UInt32, [0, 4_294_967_295]),
-        (PixelType::Int32, [-2_147_483_648, 2_147_483_647]),
-    ] {
-        let block = Block::pack_clamped(rt.alloc(), kind, &[-5_000_000_000, 5_000_000_000])?;
-        assert!(rt; block.kind() == kind);
-        assert!(rt; pair_at(&block, 0) == Some(wanted));
-    }
+    assert_eq!(rt; first_unclamped(rt.alloc())?, CLAMPED.len());
     Ok(())
 }

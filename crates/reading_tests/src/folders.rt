@@ -68,23 +68,22 @@ static METHODS: [Method; 8] = [
     Method::Publish,
 ];
 
-// Whether the first call of each method fails, and each call by its number.
-fn each_fails(alloc: Global) -> bool {
-    let mut number = 0u64;
-    for method in &METHODS {
-        number = number.saturating_add(1);
-        let first = fails_in(alloc, Failing::Of(*method, 1), *method);
-        let call = fails_in(alloc, Failing::Call(number), *method);
-        if first != Ok(true) || call != Ok(true) {
-            return false;
+// The first of the methods whose call doesn't fail, or how many methods there are.
+fn first_unfailed(alloc: Global) -> Result<usize, NameFault> {
+    for (at, method) in METHODS.iter().enumerate() {
+        let number = (at as u64).saturating_add(1);
+        let first = fails_in(alloc, Failing::Of(*method, 1), *method)?;
+        if !first || !fails_in(alloc, Failing::Call(number), *method)? {
+            return Ok(at);
         }
     }
-    true
+    Ok(METHODS.len())
 }
 
 #[test]
-fn each_listed_call_fails(rt: HostRuntime) {
-    assert!(rt; each_fails(rt.alloc()));
+fn each_listed_call_fails(rt: HostRuntime) -> Result<(), NameFault> {
+    assert_eq!(rt; first_unfailed(rt.alloc())?, METHODS.len());
+    Ok(())
 }
 
 // Whether a read fails.

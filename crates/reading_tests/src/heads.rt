@@ -5,6 +5,7 @@ use dted_records::DtedFault;
 use esri_hdr::HdrFault;
 use geotransform::{GeoTransform, PixelType, Size};
 use hgt_tiles::HgtFault;
+use outside::MemFolder;
 use std::alloc::{AllocError, Global};
 use std::test::*;
 use vrt_profile::VrtFault;
@@ -129,11 +130,19 @@ const ROWS: [Row<'static>; 21] = [
     ),
 ];
 
+// The first of these rows of which something else is said, or how many rows there are.
+fn first_unsaid(alloc: Global, rows: &[Row]) -> Result<usize, Fail> {
+    for (at, row) in rows.iter().enumerate() {
+        if !is_said(alloc, false, *row)? {
+            return Ok(at);
+        }
+    }
+    Ok(rows.len())
+}
+
 #[test]
 fn refusals(rt: HostRuntime) -> Result<(), Fail> {
-    for row in ROWS {
-        assert!(rt; is_said(rt.alloc(), false, row)?, "{}", row.0);
-    }
+    assert_eq!(rt; first_unsaid(rt.alloc(), &ROWS)?, ROWS.len());
     Ok(())
 }
 
@@ -156,16 +165,26 @@ const HEADERS: [(usize, u64, Option<Said<'static>>); 2] = [
     ),
 ];
 
+// Whether that is said of data with a header of so many bytes.
+fn is_limited(alloc: Global, len: usize, call: u64, said: Option<Said<'_>>) -> Result<bool, Fail> {
+    let header = long_header(alloc, len)?;
+    let files = [("a.bil", TWELVE.as_slice()), ("a.hdr", header.as_slice())];
+    is_said(alloc, false, ("a.bil", &files, call, said))
+}
+
+// The first length of which something else is said, or how many lengths there are.
+fn first_unlimited(alloc: Global) -> Result<usize, Fail> {
+    for (at, (len, call, said)) in HEADERS.iter().enumerate() {
+        if !is_limited(alloc, *len, *call, *said)? {
+            return Ok(at);
+        }
+    }
+    Ok(HEADERS.len())
+}
+
 #[test]
 fn limits(rt: HostRuntime) -> Result<(), Fail> {
-    for (len, call, said) in HEADERS {
-        let header = long_header(rt.alloc(), len)?;
-        let files = [("a.bil", TWELVE.as_slice()), ("a.hdr", header.as_slice())];
-        assert!(rt;
-            is_said(rt.alloc(), false, ("a.bil", &files, call, said))?,
-            "{len}"
-        );
-    }
+    assert_eq!(rt; first_unlimited(rt.alloc())?, HEADERS.len());
     Ok(())
 }
 
@@ -182,16 +201,31 @@ const CELLS: [(&str, u8, bool, Option<Said<'static>>); 4] = [
     ),
 ];
 
+// Whether that is said of a cell with this last byte of its sum.
+fn is_summed(
+    alloc: Global,
+    name: &str,
+    sum: u8,
+    verify: bool,
+    said: Option<Said<'_>>,
+) -> Result<bool, Fail> {
+    let file = cell(alloc, sum)?;
+    is_said(alloc, verify, (name, &[(name, file.as_slice())], 0, said))
+}
+
+// The first cell of which something else is said, or how many cells there are.
+fn first_unsummed(alloc: Global) -> Result<usize, Fail> {
+    for (at, (name, sum, verify, said)) in CELLS.iter().enumerate() {
+        if !is_summed(alloc, name, *sum, *verify, *said)? {
+            return Ok(at);
+        }
+    }
+    Ok(CELLS.len())
+}
+
 #[test]
 fn cells(rt: HostRuntime) -> Result<(), Fail> {
-    for (name, sum, verify, said) in CELLS {
-        let file = cell(rt.alloc(), sum)?;
-        let files = [(name, file.as_slice())];
-        assert!(rt;
-            is_said(rt.alloc(), verify, (name, &files, 0, said))?,
-            "{name}"
-        );
-    }
+    assert_eq!(rt; first_unsummed(rt.alloc())?, CELLS.len());
     Ok(())
 }
 
@@ -223,39 +257,57 @@ fn is_at(geo: GeoTransform, corner: (i128, i128), step: (i128, i128)) -> bool {
     (geo.ox.get(), geo.oy.get()) == corner && (geo.dx.get(), geo.dy.get()) == step
 }
 
-#[test]
-fn a_head(rt: HostRuntime) -> Result<(), Fail> {
-    let head = head_in(rt.alloc(), "./d//A.BIL", &DATA, 4, true)?
-        .ok()
-        .ok_or("it is there")?;
+// Whether a head is that of the data `d/A.BIL`.
+fn is_of_data(head: &Head) -> bool {
     let band = BandHead {
         kind: PixelType::Byte,
         nodata: Some(9),
         block: Size { w: 3, h: 1 },
     };
-    assert!(rt; is_shaped(&head, Kind::Raw, Size { w: 3, h: 2 }, 2, band));
-    assert!(rt; is_named(&head, &["d/A.BIL", "d/A.HDR"]));
-    assert!(rt; head.geo.is_none());
+    is_shaped(head, Kind::Raw, Size { w: 3, h: 2 }, 2, band)
+        && is_named(head, &["d/A.BIL", "d/A.HDR"])
+        && head.geo.is_none()
+}
+
+fn has_head(alloc: Global) -> Result<bool, Fail> {
+    Ok(match head_in(alloc, "./d//A.BIL", &DATA, 4, true)? {
+        Ok(head) => is_of_data(&head),
+        Err(_) => false,
+    })
+}
+
+#[test]
+fn a_head(rt: HostRuntime) -> Result<(), Fail> {
+    assert!(rt; has_head(rt.alloc())?);
     Ok(())
 }
 
-// No source is opened: the tiles aren't there, and a third call of the folder would fail.
-#[test]
-fn a_mosaic(rt: HostRuntime) -> Result<(), Fail> {
-    let files = [("d/out.vrt", TWO_TILES)];
-    let head = head_in(rt.alloc(), "d/out.vrt", &files, 3, false)?
-        .ok()
-        .ok_or("it is there")?;
+// Whether a head is that of the mosaic of two tiles.
+fn is_of_tiles(head: &Head) -> bool {
     let band = BandHead {
         kind: PixelType::Int16,
         nodata: Some(-32_768),
         block: Size { w: 128, h: 128 },
     };
-    assert!(rt; is_shaped(&head, Kind::Vrt, Size { w: 2401, h: 1201 }, 1, band));
-    assert!(rt; is_named(&head, &["d/out.vrt", "d/N00E000.hgt", "d/N00E001.hgt"]));
-    let geo = head.geo.ok_or("it is placed")?;
     let corner = (-75_000_000_000_006, 180_075_000_000_000_006);
-    assert!(rt; is_at(geo, corner, (149_999_999_999_994, -149_999_999_999_994)));
+    let step = (149_999_999_999_994, -149_999_999_999_994);
+    is_shaped(head, Kind::Vrt, Size { w: 2401, h: 1201 }, 1, band)
+        && is_named(head, &["d/out.vrt", "d/N00E000.hgt", "d/N00E001.hgt"])
+        && matches!(head.geo, Some(geo) if is_at(geo, corner, step))
+}
+
+fn has_mosaic(alloc: Global) -> Result<bool, Fail> {
+    let files = [("d/out.vrt", TWO_TILES)];
+    Ok(match head_in(alloc, "d/out.vrt", &files, 3, false)? {
+        Ok(head) => is_of_tiles(&head),
+        Err(_) => false,
+    })
+}
+
+// No source is opened: the tiles aren't there, and a third call of the folder would fail.
+#[test]
+fn a_mosaic(rt: HostRuntime) -> Result<(), Fail> {
+    assert!(rt; has_mosaic(rt.alloc())?);
     Ok(())
 }
 
@@ -297,12 +349,20 @@ fn is_listed(alloc: Global, (name, sources, files): Listing) -> Result<bool, Fai
     )
 }
 
+// The first of these mosaics that has other files, or how many mosaics there are.
+fn first_unlisted(alloc: Global) -> Result<usize, Fail> {
+    for (at, row) in LISTINGS.iter().enumerate() {
+        if !is_listed(alloc, *row)? {
+            return Ok(at);
+        }
+    }
+    Ok(LISTINGS.len())
+}
+
 // Each name of a source is listed once, in document order, behind the mosaic's own.
 #[test]
 fn files_of_mosaics(rt: HostRuntime) -> Result<(), Fail> {
-    for row in LISTINGS {
-        assert!(rt; is_listed(rt.alloc(), row)?, "{}", row.0);
-    }
+    assert_eq!(rt; first_unlisted(rt.alloc())?, LISTINGS.len());
     Ok(())
 }
 
@@ -323,16 +383,25 @@ const LENGTHS: [(&str, usize, Option<Said<'static>>); 4] = [
     ("d/m.vrt", 4096, Some(Said::Limit(LimitKind::Name, 4098))),
 ];
 
+// Whether that is said of a mosaic whose source has a name of so many letters.
+fn is_long(alloc: Global, name: &str, count: usize, said: Option<Said<'_>>) -> Result<bool, Fail> {
+    let text = long_named(alloc, count)?;
+    is_said(alloc, false, (name, &[(name, text.as_bytes())], 3, said))
+}
+
+// The first of these mosaics of which something else is said, or how many mosaics there are.
+fn first_unnamed(alloc: Global) -> Result<usize, Fail> {
+    for (at, (name, count, said)) in LENGTHS.iter().enumerate() {
+        if !is_long(alloc, name, *count, *said)? {
+            return Ok(at);
+        }
+    }
+    Ok(LENGTHS.len())
+}
+
 #[test]
 fn names_of_sources(rt: HostRuntime) -> Result<(), Fail> {
-    for (name, count, said) in LENGTHS {
-        let text = long_named(rt.alloc(), count)?;
-        let files = [(name, text.as_bytes())];
-        assert!(rt;
-            is_said(rt.alloc(), false, (name, &files, 3, said))?,
-            "{name} {count}"
-        );
-    }
+    assert_eq!(rt; first_unnamed(rt.alloc())?, LENGTHS.len());
     Ok(())
 }
 
@@ -352,21 +421,36 @@ fn measured(cat: &Catalog, id: u32) -> Option<(u64, Size)> {
     Some((cat.length(id), cat.head(id).size))
 }
 
+// The first of these steps that goes otherwise, or how many steps there are.
+fn first_astray(alloc: Global, cat: &mut Catalog, folder: &mut MemFolder) -> Result<usize, Fail> {
+    for (at, (verify, step)) in STEPS.iter().enumerate() {
+        if !goes(alloc, cat, folder, *verify, *step)? {
+            return Ok(at);
+        }
+    }
+    Ok(STEPS.len())
+}
+
+// A folder with the data and a cell, whose ninth call fails.
+fn data_and_cell(alloc: Global) -> Result<MemFolder, Fail> {
+    let file = cell(alloc, 0xb2)?;
+    let [data, header] = DATA;
+    folder_of(alloc, 9, &[data, header, ("c.dt0", file.as_slice())])
+}
+
+// The first of these steps that goes otherwise, and the length and the size of the cell.
+fn walk(alloc: Global) -> Result<(usize, Option<(u64, Size)>), Fail> {
+    let mut folder = data_and_cell(alloc)?;
+    let mut cat = Catalog::new(alloc);
+    let astray = first_astray(alloc, &mut cat, &mut folder)?;
+    Ok((astray, measured(&cat, 1)))
+}
+
 // Each dataset is read once, and a refusal leaves the catalog as it was.
 #[test]
 fn walks(rt: HostRuntime) -> Result<(), Fail> {
-    let file = cell(rt.alloc(), 0xb2)?;
-    let [data, header] = DATA;
-    let files = [data, header, ("c.dt0", file.as_slice())];
-    let mut folder = folder_of(rt.alloc(), 9, &files)?;
-    let mut cat = Catalog::new(rt.alloc());
-    for (verify, step) in STEPS {
-        assert!(rt;
-            goes(rt.alloc(), &mut cat, &mut folder, verify, step)?,
-            "{}",
-            step.0
-        );
-    }
-    assert!(rt; measured(&cat, 1) == Some((3448, Size { w: 1, h: 4 })));
+    let (astray, cell) = walk(rt.alloc())?;
+    let measured = cell == Some((3448, Size { w: 1, h: 4 }));
+    assert!(rt; astray == STEPS.len() && measured, "step {astray}");
     Ok(())
 }

@@ -5,35 +5,69 @@ ghost use Rattle.band_blocks.specs.Open.{AreGood};
 
 use band_blocks::{Block, BlockKey, LoadFault, OpenFiles, Steps, block_at, load_block};
 use catalog::{Catalog, open_all};
+use geotransform::Sample;
 use outside::{CalmFolder, Folder, Name, Never, Tally};
 use std::alloc::Global;
 use std::marker::Brand;
 use std::sync::ledger::{Blank, Ledger};
 use std::test::*;
 
-// The number of the samples of a block, and the first of them.
-fn shown(alloc: Global, block: &Block) -> Result<String, Fail> {
-    let mut text = format!(in alloc; "{}:", block.len())?;
-    for at in 0..block.len().min(5) {
-        let sample = format!(in alloc; " {}", block.get(at))?;
-        text.push_str(&sample)?;
-    }
-    Ok(text)
+// What came of a load.
+#[derive(Drop)]
+enum Loaded {
+    Block(Block),
+    Fault(LoadFault),
+    NoWalk,
+    NoDataset,
+    NoFile,
+    NoPixel,
 }
 
-// The text of a fault, with the name and the lengths that it carries.
-fn said(alloc: Global, fault: &LoadFault) -> Result<String, Fail> {
-    let text = match fault {
-        LoadFault::FolderFault => format!(in alloc; "folder")?,
-        LoadFault::Changed { name, was, now } => {
-            format!(in alloc; "changed {} {} {:?}", name.as_str(), *was, *now)?
+// What is to come of a load: a block of so many samples, the first five of which are these; a fault, as the file has
+// another length than the walk found; or nothing, as there is no such pixel.
+#[derive(Clone, Copy)]
+enum Want<'a> {
+    Samples(u32, &'a [Sample]),
+    Changed(&'a str, u64, Option<u64>),
+    NoPixel,
+}
+
+// Whether a block has so many samples, and begins with these.
+fn begins(block: &Block, count: u32, samples: &[Sample]) -> bool {
+    let mut at = 0;
+    for sample in samples {
+        if at >= block.len() || block.get(at) != *sample {
+            return false;
         }
-        LoadFault::Memory => format!(in alloc; "memory")?,
-    };
-    Ok(text)
+        at += 1;
+    }
+    block.len() == count
 }
 
-// Loads a block once, and says what came of it.
+// Whether a fault tells that a file of this name has changed its length so.
+fn is_changed(fault: &LoadFault, file: &str, before: u64, after: Option<u64>) -> bool {
+    match fault {
+        LoadFault::Changed { name, was, now } => {
+            name.as_str() == file && *was == before && *now == after
+        }
+        _ => false,
+    }
+}
+
+impl Loaded {
+    fn is(&self, want: Want<'_>) -> bool {
+        match (self, want) {
+            (Loaded::Block(block), Want::Samples(count, samples)) => begins(block, count, samples),
+            (Loaded::Fault(fault), Want::Changed(file, before, after)) => {
+                is_changed(fault, file, before, after)
+            }
+            (Loaded::NoPixel, Want::NoPixel) => true,
+            _ => false,
+        }
+    }
+}
+
+// Loads a block once.
 fn load_counted<F: Folder, L: Ledger>(
     alloc: Global,
     cat: &Catalog,
@@ -41,7 +75,7 @@ fn load_counted<F: Folder, L: Ledger>(
     files: &mut OpenFiles<F>,
     key: BlockKey,
     blank: Blank,
-) -> Result<String, Fail>
+) -> Loaded
     requires key { IsKey cat.now key }
     requires file { (d : Dataset) → slice_get cat.now key.file ≡ Some d → IsSome (driver_of d.content) }
     requires good { AreGood F.file_bytes F.file_len (F.names folder.old) cat.now files.old }
@@ -52,8 +86,8 @@ fn load_counted<F: Folder, L: Ledger>(
 {
     let mut loads: Steps<L> = Steps::open(blank);
     match load_block(alloc, cat, folder, files, key, &mut loads) {
-        Ok(block) => shown(alloc, &block),
-        Err(fault) => said(alloc, &fault),
+        Ok(block) => Loaded::Block(block),
+        Err(fault) => Loaded::Fault(fault),
     }
 }
 
@@ -66,20 +100,20 @@ fn load_at<F: Folder>(
     files: &mut OpenFiles<F>,
     id: u32,
     place: (u32, u32, u32),
-) -> Result<String, Fail>
+) -> Loaded
     requires good { AreGood F.file_bytes F.file_len (F.names folder.old) cat.now files.old }
     ensures good { AreGood F.file_bytes F.file_len (F.names folder.new) cat.now files.new }
 {
     if id >= cat.count() {
-        return Ok(String::from_str(alloc, "no dataset")?);
+        return Loaded::NoDataset;
     }
     if cat.driver(id).is_none() {
-        return Ok(String::from_str(alloc, "no file")?);
+        return Loaded::NoFile;
     }
     let head = cat.head(id);
     let (band, x, y) = place;
     if band as usize >= head.bands.len() || x >= head.size.w || y >= head.size.h {
-        return Ok(String::from_str(alloc, "no pixel")?);
+        return Loaded::NoPixel;
     }
     let key = BlockKey {
         file: id,
@@ -98,14 +132,14 @@ fn first_load<F: Folder, G: Folder>(
     folder: &mut G,
     name: &str,
     place: (u32, u32, u32),
-) -> Result<String, Fail> {
+) -> Result<Loaded, Fail> {
     let name = Name::read(alloc, name)?;
     let mut cat = Catalog::new(alloc);
     let Ok(id) = open_all(alloc, &mut cat, walked, &name, false) else {
-        return Ok(String::from_str(alloc, "no walk")?);
+        return Ok(Loaded::NoWalk);
     };
     let mut files: OpenFiles<G> = OpenFiles::new(alloc)?;
-    load_at(alloc, &cat, folder, &mut files, id, place)
+    Ok(load_at(alloc, &cat, folder, &mut files, id, place))
 }
 
 // A folder that holds these files.
@@ -117,55 +151,63 @@ fn holding(alloc: Global, files: &[(&str, &[u8])]) -> Result<CalmFolder, Fail> {
     Ok(folder)
 }
 
-// What a first load gives where the files stay the same.
-fn answer(
+// Whether a first load gives that where the files stay the same.
+fn answers(
     alloc: Global,
     files: &[(&str, &[u8])],
     name: &str,
     place: (u32, u32, u32),
-) -> Result<String, Fail> {
+    want: Want<'_>,
+) -> Result<bool, Fail> {
     let mut walked = holding(alloc, files)?;
     let mut folder = holding(alloc, files)?;
-    first_load(alloc, &mut walked, &mut folder, name, place)
+    Ok(first_load(alloc, &mut walked, &mut folder, name, place)?.is(want))
 }
 
 // Each byte is its place.
 const PLACES: [u8; 17] = [0, 1, 2, 3, 4, 5, 6, 7, 8, 9, 10, 11, 12, 13, 14, 15, 16];
 
 // A header, the band, the column and the line of a pixel, and its block.
-type Row = (&'static str, (u32, u32, u32), &'static str);
+type Row<'a> = (&'a str, (u32, u32, u32), Want<'a>);
 
-const ROWS: [Row; 5] = [
+const ROWS: [Row<'static>; 5] = [
     (
         "NROWS 2\nNCOLS 3\nNBANDS 2\nSKIPBYTES 1\nBANDROWBYTES 4\nTOTALROWBYTES 9\n",
         (1, 2, 1),
-        "3: 14 15 16",
+        Want::Samples(3, &[14, 15, 16]),
     ),
     (
         "NROWS 2\nNCOLS 3\nNBANDS 2\nLAYOUT BIP\nSKIPBYTES 1\nTOTALROWBYTES 8\n",
         (1, 0, 1),
-        "3: 10 12 14",
+        Want::Samples(3, &[10, 12, 14]),
     ),
     (
         "NROWS 2\nNCOLS 3\nNBANDS 2\nLAYOUT BSQ\nSKIPBYTES 1\nBANDGAPBYTES 2\n",
         (1, 1, 1),
-        "3: 12 13 14",
+        Want::Samples(3, &[12, 13, 14]),
     ),
     (
         "NROWS 2\nNCOLS 3\nNBITS 16\nBYTEORDER M\n",
         (0, 0, 1),
-        "3: 1543 2057 2571",
+        Want::Samples(3, &[1543, 2057, 2571]),
     ),
-    ("NROWS 2\nNCOLS 3\n", (0, 3, 0), "no pixel"),
+    ("NROWS 2\nNCOLS 3\n", (0, 3, 0), Want::NoPixel),
 ];
+
+// The first row of the table that is loaded otherwise, or how many rows there are.
+fn first_unloaded(alloc: Global) -> Result<usize, Fail> {
+    for (at, (header, place, want)) in ROWS.iter().enumerate() {
+        let files = [("a.bil", PLACES.as_slice()), ("a.hdr", header.as_bytes())];
+        if !answers(alloc, &files, "a.bil", *place, *want)? {
+            return Ok(at);
+        }
+    }
+    Ok(ROWS.len())
+}
 
 #[test]
 fn loads_rows(rt: HostRuntime) -> Result<(), Fail> {
-    let alloc = rt.alloc();
-    for (header, place, said) in ROWS {
-        let files = [("a.bil", PLACES.as_slice()), ("a.hdr", header.as_bytes())];
-        assert_eq!(rt; answer(alloc, &files, "a.bil", place)?.as_str(), said);
-    }
+    assert_eq!(rt; first_unloaded(rt.alloc())?, ROWS.len());
     Ok(())
 }
 
@@ -191,116 +233,177 @@ fn tile(alloc: Global, len: usize) -> Result<Vec<u8>, Fail>
     Ok(file)
 }
 
-#[test]
-fn loads_columns_and_lines(rt: HostRuntime) -> Result<(), Fail> {
-    let alloc = rt.alloc();
+// Whether the column of a cell is loaded.
+fn loads_column(alloc: Global) -> Result<bool, Fail> {
     let column = cell(alloc)?;
-    let said = answer(alloc, &[("c.dt0", column.as_slice())], "c.dt0", (0, 0, 2))?;
-    assert_eq!(rt; said.as_str(), "4: 0 -32767 -5 5");
+    let want = Want::Samples(4, &[0, -32767, -5, 5]);
+    answers(
+        alloc,
+        &[("c.dt0", column.as_slice())],
+        "c.dt0",
+        (0, 0, 2),
+        want,
+    )
+}
+
+// Whether a line of a tile is loaded.
+fn loads_line(alloc: Global) -> Result<bool, Fail> {
     let lines = tile(alloc, 2_884_802)?;
     let files = [("N00E000.hgt", lines.as_slice())];
-    let said = answer(alloc, &files, "N00E000.hgt", (0, 5, 1))?;
-    assert_eq!(rt; said.as_str(), "1201: 0 0 -2 0 0");
+    let want = Want::Samples(1201, &[0, 0, -2, 0, 0]);
+    answers(alloc, &files, "N00E000.hgt", (0, 5, 1), want)
+}
+
+#[test]
+fn loads_columns_and_lines(rt: HostRuntime) -> Result<(), Fail> {
+    assert!(rt; loads_column(rt.alloc())? && loads_line(rt.alloc())?);
     Ok(())
+}
+
+// The files where a raster is loaded that had four bytes when the walk found it, and what comes of it.
+const CHANGES: [(&[(&str, &[u8])], Want<'static>); 4] = [
+    (&[("a.bsq", &[0, 1, 2, 3])], Want::Samples(2, &[0, 1])),
+    (&[("a.bsq", &[0, 1, 2])], Want::Changed("a.bsq", 4, Some(3))),
+    (
+        &[("a.bsq", &[0, 1, 2, 3, 4])],
+        Want::Changed("a.bsq", 4, Some(5)),
+    ),
+    (&[], Want::Changed("a.bsq", 4, None)),
+];
+
+// Whether that comes of a load from these files.
+fn tells(alloc: Global, files: &[(&str, &[u8])], want: Want<'_>) -> Result<bool, Fail> {
+    let found: [(&str, &[u8]); 2] = [("a.bsq", &[0, 1, 2, 3]), ("a.hdr", b"NROWS 2\nNCOLS 2\n")];
+    let mut walked = holding(alloc, &found)?;
+    let mut later = holding(alloc, files)?;
+    Ok(first_load(alloc, &mut walked, &mut later, "a.bsq", (0, 0, 0))?.is(want))
+}
+
+// The first of the changes of which something else comes, or how many changes there are.
+fn first_untold(alloc: Global) -> Result<usize, Fail> {
+    for (at, (files, want)) in CHANGES.iter().enumerate() {
+        if !tells(alloc, files, *want)? {
+            return Ok(at);
+        }
+    }
+    Ok(CHANGES.len())
 }
 
 // A file that has another length than the walk found, or is gone.
 #[test]
 fn tells_changes(rt: HostRuntime) -> Result<(), Fail> {
-    let alloc = rt.alloc();
-    let header = ("a.hdr", b"NROWS 2\nNCOLS 2\n".as_slice());
-    for (len, said) in [
-        (4, "2: 0 1"),
-        (3, "changed a.bsq 4 Some(3)"),
-        (5, "changed a.bsq 4 Some(5)"),
-    ] {
-        let mut walked = holding(alloc, &[("a.bsq", &PLACES[..4]), header])?;
-        let mut later = holding(alloc, &[("a.bsq", &PLACES[..len])])?;
-        let answer = first_load(alloc, &mut walked, &mut later, "a.bsq", (0, 0, 0))?;
-        assert_eq!(rt; answer.as_str(), said);
-    }
-    let mut walked = holding(alloc, &[("a.bsq", &PLACES[..4]), header])?;
-    let mut later = holding(alloc, &[])?;
-    let answer = first_load(alloc, &mut walked, &mut later, "a.bsq", (0, 0, 0))?;
-    assert_eq!(rt; answer.as_str(), "changed a.bsq 4 None");
+    assert_eq!(rt; first_untold(rt.alloc())?, CHANGES.len());
     Ok(())
 }
 
-// A row of a raster of 256 bands and these columns, all of whose samples are 7: what its load gives, and
-// how often it reads.
-fn counted(alloc: Global, columns: usize) -> Result<(String, u64), Fail>
+// A row of a raster of 256 bands and these columns, all of whose samples are 7.
+fn raster(alloc: Global, columns: usize) -> Result<CalmFolder, Fail>
     requires { columns ≤ 1000 }
 {
     let header = format!(in alloc; "NROWS 1\nNCOLS {columns}\nNBANDS 256\nLAYOUT BIP\n")?;
     let data = vec![in alloc; 7u8; 256 * columns]?;
-    let files = [("a.bip", data.as_slice()), ("a.hdr", header.as_bytes())];
-    let mut walked = holding(alloc, &files)?;
-    let mut folder = Tally::new(holding(alloc, &files)?);
-    let said = first_load(alloc, &mut walked, &mut folder, "a.bip", (255, 1, 0))?;
-    Ok((said, folder.reads()))
+    holding(
+        alloc,
+        &[("a.bip", data.as_slice()), ("a.hdr", header.as_bytes())],
+    )
+}
+
+// How often the load of that row reads, where it gives that.
+fn counted(alloc: Global, columns: usize, want: Want<'_>) -> Result<Option<u64>, Fail>
+    requires { columns ≤ 1000 }
+{
+    let mut walked = raster(alloc, columns)?;
+    let mut folder = Tally::new(raster(alloc, columns)?);
+    let loaded = first_load(alloc, &mut walked, &mut folder, "a.bip", (255, 1, 0))?;
+    Ok(if loaded.is(want) {
+        Some(folder.reads())
+    } else {
+        None
+    })
+}
+
+const SEVENS: [Sample; 5] = [7; 5];
+
+// The first number of columns whose row is loaded otherwise, or 0.
+fn first_uncounted(alloc: Global) -> Result<usize, Fail> {
+    for (columns, want, calls) in [
+        (2usize, Want::Samples(2, &[7, 7]), 1u64),
+        (256, Want::Samples(256, &SEVENS), 1),
+        (257, Want::Samples(257, &SEVENS), 2),
+        (600, Want::Samples(600, &SEVENS), 3),
+    ] {
+        if counted(alloc, columns, want)? != Some(calls) {
+            return Ok(columns);
+        }
+    }
+    Ok(0)
 }
 
 #[test]
 fn reads_in_pieces(rt: HostRuntime) -> Result<(), Fail> {
-    let alloc = rt.alloc();
-    for (columns, wanted, calls) in [
-        (2, "2: 7 7", 1),
-        (256, "256: 7 7 7 7 7", 1),
-        (257, "257: 7 7 7 7 7", 2),
-        (600, "600: 7 7 7 7 7", 3),
-    ] {
-        let (said, reads) = counted(alloc, columns)?;
-        assert_eq!(rt; said.as_str(), wanted);
-        assert_eq!(rt; reads, calls);
-    }
+    assert_eq!(rt; first_uncounted(rt.alloc())?, 0);
     Ok(())
 }
 
 const GRID_HEAD: &str = "xllcorner 0\nyllcorner 0\ncellsize 1\n";
 
 // The body of a grid of three columns and two rows, the line of a pixel, and its block.
-const GRID_ROWS: [(&str, u32, &str); 6] = [
-    ("1 -2 3\n40 50 60\n", 0, "3: 1 -2 3"),
-    ("1 -2 3\n40 50 60\n", 1, "3: 40 50 60"),
-    ("1 -2 3\n40 50 60", 1, "3: 40 50 60"),
-    ("1\n-2 3 40\n\n 50\t60 ", 0, "3: 1 -2 3"),
-    ("1\n-2 3 40\n\n 50\t60 ", 1, "3: 40 50 60"),
+const GRID_ROWS: [(&str, u32, [Sample; 3]); 6] = [
+    ("1 -2 3\n40 50 60\n", 0, [1, -2, 3]),
+    ("1 -2 3\n40 50 60\n", 1, [40, 50, 60]),
+    ("1 -2 3\n40 50 60", 1, [40, 50, 60]),
+    ("1\n-2 3 40\n\n 50\t60 ", 0, [1, -2, 3]),
+    ("1\n-2 3 40\n\n 50\t60 ", 1, [40, 50, 60]),
     (
         "-2147483648 2147483647 +7.0 0 0 0",
         0,
-        "3: -2147483648 2147483647 7",
+        [-2147483648, 2147483647, 7],
     ),
 ];
 
-#[test]
-fn loads_rows_of_grids(rt: HostRuntime) -> Result<(), Fail> {
-    let alloc = rt.alloc();
-    for (body, line, wanted) in GRID_ROWS {
-        let text = format!(in alloc; "ncols 3\nnrows 2\n{GRID_HEAD}{body}")?;
-        let files = [("g.asc", text.as_bytes())];
-        let said = answer(alloc, &files, "g.asc", (0, 2, line))?;
-        assert_eq!(rt; said.as_str(), wanted);
-    }
-    Ok(())
+// A folder with a grid of this size and this body.
+fn grid(alloc: Global, size: &str, body: &[u8]) -> Result<CalmFolder, Fail> {
+    let mut text = Vec::from_slice(alloc, size.as_bytes())?;
+    text.extend_from_slice(GRID_HEAD.as_bytes())?;
+    text.extend_from_slice(body)?;
+    holding(alloc, &[("g.asc", text.as_slice())])
 }
 
-// What a load of a line of a grid gives where its file has other bytes by then, and how often it reads.
+// How often a load of a line of a grid reads, whose file has other bytes by then, where it gives that.
 fn counted_line(
     alloc: Global,
     size: &str,
-    walked: &[u8],
-    later: &[u8],
-    line: u32,
-) -> Result<(String, u64), Fail> {
-    let head = format!(in alloc; "{size}{GRID_HEAD}")?;
-    let mut first = Vec::from_slice(alloc, head.as_bytes())?;
-    first.extend_from_slice(walked)?;
-    let mut second = Vec::from_slice(alloc, head.as_bytes())?;
-    second.extend_from_slice(later)?;
-    let mut found = holding(alloc, &[("g.asc", first.as_slice())])?;
-    let mut folder = Tally::new(holding(alloc, &[("g.asc", second.as_slice())])?);
-    let said = first_load(alloc, &mut found, &mut folder, "g.asc", (0, 0, line))?;
-    Ok((said, folder.reads()))
+    bodies: (&[u8], &[u8]),
+    (x, y): (u32, u32),
+    want: Want<'_>,
+) -> Result<Option<u64>, Fail> {
+    let mut found = grid(alloc, size, bodies.0)?;
+    let mut folder = Tally::new(grid(alloc, size, bodies.1)?);
+    let loaded = first_load(alloc, &mut found, &mut folder, "g.asc", (0, x, y))?;
+    Ok(if loaded.is(want) {
+        Some(folder.reads())
+    } else {
+        None
+    })
+}
+
+// The first of these rows that is loaded otherwise, or how many rows there are.
+fn first_ungridded(alloc: Global) -> Result<usize, Fail> {
+    let size = "ncols 3\nnrows 2\n";
+    for (at, (body, line, samples)) in GRID_ROWS.iter().enumerate() {
+        let bodies = (body.as_bytes(), body.as_bytes());
+        let want = Want::Samples(3, samples);
+        if counted_line(alloc, size, bodies, (2, *line), want)?.is_none() {
+            return Ok(at);
+        }
+    }
+    Ok(GRID_ROWS.len())
+}
+
+#[test]
+fn loads_rows_of_grids(rt: HostRuntime) -> Result<(), Fail> {
+    assert_eq!(rt; first_ungridded(rt.alloc())?, GRID_ROWS.len());
+    Ok(())
 }
 
 // 100,000 bytes between two others.
@@ -312,80 +415,133 @@ fn between(alloc: Global, front: u8, fill: u8, back: u8) -> Result<Vec<u8>, Fail
 }
 
 // The bytes that a grid of one column and two rows has by then: the first, the 100,000 behind it and the
-// last. The line that is loaded, its block, and how often it is read.
-const LATER: [(u8, u8, u8, u32, &str, u64); 6] = [
-    (b'7', b' ', b'8', 0, "1: 7", 1),
-    (b'7', b' ', b'8', 1, "1: 8", 1),
-    (b' ', b' ', b'8', 0, "1: 0", 2),
-    (b'1', b'1', b'1', 0, "1: 0", 2),
-    (b'x', b'\n', b'9', 0, "1: 0", 1),
-    (b'x', b'\n', b'9', 1, "1: 9", 1),
+// last. The line that is loaded, its sample, and how often it is read.
+const LATER: [(u8, u8, u8, u32, Sample, u64); 6] = [
+    (b'7', b' ', b'8', 0, 7, 1),
+    (b'7', b' ', b'8', 1, 8, 1),
+    (b' ', b' ', b'8', 0, 0, 2),
+    (b'1', b'1', b'1', 0, 0, 2),
+    (b'x', b'\n', b'9', 0, 0, 1),
+    (b'x', b'\n', b'9', 1, 9, 1),
 ];
+
+// How often a load of a line reads, where it gives this sample, over the bytes that the grid has by then.
+fn counted_later(
+    alloc: Global,
+    walked: &[u8],
+    (front, fill, back): (u8, u8, u8),
+    line: u32,
+    sample: Sample,
+) -> Result<Option<u64>, Fail> {
+    let later = between(alloc, front, fill, back)?;
+    let want = Want::Samples(1, &[sample]);
+    counted_line(
+        alloc,
+        "ncols 1\nnrows 2\n",
+        (walked, &later),
+        (0, line),
+        want,
+    )
+}
+
+// The first of these rows that is loaded otherwise, or how many rows there are.
+fn first_past(alloc: Global, walked: &[u8]) -> Result<usize, Fail> {
+    for (at, (front, fill, back, line, sample, calls)) in LATER.iter().enumerate() {
+        let bytes = (*front, *fill, *back);
+        if counted_later(alloc, walked, bytes, *line, *sample)? != Some(*calls) {
+            return Ok(at);
+        }
+    }
+    Ok(LATER.len())
+}
+
+fn load_later(alloc: Global) -> Result<usize, Fail> {
+    let walked = between(alloc, b'7', b' ', b'8')?;
+    first_past(alloc, &walked)
+}
 
 // The walk finds a 7, 100,000 spaces and an 8. No load reads past the place of the next row.
 #[test]
 fn stops_at_the_next_row(rt: HostRuntime) -> Result<(), Fail> {
-    let alloc = rt.alloc();
-    let size = "ncols 1\nnrows 2\n";
-    let walked = between(alloc, b'7', b' ', b'8')?;
-    for (front, fill, back, line, wanted, calls) in LATER {
-        let later = between(alloc, front, fill, back)?;
-        let (said, reads) = counted_line(alloc, size, &walked, &later, line)?;
-        assert_eq!(rt; said.as_str(), wanted);
-        assert_eq!(rt; reads, calls);
-    }
+    assert_eq!(rt; load_later(rt.alloc())?, LATER.len());
     Ok(())
+}
+
+// The row of a grid of so many columns, all of whose values are 7.
+fn sevens(alloc: Global, columns: u32) -> Result<Vec<u8>, Fail>
+    requires { columns ≤ 100000 }
+{
+    let mut body = vec![in alloc; b' '; 2 * columns as usize]?;
+    for at in 0..columns as usize {
+        body[2 * at] = b'7';
+    }
+    Ok(body)
+}
+
+// How often a load of that row reads, where it gives the row.
+fn counted_sevens(alloc: Global, size: &str, columns: u32) -> Result<Option<u64>, Fail>
+    requires { columns ≤ 100000 }
+{
+    let body = sevens(alloc, columns)?;
+    let want = Want::Samples(columns, &SEVENS);
+    counted_line(alloc, size, (&body, &body), (0, 0), want)
+}
+
+// The first number of columns whose row is loaded otherwise, or 0.
+fn first_unread(alloc: Global) -> Result<u32, Fail> {
+    for (columns, size, calls) in [
+        (5u32, "ncols 5\nnrows 1\n", 1u64),
+        (32_768, "ncols 32768\nnrows 1\n", 1),
+        (32_769, "ncols 32769\nnrows 1\n", 2),
+        (65_537, "ncols 65537\nnrows 1\n", 3),
+    ] {
+        if counted_sevens(alloc, size, columns)? != Some(calls) {
+            return Ok(columns);
+        }
+    }
+    Ok(0)
 }
 
 #[test]
 fn reads_rows_of_grids_in_pieces(rt: HostRuntime) -> Result<(), Fail> {
-    let alloc = rt.alloc();
-    for (columns, wanted, calls) in [
-        (5usize, "5: 7 7 7 7 7", 1),
-        (32_768, "32768: 7 7 7 7 7", 1),
-        (32_769, "32769: 7 7 7 7 7", 2),
-        (65_537, "65537: 7 7 7 7 7", 3),
-    ] {
-        let size = format!(in alloc; "ncols {columns}\nnrows 1\n")?;
-        let mut body = vec![in alloc; b' '; 2 * columns]?;
-        for at in 0..columns {
-            body[2 * at] = b'7';
-        }
-        let (said, reads) = counted_line(alloc, &size, &body, &body, 0)?;
-        assert_eq!(rt; said.as_str(), wanted);
-        assert_eq!(rt; reads, calls);
-    }
+    assert_eq!(rt; first_unread(rt.alloc())?, 0);
     Ok(())
 }
 
-// Loads the first blocks of datasets in turn.
+// Whether loads of the first blocks of datasets in turn give one sample each: the number of the dataset.
 fn load_each<F: Folder>(
     alloc: Global,
     cat: &Catalog,
     folder: &mut F,
     files: &mut OpenFiles<F>,
     ids: &[u32],
-) -> Result<String, Fail>
+) -> bool
     requires good { AreGood F.file_bytes F.file_len (F.names folder.old) cat.now files.old }
     ensures good { AreGood F.file_bytes F.file_len (F.names folder.new) cat.now files.new }
 {
-    let mut text = String::new(alloc);
     for id in ids {
-        let said = load_at(alloc, cat, folder, files, *id, (0, 0, 0))?;
-        text.push_str(&said)?;
-        text.push_str(" ")?;
+        let want = [*id as Sample];
+        if !load_at(alloc, cat, folder, files, *id, (0, 0, 0)).is(Want::Samples(1, &want)) {
+            return false;
+        }
     }
-    Ok(text)
+    true
+}
+
+// Puts a file of one pixel, whose sample is its number.
+fn put_pixel(alloc: Global, folder: &mut CalmFolder, number: u8) -> Result<Name, Fail> {
+    let header = Name::read(alloc, &format!(in alloc; "{number}.hdr")?)?;
+    folder.put(&header, b"NROWS 1\nNCOLS 1\n")?;
+    let data = Name::read(alloc, &format!(in alloc; "{number}.bsq")?)?;
+    folder.put(&data, &[number])?;
+    Ok(data)
 }
 
 // Seventeen files of one pixel each, whose sample is their number, and a catalog of them.
 fn seventeen(alloc: Global, cat: &mut Catalog) -> Result<CalmFolder, Fail> {
     let mut folder = CalmFolder::new(alloc, Never);
     for number in 0..17u8 {
-        let header = format!(in alloc; "{number}.hdr")?;
-        folder.put(&Name::read(alloc, &header)?, b"NROWS 1\nNCOLS 1\n")?;
-        let data = Name::read(alloc, &format!(in alloc; "{number}.bsq")?)?;
-        folder.put(&data, &[number])?;
+        let data = put_pixel(alloc, &mut folder, number)?;
         if open_all(alloc, cat, &mut folder, &data, false).is_err() {
             return Ok(folder);
         }
@@ -393,40 +549,44 @@ fn seventeen(alloc: Global, cat: &mut Catalog) -> Result<CalmFolder, Fail> {
     Ok(folder)
 }
 
-// Loads the first blocks of these datasets one after the other, and says how many files were opened.
+// How many files are opened where the first blocks of these datasets are loaded one after the other; None where they
+// aren't loaded.
 #[tactic(auto, using(band_blocks::proofs::Opened::good_none))]
-fn opened(alloc: Global, ids: &[u32]) -> Result<(String, u64), Fail> {
+fn opened(alloc: Global, ids: &[u32]) -> Result<Option<u64>, Fail> {
     let mut cat = Catalog::new(alloc);
     let mut folder = Tally::new(seventeen(alloc, &mut cat)?);
     let mut files = OpenFiles::new(alloc)?;
-    let said = load_each(alloc, &cat, &mut folder, &mut files, ids)?;
-    Ok((said, folder.opens()))
+    let loaded = load_each(alloc, &cat, &mut folder, &mut files, ids);
+    Ok(if loaded { Some(folder.opens()) } else { None })
 }
 
-const TURNS: [(&[u32], &str, u64); 3] = [
-    (&[3, 3, 16, 3], "1: 3 1: 3 1: 16 1: 3 ", 2),
+const TURNS: [(&[u32], u64); 3] = [
+    (&[3, 3, 16, 3], 2),
     (
         &[
             0, 1, 2, 3, 4, 5, 6, 7, 8, 9, 10, 11, 12, 13, 14, 15, 0, 16, 0,
         ],
-        "1: 0 1: 1 1: 2 1: 3 1: 4 1: 5 1: 6 1: 7 1: 8 1: 9 1: 10 1: 11 1: 12 1: 13 1: 14 1: 15 1: 0 1: 16 1: 0 ",
         17,
     ),
     (
         &[0, 1, 2, 3, 4, 5, 6, 7, 8, 9, 10, 11, 12, 13, 14, 15, 16, 0],
-        "1: 0 1: 1 1: 2 1: 3 1: 4 1: 5 1: 6 1: 7 1: 8 1: 9 1: 10 1: 11 1: 12 1: 13 1: 14 1: 15 1: 16 1: 0 ",
         18,
     ),
 ];
 
+// The first of these turns that opens another number of files, or how many turns there are.
+fn first_unopened(alloc: Global) -> Result<usize, Fail> {
+    for (at, (ids, opens)) in TURNS.iter().enumerate() {
+        if opened(alloc, ids)? != Some(*opens) {
+            return Ok(at);
+        }
+    }
+    Ok(TURNS.len())
+}
+
 // The file that was used longest ago is closed for a seventeenth.
 #[test]
 fn keeps_sixteen_open(rt: HostRuntime) -> Result<(), Fail> {
-    let alloc = rt.alloc();
-    for (ids, wanted, opens) in TURNS {
-        let (said, count) = opened(alloc, ids)?;
-        assert_eq!(rt; said.as_str(), wanted);
-        assert_eq!(rt; count, opens);
-    }
+    assert_eq!(rt; first_unopened(rt.alloc())?, TURNS.len());
     Ok(())
 }

@@ -68,11 +68,19 @@ fn is_read(alloc: Global, text: &str, name: &str) -> Result<bool, NameFault> {
     Ok(read.as_str() == name)
 }
 
+// The first of these texts that gives another name, or how many there are.
+fn first_unread(alloc: Global) -> Result<usize, NameFault> {
+    for (at, (text, name)) in NORMAL.iter().enumerate() {
+        if !is_read(alloc, text, name)? {
+            return Ok(at);
+        }
+    }
+    Ok(NORMAL.len())
+}
+
 #[test]
 fn reads_names(rt: HostRuntime) -> Result<(), NameFault> {
-    for (text, name) in &NORMAL {
-        assert!(rt; is_read(rt.alloc(), text, name)?, "from {text}");
-    }
+    assert_eq!(rt; first_unread(rt.alloc())?, NORMAL.len());
     Ok(())
 }
 
@@ -105,11 +113,19 @@ fn is_kind(alloc: Global, text: &str, kind: Option<Ext>) -> Result<bool, NameFau
     Ok(name.extension() == kind)
 }
 
+// The first of these names that is of another kind, or how many there are.
+fn first_of_other_kind(alloc: Global) -> Result<usize, NameFault> {
+    for (at, (text, kind)) in KINDS.iter().enumerate() {
+        if !is_kind(alloc, text, *kind)? {
+            return Ok(at);
+        }
+    }
+    Ok(KINDS.len())
+}
+
 #[test]
 fn tells_kinds(rt: HostRuntime) -> Result<(), NameFault> {
-    for (text, kind) in &KINDS {
-        assert!(rt; is_kind(rt.alloc(), text, *kind)?, "of {text}");
-    }
+    assert_eq!(rt; first_of_other_kind(rt.alloc())?, KINDS.len());
     Ok(())
 }
 
@@ -124,11 +140,19 @@ fn has_header(alloc: Global, text: &str, header: &str) -> Result<bool, NameFault
     }
 }
 
+// The first of these names that has another header, or how many there are.
+fn first_of_other_header(alloc: Global) -> Result<usize, NameFault> {
+    for (at, (text, header)) in HEADERS.iter().enumerate() {
+        if !has_header(alloc, text, header)? {
+            return Ok(at);
+        }
+    }
+    Ok(HEADERS.len())
+}
+
 #[test]
 fn names_headers(rt: HostRuntime) -> Result<(), NameFault> {
-    for (text, header) in &HEADERS {
-        assert!(rt; has_header(rt.alloc(), text, header)?, "beside {text}");
-    }
+    assert_eq!(rt; first_of_other_header(rt.alloc())?, HEADERS.len());
     Ok(())
 }
 
@@ -157,9 +181,13 @@ fn keeps_text(alloc: Global) -> Result<bool, AllocError> {
 
 #[test]
 fn keeps_texts(rt: HostRuntime) -> Result<(), NameFault> {
-    let alloc = rt.alloc();
-    let kept = keeps_name(alloc)? && keeps_text(alloc)?;
-    assert!(rt; kept && is_in(alloc, "d/a.bil", Some("d")));
-    assert!(rt; is_in(alloc, "/a", Some("")) && is_in(alloc, "a", None));
+    assert!(rt; keeps_name(rt.alloc())? && keeps_text(rt.alloc())?);
     Ok(())
+}
+
+#[test]
+fn tells_folders(rt: HostRuntime) {
+    let alloc = rt.alloc();
+    let told = is_in(alloc, "d/a.bil", Some("d")) && is_in(alloc, "/a", Some(""));
+    assert!(rt; told && is_in(alloc, "a", None));
 }

@@ -119,34 +119,48 @@ fn patch(pool: &mut Pool, number: u64, sample: Sample) -> bool {
     pool.patch(&key, 0, &[sample])
 }
 
-fn steps_as_told(alloc: Global, pool: &mut Pool, steps: &[Step]) -> Result<bool, Fail> {
-    for step in steps {
-        let told = match *step {
-            Admit(number, sample, dirty, dropped) => {
-                admit(alloc, pool, number, sample, dirty)? == dropped
-            }
-            Find(number, sample) => find(pool, number) == sample,
-            Patch(number, sample, held) => patch(pool, number, sample) == held,
-            TakeDirty(taken) => take_dirty(pool) == taken,
-            Held(count) => pool.held() == count,
-        };
-        if !told {
-            return Ok(false);
+// Whether a call answers so.
+fn is_told(alloc: Global, pool: &mut Pool, step: Step) -> Result<bool, Fail> {
+    Ok(match step {
+        Admit(number, sample, dirty, dropped) => {
+            admit(alloc, pool, number, sample, dirty)? == dropped
+        }
+        Find(number, sample) => find(pool, number) == sample,
+        Patch(number, sample, held) => patch(pool, number, sample) == held,
+        TakeDirty(taken) => take_dirty(pool) == taken,
+        Held(count) => pool.held() == count,
+    })
+}
+
+// The first of these calls that answers otherwise, or how many calls there are.
+fn first_untold(alloc: Global, pool: &mut Pool, steps: &[Step]) -> Result<usize, Fail> {
+    for (at, step) in steps.iter().enumerate() {
+        if !is_told(alloc, pool, *step)? {
+            return Ok(at);
         }
     }
-    Ok(true)
+    Ok(steps.len())
 }
 
 #[test]
-fn pools_of_each_capacity(rt: HostRuntime) -> Result<(), Fail> {
-    let alloc = rt.alloc();
-    let mut one = Pool::new(alloc, 1)?;
-    assert_eq!(rt; one.capacity(), 1);
-    assert!(rt; steps_as_told(alloc, &mut one, &ONE)?);
-    let mut two = Pool::new(alloc, 2)?;
-    assert!(rt; steps_as_told(alloc, &mut two, &TWO)?);
-    let mut three = Pool::new(alloc, 3)?;
-    assert!(rt; steps_as_told(alloc, &mut three, &THREE)?);
-    assert!(rt; three.holds(&key(3)) == false);
+fn a_pool_of_one(rt: HostRuntime) -> Result<(), Fail> {
+    let mut pool = Pool::new(rt.alloc(), 1)?;
+    assert_eq!(rt; first_untold(rt.alloc(), &mut pool, &ONE)?, ONE.len());
+    assert_eq!(rt; pool.capacity(), 1);
+    Ok(())
+}
+
+#[test]
+fn a_pool_of_two(rt: HostRuntime) -> Result<(), Fail> {
+    let mut pool = Pool::new(rt.alloc(), 2)?;
+    assert_eq!(rt; first_untold(rt.alloc(), &mut pool, &TWO)?, TWO.len());
+    Ok(())
+}
+
+#[test]
+fn a_pool_of_three(rt: HostRuntime) -> Result<(), Fail> {
+    let mut pool = Pool::new(rt.alloc(), 3)?;
+    assert_eq!(rt; first_untold(rt.alloc(), &mut pool, &THREE)?, THREE.len());
+    assert!(rt; !pool.holds(&key(3)));
     Ok(())
 }

@@ -112,15 +112,19 @@ fn goes_first(alloc: Global, (mosaics, call, step): Row) -> Result<bool, Fail> {
     goes(alloc, &mut Catalog::new(alloc), &mut folder, false, step)
 }
 
+// The first of these walks that goes otherwise, or how many walks there are.
+fn first_astray(alloc: Global) -> Result<usize, Fail> {
+    for (at, row) in ROWS.iter().enumerate() {
+        if !goes_first(alloc, *row)? {
+            return Ok(at);
+        }
+    }
+    Ok(ROWS.len())
+}
+
 #[test]
 fn walks_of_mosaics(rt: HostRuntime) -> Result<(), Fail> {
-    for (mosaics, call, step) in ROWS {
-        assert!(rt;
-            goes_first(rt.alloc(), (mosaics, call, step))?,
-            "{} {call}",
-            step.0
-        );
-    }
+    assert_eq!(rt; first_astray(rt.alloc())?, ROWS.len());
     Ok(())
 }
 
@@ -177,19 +181,34 @@ const STEPS: [Step<'static>; 4] = [
     ("m2.vrt", Ok(1), 17),
 ];
 
+// The first of these steps that goes otherwise, or how many steps there are.
+fn first_wrong_step(
+    alloc: Global,
+    cat: &mut Catalog,
+    folder: &mut MemFolder,
+    steps: &[Step],
+) -> Result<usize, Fail> {
+    for (at, step) in steps.iter().enumerate() {
+        if !goes(alloc, cat, folder, false, *step)? {
+            return Ok(at);
+        }
+    }
+    Ok(steps.len())
+}
+
+// The first of these steps that goes otherwise, and the height of the first dataset then.
+fn walk_chain(alloc: Global) -> Result<(usize, Option<u32>), Fail> {
+    let mut folder = with_mosaics(alloc, 0, &CHAIN)?;
+    let mut cat = Catalog::new(alloc);
+    let wrong = first_wrong_step(alloc, &mut cat, &mut folder, &STEPS)?;
+    Ok((wrong, height(&cat, 0)))
+}
+
 // The seventeenth mosaic on a path is one too many, also where it was met whole on a shorter one.
 #[test]
 fn deep_mosaics(rt: HostRuntime) -> Result<(), Fail> {
-    let mut folder = with_mosaics(rt.alloc(), 0, &CHAIN)?;
-    let mut cat = Catalog::new(rt.alloc());
-    for step in STEPS {
-        assert!(rt;
-            goes(rt.alloc(), &mut cat, &mut folder, false, step)?,
-            "{}",
-            step.0
-        );
-    }
-    assert!(rt; height(&cat, 0) == Some(16));
+    let (wrong, height) = walk_chain(rt.alloc())?;
+    assert!(rt; wrong == STEPS.len() && height == Some(16), "step {wrong}");
     Ok(())
 }
 
@@ -221,22 +240,18 @@ fn is_linked(cat: &Catalog) -> bool {
         && target(cat, 15, 0, 0) == Some(16)
 }
 
+// Whether the walk goes to its end, and links the mosaics; and how many files it opens.
+fn walk_twice(alloc: Global) -> Result<(bool, u64), Fail> {
+    let mut folder = Tally::new(with_mosaics(alloc, 0, &TWICE)?);
+    let mut cat = Catalog::new(alloc);
+    let goes = goes(alloc, &mut cat, &mut folder, false, ("m0.vrt", Ok(0), 17))?;
+    Ok((goes && is_linked(&cat), folder.opens()))
+}
+
 // Each name is read once, however often it is named.
 #[test]
 fn each_name_once(rt: HostRuntime) -> Result<(), Fail> {
-    let mut folder = Tally::new(with_mosaics(rt.alloc(), 0, &TWICE)?);
-    let mut cat = Catalog::new(rt.alloc());
-    assert!(rt;
-        goes(
-            rt.alloc(),
-            &mut cat,
-            &mut folder,
-            false,
-            ("m0.vrt", Ok(0), 17)
-        )?
-    );
-    assert!(rt; folder.opens() == 18);
-    assert!(rt; is_linked(&cat));
+    assert!(rt; walk_twice(rt.alloc())? == (true, 18));
     Ok(())
 }
 
@@ -261,19 +276,22 @@ const COUNTED: [Step<'static>; 2] = [
     ("c.vrt", Err(Said::Limit(LimitKind::Sources, 262_145)), 3),
 ];
 
+// A folder with the long document and the others.
+fn long_folder(alloc: Global) -> Result<MemFolder, Fail> {
+    let text = long_document(alloc)?;
+    let mut folder = with_mosaics(alloc, 0, &FEW)?;
+    put_all(alloc, &mut folder, &[("a.vrt", text.as_bytes())])?;
+    Ok(folder)
+}
+
+fn walk_long(alloc: Global) -> Result<usize, Fail> {
+    let mut folder = long_folder(alloc)?;
+    first_wrong_step(alloc, &mut Catalog::new(alloc), &mut folder, &COUNTED)
+}
+
 // The sources of all mosaics are counted together, and each before its name is resolved.
 #[test]
 fn sources_of_all_mosaics(rt: HostRuntime) -> Result<(), Fail> {
-    let text = long_document(rt.alloc())?;
-    let mut folder = with_mosaics(rt.alloc(), 0, &FEW)?;
-    put_all(rt.alloc(), &mut folder, &[("a.vrt", text.as_bytes())])?;
-    let mut cat = Catalog::new(rt.alloc());
-    for step in COUNTED {
-        assert!(rt;
-            goes(rt.alloc(), &mut cat, &mut folder, false, step)?,
-            "{}",
-            step.0
-        );
-    }
+    assert_eq!(rt; walk_long(rt.alloc())?, COUNTED.len());
     Ok(())
 }

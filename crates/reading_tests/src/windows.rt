@@ -14,26 +14,45 @@ use std::marker::Brand;
 use std::sync::ledger::{Blank, Ledger};
 use std::test::*;
 
-// What a read answered.
-fn said(answer: &Result<(), LoadFault>) -> &'static str {
-    match answer {
-        Ok(()) => "",
-        Err(LoadFault::FolderFault) => "folder",
-        Err(LoadFault::Changed { .. }) => "changed",
-        Err(LoadFault::Memory) => "memory",
+// What came of two reads of a dataset through one lane.
+#[derive(Clone, Copy, PartialEq, Eq)]
+enum Reading {
+    // Both gave these samples.
+    Right,
+    // A call of the folder failed at the first, and the second gave these samples.
+    Failed,
+    // The walk, which comes before, was refused.
+    NoWalk,
+    Wrong,
+}
+
+// What came of a read and of the next one, which left this.
+fn judged(
+    first: &Result<(), LoadFault>,
+    second: &Result<(), LoadFault>,
+    out: &[Sample],
+    samples: &[Sample],
+) -> Reading {
+    if second.is_err() || out != samples {
+        return Reading::Wrong;
+    }
+    match first {
+        Ok(()) => Reading::Right,
+        Err(LoadFault::FolderFault) => Reading::Failed,
+        Err(_) => Reading::Wrong,
     }
 }
 
-// The samples of the first band of a small dataset, read twice through a lane of this capacity, behind
-// what was answered.
+// Reads the samples of the first band of a small dataset twice through a lane of this capacity.
 fn read_twice<F: Folder, L: Ledger>(
     alloc: Global,
     cat: &Catalog,
     folder: &mut F,
     id: u32,
     capacity: u32,
+    wanted: &[Sample],
     blank: Blank,
-) -> Result<String, Fail>
+) -> Result<Reading, Fail>
     requires id { id < length cat.now }
     requires walked { (m : Files) → F.names folder.old ≡ Some m → IsWalked m cat.now }
     requires room { 1 ≤ capacity }
@@ -44,7 +63,7 @@ fn read_twice<F: Folder, L: Ledger>(
 {
     let Size { w, h } = cat.head(id).size;
     if w > 16 || h > 16 {
-        return Ok(String::from_str(alloc, "large")?);
+        return Ok(Reading::Wrong);
     }
     let rect = Rect { x: 0, y: 0, w, h };
     let mut out = vec![in alloc; 0i128; (w * h) as usize]?;
@@ -53,34 +72,29 @@ fn read_twice<F: Folder, L: Ledger>(
     let samples = out.as_mut_slice();
     let first = lane.read_window(alloc, cat, folder, id, 0, rect, samples, &mut loads);
     let second = lane.read_window(alloc, cat, folder, id, 0, rect, samples, &mut loads);
-    let mut text = String::from_str(alloc, said(&first))?;
-    text.push_str(said(&second))?;
-    for sample in samples.iter() {
-        let one = format!(in alloc; " {}", *sample)?;
-        text.push_str(&one)?;
-    }
-    Ok(text)
+    Ok(judged(&first, &second, samples, wanted))
 }
 
-// The samples of the dataset of a name.
+// Reads the samples of the dataset of a name twice.
 fn read_name<F: Folder>(
     alloc: Global,
     folder: &mut F,
     name: &str,
     capacity: u32,
-) -> Result<String, Fail>
+    wanted: &[Sample],
+) -> Result<Reading, Fail>
     requires room { 1 ≤ capacity }
     requires few { capacity ≤ 65536 }
 {
     let name = Name::read(alloc, name)?;
     let mut cat = Catalog::new(alloc);
     let Ok(id) = open_all(alloc, &mut cat, folder, &name, false) else {
-        return Ok(String::from_str(alloc, "no walk")?);
+        return Ok(Reading::NoWalk);
     };
     if id >= cat.count() {
-        return Ok(String::from_str(alloc, "no dataset")?);
+        return Ok(Reading::Wrong);
     }
-    read_twice::<F, Brand>(alloc, &cat, folder, id, capacity, Blank::new(1))
+    read_twice::<F, Brand>(alloc, &cat, folder, id, capacity, wanted, Blank::new(1))
 }
 
 const HEADER: &[u8] = b"NROWS 1\nNCOLS 3\nNBITS 16\nPIXELTYPE SIGNEDINT\nBYTEORDER I\n";
@@ -129,67 +143,103 @@ fn calm(alloc: Global) -> Result<CalmFolder, Fail> {
 }
 
 // A name, and the samples of its dataset.
-const ROWS: [(&str, &str); 6] = [
-    ("a.bil", " 5 0 7"),
-    ("m.vrt", " 5 -1 9"),
-    ("s.vrt", " 0 0 9"),
-    ("n.vrt", " 5 -1 9"),
-    ("o.vrt", " 5 -1 9"),
-    ("w.vrt", " 2 4"),
+const ROWS: [(&str, &[Sample]); 6] = [
+    ("a.bil", &[5, 0, 7]),
+    ("m.vrt", &[5, -1, 9]),
+    ("s.vrt", &[0, 0, 9]),
+    ("n.vrt", &[5, -1, 9]),
+    ("o.vrt", &[5, -1, 9]),
+    ("w.vrt", &[2, 4]),
 ];
+
+// Whether a dataset has these samples at every capacity.
+fn has_samples(alloc: Global, name: &str, wanted: &[Sample]) -> Result<bool, Fail> {
+    for capacity in [1, 2, 3, 64] {
+        let mut folder = calm(alloc)?;
+        if read_name(alloc, &mut folder, name, capacity, wanted)? != Reading::Right {
+            return Ok(false);
+        }
+    }
+    Ok(true)
+}
+
+// The first of these datasets that has others, or how many datasets there are.
+fn first_misread(alloc: Global) -> Result<usize, Fail> {
+    for (at, (name, wanted)) in ROWS.iter().enumerate() {
+        if !has_samples(alloc, name, wanted)? {
+            return Ok(at);
+        }
+    }
+    Ok(ROWS.len())
+}
 
 #[test]
 fn every_capacity_gives_the_same(rt: HostRuntime) -> Result<(), Fail> {
-    let alloc = rt.alloc();
-    for (name, said) in ROWS {
-        for capacity in [1, 2, 3, 64] {
-            let mut folder = calm(alloc)?;
-            assert_eq!(rt;
-                read_name(alloc, &mut folder, name, capacity)?.as_str(),
-                said
-            );
-        }
-    }
+    assert_eq!(rt; first_misread(rt.alloc())?, ROWS.len());
     Ok(())
+}
+
+// The samples of `m.vrt`, `n.vrt` and `o.vrt`.
+const OUTER_SAMPLES: [Sample; 3] = [5, -1, 9];
+
+// How many reads and openings the walk of `o.vrt` takes.
+fn calls_of_walk(alloc: Global) -> Result<(u64, u64), Fail> {
+    let mut walked = Tally::new(calm(alloc)?);
+    let name = Name::read(alloc, "o.vrt")?;
+    let mut cat = Catalog::new(alloc);
+    let _id = open_all(alloc, &mut cat, &mut walked, &name, false);
+    Ok((walked.reads(), walked.opens()))
+}
+
+// How many reads and openings the walk and the two reads take, with room for all blocks; None where they are wrong.
+fn calls_of_reads(alloc: Global) -> Result<Option<(u64, u64)>, Fail> {
+    let mut folder = Tally::new(calm(alloc)?);
+    let came = read_name(alloc, &mut folder, "o.vrt", 64, &OUTER_SAMPLES)?;
+    Ok(if came == Reading::Right {
+        Some((folder.reads(), folder.opens()))
+    } else {
+        None
+    })
 }
 
 // With room for all blocks each of the two files is opened once and its one block read once, beside the
 // four files that the walk reads.
 #[test]
 fn loads_once(rt: HostRuntime) -> Result<(), Fail> {
-    let alloc = rt.alloc();
-    let mut walked = Tally::new(calm(alloc)?);
-    let name = Name::read(alloc, "o.vrt")?;
-    let mut cat = Catalog::new(alloc);
-    let _id = open_all(alloc, &mut cat, &mut walked, &name, false);
-    let mut folder = Tally::new(calm(alloc)?);
-    assert_eq!(rt;
-        read_name(alloc, &mut folder, "o.vrt", 64)?.as_str(),
-        " 5 -1 9"
-    );
-    assert_eq!(rt; folder.reads().saturating_sub(walked.reads()), 2);
-    assert_eq!(rt; folder.opens().saturating_sub(walked.opens()), 2);
+    let (reads, opens) = calls_of_walk(rt.alloc())?;
+    let loaded = (reads.saturating_add(2), opens.saturating_add(2));
+    assert!(rt; calls_of_reads(rt.alloc())? == Some(loaded));
     Ok(())
+}
+
+// What comes of reads where the call of the folder of this number fails.
+fn read_failing(alloc: Global, call: u64) -> Result<Reading, Fail> {
+    let mut failing = Items::new(alloc);
+    failing.push(Failing::Call(call))?;
+    let mut folder = holding(alloc, Listed::new(failing))?;
+    read_name(alloc, &mut folder, "o.vrt", 2, &OUTER_SAMPLES)
+}
+
+// How many calls of the folder fail at the first read, where each of 29 fails in turn; None where one refuses the walk
+// behind such a call, or a read is wrong.
+fn failed_reads(alloc: Global) -> Result<Option<u64>, Fail> {
+    let mut failed = 0u64;
+    for call in 1..30 {
+        match read_failing(alloc, call)? {
+            Reading::Right => {}
+            Reading::Failed => failed = failed.saturating_add(1),
+            Reading::NoWalk if failed == 0 => {}
+            _ => return Ok(None),
+        }
+    }
+    Ok(Some(failed))
 }
 
 // Each call of the folder fails in turn. The walk makes the first of them and refuses then; the window
 // opens and reads the two files, and is read whole once the call has failed.
 #[test]
 fn a_lane_goes_on_behind_a_failed_call(rt: HostRuntime) -> Result<(), Fail> {
-    let alloc = rt.alloc();
-    let mut failed = 0u64;
-    for at in 1..30 {
-        let mut failing = Items::new(alloc);
-        failing.push(Failing::Call(at))?;
-        let mut folder = holding(alloc, Listed::new(failing))?;
-        let said = read_name(alloc, &mut folder, "o.vrt", 2)?;
-        match said.as_str() {
-            "no walk" => assert_eq!(rt; failed, 0),
-            "folder 5 -1 9" => failed += 1,
-            other => assert_eq!(rt; other, " 5 -1 9"),
-        }
-    }
-    assert_eq!(rt; failed, 4);
+    assert!(rt; failed_reads(rt.alloc())? == Some(4));
     Ok(())
 }
 
@@ -278,17 +328,42 @@ fn raw(alloc: Global, image: Image, columns: u32) -> Result<Vec<u8>, Fail>
     Ok(bytes)
 }
 
+// Puts a raster of 3 lines.
+fn put_raw(
+    alloc: Global,
+    folder: &mut CalmFolder,
+    name: &str,
+    image: Image,
+    columns: u32,
+) -> Result<(), Fail>
+    requires few { columns < 1000 }
+{
+    let bytes = raw(alloc, image, columns)?;
+    folder.put(&Name::read(alloc, name)?, bytes.as_slice())?;
+    Ok(())
+}
+
+// The headers of the rasters, and the mosaics.
+const DRAWN: [(&str, &[u8]); 4] = [
+    ("left.hdr", b"NROWS 3\nNCOLS 130\n"),
+    ("right.hdr", b"NROWS 3\nNCOLS 80\n"),
+    ("wide.vrt", WIDE),
+    ("nested.vrt", NESTED),
+];
+
+fn put_drawn(alloc: Global, folder: &mut CalmFolder) -> Result<(), Fail> {
+    for (name, bytes) in DRAWN {
+        folder.put(&Name::read(alloc, name)?, bytes)?;
+    }
+    Ok(())
+}
+
 // A folder that holds the images.
 fn drawn(alloc: Global) -> Result<CalmFolder, Fail> {
-    let mut folder = MemoryFolder::new(alloc, Never);
-    let left = raw(alloc, Image::Left, 130)?;
-    let right = raw(alloc, Image::Right, 80)?;
-    folder.put(&Name::read(alloc, "left.bil")?, left.as_slice())?;
-    folder.put(&Name::read(alloc, "left.hdr")?, b"NROWS 3\nNCOLS 130\n")?;
-    folder.put(&Name::read(alloc, "right.bil")?, right.as_slice())?;
-    folder.put(&Name::read(alloc, "right.hdr")?, b"NROWS 3\nNCOLS 80\n")?;
-    folder.put(&Name::read(alloc, "wide.vrt")?, WIDE)?;
-    folder.put(&Name::read(alloc, "nested.vrt")?, NESTED)?;
+    let mut folder = CalmFolder::new(alloc, Never);
+    put_raw(alloc, &mut folder, "left.bil", Image::Left, 130)?;
+    put_raw(alloc, &mut folder, "right.bil", Image::Right, 80)?;
+    put_drawn(alloc, &mut folder)?;
     Ok(folder)
 }
 
@@ -429,16 +504,30 @@ fn wrong_in<F: Folder>(
     Ok((points, pixels))
 }
 
-#[test]
-fn jumping_points_are_those_of_the_window(rt: HostRuntime) -> Result<(), Fail> {
-    let alloc = rt.alloc();
-    for (image, name) in IMAGES {
-        for capacity in [1, 2, 64] {
-            let mut folder = drawn(alloc)?;
-            let wrong = wrong_in(alloc, &mut folder, image, name, capacity)?;
-            assert_eq!(rt; wrong, (0, 0));
+// Whether no pixel of the dataset of a name is wrong at any capacity.
+fn is_drawn(alloc: Global, image: Image, name: &str) -> Result<bool, Fail> {
+    for capacity in [1, 2, 64] {
+        let mut folder = drawn(alloc)?;
+        if wrong_in(alloc, &mut folder, image, name, capacity)? != (0, 0) {
+            return Ok(false);
         }
     }
+    Ok(true)
+}
+
+// The first of the images that has wrong pixels, or how many images there are.
+fn first_undrawn(alloc: Global) -> Result<usize, Fail> {
+    for (at, (image, name)) in IMAGES.iter().enumerate() {
+        if !is_drawn(alloc, *image, name)? {
+            return Ok(at);
+        }
+    }
+    Ok(IMAGES.len())
+}
+
+#[test]
+fn jumping_points_are_those_of_the_window(rt: HostRuntime) -> Result<(), Fail> {
+    assert_eq!(rt; first_undrawn(rt.alloc())?, IMAGES.len());
     Ok(())
 }
 
@@ -483,32 +572,50 @@ fn read_points_of<F: Folder>(
     read_points::<F, Brand>(alloc, &cat, folder, id, places, Blank::new(1))
 }
 
-// How many reads they take beside those of the walk.
-fn reads_in(alloc: Global, name: &str, places: &[(u32, u32)]) -> Result<u64, Fail> {
-    let mut walked = Tally::new(drawn(alloc)?);
-    read_points_of(alloc, &mut walked, name, &[])?;
+// How many reads the walk and these pixels take.
+fn all_reads(alloc: Global, name: &str, places: &[(u32, u32)]) -> Result<u64, Fail> {
     let mut folder = Tally::new(drawn(alloc)?);
     read_points_of(alloc, &mut folder, name, places)?;
-    Ok(folder.reads().saturating_sub(walked.reads()))
+    Ok(folder.reads())
+}
+
+// How many reads they take beside those of the walk.
+fn reads_in(alloc: Global, name: &str, places: &[(u32, u32)]) -> Result<u64, Fail> {
+    let walked = all_reads(alloc, name, &[])?;
+    Ok(all_reads(alloc, name, places)?.saturating_sub(walked))
 }
 
 const WIDE_PLACES: [(u32, u32); 5] = [(0, 0), (139, 2), (100, 0), (5, 1), (70, 2)];
 
+// How many reads the first of these places take, the first two, and so on.
+const WIDE_READS: [u64; 5] = [6, 7, 9, 10, 12];
+
 const NESTED_PLACES: [(u32, u32); 6] = [(154, 4), (154, 4), (0, 0), (20, 3), (20, 1), (120, 3)];
+
+const NESTED_READS: [u64; 6] = [12, 12, 13, 14, 16, 18];
+
+// The first place up to which they take another number of reads, or how many places there are.
+fn first_miscounted(
+    alloc: Global,
+    name: &str,
+    places: &[(u32, u32)],
+    counts: &[u64],
+) -> Result<usize, Fail> {
+    for (at, reads) in counts.iter().enumerate() {
+        let (front, _) = places.split_at(at.saturating_add(1).min(places.len()));
+        if reads_in(alloc, name, front)? != *reads {
+            return Ok(at);
+        }
+    }
+    Ok(counts.len())
+}
 
 // The first pixel makes its block, since there is room: for each block of `Wide` in it, it loads all three
 // lines of both files. Each of the others only loads the line of each source that covers it.
 #[test]
 fn a_point_loads_one_block_of_each_source(rt: HostRuntime) -> Result<(), Fail> {
-    let alloc = rt.alloc();
-    for (count, reads) in [(1, 6), (2, 7), (3, 9), (4, 10), (5, 12)] {
-        assert_eq!(rt; reads_in(alloc, "wide.vrt", &WIDE_PLACES[..count])?, reads);
-    }
-    for (count, reads) in [(1, 12), (2, 12), (3, 13), (4, 14), (5, 16), (6, 18)] {
-        assert_eq!(rt;
-            reads_in(alloc, "nested.vrt", &NESTED_PLACES[..count])?,
-            reads
-        );
-    }
+    let wide = first_miscounted(rt.alloc(), "wide.vrt", &WIDE_PLACES, &WIDE_READS)?;
+    let nested = first_miscounted(rt.alloc(), "nested.vrt", &NESTED_PLACES, &NESTED_READS)?;
+    assert!(rt; wide == 5 && nested == 6, "place {wide}, place {nested}");
     Ok(())
 }

@@ -291,11 +291,18 @@ const DATASETS: [(&[File<'static>], &[u8]); 5] = [
     ),
 ];
 
+// The first of these datasets of which something else is reported, or how many datasets there are.
+fn first_misreported(alloc: Global) -> Result<usize, Fail> {
+    for (at, (files, want)) in DATASETS.iter().enumerate() {
+        if reads_of(alloc, files, false, want)?.is_none() {
+            return Ok(at);
+        }
+    }
+    Ok(DATASETS.len())
+}
+
 #[test]
 fn datasets(rt: HostRuntime) -> Result<(), Fail> {
-    for &(files, want) in &DATASETS {
-        let reads = reads_of(rt.alloc(), files, false, want)?;
-        assert!(rt; reads.is_some());
-    }
+    assert_eq!(rt; first_misreported(rt.alloc())?, DATASETS.len());
     Ok(())
 }

@@ -61,13 +61,21 @@ const FORMS: [(Form, bool, &[u8]); 5] = [
     (Form::FilesOnly, true, b"a.bil\nb.bil\n"),
 ];
 
+// The first of these forms in which something else is told, or how many there are.
+fn first_misformed(alloc: Global) -> Result<usize, Fail> {
+    let files = two_files(alloc)?;
+    for (at, (form, on, want)) in FORMS.iter().enumerate() {
+        if !is_told(alloc, *form, *on, &files, want) {
+            return Ok(at);
+        }
+    }
+    Ok(FORMS.len())
+}
+
 // Two bands of a pixel, and a place off the raster, in each form.
 #[test]
 fn each_form(rt: HostRuntime) -> Result<(), Fail> {
-    let files = two_files(rt.alloc())?;
-    for &(form, on, want) in &FORMS {
-        assert!(rt; is_told(rt.alloc(), form, on, &files, want));
-    }
+    assert_eq!(rt; first_misformed(rt.alloc())?, FORMS.len());
     Ok(())
 }
 
@@ -141,12 +149,24 @@ fn covering(alloc: Global, x: u32) -> Result<Names, Fail> {
 // A column, and the files that cover it.
 const COLUMNS: [(u32, &[u8]); 2] = [(0, b"a.bil\nb.bil\n"), (2, b"a.bil\nb.bil\nc.bil\n")];
 
+// Whether these files cover a column.
+fn is_covered(alloc: Global, x: u32, want: &[u8]) -> Result<bool, Fail> {
+    let files = covering(alloc, x)?;
+    Ok(is_written(alloc, Form::FilesOnly, (0, 0), None, &[1], &files, want))
+}
+
+// The first of these columns that others cover, or how many columns there are.
+fn first_uncovered(alloc: Global) -> Result<usize, Fail> {
+    for (at, (x, want)) in COLUMNS.iter().enumerate() {
+        if !is_covered(alloc, *x, want)? {
+            return Ok(at);
+        }
+    }
+    Ok(COLUMNS.len())
+}
+
 #[test]
 fn covering_files(rt: HostRuntime) -> Result<(), Fail> {
-    let alloc = rt.alloc();
-    for &(x, want) in &COLUMNS {
-        let files = covering(alloc, x)?;
-        assert!(rt; is_written(alloc, Form::FilesOnly, (0, 0), None, &[1], &files, want));
-    }
+    assert_eq!(rt; first_uncovered(rt.alloc())?, COLUMNS.len());
     Ok(())
 }
