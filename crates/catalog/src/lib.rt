@@ -16,6 +16,7 @@ mod laws;
 mod links;
 mod mosaic;
 mod mosaic_head;
+mod nodata;
 mod raw;
 mod walk;
 
@@ -24,3 +25,4 @@ pub use driver::DriverHead;
 pub use faults::{Bad, LimitKind, WalkFault};
 pub use head::Head;
 pub use kind::{BandHead, Bands, Kind};
+pub use nodata::NodataWord;
