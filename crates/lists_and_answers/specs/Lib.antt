@@ -1,4 +1,5 @@
 pub mod Answers
 pub mod Growth
 pub mod Options
+pub mod Places
 pub mod Texts
