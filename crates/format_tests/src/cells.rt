@@ -76,17 +76,29 @@ const HEADS: [(usize, &[u8], usize, u8); 36] = [
     (728, b"ACCX", 3428, 0),
 ];
 
-#[test]
-fn refuses_by_the_first_rule(rt: HostRuntime) -> Result<(), Fail> {
-    for (at, text, len, wanted) in HEADS {
-        let mut bytes = vec![in rt.alloc(); b' '; 3428]?;
-        put_head(&mut bytes, 0);
-        put(&mut bytes, at, text);
-        let (front, _) = bytes.split_at(len.min(bytes.len()));
-        assert_eq!(rt; fault_of(front), wanted);
+// The number of the fault of so many bytes of the head of that file, where this is written at a place of it.
+fn head_fault(at: usize, text: &[u8], len: usize) -> u8 {
+    let mut bytes = [b' '; 3428];
+    put_head(&mut bytes, 0);
+    put(&mut bytes, at, text);
+    let (front, _) = bytes.split_at(len.min(3428));
+    fault_of(front)
+}
+
+// The first of these heads that has another fault, or how many heads there are.
+fn first_misjudged() -> usize {
+    for (at, (at_byte, text, len, wanted)) in HEADS.iter().enumerate() {
+        if head_fault(*at_byte, text, *len) != *wanted {
+            return at;
+        }
     }
+    HEADS.len()
+}
+
+#[test]
+fn refuses_by_the_first_rule(rt: HostRuntime) {
+    assert_eq!(rt; first_misjudged(), HEADS.len());
     assert_eq!(rt; DtedFault::BadRecord(7).number(), 4);
-    Ok(())
 }
 
 // How many leading records there are, what they begin with, and the fault's number.
@@ -98,21 +110,37 @@ const LEADING: [(u16, &[u8], u8); 5] = [
     (1, b"UHL", 1),
 ];
 
-#[test]
-fn skips_up_to_eight_records(rt: HostRuntime) -> Result<(), Fail> {
-    for (count, word, wanted) in LEADING {
-        let mut bytes = vec![in rt.alloc(); b' '; 4148]?;
-        for record in 0..count {
-            put(&mut bytes, 80 * record as usize, word);
-        }
-        put_head(&mut bytes, 80 * count.min(10));
-        assert_eq!(rt; fault_of(&bytes), wanted);
-        if wanted == 0 {
-            let head = read_head(&bytes).ok().ok_or("it is a head")?;
-            assert_eq!(rt; head.skip, 80 * count.min(10) as u64);
+fn put_leading(out: &mut [u8], count: u16, word: &[u8]) {
+    for record in 0..count {
+        put(out, 80 * record as usize, word);
+    }
+}
+
+// Whether a head behind so many records is read from there, or has this fault.
+fn skips(count: u16, word: &[u8], wanted: u8) -> bool {
+    let mut bytes = [b' '; 4148];
+    let skip = 80 * count.min(10);
+    put_leading(&mut bytes, count, word);
+    put_head(&mut bytes, skip);
+    match read_head(&bytes) {
+        Ok(head) => wanted == 0 && head.skip == skip as u64,
+        Err(fault) => fault.number() == wanted,
+    }
+}
+
+// The first of these that is skipped otherwise, or how many there are.
+fn first_unskipped() -> usize {
+    for (at, (count, word, wanted)) in LEADING.iter().enumerate() {
+        if !skips(*count, word, *wanted) {
+            return at;
         }
     }
-    Ok(())
+    LEADING.len()
+}
+
+#[test]
+fn skips_up_to_eight_records(rt: HostRuntime) {
+    assert_eq!(rt; first_unskipped(), LEADING.len());
 }
 
 /// Checks and reads a record where it has the head's length and `out` its points.
@@ -124,41 +152,66 @@ fn values(head: &DtedHead, bytes: &[u8], out: &mut [Sample]) -> Option<bool> {
     Some(check_record(head, bytes))
 }
 
+// Whether a head is that of the line.
+fn is_of_line(head: &DtedHead) -> bool {
+    let geo = head.transform();
+    let corner = (geo.ox.get(), geo.oy.get());
+    let step = (geo.dx.get(), geo.dy.get());
+    head.record_at(0) == 3428
+        && head.needed_len() == 3448
+        && corner == (1_799_925_000_000_000_000, 8_100_525_000_000_000_000)
+        && step == (150_000_000_000_000, -150_000_000_000_000)
+}
+
+// The first and the last byte of the record, and whether its mark and its sum are right.
+const SUMS: [(u8, u8, bool); 3] = [(0xAA, 0xB2, true), (0xAA, 0xB3, false), (0xA9, 0xB1, false)];
+
+// Whether the record with these bytes has the line's values, and is as good as this.
+fn is_read(head: &DtedHead, first: u8, last: u8, good: bool) -> bool {
+    let mut record = RECORD;
+    record[0] = first;
+    record[19] = last;
+    let mut out = [1i128; 4];
+    values(head, &record, &mut out) == Some(good) && out == [0, -32767, -5, 5]
+}
+
+// The first of these records that is read otherwise, or how many records there are.
+fn first_misread(head: &DtedHead) -> usize {
+    for (at, (first, last, good)) in SUMS.iter().enumerate() {
+        if !is_read(head, *first, *last, *good) {
+            return at;
+        }
+    }
+    SUMS.len()
+}
+
+fn line() -> Option<DtedHead> {
+    let mut bytes = [b' '; 3428];
+    put_head(&mut bytes, 0);
+    read_head(&bytes).ok()
+}
+
 #[test]
 fn reads_from_north_to_south(rt: HostRuntime) -> Result<(), Fail> {
-    let mut bytes = vec![in rt.alloc(); b' '; 3448]?;
-    put_head(&mut bytes, 0);
-    let head = read_head(&bytes).ok().ok_or("it is a head")?;
-    assert_eq!(rt; head.record_at(0), 3428);
-    assert_eq!(rt; head.needed_len(), 3448);
-    let geo = head.transform();
-    assert_eq!(rt; geo.ox.get(), 1_799_925_000_000_000_000);
-    assert_eq!(rt; geo.oy.get(), 8_100_525_000_000_000_000);
-    assert_eq!(rt; geo.dx.get(), 150_000_000_000_000);
-    assert_eq!(rt; geo.dy.get(), -150_000_000_000_000);
-    let mut record = RECORD;
-    for (last, good) in [(0xB2, true), (0xB3, false)] {
-        record[19] = last;
-        let mut out = [1i128; 4];
-        assert!(rt; values(&head, &record, &mut out) == Some(good));
-        assert_eq!(rt; out, [0, -32767, -5, 5]);
-    }
-    record[0] = 0xA9;
-    record[19] = 0xB1;
-    let mut out = [1i128; 4];
-    assert!(rt; values(&head, &record, &mut out) == Some(false));
+    let head = line().ok_or("it is a head")?;
+    assert!(rt; is_of_line(&head));
+    assert_eq!(rt; first_misread(&head), SUMS.len());
     Ok(())
+}
+
+// A head of as many lines and points as can be told.
+fn large() -> Option<DtedHead> {
+    let mut bytes = [b' '; 3428];
+    put_head(&mut bytes, 0);
+    put(&mut bytes, 4, b"0703015W0335559S");
+    put(&mut bytes, 47, b"99999999");
+    read_head(&bytes).ok()
 }
 
 #[test]
 fn needs_the_bytes_of_all_records(rt: HostRuntime) -> Result<(), Fail> {
-    let mut bytes = vec![in rt.alloc(); b' '; 3428]?;
-    put_head(&mut bytes, 0);
-    put(&mut bytes, 4, b"0703015W0335559S");
-    put(&mut bytes, 47, b"99999999");
-    let head = read_head(&bytes).ok().ok_or("it is a head")?;
-    assert_eq!(rt; head.lon, -253815);
-    assert_eq!(rt; head.lat, -122159);
-    assert_eq!(rt; head.needed_len(), 200_083_418);
+    let head = large().ok_or("it is a head")?;
+    let corner = (head.lon, head.lat) == (-253815, -122159);
+    assert!(rt; corner && head.needed_len() == 200_083_418);
     Ok(())
 }

@@ -4,7 +4,7 @@ use ascii_grid::row::{RowState, decode_more};
 use ascii_grid::scanner::Scanner;
 use ascii_grid::writing::{write_head, write_row};
 use geotransform::{GeoTransform, Sample, Size, Ticks};
-use std::alloc::Global;
+use std::alloc::{AllocError, Global};
 use std::test::*;
 
 /// Two rows of two values; the rows begin at bytes 53 and 58.
@@ -29,19 +29,34 @@ fn fault_of(alloc: Global, text: &[u8]) -> (u8, Option<u64>) {
     }
 }
 
-// The edges of the lower left pixel are half a pixel from its centre.
-#[test]
-fn scans_each_cut(rt: HostRuntime) -> Result<(), Fail> {
-    let alloc = rt.alloc();
+// Whether a text in two pieces is the grid.
+fn is_scanned(alloc: Global, front: &[u8], back: &[u8]) -> bool {
+    match scan(alloc, front, back) {
+        Ok(head) => {
+            head.size == Size { w: 2, h: 2 }
+                && Some(head.geo) == transform(9, 23, 2, -2)
+                && head.nodata.is_none()
+                && head.rows.as_slice() == [53u64, 58].as_slice()
+        }
+        Err(_) => false,
+    }
+}
+
+// The first place at which the grid is cut and not scanned; None where there is none.
+fn first_unscanned(alloc: Global) -> Option<usize> {
     for cut in 0..=GRID.len() {
         let (front, back) = GRID.split_at(cut);
-        let head = scan(alloc, front, back).ok().ok_or("it is a grid")?;
-        assert!(rt; head.size == Size { w: 2, h: 2 });
-        assert!(rt; head.geo == transform(9, 23, 2, -2).ok_or("it is near")?);
-        assert!(rt; head.nodata.is_none());
-        assert_eq!(rt; head.rows.as_slice(), [53u64, 58].as_slice());
+        if !is_scanned(alloc, front, back) {
+            return Some(cut);
+        }
     }
-    Ok(())
+    None
+}
+
+// The edges of the lower left pixel are half a pixel from its centre.
+#[test]
+fn scans_each_cut(rt: HostRuntime) {
+    assert_eq!(rt; first_unscanned(rt.alloc()), None);
 }
 
 // The geotransform of whole units.
@@ -254,54 +269,77 @@ const FAULTS: [(&[u8], u8, Option<u64>); 57] = [
     ),
 ];
 
-#[test]
-fn tells_faults(rt: HostRuntime) -> Result<(), Fail> {
-    let alloc = rt.alloc();
-    for (text, number, place) in FAULTS {
-        assert!(rt; fault_of(alloc, text) == (number, place));
+// The first of these texts that has another fault, or how many texts there are.
+fn first_misjudged(alloc: Global) -> usize {
+    for (at, (text, number, place)) in FAULTS.iter().enumerate() {
+        if fault_of(alloc, text) != (*number, *place) {
+            return at;
+        }
     }
-    Ok(())
+    FAULTS.len()
+}
+
+#[test]
+fn tells_faults(rt: HostRuntime) {
+    assert_eq!(rt; first_misjudged(rt.alloc()), FAULTS.len());
+}
+
+const BROKEN: &[u8] = b"ncols 2\nnrows\t2\nxllcenter 10\nyllcenter 20\ncellsize 2\n1\t-2\n30 3.5\n";
+
+// The first place at which the text is cut and has another fault; None where there is none.
+fn first_cut_fault(alloc: Global) -> Option<usize> {
+    for cut in 0..=BROKEN.len() {
+        let (front, back) = BROKEN.split_at(cut);
+        if scan(alloc, front, back).err() != Some(GridFault::NotInteger(61)) {
+            return Some(cut);
+        }
+    }
+    None
 }
 
 // One cut at each place changes no fault.
 #[test]
-fn cuts_change_no_fault(rt: HostRuntime) -> Result<(), Fail> {
-    let alloc = rt.alloc();
-    let text = b"ncols 2\nnrows\t2\nxllcenter 10\nyllcenter 20\ncellsize 2\n1\t-2\n30 3.5\n";
-    for cut in 0..=text.len() {
-        let (front, back) = text.split_at(cut);
-        match scan(alloc, front, back) {
-            Ok(_) => assert!(rt; false, "3.5 isn't whole"),
-            Err(fault) => assert!(rt; fault == GridFault::NotInteger(61)),
-        }
-    }
-    Ok(())
+fn cuts_change_no_fault(rt: HostRuntime) {
+    assert_eq!(rt; first_cut_fault(rt.alloc()), None);
 }
 
-// A token of so many zeros and a 7.
-#[test]
-fn takes_64_bytes(rt: HostRuntime) -> Result<(), Fail> {
-    for (zeros, wanted) in [(63, Ok(())), (64, Err(GridFault::BadToken(51)))] {
-        let mut scanner = Scanner::new(rt.alloc());
-        let _ = scanner.feed(HEAD);
-        for _ in 0..zeros {
-            assert!(rt; scanner.feed(b"0").is_ok());
+// Whether a scanner takes so many zeros.
+fn takes_zeros(scanner: &mut Scanner, zeros: u32) -> bool {
+    for _ in 0..zeros {
+        if scanner.feed(b"0").is_err() {
+            return false;
         }
-        assert!(rt; scanner.feed(b"7").is_ok());
-        assert!(rt; scanner.feed(b"\n") == wanted);
-        assert!(rt; scanner.finish().map(|_| ()) == wanted);
     }
-    Ok(())
+    true
+}
+
+// Whether that comes of a token of so many zeros and a 7.
+fn ends_in(alloc: Global, zeros: u32, wanted: Result<(), GridFault>) -> bool {
+    let mut scanner = Scanner::new(alloc);
+    let _ = scanner.feed(HEAD);
+    takes_zeros(&mut scanner, zeros)
+        && scanner.feed(b"7").is_ok()
+        && scanner.feed(b"\n") == wanted
+        && scanner.finish().map(|_| ()) == wanted
 }
 
 #[test]
-fn stays_refused(rt: HostRuntime) -> Result<(), Fail> {
-    let mut scanner = Scanner::new(rt.alloc());
+fn takes_64_bytes(rt: HostRuntime) {
+    assert!(rt; ends_in(rt.alloc(), 63, Ok(())));
+    assert!(rt; ends_in(rt.alloc(), 64, Err(GridFault::BadToken(51))));
+}
+
+fn is_refused(alloc: Global) -> bool {
+    let mut scanner = Scanner::new(alloc);
     let refused = Err(GridFault::BadToken(0));
-    assert!(rt; scanner.feed(b"cols 1 ") == refused);
-    assert!(rt; scanner.feed(HEAD) == refused);
-    assert!(rt; scanner.finish().map(|_| ()) == refused);
-    Ok(())
+    scanner.feed(b"cols 1 ") == refused
+        && scanner.feed(HEAD) == refused
+        && scanner.finish().map(|_| ()) == refused
+}
+
+#[test]
+fn stays_refused(rt: HostRuntime) {
+    assert!(rt; is_refused(rt.alloc()));
 }
 
 // What stands behind HEAD, and the NODATA.
@@ -315,13 +353,27 @@ const NODATA: [(&[u8], Option<Sample>); 7] = [
     (b"NODATA_value 5 nodata_value nan 7", None),
 ];
 
-#[test]
-fn reads_nodata(rt: HostRuntime) -> Result<(), Fail> {
-    for (text, wanted) in NODATA {
-        let head = scan(rt.alloc(), HEAD, text).ok().ok_or("it is a grid")?;
-        assert!(rt; head.nodata == wanted);
+// Whether a grid has this NODATA.
+fn has_nodata(alloc: Global, text: &[u8], wanted: Option<Sample>) -> bool {
+    match scan(alloc, HEAD, text) {
+        Ok(head) => head.nodata == wanted,
+        Err(_) => false,
     }
-    Ok(())
+}
+
+// The first of these grids that has another NODATA, or how many grids there are.
+fn first_of_other_nodata(alloc: Global) -> usize {
+    for (at, (text, wanted)) in NODATA.iter().enumerate() {
+        if !has_nodata(alloc, text, *wanted) {
+            return at;
+        }
+    }
+    NODATA.len()
+}
+
+#[test]
+fn reads_nodata(rt: HostRuntime) {
+    assert_eq!(rt; first_of_other_nodata(rt.alloc()), NODATA.len());
 }
 
 // What stands behind HEAD, and the origin and the sizes in units.
@@ -336,13 +388,27 @@ const PLACES: [(&[u8], (i64, i64, i64, i64)); 5] = [
     ),
 ];
 
-#[test]
-fn places_grids(rt: HostRuntime) -> Result<(), Fail> {
-    for (text, (ox, oy, dx, dy)) in PLACES {
-        let head = scan(rt.alloc(), HEAD, text).ok().ok_or("it is a grid")?;
-        assert!(rt; head.geo == transform(ox, oy, dx, dy).ok_or("it is near")?);
+// Whether a grid lies there.
+fn is_placed(alloc: Global, text: &[u8], (ox, oy, dx, dy): (i64, i64, i64, i64)) -> bool {
+    match scan(alloc, HEAD, text) {
+        Ok(head) => Some(head.geo) == transform(ox, oy, dx, dy),
+        Err(_) => false,
     }
-    Ok(())
+}
+
+// The first of these grids that lies elsewhere, or how many grids there are.
+fn first_misplaced(alloc: Global) -> usize {
+    for (at, (text, place)) in PLACES.iter().enumerate() {
+        if !is_placed(alloc, text, *place) {
+            return at;
+        }
+    }
+    PLACES.len()
+}
+
+#[test]
+fn places_grids(rt: HostRuntime) {
+    assert_eq!(rt; first_misplaced(rt.alloc()), PLACES.len());
 }
 
 // Reads a row from bytes in two pieces and, where they end within it, an empty one.
@@ -353,19 +419,24 @@ fn read_row(front: &[u8], back: &[u8], out: &mut [Sample]) {
     }
 }
 
-// The second piece isn't empty where it is asked for.
-#[test]
-fn reads_rows_of_each_cut(rt: HostRuntime) -> Result<(), Fail> {
-    for (place, wanted) in [(53usize, [1, -2]), (58, [30, 4])] {
-        let (_, rest) = GRID.split_at(place.min(GRID.len()));
-        for cut in 1..rest.len() {
-            let (front, back) = rest.split_at(cut.min(rest.len()));
-            let mut out = [9; 2];
-            read_row(front, back, &mut out);
-            assert!(rt; out == wanted);
+// The first place at which these bytes are cut and give another row; None where there is none.
+fn first_miscut(rest: &[u8], wanted: [Sample; 2]) -> Option<usize> {
+    for cut in 1..rest.len() {
+        let (front, back) = rest.split_at(cut.min(rest.len()));
+        let mut out = [9; 2];
+        read_row(front, back, &mut out);
+        if out != wanted {
+            return Some(cut);
         }
     }
-    Ok(())
+    None
+}
+
+// The second piece isn't empty where it is asked for.
+#[test]
+fn reads_rows_of_each_cut(rt: HostRuntime) {
+    assert_eq!(rt; first_miscut(&GRID[53..], [1, -2]), None);
+    assert_eq!(rt; first_miscut(&GRID[58..], [30, 4]), None);
 }
 
 // Two pieces of a row of three values, and what is read of them.
@@ -378,29 +449,47 @@ const ROWS: [(&[u8], &[u8], [Sample; 3]); 6] = [
     (b"", b"1 2 3 ", [0, 0, 0]),
 ];
 
-#[test]
-fn reads_rows(rt: HostRuntime) -> Result<(), Fail> {
-    for (front, back, wanted) in ROWS {
-        let mut out = [9; 3];
-        read_row(front, back, &mut out);
-        assert!(rt; out == wanted);
-    }
-    Ok(())
+// What is read of a row of three values in two pieces.
+fn row_of(front: &[u8], back: &[u8]) -> [Sample; 3] {
+    let mut out = [9; 3];
+    read_row(front, back, &mut out);
+    out
 }
 
-// The size, the place in units, the NODATA and the text.
+// The first of these rows of which something else is read, or how many rows there are.
+fn first_misread() -> usize {
+    for (at, (front, back, wanted)) in ROWS.iter().enumerate() {
+        if row_of(front, back) != *wanted {
+            return at;
+        }
+    }
+    ROWS.len()
+}
+
+#[test]
+fn reads_rows(rt: HostRuntime) {
+    assert_eq!(rt; first_misread(), ROWS.len());
+}
+
+// Whether that is written of a head of two columns and two lines.
+fn is_written(
+    alloc: Global,
+    geo: Option<&GeoTransform>,
+    nodata: Option<Sample>,
+    wanted: &[u8],
+) -> Result<bool, AllocError> {
+    let mut text = Vec::new(alloc);
+    write_head(Size { w: 2, h: 2 }, geo, nodata, &mut text)?;
+    Ok(text.as_slice() == wanted)
+}
+
 #[test]
 fn writes_heads(rt: HostRuntime) -> Result<(), Fail> {
-    let size = Size { w: 2, h: 2 };
-    for (geo, nodata, wanted) in [
-        (transform(9, 23, 2, -2), None, SAME),
-        (transform(9, 23, 2, -3), Some(-7), OTHER),
-        (None, None, NOWHERE),
-    ] {
-        let mut text = Vec::new(rt.alloc());
-        write_head(size, geo.as_ref(), nodata, &mut text)?;
-        assert!(rt; text.as_slice() == wanted);
-    }
+    let even = transform(9, 23, 2, -2).ok_or("it is near")?;
+    let uneven = transform(9, 23, 2, -3).ok_or("it is near")?;
+    assert!(rt; is_written(rt.alloc(), Some(&even), None, SAME)?);
+    assert!(rt; is_written(rt.alloc(), Some(&uneven), Some(-7), OTHER)?);
+    assert!(rt; is_written(rt.alloc(), None, None, NOWHERE)?);
     Ok(())
 }
 
@@ -413,22 +502,30 @@ const OTHER: &[u8] =
 const NOWHERE: &[u8] =
     b"ncols        2\nnrows        2\nxllcorner    0\nyllcorner    0\ncellsize     1\n";
 
-#[test]
-fn writes_a_grid(rt: HostRuntime) -> Result<(), Fail> {
-    let size = Size { w: 2, h: 2 };
-    let geo = transform(9, 23, 2, -2);
-    let mut text = Vec::new(rt.alloc());
-    write_head(size, geo.as_ref(), None, &mut text)?;
+const WRITTEN: &[u8] =
+    b"ncols        2\nnrows        2\nxllcorner    9\nyllcorner    19\ncellsize     2\n1 -2\n30 4\n";
+
+// What is written of a grid.
+fn written(alloc: Global, geo: &GeoTransform) -> Result<Vec<u8>, AllocError> {
+    let mut text = Vec::new(alloc);
+    write_head(Size { w: 2, h: 2 }, Some(geo), None, &mut text)?;
     write_row(&[1, -2], &mut text)?;
     write_row(&[30, 4], &mut text)?;
-    assert!(rt;
-        text.as_slice()
-            == b"ncols        2\nnrows        2\nxllcorner    9\nyllcorner    19\ncellsize     2\n1 -2\n30 4\n".as_slice()
-    );
-    let head = scan(rt.alloc(), text.as_slice(), b"")
-        .ok()
-        .ok_or("it is a grid")?;
-    assert!(rt; head.size == size);
-    assert!(rt; Some(head.geo) == geo);
+    Ok(text)
+}
+
+// Whether a text is a grid of this size that lies there.
+fn is_grid(alloc: Global, text: &[u8], geo: &GeoTransform) -> bool {
+    match scan(alloc, text, b"") {
+        Ok(head) => head.size == Size { w: 2, h: 2 } && head.geo == *geo,
+        Err(_) => false,
+    }
+}
+
+#[test]
+fn writes_a_grid(rt: HostRuntime) -> Result<(), Fail> {
+    let geo = transform(9, 23, 2, -2).ok_or("it is near")?;
+    let text = written(rt.alloc(), &geo)?;
+    assert!(rt; text.as_slice() == WRITTEN && is_grid(rt.alloc(), &text, &geo));
     Ok(())
 }

@@ -1,8 +1,8 @@
-use esri_hdr::head::RawHead;
 use esri_hdr::parts::{HdrFault, Layout};
 use esri_hdr::reading::read;
 use esri_hdr::writing::write;
 use geotransform::PixelType;
+use std::alloc::{AllocError, Global};
 use std::test::*;
 
 // One row for each rule, in the order in which they are checked: a header, and the fault's number.
@@ -73,12 +73,19 @@ const REFUSED: [(&str, u8); 46] = [
     ("NROWS 2\x0cNCOLS 3", 1),
 ];
 
+// The first of these headers that has another fault, or how many headers there are.
+fn first_unrefused() -> usize {
+    for (at, (text, number)) in REFUSED.iter().enumerate() {
+        if read(text.as_bytes()).err().map(|fault| fault.number()) != Some(*number) {
+            return at;
+        }
+    }
+    REFUSED.len()
+}
+
 #[test]
 fn refuses_by_each_rule(rt: HostRuntime) {
-    for (text, number) in REFUSED {
-        let got = read(text.as_bytes()).err().map(|fault| fault.number());
-        assert!(rt; got == Some(number), "{text}");
-    }
+    assert_eq!(rt; first_unrefused(), REFUSED.len());
 }
 
 const ROW_OF_FOUR: &str = "BYTEORDER      I
@@ -148,14 +155,29 @@ const WRITTEN: [(&str, &str); 6] = [
     ),
 ];
 
+// Whether this is written of the head of a header.
+fn writes(alloc: Global, text: &str, wanted: &str) -> Result<bool, AllocError> {
+    let Ok(head) = read(text.as_bytes()) else {
+        return Ok(false);
+    };
+    let mut out = Vec::new(alloc);
+    write(&head, &mut out)?;
+    Ok(out.as_slice() == wanted.as_bytes())
+}
+
+// The first of these headers of which something else is written, or how many headers there are.
+fn first_unwritten(alloc: Global) -> Result<usize, AllocError> {
+    for (at, (text, wanted)) in WRITTEN.iter().enumerate() {
+        if !writes(alloc, text, wanted)? {
+            return Ok(at);
+        }
+    }
+    Ok(WRITTEN.len())
+}
+
 #[test]
 fn writes_what_it_reads(rt: HostRuntime) -> Result<(), Fail> {
-    for (text, wanted) in WRITTEN {
-        let head = read(text.as_bytes()).ok().ok_or("it is a header")?;
-        let mut out = Vec::new(rt.alloc());
-        write(&head, &mut out)?;
-        assert!(rt; out.as_slice() == wanted.as_bytes(), "{text}");
-    }
+    assert_eq!(rt; first_unwritten(rt.alloc())?, WRITTEN.len());
     Ok(())
 }
 
@@ -164,23 +186,49 @@ fn kind_of(text: &str) -> Option<(PixelType, Option<i128>)> {
     Some((head.kind, head.nodata))
 }
 
+// A header, the type of its samples and its NODATA.
+const KINDS: [(&str, PixelType, Option<i128>); 6] = [
+    (
+        "NROWS 2\nNCOLS 3\nNBITS 16\nNODATA -1",
+        PixelType::Int16,
+        Some(-1),
+    ),
+    (
+        "NROWS 2\nNCOLS 3\nNBITS 32\nNODATA -0.5",
+        PixelType::Int32,
+        None,
+    ),
+    (
+        "NROWS 2\nNCOLS 3\nNBITS 16\nNODATA -0",
+        PixelType::UInt16,
+        Some(0),
+    ),
+    (
+        "NROWS 2\nNCOLS 3\nNBITS 8\nNODATA -1",
+        PixelType::Byte,
+        None,
+    ),
+    ("NROWS 2\nNCOLS 3\nNODATA 256", PixelType::Byte, None),
+    (
+        "NROWS 2\nNCOLS 3\nNBITS 32\nNODATA -1\nPIXELTYPE UNSIGNEDINT",
+        PixelType::UInt32,
+        None,
+    ),
+];
+
+// The first of these headers that has another type or NODATA, or how many headers there are.
+fn first_of_other_kind() -> usize {
+    for (at, (text, kind, nodata)) in KINDS.iter().enumerate() {
+        if kind_of(text) != Some((*kind, *nodata)) {
+            return at;
+        }
+    }
+    KINDS.len()
+}
+
 #[test]
 fn reads_types_and_no_data(rt: HostRuntime) {
-    assert!(rt;
-        kind_of("NROWS 2\nNCOLS 3\nNBITS 16\nNODATA -1") == Some((PixelType::Int16, Some(-1)))
-    );
-    assert!(rt;
-        kind_of("NROWS 2\nNCOLS 3\nNBITS 32\nNODATA -0.5") == Some((PixelType::Int32, None))
-    );
-    assert!(rt;
-        kind_of("NROWS 2\nNCOLS 3\nNBITS 16\nNODATA -0") == Some((PixelType::UInt16, Some(0)))
-    );
-    assert!(rt; kind_of("NROWS 2\nNCOLS 3\nNBITS 8\nNODATA -1") == Some((PixelType::Byte, None)));
-    assert!(rt; kind_of("NROWS 2\nNCOLS 3\nNODATA 256") == Some((PixelType::Byte, None)));
-    assert!(rt;
-        kind_of("NROWS 2\nNCOLS 3\nNBITS 32\nNODATA -1\nPIXELTYPE UNSIGNEDINT")
-            == Some((PixelType::UInt32, None))
-    );
+    assert_eq!(rt; first_of_other_kind(), KINDS.len());
 }
 
 fn layout_of(text: &str) -> Option<(Layout, u64, u64, u64)> {
@@ -188,46 +236,68 @@ fn layout_of(text: &str) -> Option<(Layout, u64, u64, u64)> {
     Some((head.layout, head.band_row, head.total_row, head.gap))
 }
 
-#[test]
-fn counts_rows_by_layout(rt: HostRuntime) {
-    assert!(rt;
-        layout_of("NROWS 2\nNCOLS 3\nNBANDS 2\nBANDROWBYTES 5") == Some((Layout::Bil, 5, 10, 0))
-    );
-    assert!(rt;
-        layout_of("NROWS 2\nNCOLS 3\nNBANDS 2\nLAYOUT BIP\nBANDROWBYTES 1\nTOTALROWBYTES 7")
-            == Some((Layout::Bip, 3, 7, 0))
-    );
-    assert!(rt;
-        layout_of("NROWS 2\nNCOLS 3\nNBANDS 2\nLAYOUT BSQ\nTOTALROWBYTES 1\nBANDGAPBYTES 4")
-            == Some((Layout::Bsq, 3, 3, 4))
-    );
+// A header, its layout, the bytes of a row of a band and of all bands, and the gap.
+const LAYOUTS: [(&str, (Layout, u64, u64, u64)); 3] = [
+    (
+        "NROWS 2\nNCOLS 3\nNBANDS 2\nBANDROWBYTES 5",
+        (Layout::Bil, 5, 10, 0),
+    ),
+    (
+        "NROWS 2\nNCOLS 3\nNBANDS 2\nLAYOUT BIP\nBANDROWBYTES 1\nTOTALROWBYTES 7",
+        (Layout::Bip, 3, 7, 0),
+    ),
+    (
+        "NROWS 2\nNCOLS 3\nNBANDS 2\nLAYOUT BSQ\nTOTALROWBYTES 1\nBANDGAPBYTES 4",
+        (Layout::Bsq, 3, 3, 4),
+    ),
+];
+
+// The first of these headers whose rows are counted otherwise, or how many headers there are.
+fn first_of_other_layout() -> usize {
+    for (at, (text, wanted)) in LAYOUTS.iter().enumerate() {
+        if layout_of(text) != Some(*wanted) {
+            return at;
+        }
+    }
+    LAYOUTS.len()
 }
 
-/// The numbers of a head's geotransform, in ticks.
-fn places_of(head: &RawHead) -> Option<(i128, i128, i128, i128)> {
-    let t = head.transform()?;
+#[test]
+fn counts_rows_by_layout(rt: HostRuntime) {
+    assert_eq!(rt; first_of_other_layout(), LAYOUTS.len());
+}
+
+/// The numbers of the geotransform of a header, in ticks.
+fn places_of(text: &[u8]) -> Option<(i128, i128, i128, i128)> {
+    let t = read(text).ok()?.transform()?;
     Some((t.ox.get(), t.oy.get(), t.dx.get(), t.dy.get()))
 }
 
+// Whether this is a header with no geotransform.
+fn has_no_place(text: &[u8]) -> bool {
+    match read(text) {
+        Ok(head) => head.transform().is_none(),
+        Err(_) => false,
+    }
+}
+
 #[test]
-fn transforms(rt: HostRuntime) -> Result<(), Fail> {
+fn transforms(rt: HostRuntime) {
     let unit = 180_000_000_000_000_000;
-    let head = read(b"NROWS 2\nNCOLS 3\nULXMAP 10\nULYMAP 20.5\nXDIM 3")
-        .ok()
-        .ok_or("it is a header")?;
-    assert!(rt; places_of(&head) == Some((unit * 17 / 2, 21 * unit, 3 * unit, -unit)));
-    let plain = read(b"NROWS 2\nNCOLS 3\nULXMAP 10")
-        .ok()
-        .ok_or("it is a header")?;
-    assert!(rt; places_of(&plain).is_none());
-    Ok(())
+    let placed = places_of(b"NROWS 2\nNCOLS 3\nULXMAP 10\nULYMAP 20.5\nXDIM 3");
+    let wanted = Some((unit * 17 / 2, 21 * unit, 3 * unit, -unit));
+    assert!(rt; placed == wanted && has_no_place(b"NROWS 2\nNCOLS 3\nULXMAP 10"));
+}
+
+// The faults of blanks as long as a header may be, and of one byte more.
+fn faults_of_blanks(alloc: Global) -> Result<(Option<HdrFault>, Option<HdrFault>), AllocError> {
+    let text = vec![in alloc; b' '; 1_048_577]?;
+    Ok((read(&text[..1_048_576]).err(), read(&text).err()))
 }
 
 #[test]
 fn refuses_a_long_header(rt: HostRuntime) -> Result<(), Fail> {
-    let mut text = vec![in rt.alloc(); b' '; 1_048_576]?;
-    assert!(rt; read(&text).err() == Some(HdrFault::MissingKey));
-    text.push(b'\n')?;
-    assert!(rt; read(&text).err() == Some(HdrFault::Limit));
+    let faults = faults_of_blanks(rt.alloc())?;
+    assert!(rt; faults == (Some(HdrFault::MissingKey), Some(HdrFault::Limit)));
     Ok(())
 }

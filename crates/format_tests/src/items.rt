@@ -1,29 +1,43 @@
 use lists_and_answers::Items;
+use std::alloc::{AllocError, Global};
 use std::test::*;
 
-#[test]
-fn numbers_in_order(rt: HostRuntime) -> Result<(), Fail> {
-    let mut numbers: Items<u32> = Items::new(rt.alloc());
-    assert!(rt; numbers.is_empty());
+fn numbers(alloc: Global) -> Result<Items<u32>, AllocError> {
+    let mut numbers = Items::new(alloc);
     for number in [3u32, 1, 2] {
         numbers.push(number)?;
     }
-    assert!(rt; !numbers.is_empty());
-    assert_eq!(rt; numbers.len(), 3);
-    assert_eq!(rt; numbers.as_slice(), [3u32, 1, 2].as_slice());
-    match numbers.as_slice().get(1) {
-        Some(number) => assert_eq!(rt; *number, 1),
-        None => assert!(rt; false, "there are three numbers"),
-    }
+    Ok(numbers)
+}
+
+// Whether a list has 3, 1 and 2.
+fn has_numbers(numbers: &Items<u32>) -> bool {
+    !numbers.is_empty()
+        && numbers.len() == 3
+        && numbers.as_slice() == [3u32, 1, 2].as_slice()
+        && numbers.as_slice().get(1) == Some(&1)
+}
+
+fn begins_empty(alloc: Global) -> bool {
+    let numbers: Items<u32> = Items::new(alloc);
+    numbers.is_empty()
+}
+
+#[test]
+fn numbers_in_order(rt: HostRuntime) -> Result<(), Fail> {
+    assert!(rt; begins_empty(rt.alloc()) && has_numbers(&numbers(rt.alloc())?));
     Ok(())
+}
+
+// Whether a list of one text has that text.
+fn has_text(alloc: Global) -> Result<bool, AllocError> {
+    let mut texts: Items<String> = Items::new(alloc);
+    texts.push(String::from_str(alloc, "a")?)?;
+    Ok(texts.len() == 1 && texts.get(0).as_str() == "a")
 }
 
 #[test]
 fn an_item_at_a_place(rt: HostRuntime) -> Result<(), Fail> {
-    let mut texts: Items<String> = Items::new(rt.alloc());
-    texts.push(String::from_str(rt.alloc(), "a")?)?;
-    if texts.len() == 1 {
-        assert_eq!(rt; texts.get(0).as_str(), "a");
-    }
+    assert!(rt; has_text(rt.alloc())?);
     Ok(())
 }

@@ -5,8 +5,9 @@ use geotransform::decimal::{
     is_decimal, is_negative_decimal, read_decimal, read_number, read_whole,
 };
 use geotransform::print::{print_decimal, print_short};
-use geotransform::types::{PixelType, Size, clamp, holds};
+use geotransform::types::{PixelType, Sample, Size, clamp, holds};
 use geotransform::{GeoTransform, Ticks, round16};
+use std::alloc::{AllocError, Global};
 use std::test::*;
 
 // The values of the four tables were computed outside this program, with the exact fractions of
@@ -267,40 +268,91 @@ const SHORT: [(i128, &str); 20] = [
     ),
 ];
 
+// The first of these texts that is another decimal, or how many texts there are.
+fn first_misread() -> usize {
+    for (at, (text, ticks)) in DECIMALS.iter().enumerate() {
+        if read_decimal(text.as_bytes()).map(|value| value.get()) != *ticks {
+            return at;
+        }
+    }
+    DECIMALS.len()
+}
+
+// The first of these texts that is another whole number, or how many texts there are.
+fn first_not_whole() -> usize {
+    for (at, (text, whole)) in WHOLES.iter().enumerate() {
+        if read_whole(text.as_bytes()) != *whole {
+            return at;
+        }
+    }
+    WHOLES.len()
+}
+
 #[test]
 fn reads_decimals(rt: HostRuntime) {
-    for (text, ticks) in &DECIMALS {
-        let value = match read_decimal(text.as_bytes()) {
-            Some(value) => Some(value.get()),
-            None => None,
-        };
-        assert_eq!(rt; value, *ticks, "{text}");
-    }
-    for (text, whole) in &WHOLES {
-        assert_eq!(rt; read_whole(text.as_bytes()), *whole, "{text}");
-    }
+    assert_eq!(rt; first_misread(), DECIMALS.len());
+    assert_eq!(rt; first_not_whole(), WHOLES.len());
+}
+
+#[test]
+fn tells_decimals(rt: HostRuntime) {
     assert!(rt; is_decimal(b"1e999") && !is_decimal(b"5."));
     assert!(rt; is_negative_decimal(b"-1e-999") && !is_negative_decimal(b"-0.0e5"));
+}
+
+#[test]
+fn reads_numbers(rt: HostRuntime) {
     assert_eq!(rt; read_number(b"000000000000000012"), Some(12));
     assert_eq!(rt; read_number(b"0000000000000000012"), None);
 }
 
+// Whether a value is printed so behind what stands, with so many places.
+fn is_printed(alloc: Global, value: i128, places: u32, text: &str) -> Result<bool, AllocError> {
+    if places > 16 {
+        return Ok(false);
+    }
+    let mut out = Vec::new(alloc);
+    out.push(b'=')?;
+    print_decimal(ticks(value), places, &mut out)?;
+    Ok(out.first() == Some(&b'=') && out.get(1..) == Some(text.as_bytes()))
+}
+
+// The first of these values that is printed otherwise, or how many values there are.
+fn first_misprinted(alloc: Global) -> Result<usize, AllocError> {
+    for (at, (value, places, text)) in FIXED.iter().enumerate() {
+        if !is_printed(alloc, *value, *places, text)? {
+            return Ok(at);
+        }
+    }
+    Ok(FIXED.len())
+}
+
 #[test]
 fn prints_decimals(rt: HostRuntime) -> Result<(), Fail> {
-    for (value, places, text) in &FIXED {
-        let mut out = Vec::new(rt.alloc());
-        out.push(b'=')?;
-        if *places <= 16 {
-            print_decimal(ticks(*value), *places, &mut out)?;
+    assert_eq!(rt; first_misprinted(rt.alloc())?, FIXED.len());
+    Ok(())
+}
+
+// Whether a value is printed so with as few places as serve.
+fn is_short(alloc: Global, value: i128, text: &str) -> Result<bool, AllocError> {
+    let mut out = Vec::new(alloc);
+    print_short(ticks(value), &mut out)?;
+    Ok(out.as_slice() == text.as_bytes())
+}
+
+// The first of these values that is printed otherwise, or how many values there are.
+fn first_not_short(alloc: Global) -> Result<usize, AllocError> {
+    for (at, (value, text)) in SHORT.iter().enumerate() {
+        if !is_short(alloc, *value, text)? {
+            return Ok(at);
         }
-        assert_eq!(rt; &out[1..], text.as_bytes(), "{value} at {places}");
-        assert_eq!(rt; out[0], b'=');
     }
-    for (value, text) in &SHORT {
-        let mut out = Vec::new(rt.alloc());
-        print_short(ticks(*value), &mut out)?;
-        assert_eq!(rt; out.as_slice(), text.as_bytes(), "{value}");
-    }
+    Ok(SHORT.len())
+}
+
+#[test]
+fn prints_short_decimals(rt: HostRuntime) -> Result<(), Fail> {
+    assert_eq!(rt; first_not_short(rt.alloc())?, SHORT.len());
     Ok(())
 }
 
@@ -309,88 +361,151 @@ fn ticks(n: i128) -> Ticks {
     Ticks::new(n).unwrap_or(Ticks::UNIT)
 }
 
+// A type, its name, its name in another case, and the least and the greatest number of it.
+const KINDS: [(PixelType, &str, &str, Sample, Sample); 5] = [
+    (PixelType::Byte, "Byte", "bYTE", 0, 255),
+    (PixelType::UInt16, "UInt16", "uint16", 0, 65_535),
+    (PixelType::Int16, "Int16", "INT16", -32_768, 32_767),
+    (PixelType::UInt32, "UInt32", "uInt32", 0, 4_294_967_295),
+    (
+        PixelType::Int32,
+        "Int32",
+        "int32",
+        -2_147_483_648,
+        2_147_483_647,
+    ),
+];
+
+// Whether a type has this name, and is read of it.
+fn has_name(kind: PixelType, name: &str, other_case: &str) -> bool {
+    kind.name() == name
+        && PixelType::read_name(name.as_bytes(), false) == Some(kind)
+        && PixelType::read_name(other_case.as_bytes(), true) == Some(kind)
+        && PixelType::read_name(other_case.as_bytes(), false).is_none()
+}
+
+// Whether these are the least and the greatest number of a type.
+fn has_range(kind: PixelType, least: Sample, greatest: Sample) -> bool {
+    clamp(kind, i128::MIN) == least
+        && clamp(kind, i128::MAX) == greatest
+        && clamp(kind, 77) == 77
+        && holds(kind, least)
+        && holds(kind, greatest)
+        && !holds(kind, least.saturating_sub(1))
+        && !holds(kind, greatest.saturating_add(1))
+}
+
+// The first of these types that has another name, or how many types there are.
+fn first_of_other_name() -> usize {
+    for (at, (kind, name, other_case, _, _)) in KINDS.iter().enumerate() {
+        if !has_name(*kind, name, other_case) {
+            return at;
+        }
+    }
+    KINDS.len()
+}
+
+// The first of these types that has another range, or how many types there are.
+fn first_of_other_range() -> usize {
+    for (at, (kind, _, _, least, greatest)) in KINDS.iter().enumerate() {
+        if !has_range(*kind, *least, *greatest) {
+            return at;
+        }
+    }
+    KINDS.len()
+}
+
+const NO_NAMES: [&str; 5] = ["", "byte ", "Float32", "UInt1", "UInt166"];
+
+// The first of these texts that is the name of a type, or how many texts there are.
+fn first_named() -> usize {
+    for (at, text) in NO_NAMES.iter().enumerate() {
+        if PixelType::read_name(text.as_bytes(), true).is_some() {
+            return at;
+        }
+    }
+    NO_NAMES.len()
+}
+
 #[test]
 fn keeps_types(rt: HostRuntime) {
-    let kinds = [
-        (PixelType::Byte, "Byte", "bYTE", 0, 255),
-        (PixelType::UInt16, "UInt16", "uint16", 0, 65_535),
-        (PixelType::Int16, "Int16", "INT16", -32_768, 32_767),
-        (PixelType::UInt32, "UInt32", "uInt32", 0, 4_294_967_295),
-        (
-            PixelType::Int32,
-            "Int32",
-            "int32",
-            -2_147_483_648,
-            2_147_483_647,
-        ),
-    ];
-    for (kind, name, other_case, least, greatest) in &kinds {
-        assert_eq!(rt; kind.name(), *name);
-        assert_eq!(rt; PixelType::read_name(name.as_bytes(), false), Some(*kind));
-        assert_eq!(rt;
-            PixelType::read_name(other_case.as_bytes(), true),
-            Some(*kind)
-        );
-        assert_eq!(rt; PixelType::read_name(other_case.as_bytes(), false), None);
-        assert_eq!(rt; clamp(*kind, i128::MIN), *least);
-        assert_eq!(rt; clamp(*kind, i128::MAX), *greatest);
-        assert_eq!(rt; clamp(*kind, 77), 77);
-        assert!(rt; holds(*kind, *least) && holds(*kind, *greatest));
-        assert!(rt;
-            !holds(*kind, least.saturating_sub(1)) && !holds(*kind, greatest.saturating_add(1))
-        );
-    }
-    for text in &["", "byte ", "Float32", "UInt1", "UInt166"] {
-        assert_eq!(rt; PixelType::read_name(text.as_bytes(), true), None);
-    }
+    assert_eq!(rt; first_of_other_name(), KINDS.len());
+    assert_eq!(rt; first_of_other_range(), KINDS.len());
+    assert_eq!(rt; first_named(), NO_NAMES.len());
 }
 
 fn geo(ox: i128, oy: i128, dx: i128, dy: i128) -> Option<GeoTransform> {
     GeoTransform::new(ticks(ox), ticks(oy), ticks(dx), ticks(dy))
 }
 
+const FAR: i128 = 180_000_000_000_000_000_000_000_000_000;
+
+// Whether geotransforms end where they can't be told.
+fn are_bounded() -> bool {
+    geo(1 - FAR, FAR - 1, FAR - 1, 1 - FAR).is_some()
+        && geo(0, FAR, 1, -1).is_none()
+        && geo(0, 0, 0, -1).is_none()
+        && geo(0, 0, 1, 0).is_none()
+        && geo(0, 0, -FAR, -1).is_none()
+}
+
+fn corner_of(geo: &GeoTransform, x: i64, y: i64) -> (i128, i128)
+    requires x { unsigned_abs x ≤ 16777216 }
+    requires y { unsigned_abs y ≤ 16777216 }
+{
+    let (px, py) = geo.corner(x, y);
+    (px.get(), py.get())
+}
+
+// Whether the corners of pixels lie there.
+fn has_corners(geo: &GeoTransform) -> bool {
+    corner_of(geo, 4800, 6000) == (-10_800_000_000_002_880_000, 7_200_000_000_003_600_000)
+        && corner_of(geo, -16_777_216, -16_777_216)
+            == (
+                -25_183_823_999_989_933_670_400,
+                25_182_023_999_989_933_670_400,
+            )
+}
+
+// Whether places lie in these pixels.
+fn locates(geo: &GeoTransform) -> bool {
+    geo.locate(geo.ox, geo.oy) == (0, 0)
+        && geo.locate(
+            Ticks::of(-18_000_000_000_000_000_001),
+            Ticks::of(16_200_000_000_000_000_001),
+        ) == (-1, -1)
+        && geo.locate(
+            Ticks::of(-17_998_500_000_000_000_601),
+            Ticks::of(16_198_500_000_000_000_601),
+        ) == (0, 0)
+        && geo.locate(
+            Ticks::of(-17_998_500_000_000_000_600),
+            Ticks::of(16_198_500_000_000_000_600),
+        ) == (1, 1)
+        && geo.locate(Ticks::of(FAR - 1), Ticks::of(1 - FAR))
+            == (120_000_000_012_048, 120_000_000_010_848)
+}
+
 #[test]
-fn finds_places(rt: HostRuntime) {
-    const FAR: i128 = 180_000_000_000_000_000_000_000_000_000;
-    assert!(rt; geo(1 - FAR, FAR - 1, FAR - 1, 1 - FAR).is_some());
-    assert!(rt; geo(0, FAR, 1, -1).is_none() && geo(0, 0, 0, -1).is_none());
-    assert!(rt; geo(0, 0, 1, 0).is_none() && geo(0, 0, -FAR, -1).is_none());
-    let made = geo(
+fn bounds_places(rt: HostRuntime) {
+    assert!(rt; are_bounded());
+}
+
+#[test]
+fn finds_places(rt: HostRuntime) -> Result<(), Fail> {
+    let geo = geo(
         -18_000_000_000_000_000_000,
         16_200_000_000_000_000_000,
         1_499_999_999_999_400,
         -1_499_999_999_999_400,
-    );
-    assert!(rt; made.is_some());
-    if let Some(geo) = made {
-        let (x, y) = geo.corner(4800, 6000);
-        assert_eq!(rt; x.get(), -10_800_000_000_002_880_000);
-        assert_eq!(rt; y.get(), 7_200_000_000_003_600_000);
-        let (x, y) = geo.corner(-16_777_216, -16_777_216);
-        assert_eq!(rt; x.get(), -25_183_823_999_989_933_670_400);
-        assert_eq!(rt; y.get(), 25_182_023_999_989_933_670_400);
-        assert_eq!(rt; geo.locate(geo.ox, geo.oy), (0, 0));
-        let (px, py) = (
-            Ticks::of(-18_000_000_000_000_000_001),
-            Ticks::of(16_200_000_000_000_000_001),
-        );
-        assert_eq!(rt; geo.locate(px, py), (-1, -1));
-        let (px, py) = (
-            Ticks::of(-17_998_500_000_000_000_601),
-            Ticks::of(16_198_500_000_000_000_601),
-        );
-        assert_eq!(rt; geo.locate(px, py), (0, 0));
-        let (px, py) = (
-            Ticks::of(-17_998_500_000_000_000_600),
-            Ticks::of(16_198_500_000_000_000_600),
-        );
-        assert_eq!(rt; geo.locate(px, py), (1, 1));
-        let (px, py) = (Ticks::of(FAR - 1), Ticks::of(1 - FAR));
-        assert_eq!(rt;
-            geo.locate(px, py),
-            (120_000_000_012_048, 120_000_000_010_848)
-        );
-    }
+    )
+    .ok_or("it is near")?;
+    assert!(rt; has_corners(&geo) && locates(&geo));
+    Ok(())
+}
+
+#[test]
+fn rounds_ticks(rt: HostRuntime) {
     assert_eq!(rt; round16(Ticks::of(9)).get(), 18);
     assert_eq!(rt; round16(Ticks::of(-9)).get(), -18);
     assert_eq!(rt; round16(Ticks::of(-8)).get(), 0);
@@ -427,27 +542,32 @@ fn size(w: u32, h: u32) -> Size
     Size { w, h }
 }
 
+// Whether windows from the north and from the south are cut so.
+fn are_windows() -> bool {
+    let north = (7, -5, 1000, -1000);
+    let south = (-7, 5, -1000, 1000);
+    window(north, (6, -4), (1505, -1503)) == Some((0, 0, 1, 1))
+        && window(north, (5, -3), (1506, -1504)) == Some((-1, -1, 2, 2))
+        && window(north, (1006, -1004), (1007, -1005)) == Some((1, 1, 0, 0))
+        && window(south, (-6, 4), (-1505, 1503)) == Some((0, 0, 1, 1))
+        && window(south, (-5, 3), (-1506, 1504)) == Some((-1, -1, 2, 2))
+}
+
+// Whether the pixels of a cut are so wide and high.
+fn are_cut() -> bool {
+    let north = (7, -5, 1000, -1000);
+    let fine = (7, -5, 1, -1);
+    let wide = (0, 0, 60_000_000_000_000_000_000_000_000_000, -1);
+    cut(north, size(1, 1), size(2, 2)) == Some((3007, 3995, 500, -500))
+        && cut(fine, size(1, 1), size(2, 2)) == Some((10, -1, 1, -1))
+        && cut(fine, size(3, 3), size(2, 2)) == Some((10, -1, 2, -2))
+        && cut(fine, size(1, 1), size(3, 2)).is_none()
+        && cut(fine, size(1, 1), size(2, 3)).is_none()
+        && cut(wide, size(1, 1), size(1, 1)).is_none()
+}
+
 #[test]
 fn cuts_windows(rt: HostRuntime) {
-    let north = (7, -5, 1000, -1000);
-    assert_eq!(rt; window(north, (6, -4), (1505, -1503)), Some((0, 0, 1, 1)));
-    assert_eq!(rt; window(north, (5, -3), (1506, -1504)), Some((-1, -1, 2, 2)));
-    assert_eq!(rt;
-        window(north, (1006, -1004), (1007, -1005)),
-        Some((1, 1, 0, 0))
-    );
-    let south = (-7, 5, -1000, 1000);
-    assert_eq!(rt; window(south, (-6, 4), (-1505, 1503)), Some((0, 0, 1, 1)));
-    assert_eq!(rt; window(south, (-5, 3), (-1506, 1504)), Some((-1, -1, 2, 2)));
-    assert_eq!(rt;
-        cut(north, size(1, 1), size(2, 2)),
-        Some((3007, 3995, 500, -500))
-    );
-    let fine = (7, -5, 1, -1);
-    assert_eq!(rt; cut(fine, size(1, 1), size(2, 2)), Some((10, -1, 1, -1)));
-    assert_eq!(rt; cut(fine, size(3, 3), size(2, 2)), Some((10, -1, 2, -2)));
-    assert_eq!(rt; cut(fine, size(1, 1), size(3, 2)), None);
-    assert_eq!(rt; cut(fine, size(1, 1), size(2, 3)), None);
-    let wide = (0, 0, 60_000_000_000_000_000_000_000_000_000, -1);
-    assert_eq!(rt; cut(wide, size(1, 1), size(1, 1)), None);
+    assert!(rt; are_windows());
+    assert!(rt; are_cut());
 }

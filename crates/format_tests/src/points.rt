@@ -57,46 +57,52 @@ fn has_lines(alloc: Global, input: &[u8], want: &[LineKind]) -> Result<bool, Fai
     Ok(true)
 }
 
+// Whether three points are read, with a line that is none and one that is not reached.
+fn reads_three(alloc: Global) -> Result<bool, Fail> {
+    let [a, b, c] = [at(0, 0)?, at(9, 9)?, at(2, 1)?];
+    Ok(
+        has_lines(alloc, b"0 0\n9 9\n2 1", &[a, b, c])?
+            && has_lines(alloc, b"0 0\r\n\t9 \t 9.0\r\n 2 1e0 \n", &[a, b, c])?
+            && has_lines(alloc, b"0 0\n9 9\n2 1\nx\n1 1\n", &[a, b, c, LineKind::Bad])?,
+    )
+}
+
+// Whether lines that are blank are.
+fn reads_blanks(alloc: Global) -> Result<bool, Fail> {
+    let blank = LineKind::Blank;
+    let lines = [blank, blank, at(-1, 2)?, blank];
+    Ok(has_lines(alloc, b"\n \t\r\n-1 +2\n\n", &lines)? && has_lines(alloc, b"", &[])?)
+}
+
 #[test]
 fn points(rt: HostRuntime) -> Result<(), Fail> {
-    let alloc = rt.alloc();
-    let bad = LineKind::Bad;
-    let three = [at(0, 0)?, at(9, 9)?, at(2, 1)?];
-    assert!(rt; has_lines(alloc, b"0 0\n9 9\n2 1", &three)?);
-    assert!(rt; has_lines(alloc, b"0 0\r\n\t9 \t 9.0\r\n 2 1e0 \n", &three)?);
-    assert!(rt;
-        has_lines(
-            alloc,
-            b"0 0\n9 9\n2 1\nx\n1 1\n",
-            &[three[0], three[1], three[2], bad]
-        )?
-    );
-    let blank = LineKind::Blank;
-    assert!(rt;
-        has_lines(
-            alloc,
-            b"\n \t\r\n-1 +2\n\n",
-            &[blank, blank, at(-1, 2)?, blank]
-        )?
-    );
-    assert!(rt; has_lines(alloc, b"", &[])?);
+    assert!(rt; reads_three(rt.alloc())? && reads_blanks(rt.alloc())?);
     Ok(())
+}
+
+const BAD: [&[u8]; 7] = [
+    b"x",
+    b"1",
+    b"1 2 3",
+    b"1e12 0",
+    b"1 2\r",
+    b"1 2\r\r\n",
+    b"1,2\n",
+];
+
+// The first of these inputs that isn't one bad line, or how many inputs there are.
+fn first_unrefused(alloc: Global) -> Result<usize, Fail> {
+    for (at, input) in BAD.iter().enumerate() {
+        if !has_lines(alloc, input, &[LineKind::Bad])? {
+            return Ok(at);
+        }
+    }
+    Ok(BAD.len())
 }
 
 #[test]
 fn bad_lines(rt: HostRuntime) -> Result<(), Fail> {
-    let inputs: [&[u8]; 7] = [
-        b"x",
-        b"1",
-        b"1 2 3",
-        b"1e12 0",
-        b"1 2\r",
-        b"1 2\r\r\n",
-        b"1,2\n",
-    ];
-    for input in inputs {
-        assert!(rt; has_lines(rt.alloc(), input, &[LineKind::Bad])?);
-    }
+    assert_eq!(rt; first_unrefused(rt.alloc())?, BAD.len());
     Ok(())
 }
 
@@ -111,28 +117,47 @@ fn wide(alloc: Global, blanks: usize, end: &[u8]) -> Result<Vec<u8>, Fail> {
     Ok(input)
 }
 
-#[test]
-fn long_lines(rt: HostRuntime) -> Result<(), Fail> {
-    let alloc = rt.alloc();
-    for end in [b"".as_slice(), b"\n", b"\r\n"] {
-        let longest = wide(alloc, 4093, end)?;
-        let longer = wide(alloc, 4094, end)?;
-        for first in [0, 1, 4095, 4096, 4097, 4098, 5000] {
-            let kinds = read_cut(alloc, &longest, first)?;
-            assert_eq!(rt; kinds.as_slice(), [at(1, 2)?].as_slice());
-            let kinds = read_cut(alloc, &longer, first)?;
-            assert_eq!(rt; kinds.as_slice(), [LineKind::Bad].as_slice());
+const CUTS: [usize; 7] = [0, 1, 4095, 4096, 4097, 4098, 5000];
+
+// Whether an input is this one line, cut at each of the places.
+fn is_line(alloc: Global, input: &[u8], want: LineKind) -> Result<bool, Fail> {
+    for first in CUTS {
+        if read_cut(alloc, input, first)?.as_slice() != [want].as_slice() {
+            return Ok(false);
         }
     }
+    Ok(true)
+}
+
+// Whether a point behind so many blanks is this line.
+fn is_wide(alloc: Global, blanks: usize, end: &[u8], want: LineKind) -> Result<bool, Fail> {
+    let input = wide(alloc, blanks, end)?;
+    is_line(alloc, &input, want)
+}
+
+const ENDS: [&[u8]; 3] = [b"", b"\n", b"\r\n"];
+
+// The first of the ends with which the longest line isn't read, or a longer one is, or how many ends there are.
+fn first_unbounded(alloc: Global) -> Result<usize, Fail> {
+    let point = at(1, 2)?;
+    for (number, end) in ENDS.iter().enumerate() {
+        if !is_wide(alloc, 4093, end, point)? || !is_wide(alloc, 4094, end, LineKind::Bad)? {
+            return Ok(number);
+        }
+    }
+    Ok(ENDS.len())
+}
+
+#[test]
+fn long_lines(rt: HostRuntime) -> Result<(), Fail> {
+    assert_eq!(rt; first_unbounded(rt.alloc())?, ENDS.len());
     Ok(())
 }
 
-// Four pieces, one of them empty.
-#[test]
-fn in_pieces(rt: HostRuntime) -> Result<(), Fail> {
-    let pieces: [&[u8]; 4] = [b"0 0\n9", b"", b" 9\r", b"\n2 1"];
-    let entries = entries_of(rt.alloc(), &pieces)?;
-    let want = [
+const PIECES: [&[u8]; 4] = [b"0 0\n9", b"", b" 9\r", b"\n2 1"];
+
+fn three_entries() -> Result<[Entry; 3], Fail> {
+    Ok([
         Entry {
             line: 1,
             kind: at(0, 0)?,
@@ -145,28 +170,32 @@ fn in_pieces(rt: HostRuntime) -> Result<(), Fail> {
             line: 3,
             kind: at(2, 1)?,
         },
-    ];
-    assert_eq!(rt; entries.as_slice(), want.as_slice());
+    ])
+}
+
+// Four pieces, one of them empty.
+#[test]
+fn in_pieces(rt: HostRuntime) -> Result<(), Fail> {
+    let want = three_entries()?;
+    assert!(rt; entries_of(rt.alloc(), &PIECES)?.as_slice() == want.as_slice());
     Ok(())
 }
 
-// A line of any length is refused before it ends.
+// Whether a line of more bytes than a line may have is refused before it ends, and nothing behind it is read.
+fn refuses_early(mut reader: PointLines) -> bool {
+    let blanks = [b' '; 4098];
+    let bad = Entry {
+        line: 1,
+        kind: LineKind::Bad,
+    };
+    reader.next(&blanks[..4097]) == (None, 4097)
+        && reader.next(&blanks[..1]) == (Some(bad), 1)
+        && reader.next(b"\n1 2\n") == (None, 5)
+        && reader.finish() == None
+}
+
 #[test]
 fn refused_early(rt: HostRuntime) -> Result<(), Fail> {
-    let mut reader = PointLines::new(rt.alloc())?;
-    let blanks = [b' '; 4098];
-    assert_eq!(rt; reader.next(&blanks[..4097]), (None, 4097));
-    assert_eq!(rt;
-        reader.next(&blanks[..1]),
-        (
-            Some(Entry {
-                line: 1,
-                kind: LineKind::Bad
-            }),
-            1
-        )
-    );
-    assert_eq!(rt; reader.next(b"\n1 2\n"), (None, 5));
-    assert_eq!(rt; reader.finish(), None);
+    assert!(rt; refuses_early(PointLines::new(rt.alloc())?));
     Ok(())
 }

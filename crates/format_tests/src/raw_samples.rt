@@ -18,45 +18,75 @@ fn sample_of(head: &RawHead, file: &[u8], band: u32, x: u32, y: u32) -> Option<i
 
 const TWO_BANDS: [u8; 12] = [1, 2, 3, 4, 5, 6, 7, 8, 9, 10, 11, 12];
 
-#[test]
-fn finds_samples_by_layout(rt: HostRuntime) -> Result<(), Fail> {
-    for (layout, first, second) in [("BIL", 9, 12), ("BIP", 11, 12), ("BSQ", 6, 12)] {
-        let text = format!(in rt.alloc(); "NROWS 2\nNCOLS 3\nNBANDS 2\nLAYOUT {layout}\n")?;
-        let head = read(text.as_bytes()).ok().ok_or("it is a header")?;
-        assert_eq!(rt; needed_len(&head), 12);
-        assert!(rt;
-            sample_of(&head, &TWO_BANDS, 0, 2, 1) == Some(first),
-            "{layout}"
-        );
-        assert!(rt;
-            sample_of(&head, &TWO_BANDS, 1, 2, 1) == Some(second),
-            "{layout}"
-        );
+// A header of two bands of 3 x 2 bytes, and the last samples of the bands.
+const LAYOUTS: [(&[u8], i128, i128); 3] = [
+    (b"NROWS 2\nNCOLS 3\nNBANDS 2\nLAYOUT BIL\n", 9, 12),
+    (b"NROWS 2\nNCOLS 3\nNBANDS 2\nLAYOUT BIP\n", 11, 12),
+    (b"NROWS 2\nNCOLS 3\nNBANDS 2\nLAYOUT BSQ\n", 6, 12),
+];
+
+// Whether the bands of a header end with these samples.
+fn ends_with(text: &[u8], first: i128, second: i128) -> bool {
+    let Ok(head) = read(text) else {
+        return false;
+    };
+    needed_len(&head) == 12
+        && sample_of(&head, &TWO_BANDS, 0, 2, 1) == Some(first)
+        && sample_of(&head, &TWO_BANDS, 1, 2, 1) == Some(second)
+}
+
+// The first of these headers whose bands end otherwise, or how many headers there are.
+fn first_of_other_layout() -> usize {
+    for (at, (text, first, second)) in LAYOUTS.iter().enumerate() {
+        if !ends_with(text, *first, *second) {
+            return at;
+        }
     }
-    Ok(())
+    LAYOUTS.len()
 }
 
 #[test]
-fn reads_by_order_and_type(rt: HostRuntime) -> Result<(), Fail> {
-    let bytes = [0xFF, 0xFE, 0x80, 0x01];
-    for (words, wanted) in [
-        ("NBITS 16\nBYTEORDER M", 65534),
-        ("NBITS 16\nBYTEORDER M\nPIXELTYPE SIGNEDINT", -2),
-        ("NBITS 16\nBYTEORDER I", 65279),
-        ("NBITS 16\nPIXELTYPE SIGNEDINT", -257),
-        ("NBITS 32\nBYTEORDER M", 4294868993),
-        ("NBITS 32\nBYTEORDER M\nPIXELTYPE SIGNEDINT", -98303),
-        ("NBITS 32", 25231103),
-        ("NBITS 8", 255),
-    ] {
-        let text = format!(in rt.alloc(); "NROWS 1\nNCOLS 1\n{words}\n")?;
-        let head = read(text.as_bytes()).ok().ok_or("it is a header")?;
-        assert!(rt;
-            sample_of(&head, &bytes, 0, 0, 0) == Some(wanted),
-            "{words}"
-        );
+fn finds_samples_by_layout(rt: HostRuntime) {
+    assert_eq!(rt; first_of_other_layout(), LAYOUTS.len());
+}
+
+// A header of one pixel, and its sample in the bytes FF FE 80 01.
+const KINDS: [(&[u8], i128); 8] = [
+    (b"NROWS 1\nNCOLS 1\nNBITS 16\nBYTEORDER M\n", 65534),
+    (
+        b"NROWS 1\nNCOLS 1\nNBITS 16\nBYTEORDER M\nPIXELTYPE SIGNEDINT\n",
+        -2,
+    ),
+    (b"NROWS 1\nNCOLS 1\nNBITS 16\nBYTEORDER I\n", 65279),
+    (b"NROWS 1\nNCOLS 1\nNBITS 16\nPIXELTYPE SIGNEDINT\n", -257),
+    (b"NROWS 1\nNCOLS 1\nNBITS 32\nBYTEORDER M\n", 4294868993),
+    (
+        b"NROWS 1\nNCOLS 1\nNBITS 32\nBYTEORDER M\nPIXELTYPE SIGNEDINT\n",
+        -98303,
+    ),
+    (b"NROWS 1\nNCOLS 1\nNBITS 32\n", 25231103),
+    (b"NROWS 1\nNCOLS 1\nNBITS 8\n", 255),
+];
+
+// The one sample of a header.
+fn pixel_of(text: &[u8]) -> Option<i128> {
+    let head = read(text).ok()?;
+    sample_of(&head, &[0xFF, 0xFE, 0x80, 0x01], 0, 0, 0)
+}
+
+// The first of these headers that has another sample, or how many headers there are.
+fn first_of_other_kind() -> usize {
+    for (at, (text, wanted)) in KINDS.iter().enumerate() {
+        if pixel_of(text) != Some(*wanted) {
+            return at;
+        }
     }
-    Ok(())
+    KINDS.len()
+}
+
+#[test]
+fn reads_by_order_and_type(rt: HostRuntime) {
+    assert_eq!(rt; first_of_other_kind(), KINDS.len());
 }
 
 /// Writes a run where its samples are of the head's type and the bytes hold it.
@@ -75,15 +105,23 @@ fn write_run(head: &RawHead, samples: &[i128], bytes: &mut [u8]) -> bool {
     true
 }
 
+const BETWEEN: &[u8] =
+    b"NROWS 1\nNCOLS 3\nNBANDS 2\nNBITS 16\nLAYOUT BIP\nBYTEORDER M\nPIXELTYPE SIGNEDINT";
+
+// What is written between bytes that are 7.
+fn written(text: &[u8], samples: &[i128]) -> Option<[u8; 11]> {
+    let head = read(text).ok()?;
+    let mut bytes = [7; 11];
+    if write_run(&head, samples, &mut bytes) {
+        return Some(bytes);
+    }
+    None
+}
+
 #[test]
-fn writes_between_what_stays(rt: HostRuntime) -> Result<(), Fail> {
-    let text =
-        b"NROWS 1\nNCOLS 3\nNBANDS 2\nNBITS 16\nLAYOUT BIP\nBYTEORDER M\nPIXELTYPE SIGNEDINT";
-    let head = read(text).ok().ok_or("it is a header")?;
-    let mut bytes = [7u8; 11];
-    assert!(rt; write_run(&head, &[-2, 256, 32767], &mut bytes));
-    assert_eq!(rt; bytes, [0xFF, 0xFE, 7, 7, 1, 0, 7, 7, 0x7F, 0xFF, 7]);
-    Ok(())
+fn writes_between_what_stays(rt: HostRuntime) {
+    let wanted = [0xFF, 0xFE, 7, 7, 1, 0, 7, 7, 0x7F, 0xFF, 7];
+    assert!(rt; written(BETWEEN, &[-2, 256, 32767]) == Some(wanted));
 }
 
 /// Reads a run where the bytes hold it.
@@ -98,13 +136,18 @@ fn read_run(head: &RawHead, bytes: &[u8], out: &mut [i128]) -> bool {
     true
 }
 
+// A line of a band that begins at a place of the bytes.
+fn line_from(text: &[u8], place: usize) -> Option<[i128; 3]> {
+    let head = read(text).ok()?;
+    let mut out = [0; 3];
+    if read_run(&head, TWO_BANDS.get(place..)?, &mut out) {
+        return Some(out);
+    }
+    None
+}
+
 #[test]
-fn reads_a_run_of_a_band(rt: HostRuntime) -> Result<(), Fail> {
-    let head = read(b"NROWS 2\nNCOLS 3\nNBANDS 2\nLAYOUT BIP")
-        .ok()
-        .ok_or("it is a header")?;
-    let mut out = [0i128; 3];
-    assert!(rt; read_run(&head, &TWO_BANDS[7..], &mut out));
-    assert_eq!(rt; out, [8, 10, 12]);
-    Ok(())
+fn reads_a_run_of_a_band(rt: HostRuntime) {
+    let line = line_from(b"NROWS 2\nNCOLS 3\nNBANDS 2\nLAYOUT BIP", 7);
+    assert!(rt; line == Some([8, 10, 12]));
 }

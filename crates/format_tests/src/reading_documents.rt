@@ -141,11 +141,19 @@ const DOCUMENTS: [(&[u8], u8, u64); 46] = [
     ),
 ];
 
+// The first of these documents that has another fault, or how many documents there are.
+fn first_misjudged(alloc: Global) -> usize {
+    for (at, (text, number, place)) in DOCUMENTS.iter().enumerate() {
+        if fault_of(alloc, text) != (*number, *place) {
+            return at;
+        }
+    }
+    DOCUMENTS.len()
+}
+
 #[test]
 fn documents(rt: HostRuntime) {
-    for (text, number, place) in DOCUMENTS {
-        assert_eq!(rt; fault_of(rt.alloc(), text), (number, place));
-    }
+    assert_eq!(rt; first_misjudged(rt.alloc()), DOCUMENTS.len());
 }
 
 /// The number of the fault of a dataset that holds this, 0 for none, and its place.
@@ -235,11 +243,19 @@ const RULES: [(&[u8], u8, u64); 26] = [
     ),
 ];
 
+// The first of these datasets that has another fault, or how many datasets there are.
+fn first_unruled(alloc: Global) -> Result<usize, Fail> {
+    for (at, (inside, number, place)) in RULES.iter().enumerate() {
+        if dataset_fault(alloc, inside)? != (*number, *place) {
+            return Ok(at);
+        }
+    }
+    Ok(RULES.len())
+}
+
 #[test]
 fn rules_of_a_dataset(rt: HostRuntime) -> Result<(), Fail> {
-    for (inside, number, place) in RULES {
-        assert_eq!(rt; dataset_fault(rt.alloc(), inside)?, (number, place));
-    }
+    assert_eq!(rt; first_unruled(rt.alloc())?, RULES.len());
     Ok(())
 }
 
@@ -359,12 +375,27 @@ const PARTS: [(&[u8], u8, u8); 42] = [
     (b"<LUT/>", 4, 0),
 ];
 
+// Whether a part has these faults in a ComplexSource and in a SimpleSource.
+fn has_faults(alloc: Global, parts: &[u8], complex: u8, simple: u8) -> Result<bool, Fail> {
+    Ok(
+        source_fault(alloc, b"ComplexSource", parts)? == complex
+            && source_fault(alloc, b"SimpleSource", parts)? == simple,
+    )
+}
+
+// The first of these parts that has another fault, or how many parts there are.
+fn first_misparted(alloc: Global) -> Result<usize, Fail> {
+    for (at, (parts, complex, simple)) in PARTS.iter().enumerate() {
+        if !has_faults(alloc, parts, *complex, *simple)? {
+            return Ok(at);
+        }
+    }
+    Ok(PARTS.len())
+}
+
 #[test]
 fn parts_of_a_source(rt: HostRuntime) -> Result<(), Fail> {
-    for (parts, complex, simple) in PARTS {
-        assert_eq!(rt; source_fault(rt.alloc(), b"ComplexSource", parts)?, complex);
-        assert_eq!(rt; source_fault(rt.alloc(), b"SimpleSource", parts)?, simple);
-    }
+    assert_eq!(rt; first_misparted(rt.alloc())?, PARTS.len());
     Ok(())
 }
 
@@ -400,18 +431,24 @@ fn sources(alloc: Global, count: u32) -> Result<Vec<u8>, Fail> {
     Ok(bands)
 }
 
+/// The fault of a document of 262,144 sources with these bands behind the second one.
+fn sources_fault(alloc: Global, bands: &[u8]) -> Result<(u8, u64), Fail> {
+    let mut text = sources(alloc, 262_143)?;
+    text.extend_from_slice(
+        b"<SimpleSource><SourceFilename>b</SourceFilename></SimpleSource></VRTRasterBand>",
+    )?;
+    text.extend_from_slice(bands)?;
+    dataset_fault(alloc, &text)
+}
+
+const THIRD: &[u8] =
+    b"<VRTRasterBand><SimpleSource resampling='cubic'><Foo/></SimpleSource></VRTRasterBand>";
+
 // The 262,144th source of a document is read; the next one is past the limit before anything else of it is judged.
 #[test]
 fn most_sources(rt: HostRuntime) -> Result<(), Fail> {
-    let mut bands = sources(rt.alloc(), 262_143)?;
-    bands.extend_from_slice(
-        b"<SimpleSource><SourceFilename>b</SourceFilename></SimpleSource></VRTRasterBand>",
-    )?;
-    assert_eq!(rt; dataset_fault(rt.alloc(), &bands)?, (0, 0));
-    bands.extend_from_slice(
-        b"<VRTRasterBand><SimpleSource resampling='cubic'><Foo/></SimpleSource></VRTRasterBand>",
-    )?;
-    assert_eq!(rt; dataset_fault(rt.alloc(), &bands)?, (6, 0));
+    assert_eq!(rt; sources_fault(rt.alloc(), b"")?, (0, 0));
+    assert_eq!(rt; sources_fault(rt.alloc(), THIRD)?, (6, 0));
     Ok(())
 }
 
@@ -455,14 +492,21 @@ const MOSAIC: &[u8] = b"<VRTDataset rasterXSize=\"2401\" rasterYSize=\"1201\">
 </VRTDataset>
 ";
 
-#[test]
-fn fronts_of_a_mosaic(rt: HostRuntime) {
+// The first number of bytes of the mosaic that are no front of a document; None where there is none.
+fn first_whole_front(alloc: Global) -> Option<usize> {
     for count in 0..MOSAIC.len().saturating_sub(1) {
         let (front, _) = MOSAIC.split_at(count);
-        let (number, place) = fault_of(rt.alloc(), front);
-        assert_eq!(rt; number, 1);
-        assert!(rt; place <= count as u64);
+        let (number, place) = fault_of(alloc, front);
+        if number != 1 || place > count as u64 {
+            return Some(count);
+        }
     }
+    None
+}
+
+#[test]
+fn fronts_of_a_mosaic(rt: HostRuntime) {
+    assert_eq!(rt; first_whole_front(rt.alloc()), None);
 }
 
 /// The last source of the first band.
@@ -471,24 +515,29 @@ fn last_source(document: &Document) -> Option<&Source> {
     band.sources.as_slice().last()
 }
 
-#[test]
-fn a_mosaic(rt: HostRuntime) -> Result<(), Fail> {
-    match read(rt.alloc(), MOSAIC) {
+// Whether a source is the second one of the mosaic.
+fn is_second(source: &Source) -> bool {
+    source.complex
+        && source.relative
+        && source.file.as_str() == "N00E001.hgt"
+        && source.nodata == Some(-32768)
+        && source.dst.map(|r| r.x) == Some(1_200_000_000)
+        && source.ratio == 1_000_000_000_000
+}
+
+// Whether the mosaic is read.
+fn is_mosaic(alloc: Global) -> bool {
+    match read(alloc, MOSAIC) {
         Ok(document) => {
-            assert_eq!(rt; document.size.w, 2401);
-            assert!(rt; document.srs.is_none());
-            match last_source(&document) {
-                Some(source) => {
-                    assert!(rt; source.complex && source.relative);
-                    assert_eq!(rt; source.file.as_str(), "N00E001.hgt");
-                    assert_eq!(rt; source.nodata, Some(-32768));
-                    assert_eq!(rt; source.dst.map(|r| r.x), Some(1_200_000_000));
-                    assert_eq!(rt; source.ratio, 1_000_000_000_000);
-                }
-                None => assert!(rt; false, "there are two sources"),
-            }
+            document.size.w == 2401
+                && document.srs.is_none()
+                && matches!(last_source(&document), Some(source) if is_second(source))
         }
-        Err(fault) => assert_eq!(rt; fault, VrtFault::Memory),
+        Err(fault) => fault == VrtFault::Memory,
     }
-    Ok(())
+}
+
+#[test]
+fn a_mosaic(rt: HostRuntime) {
+    assert!(rt; is_mosaic(rt.alloc()));
 }

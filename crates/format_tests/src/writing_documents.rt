@@ -1,6 +1,6 @@
 // Documents that are written, and names of sources.
 use outside::{Name, NameFault};
-use std::alloc::Global;
+use std::alloc::{AllocError, Global};
 use std::test::*;
 use vrt_profile::{Document, Source, VrtBand, read, relate, resolve, resolved_len, write};
 
@@ -86,18 +86,29 @@ const LAYOUTS: [(&[u8], &[u8]); 4] = [
     (SPARSE, FILLED),
 ];
 
-#[test]
-fn documents_are_written(rt: HostRuntime) -> Result<(), Fail> {
-    for (text, wanted) in LAYOUTS {
-        match read(rt.alloc(), text) {
-            Ok(document) => {
-                let mut out = Vec::new(rt.alloc());
-                write(&document, &mut out)?;
-                assert_eq!(rt; out.as_slice(), wanted);
-            }
-            Err(_) => assert!(rt; false, "it is a document"),
+// Whether this is written of a document.
+fn is_written(alloc: Global, text: &[u8], wanted: &[u8]) -> Result<bool, AllocError> {
+    let Ok(document) = read(alloc, text) else {
+        return Ok(false);
+    };
+    let mut out = Vec::new(alloc);
+    write(&document, &mut out)?;
+    Ok(out.as_slice() == wanted)
+}
+
+// The first of these documents of which something else is written, or how many documents there are.
+fn first_miswritten(alloc: Global) -> Result<usize, AllocError> {
+    for (at, (text, wanted)) in LAYOUTS.iter().enumerate() {
+        if !is_written(alloc, text, wanted)? {
+            return Ok(at);
         }
     }
+    Ok(LAYOUTS.len())
+}
+
+#[test]
+fn documents_are_written(rt: HostRuntime) -> Result<(), Fail> {
+    assert_eq!(rt; first_miswritten(rt.alloc())?, LAYOUTS.len());
     Ok(())
 }
 
@@ -128,27 +139,43 @@ fn with_source(alloc: Global, file: &[u8]) -> Result<Vec<u8>, Fail> {
     Ok(text)
 }
 
-#[test]
-fn names_are_resolved(rt: HostRuntime) -> Result<(), Fail> {
-    for (base, file, length, wanted) in RESOLVED {
-        let text = with_source(rt.alloc(), file)?;
-        match (
-            Name::read(rt.alloc(), base),
-            read(rt.alloc(), text.as_slice()),
-        ) {
-            (Ok(base), Ok(document)) => match first_source(&document) {
-                Some(source) => {
-                    assert_eq!(rt; resolved_len(&base, source), length);
-                    match resolve(rt.alloc(), &base, source) {
-                        Ok(name) => assert_eq!(rt; name.as_str(), wanted),
-                        Err(fault) => assert_eq!(rt; fault, NameFault::Memory),
-                    }
-                }
-                None => assert!(rt; false, "there is a source"),
-            },
-            _ => assert!(rt; false, "there is a name, and a document"),
+// Whether a source has this name in a document of that name.
+fn resolves(alloc: Global, base: &Name, source: &Source, length: u64, wanted: &str) -> bool {
+    let resolved = match resolve(alloc, base, source) {
+        Ok(name) => name.as_str() == wanted,
+        Err(fault) => fault == NameFault::Memory,
+    };
+    resolved_len(base, source) == length && resolved
+}
+
+// The same of the first source of the text of a document.
+fn resolves_first(alloc: Global, base: &str, text: &[u8], length: u64, wanted: &str) -> bool {
+    let Ok(base) = Name::read(alloc, base) else {
+        return false;
+    };
+    match read(alloc, text) {
+        Ok(document) => match first_source(&document) {
+            Some(source) => resolves(alloc, &base, source, length, wanted),
+            None => false,
+        },
+        Err(_) => false,
+    }
+}
+
+// The first of these sources that has another name, or how many sources there are.
+fn first_unresolved(alloc: Global) -> Result<usize, Fail> {
+    for (at, (base, file, length, wanted)) in RESOLVED.iter().enumerate() {
+        let text = with_source(alloc, file)?;
+        if !resolves_first(alloc, base, &text, *length, wanted) {
+            return Ok(at);
         }
     }
+    Ok(RESOLVED.len())
+}
+
+#[test]
+fn names_are_resolved(rt: HostRuntime) -> Result<(), Fail> {
+    assert_eq!(rt; first_unresolved(rt.alloc())?, RESOLVED.len());
     Ok(())
 }
 
@@ -163,17 +190,32 @@ const RELATED: [(&str, &str, bool, &str); 7] = [
     ("/m.vrt", "/a.bil", true, "a.bil"),
 ];
 
-#[test]
-fn names_are_related(rt: HostRuntime) -> Result<(), Fail> {
-    for (base, name, relative, wanted) in RELATED {
-        match (Name::read(rt.alloc(), base), Name::read(rt.alloc(), name)) {
-            (Ok(base), Ok(name)) => {
-                let (is_relative, text) = relate(rt.alloc(), &base, &name)?;
-                assert_eq!(rt; is_relative, relative);
-                assert_eq!(rt; text.as_str(), wanted);
-            }
-            _ => assert!(rt; false, "there are two names"),
+// Whether a document names a name so.
+fn relates(
+    alloc: Global,
+    base: &str,
+    name: &str,
+    relative: bool,
+    wanted: &str,
+) -> Result<bool, Fail> {
+    let base = Name::read(alloc, base)?;
+    let name = Name::read(alloc, name)?;
+    let (is_relative, text) = relate(alloc, &base, &name)?;
+    Ok(is_relative == relative && text.as_str() == wanted)
+}
+
+// The first of these names that is named otherwise, or how many names there are.
+fn first_unrelated(alloc: Global) -> Result<usize, Fail> {
+    for (at, (base, name, relative, wanted)) in RELATED.iter().enumerate() {
+        if !relates(alloc, base, name, *relative, wanted)? {
+            return Ok(at);
         }
     }
+    Ok(RELATED.len())
+}
+
+#[test]
+fn names_are_related(rt: HostRuntime) -> Result<(), Fail> {
+    assert_eq!(rt; first_unrelated(rt.alloc())?, RELATED.len());
     Ok(())
 }
