@@ -9,6 +9,8 @@ use Rattle.ascii_grid.specs.declared.faults.GridFault.TheVariants.{Memory}
 use Rattle.ascii_grid.specs.declared.parts.Stage.{Stage}
 use Rattle.ascii_grid.specs.Tokens.{is_white, next}
 use Rattle.ascii_grid.specs.Scan.{Scanned, State, Open, Read, Reaches, then_byte, fed, add_byte, add_token, is_open, passed_over, scanned, with_read}
+use Rattle.ascii_grid.specs.Row.{RowNow, Row, Reading, row_byte, row_fed, reading, put}
+use Rattle.std.proofs.lemmas.List.Sums.{fold-append}
 use Rattle.ascii_grid.proofs.Pieces.{fed_more, open_at, stuck_bytes}
 
 -- the place behind these bytes
@@ -19,6 +21,10 @@ behind (c ∷ cs) at = behind cs (next at)
 next_behind : (cs : List ℕ) (at : ℕ) → next (behind cs at) ≡ min (at + length cs + 1) 18446744073709551615
 next_behind [] at = omega arith
 next_behind (c ∷ cs) at = let rest = next_behind cs (next at) in omega arith
+
+length_more : (xs : List ℕ) (c : ℕ) → length (xs ++ c ∷ []) ≡ length xs + 1
+length_more [] c = refl
+length_more (x ∷ xs) c = let n = length_more xs c in omega arith
 
 -- bytes of a token that is open
 inside : (cs : List ℕ) (at begun x : ℕ) (xs : List ℕ) (r : Read) → ((k : ℕ) → k < length cs → is_white (get_or cs k 0) ≡ false) → length xs + length cs ≤ 64
@@ -32,10 +38,6 @@ inside (c ∷ cs) at begun x xs r dark few =
     rw (first, lt-ltb (length (x ∷ xs)) 65 less)
     (inside cs (next at) begun x (xs ++ c ∷ []) r (λ k more. dark (suc k) (omega arith)) count
     ∙ ap (λ (l : List ℕ). Ok (record { held = open_at (behind cs (next at)) begun (x ∷ l); read = r })) (append_assoc xs (c ∷ []) cs))
-  where
-    length_more : (xs : List ℕ) (c : ℕ) → length (xs ++ c ∷ []) ≡ length xs + 1
-    length_more [] c = refl
-    length_more (x ∷ xs) c = let n = length_more xs c in omega arith
 
 -- a whole token, and white space behind it
 pub token_fed : (run : List ℕ) (w at begun : ℕ) (r : Read) → 0 < length run → length run ≤ 64 → ((k : ℕ) → k < length run → is_white (get_or run k 0) ≡ false) → is_white w ≡ true
@@ -130,3 +132,45 @@ module _ (token : List ℕ) (c : ℕ) (some : 0 < length token) (few : length to
       let here : Reaches (with_read (Err f) new) (add_token old (record { at = held.at; text = token })) = subst (λ (p : ℕ). Reaches (with_read (Err f) new) (add_token old (record { at = p; text = token }))) at_is read in
       subst (λ (s : Scanned). Reaches (Err f) (fed s (token ++ c ∷ []))) is
       (whole_refused token held old new f c (closed (record { held = held; read = old }) (sym is)) some few dark white here)
+
+-- so with the values of a row
+row_inside : (cs : List ℕ) (at begun x : ℕ) (xs : List ℕ) (row : Row) → ((k : ℕ) → k < length cs → is_white (get_or cs k 0) ≡ false) → length xs + length cs ≤ 64
+    → row_fed (record { held = open_at at begun (x ∷ xs); row = row }) cs ≡ record { held = open_at (behind cs at) begun (x ∷ (xs ++ cs)); row = row }
+unfolding row_byte
+row_inside [] at begun x xs row dark few = (let f : List ℕ → Reading = λ l. record { held = open_at at begun (x ∷ l); row = row } in ap f (sym (append-nil xs)))
+row_inside (c ∷ cs) at begun x xs row dark few =
+    let first : is_white c ≡ false = dark 0 (omega arith) in
+    let less : length (x ∷ xs) < 65 = omega arith in
+    let count : length (xs ++ c ∷ []) + length cs ≤ 64 = (let n = length_more xs c in omega arith) in
+    let f : List ℕ → Reading = λ l. record { held = open_at (behind cs (next at)) begun (x ∷ l); row = row } in
+    rw (first, lt-ltb (length (x ∷ xs)) 65 less)
+    (row_inside cs (next at) begun x (xs ++ c ∷ []) row (λ k more. dark (suc k) (omega arith)) count ∙ ap f (append_assoc xs (c ∷ []) cs))
+
+row_token : (run : List ℕ) (w at begun : ℕ) (row : Row) → 0 < length run → length run ≤ 64 → ((k : ℕ) → k < length run → is_white (get_or run k 0) ≡ false) → is_white w ≡ true
+    → row_fed (record { held = open_at at begun []; row = row }) (run ++ w ∷ []) ≡ record { held = passed_over at (length run); row = put row run }
+unfolding row_byte
+row_token [] w at begun row some few dark white = absurd (omega arith)
+row_token (c ∷ cs) w at begun row some few dark white =
+    let first : is_white c ≡ false = dark 0 (omega arith) in
+    let place : next (behind cs (next at)) ≡ min (at + length (c ∷ cs) + 1) 18446744073709551615 = (let rest = next_behind cs (next at) in omega arith) in
+    let f : ℕ → Reading = λ p. record { held = open_at p at []; row = put row (c ∷ cs) } in
+    let last : row_fed (record { held = open_at (behind cs (next at)) at (c ∷ cs); row = row }) (w ∷ []) ≡ record { held = passed_over at (length (c ∷ cs)); row = put row (c ∷ cs) } = rw white (ap f place) in
+    let opens : row_fed (record { held = open_at at begun []; row = row }) (c ∷ cs) ≡ record { held = open_at (behind cs (next at)) at (c ∷ cs); row = row } =
+    rw first (row_inside cs (next at) at c [] row (λ k more. dark (suc k) (omega arith)) (omega arith)) in
+    fold-append row_byte (record { held = open_at at begun []; row = row }) (c ∷ cs) (w ∷ []) ∙ ap (λ (s : Reading). row_fed s (w ∷ [])) opens ∙ last
+
+-- a whole token whose value was put
+pub row_whole : (token : List ℕ) (c : ℕ) (held next_held : Open) (row new : Row) → held.text ≡ [] → 0 < length token → length token ≤ 64 → ((k : ℕ) → k < length token → is_white (get_or token k 0) ≡ false) → is_white c ≡ true
+    → next_held ≡ passed_over held.at (length token) → new ≡ put row token
+    → record { held = next_held; row = new } ≡ row_fed (record { held = held; row = row }) (token ++ c ∷ [])
+row_whole token c held next_held row new closed some few dark white held_is row_is =
+    let f : Open → Row → Reading = λ o r. record { held = o; row = r } in
+    ap (λ (o : Open). f o new) held_is ∙ ap (f (passed_over held.at (length token))) row_is
+    ∙ sym (row_token token c held.at held.begun row some few dark white)
+    ∙ ap (λ (l : List ℕ). row_fed (record { held = open_at held.at held.begun l; row = row }) (token ++ c ∷ [])) (sym closed)
+
+-- a further part of a row's bytes
+pub row_part : (start s t : Reading) (bytes : List ℕ) (at n : ℕ) → s ≡ row_fed start (take at bytes) → t ≡ row_fed s (take n (take (length bytes - at) (drop at bytes))) → t ≡ row_fed start (take (at + n) bytes)
+row_part start s t bytes at n so_far now =
+    now ∙ ap (λ (l : List ℕ). row_fed s (take n l)) (take_rest bytes at) ∙ ap (λ (x : Reading). row_fed x (take n (drop at bytes))) so_far
+    ∙ sym (fold-append row_byte start (take at bytes) (take n (drop at bytes))) ∙ ap (row_fed start) (sym (taken_more bytes at n))
