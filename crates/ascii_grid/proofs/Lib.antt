@@ -11,3 +11,4 @@ pub mod RowValues
 pub mod Writes
 pub mod Again
 mod Computes
+pub mod Runs

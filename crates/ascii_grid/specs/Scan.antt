@@ -1,5 +1,5 @@
 -- The scanner as a machine: what each byte changes.
-use Rattle.std.specs.Prelude.{ℕ, Bool, true, false, ◌+◌, ◌-◌, ◌*◌, List, [], ◌∷◌, ◌++◌, length, take, drop, Option, Some, None, Result, Ok, Err, ok_or, nat_lt, ◌<◌, ◌≤◌, ◌≡◌, ◌⊎◌, ◌==◌, if◌then◌else◌}
+use Rattle.std.specs.Prelude.{ℕ, Bool, true, false, ◌+◌, ◌-◌, ◌*◌, List, [], ◌∷◌, ◌++◌, length, take, drop, Option, Some, None, Result, Ok, Err, ok_or, nat_lt, ◌<◌, ◌≤◌, ◌≡◌, ◌⊎◌, ◌==◌, if◌then◌else◌, min}
 use Rattle.std.specs.List.{fold}
 use Rattle.lists_and_answers.specs.Answers.{◌>>=◌}
 use Rattle.ascii_grid.specs.declared.faults.GridFault.{GridFault}
@@ -66,6 +66,10 @@ opened o c = record { at = next o.at; begun = if is_open o.text then o.begun els
 
 abbrev pub passed : Open → Open
 passed o = record { at = next o.at; begun = o.begun; text = [] }
+
+-- behind a token of n bytes, whose first byte has this place, and a byte of white space
+abbrev pub passed_over : ℕ → ℕ → Open
+passed_over at n = record { at = min (at + n + 1) 18446744073709551615; begun = at; text = [] }
 
 -- what was read where the text ends here
 abbrev pub ended : State → Result Read GridFault

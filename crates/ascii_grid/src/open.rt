@@ -1,6 +1,6 @@
 // The token that is open while bytes come in pieces.
 ghost use Rattle.std.specs.Prelude.{◌≡◌, ℕ, ◌≤◌, length, Bool, []};
-ghost use Rattle.ascii_grid.specs.Scan.{Open, opened, passed, is_open};
+ghost use Rattle.ascii_grid.specs.Scan.{Open, opened, passed, passed_over, is_open};
 
 use crate::tokens::next;
 use std::marker::Model;
@@ -58,6 +58,22 @@ impl Open {
         ensures { result ≡ self.now.begun }
     {
         self.begun
+    }
+
+    /// Where the text stands.
+    pub fn place(&self) -> u64
+        ensures { result ≡ self.now.at }
+    {
+        self.at
+    }
+
+    /// Takes a whole token of so many bytes, where none is open, and the white space behind it.
+    pub fn pass_token(&mut self, len: usize)
+        ensures { self.new ≡ passed_over self.old.at len }
+    {
+        self.begun = self.at;
+        self.len = 0;
+        self.at = self.at.saturating_add(len as u64).saturating_add(1);
     }
 
     /// Takes a byte of a token.

@@ -1,10 +1,11 @@
 // The samples of a row, read in pieces.
-ghost use Rattle.std.specs.Prelude.{◌≡◌, ℕ, ℤ, ◌≤◌, ◌<◌, ◌+◌, length, true, false, [], ◌++◌, List, ◌||◌, ◌==◌, nat_le, min, drop};
+ghost use Rattle.std.specs.Prelude.{◌≡◌, ℕ, ℤ, ◌≤◌, ◌<◌, ◌+◌, length, take, get_or, true, false, [], ◌∷◌, ◌++◌, List, ◌||◌, ◌==◌, nat_le, min, drop};
+ghost use Rattle.ascii_grid.specs.Tokens.{is_white};
 ghost use Rattle.ascii_grid.specs.Scan.{is_open, StandsAt};
-ghost use Rattle.ascii_grid.specs.Row.{value_or_zero, reading, row_ended, row_byte, row_fed, padded, Fills, row_of, ended_in, ended_from, fresh, HasRead};
+ghost use Rattle.ascii_grid.specs.Row.{value_or_zero, put, reading, row_ended, row_byte, row_fed, padded, Fills, row_of, ended_in, ended_from, fresh, HasRead};
 
 use crate::open::Open;
-use crate::tokens::is_white;
+use crate::tokens::{dark_len, is_white};
 use crate::values::value_in;
 use geotransform::Sample;
 use std::marker::Model;
@@ -58,6 +59,45 @@ impl RowState {
         self.held.pass();
     }
 
+    // Reads a whole token, where none is open, and a byte of white space behind it.
+    fn add_whole(&mut self, token: &[u8], out: &mut [Sample])
+        requires filled { self.old.filled ≤ length out.old }
+        requires some { 0 < length token.now }
+        requires few { length token.now ≤ 64 }
+        requires dark { (k : ℕ) → k < length token.now → is_white (get_or token.now k 0) ≡ false }
+        requires closed { self.old.held.text ≡ [] }
+        ensures fed { (c : ℕ) → is_white c ≡ true → reading self.new out.new ≡ row_fed (reading self.old out.old) (token.now ++ c ∷ []) }
+        ensures over { self.new.over ≡ self.old.over }
+        ensures room { self.new.filled ≤ length out.new }
+        ensures size { length out.new ≡ length out.old }
+    {
+        self.filled = put(token, self.filled, out);
+        self.held.pass_token(token.len());
+    }
+
+    // Reads the first of these bytes: a whole token with the white space behind it, where none is open,
+    // else one byte. How many it read.
+    fn add_part(&mut self, bytes: &[u8], out: &mut [Sample]) -> usize
+        requires filled { self.old.filled ≤ length out.old }
+        requires some { 0 < length bytes.now }
+        ensures some { 0 < result }
+        ensures within { result ≤ length bytes.now }
+        ensures fed { reading self.new out.new ≡ row_fed (reading self.old out.old) (take result bytes.now) }
+        ensures over { self.new.over ≡ self.old.over }
+        ensures room { self.new.filled ≤ length out.new }
+        ensures size { length out.new ≡ length out.old }
+    {
+        if !self.held.is_open() {
+            let n = dark_len(bytes);
+            if n > 0 && n <= 64 && n < bytes.len() {
+                self.add_whole(&bytes[..n], out);
+                return n + 1;
+            }
+        }
+        self.add(bytes[0], out);
+        1
+    }
+
     // Reads the bytes of a piece.
     fn take(&mut self, bytes: &[u8], out: &mut [Sample])
         requires { self.old.filled ≤ length out.old }
@@ -66,8 +106,9 @@ impl RowState {
         ensures room { self.new.filled ≤ length out.new }
         ensures size { length out.new ≡ length out.old }
     {
-        for c in bytes {
-            self.add(*c, out);
+        let mut at = 0;
+        while at < bytes.len() {
+            at += self.add_part(&bytes[at..], out);
         }
     }
 
@@ -153,6 +194,21 @@ fn value_or_zero(text: &[u8]) -> Sample
     value_in(0, text).unwrap_or(0)
 }
 
+// Puts the value of a token into the row, where there is room.
+fn put(token: &[u8], filled: usize, out: &mut [Sample]) -> usize
+    requires { filled ≤ length out.old }
+    ensures row { record { filled = result; out = out.new } ≡ put (record { filled = filled; out = out.old }) token.now }
+    ensures room { result ≤ length out.new }
+    ensures size { length out.new ≡ length out.old }
+{
+    if filled < out.len() {
+        out[filled] = value_or_zero(token);
+        filled + 1
+    } else {
+        filled
+    }
+}
+
 // Puts the value of the open token into the row, where there is one and there is room.
 fn ended(held: &Open, filled: usize, out: &mut [Sample]) -> usize
     requires { filled ≤ length out.old }
@@ -160,9 +216,8 @@ fn ended(held: &Open, filled: usize, out: &mut [Sample]) -> usize
     ensures room { result ≤ length out.new }
     ensures size { length out.new ≡ length out.old }
 {
-    if held.is_open() && filled < out.len() {
-        out[filled] = value_or_zero(held.text());
-        filled + 1
+    if held.is_open() {
+        put(held.text(), filled, out)
     } else {
         filled
     }

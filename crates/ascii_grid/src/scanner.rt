@@ -1,10 +1,11 @@
 // The scanner of a grid's text.
-ghost use Rattle.std.specs.Prelude.{◌≡◌, ℕ, [], ◌++◌, List, Ok, Err, IfOk, length, ◌<◌, ◌≤◌, ◌+◌, ◌*◌};
+ghost use Rattle.std.specs.Prelude.{◌≡◌, ℕ, [], ◌∷◌, ◌++◌, List, Ok, Err, IfOk, length, take, get_or, true, false, ◌<◌, ◌≤◌, ◌+◌, ◌*◌};
 ghost use Rattle.lists_and_answers.specs.Answers.{Gives};
 ghost use Rattle.ascii_grid.specs.Faults.{IsMemory};
 ghost use Rattle.ascii_grid.specs.Grid.{grid_head, head_with, IsHead};
+ghost use Rattle.ascii_grid.specs.Tokens.{is_white};
 ghost use Rattle.ascii_grid.specs.declared.parts.Stage.TheVariants.{AtKey};
-ghost use Rattle.ascii_grid.specs.Scan.{then_byte, fed, start, Reaches, answer_of, grid_after, IsAt, with_read, ended, body_closed, closed, Reads, IsFaultOf, HasScanned, StandsAt, IsFaultIn};
+ghost use Rattle.ascii_grid.specs.Scan.{State, then_byte, fed, start, Reaches, answer_of, grid_after, IsAt, with_read, ended, body_closed, closed, Reads, IsFaultOf, HasScanned, StandsAt, IsFaultIn};
 
 use crate::faults::GridFault;
 use crate::head::{GridHead, Starts};
@@ -12,7 +13,7 @@ use crate::keys::shape_of;
 use crate::open::Open;
 use crate::parts::{Found, Shape, Stage};
 use crate::steps::{add_token, needed};
-use crate::tokens::is_white;
+use crate::tokens::{dark_len, is_white};
 use geotransform::Size;
 use lists_and_answers::Items;
 use std::alloc::Global;
@@ -92,13 +93,53 @@ impl Scanner {
         }
     }
 
+    // Takes a whole token, where none is open, and a byte of white space behind it.
+    fn add_whole(&mut self, token: &[u8])
+        requires some { 0 < length token.now }
+        requires few { length token.now ≤ 64 }
+        requires dark { (k : ℕ) → k < length token.now → is_white (get_or token.now k 0) ≡ false }
+        requires closed { (s : State) → self.old ≡ Ok s → s.held.text ≡ [] }
+        ensures state { (c : ℕ) → is_white c ≡ true → Reaches self.new (fed self.old (token.now ++ c ∷ [])) }
+        ensures stays { (f : GridFault) → self.old ≡ Err f → self.new ≡ Err f }
+    {
+        if self.fault.is_some() {
+            return;
+        }
+        let at = self.held.place();
+        match add_token(&mut self.stage, &mut self.rows, at, token) {
+            Ok(()) => self.held.pass_token(token.len()),
+            Err(fault) => self.fault = Some(fault),
+        }
+    }
+
+    // Takes the first of these bytes: a whole token with the white space behind it, where none is open,
+    // else one byte. How many it took.
+    fn add_part(&mut self, bytes: &[u8]) -> usize
+        requires { 0 < length bytes.now }
+        ensures some { 0 < result }
+        ensures within { result ≤ length bytes.now }
+        ensures state { Reaches self.new (fed self.old (take result bytes.now)) }
+        ensures stays { (f : GridFault) → self.old ≡ Err f → self.new ≡ Err f }
+    {
+        if self.fault.is_none() && !self.held.is_open() {
+            let n = dark_len(bytes);
+            if n > 0 && n <= 64 && n < bytes.len() {
+                self.add_whole(&bytes[..n]);
+                return n + 1;
+            }
+        }
+        self.add(bytes[0]);
+        1
+    }
+
     // Takes the bytes of a piece.
     fn take(&mut self, bytes: &[u8])
         ensures state { Reaches self.new (fed self.old bytes.now) }
         ensures stays { (f : GridFault) → self.old ≡ Err f → self.new ≡ Err f }
     {
-        for c in bytes {
-            self.add(*c);
+        let mut at = 0;
+        while at < bytes.len() {
+            at += self.add_part(&bytes[at..]);
         }
     }
 

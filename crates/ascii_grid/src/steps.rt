@@ -69,6 +69,7 @@ fn add_value(
 }
 
 // What a token in a key's place says: a key, or the first value of the body.
+#[inline(never)]
 #[tactic(auto, unfolding(crate::specs::Scan::step), using(crate::proofs::Bodies::body_begins))]
 fn after_key(found: Found, rows: &mut Starts, at: u64, text: &[u8]) -> Result<Stage, GridFault>
     requires { rows.old ≡ [] }

@@ -1,5 +1,5 @@
 // Bytes between tokens, and their places.
-ghost use Rattle.std.specs.Prelude.{◌≡◌};
+ghost use Rattle.std.specs.Prelude.{◌≡◌, ◌≤◌, ◌<◌, ℕ, length, get_or, true, false};
 ghost use Rattle.ascii_grid.specs.Tokens.{is_white, next};
 
 /// Whether the byte is white space.
@@ -14,4 +14,18 @@ pub fn next(at: u64) -> u64
     ensures { result ≡ next at }
 {
     at.saturating_add(1)
+}
+
+/// How many bytes stand in front of the first white one, or of the end.
+pub fn dark_len(bytes: &[u8]) -> usize
+    ensures within { result ≤ length bytes.now }
+    ensures dark { (k : ℕ) → k < result → is_white (get_or bytes.now k 0) ≡ false }
+    ensures white { result < length bytes.now → is_white (get_or bytes.now result 0) ≡ true }
+{
+    for i in 0..bytes.len() {
+        if is_white(bytes[i]) {
+            return i;
+        }
+    }
+    bytes.len()
 }

@@ -1,5 +1,5 @@
 // What a token says.
-ghost use Rattle.std.specs.Prelude.{◌≡◌, ◌==◌, min, Some, None, if◌then◌else◌};
+ghost use Rattle.std.specs.Prelude.{◌≡◌, ◌≤◌, ◌+◌, ◌-◌, ◌*◌, ◌==◌, min, Some, None, if◌then◌else◌};
 ghost use Rattle.std.specs.List.{list_all};
 ghost use Rattle.geotransform.specs.Decimal.{number, signed};
 ghost use Rattle.ascii_grid.specs.Values.{is_same, is_body_start, side_in, coordinate_in, step_in, when_value, nodata_in, is_whole_end, value_in, is_value};
@@ -101,15 +101,28 @@ fn is_whole_end(text: &[u8]) -> bool
     }
 }
 
+// A number with one more digit; one that is past the band stays.
+fn with_digit(n: u64, c: u8) -> u64
+    requires { n ≤ 21474836735 }
+    ensures value { min result 2147483649 ≡ min (n * 10 + (c - 48)) 2147483649 }
+    ensures bound { result ≤ 21474836735 }
+{
+    if n < 2_147_483_649 {
+        n * 10 + u64::from(c.saturating_sub(b'0'))
+    } else {
+        n
+    }
+}
+
 // The number that the digits write, or one that is past the band where it is greater.
 fn capped(digits: &[u8]) -> u64
     ensures { result ≡ min (number digits.now) 2147483649 }
 {
     let mut n = 0u64;
     for c in digits {
-        n = (n * 10 + u64::from(c.saturating_sub(b'0'))).min(2_147_483_649);
+        n = with_digit(n, *c);
     }
-    n
+    n.min(2_147_483_649)
 }
 
 // The number with this sign and these digits, where it is one of the band.

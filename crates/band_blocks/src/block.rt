@@ -78,9 +78,23 @@ impl Block {
         Ok(block)
     }
 
+    // Puts as many samples as the block has, each clamped to the range of its type.
+    fn clamp_all(&mut self, samples: &[Sample])
+        requires count { length samples.now ≡ length self.old.samples }
+        ensures samples { self.new ≡ block_view self.old.kind (map (clamp self.old.kind) samples.now) }
+    {
+        match &mut self.cells {
+            Cells::Bytes(cells) => return clamp_cells(samples, cells),
+            Cells::UInts16(cells) => return clamp_cells(samples, cells),
+            Cells::Ints16(cells) => return clamp_cells(samples, cells),
+            Cells::UInts32(cells) => return clamp_cells(samples, cells),
+            Cells::Ints32(cells) => return clamp_cells(samples, cells),
+        }
+    }
+
     /// A block of these samples, each clamped to the range of the type. It is refused where memory
     /// is.
-    #[tactic(auto, using(crate::proofs::Cells::clamped_in))]
+    #[tactic(auto, using(crate::proofs::Cells::zeros_long))]
     pub fn pack_clamped(
         alloc: Global,
         kind: PixelType,
@@ -89,14 +103,10 @@ impl Block {
         requires few { length samples.now < 2 ^ 32 }
         ensures samples { IfOk result (λ block. block ≡ block_view kind (map (clamp kind) samples.now)) }
     {
-        let cells = match kind {
-            PixelType::Byte => Cells::Bytes(clamp_cells(alloc, samples)?),
-            PixelType::UInt16 => Cells::UInts16(clamp_cells(alloc, samples)?),
-            PixelType::Int16 => Cells::Ints16(clamp_cells(alloc, samples)?),
-            PixelType::UInt32 => Cells::UInts32(clamp_cells(alloc, samples)?),
-            PixelType::Int32 => Cells::Ints32(clamp_cells(alloc, samples)?),
-        };
-        Ok(Block { cells })
+        let count = samples.len() as u32;
+        let mut block = Block::new(alloc, kind, count)?;
+        block.clamp_all(samples);
+        Ok(block)
     }
 
     /// The type of the samples.
