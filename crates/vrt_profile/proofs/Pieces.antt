@@ -1,9 +1,10 @@
 -- Texts that are written piece by piece.
-use Rattle.std.proofs.Common.{◌≡◌, ℕ, ℤ, Bool, true, false, cond, List, [], ◌∷◌, ◌++◌, ap, ◌∙◌, sym, subst, append_assoc, append-nil, arith, Result, Ok, Err, flat_map, unsigned_abs, codes, ◌≢◌, ne_eqb}
+use Rattle.std.proofs.Common.{◌≡◌, ◌<◌, ◌+◌, length, take, get_or, ℕ, ℤ, Bool, true, false, cond, List, [], ◌∷◌, ◌++◌, ap, ◌∙◌, sym, subst, append_assoc, append-nil, arith, Result, Ok, Err, flat_map, unsigned_abs, codes, ◌≢◌, ne_eqb}
 use Rattle.std.specs.Prelude.{OnErr, OnOk, ◌-ℤ◌, ◌==◌}
 use Rattle.std.proofs.lemmas.Bool.Decides.{nat_tests}
 use Rattle.std.proofs.lemmas.Int.{ints}
 use Rattle.std.proofs.lemmas.Grind.{flat_map-append}
+use Rattle.std.proofs.lemmas.List.{take_more}
 use Rattle.lists_and_answers.specs.Growth.{KeepsFront}
 use Rattle.geotransform.proofs.Written.{keeps_itself, keeps_append, keeps_then}
 use Rattle.vrt_profile.specs.Items.{Pair}
@@ -31,6 +32,12 @@ keeps_same a b p = subst (λ (x : List ℕ). KeepsFront a x) (sym p) (keeps_itse
 
 pub keeps_more_two : (a b c d e f : List ℕ) → b ≡ a ++ e → c ≡ b ++ f → KeepsFront c d → KeepsFront a d
 keeps_more_two a b c d e f p q h = keeps_then a c d (e ++ f) (two a b c e f p q) h
+
+-- what the first items of a list are written as, and the next one
+pub one_piece_more : (f : ℕ → List ℕ) (xs old before after : List ℕ) (i d : ℕ) → i < length xs → before ≡ old ++ flat_map f (take i xs) → after ≡ before ++ f (get_or xs i d) → after ≡ old ++ flat_map f (take (i + 1) xs)
+one_piece_more f xs old before after i d less p q =
+    two old before after (flat_map f (take i xs)) (f (get_or xs i d)) p q
+    ∙ ap (λ (x : List ℕ). old ++ x) (sym (ap (flat_map f) (take_more xs i d less) ∙ flat_map-append f (take i xs) (get_or xs i d ∷ []) ∙ ap (λ (x : List ℕ). flat_map f (take i xs) ++ x) (append-nil (f (get_or xs i d)))))
 
 -- elements
 pub opened : (a b c e name : List ℕ) → b ≡ a ++ (e ++ 60 ∷ name) → c ≡ b ++ 62 ∷ [] → c ≡ a ++ (e ++ (60 ∷ name ++ 62 ∷ []))

@@ -54,9 +54,18 @@ band_part_of name =
     if is_equal name (codes "ComplexSource") then band_part.Complex else (
     if is_past name then band_part.Past else band_part.Unknown)))
 
--- what changes a pixel's value: in a SimpleSource it is read past
-abbrev pub scaling_part : Bool → NumberPart → SourcePart
-scaling_part complex part = if complex then source_part.Number part else source_part.Past
+-- an element that changes a pixel's value
+abbrev pub scaling_of : List ℕ → Option NumberPart
+scaling_of name =
+    if is_equal name (codes "NODATA") then Some number_part.NoData else (
+    if is_equal name (codes "ScaleOffset") then Some number_part.Offset else (
+    if is_equal name (codes "ScaleRatio") then Some number_part.Ratio else (
+    if is_equal name (codes "LUT") then Some number_part.Lut else None)))
+
+-- it is read past in a SimpleSource
+abbrev pub scaling_part : Bool → Option NumberPart → SourcePart
+scaling_part complex None = source_part.Unknown
+scaling_part complex (Some part) = if complex then source_part.Number part else source_part.Past
 
 abbrev pub source_part_of : Bool → List ℕ → SourcePart
 source_part_of complex name =
@@ -64,11 +73,7 @@ source_part_of complex name =
     if is_equal name (codes "SourceBand") then source_part.Number number_part.Band else (
     if is_equal name (codes "SourceProperties") then source_part.Past else (
     if is_equal name (codes "SrcRect") then source_part.Src else (
-    if is_equal name (codes "DstRect") then source_part.Dst else (
-    if is_equal name (codes "NODATA") then scaling_part complex number_part.NoData else (
-    if is_equal name (codes "ScaleOffset") then scaling_part complex number_part.Offset else (
-    if is_equal name (codes "ScaleRatio") then scaling_part complex number_part.Ratio else (
-    if is_equal name (codes "LUT") then scaling_part complex number_part.Lut else source_part.Unknown))))))))
+    if is_equal name (codes "DstRect") then source_part.Dst else scaling_part complex (scaling_of name)))))
 
 -- In an element that holds text or attributes alone any element is unknown.
 abbrev pub childless : {A : Type 0} → Option ℕ → A → Result A VrtFault

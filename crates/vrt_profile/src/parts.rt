@@ -1,6 +1,6 @@
 // The elements of a document by their names.
 ghost use Rattle.std.specs.Prelude.{◌≡◌};
-ghost use Rattle.vrt_profile.specs.Means.{is_remark, is_picture, is_past, dataset_part_of, band_part_of, scaling_part, source_part_of};
+ghost use Rattle.vrt_profile.specs.Means.{is_remark, is_picture, is_past, dataset_part_of, band_part_of, scaling_of, scaling_part, source_part_of};
 
 use crate::items::is_equal;
 
@@ -108,14 +108,31 @@ pub fn band_part_of(name: &[u8]) -> BandPart
     }
 }
 
-// A part that changes pixels, which is read past in a SimpleSource.
-fn scaling_part(complex: bool, part: NumberPart) -> SourcePart
+// The element of this name, where it changes pixels.
+fn scaling_of(name: &[u8]) -> Option<NumberPart>
+    ensures part { result ≡ scaling_of name.now }
+{
+    if is_equal(name, b"NODATA") {
+        Some(NumberPart::NoData)
+    } else if is_equal(name, b"ScaleOffset") {
+        Some(NumberPart::Offset)
+    } else if is_equal(name, b"ScaleRatio") {
+        Some(NumberPart::Ratio)
+    } else if is_equal(name, b"LUT") {
+        Some(NumberPart::Lut)
+    } else {
+        None
+    }
+}
+
+// A part that changes pixels is read past in a SimpleSource.
+fn scaling_part(complex: bool, part: Option<NumberPart>) -> SourcePart
     ensures part { result ≡ scaling_part complex part }
 {
-    if complex {
-        SourcePart::Number(part)
-    } else {
-        SourcePart::Past
+    match part {
+        Some(part) if complex => SourcePart::Number(part),
+        Some(_) => SourcePart::Past,
+        None => SourcePart::Unknown,
     }
 }
 
@@ -133,15 +150,7 @@ pub fn source_part_of(complex: bool, name: &[u8]) -> SourcePart
         SourcePart::Src
     } else if is_equal(name, b"DstRect") {
         SourcePart::Dst
-    } else if is_equal(name, b"NODATA") {
-        scaling_part(complex, NumberPart::NoData)
-    } else if is_equal(name, b"ScaleOffset") {
-        scaling_part(complex, NumberPart::Offset)
-    } else if is_equal(name, b"ScaleRatio") {
-        scaling_part(complex, NumberPart::Ratio)
-    } else if is_equal(name, b"LUT") {
-        scaling_part(complex, NumberPart::Lut)
     } else {
-        SourcePart::Unknown
+        scaling_part(complex, scaling_of(name))
     }
 }

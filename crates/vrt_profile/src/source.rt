@@ -338,22 +338,33 @@ fn past_child<'a>(
     }
 }
 
-// The parts with a child element of a source.
-fn source_child<'a>(
-    alloc: Global,
+// Where the elements in a source stand: in a document of so many bytes, so deep, in a ComplexSource or a SimpleSource.
+#[derive(Clone, Copy)]
+struct SourceLevel {
     total: usize,
     depth: usize,
     complex: bool,
+}
+
+// The parts with a child element of a source.
+fn source_child<'a>(
+    alloc: Global,
+    level: SourceLevel,
     parts: SourceParts,
     place: u64,
     tag: Tag,
     bytes: &'a [u8],
 ) -> Result<(Result<SourceParts, VrtFault>, &'a [u8]), VrtFault>
-    requires within { length bytes.now ≤ total }
-    requires depth { depth < 64 }
-    ensures child { Gives (λ x. (x.0, x.1.now)) result (read_as (source_step complex parts place (tag_view tag.entry)) (inner total depth (tag_view tag.entry) bytes.now)) }
+    requires within { length bytes.now ≤ level.total }
+    requires depth { level.depth < 64 }
+    ensures child { Gives (λ x. (x.0, x.1.now)) result (read_as (source_step level.complex parts place (tag_view tag.entry)) (inner level.total level.depth (tag_view tag.entry) bytes.now)) }
     ensures shorter { IfOk result (λ x. length x.1.now ≤ length bytes.now) }
 {
+    let SourceLevel {
+        total,
+        depth,
+        complex,
+    } = level;
     match source_part_of(complex, tag.name) {
         SourcePart::File => match file_element(alloc, total, depth, tag, bytes) {
             Ok((file, rest)) => Ok((with_file(parts, file), rest)),
@@ -379,22 +390,20 @@ fn source_child<'a>(
 // The parts so far with a child element, which is read past once there is a fault.
 fn source_next<'a>(
     alloc: Global,
-    total: usize,
-    depth: usize,
-    complex: bool,
+    level: SourceLevel,
     kept: Result<SourceParts, VrtFault>,
     place: u64,
     tag: Tag,
     bytes: &'a [u8],
 ) -> Result<(Result<SourceParts, VrtFault>, &'a [u8]), VrtFault>
-    requires within { length bytes.now ≤ total }
-    requires depth { depth < 64 }
-    ensures child { Gives (λ x. (x.0, x.1.now)) result (read_as (stepped (source_step complex) kept place (tag_view tag.entry)) (inner total depth (tag_view tag.entry) bytes.now)) }
+    requires within { length bytes.now ≤ level.total }
+    requires depth { level.depth < 64 }
+    ensures child { Gives (λ x. (x.0, x.1.now)) result (read_as (stepped (source_step level.complex) kept place (tag_view tag.entry)) (inner level.total level.depth (tag_view tag.entry) bytes.now)) }
     ensures shorter { IfOk result (λ x. length x.1.now ≤ length bytes.now) }
 {
     match kept {
-        Ok(parts) => source_child(alloc, total, depth, complex, parts, place, tag, bytes),
-        Err(fault) => match past_element(alloc, total, depth, tag, bytes) {
+        Ok(parts) => source_child(alloc, level, parts, place, tag, bytes),
+        Err(fault) => match past_element(alloc, level.total, level.depth, tag, bytes) {
             Ok(rest) => Ok((Err(fault), rest)),
             Err(error) => Err(error),
         },
@@ -440,7 +449,12 @@ fn source_nodes<'a>(
             Item::Bad | Item::Close(_, _) => return Err(VrtFault::BadText(place)),
             Item::Open(_, _) if depth >= 64 => return Err(VrtFault::Limit),
             Item::Open(tag, more) => {
-                match source_next(alloc, total, depth, complex, seen.kept, place, tag, more) {
+                let level = SourceLevel {
+                    total,
+                    depth,
+                    complex,
+                };
+                match source_next(alloc, level, seen.kept, place, tag, more) {
                     Ok((kept, behind)) => {
                         seen.kept = kept;
                         rest = behind;

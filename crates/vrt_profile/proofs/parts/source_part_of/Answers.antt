@@ -1,0 +1,10 @@
+use Rattle.std.proofs.Common.{◌≡◌, ◌∙◌, ap}
+use Rattle.vrt_profile.specs.Means.{scaling_part}
+use Rattle.vrt_profile.proofs.parts.source_part_of.Goals as goal
+
+pub returns-else-is_equal-5 : goal.returns-else-is_equal-5
+returns-else-is_equal-5 c = record {
+  part =
+      rw (← c.if-is_equal.ensures.same, ← c.if-is_equal-2.ensures.same, ← c.if-is_equal-3.ensures.same, ← c.if-is_equal-4.ensures.same, ← c.if-is_equal-5.ensures.same)
+      (c.scaling_part.ensures.part ∙ ap (scaling_part c.args.complex) c.scaling_of.ensures.part);
+}
