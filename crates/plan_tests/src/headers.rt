@@ -1,0 +1,89 @@
+// The headers of raw data that is planned.
+use crate::asking::{Ask, Inside, Out, Seen, Word, head, options};
+use esri_hdr::write;
+use std::alloc::{AllocError, Global};
+use std::test::*;
+use translate_plan::{Driver, Plan, plan};
+
+const FIVE: &str = "<VRTDataset rasterXSize=\"5\" rasterYSize=\"1\">\
+    <VRTRasterBand dataType=\"Byte\"></VRTRasterBand></VRTDataset>";
+
+/// Three lines of two columns and two bands, whose upper left corner is (0, 10).
+const PLACED: &str = "<VRTDataset rasterXSize=\"2\" rasterYSize=\"3\">\
+    <GeoTransform>0,1,0,10,0,-0.5</GeoTransform>\
+    <VRTRasterBand dataType=\"Int16\"></VRTRasterBand>\
+    <VRTRasterBand dataType=\"Int16\"></VRTRasterBand></VRTDataset>";
+
+/// The text of the source, what is asked for, and the header.
+type Row<'a> = (&'a str, Ask<'a>, &'a [u8]);
+
+const HEADERS: [Row<'static>; 2] = [
+    (
+        FIVE,
+        (
+            Out::Raw,
+            "o.bil",
+            &[],
+            Seen::Pixels(3, 0, 4, 1),
+            None,
+            Word::Number(9),
+            None,
+            Inside::Anywhere,
+        ),
+        b"BYTEORDER      I\nLAYOUT         BIL\nNROWS          1\nNCOLS          4\nNBANDS         1\n\
+        NBITS          8\nSKIPBYTES      0\nBANDROWBYTES   4\nTOTALROWBYTES  4\nBANDGAPBYTES   0\n\
+        PIXELTYPE      UNSIGNEDINT\nNODATA         9\n",
+    ),
+    (
+        PLACED,
+        (
+            Out::Raw,
+            "o.bil",
+            &[],
+            Seen::All,
+            None,
+            Word::Nothing,
+            None,
+            Inside::Anywhere,
+        ),
+        b"BYTEORDER      I\nLAYOUT         BIL\nNROWS          3\nNCOLS          2\nNBANDS         2\n\
+        NBITS          16\nSKIPBYTES      0\nBANDROWBYTES   4\nTOTALROWBYTES  8\nBANDGAPBYTES   0\n\
+        PIXELTYPE      SIGNEDINT\nULXMAP         0.5\nULYMAP         9.75\nXDIM           1\nYDIM           0.5\n",
+    ),
+];
+
+fn is_written(alloc: Global, plan: &Plan, wanted: &[u8]) -> Result<bool, AllocError> {
+    match plan.driver {
+        Driver::EHdr => {
+            let mut out = Vec::new(alloc);
+            write(&plan.raw_head(), &mut out)?;
+            Ok(out.as_slice() == wanted)
+        }
+        Driver::Dted { .. } | Driver::SrtmHgt | Driver::AaiGrid | Driver::Vrt => Ok(false),
+    }
+}
+
+fn row_holds(alloc: Global, row: Row<'_>) -> Result<bool, Fail> {
+    let (text, ask, wanted) = row;
+    let options = options(alloc, ask)?;
+    let head = head(alloc, text)?;
+    match plan(&options, &head) {
+        Ok(plan) => Ok(is_written(alloc, &plan, wanted)?),
+        Err(_) => Ok(false),
+    }
+}
+
+fn wrong_row(alloc: Global) -> Result<Option<usize>, Fail> {
+    for at in 0..HEADERS.len() {
+        if !row_holds(alloc, HEADERS[at])? {
+            return Ok(Some(at));
+        }
+    }
+    Ok(None)
+}
+
+#[test]
+fn heads_of_raw_data(rt: HostRuntime) -> Result<(), Fail> {
+    assert_eq!(rt; wrong_row(rt.alloc())?, None);
+    Ok(())
+}

@@ -1,0 +1,63 @@
+-- What a translation is asked for.
+use Rattle.std.specs.Prelude.{◌<◌, ◌≤◌, ◌≤ℤ◌, ◌^◌, ◌-◌, ℕ, ℤ, pos, neg_ℤ, Bool, List, All, Option, IfSome, unsigned_abs}
+use Rattle.geotransform.specs.Decimal.{IsRead}
+use Rattle.geotransform.specs.declared.types.PixelType.{PixelType}
+use Rattle.esri_hdr.specs.declared.parts.Layout.{Layout}
+use Rattle.catalog.specs.declared.nodata.NodataWord.{NodataWord}
+use Rattle.catalog.specs.declared.nodata.NodataWord.TheVariants as nodata
+use Rattle.translate_plan.specs.declared.options.Driver.{Driver}
+use Rattle.translate_plan.specs.declared.options.Driver.TheVariants as drivers
+use Rattle.translate_plan.specs.declared.options.View.{View}
+use Rattle.translate_plan.specs.declared.options.View.TheVariants as views
+use Rattle.translate_plan.specs.declared.options.OutSize.{OutSize}
+use Rattle.translate_plan.specs.declared.options.OutSize.TheVariants as sizes
+
+-- the driver, the layout of raw data, the name and the bands of the output, counted from 1, the window, the size, the NODATA, the type, and whether the window may leave the raster in part or as a whole
+pub record Options : Type 0 where
+  pub driver : Driver
+  pub layout : Layout
+  pub out : List ℕ
+  pub bands : List ℕ
+  pub view : View
+  pub outsize : Option (OutSize × OutSize)
+  pub nodata : NodataWord
+  pub kind : Option PixelType
+  pub epo : Bool
+  pub eco : Bool
+
+-- a level of cells
+abbrev pub IsDriver : Driver → Type 0
+IsDriver drivers.EHdr = Unit {0}
+IsDriver (drivers.Dted level) = level ≤ 2
+IsDriver drivers.SrtmHgt = Unit {0}
+IsDriver drivers.AaiGrid = Unit {0}
+IsDriver drivers.Vrt = Unit {0}
+
+-- a number of up to nine digits
+abbrev pub IsWhole : ℤ → Type 0
+IsWhole n = unsigned_abs n < 10 ^ 9
+
+-- pixels are whole numbers of up to nine digits, places are numbers that were read
+abbrev pub IsView : View → Type 0
+IsView views.Whole = Unit {0}
+IsView (views.Pixels x y w h) = IsWhole x × IsWhole y × IsWhole w × IsWhole h
+IsView (views.Places ulx uly lrx lry) = IsRead ulx × IsRead uly × IsRead lrx × IsRead lry
+
+-- a number of up to nine digits
+abbrev pub IsOutSize : OutSize → Type 0
+IsOutSize (sizes.Count n) = n < 10 ^ 9
+IsOutSize (sizes.Percent n) = n < 10 ^ 9
+
+-- a number of 64 bits
+abbrev pub IsWord : NodataWord → Type 0
+IsWord nodata.Absent = Unit {0}
+IsWord nodata.Remove = Unit {0}
+IsWord (nodata.Number n) = (neg_ℤ (pos (2 ^ 63)) ≤ℤ n) × (n ≤ℤ pos (2 ^ 63 - 1))
+
+-- the ranges in which the values of words are
+pub record IsOptions (o : Options) : Type 0 where
+  pub driver : IsDriver o.driver
+  pub bands : All (λ b. (0 < b) × (b ≤ 256)) o.bands
+  pub view : IsView o.view
+  pub outsize : IfSome o.outsize (λ s. IsOutSize s.0 × IsOutSize s.1)
+  pub nodata : IsWord o.nodata
