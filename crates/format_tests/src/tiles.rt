@@ -150,8 +150,8 @@ const MOVES: [(i128, u32, bool); 7] = [
     (0, 1201, false),
 ];
 
-// The tile that a raster of 3601 lines is, whose place is that of the tile at 47 degrees north, 11 degrees east moved so
-// far.
+// The tile that a raster of 3601 lines is, whose place is that of the tile at 47 degrees north, 11 degrees east, moved
+// so far.
 fn fitting(ticks: i128, w: u32) -> Option<Corner> {
     let geo = moved(transform(read_name("N47E011")?, 3601), ticks)?;
     fit(Size { w, h: 3601 }, &geo).ok()

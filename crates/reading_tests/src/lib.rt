@@ -1,6 +1,6 @@
-// Tests of `outside`, of `catalog` and of what reads blocks and windows, by their public calls alone: names, folders and
-// streams, heads and walks, blocks with their loads, the pool and lanes. A check of tests proves the crate that they
-// stand in once more, so they have one of their own.
+// Tests of `outside`, of `catalog` and of what reads blocks and windows, by their public calls alone: names, folders
+// and streams, heads and walks, blocks with their loads, the pool and lanes. A check of tests proves the crate that
+// they stand in once more, so they have one of their own.
 #![tactic(auto)]
 
 #[cfg(test)]

@@ -127,7 +127,7 @@ fn mosaics(rt: HostRuntime) -> Result<(), Fail> {
 // A source whose name would be as many bytes long before it is normalised, and what is told.
 const NAMES: [(usize, &str); 2] = [(4096, ""), (4097, "ERROR 6: limit of name passed (4097)\n")];
 
-// A document whose source has a name of so many bytes, but for the name of the folder and the slash that stand before it.
+// A document whose source has a name of so many bytes, with the name of the folder and the slash that stand before it.
 fn with_name(alloc: Global, len: usize) -> Result<Vec<u8>, Fail> {
     let mut document = Vec::new(alloc);
     document.extend_from_slice(
