@@ -69,7 +69,6 @@ fn add_value(
 }
 
 // What a token in a key's place says: a key, or the first value of the body.
-#[inline(never)]
 #[tactic(auto, unfolding(crate::specs::Scan::step), using(crate::proofs::Bodies::body_begins))]
 fn after_key(found: Found, rows: &mut Starts, at: u64, text: &[u8]) -> Result<Stage, GridFault>
     requires { rows.old ≡ [] }
@@ -88,14 +87,11 @@ fn after_key(found: Found, rows: &mut Starts, at: u64, text: &[u8]) -> Result<St
     Ok(Stage::AtValue(found, key))
 }
 
-/// Reads a token.
+// Reads a token in a function of its own: what the head's tokens need on the stack isn't made for those of
+// the body.
+#[inline(never)]
 #[tactic(auto, unfolding(crate::specs::Scan::step))]
-pub fn add_token(
-    stage: &mut Stage,
-    rows: &mut Starts,
-    at: u64,
-    text: &[u8],
-) -> Result<(), GridFault>
+fn add_any(stage: &mut Stage, rows: &mut Starts, at: u64, text: &[u8]) -> Result<(), GridFault>
     requires { IsAt stage.old rows.old }
     ensures read { Reaches (with_read result (record { stage = stage.new; rows = rows.new })) (add_token (record { stage = stage.old; rows = rows.old }) (record { at = at; text = text.now })) }
     ensures keeps { IsAt stage.new rows.new }
@@ -111,4 +107,22 @@ pub fn add_token(
             Ok(())
         }
     }
+}
+
+/// Reads a token.
+#[tactic(auto, unfolding(crate::specs::Scan::step))]
+pub fn add_token(
+    stage: &mut Stage,
+    rows: &mut Starts,
+    at: u64,
+    text: &[u8],
+) -> Result<(), GridFault>
+    requires { IsAt stage.old rows.old }
+    ensures read { Reaches (with_read result (record { stage = stage.new; rows = rows.new })) (add_token (record { stage = stage.old; rows = rows.old }) (record { at = at; text = text.now })) }
+    ensures keeps { IsAt stage.new rows.new }
+{
+    if let Stage::InBody(shape, n, x) = stage {
+        return add_value(shape, n, x, rows, at, text);
+    }
+    add_any(stage, rows, at, text)
 }
