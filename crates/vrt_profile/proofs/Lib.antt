@@ -26,3 +26,4 @@ mod Valid
 mod Documents
 mod Whole
 mod Texts
+mod Built

@@ -1,3 +1,4 @@
+pub mod Built
 pub mod Cover
 pub mod Document
 pub mod Faults

@@ -2,6 +2,7 @@
 #![tactic(auto)]
 
 mod band;
+mod building;
 mod dataset;
 pub mod document;
 pub mod fault;
@@ -24,6 +25,7 @@ pub mod text_law;
 mod writing;
 pub mod written_law;
 
+pub use building::{BandList, SourceList, pixel_rect, plain_source, whole_rect};
 pub use document::{Document, Source, Sources, VrtBand, VrtBands};
 pub use fault::VrtFault;
 pub use reader::read;
