@@ -289,15 +289,16 @@ fn transforms(rt: HostRuntime) {
     assert!(rt; placed == wanted && has_no_place(b"NROWS 2\nNCOLS 3\nULXMAP 10"));
 }
 
-// The fault of so many blanks.
-fn fault_of_blanks(alloc: Global, len: usize) -> Result<Option<HdrFault>, AllocError> {
-    let text = vec![in alloc; b' '; len]?;
+// The fault of blanks as long as a header may be, with this behind them.
+fn fault_of_blanks(alloc: Global, end: &[u8]) -> Result<Option<HdrFault>, AllocError> {
+    let mut text = vec![in alloc; b' '; 1_048_576]?;
+    text.extend_from_slice(end)?;
     Ok(read(&text).err())
 }
 
 #[test]
 fn refuses_a_long_header(rt: HostRuntime) -> Result<(), Fail> {
-    assert!(rt; fault_of_blanks(rt.alloc(), 1_048_576)? == Some(HdrFault::MissingKey));
-    assert!(rt; fault_of_blanks(rt.alloc(), 1_048_577)? == Some(HdrFault::Limit));
+    assert!(rt; fault_of_blanks(rt.alloc(), b"")? == Some(HdrFault::MissingKey));
+    assert!(rt; fault_of_blanks(rt.alloc(), b"\n")? == Some(HdrFault::Limit));
     Ok(())
 }
