@@ -1,5 +1,5 @@
 -- Whole tokens that are taken at once.
-use Rattle.std.proofs.Common.{◌≡◌, ℕ, zero, suc, true, false, List, [], ◌∷◌, ◌++◌, refl, sym, ap, subst, ◌∙◌, Ok, Err, Result, ⊎_elim, inl, inr, take, drop, length, ◌≤◌, ◌<◌, ◌+◌, ◌-◌, min, arith, get_or, append_assoc, Option, Some, None}
+use Rattle.std.proofs.Common.{◌≡◌, ℕ, zero, suc, true, false, List, [], ◌∷◌, ◌++◌, refl, sym, ap, subst, ◌∙◌, Ok, Err, Result, inl, inr, take, drop, length, ◌≤◌, ◌<◌, ◌+◌, ◌-◌, min, arith, get_or, append_assoc, Option, Some, None}
 use Rattle.std.proofs.lemmas.Bool.{lt-ltb}
 use Rattle.std.proofs.lemmas.List.{append-nil, take_more, take_all, take_rest}
 use Rattle.lists_and_answers.specs.Answers.{◌>>=◌}
@@ -8,8 +8,8 @@ use Rattle.ascii_grid.specs.declared.faults.GridFault.{GridFault}
 use Rattle.ascii_grid.specs.declared.faults.GridFault.TheVariants.{Memory}
 use Rattle.ascii_grid.specs.declared.parts.Stage.{Stage}
 use Rattle.ascii_grid.specs.Tokens.{is_white, next}
-use Rattle.ascii_grid.specs.Scan.{Scanned, State, Open, Read, Reaches, then_byte, fed, add_byte, add_token, is_open, passed_over, scanned, with_read}
-use Rattle.ascii_grid.specs.Row.{RowNow, Row, Reading, row_byte, row_fed, reading, put}
+use Rattle.ascii_grid.specs.Scan.{Scanned, State, Open, Read, Reaches, fed, add_byte, add_token, is_open, passed_over, scanned, with_read}
+use Rattle.ascii_grid.specs.Row.{Row, Reading, row_byte, row_fed, put}
 use Rattle.std.proofs.lemmas.List.Sums.{fold-append}
 use Rattle.ascii_grid.proofs.Pieces.{fed_more, open_at, stuck_bytes}
 

@@ -1,4 +1,4 @@
-use Rattle.std.proofs.Common.{◌≡◌, ◌∙◌, ◌+◌, ◌-◌, ◌*◌, ◌<◌, ◌≤◌, ap, map, arith, length, sym, pos, get_or}
+use Rattle.std.proofs.Common.{◌≡◌, ◌∙◌, ◌+◌, ◌-◌, ◌*◌, ◌≤◌, ap, map, arith, length, sym, pos, get_or}
 use Rattle.std.proofs.lemmas.List.{get_or-map}
 use Rattle.esri_hdr.specs.Head.{Head, sample_len}
 use Rattle.interleaved_raw.specs.Raw.{stride_of, sample_bytes}

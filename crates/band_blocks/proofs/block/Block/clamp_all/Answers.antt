@@ -1,5 +1,4 @@
-use Rattle.std.proofs.Common.{◌≡◌, ap, ◌∙◌, sym, subst, pos, ℤ, map, arith}
-use Rattle.geotransform.specs.Types.{clamp}
+use Rattle.std.proofs.Common.{ap, ◌∙◌, sym, subst, pos, ℤ, arith}
 use Rattle.geotransform.specs.declared.types.PixelType.TheVariants.{Byte, UInt16, Int16, UInt32, Int32}
 use Rattle.band_blocks.specs.Views.{cells_view, ArePacked}
 use Rattle.band_blocks.proofs.Cells.{clamped_packed, clamped_block}
