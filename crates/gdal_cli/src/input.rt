@@ -6,8 +6,7 @@ ghost use Rattle.input_points.specs.Entries.{ends};
 ghost use Rattle.input_points.specs.Lines.{ended_lines};
 ghost use Rattle.input_points.specs.Reading.{start, coming};
 ghost use Rattle.catalog.specs.Drivers.{Dataset};
-ghost use Rattle.catalog.specs.Walk.{IsWalked};
-ghost use Rattle.nearest_window.specs.Right.{IsRight};
+ghost use Rattle.nearest_window.specs.Right.{IsReady};
 ghost use Rattle.gdal_cli.specs.Faults.{IsLate, Differs, HasCauses};
 ghost use Rattle.gdal_cli.specs.Input.{IsReading, room_of, AnswersNext, AnswersPiece, AnswersPieces, AnswersInput, StopsBehind};
 ghost use Rattle.gdal_cli.specs.Location.{point_text, line_text, line_fault, PutsText};
@@ -37,8 +36,7 @@ fn answer_line<F: Folder, O: Sink, L: Ledger>(
     line: u32,
     kind: LineKind,
 ) -> Result<(), Fault>
-    requires right { IsRight F.file_bytes F.file_len (F.names folder.old) question.now.cat points.old.pixels.lane.pool points.old.pixels.lane.files }
-    requires walked { (m : Files) → F.names folder.old ≡ Some m → IsWalked m question.now.cat }
+    requires ready { IsReady F.Folder folder.old question.now.cat points.old.pixels.lane }
     requires bands { AreBands question.now.cat question.now.id (λ count. All (λ band. (1 ≤ band) × (band ≤ count)) question.now.asked.bands) }
     requires room { length points.old.room.values.items ≡ length question.now.asked.bands }
     ensures told { (m : Files) → F.names folder.old ≡ Some m → (d : Dataset) → slice_get question.now.cat question.now.id ≡ Some d → line_fault line kind ≡ None → PutsText (line_text (point_text m question.now.cat d question.now.asked) kind) result (O.got out.old) (O.got out.new) }
@@ -47,7 +45,7 @@ fn answer_line<F: Folder, O: Sink, L: Ledger>(
     ensures never { (m : Files) → F.names folder.old ≡ Some m → (name : List ℕ) (was : ℕ) (now : Option ℕ) → result ≡ Err (Fault.Changed name was now) → ⊥ }
     ensures cause { HasCauses (F.faults folder.old) (F.faults folder.new) (O.faults out.old) (O.faults out.new) result }
     ensures not_input { result ≡ Err Fault.InputFault → ⊥ }
-    ensures right { IsRight F.file_bytes F.file_len (F.names folder.new) question.now.cat points.new.pixels.lane.pool points.new.pixels.lane.files }
+    ensures ready { IsReady F.Folder folder.new question.now.cat points.new.pixels.lane }
     ensures room { length points.new.room.values.items ≡ length points.old.room.values.items }
     ensures late { IfErr result IsLate }
     ensures differs { Differs result }
@@ -73,8 +71,7 @@ fn answer_next<F: Folder, O: Sink, L: Ledger>(
     reader: &mut PointLines,
     piece: &[u8],
 ) -> Result<usize, Fault>
-    requires right { IsRight F.file_bytes F.file_len (F.names folder.old) question.now.cat points.old.pixels.lane.pool points.old.pixels.lane.files }
-    requires walked { (m : Files) → F.names folder.old ≡ Some m → IsWalked m question.now.cat }
+    requires ready { IsReady F.Folder folder.old question.now.cat points.old.pixels.lane }
     requires bands { AreBands question.now.cat question.now.id (λ count. All (λ band. (1 ≤ band) × (band ≤ count)) question.now.asked.bands) }
     requires room { length points.old.room.values.items ≡ length question.now.asked.bands }
     requires reading { IsReading reader.old }
@@ -87,7 +84,7 @@ fn answer_next<F: Folder, O: Sink, L: Ledger>(
     ensures never { (m : Files) → F.names folder.old ≡ Some m → (name : List ℕ) (was : ℕ) (now : Option ℕ) → result ≡ Err (Fault.Changed name was now) → ⊥ }
     ensures cause { HasCauses (F.faults folder.old) (F.faults folder.new) (O.faults out.old) (O.faults out.new) result }
     ensures not_input { result ≡ Err Fault.InputFault → ⊥ }
-    ensures right { IsRight F.file_bytes F.file_len (F.names folder.new) question.now.cat points.new.pixels.lane.pool points.new.pixels.lane.files }
+    ensures ready { IsReady F.Folder folder.new question.now.cat points.new.pixels.lane }
     ensures room { length points.new.room.values.items ≡ length points.old.room.values.items }
     ensures late { IfErr result IsLate }
     ensures differs { Differs result }
@@ -112,8 +109,7 @@ fn answer_piece<F: Folder, O: Sink, L: Ledger>(
     reader: &mut PointLines,
     piece: &[u8],
 ) -> Result<(), Fault>
-    requires right { IsRight F.file_bytes F.file_len (F.names folder.old) question.now.cat points.old.pixels.lane.pool points.old.pixels.lane.files }
-    requires walked { (m : Files) → F.names folder.old ≡ Some m → IsWalked m question.now.cat }
+    requires ready { IsReady F.Folder folder.old question.now.cat points.old.pixels.lane }
     requires bands { AreBands question.now.cat question.now.id (λ count. All (λ band. (1 ≤ band) × (band ≤ count)) question.now.asked.bands) }
     requires room { length points.old.room.values.items ≡ length question.now.asked.bands }
     requires reading { IsReading reader.old }
@@ -125,7 +121,7 @@ fn answer_piece<F: Folder, O: Sink, L: Ledger>(
     ensures never { (m : Files) → F.names folder.old ≡ Some m → (name : List ℕ) (was : ℕ) (now : Option ℕ) → result ≡ Err (Fault.Changed name was now) → ⊥ }
     ensures cause { HasCauses (F.faults folder.old) (F.faults folder.new) (O.faults out.old) (O.faults out.new) result }
     ensures not_input { result ≡ Err Fault.InputFault → ⊥ }
-    ensures right { IsRight F.file_bytes F.file_len (F.names folder.new) question.now.cat points.new.pixels.lane.pool points.new.pixels.lane.files }
+    ensures ready { IsReady F.Folder folder.new question.now.cat points.new.pixels.lane }
     ensures room { length points.new.room.values.items ≡ length points.old.room.values.items }
     ensures late { IfErr result IsLate }
     ensures differs { Differs result }
@@ -150,8 +146,7 @@ fn answer_pieces<F: Folder, I: Input, O: Sink, L: Ledger>(
     reader: &mut PointLines,
     bytes: &mut [u8],
 ) -> Result<(), Fault>
-    requires right { IsRight F.file_bytes F.file_len (F.names folder.old) question.now.cat points.old.pixels.lane.pool points.old.pixels.lane.files }
-    requires walked { (m : Files) → F.names folder.old ≡ Some m → IsWalked m question.now.cat }
+    requires ready { IsReady F.Folder folder.old question.now.cat points.old.pixels.lane }
     requires bands { AreBands question.now.cat question.now.id (λ count. All (λ band. (1 ≤ band) × (band ≤ count)) question.now.asked.bands) }
     requires room { length points.old.room.values.items ≡ length question.now.asked.bands }
     requires start { reader.old ≡ start }
@@ -162,7 +157,7 @@ fn answer_pieces<F: Folder, I: Input, O: Sink, L: Ledger>(
     ensures never { (m : Files) → F.names folder.old ≡ Some m → (name : List ℕ) (was : ℕ) (now : Option ℕ) → result ≡ Err (Fault.Changed name was now) → ⊥ }
     ensures cause { HasCauses (F.faults folder.old) (F.faults folder.new) (O.faults out.old) (O.faults out.new) result }
     ensures input_cause { HasCause Fault.InputFault (I.faults input.old) (I.faults input.new) result }
-    ensures right { IsRight F.file_bytes F.file_len (F.names folder.new) question.now.cat points.new.pixels.lane.pool points.new.pixels.lane.files }
+    ensures ready { IsReady F.Folder folder.new question.now.cat points.new.pixels.lane }
     ensures room { length points.new.room.values.items ≡ length points.old.room.values.items }
     ensures late { IfErr result IsLate }
     ensures differs { Differs result }
@@ -195,8 +190,7 @@ pub fn answer_input<F: Folder, I: Input, O: Sink, L: Ledger>(
     input: &mut I,
     out: &mut O,
 ) -> Result<(), Fault>
-    requires right { IsRight F.file_bytes F.file_len (F.names folder.old) question.now.cat points.old.pixels.lane.pool points.old.pixels.lane.files }
-    requires walked { (m : Files) → F.names folder.old ≡ Some m → IsWalked m question.now.cat }
+    requires ready { IsReady F.Folder folder.old question.now.cat points.old.pixels.lane }
     requires bands { AreBands question.now.cat question.now.id (λ count. All (λ band. (1 ≤ band) × (band ≤ count)) question.now.asked.bands) }
     requires room { length points.old.room.values.items ≡ length question.now.asked.bands }
     ensures told { (m : Files) → F.names folder.old ≡ Some m → (d : Dataset) → slice_get question.now.cat question.now.id ≡ Some d → (i : List ℕ) → I.left input.old ≡ Some i → AnswersInput (point_text m question.now.cat d question.now.asked) i (I.left input.new) result (O.got out.old) (O.got out.new) }
@@ -206,7 +200,7 @@ pub fn answer_input<F: Folder, I: Input, O: Sink, L: Ledger>(
     ensures never { (m : Files) → F.names folder.old ≡ Some m → (name : List ℕ) (was : ℕ) (now : Option ℕ) → result ≡ Err (Fault.Changed name was now) → ⊥ }
     ensures cause { HasCauses (F.faults folder.old) (F.faults folder.new) (O.faults out.old) (O.faults out.new) result }
     ensures input_cause { HasCause Fault.InputFault (I.faults input.old) (I.faults input.new) result }
-    ensures right { IsRight F.file_bytes F.file_len (F.names folder.new) question.now.cat points.new.pixels.lane.pool points.new.pixels.lane.files }
+    ensures ready { IsReady F.Folder folder.new question.now.cat points.new.pixels.lane }
     ensures room { length points.new.room.values.items ≡ length points.old.room.values.items }
     ensures late { IfErr result IsLate }
     ensures differs { Differs result }

@@ -3,8 +3,7 @@ ghost use Rattle.std.specs.Prelude.{◌≡◌, ◌≤◌, ℕ, pos, List, [], Al
 ghost use Rattle.outside.specs.Outside.{Files};
 ghost use Rattle.outside.specs.Causes.{HasCause};
 ghost use Rattle.catalog.specs.Drivers.{Dataset};
-ghost use Rattle.catalog.specs.Walk.{IsWalked};
-ghost use Rattle.nearest_window.specs.Right.{IsRight};
+ghost use Rattle.nearest_window.specs.Right.{IsReady};
 ghost use Rattle.location_report.specs.Covering.{covering_files};
 ghost use Rattle.gdal_cli.specs.Faults.{IsOutside, IsLate, Differs, HasCauses};
 ghost use Rattle.gdal_cli.specs.Location.{told_text, point_text, PutsText};
@@ -50,8 +49,7 @@ fn make_inside<F: Folder, L: Ledger>(
     x: u32,
     y: u32,
 ) -> Result<(), Fault>
-    requires right { IsRight F.file_bytes F.file_len (F.names folder.old) question.now.cat pixels.old.lane.pool pixels.old.lane.files }
-    requires walked { (m : Files) → F.names folder.old ≡ Some m → IsWalked m question.now.cat }
+    requires ready { IsReady F.Folder folder.old question.now.cat pixels.old.lane }
     requires bands { AreBands question.now.cat question.now.id (λ count. All (λ band. (1 ≤ band) × (band ≤ count)) question.now.asked.bands) }
     requires room { length room.old.values.items ≡ length question.now.asked.bands }
     requires pixel { IsPixel question.now.cat question.now.id x y }
@@ -61,7 +59,7 @@ fn make_inside<F: Folder, L: Ledger>(
     ensures cause { HasCause Fault.FolderFault (F.faults folder.old) (F.faults folder.new) result }
     ensures not_input { result ≡ Err Fault.InputFault → ⊥ }
     ensures not_out { result ≡ Err Fault.OutFault → ⊥ }
-    ensures right { IsRight F.file_bytes F.file_len (F.names folder.new) question.now.cat pixels.new.lane.pool pixels.new.lane.files }
+    ensures ready { IsReady F.Folder folder.new question.now.cat pixels.new.lane }
     ensures room { length room.new.values.items ≡ length room.old.values.items }
     ensures late { IfErr result IsLate }
     ensures differs { Differs result }
@@ -105,8 +103,7 @@ fn make_text<F: Folder, L: Ledger>(
     column: i128,
     line: i128,
 ) -> Result<(), Fault>
-    requires right { IsRight F.file_bytes F.file_len (F.names folder.old) question.now.cat pixels.old.lane.pool pixels.old.lane.files }
-    requires walked { (m : Files) → F.names folder.old ≡ Some m → IsWalked m question.now.cat }
+    requires ready { IsReady F.Folder folder.old question.now.cat pixels.old.lane }
     requires bands { AreBands question.now.cat question.now.id (λ count. All (λ band. (1 ≤ band) × (band ≤ count)) question.now.asked.bands) }
     requires room { length room.old.values.items ≡ length question.now.asked.bands }
     ensures text { (m : Files) → F.names folder.old ≡ Some m → (d : Dataset) → slice_get question.now.cat question.now.id ≡ Some d → OnOk result (room.new.text.items ≡ told_text m question.now.cat d question.now.asked (column, line)) }
@@ -114,7 +111,7 @@ fn make_text<F: Folder, L: Ledger>(
     ensures cause { HasCause Fault.FolderFault (F.faults folder.old) (F.faults folder.new) result }
     ensures not_input { result ≡ Err Fault.InputFault → ⊥ }
     ensures not_out { result ≡ Err Fault.OutFault → ⊥ }
-    ensures right { IsRight F.file_bytes F.file_len (F.names folder.new) question.now.cat pixels.new.lane.pool pixels.new.lane.files }
+    ensures ready { IsReady F.Folder folder.new question.now.cat pixels.new.lane }
     ensures room { length room.new.values.items ≡ length room.old.values.items }
     ensures late { IfErr result IsLate }
     ensures differs { Differs result }
@@ -154,15 +151,14 @@ pub fn put_point<F: Folder, O: Sink, L: Ledger>(
     x: Position,
     y: Position,
 ) -> Result<(), Fault>
-    requires right { IsRight F.file_bytes F.file_len (F.names folder.old) question.now.cat points.old.pixels.lane.pool points.old.pixels.lane.files }
-    requires walked { (m : Files) → F.names folder.old ≡ Some m → IsWalked m question.now.cat }
+    requires ready { IsReady F.Folder folder.old question.now.cat points.old.pixels.lane }
     requires bands { AreBands question.now.cat question.now.id (λ count. All (λ band. (1 ≤ band) × (band ≤ count)) question.now.asked.bands) }
     requires room { length points.old.room.values.items ≡ length question.now.asked.bands }
     ensures told { (m : Files) → F.names folder.old ≡ Some m → (d : Dataset) → slice_get question.now.cat question.now.id ≡ Some d → PutsText (point_text m question.now.cat d question.now.asked x y) result (O.got out.old) (O.got out.new) }
     ensures never { (m : Files) → F.names folder.old ≡ Some m → (name : List ℕ) (was : ℕ) (now : Option ℕ) → result ≡ Err (Fault.Changed name was now) → ⊥ }
     ensures cause { HasCauses (F.faults folder.old) (F.faults folder.new) (O.faults out.old) (O.faults out.new) result }
     ensures not_input { result ≡ Err Fault.InputFault → ⊥ }
-    ensures right { IsRight F.file_bytes F.file_len (F.names folder.new) question.now.cat points.new.pixels.lane.pool points.new.pixels.lane.files }
+    ensures ready { IsReady F.Folder folder.new question.now.cat points.new.pixels.lane }
     ensures room { length points.new.room.values.items ≡ length points.old.room.values.items }
     ensures late { IfErr result IsLate }
     ensures differs { Differs result }

@@ -1,8 +1,6 @@
 // What the points of a dataset are answered with.
-ghost use Rattle.std.specs.Prelude.{◌≡◌, ◌<◌, List, Option, IfOk, length};
-ghost use Rattle.outside.specs.Outside.{Files};
-ghost use Rattle.catalog.specs.Drivers.{Dataset};
-ghost use Rattle.nearest_window.specs.Right.{IsRight};
+ghost use Rattle.std.specs.Prelude.{◌≡◌, ◌<◌, IfOk, length};
+ghost use Rattle.nearest_window.specs.Right.{IsFresh};
 
 use crate::asked::Asked;
 use crate::command::BlockCount;
@@ -67,7 +65,7 @@ impl<F: Folder, L: Ledger> PointReader<F, L> {
         requires name { blank.name ≡ L.name }
         requires parts { blank.parts ≡ L.parts }
         requires some { 0 < blank.parts }
-        ensures right { IfOk result (λ points. (told : Option Files) (cat : List Dataset) → IsRight F.file_bytes F.file_len told cat points.pixels.lane.pool points.pixels.lane.files) }
+        ensures fresh { IfOk result (λ points. IsFresh F.Folder points.pixels.lane) }
         ensures room { IfOk result (λ points. length points.room.values.items ≡ bands) }
     {
         let loads = Steps::open(blank);

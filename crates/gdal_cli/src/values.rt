@@ -2,15 +2,15 @@
 ghost use Rattle.std.specs.Prelude.{◌≡◌, ◌≤◌, ◌<◌, ◌-◌, All, IfErr, IfOk, OnOk, Err, Some, length, map};
 ghost use Rattle.outside.specs.Outside.{Files};
 ghost use Rattle.outside.specs.Causes.{HasCause};
-ghost use Rattle.catalog.specs.Walk.{IsWalked};
 ghost use Rattle.catalog.specs.Pixels.{pixel_of};
-ghost use Rattle.nearest_window.specs.Right.{IsRight};
+ghost use Rattle.nearest_window.specs.Right.{IsReady};
 ghost use Rattle.gdal_cli.specs.Faults.{IsOutside, IsLate, Differs};
 ghost use Rattle.gdal_cli.specs.Pixels.{IsPixel, AreBands};
 
 use crate::Fault;
 use crate::reader::{PixelReader, Question};
 use geotransform::{Rect, Sample};
+use nearest_window::Window;
 use outside::Folder;
 use std::sync::ledger::Ledger;
 
@@ -23,12 +23,11 @@ fn read_value<F: Folder, L: Ledger>(
     x: u32,
     y: u32,
 ) -> Result<Sample, Fault>
-    requires right { IsRight F.file_bytes F.file_len (F.names folder.old) question.now.cat pixels.old.lane.pool pixels.old.lane.files }
-    requires walked { (m : Files) → F.names folder.old ≡ Some m → IsWalked m question.now.cat }
+    requires ready { IsReady F.Folder folder.old question.now.cat pixels.old.lane }
     requires pixel { IsPixel question.now.cat question.now.id x y }
     requires band { AreBands question.now.cat question.now.id (λ count. band < count) }
     ensures value { (m : Files) → F.names folder.old ≡ Some m → IfOk result (λ v. v ≡ pixel_of m question.now.cat question.now.id band x y) }
-    ensures right { IsRight F.file_bytes F.file_len (F.names folder.new) question.now.cat pixels.new.lane.pool pixels.new.lane.files }
+    ensures ready { IsReady F.Folder folder.new question.now.cat pixels.new.lane }
     ensures never { (m : Files) → F.names folder.old ≡ Some m → IfErr result IsOutside }
     ensures late { IfErr result IsLate }
     ensures differs { Differs result }
@@ -37,16 +36,18 @@ fn read_value<F: Folder, L: Ledger>(
     ensures not_input { result ≡ Err Fault.InputFault → ⊥ }
     ensures not_out { result ≡ Err Fault.OutFault → ⊥ }
 {
-    let rect = Rect { x, y, w: 1, h: 1 };
+    let window = Window {
+        dataset: question.id,
+        band,
+        rect: Rect { x, y, w: 1, h: 1 },
+    };
     let mut value = [0; 1];
     let lane = &mut pixels.lane;
     lane.read_window(
         question.alloc,
         &question.cat,
         folder,
-        question.id,
-        band,
-        rect,
+        window,
         &mut value,
         &mut pixels.loads,
     )?;
@@ -67,14 +68,13 @@ pub fn read_values<F: Folder, L: Ledger>(
     y: u32,
     values: &mut [Sample],
 ) -> Result<(), Fault>
-    requires right { IsRight F.file_bytes F.file_len (F.names folder.old) question.now.cat pixels.old.lane.pool pixels.old.lane.files }
-    requires walked { (m : Files) → F.names folder.old ≡ Some m → IsWalked m question.now.cat }
+    requires ready { IsReady F.Folder folder.old question.now.cat pixels.old.lane }
     requires pixel { IsPixel question.now.cat question.now.id x y }
     requires bands { AreBands question.now.cat question.now.id (λ count. All (λ band. (1 ≤ band) × (band ≤ count)) bands.now) }
     requires room { length values.old ≡ length bands.now }
     ensures values { (m : Files) → F.names folder.old ≡ Some m → OnOk result (values.new ≡ map (λ band. pixel_of m question.now.cat question.now.id (band - 1) x y) bands.now) }
     ensures room { length values.new ≡ length values.old }
-    ensures right { IsRight F.file_bytes F.file_len (F.names folder.new) question.now.cat pixels.new.lane.pool pixels.new.lane.files }
+    ensures ready { IsReady F.Folder folder.new question.now.cat pixels.new.lane }
     ensures never { (m : Files) → F.names folder.old ≡ Some m → IfErr result IsOutside }
     ensures late { IfErr result IsLate }
     ensures differs { Differs result }

@@ -9,7 +9,7 @@ use Rattle.band_blocks.specs.Keys.{IsKeyOf}
 use Rattle.band_blocks.specs.Open.{AreGood}
 use Rattle.block_cache.specs.declared.pool.Entry.{Entry}
 use Rattle.block_cache.specs.Entries.{PoolView, moved_to_front, admitted, held_at, IsPool, pool_view}
-use Rattle.nearest_window.specs.Right.{AreBlocks, IsReady, IsRight, LaneState, lane_state, Serves, Served, slack_of}
+use Rattle.nearest_window.specs.Right.{AreBlocks, IsReady, IsRight, LaneState, lane_state, Serves, slack_of, state_of}
 use Rattle.nearest_window.specs.Lanes.{LaneView, lane_view}
 use Rattle.outside.specs.declared.folder.Folder.{Ghosts}
 use Rattle.nearest_window.proofs.Keys.{length_moved, are_blocks_moved, are_blocks_admitted, length_admitted, length_admitted_new}
@@ -130,6 +130,7 @@ module _ {File : Type 0} (bytes : File → Option (List ℕ)) (len : File → �
   serves_load (Err d') told told' p fs fs' q f f' n n' w w' l k d e right key absent same unwritten good faults reads new kept refused valid =
       subst (λ (q : LaneView File). Serves bytes len cat 1 (lane_state told p fs f n w l) (lane_state told' q.pool q.files f' n' w' (l + 1))) (sym refused) (serves_refused told told' p fs fs' f f' n n' w w' l right same unwritten good faults reads)
 
--- a lane that was ready is ready after a call
-pub ready_on : {F File Draft T E : Type 0} (calls : Ghosts F File Draft) (cat : List Dataset) (r : Result T E) (folder folder' : F) (lane lane' : LaneView File) (loads loads' : ℕ) → IsReady calls folder cat lane → Served calls cat r folder lane loads folder' lane' loads' → IsReady calls folder' cat lane'
-ready_on calls cat r folder folder' lane lane' loads loads' ready served = record { right = served.right; walked = λ m e. ready.walked m (sym served.told ∙ e) }
+-- a lane that was ready is ready after what served
+pub ready_then : {F File Draft : Type 0} (calls : Ghosts F File Draft) (cat : List Dataset) (slack : ℕ) (folder folder' : F) (lane lane' : LaneView File) (loads loads' : ℕ) → IsReady calls folder cat lane
+    → Serves calls.file_bytes calls.file_len cat slack (state_of calls folder lane loads) (state_of calls folder' lane' loads') → IsReady calls folder' cat lane'
+ready_then calls cat slack folder folder' lane lane' loads loads' ready served = record { right = served.right; walked = λ m e. ready.walked m (sym served.told ∙ e) }

@@ -45,6 +45,10 @@ pub record IsReady {F File Draft : Type 0} (calls : Ghosts F File Draft) (folder
   pub right : IsRight calls.file_bytes calls.file_len (calls.names folder) cat lane.pool lane.files
   pub walked : WhereTold calls folder (λ m. IsWalked m cat)
 
+-- the lane is ready for each folder and each catalog that was walked over it
+abbrev pub IsFresh : {F File Draft : Type 0} → Ghosts F File Draft → LaneView File → Type 0
+IsFresh {F} calls lane = (folder : F) (cat : List Dataset) → WhereTold calls folder (λ m. IsWalked m cat) → IsReady calls folder cat lane
+
 -- a lane with its folder and its count of loads, at one moment
 pub record LaneState (File : Type 0) : Type 0 where
   pub told : Option Files

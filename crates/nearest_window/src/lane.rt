@@ -11,7 +11,7 @@ ghost use Rattle.block_cache.specs.Entries.{pool_view, entry_of, held_at, moved_
 ghost use Rattle.nearest_window.specs.Lanes.{LaneView, lane_view, held_in, room_of};
 ghost use Rattle.nearest_window.specs.Painted.{IsPainted, in_columns};
 ghost use Rattle.nearest_window.specs.Pictures.{IsPicture, from_block};
-ghost use Rattle.nearest_window.specs.Right.{IsPartBlock, IsReady, IsRight, IsFileKey, IsMosaicKey, Served, TellsChangeIn};
+ghost use Rattle.nearest_window.specs.Right.{IsFresh, IsPartBlock, IsReady, IsRight, IsFileKey, IsMosaicKey, Served, TellsChangeIn};
 ghost use Rattle.nearest_window.specs.Shown.{AreTyped, IsAreaOf, IsPictureOf, IsShown, IsTyped, IsBandOf, IsPartOf, IsLonePart, IsSourceShown, IsSourceOf};
 ghost use Rattle.nearest_window.specs.Taken.{place_at};
 
@@ -52,6 +52,7 @@ impl<F: Folder> Lane<F> {
         requires few { capacity ≤ 65536 }
         ensures empty { IfOk result (λ lane. lane ≡ lane_view (pool_view [] capacity) []) }
         ensures right { IfOk result (λ lane. (told : _) (cat : List Dataset) → IsRight F.file_bytes F.file_len told cat lane.pool lane.files) }
+        ensures fresh { IfOk result (λ lane. IsFresh F.Folder lane) }
     {
         let pool = Pool::new(alloc, capacity)?;
         let files = OpenFiles::new(alloc)?;

@@ -3,7 +3,7 @@ use Rattle.outside.specs.Outside.{Files}
 use Rattle.input_points.specs.Lines.{ended_lines}
 use Rattle.input_points.specs.Reading.{coming}
 use Rattle.catalog.specs.Drivers.{Dataset}
-use Rattle.nearest_window.specs.Right.{IsRight}
+use Rattle.nearest_window.specs.Right.{IsReady}
 use Rattle.gdal_cli.specs.Input.{IsReading, Answered, room_of}
 use Rattle.gdal_cli.specs.Location.{point_text}
 use Rattle.gdal_cli.proofs.input.answer_piece.Given as goal
@@ -18,7 +18,7 @@ invariant-loop-at g l = record {
   most : room_of l.reader ≤ room_of l.fn.reader;
   less : 0 < l.at → room_of l.reader < room_of l.fn.reader;
   room : length l.points.room.values.items ≡ length l.fn.points.room.values.items;
-  right : IsRight g.F.Folder.file_bytes g.F.Folder.file_len (g.F.Folder.names l.folder) l.question.cat l.points.pixels.lane.pool l.points.pixels.lane.files;
+  ready : IsReady g.F.Folder l.folder l.question.cat l.points.pixels.lane;
   names : g.F.Folder.names l.folder ≡ g.F.Folder.names l.fn.folder;
   folder_later : g.F.Folder.faults l.fn.folder ≤ g.F.Folder.faults l.folder;
   out_later : g.O.Sink.faults l.fn.out ≤ g.O.Sink.faults l.out;

@@ -3,7 +3,7 @@ use Rattle.outside.specs.Outside.{Files}
 use Rattle.input_points.specs.Lines.{ended_lines}
 use Rattle.input_points.specs.Reading.{start, coming}
 use Rattle.catalog.specs.Drivers.{Dataset}
-use Rattle.nearest_window.specs.Right.{IsRight}
+use Rattle.nearest_window.specs.Right.{IsReady}
 use Rattle.gdal_cli.specs.Input.{IsReading, Answered, Taken, room_of}
 use Rattle.gdal_cli.specs.Location.{point_text}
 use Rattle.gdal_cli.proofs.input.answer_pieces.Given as goal
@@ -17,7 +17,7 @@ invariant-pieces g l = record {
   none : coming ended_lines l.reader [] ≡ [];
   some : 0 < length l.bytes;
   room : length l.points.room.values.items ≡ length l.fn.points.room.values.items;
-  right : IsRight g.F.Folder.file_bytes g.F.Folder.file_len (g.F.Folder.names l.folder) l.question.cat l.points.pixels.lane.pool l.points.pixels.lane.files;
+  ready : IsReady g.F.Folder l.folder l.question.cat l.points.pixels.lane;
   names : g.F.Folder.names l.folder ≡ g.F.Folder.names l.fn.folder;
   folder_later : g.F.Folder.faults l.fn.folder ≤ g.F.Folder.faults l.folder;
   input_later : g.I.Input.faults l.fn.input ≤ g.I.Input.faults l.input;

@@ -14,7 +14,7 @@ loop-at-preserved g c =
     record {
       room = simp length-set c.loop-at.invariant.room;
       values = λ m is. values_more (λ (band : ℕ). pixel_of m c.args.question.now.cat c.args.question.now.id (band - 1) c.args.x c.args.y) c.args.bands.now c.loop-at.values c.loop-at.at (get_or c.args.bands.now c.loop-at.at 0) 0 _ less room refl (same ∙ c.in_ok-values.ensures.value m (c.loop-at.invariant.names ∙ is)) (c.loop-at.invariant.values m is);
-      right = c.read_value.ensures.right;
+      ready = c.read_value.ensures.ready;
       names = c.read_value.ensures.names ∙ c.loop-at.invariant.names;
       later = omega (arith, c.loop-at.invariant.later, c.read_value.ensures.cause.later);
     }

@@ -13,12 +13,12 @@ use Rattle.catalog.specs.Places.{IsWithin}
 use Rattle.band_blocks.specs.Blocks.{block_view}
 use Rattle.block_cache.specs.Entries.{entry_of}
 use Rattle.nearest_window.specs.Heights.{height_at}
-use Rattle.nearest_window.specs.Right.{slack_of}
+use Rattle.nearest_window.specs.Right.{IsReady, slack_of}
 use Rattle.nearest_window.specs.Painted.{IsPainted, first, in_columns}
 use Rattle.nearest_window.specs.Taken.{place_at}
 use Rattle.nearest_window.specs.Shown.{shown, AreTyped, IsTyped, IsShown, IsSourceOf, IsSourceShown, AreSourcesShown}
 use Rattle.nearest_window.proofs.Keys.{held_kept}
-use Rattle.nearest_window.proofs.Steps.{held_blocks, serves_moved, serves_trans, serves_keep}
+use Rattle.nearest_window.proofs.Steps.{held_blocks, ready_then, serves_moved, serves_trans, serves_keep}
 use Rattle.nearest_window.proofs.Shown.{held_size, block_shown, rect_shown}
 use Rattle.nearest_window.proofs.Mosaics.{sources_more, source_stands, filled_part, whole_block}
 use Rattle.nearest_window.proofs.Fills.{source_unseen, source_part, columns_more, bands_more, part_length, on_ok}
@@ -57,7 +57,8 @@ fill-paint-requires g t c =
     let inside = c.requires.within k.dataset k.in_range.at in
     let some : 0 < c.args.rect.w = inside.columns in
     let size : length c.as_mut_slice-out.result.now ≡ c.args.rect.w * c.args.rect.h = ap length c.as_mut_slice-out.ensures.value ∙ c.loop-number.invariant.size in
-    search (rules, fall, right, walked, source, within, some, size)
+    let ready : IsReady g.F.Folder c.loop-number.folder c.args.cat.now c.loop-number.self = record { right = right; walked = walked } in
+    search (rules, fall, ready, source, within, some, size)
 
 pub fill-loop-number-preserved : goal.fill-loop-number-preserved
 fill-loop-number-preserved g t c =
@@ -107,6 +108,14 @@ paint-returns-clause-painted g t c = λ d at.
     (source_part (g.F.Folder.names c.paint_picture.new.folder) c.args.cat.now d c.args.source.key.band c.args.source.number c.in-Some.picture.file c.args.source.source.now c.args.rect c.in-Some.picture (seen.seen d at) (λ m. seen.pixels m d at) c.requires.some c.args.samples.now c.paint_picture.new.out c.requires.rows
     (c.in-Some.picture.top * c.in-Some.picture.stride) ((c.in-Some.picture.top + c.in-Some.picture.height) * c.in-Some.picture.stride) refl refl)
     c.paint_picture.ensures.painted
+
+pub paint_picture-paint_band-requires-clause-ready : goal.paint_picture-paint_band-requires-clause-ready
+paint_picture-paint_band-requires-clause-ready g t c κs within =
+    ready_then g.F.Folder c.args.cat.now 0 c.args.folder.now c.loop-line.folder c.args.self.now c.loop-line.self c.args.loads.now c.loop-line.loads c.requires.ready c.loop-line.invariant.serves
+
+pub paint_band-paint_block-requires-clause-ready : goal.paint_band-paint_block-requires-clause-ready
+paint_band-paint_block-requires-clause-ready g t c κs within =
+    ready_then g.F.Folder c.args.cat.now 0 c.args.folder.now c.loop-column.folder c.args.self.now c.loop-column.self c.args.loads.now c.loop-column.loads c.requires.ready c.loop-column.invariant.serves
 
 pub paint_picture-paint_band-requires-clause-band : goal.paint_picture-paint_band-requires-clause-band
 paint_picture-paint_band-requires-clause-band g t c κs within d at k low high =

@@ -1,8 +1,10 @@
 use Rattle.std.proofs.Common.{◌<◌, ◌∙◌, arith}
 use Rattle.catalog.specs.Pixels.{pixel_of, pixel_of_name}
+use Rattle.nearest_window.specs.Right.{slack_of}
 use Rattle.nearest_window.specs.Shown.{IsInBand}
 use Rattle.nearest_window.proofs.Fills.{on_ok}
 use Rattle.nearest_window.proofs.Ranges.{no_sample, window_typed}
+use Rattle.nearest_window.proofs.Steps.{ready_then}
 use Rattle.nearest_window.proofs.Windows.{window_shown, empty_window, named_window}
 use Rattle.nearest_window.proofs.lane.Lane.read_window.Goals as goal
 
@@ -39,3 +41,12 @@ returns-clause-typed g c =
     (window_typed c.args.cat.now c.args.window c.window_of-picture.result c.paint_picture.new.out (c.window_of-picture.result.height * c.window_of-picture.result.stride) whole some
     (kept ∙ c.paint_picture.requires.rows))
     c.paint_picture.ensures.typed
+
+pub returns-clause-ready : goal.returns-clause-ready
+returns-clause-ready g c =
+    ready_then g.F.Folder c.args.cat.now (slack_of c.paint_picture.result) c.args.folder.now c.paint_picture.new.folder c.args.self.now c.paint_picture.new.self c.args.loads.now c.paint_picture.new.loads c.requires.ready c.paint_picture.ensures.serves
+
+pub returns-clause-only_read : goal.returns-clause-only_read
+returns-clause-only_read g c =
+    let s = c.paint_picture.ensures.serves in
+    record { names = s.told; writes = s.writes; faults = s.faults }
