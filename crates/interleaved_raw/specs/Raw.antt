@@ -73,10 +73,6 @@ raw_at h bytes band x y = sample_at h (drop (position_of h band x y) bytes)
 abbrev pub row_of : Head → List ℕ → ℕ → ℕ → ℕ → ℕ → List ℤ
 row_of h file band x y n = map (λ i. raw_at h file band (x + i) y) (range_with_len 0 n)
 
--- the bytes are those of a file from a place on
-abbrev pub StandsAt : List ℕ → List ℕ → ℕ → Type 0
-StandsAt file bytes at = bytes ≡ take (length bytes) (drop at file)
-
 -- the bytes hold n samples that stand a stride apart
 abbrev pub Holds : Head → List ℕ → ℕ → Type 0
 Holds h bytes n = 0 < n → (n - 1) * stride_of h + sample_len h.kind ≤ length bytes

@@ -4,7 +4,8 @@ ghost use Rattle.std.specs.List.{range_with_len, All};
 ghost use Rattle.std.specs.Int.{w16, w32, cast_signed, cast_unsigned};
 ghost use Rattle.geotransform.specs.Types.{is_in};
 ghost use Rattle.esri_hdr.specs.Head.{Head, sample_len};
-ghost use Rattle.interleaved_raw.specs.Raw.{position_of, stride_of, value_of, bits_of, number_in, sample_at, raw_at, row_of, StandsAt, Holds, run_of, bytes_at, sample_bytes, IsBetween};
+ghost use Rattle.lists_and_answers.specs.Places.{StandsAt};
+ghost use Rattle.interleaved_raw.specs.Raw.{position_of, stride_of, value_of, bits_of, number_in, sample_at, raw_at, row_of, Holds, run_of, bytes_at, sample_bytes, IsBetween};
 
 use crate::places::stride;
 use byteorder::{BigEndian, ByteOrder, LittleEndian};
