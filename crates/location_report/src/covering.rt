@@ -1,6 +1,7 @@
 // The names of the files that a mosaic's pixel is covered by.
 ghost use Rattle.std.specs.Prelude.{◌≡◌, ◌<◌, bytes_eq, length, take, slice_get, OnOk, OnErr, Some};
 ghost use Rattle.std.specs.List.{list_any};
+ghost use Rattle.catalog.specs.Dataset.{band_count};
 ghost use Rattle.catalog.specs.Drivers.{Dataset};
 ghost use Rattle.catalog.specs.Links.{source_at};
 ghost use Rattle.location_report.specs.Covering.{covering_name, with_name, with_found, covered_by, with_covering};
@@ -107,7 +108,7 @@ pub fn files_at(
     out: &mut Names,
 ) -> Result<(), AllocError>
     requires known { id < length cat.now }
-    requires band { (d : Dataset) → slice_get cat.now id ≡ Some d → band < length d.head.bands }
+    requires band { (d : Dataset) → slice_get cat.now id ≡ Some d → band < band_count d.head }
     ensures ok { (d : Dataset) → slice_get cat.now id ≡ Some d → OnOk result (out.new ≡ with_covering cat.now d band x y out.old) }
     ensures kept { take (length out.old) out.new ≡ out.old }
 {
