@@ -6,11 +6,12 @@ use Rattle.std.proofs.Math.Seq.{take-add}
 use Rattle.std.proofs.lemmas.Bool.Decides.{nat_tests}
 use Rattle.std.proofs.lemmas.List.{take-append-drop, take_all, drop-drop, append-nil}
 use Rattle.ascii_grid.specs.Row.{RowNow, Fills, fresh, HasRead, row_of, ended_in}
-use Rattle.ascii_grid.specs.Scan.{StandsAt, Scanned, Reads, HasScanned, IsFaultOf, IsFaultIn}
+use Rattle.ascii_grid.specs.Scan.{Scanned, Reads, HasScanned, IsFaultOf, IsFaultIn}
 use Rattle.ascii_grid.specs.Grid.{Head, grid_head}
 use Rattle.ascii_grid.specs.Faults.{IsMemory}
 use Rattle.ascii_grid.specs.declared.faults.GridFault.{GridFault}
 use Rattle.lists_and_answers.specs.Answers.{Gives}
+use Rattle.lists_and_answers.specs.Places.{StandsAt}
 use Rattle.ascii_grid.proofs.Rows.{whole_row, fresh_fills}
 
 -- nothing was read

@@ -1,5 +1,5 @@
 -- The scanner as a machine: what each byte changes.
-use Rattle.std.specs.Prelude.{ℕ, Bool, true, false, ◌+◌, ◌-◌, ◌*◌, List, [], ◌∷◌, ◌++◌, length, take, drop, Option, Some, None, Result, Ok, Err, ok_or, nat_lt, ◌<◌, ◌≤◌, ◌≡◌, ◌⊎◌, ◌==◌, if◌then◌else◌, min}
+use Rattle.std.specs.Prelude.{ℕ, Bool, true, false, ◌+◌, ◌-◌, ◌*◌, List, [], ◌∷◌, ◌++◌, length, take, Option, Some, None, Result, Ok, Err, ok_or, nat_lt, ◌<◌, ◌≤◌, ◌≡◌, ◌⊎◌, ◌==◌, if◌then◌else◌, min}
 use Rattle.std.specs.List.{fold}
 use Rattle.lists_and_answers.specs.Answers.{◌>>=◌}
 use Rattle.ascii_grid.specs.declared.faults.GridFault.{GridFault}
@@ -163,10 +163,6 @@ Reads s text = (s ≡ Err Memory) ⊎ (s ≡ scan text)
 -- the fault is want of memory, or that of the text, however it goes on
 abbrev pub IsFaultOf : GridFault → List ℕ → Type 0
 IsFaultOf f text = (f ≡ Memory) ⊎ ((more : List ℕ) → grid_head (text ++ more) ≡ Err f)
-
--- the bytes are those of a file from a place on
-abbrev pub StandsAt : List ℕ → List ℕ → ℕ → Type 0
-StandsAt file bytes at = bytes ≡ take (length bytes) (drop at file)
 
 -- the scanner was fed a file up to a place
 pub record HasScanned (s : Scanned) (file : List ℕ) (at : ℕ) : Type 0 where

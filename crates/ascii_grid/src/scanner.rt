@@ -5,7 +5,8 @@ ghost use Rattle.ascii_grid.specs.Faults.{IsMemory};
 ghost use Rattle.ascii_grid.specs.Grid.{grid_head, head_with, IsHead};
 ghost use Rattle.ascii_grid.specs.Tokens.{is_white};
 ghost use Rattle.ascii_grid.specs.declared.parts.Stage.TheVariants.{AtKey};
-ghost use Rattle.ascii_grid.specs.Scan.{State, then_byte, fed, start, Reaches, answer_of, grid_after, IsAt, with_read, ended, body_closed, closed, Reads, IsFaultOf, HasScanned, StandsAt, IsFaultIn};
+ghost use Rattle.lists_and_answers.specs.Places.{StandsAt};
+ghost use Rattle.ascii_grid.specs.Scan.{State, then_byte, fed, start, Reaches, answer_of, grid_after, IsAt, with_read, ended, body_closed, closed, Reads, IsFaultOf, HasScanned, IsFaultIn};
 
 use crate::faults::GridFault;
 use crate::head::{GridHead, Starts};

@@ -4,40 +4,14 @@ ghost use Rattle.std.specs.List.{prefix_len, list_all};
 ghost use Rattle.std.specs.Str.Lines.{strip_carriage_return};
 ghost use Rattle.geotransform.specs.Decimal.{ticks_of};
 ghost use Rattle.input_points.specs.Lines.{is_inside, IsLineIn};
-ghost use Rattle.input_points.specs.Points.{is_blank, is_in_word, word_at, point_of, kind_of};
+ghost use Rattle.input_points.specs.Points.{point_of, kind_of};
 
 use crate::entry::LineKind;
 use crate::position::Position;
+use lists_and_answers::token_at;
 
 /// The most bytes that a line may have without its end.
 const LONGEST: usize = 4096;
-
-fn is_blank(c: u8) -> bool
-    ensures { result ≡ is_blank c }
-{
-    c == b'\t' || c == b' '
-}
-
-fn blanks(text: &[u8]) -> usize
-    ensures count { result ≡ prefix_len is_blank text.now }
-    ensures bound { result ≤ length text.now }
-{
-    text.iter().take_while(|c| is_blank(**c)).count()
-}
-
-fn word_len(text: &[u8]) -> usize
-    ensures count { result ≡ prefix_len is_in_word text.now }
-    ensures bound { result ≤ length text.now }
-{
-    text.iter().take_while(|c| !is_blank(**c)).count()
-}
-
-fn word_at(line: &[u8]) -> (&[u8], &[u8])
-    ensures { (result.0.now, result.1.now) ≡ word_at line.now }
-{
-    let (_, line) = line.split_at(blanks(line));
-    line.split_at(word_len(line))
-}
 
 fn point_of(first: &[u8], second: &[u8]) -> LineKind
     ensures { result ≡ point_of (ticks_of first.now) (ticks_of second.now) }
@@ -59,12 +33,12 @@ pub fn kind_of(line: &[u8]) -> LineKind
     if line.len() > LONGEST {
         return LineKind::Bad;
     }
-    let (first, rest) = word_at(line);
+    let (first, rest) = token_at(line);
     if first.is_empty() {
         return LineKind::Blank;
     }
-    let (second, rest) = word_at(rest);
-    let (third, _) = word_at(rest);
+    let (second, rest) = token_at(rest);
+    let (third, _) = token_at(rest);
     if third.is_empty() {
         point_of(first, second)
     } else {
