@@ -1,5 +1,5 @@
 // A lane: a pool of blocks and open files, through which windows of pixels are read.
-ghost use Rattle.std.specs.Prelude.{◌≡◌, ℕ, ◌+◌, ◌*◌, ◌^◌, ◌<◌, ◌≤◌, List, [], Some, None, length, IfErr, IfOk, OnOk, OnErr, IfSome, IsSome, is_some, slice_get};
+ghost use Rattle.std.specs.Prelude.{◌≡◌, ℕ, ◌+◌, ◌*◌, ◌^◌, ◌<◌, ◌≤◌, List, [], Some, None, length, IfErr, IfOk, OnOk, OnErr, IfSome, IsSome, is_some, false, slice_get};
 ghost use Rattle.std.specs.Option.{IsSomeAnd};
 ghost use Rattle.outside.specs.Causes.{HasCause};
 ghost use Rattle.outside.specs.Reading.{WhereTold};
@@ -223,7 +223,7 @@ impl<F: Folder> Lane<F> {
         ensures cause { HasCause LoadFault.FolderFault (F.faults folder.old) (F.faults folder.new) result }
         ensures changed { IfErr result (TellsChangeIn cat.now) }
         ensures never { WhereTold F.Folder folder.old (λ _. IfErr result IsUnchanged) }
-        ensures painted { (d : Dataset) → slice_get cat.now source.key.file ≡ Some d → OnOk result (IsSourceShown (F.names folder.new) cat.now d source.key.band source.number source.source.now rect samples.old samples.new) }
+        ensures painted { (d : Dataset) → slice_get cat.now source.entry.key.file ≡ Some d → OnOk result (IsSourceShown (F.names folder.new) cat.now d source.entry.key.band source.entry.number source.entry.source.now rect samples.old samples.new) }
     {
         let Some(picture) = seen_in(alloc, cat, source, rect)? else {
             return Ok(());

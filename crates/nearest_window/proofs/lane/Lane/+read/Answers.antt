@@ -236,7 +236,7 @@ paint_block-returns-clause-typed g t c =
     block_typed (g.F.Folder.names c.hold.new.folder) c.args.cat.now c.args.picture.now c.args.piece c.requires.piece c.hold.new.self.pool.entries c.args.out.now c.paint_held.new.out o.serves.right.blocks o.held c.paint_held.ensures.painted
 
 pub paint_block-paint_held-requires-clause-held : goal.paint_block-paint_held-requires-clause-held
-paint_block-paint_held-requires-clause-held g t c =
+paint_block-paint_held-requires-clause-held g t c κs within =
     let o = c.in_ok-hold.ensures in
     held_size (g.F.Folder.names c.hold.new.folder) c.args.cat.now c.args.picture.now c.args.piece c.requires.piece c.hold.new.self.pool.entries (held_blocks g.F.Folder.file_bytes g.F.Folder.file_len c.args.cat.now (g.F.Folder.names c.hold.new.folder) c.hold.new.self.pool c.hold.new.self.files o.serves.right) o.held
 

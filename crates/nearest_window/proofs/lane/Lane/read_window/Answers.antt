@@ -1,4 +1,4 @@
-use Rattle.std.proofs.Common.{◌<◌, ◌∙◌, arith}
+use Rattle.std.proofs.Common.{◌<◌, ◌*◌, ◌∙◌, arith}
 use Rattle.catalog.specs.Pixels.{pixel_of, pixel_of_name}
 use Rattle.nearest_window.specs.Right.{slack_of}
 use Rattle.nearest_window.specs.Shown.{IsInBand}
@@ -8,18 +8,18 @@ use Rattle.nearest_window.proofs.Steps.{ready_then}
 use Rattle.nearest_window.proofs.Windows.{window_shown, empty_window, named_window}
 use Rattle.nearest_window.proofs.lane.Lane.read_window.Goals as goal
 
-pub returns-then-window-rect-w-eq0-clause-pixels : goal.returns-then-window-rect-w-eq0-clause-pixels
-returns-then-window-rect-w-eq0-clause-pixels g c = λ m e. empty_window (pixel_of m c.args.cat.now c.args.window.dataset c.args.window.band) c.args.window.rect c.args.out.now c.if-window-rect-w-eq0.true c.requires.size
+pub returns-then-window-eq0-clause-pixels : goal.returns-then-window-eq0-clause-pixels
+returns-then-window-eq0-clause-pixels g c = λ m e. empty_window (pixel_of m c.args.cat.now c.args.window.dataset c.args.window.band) c.args.window.rect c.args.out.now c.if-window-eq0.true c.requires.size
 
-pub returns-then-window-rect-w-eq0-clause-named : goal.returns-then-window-rect-w-eq0-clause-named
-returns-then-window-rect-w-eq0-clause-named g c = λ m e d at. empty_window (pixel_of_name m d.head.name c.args.window.band) c.args.window.rect c.args.out.now c.if-window-rect-w-eq0.true c.requires.size
+pub returns-then-window-eq0-clause-named : goal.returns-then-window-eq0-clause-named
+returns-then-window-eq0-clause-named g c = λ m e d at. empty_window (pixel_of_name m d.head.name c.args.window.band) c.args.window.rect c.args.out.now c.if-window-eq0.true c.requires.size
 
-pub returns-then-window-rect-w-eq0-clause-typed : goal.returns-then-window-rect-w-eq0-clause-typed
-returns-then-window-rect-w-eq0-clause-typed g c = no_sample (IsInBand c.args.cat.now c.args.window.dataset c.args.window.band) c.args.window.rect c.args.out.now c.if-window-rect-w-eq0.true c.requires.size
+pub returns-then-window-eq0-clause-typed : goal.returns-then-window-eq0-clause-typed
+returns-then-window-eq0-clause-typed g c = no_sample (IsInBand c.args.cat.now c.args.window.dataset c.args.window.band) c.args.window.rect c.args.out.now c.if-window-eq0.true c.requires.size
 
 pub returns-clause-pixels : goal.returns-clause-pixels
 returns-clause-pixels g c = λ m e.
-    let zero = c.if-window-rect-w-eq0.false in
+    let zero = c.if-window-eq0.false in
     let some : 0 < c.args.window.rect.w = omega arith in
     on_ok c.paint_picture.result _ _
     (λ shown. window_shown m c.args.cat.now c.args.window c.window_of-picture.result c.window_of-picture.ensures.whole some c.args.out.now c.paint_picture.new.out c.requires.size (shown m (c.paint_picture.ensures.serves.told ∙ e)))
@@ -33,7 +33,7 @@ returns-clause-named g c = λ m e d at.
 
 pub returns-clause-typed : goal.returns-clause-typed
 returns-clause-typed g c =
-    let zero = c.if-window-rect-w-eq0.false in
+    let zero = c.if-window-eq0.false in
     let some : 0 < c.args.window.rect.w = omega arith in
     let whole = c.window_of-picture.ensures.whole in
     let kept = c.paint_picture.auto.out in
