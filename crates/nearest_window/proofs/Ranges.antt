@@ -11,6 +11,7 @@ use Rattle.geotransform.specs.declared.types.PixelType.TheVariants.{Byte, UInt16
 use Rattle.geotransform.specs.declared.types.Rect.{Rect}
 use Rattle.outside.specs.Outside.{Files}
 use Rattle.catalog.specs.Drivers.{Dataset}
+use Rattle.catalog.specs.Places.{block_rect_of}
 use Rattle.band_blocks.specs.declared.key.BlockKey.{BlockKey}
 use Rattle.band_blocks.specs.Blocks.{BlockView, AreIn}
 use Rattle.band_blocks.specs.Contents.{IsOfBand}
@@ -85,7 +86,9 @@ module _ (told : Option Files) (cat : List Dataset) (p : Picture) (piece : Piece
       on (Some entry) h s q =
           let block = is_block_held told cat piece.key entry es h all in
           let same : block.dataset ≡ part.dataset = some_same block.dataset part.dataset (sym block.in_range.at ∙ part.in_range.at) in
-          rect_typed cat p piece _ block.dataset entry.block old new part.file part.band block.in_range block.shape q
+          let place : piece.rect ≡ block_rect_of block.dataset.head piece.key.block = part.rect_is ∙ ap (λ (d : Dataset). block_rect_of d.head piece.key.block) (sym same) in
+          let shape : IsOfBand block.dataset piece.key.band piece.rect entry.block = subst (λ r. IsOfBand block.dataset piece.key.band r entry.block) (sym place) block.shape in
+          rect_typed cat p piece piece.rect block.dataset entry.block old new part.file part.band block.in_range shape q
 
 -- no column is painted
 pub typed_begin : (cat : List Dataset) (p : Picture) (xs : List ℤ) → IsTyped cat p 0 0 xs xs

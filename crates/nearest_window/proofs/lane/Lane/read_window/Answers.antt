@@ -1,4 +1,4 @@
-use Rattle.std.proofs.Common.{◌<◌, ◌*◌, ◌∙◌, arith}
+use Rattle.std.proofs.Common.{◌≡◌, ◌<◌, ◌*◌, ◌∙◌, ap, sym, ℕ, length, arith}
 use Rattle.catalog.specs.Pixels.{pixel_of, pixel_of_name}
 use Rattle.nearest_window.specs.Right.{slack_of}
 use Rattle.nearest_window.specs.Shown.{IsInBand}
@@ -36,10 +36,13 @@ returns-clause-typed g c =
     let zero = c.if-window-eq0.false in
     let some : 0 < c.args.window.rect.w = omega arith in
     let whole = c.window_of-picture.ensures.whole in
-    let kept = c.paint_picture.auto.out in
+    let rect = c.args.window.rect in
+    let turned : rect.w * rect.h ≡ rect.h * rect.w = grind arith in
+    let rows : length c.args.out.now ≡ c.window_of-picture.result.height * c.window_of-picture.result.stride =
+    c.requires.size ∙ turned ∙ ap (λ (n : ℕ). n * rect.w) (sym whole.height) ∙ ap (λ (n : ℕ). c.window_of-picture.result.height * n) (sym whole.stride) in
     on_ok c.paint_picture.result _ _
     (window_typed c.args.cat.now c.args.window c.window_of-picture.result c.paint_picture.new.out (c.window_of-picture.result.height * c.window_of-picture.result.stride) whole some
-    (kept ∙ c.paint_picture.requires.rows))
+    (c.paint_picture.auto.out ∙ rows))
     c.paint_picture.ensures.typed
 
 pub returns-clause-ready : goal.returns-clause-ready
