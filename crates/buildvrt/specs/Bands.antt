@@ -1,0 +1,96 @@
+-- The bands of a mosaic and their sources.
+use Rattle.std.specs.Prelude.{ℕ, ℤ, ◌<◌, ◌≤◌, Bool, ◌&&◌, nat_le, List, [], ◌∷◌, length, Option, None, Some, option_map, Result, Ok, Err, if◌then◌else◌}
+use Rattle.std.specs.List.{filter_map}
+use Rattle.geotransform.specs.Types.{is_in}
+use Rattle.geotransform.specs.declared.types.PixelType.{PixelType}
+use Rattle.vrt_profile.specs.Values.{SourceValue, BandValue, Rectangle, source_count}
+use Rattle.vrt_profile.specs.Cover.{whole}
+use Rattle.vrt_profile.specs.Built.{plain_source}
+use Rattle.vrt_profile.specs.Resolve.{related}
+use Rattle.catalog.specs.Dataset.{DatasetHead}
+use Rattle.catalog.specs.declared.kind.BandHead.{BandHead}
+use Rattle.buildvrt.specs.Options.{Options}
+use Rattle.buildvrt.specs.Judging.{band_of, taken_bands}
+use Rattle.buildvrt.specs.Rectangles.{PatchValue}
+use Rattle.catalog.specs.declared.nodata.NodataWord.{NodataWord}
+use Rattle.catalog.specs.declared.nodata.NodataWord.TheVariants.{Absent, Remove, Number}
+use Rattle.buildvrt.specs.declared.faults.BuildFault.{BuildFault}
+use Rattle.buildvrt.specs.declared.faults.BuildFault.TheVariants.{Limit}
+
+-- the NODATA of a source, from that of the input's band
+abbrev pub source_nodata : NodataWord → Option ℤ → Option ℤ
+source_nodata (Number n) own = Some n
+source_nodata Remove own = None
+source_nodata Absent own = own
+
+-- The NODATA that a band is to have, by the option for the mosaic, then by that for the sources, then from the band that
+-- it is taken from. It has it where it is a number of its type.
+abbrev pub wanted_by_source : NodataWord → Option ℤ → Option ℤ
+wanted_by_source (Number n) own = Some n
+wanted_by_source Remove own = own
+wanted_by_source Absent own = own
+
+abbrev pub wanted_nodata : NodataWord → NodataWord → Option ℤ → Option ℤ
+wanted_nodata (Number n) src own = Some n
+wanted_nodata Remove src own = None
+wanted_nodata Absent src own = wanted_by_source src own
+
+abbrev pub in_type : PixelType → Option ℤ → Option ℤ
+in_type kind None = None
+in_type kind (Some n) = if is_in kind n then Some n else None
+
+-- the NODATA of a dataset's band
+abbrev pub own_nodata : Option BandHead → Option ℤ
+own_nodata None = None
+own_nodata (Some band) = band.nodata
+
+-- the source that shows the whole of an input's band in a rectangle
+abbrev pub source_of : Options → DatasetHead → ℕ → Rectangle → SourceValue
+source_of o h number shown = plain_source (related o.out h.name) number (whole h.size) shown (source_nodata o.src_nodata (own_nodata (band_of h number)))
+
+-- the source of an input that isn't left out
+abbrev pub source_in : Options → ℕ → PatchValue → Option SourceValue
+source_in o number p = option_map (source_of o p.head number) p.shown
+
+-- a band of the mosaic, taken from this one, with these inputs
+abbrev pub band_from : Options → BandHead → ℕ → List PatchValue → BandValue
+band_from o band number patches = record {
+  kind = band.kind;
+  nodata = in_type band.kind (wanted_nodata o.vrt_nodata o.src_nodata band.nodata);
+  sources = filter_map (source_in o number) patches;
+}
+
+-- the band of this number of a dataset, with these inputs
+abbrev pub band_with : Options → DatasetHead → List PatchValue → ℕ → Option BandValue
+band_with o h patches number = option_map (λ band. band_from o band number patches) (band_of h number)
+
+-- one band for each chosen band of the reference, with all inputs
+abbrev pub common_bands : Options → DatasetHead → List PatchValue → List BandValue
+common_bands o reference patches = filter_map (band_with o reference patches) (taken_bands o reference)
+
+-- one band for each input, from its first band
+abbrev pub own_band : Options → PatchValue → Option BandValue
+own_band o p = band_with o p.head (p ∷ []) 1
+
+abbrev pub separate_bands : Options → List PatchValue → List BandValue
+separate_bands o patches = filter_map (own_band o) patches
+
+abbrev pub all_bands : Options → DatasetHead → List PatchValue → List BandValue
+all_bands o reference patches = if o.separate then separate_bands o patches else common_bands o reference patches
+
+-- the limits of a document: its bands, and the sources of all bands
+abbrev pub is_few : ℕ → ℕ → Bool
+is_few bands sources = nat_le bands 256 && nat_le sources 262144
+
+abbrev pub bands_within : List BandValue → Result (List BandValue) BuildFault
+bands_within bands = if is_few (length bands) (source_count bands) then Ok bands else Err Limit
+
+-- how many inputs aren't left out
+abbrev pub shown_count : List PatchValue → ℕ
+shown_count patches = length (filter_map (λ p. p.shown) patches)
+
+-- bands that a document may have
+pub record FitsDocument (bands : List BandValue) : Type 0 where
+  pub some : 0 < length bands
+  pub few : length bands ≤ 256
+  pub sources : source_count bands ≤ 262144

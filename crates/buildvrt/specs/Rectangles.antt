@@ -1,0 +1,81 @@
+-- Where the inputs lie in the mosaic.
+use Rattle.std.specs.Prelude.{ℕ, ℤ, pos, ◌+ℤ◌, ◌-ℤ◌, ◌*ℤ◌, ◌<◌, ◌*◌, ◌^◌, ◌<ℤ◌, Bool, ◌&&◌, int_lt, nat_le, IfSome, unsigned_abs, List, [], ◌∷◌, ◌++◌, Option, None, Some, Result, Ok, Err, if◌then◌else◌}
+use Rattle.lists_and_answers.specs.Answers.{◌>>=◌}
+use Rattle.geotransform.specs.Places.{rounded_up}
+use Rattle.geotransform.specs.declared.types.Size.{Size}
+use Rattle.vrt_profile.specs.Values.{Rectangle, IsRectangle}
+use Rattle.vrt_profile.specs.Built.{pixels_at}
+use Rattle.catalog.specs.Dataset.{DatasetHead, IsDatasetHead}
+use Rattle.buildvrt.specs.Tiles.{TileValue}
+use Rattle.buildvrt.specs.Grids.{GridValue, some_pixels, measure}
+use Rattle.buildvrt.specs.declared.grid.Measure.TheVariants.{ColumnStep, LineStep}
+use Rattle.buildvrt.specs.declared.patch.PixelRect.{PixelRect}
+use Rattle.buildvrt.specs.declared.faults.BuildFault.{BuildFault}
+use Rattle.buildvrt.specs.declared.faults.BuildFault.TheVariants.{Limit}
+
+-- the pixels on which an input comes to lie
+abbrev pub target_of : GridValue → TileValue → PixelRect
+target_of g t = record {
+  x = rounded_up (t.place.ox -ℤ g.left) g.dx;
+  y = rounded_up (g.top -ℤ t.place.oy) g.dy;
+  w = some_pixels (pos t.head.size.w *ℤ measure ColumnStep t) g.dx;
+  h = some_pixels (pos t.head.size.h *ℤ measure LineStep t) g.dy;
+}
+
+-- whether a stretch from x on, which is w long, meets a raster's side
+abbrev pub meets_side : ℤ → ℤ → ℕ → Bool
+meets_side x w side = int_lt x (pos side) && int_lt (pos 0) (x +ℤ w)
+
+abbrev pub meets : Size → PixelRect → Bool
+meets size r = meets_side r.x r.w size.w && meets_side r.y r.h size.h
+
+-- the limits of a document's rectangles
+abbrev pub is_offset : ℤ → Bool
+is_offset v = nat_le (unsigned_abs v) 8388608
+
+abbrev pub is_within : PixelRect → Bool
+is_within r = is_offset r.x && (is_offset r.y && (is_offset r.w && is_offset r.h))
+
+-- in millionths of a pixel
+abbrev pub in_millionths : PixelRect → Rectangle
+in_millionths r = pixels_at r.x r.y r.w r.h
+
+-- The rectangle of an input, none where it meets no pixel of the mosaic.
+abbrev pub shown_at : Size → PixelRect → Result (Option Rectangle) BuildFault
+shown_at size r = if meets size r then (if is_within r then Ok (Some (in_millionths r)) else Err Limit) else Ok None
+
+-- an input, and its rectangle in the mosaic
+pub record PatchValue : Type 0 where
+  pub head : DatasetHead
+  pub shown : Option Rectangle
+
+unfoldable pub patch_of : GridValue → TileValue → Result PatchValue BuildFault
+patch_of g t = do
+  shown ← shown_at g.size (target_of g t)
+  Ok (record { head = t.head; shown = shown })
+
+abbrev pub with_patch : PatchValue → List PatchValue → Result (List PatchValue) BuildFault
+with_patch p ps = Ok (p ∷ ps)
+
+-- all inputs, in order
+abbrev pub patches_of : GridValue → List TileValue → Result (List PatchValue) BuildFault
+patches_of g [] = Ok []
+patches_of g (t ∷ ts) = patch_of g t >>= λ p. (patches_of g ts >>= with_patch p)
+
+-- what is known of a rectangle of pixels
+pub record IsPixelRect (r : PixelRect) : Type 0 where
+  pub left : unsigned_abs r.x < 3 * 10 ^ 37
+  pub top : unsigned_abs r.y < 3 * 10 ^ 37
+  pub some_width : pos 0 <ℤ r.w
+  pub some_height : pos 0 <ℤ r.h
+  pub width : unsigned_abs r.w < 3 * 10 ^ 37
+  pub height : unsigned_abs r.h < 3 * 10 ^ 37
+
+pub record IsPatch (p : PatchValue) : Type 0 where
+  pub head : IsDatasetHead p.head
+  pub shown : IfSome p.shown IsRectangle
+
+-- these inputs before those
+abbrev pub then_patches : List PatchValue → Result (List PatchValue) BuildFault → Result (List PatchValue) BuildFault
+then_patches before (Ok patches) = Ok (before ++ patches)
+then_patches before (Err fault) = Err fault
