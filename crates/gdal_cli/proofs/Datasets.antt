@@ -11,7 +11,7 @@ use Rattle.outside.specs.Outside.{Files}
 use Rattle.input_points.specs.declared.entry.Entry.{Entry}
 use Rattle.gdal_cli.specs.Faults.{by_words}
 use Rattle.gdal_cli.specs.Words.{words_of}
-use Rattle.gdal_cli.specs.Run.{ended, name_read, reads_sources, printed_by, printed_in, RefusesKind, RefusesDataset}
+use Rattle.gdal_cli.specs.Run.{ended, name_read, reads_sources, printed_by, printed_in, RefusesUnknown, RefusesDataset}
 
 -- a call that ended with a fault was refused so
 pub refused_so : (result : Result (Unit {0}) Fault) (f : Fault) → ended result ≡ Some f → result ≡ Err f
@@ -23,7 +23,7 @@ ends_so result f (inl is) = inl (ap ended is)
 ends_so result f (inr is) = inr (ap ended is)
 
 -- a command that the words are refuses as its job does
-pub dataset_refused : (words : Result Command WordFault) (command : Command) (result : Result (Unit {0}) Fault) → words ≡ Ok command → RefusesKind (not (reads_sources command.job)) (name_read command.job) result → RefusesDataset words (ended result)
+pub dataset_refused : (words : Result Command WordFault) (command : Command) (result : Result (Unit {0}) Fault) → words ≡ Ok command → RefusesUnknown (not (reads_sources command.job)) (name_read command.job) result → RefusesDataset words (ended result)
 dataset_refused words command result is unknown =
     let one : (c : Command) → words ≡ Ok c → command ≡ c = λ c same. cc in
     record {

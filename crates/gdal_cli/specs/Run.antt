@@ -93,7 +93,7 @@ ended (Err fault) = Some fault
 
 -- A name that tells no kind is refused so, or for want of memory; no other name is refused so that tells a kind, and
 -- where `alone` holds no other name at all. Words are not looked at again.
-pub record RefusesKind (alone : Bool) (name : List ℕ) (result : Result (Unit {0}) Fault) : Type 0 where
+pub record RefusesUnknown (alone : Bool) (name : List ℕ) (result : Result (Unit {0}) Fault) : Type 0 where
   pub always : (f : WalkFault) → kind_in name ≡ Err f → (result ≡ Err (fault_of f)) ⊎ (result ≡ Err Memory)
   pub only : (n : List ℕ) → result ≡ Err (NotRecognized n) → kind_in n ≡ Err (walk.NotRecognized n)
   pub own : alone ≡ true → (n : List ℕ) → result ≡ Err (NotRecognized n) → kind_in name ≡ Err (walk.NotRecognized n)

@@ -28,15 +28,15 @@ abbrev pub form_line : List ℕ → List ℕ → ℕ → Option ℕ → List ℕ
 form_line name form number place = text (codes "ERROR 4: " ∷ name ∷ codes ": malformed " ∷ form ∷ codes " (" ∷ decimal number ∷ codes ")" ∷ place_text place ∷ codes "\n" ∷ [])
 
 -- the line of a cell, from the west, that a fault speaks of
-abbrev pub cell_line_of : DtedFault → Option ℕ
-cell_line_of dted_fault.NotDted = None
-cell_line_of dted_fault.BadField = None
-cell_line_of dted_fault.Short = None
-cell_line_of (dted_fault.BadRecord line) = Some line
+abbrev pub place_of : DtedFault → Option ℕ
+place_of dted_fault.NotDted = None
+place_of dted_fault.BadField = None
+place_of dted_fault.Short = None
+place_of (dted_fault.BadRecord line) = Some line
 
 abbrev pub bad_line : List ℕ → Bad → List ℕ
 bad_line name (bad.Hdr fault) = form_line name (codes "hdr") (hdr.fault_number fault) None
-bad_line name (bad.Dted fault) = form_line name (codes "dted") (dted.fault_number fault) (cell_line_of fault)
+bad_line name (bad.Dted fault) = form_line name (codes "dted") (dted.fault_number fault) (place_of fault)
 bad_line name (bad.Hgt fault) = form_line name (codes "hgt") (hgt.fault_number fault) None
 bad_line name (bad.Grid fault) = form_line name (codes "grid") (grid.fault_number fault) (grid.fault_place fault)
 bad_line name (bad.Vrt fault) = form_line name (codes "vrt") (vrt.fault_number fault) (vrt.fault_place fault)

@@ -9,36 +9,23 @@ ghost use Rattle.gdal_cli.specs.Faults.{HasCauses, HasChanged, OwnsFault, IsLate
 ghost use Rattle.gdal_cli.specs.Input.{StopsBehind};
 ghost use Rattle.gdal_cli.specs.Location.{answers, point_text, location_in};
 ghost use Rattle.gdal_cli.specs.Pixels.{AreBands};
-ghost use Rattle.gdal_cli.specs.Run.{Ends, ran_of, info_in, printed_by, name_read, reads_sources, reads_input, ended, RefusesKind};
+ghost use Rattle.gdal_cli.specs.Run.{Ends, ran_of, info_in, printed_by, name_read, reads_sources, reads_input, ended, RefusesUnknown};
 
 use crate::Fault;
-use crate::asked::asked_in;
+use crate::asked::{Asked, asked_in};
 use crate::command::{BandNumber, BlockCount, Command, Job};
 use crate::input::answer_input;
-use crate::points::put_point;
-use crate::reader::{PointReader, Question};
+use crate::points::{Room, put_point};
+use band_blocks::Steps;
 use catalog::{Catalog, head_of, open_all};
 use info_report::write_info;
 use input_points::Position;
 use location_report::Form;
+use nearest_window::Lane;
 use outside::{Folder, Input, Name, Sink};
 use std::alloc::Global;
 use std::marker::Brand;
 use std::sync::ledger::{Blank, Ledger};
-
-// How points of a dataset are asked for.
-#[derive(Clone, Copy)]
-struct LocateOptions {
-    // The one point, or none where the points are the lines of the input.
-    point: Option<(Position, Position)>,
-    form: Form,
-    // Whether a point is a place, and not a column and a line.
-    geoloc: bool,
-    // Whether the sums of records are to be checked.
-    verify: bool,
-    // How many blocks are held at once.
-    blocks: BlockCount,
-}
 
 // Puts the report of a dataset.
 #[tactic(auto, unfolding(crate::specs::Run::info_in))]
@@ -53,7 +40,7 @@ fn put_info<F: Folder, O: Sink>(
     ensures names { F.names folder.new ≡ F.names folder.old }
     ensures cause { HasCauses (F.faults folder.old) (F.faults folder.new) (O.faults out.old) (O.faults out.new) result }
     ensures not_input { result ≡ Err Fault.InputFault → ⊥ }
-    ensures unknown { RefusesKind true name.now result }
+    ensures unknown { RefusesUnknown true name.now result }
     ensures changed { HasChanged (F.names folder.old) (ended result) }
     ensures own { OwnsFault (ended result) }
 {
@@ -64,10 +51,13 @@ fn put_info<F: Folder, O: Sink>(
 
 // Answers a point of a dataset, or the lines of the input where none is given, through one lane.
 fn put_answers<F: Folder, I: Input, O: Sink, L: Ledger>(
-    question: &Question,
+    alloc: Global,
+    cat: &Catalog,
     folder: &mut F,
     input: &mut I,
     out: &mut O,
+    id: u32,
+    asked: &Asked,
     point: Option<(Position, Position)>,
     blocks: BlockCount,
     blank: Blank,
@@ -75,11 +65,11 @@ fn put_answers<F: Folder, I: Input, O: Sink, L: Ledger>(
     requires name { blank.name ≡ L.name }
     requires parts { blank.parts ≡ L.parts }
     requires some { 0 < blank.parts }
-    requires walked { (m : Files) → F.names folder.old ≡ Some m → IsWalked m question.now.cat }
-    requires bands { AreBands question.now.cat question.now.id (λ count. All (λ band. (1 ≤ band) × (band ≤ count)) question.now.asked.bands) }
-    ensures told { (m : Files) → F.names folder.old ≡ Some m → (d : Dataset) → slice_get question.now.cat question.now.id ≡ Some d → (i : List ℕ) → I.left input.old ≡ Some i → Ends (ran_of (Ok (answers (point_text m question.now.cat d question.now.asked) point (entries i)))) result (O.got out.old) (O.got out.new) }
+    requires walked { (m : Files) → F.names folder.old ≡ Some m → IsWalked m cat.now }
+    requires bands { AreBands cat.now id (λ count. All (λ band. (1 ≤ band) × (band ≤ count)) asked.now.bands) }
+    ensures told { (m : Files) → F.names folder.old ≡ Some m → (d : Dataset) → slice_get cat.now id ≡ Some d → (i : List ℕ) → I.left input.old ≡ Some i → Ends (ran_of (Ok (answers (point_text m cat.now d asked.now) point (entries i)))) result (O.got out.old) (O.got out.new) }
     ensures never { (m : Files) → F.names folder.old ≡ Some m → (name : List ℕ) (was : ℕ) (now : Option ℕ) → result ≡ Err (Fault.Changed name was now) → ⊥ }
-    ensures stopped { result ≡ Err Fault.InputFault → (m : Files) → F.names folder.old ≡ Some m → (d : Dataset) → slice_get question.now.cat question.now.id ≡ Some d → (i : List ℕ) → I.left input.old ≡ Some i → StopsBehind (λ lines. ran_of (Ok (answers (point_text m question.now.cat d question.now.asked) point lines))) i (I.left input.new) (O.got out.old) (O.got out.new) }
+    ensures stopped { result ≡ Err Fault.InputFault → (m : Files) → F.names folder.old ≡ Some m → (d : Dataset) → slice_get cat.now id ≡ Some d → (i : List ℕ) → I.left input.old ≡ Some i → StopsBehind (λ lines. ran_of (Ok (answers (point_text m cat.now d asked.now) point lines))) i (I.left input.new) (O.got out.old) (O.got out.new) }
     ensures read { OnOk result (is_some point ≡ false → (i : List ℕ) → I.left input.old ≡ Some i → I.left input.new ≡ Some []) }
     ensures untouched { is_some point ≡ true → input.new ≡ input.old }
     ensures cause { HasCauses (F.faults folder.old) (F.faults folder.new) (O.faults out.old) (O.faults out.new) result }
@@ -88,11 +78,17 @@ fn put_answers<F: Folder, I: Input, O: Sink, L: Ledger>(
     ensures differs { Differs result }
     ensures names { F.names folder.new ≡ F.names folder.old }
 {
-    let bands = question.asked.bands.len();
-    let mut points: PointReader<F, L> = PointReader::new(question.alloc, blocks, bands, blank)?;
+    let mut loads: Steps<L> = Steps::open(blank);
+    let mut lane = Lane::new(alloc, blocks.get())?;
+    let mut room = Room::new(alloc, asked.bands.len())?;
+    let (lane, room) = (&mut lane, &mut room);
     match point {
-        Some((x, y)) => put_point(question, &mut points, folder, out, x, y),
-        None => answer_input(question, &mut points, folder, input, out),
+        Some((x, y)) => put_point(
+            alloc, cat, folder, out, lane, &mut loads, id, asked, room, x, y,
+        ),
+        None => answer_input(
+            alloc, cat, folder, input, out, lane, &mut loads, id, asked, room,
+        ),
     }
 }
 
@@ -104,36 +100,37 @@ fn put_location<F: Folder, I: Input, O: Sink>(
     input: &mut I,
     out: &mut O,
     name: &Name,
+    point: Option<(Position, Position)>,
     bands: &[BandNumber],
-    options: LocateOptions,
+    form: Form,
+    geoloc: bool,
+    verify: bool,
+    blocks: BlockCount,
 ) -> Result<(), Fault>
-    ensures told { (m : Files) → F.names folder.old ≡ Some m → (i : List ℕ) → I.left input.old ≡ Some i → Ends (ran_of (location_in m options.verify name.now options.point bands.now options.form options.geoloc (entries i))) result (O.got out.old) (O.got out.new) }
-    ensures stopped { result ≡ Err Fault.InputFault → (m : Files) → F.names folder.old ≡ Some m → (i : List ℕ) → I.left input.old ≡ Some i → StopsBehind (λ lines. ran_of (location_in m options.verify name.now options.point bands.now options.form options.geoloc lines)) i (I.left input.new) (O.got out.old) (O.got out.new) }
-    ensures read { OnOk result (is_some options.point ≡ false → (i : List ℕ) → I.left input.old ≡ Some i → I.left input.new ≡ Some []) }
-    ensures untouched { is_some options.point ≡ true → input.new ≡ input.old }
+    ensures told { (m : Files) → F.names folder.old ≡ Some m → (i : List ℕ) → I.left input.old ≡ Some i → Ends (ran_of (location_in m verify name.now point bands.now form geoloc (entries i))) result (O.got out.old) (O.got out.new) }
+    ensures stopped { result ≡ Err Fault.InputFault → (m : Files) → F.names folder.old ≡ Some m → (i : List ℕ) → I.left input.old ≡ Some i → StopsBehind (λ lines. ran_of (location_in m verify name.now point bands.now form geoloc lines)) i (I.left input.new) (O.got out.old) (O.got out.new) }
+    ensures read { OnOk result (is_some point ≡ false → (i : List ℕ) → I.left input.old ≡ Some i → I.left input.new ≡ Some []) }
+    ensures untouched { is_some point ≡ true → input.new ≡ input.old }
     ensures names { F.names folder.new ≡ F.names folder.old }
     ensures cause { HasCauses (F.faults folder.old) (F.faults folder.new) (O.faults out.old) (O.faults out.new) result }
     ensures input_cause { HasCause Fault.InputFault (I.faults input.old) (I.faults input.new) result }
-    ensures unknown { RefusesKind false name.now result }
+    ensures unknown { RefusesUnknown false name.now result }
     ensures changed { HasChanged (F.names folder.old) (ended result) }
     ensures own { OwnsFault (ended result) }
 {
     let mut cat = Catalog::new(alloc);
-    let id = open_all(alloc, &mut cat, folder, name, options.verify)?;
-    let asked = asked_in(alloc, options.form, bands, options.geoloc, cat.head(id))?;
-    let question = Question {
-        alloc,
-        cat,
-        id,
-        asked,
-    };
+    let id = open_all(alloc, &mut cat, folder, name, verify)?;
+    let asked = asked_in(alloc, form, bands, geoloc, cat.head(id))?;
     put_answers::<F, I, O, Brand>(
-        &question,
+        alloc,
+        &cat,
         folder,
         input,
         out,
-        options.point,
-        options.blocks,
+        id,
+        &asked,
+        point,
+        blocks,
         Blank::new(1),
     )
 }
@@ -153,7 +150,7 @@ pub fn put_job<F: Folder, I: Input, O: Sink>(
     ensures names { F.names folder.new ≡ F.names folder.old }
     ensures cause { HasCauses (F.faults folder.old) (F.faults folder.new) (O.faults out.old) (O.faults out.new) result }
     ensures input_cause { HasCause Fault.InputFault (I.faults input.old) (I.faults input.new) result }
-    ensures unknown { RefusesKind (not (reads_sources command.job)) (name_read command.job) result }
+    ensures unknown { RefusesUnknown (not (reads_sources command.job)) (name_read command.job) result }
     ensures changed { HasChanged (F.names folder.old) (ended result) }
     ensures own { OwnsFault (ended result) }
 {
@@ -167,15 +164,18 @@ pub fn put_job<F: Folder, I: Input, O: Sink>(
             bands,
             form,
             geoloc,
-        } => {
-            let options = LocateOptions {
-                point,
-                form,
-                geoloc,
-                verify,
-                blocks,
-            };
-            put_location(alloc, folder, input, out, &name, bands.as_slice(), options)
-        }
+        } => put_location(
+            alloc,
+            folder,
+            input,
+            out,
+            &name,
+            point,
+            bands.as_slice(),
+            form,
+            geoloc,
+            verify,
+            blocks,
+        ),
     }
 }

@@ -8,7 +8,6 @@ mod input;
 mod jobs;
 mod places;
 mod points;
-mod reader;
 mod running;
 mod spoken;
 mod texts;

@@ -3,7 +3,7 @@ ghost use Rattle.std.specs.Prelude.{◌≡◌, ◌++◌, [], ◌∷◌, codes, d
 ghost use Rattle.outside.specs.Streams.{Gets, GetsPart};
 ghost use Rattle.outside.specs.Causes.{FailsWith};
 ghost use Rattle.lists_and_answers.specs.Texts.{text};
-ghost use Rattle.gdal_cli.specs.Texts.{form_line, cell_line_of, bad_line, limit_word, plan_line, error_line};
+ghost use Rattle.gdal_cli.specs.Texts.{form_line, place_of, bad_line, limit_word, plan_line, error_line};
 
 use crate::Fault;
 use ascii_grid::GridFault;
@@ -115,8 +115,8 @@ fn put_form_at<S: Sink>(
 }
 
 // The line of a cell, from the west, that a fault speaks of.
-fn cell_line_of(fault: DtedFault) -> Option<u32>
-    ensures { result ≡ cell_line_of fault }
+fn place_of(fault: DtedFault) -> Option<u32>
+    ensures { result ≡ place_of fault }
 {
     match fault {
         DtedFault::NotDted | DtedFault::BadField | DtedFault::Short => None,
@@ -131,7 +131,7 @@ fn put_dted<S: Sink>(sink: &mut S, name: &Name, fault: DtedFault) -> Result<(), 
     ensures cause { FailsWith (S.faults sink.old) (S.faults sink.new) result }
 {
     let number = u64::from(fault.number());
-    match cell_line_of(fault) {
+    match place_of(fault) {
         None => put_form(sink, name, b"dted", number),
         Some(line) => put_form_at(sink, name, b"dted", number, u64::from(line)),
     }

@@ -2,7 +2,6 @@ pub mod Blocks
 mod Columns
 mod Counting
 mod Covers
-mod Filled
 mod Fills
 mod Growth
 mod Keys
@@ -12,4 +11,3 @@ mod Shown
 mod Steps
 mod Windows
 mod Naming
-mod Ranges

@@ -1,5 +1,4 @@
 pub mod Heights
-pub mod Lanes
 pub mod Painted
 pub mod Pictures
 pub mod Right

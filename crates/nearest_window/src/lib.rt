@@ -13,4 +13,3 @@ mod window;
 
 pub use lane::Lane;
 pub use laws::right_lanes_stay;
-pub use window::Window;

@@ -1,13 +1,13 @@
 ghost use Rattle.std.specs.Prelude.{◌≡◌, ◌<◌, ◌≤◌, ℕ, Some, length};
 ghost use Rattle.outside.specs.Outside.{Files};
 ghost use Rattle.catalog.specs.Walk.{IsWalked};
-ghost use Rattle.nearest_window.specs.Right.{IsReady};
+ghost use Rattle.nearest_window.specs.Right.{IsRight};
 
 use band_blocks::{LoadFault, Steps};
 use catalog::{Catalog, open_all};
 use geotransform::{Rect, Sample, Size};
 use lists_and_answers::Items;
-use nearest_window::{Lane, Window};
+use nearest_window::Lane;
 use outside::{CalmFolder, Failing, Folder, Listed, MemoryFolder, Name, Never, Schedule, Tally};
 use std::alloc::Global;
 use std::marker::Brand;
@@ -65,17 +65,13 @@ fn read_twice<F: Folder, L: Ledger>(
     if w > 16 || h > 16 {
         return Ok(Reading::Wrong);
     }
-    let window = Window {
-        dataset: id,
-        band: 0,
-        rect: Rect { x: 0, y: 0, w, h },
-    };
+    let rect = Rect { x: 0, y: 0, w, h };
     let mut out = vec![in alloc; 0i128; (w * h) as usize]?;
     let mut lane = Lane::new(alloc, capacity)?;
     let mut loads: Steps<L> = Steps::open(blank);
     let samples = out.as_mut_slice();
-    let first = lane.read_window(alloc, cat, folder, window, samples, &mut loads);
-    let second = lane.read_window(alloc, cat, folder, window, samples, &mut loads);
+    let first = lane.read_window(alloc, cat, folder, id, 0, rect, samples, &mut loads);
+    let second = lane.read_window(alloc, cat, folder, id, 0, rect, samples, &mut loads);
     Ok(judged(&first, &second, samples, wanted))
 }
 
@@ -383,21 +379,18 @@ fn point<F: Folder, L: Ledger>(
     loads: &mut Steps<L>,
 ) -> Sample
     requires id { id < length cat.now }
-    requires ready { IsReady F.Folder folder.old cat.now lane.old }
-    ensures ready { IsReady F.Folder folder.new cat.now lane.new }
+    requires right { IsRight F.file_bytes F.file_len (F.names folder.old) cat.now lane.old.pool lane.old.files }
+    requires walked { (m : Files) → F.names folder.old ≡ Some m → IsWalked m cat.now }
+    ensures right { IsRight F.file_bytes F.file_len (F.names folder.new) cat.now lane.new.pool lane.new.files }
     ensures names { F.names folder.new ≡ F.names folder.old }
 {
     let Size { w, h } = cat.head(id).size;
     if x >= w || y >= h {
         return -1;
     }
-    let window = Window {
-        dataset: id,
-        band: 0,
-        rect: Rect { x, y, w: 1, h: 1 },
-    };
+    let rect = Rect { x, y, w: 1, h: 1 };
     let mut out = [0; 1];
-    match lane.read_window(alloc, cat, folder, window, &mut out, loads) {
+    match lane.read_window(alloc, cat, folder, id, 0, rect, &mut out, loads) {
         Ok(()) => return out[0],
         Err(_) => return -1,
     }
@@ -464,16 +457,12 @@ fn wrong_pixels<F: Folder, L: Ledger>(
     if w > 200 || h > 10 {
         return Ok(1);
     }
-    let window = Window {
-        dataset: id,
-        band: 0,
-        rect: Rect { x: 0, y: 0, w, h },
-    };
+    let rect = Rect { x: 0, y: 0, w, h };
     let mut out = vec![in alloc; 0i128; (w * h) as usize]?;
     let mut lane = Lane::new(alloc, capacity)?;
     let mut loads: Steps<L> = Steps::open(blank);
     let samples = out.as_mut_slice();
-    let answer = lane.read_window(alloc, cat, folder, window, samples, &mut loads);
+    let answer = lane.read_window(alloc, cat, folder, id, 0, rect, samples, &mut loads);
     let mut wrong = if answer.is_ok() { 0 } else { 1 };
     for place in 0..w * h {
         if samples[place as usize] != pixel(image, place % w, place / w) as Sample {

@@ -31,21 +31,21 @@ returns-in_err-id-clause-own g c =
 pub returns-in_err-asked-clause-told : goal.returns-in_err-asked-clause-told
 returns-in_err-asked-clause-told g c = λ m is i left.
     let f = c.in_err-asked.field-0.0 in
-    let walk = subst (λ (cat : List Dataset). walked m c.args.options.verify cat c.args.name.now ≡ Ok c.open_all.new.cat) c.new-cat.ensures.empty (c.in_ok-id.ensures.told m is) in
+    let walk = subst (λ (cat : List Dataset). walked m c.args.verify cat c.args.name.now ≡ Ok c.open_all.new.cat) c.new-cat.ensures.empty (c.in_ok-id.ensures.told m is) in
     let d = found c.open_all.new.cat c.args.name.now c.in_ok-id.id c.in_ok-id.ensures.number in
     let head : c.head.result.now ≡ d.dataset.head = sym (told_of (λ (d : Dataset). d.head) c.open_all.new.cat c.in_ok-id.id d.dataset c.head.result.now d.at c.head.ensures.head) in
-    let choice = subst (λ (h : DatasetHead). IsOutside f ⊎ (asked_in c.args.options.form c.args.bands.now c.args.options.geoloc h ≡ Err f)) head c.in_err-asked.ensures.gives in
-    subst (λ (r : Result (Unit {0}) Fault). Ends (ran_of (location_in m c.args.options.verify c.args.name.now c.args.options.point c.args.bands.now c.args.options.form c.args.options.geoloc (entries i))) r (g.O.Sink.got c.args.out.now) (g.O.Sink.got c.args.out.now))
+    let choice = subst (λ (h : DatasetHead). IsOutside f ⊎ (asked_in c.args.form c.args.bands.now c.args.geoloc h ≡ Err f)) head c.in_err-asked.ensures.gives in
+    subst (λ (r : Result (Unit {0}) Fault). Ends (ran_of (location_in m c.args.verify c.args.name.now c.args.point c.args.bands.now c.args.form c.args.geoloc (entries i))) r (g.O.Sink.got c.args.out.now) (g.O.Sink.got c.args.out.now))
     (sym (err_is c.from_residual-in_err-asked.result f c.from_residual-in_err-asked.ensures))
-    (asked_refused m c.args.options.verify c.args.name.now c.args.options.point c.args.bands.now c.args.options.form c.args.options.geoloc (entries i) c.open_all.new.cat d.dataset walk (walked_read m c.new-cat.result c.open_all.new.cat c.args.name.now c.in_ok-id.id d.dataset c.new-cat.ensures.empty (c.in_ok-id.ensures.walked m is) d.at d.named) f (g.O.Sink.got c.args.out.now) choice)
+    (asked_refused m c.args.verify c.args.name.now c.args.point c.args.bands.now c.args.form c.args.geoloc (entries i) c.open_all.new.cat d.dataset walk (walked_read m c.new-cat.result c.open_all.new.cat c.args.name.now c.in_ok-id.id d.dataset c.new-cat.ensures.empty (c.in_ok-id.ensures.walked m is) d.at d.named) f (g.O.Sink.got c.args.out.now) choice)
 
 pub returns-clause-told : goal.returns-clause-told
 returns-clause-told g c = λ m is i left.
-    let walk = subst (λ (cat : List Dataset). walked m c.args.options.verify cat c.args.name.now ≡ Ok c.open_all.new.cat) c.new-cat.ensures.empty (c.in_ok-id.ensures.told m is) in
+    let walk = subst (λ (cat : List Dataset). walked m c.args.verify cat c.args.name.now ≡ Ok c.open_all.new.cat) c.new-cat.ensures.empty (c.in_ok-id.ensures.told m is) in
     let d = found c.open_all.new.cat c.args.name.now c.in_ok-id.id c.in_ok-id.ensures.number in
     let head : c.head.result.now ≡ d.dataset.head = sym (told_of (λ (d : Dataset). d.head) c.open_all.new.cat c.in_ok-id.id d.dataset c.head.result.now d.at c.head.ensures.head) in
-    let choice = subst (λ (h : DatasetHead). asked_in c.args.options.form c.args.bands.now c.args.options.geoloc h ≡ Ok c.in_ok-asked.asked) head c.in_ok-asked.ensures.gives in
-    location_put m c.args.options.verify c.args.name.now c.args.options.point c.args.bands.now c.args.options.form c.args.options.geoloc (entries i) c.open_all.new.cat d.dataset walk (walked_read m c.new-cat.result c.open_all.new.cat c.args.name.now c.in_ok-id.id d.dataset c.new-cat.ensures.empty (c.in_ok-id.ensures.walked m is) d.at d.named) c.in_ok-asked.asked c.put_answers.result (g.O.Sink.got c.args.out.now) (g.O.Sink.got c.put_answers.new.out) choice
+    let choice = subst (λ (h : DatasetHead). asked_in c.args.form c.args.bands.now c.args.geoloc h ≡ Ok c.in_ok-asked.asked) head c.in_ok-asked.ensures.gives in
+    location_put m c.args.verify c.args.name.now c.args.point c.args.bands.now c.args.form c.args.geoloc (entries i) c.open_all.new.cat d.dataset walk (walked_read m c.new-cat.result c.open_all.new.cat c.args.name.now c.in_ok-id.id d.dataset c.new-cat.ensures.empty (c.in_ok-id.ensures.walked m is) d.at d.named) c.in_ok-asked.asked c.put_answers.result (g.O.Sink.got c.args.out.now) (g.O.Sink.got c.put_answers.new.out) choice
     (c.put_answers.ensures.told m (c.in_ok-id.ensures.names ∙ is) d.dataset d.at i left)
 
 pub asked_in-requires : goal.asked_in-requires
@@ -58,16 +58,16 @@ returns-in_err-asked-clause-changed g c =
     let r = c.from_residual-in_err-asked.result in
     let f = c.in_err-asked.field-0.0 in
     no_change (g.F.Folder.names c.args.folder.now) r
-    (λ name was now is. asked_unchanged c.args.options.form c.args.bands.now c.args.options.geoloc c.head.result.now f c.in_err-asked.ensures.gives name was now
+    (λ name was now is. asked_unchanged c.args.form c.args.bands.now c.args.geoloc c.head.result.now f c.in_err-asked.ensures.gives name was now
     (one_fault r f (Changed name was now) (err_is r f c.from_residual-in_err-asked.ensures) is))
 
 pub returns-clause-stopped : goal.returns-clause-stopped
 returns-clause-stopped g c = λ so m is i left.
-    let walk = subst (λ (cat : List Dataset). walked m c.args.options.verify cat c.args.name.now ≡ Ok c.open_all.new.cat) c.new-cat.ensures.empty (c.in_ok-id.ensures.told m is) in
+    let walk = subst (λ (cat : List Dataset). walked m c.args.verify cat c.args.name.now ≡ Ok c.open_all.new.cat) c.new-cat.ensures.empty (c.in_ok-id.ensures.told m is) in
     let d = found c.open_all.new.cat c.args.name.now c.in_ok-id.id c.in_ok-id.ensures.number in
     let head : c.head.result.now ≡ d.dataset.head = sym (told_of (λ (d : Dataset). d.head) c.open_all.new.cat c.in_ok-id.id d.dataset c.head.result.now d.at c.head.ensures.head) in
-    let choice = subst (λ (h : DatasetHead). asked_in c.args.options.form c.args.bands.now c.args.options.geoloc h ≡ Ok c.in_ok-asked.asked) head c.in_ok-asked.ensures.gives in
-    stops_same (λ lines. ran_of (Ok (answers (point_text m c.open_all.new.cat d.dataset c.in_ok-asked.asked) c.args.options.point lines)))
-    (λ lines. ran_of (location_in m c.args.options.verify c.args.name.now c.args.options.point c.args.bands.now c.args.options.form c.args.options.geoloc lines))
+    let choice = subst (λ (h : DatasetHead). asked_in c.args.form c.args.bands.now c.args.geoloc h ≡ Ok c.in_ok-asked.asked) head c.in_ok-asked.ensures.gives in
+    stops_same (λ lines. ran_of (Ok (answers (point_text m c.open_all.new.cat d.dataset c.in_ok-asked.asked) c.args.point lines)))
+    (λ lines. ran_of (location_in m c.args.verify c.args.name.now c.args.point c.args.bands.now c.args.form c.args.geoloc lines))
     i _ _ _ (c.put_answers.ensures.stopped so m (c.in_ok-id.ensures.names ∙ is) d.dataset d.at i left)
-    (λ lines. ap ran_of (sym (location_told m c.args.options.verify c.args.name.now c.args.options.point c.args.bands.now c.args.options.form c.args.options.geoloc lines c.open_all.new.cat d.dataset walk (walked_read m c.new-cat.result c.open_all.new.cat c.args.name.now c.in_ok-id.id d.dataset c.new-cat.ensures.empty (c.in_ok-id.ensures.walked m is) d.at d.named) c.in_ok-asked.asked choice)))
+    (λ lines. ap ran_of (sym (location_told m c.args.verify c.args.name.now c.args.point c.args.bands.now c.args.form c.args.geoloc lines c.open_all.new.cat d.dataset walk (walked_read m c.new-cat.result c.open_all.new.cat c.args.name.now c.in_ok-id.id d.dataset c.new-cat.ensures.empty (c.in_ok-id.ensures.walked m is) d.at d.named) c.in_ok-asked.asked choice)))
