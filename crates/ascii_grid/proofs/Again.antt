@@ -146,7 +146,7 @@ ints_of : (xs : List ℤ) → All (λ n. is_value n ≡ true) xs → AreInt32 xs
 ints_of [] all = tt
 ints_of (x ∷ xs) all = (all 0 (pos 0) (omega arith), ints_of xs (λ k d less. all (suc k) d (omega arith)))
 
-all_of : (rows : List (List ℤ)) → All (λ row. All (λ n. is_value n ≡ true) row) rows → AreAll rows
+pub all_of : (rows : List (List ℤ)) → All (λ row. All (λ n. is_value n ≡ true) row) rows → AreAll rows
 all_of [] all = tt
 all_of (r ∷ rs) all = (ints_of r (all 0 [] (omega arith)), all_of rs (λ k d less. all (suc k) d (omega arith)))
 
@@ -187,7 +187,7 @@ row_again (x ∷ xs) rest at n vs int more =
     ∙ ap (λ y. body_of (suc (length xs + n)) (tokens_from false at y)) text
     ∙ word_put x (tail_text xs ++ rest) at (length xs + n) (xs ++ vs) int.0 (tail_white xs rest) (λ place. tail_again xs rest place n vs int.1 more)
 
-body_again : (rows : List (List ℤ)) (at : ℕ) → AreAll rows → body_of (length (joined rows)) (tokens_from false at (flat_map row_text rows)) ≡ Ok (joined rows)
+pub body_again : (rows : List (List ℤ)) (at : ℕ) → AreAll rows → body_of (length (joined rows)) (tokens_from false at (flat_map row_text rows)) ≡ Ok (joined rows)
 unfolding body_of
 body_again [] at int = refl
 body_again (r ∷ rs) at int =

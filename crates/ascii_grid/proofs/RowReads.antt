@@ -104,6 +104,10 @@ body_is (t ∷ ts) n vs is =
     (λ (e : n ≢ 0). body_first (value_in t.at t.text) (body_of (n - 1) ts) n t ts vs e refl (λ us. body_is ts (n - 1) us) (rw (ne_eqb n 0 e) at is))
     (cases_eq n 0)
 
+-- the values of a body's tokens
+pub body_values : (ts : List Token) (n : ℕ) (vs : List ℤ) → body_of n ts ≡ Ok vs → map (λ t. value_or_zero t.text) ts ≡ vs
+body_values ts n vs is = (body_is ts n vs is).same
+
 get_none : (k j : ℕ) → slice_get {X = Token} [] k ≡ slice_get {X = Token} [] j
 get_none k j = refl
 

@@ -1,13 +1,15 @@
 -- Samples in their file.
 use Rattle.std.proofs.Common.{◌≡◌, ℕ, ℤ, pos, ◌+◌, ◌-◌, ◌*◌, ◌<◌, ◌≤◌, List, length, map, take, drop, ap, ◌∙◌, arith, zero-add}
 use Rattle.std.specs.List.{range_with_len}
-use Rattle.std.proofs.lemmas.List.{drop-drop, drop-take, take-take}
+use Rattle.std.proofs.lemmas.List.{drop-drop, take-take}
 use Rattle.std.proofs.lemmas.List.FromFn.{fill_by_all, length-map-range_with_len, get_or-map-range_with_len}
 use Rattle.std.proofs.Math.Nat.{add-mul, mul_assoc, mul-le-mul_right}
 use Rattle.esri_hdr.specs.declared.parts.Layout.{Layout}
 use Rattle.esri_hdr.specs.declared.parts.Layout.TheVariants.{Bil, Bip, Bsq}
 use Rattle.esri_hdr.specs.Head.{Head, sample_len}
-use Rattle.interleaved_raw.specs.Raw.{position_by, position_of, stride_by, stride_of, sample_at, value_of, number_in, run_of, raw_at, row_of, needed_of, IsPlace, Holds, StandsAt}
+use Rattle.interleaved_raw.specs.Raw.{position_by, position_of, stride_by, stride_of, sample_at, value_of, number_in, run_of, raw_at, row_of, needed_of, IsPlace, Holds}
+use Rattle.lists_and_answers.specs.Places.{StandsAt}
+use Rattle.lists_and_answers.proofs.Stands.{stands-part}
 use Rattle.interleaved_raw.proofs.Runs.{room}
 
 -- the place of a later sample of the line
@@ -49,10 +51,8 @@ pub run_stands : (h : Head) (file bytes : List ℕ) (band x y i : ℕ) → i * s
 run_stands h file bytes band x y i enough stands =
     let at : ℕ = position_of h band x y in
     let p : ℕ = i * stride_of h in
-    let whole : length bytes ≡ p + (length bytes - p) = omega arith in
-    ap (sample_at h) (ap (drop p) stands ∙ ap (λ k. drop p (take k (drop at file))) whole ∙ drop-take p (length bytes - p) (drop at file))
-    ∙ ap (λ (l : List ℕ). value_of h.kind (number_in h.big (sample_len h.kind) l)) (take-take (sample_len h.kind) (length bytes - p) (drop p (drop at file)) (omega arith))
-    ∙ run_is h file band x y i
+    ap (λ (l : List ℕ). value_of h.kind (number_in h.big (sample_len h.kind) l)) (stands-part file bytes at p (sample_len h.kind) enough stands)
+    ∙ ap (λ k. sample_at h (drop k file)) (further h.layout h band x y i)
 
 map_range_same : (f g : ℕ → ℤ) (n : ℕ) → ((i : ℕ) → i < n → f i ≡ g i) → map f (range_with_len 0 n) ≡ map g (range_with_len 0 n)
 map_range_same f g n same = fill_by_all g (map f (range_with_len 0 n)) n (pos 0) (length-map-range_with_len f 0 n) (λ k below. get_or-map-range_with_len f 0 n k k (pos 0) below (zero-add k) ∙ same k below)

@@ -73,10 +73,6 @@ raw_at h bytes band x y = sample_at h (drop (position_of h band x y) bytes)
 abbrev pub row_of : Head → List ℕ → ℕ → ℕ → ℕ → ℕ → List ℤ
 row_of h file band x y n = map (λ i. raw_at h file band (x + i) y) (range_with_len 0 n)
 
--- the bytes are those of a file from a place on
-abbrev pub StandsAt : List ℕ → List ℕ → ℕ → Type 0
-StandsAt file bytes at = bytes ≡ take (length bytes) (drop at file)
-
 -- the bytes hold n samples that stand a stride apart
 abbrev pub Holds : Head → List ℕ → ℕ → Type 0
 Holds h bytes n = 0 < n → (n - 1) * stride_of h + sample_len h.kind ≤ length bytes
@@ -85,9 +81,17 @@ Holds h bytes n = 0 < n → (n - 1) * stride_of h + sample_len h.kind ≤ length
 abbrev pub run_of : Head → List ℕ → ℕ → ℤ
 run_of h bytes i = sample_at h (drop (i * stride_of h) bytes)
 
--- the bytes that write a number
+-- the bytes of sample i of those that stand a stride apart
+abbrev pub bytes_at : Head → List ℕ → ℕ → List ℕ
+bytes_at h bytes i = take (sample_len h.kind) (drop (i * stride_of h) bytes)
+
+-- the n bytes that write a number, the first or the last of which counts most
+abbrev pub number_bytes : Bool → ℕ → ℕ → List ℕ
+number_bytes big n x = if big then big_bytes n x else little_bytes n x
+
+-- the bytes that write a sample
 abbrev pub sample_bytes : Head → ℤ → List ℕ
-sample_bytes h n = if h.big then big_bytes (sample_len h.kind) (bits_of h.kind n) else little_bytes (sample_len h.kind) (bits_of h.kind n)
+sample_bytes h n = number_bytes h.big (sample_len h.kind) (bits_of h.kind n)
 
 -- the byte at j is in none of the first n samples
 abbrev pub IsBetween : Head → ℕ → ℕ → Type 0

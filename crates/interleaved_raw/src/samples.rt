@@ -4,7 +4,8 @@ ghost use Rattle.std.specs.List.{range_with_len, All};
 ghost use Rattle.std.specs.Int.{w16, w32, cast_signed, cast_unsigned};
 ghost use Rattle.geotransform.specs.Types.{is_in};
 ghost use Rattle.esri_hdr.specs.Head.{Head, sample_len};
-ghost use Rattle.interleaved_raw.specs.Raw.{position_of, stride_of, value_of, bits_of, number_in, sample_at, raw_at, row_of, StandsAt, Holds, run_of, sample_bytes, IsBetween};
+ghost use Rattle.lists_and_answers.specs.Places.{StandsAt};
+ghost use Rattle.interleaved_raw.specs.Raw.{position_of, stride_of, value_of, bits_of, number_in, sample_at, raw_at, row_of, Holds, run_of, bytes_at, sample_bytes, IsBetween};
 
 use crate::places::stride;
 use byteorder::{BigEndian, ByteOrder, LittleEndian};
@@ -23,16 +24,28 @@ fn value_of(kind: PixelType, bits: u64) -> Sample
     }
 }
 
+// The bits that the bytes of a sample write in an order.
+fn bits_by<O: ByteOrder>(kind: PixelType, bytes: &[u8]) -> u64
+    requires { length bytes.now ≡ sample_len kind }
+    ensures value { result ≡ O.number_of (sample_len kind) bytes.now }
+    ensures fits { result < 256 ^ sample_len kind }
+{
+    match kind {
+        PixelType::Byte => O::read_uint(bytes, 1),
+        PixelType::UInt16 | PixelType::Int16 => O::read_u16(bytes) as u64,
+        PixelType::UInt32 | PixelType::Int32 => O::read_u32(bytes) as u64,
+    }
+}
+
 fn bits_in(head: &RawHead, bytes: &[u8]) -> u64
     requires { length bytes.now ≡ sample_len head.now.kind }
     ensures value { result ≡ number_in head.now.big (sample_len head.now.kind) bytes.now }
     ensures fits { result < 256 ^ sample_len head.now.kind }
 {
-    let s = sample_len(head.kind);
     if head.big {
-        BigEndian::read_uint(bytes, s)
+        bits_by::<BigEndian>(head.kind, bytes)
     } else {
-        LittleEndian::read_uint(bytes, s)
+        bits_by::<LittleEndian>(head.kind, bytes)
     }
 }
 
@@ -77,18 +90,30 @@ fn bits_of(kind: PixelType, n: Sample) -> u64
     }
 }
 
+// Writes the bits of a sample over its bytes in an order.
+fn write_bits<O: ByteOrder>(kind: PixelType, bits: u64, bytes: &mut [u8])
+    requires fits { bits < 256 ^ sample_len kind }
+    requires len { length bytes.old ≡ sample_len kind }
+    ensures { bytes.new ≡ O.bytes_of (sample_len kind) bits }
+{
+    match kind {
+        PixelType::Byte => return O::write_uint(bytes, bits, 1),
+        PixelType::UInt16 | PixelType::Int16 => return O::write_u16(bytes, bits as u16),
+        PixelType::UInt32 | PixelType::Int32 => return O::write_u32(bytes, bits as u32),
+    }
+}
+
 /// Writes a sample over the bytes.
 fn write_sample(head: &RawHead, n: Sample, bytes: &mut [u8])
     requires range { is_in head.now.kind n ≡ true }
     requires len { length bytes.old ≡ sample_len head.now.kind }
     ensures { bytes.new ≡ sample_bytes head.now n }
 {
-    let s = sample_len(head.kind);
     let bits = bits_of(head.kind, n);
     if head.big {
-        BigEndian::write_uint(bytes, bits, s);
+        write_bits::<BigEndian>(head.kind, bits, bytes);
     } else {
-        LittleEndian::write_uint(bytes, bits, s);
+        write_bits::<LittleEndian>(head.kind, bits, bytes);
     }
 }
 
@@ -96,6 +121,7 @@ fn write_sample(head: &RawHead, n: Sample, bytes: &mut [u8])
 pub fn encode_run(head: &RawHead, samples: &[Sample], bytes: &mut [u8])
     requires holds { Holds head.now bytes.old (length samples.now) }
     requires range { All (λ n. is_in head.now.kind n ≡ true) samples.now }
+    ensures bytes { (i : ℕ) → i < length samples.now → bytes_at head.now bytes.new i ≡ sample_bytes head.now (get_or samples.now i (pos 0)) }
     ensures samples { map (run_of head.now bytes.new) (range_with_len 0 (length samples.now)) ≡ samples.now }
     ensures others { (j : ℕ) → IsBetween head.now (length samples.now) j → get_or bytes.new j 0 ≡ get_or bytes.old j 0 }
 {

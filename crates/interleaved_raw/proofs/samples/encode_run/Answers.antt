@@ -2,11 +2,10 @@ use Rattle.std.proofs.Common.{arith, refl, ap, ◌∙◌, sym, ◌+◌, ◌*◌,
 use Rattle.std.specs.Int.{w128}
 use mir.Val.{SFits}
 use Rattle.std.proofs.lemmas.Int.{to_z-of_z}
-use Rattle.std.proofs.lemmas.List.FromFn.{fill_by_all}
 use Rattle.esri_hdr.specs.Head.{sample_len}
-use Rattle.interleaved_raw.specs.Raw.{run_of, stride_of, sample_bytes}
+use Rattle.interleaved_raw.specs.Raw.{stride_of, sample_bytes}
 use Rattle.interleaved_raw.proofs.Bits.{in_fits}
-use Rattle.interleaved_raw.proofs.Writes.{written_more, others_more, sample_bytes_len}
+use Rattle.interleaved_raw.proofs.Writes.{written_more, others_more, run_again, sample_bytes_len}
 use Rattle.interleaved_raw.proofs.Runs.{room}
 use Rattle.interleaved_raw.proofs.samples.encode_run.Goals as goal
 
@@ -22,9 +21,9 @@ loop-i-preserved c =
     let len : length c.write_sample.new.bytes ≡ s = ap length is_ys ∙ sample_bytes_len c.args.head.now (get_or c.args.samples.now c.loop-i.i (pos 0)) in
     let space = room c.args.head.now c.args.bytes.now c.loop-i.i (length c.args.samples.now) c.loop-i-test.true c.requires.holds in
     record {
-      written = written_more c.args.head.now c.loop-i.bytes c.write_sample.new.bytes c.loop-i.i _ _ (get_or c.args.samples.now c.loop-i.i (pos 0)) c.args.samples.now is_at is_k (omega (arith, is_at, space, c.loop-i.auto.bytes)) (len ∙ sym is_k) is_ys refl (c.requires.range c.loop-i.i (pos 0) c.loop-i-test.true) wide c.loop-i.invariant.written;
+      written = written_more c.args.head.now c.loop-i.bytes c.write_sample.new.bytes c.loop-i.i _ _ (get_or c.args.samples.now c.loop-i.i (pos 0)) c.args.samples.now is_at is_k (omega (arith, is_at, space, c.loop-i.auto.bytes)) (len ∙ sym is_k) is_ys refl wide c.loop-i.invariant.written;
       others = others_more c.args.head.now c.args.bytes.now c.loop-i.bytes c.write_sample.new.bytes c.loop-i.i _ _ is_at is_k (omega (arith, is_at, is_k, space, c.loop-i.auto.bytes)) (len ∙ sym is_k) wide c.loop-i.invariant.others;
     }
 
 pub returns-clause-samples : goal.returns-clause-samples
-returns-clause-samples c = sym (fill_by_all (run_of c.args.head.now c.loop-i.bytes) c.args.samples.now (length c.args.samples.now) (pos 0) refl (λ k less. sym (c.loop-i.invariant.written k (omega arith))))
+returns-clause-samples c = run_again c.args.head.now c.loop-i.bytes c.args.samples.now c.requires.range (λ k less. c.loop-i.invariant.written k (omega arith))

@@ -1,9 +1,9 @@
 use Rattle.std.proofs.Common.{◌≡◌, ℕ, ◌<◌, get_or, pos}
-use Rattle.interleaved_raw.specs.Raw.{run_of, IsBetween}
+use Rattle.interleaved_raw.specs.Raw.{bytes_at, sample_bytes, IsBetween}
 use Rattle.interleaved_raw.proofs.samples.encode_run.Given as goal
 
 abbrev pub invariant-loop-i : goal.invariant-loop-i
 invariant-loop-i l = record {
-  written : (k : ℕ) → k < l.i → run_of l.head l.bytes k ≡ get_or l.samples k (pos 0);
+  written : (k : ℕ) → k < l.i → bytes_at l.head l.bytes k ≡ sample_bytes l.head (get_or l.samples k (pos 0));
   others : (j : ℕ) → IsBetween l.head l.i j → get_or l.bytes j 0 ≡ get_or l.initial.bytes j 0;
 }
