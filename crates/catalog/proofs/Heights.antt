@@ -13,7 +13,7 @@ use Rattle.catalog.specs.declared.faults.WalkFault.TheVariants.{Limit}
 use Rattle.catalog.specs.declared.links.Link.{Link}
 use Rattle.catalog.specs.Drivers.{Dataset}
 use Rattle.catalog.specs.Mosaics.{sources_of, source_name}
-use Rattle.catalog.specs.Walk.{dataset_named, sources_in, HasTarget, IsFile, IsNested}
+use Rattle.catalog.specs.Walk.{dataset_named, sources_in, HasTarget, IsNoMosaic, IsNested}
 use Rattle.catalog.specs.Links.{greatest, height_step, height_within}
 use Rattle.catalog.specs.Linked.{State, IsMet, IsLinked, IsLinkOf, IsTarget, Each, all_of, height_in, height_at, most}
 use Rattle.catalog.proofs.Found.{named_at, flat_rows}
@@ -85,7 +85,7 @@ content_nested st P name (Mosaic doc) l height is low nested =
     let e = is.height in
     targets_nested st P name (sources_of doc) (all_of l.targets) height (flat_rows st name doc.bands l.targets is.rows) (omega arith) nested
 
-content_file : (st : State) (name : List ℕ) (c : Content) (l : Link) → IsLinkOf st name c l → l.height ≤ 0 → IsFile c
+content_file : (st : State) (name : List ℕ) (c : Content) (l : Link) → IsLinkOf st name c l → l.height ≤ 0 → IsNoMosaic c
 content_file st name (File h) l is low = tt
 content_file st name (Mosaic doc) l is low = let e = is.height in absurd (omega arith)
 

@@ -1,7 +1,8 @@
 -- What a walk leaves in a catalog.
-use Rattle.std.proofs.Common.{◌≡◌, ◌∙◌, ◌⊎◌, inl, inr, ◌<◌, ◌≤◌, ap, sym, subst, refl, ℕ, List, [], length, take, Bool, true, Option, Some, None, is_some, IsTrue, Result, Ok, Err, arith, true≢false}
+use Rattle.std.proofs.Common.{◌≡◌, ◌∙◌, ◌⊎◌, inl, inr, ◌<◌, ◌≤◌, ap, sym, subst, refl, ℕ, List, [], ◌++◌, length, take, drop, Bool, true, Option, Some, None, is_some, IsTrue, Result, Ok, Err, arith, true≢false}
 use Rattle.std.specs.Prelude.{slice_get, option_map, option_and_then}
 use Rattle.std.proofs.lemmas.Option.{slice_get_within}
+use Rattle.std.proofs.lemmas.List.{take-append-drop}
 use Rattle.std.proofs.lemmas.List.Elements.{All-nil}
 use Rattle.lists_and_answers.specs.Answers.{◌>>=◌}
 use Rattle.outside.specs.Outside.{Files}
@@ -39,6 +40,10 @@ module _ (verify : Bool) (name : List ℕ) (a b : Seen) (old new : State) (whole
 
 pub datasets_kept : (old new : State) → Grows old new → take (length old.datasets) new.datasets ≡ old.datasets
 datasets_kept old new grows = front_stays old.datasets new.datasets grows.datasets
+
+-- what begins with a list is that list and more
+pub goes_on : (xs ys : List Dataset) → take (length xs) ys ≡ xs → (more : List Dataset) × (ys ≡ xs ++ more)
+goes_on xs ys front = (drop (length xs) ys, sym (take-append-drop (length xs) ys) ∙ ap (λ (zs : List Dataset). zs ++ drop (length xs) ys) front)
 
 -- a refusal leaves what was met before
 pub cut_same : (old new last : State) (count sources : ℕ) → IsWhole old → Grows old new → count ≡ length old.datasets → sources ≡ old.sources → last ≡ cut_to new count sources → last ≡ old

@@ -15,7 +15,7 @@ use Rattle.catalog.specs.declared.driver.Content.TheVariants.{File, Mosaic}
 use Rattle.catalog.specs.declared.faults.WalkFault.{WalkFault}
 use Rattle.catalog.specs.Drivers.{Dataset}
 use Rattle.catalog.specs.Mosaics.{source_name}
-use Rattle.catalog.specs.Walk.{dataset_named, sources_in, HasTarget, IsNested, IsFile}
+use Rattle.catalog.specs.Walk.{dataset_named, sources_in, HasTarget, IsNested, IsNoMosaic}
 use Rattle.catalog.specs.Pixels.{Lookup, Images, size_of, name_of_source, band_of_source, band_pixel, content_pixel, pixel_step, pixel_within}
 
 -- what the last of some sources gives depends on the sizes and the pixels of their datasets alone
@@ -105,7 +105,7 @@ of_content : (one two : Lookup) (here there : Images) (m : Files) (base : List �
 of_content one two here there m base (File h) same band x y = refl
 of_content one two here there m base (Mosaic d) same band x y = of_band one two here there base d.size (slice_get d.bands band) x y (λ v at. part (SameSource one two here there base) (λ (b : BandValue). b.sources) d.bands band v same at)
 
-of_file : (one two : Lookup) (here there : Images) (m : Files) (base : List ℕ) (content : Content) → IsFile content → (band x y : ℕ) → content_pixel one here m base content band x y ≡ content_pixel two there m base content band x y
+of_file : (one two : Lookup) (here there : Images) (m : Files) (base : List ℕ) (content : Content) → IsNoMosaic content → (band x y : ℕ) → content_pixel one here m base content band x y ≡ content_pixel two there m base content band x y
 of_file one two here there m base (File h) is band x y = refl
 of_file one two here there m base (Mosaic d) is band x y = absurd is
 

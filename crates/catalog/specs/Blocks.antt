@@ -1,7 +1,8 @@
 -- The blocks of a catalog's datasets.
-use Rattle.std.specs.Prelude.{ℕ, ℤ, ◌*◌, List, [], length, slice_get, Option, Some, None}
+use Rattle.std.specs.Prelude.{ℕ, ℤ, ◌*◌, List, [], slice_get, Option, Some, None}
 use Rattle.std.specs.List.{sum_by}
 use Rattle.outside.specs.Outside.{Files}
+use Rattle.catalog.specs.Dataset.{band_count}
 use Rattle.catalog.specs.Drivers.{Dataset}
 use Rattle.catalog.specs.Pixels.{pixel_of}
 use Rattle.catalog.specs.Places.{blocks_of, block_rect_of, row_by_row}
@@ -17,4 +18,4 @@ block_pixels m cat id band block = block_by m cat id band block (slice_get cat i
 
 -- the blocks of all bands of all datasets
 abbrev pub all_blocks : List Dataset → ℕ
-all_blocks cat = sum_by (λ (d : Dataset). length d.head.bands * blocks_of d.head) cat
+all_blocks cat = sum_by (λ (d : Dataset). band_count d.head * blocks_of d.head) cat

@@ -1,5 +1,5 @@
 -- What is known of a dataset before its pixels are read.
-use Rattle.std.specs.Prelude.{ℕ, ◌≡◌, ◌<◌, ◌≤◌, List, length, All, Option, IfSome, true}
+use Rattle.std.specs.Prelude.{ℕ, ◌≡◌, ◌<◌, ◌≤◌, List, length, slice_get, All, Option, IfSome, true}
 use Rattle.geotransform.specs.Geo.{Transform, IsRaster}
 use Rattle.geotransform.specs.Types.{is_in}
 use Rattle.geotransform.specs.declared.types.Size.{Size}
@@ -17,6 +17,13 @@ pub record DatasetHead : Type 0 where
   pub bands : List BandHead
   pub files : List (List ℕ)
 
+-- how many bands a dataset has, and one of them by its number, counted from 0
+abbrev pub band_count : DatasetHead → ℕ
+band_count head = length head.bands
+
+abbrev pub band_at : DatasetHead → ℕ → Option BandHead
+band_at head band = slice_get head.bands band
+
 -- the size of the blocks of a kind: a line of pixels, a column of a cell, or a square of a mosaic
 abbrev pub block_of : Kind → Size → Size
 block_of kinds.Raw size = record { w = size.w; h = 1 }
@@ -33,6 +40,6 @@ pub record IsBandHead (kind : Kind) (size : Size) (band : BandHead) : Type 0 whe
 -- the limits of a dataset, and what each of its bands keeps
 pub record IsDatasetHead (head : DatasetHead) : Type 0 where
   pub size : IsRaster head.size
-  pub some_band : 0 < length head.bands
-  pub bands : length head.bands ≤ 256
+  pub some_band : 0 < band_count head
+  pub bands : band_count head ≤ 256
   pub each : All (IsBandHead head.kind head.size) head.bands

@@ -6,6 +6,7 @@ use Rattle.catalog.specs.declared.driver.Content.{Content}
 use Rattle.catalog.specs.declared.driver.Content.TheVariants.{File, Mosaic}
 use Rattle.catalog.specs.declared.faults.WalkFault.TheVariants.{TooDeep}
 use Rattle.catalog.specs.declared.links.Link.{Link}
+use Rattle.catalog.specs.Dataset.{band_count}
 use Rattle.catalog.specs.Drivers.{Dataset}
 use Rattle.catalog.specs.Mosaics.{source_name, is_among}
 use Rattle.catalog.specs.Walk.{Met, again, number_of, sources_among, IsDataset, IsApart, IsCatalog}
@@ -63,7 +64,7 @@ pub record IsTarget (st : State) (base : List ℕ) (s : SourceValue) (id : ℕ) 
   pub number : number_of st.datasets name ≡ Some id
   pub at : slice_get st.datasets id ≡ Some dataset
   pub whole : slice_get st.links id ≡ Some (Some link)
-  pub band : s.band ≤ length dataset.head.bands
+  pub band : s.band ≤ band_count dataset.head
 
 -- two lists go together item by item
 abbrev pub Each : {A B : Type 0} → (A → B → Type 0) → List A → List B → Type 0

@@ -1,5 +1,5 @@
 -- The pixels of datasets, one at a time.
-use Rattle.std.specs.Prelude.{◌≡◌, ◌≤◌, ℕ, ℤ, pos, zero, suc, ◌-◌, false, List, [], length, slice_get, Option, Some, None, option_map, Result, Ok, Err}
+use Rattle.std.specs.Prelude.{◌≡◌, ◌≤◌, ℕ, ℤ, pos, zero, suc, ◌-◌, false, List, [], slice_get, Option, Some, None, option_map, Result, Ok, Err}
 use Rattle.std.specs.Option.{unwrap_or}
 use Rattle.std.specs.FinMap.{get}
 use Rattle.lists_and_answers.specs.Options.{◌>>=◌}
@@ -11,6 +11,7 @@ use Rattle.hgt_tiles.specs.Samples.{hgt_at}
 use Rattle.ascii_grid.specs.Grid.{ascii_at, grid_head}
 use Rattle.vrt_profile.specs.Values.{BandValue, SourceValue}
 use Rattle.vrt_profile.specs.Value.{mosaic_pixel}
+use Rattle.catalog.specs.Dataset.{band_count}
 use Rattle.catalog.specs.Drivers.{Dataset}
 use Rattle.catalog.specs.Mosaics.{source_name}
 use Rattle.catalog.specs.Heads.{dataset_in}
@@ -111,7 +112,7 @@ pub record IsTaken (cat : List Dataset) (d : Dataset) (band source : ℕ) (s : S
   pub dataset : Dataset
   pub is : target_at cat d band source ≡ Some target
   pub there : slice_get cat target ≡ Some dataset
-  pub has_band : s.band ≤ length dataset.head.bands
+  pub has_band : s.band ≤ band_count dataset.head
 
 -- for each source of a band, this is the size of the dataset that it names, and these are the pixels of its band
 abbrev pub AreOfTargets : Files → List Dataset → Dataset → ℕ → (ℕ → Size) → (ℕ → ℕ → ℕ → ℤ) → Type 0

@@ -8,7 +8,7 @@ use Rattle.catalog.specs.declared.kind.Kind.{Kind}
 use Rattle.catalog.specs.declared.kind.Kind.TheVariants as kinds
 use Rattle.catalog.specs.declared.driver.Content.{Content}
 use Rattle.catalog.specs.declared.driver.Content.TheVariants.{File, Mosaic}
-use Rattle.catalog.specs.Dataset.{IsDatasetHead}
+use Rattle.catalog.specs.Dataset.{IsDatasetHead, band_count}
 use Rattle.catalog.specs.Drivers.{Dataset, content_head, Fits}
 use Rattle.catalog.specs.Mosaics.{sources_of, is_among}
 use Rattle.catalog.specs.Heads.{kind_in, dataset_by, dataset_in, resolved}
@@ -67,7 +67,7 @@ one_more_source sources = if nat_lt sources 262144 then Ok tt else Err (Limit li
 -- the number of the bands of the dataset of a name
 abbrev pub bands_of : Option Dataset → ℕ
 bands_of None = 0
-bands_of (Some d) = length d.head.bands
+bands_of (Some d) = band_count d.head
 
 -- the dataset of a name has a band, counted from 1
 abbrev pub has_band : List Dataset → List ℕ → ℕ → Result (Unit {0}) WalkFault
@@ -163,17 +163,17 @@ pub record HasTarget (IsAsked : Dataset → Type 0) (cat : List Dataset) (base :
   pub dataset : Dataset
   pub resolves : resolved base s ≡ Ok name
   pub named : dataset_named cat name ≡ Some dataset
-  pub band : s.band ≤ length dataset.head.bands
+  pub band : s.band ≤ band_count dataset.head
   pub asked : IsAsked dataset
 
 -- the content isn't a mosaic's
-abbrev pub IsFile : Content → Type 0
-IsFile (File h) = Unit {0}
-IsFile (Mosaic d) = ⊥
+abbrev pub IsNoMosaic : Content → Type 0
+IsNoMosaic (File h) = Unit {0}
+IsNoMosaic (Mosaic d) = ⊥
 
 -- each source names a dataset of the catalog, and so on through at most so many nestings
 abbrev pub IsNested : ℕ → List Dataset → Dataset → Type 0
-IsNested zero cat d = IsFile d.content
+IsNested zero cat d = IsNoMosaic d.content
 IsNested (suc room) cat d = All (HasTarget (λ t. IsNested room cat t) cat d.head.name) (sources_in d.content)
 
 -- what every catalog keeps

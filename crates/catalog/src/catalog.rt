@@ -1,5 +1,5 @@
 // Catalogs of datasets, and the walk that finds them.
-ghost use Rattle.std.specs.Prelude.{◌≡◌, false, ◌<◌, ◌≤◌, ◌++◌, ◌∷◌, ℕ, [], length, take, slice_get, Some, None, Ok, Err, option_map, option_and_then, IfOk, IfErr, OnOk, OnErr, IsTrue, is_some};
+ghost use Rattle.std.specs.Prelude.{◌≡◌, false, ◌<◌, ◌≤◌, ◌++◌, ◌∷◌, ℕ, List, [], length, slice_get, Some, None, Ok, Err, option_map, option_and_then, IfOk, IfErr, OnOk, OnErr, IsTrue, is_some};
 ghost use Rattle.lists_and_answers.specs.Answers.{Gives};
 ghost use Rattle.outside.specs.Outside.{Files};
 ghost use Rattle.outside.specs.Causes.{HasCause};
@@ -164,6 +164,7 @@ impl Catalog {
     pub fn head(&self, id: u32) -> &Head
         requires known { id < length self.now }
         ensures head { option_map (λ d. d.head) (slice_get self.now id) ≡ Some result.now }
+        ensures valid { IsCatalog self.now }
     {
         &self.met.dataset(id).head
     }
@@ -182,6 +183,7 @@ impl Catalog {
     /// The document of a mosaic; None exactly where there is no mosaic of this number.
     pub fn document(&self, id: u32) -> Option<&Document>
         ensures document { option_and_then (λ d. document_of d.content) (slice_get self.now id) ≡ option_map (λ r. r.now) result }
+        ensures valid { IsCatalog self.now }
     {
         if id >= self.met.count() {
             return None;
@@ -246,7 +248,7 @@ pub fn open_all<F: Folder>(
     ensures told { (m : Files) → F.names folder.old ≡ Some m → Gives IsOutside (λ id. cat.new) result (walked m verify cat.old name.now) }
     ensures number { IfOk result (λ id. number_of cat.new name.now ≡ Some id) }
     ensures refused { OnErr result (cat.new ≡ cat.old) }
-    ensures kept { take (length cat.old) cat.new ≡ cat.old }
+    ensures kept { (more : List Known) × (cat.new ≡ cat.old ++ more) }
     ensures valid { IsCatalog cat.new }
     ensures walked { (m : Files) → F.names folder.old ≡ Some m → IsWalked m cat.old → IsWalked m cat.new }
     ensures again { IsTrue (is_some (number_of cat.old name.now)) → (F.read_calls folder.new ≡ F.read_calls folder.old) × (F.faults folder.new ≡ F.faults folder.old) }

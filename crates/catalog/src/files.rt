@@ -1,5 +1,5 @@
 // Files of a folder, read whole.
-ghost use Rattle.std.specs.Prelude.{◌≡◌, ◌⊎◌, ℕ, Some, List, Err, take, IfOk, IfErr};
+ghost use Rattle.std.specs.Prelude.{◌≡◌, ◌⊎◌, ℕ, Some, List, Err, length, take, IfOk, IfErr};
 ghost use Rattle.outside.specs.Outside.{Files, IsLong};
 ghost use Rattle.outside.specs.Causes.{HasCause};
 ghost use Rattle.catalog.specs.Outcomes.{IsOutside};
@@ -39,6 +39,7 @@ pub fn read_whole<F: Folder>(
     requires len { len ≡ F.file_len file }
     requires told { IsLong (F.file_bytes file) len }
     ensures ok { IfOk result (λ v. (b : List ℕ) → F.file_bytes file ≡ Some b → v.items ≡ b) }
+    ensures size { IfOk result (λ v. length v.items ≡ len) }
     ensures err { IfErr result IsOutside }
     ensures names { F.names folder.new ≡ F.names folder.old }
     ensures write_calls { F.write_calls folder.new ≡ F.write_calls folder.old }

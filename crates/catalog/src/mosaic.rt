@@ -1,5 +1,5 @@
 // Mosaics, by their documents.
-ghost use Rattle.std.specs.Prelude.{◌≡◌, ℕ, List, Some, IfOk, IfErr};
+ghost use Rattle.std.specs.Prelude.{◌≡◌, ◌⊎◌, ◌≤◌, ◌^◌, ℕ, List, length, Some, Ok, Err, IfOk, IfErr};
 ghost use Rattle.lists_and_answers.specs.Answers.{Gives};
 ghost use Rattle.outside.specs.Outside.{Files};
 ghost use Rattle.outside.specs.Causes.{HasCause};
@@ -7,17 +7,64 @@ ghost use Rattle.catalog.specs.Outcomes.{IsOutside, IsMemory};
 ghost use Rattle.catalog.specs.Dataset.{IsDatasetHead};
 ghost use Rattle.catalog.specs.Drivers.{content_kind, Fits};
 ghost use Rattle.catalog.specs.Mosaics.{mosaic_head};
-ghost use Rattle.catalog.specs.Heads.{vrt_in, IsOfFile};
+ghost use Rattle.catalog.specs.Heads.{file_in, named, vrt_in, IsOfFile};
+ghost use Rattle.vrt_profile.specs.Values.{IsDocument};
+ghost use Rattle.vrt_profile.specs.Document.{document_of};
 
 use crate::driver::{Content, Found};
 use crate::files::{open_file, read_whole};
 use crate::{Bad, Kind, WalkFault};
 use outside::{Folder, Name};
 use std::alloc::Global;
-use vrt_profile::{VrtFault, read};
+use vrt_profile::{Document, VrtFault, read};
 
 /// The greatest length of a document, in bytes.
 const LONGEST_DOCUMENT: u64 = 67_108_864;
+
+// Reads the bytes of the document of a name, which are at most 67,108,864.
+#[tactic(auto, using(crate::proofs::Headers::outside_fails), unfolding(crate::specs::Heads::vrt_in))]
+fn document_bytes<F: Folder>(
+    alloc: Global,
+    folder: &mut F,
+    name: &Name,
+) -> Result<Vec<u8>, WalkFault>
+    ensures ok { IfOk result (λ v. (m : Files) → F.names folder.old ≡ Some m → file_in m name.now ≡ Ok v.items) }
+    ensures few { IfOk result (λ v. length v.items ≤ 2 ^ 26) }
+    ensures err { IfErr result (λ f. (m : Files) → F.names folder.old ≡ Some m → IsOutside f ⊎ (vrt_in m name.now ≡ Err f)) }
+    ensures names { F.names folder.new ≡ F.names folder.old }
+    ensures write_calls { F.write_calls folder.new ≡ F.write_calls folder.old }
+    ensures cause { HasCause WalkFault.FolderFault (F.faults folder.old) (F.faults folder.new) result }
+    ensures of_file { IfErr result IsOfFile }
+{
+    let file = open_file(folder, name)?;
+    let length = folder.len(&file);
+    if length > LONGEST_DOCUMENT {
+        return Err(WalkFault::Malformed {
+            name: name.try_clone()?,
+            bad: Bad::Vrt(VrtFault::Limit),
+        });
+    }
+    read_whole(alloc, folder, file, length as usize)
+}
+
+// What the bytes of the document of a name say.
+fn read_document(alloc: Global, name: &Name, bytes: &[u8]) -> Result<Document, WalkFault>
+    ensures told { Gives IsMemory (λ d. d) result (named (λ f. WalkFault.Malformed name.now (Bad.Vrt f)) (document_of bytes.now)) }
+    ensures rules { IfOk result IsDocument }
+    ensures of_file { IfErr result IsOfFile }
+{
+    match read(alloc, bytes) {
+        Ok(document) => {
+            document.rules();
+            Ok(document)
+        }
+        Err(VrtFault::Memory) => Err(WalkFault::Memory),
+        Err(fault) => Err(WalkFault::Malformed {
+            name: name.try_clone()?,
+            bad: Bad::Vrt(fault),
+        }),
+    }
+}
 
 // Finds the mosaic of a name: opens its document, compares its length, and reads it.
 #[tactic(auto, using(crate::proofs::Headers::outside_fails), unfolding(crate::specs::Heads::vrt_in))]
@@ -34,24 +81,10 @@ pub fn find_mosaic<F: Folder>(
     ensures cause { HasCause WalkFault.FolderFault (F.faults folder.old) (F.faults folder.new) result }
     ensures of_file { IfErr result IsOfFile }
 {
-    let file = open_file(folder, name)?;
-    let length = folder.len(&file);
-    if length > LONGEST_DOCUMENT {
-        return Err(WalkFault::Malformed {
-            name: name.try_clone()?,
-            bad: Bad::Vrt(VrtFault::Limit),
-        });
-    }
-    let bytes = read_whole(alloc, folder, file, length as usize)?;
-    match read(alloc, &bytes) {
-        Ok(document) => Ok(Found {
-            content: Content::Mosaic(document),
-            length,
-        }),
-        Err(VrtFault::Memory) => Err(WalkFault::Memory),
-        Err(fault) => Err(WalkFault::Malformed {
-            name: name.try_clone()?,
-            bad: Bad::Vrt(fault),
-        }),
-    }
+    let bytes = document_bytes(alloc, folder, name)?;
+    let document = read_document(alloc, name, &bytes)?;
+    Ok(Found {
+        content: Content::Mosaic(document),
+        length: bytes.len() as u64,
+    })
 }

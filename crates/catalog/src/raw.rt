@@ -1,13 +1,13 @@
 // Raw data beside its header.
-ghost use Rattle.std.specs.Prelude.{◌≡◌, ◌≤◌, ℕ, List, length, Some, IfOk, IfErr, IsTrue};
+ghost use Rattle.std.specs.Prelude.{◌≡◌, ◌⊎◌, ◌≤◌, ℕ, List, length, nat_lt, if◌then◌else◌, Some, Ok, Err, IfOk, IfErr, IsTrue};
 ghost use Rattle.lists_and_answers.specs.Answers.{Gives};
 ghost use Rattle.outside.specs.Outside.{Files};
 ghost use Rattle.outside.specs.Causes.{HasCause};
 ghost use Rattle.outside.specs.Names.{extension_of, is_raw, header_of};
 ghost use Rattle.interleaved_raw.specs.Raw.{needed_of};
-ghost use Rattle.catalog.specs.Outcomes.{IsOutside};
+ghost use Rattle.catalog.specs.Outcomes.{IsMemory, IsOutside};
 ghost use Rattle.catalog.specs.Drivers.{content_kind, Fits};
-ghost use Rattle.catalog.specs.Heads.{header_in, raw_in, IsOfFile};
+ghost use Rattle.catalog.specs.Heads.{file_in, header_in, raw_in, IsOfFile};
 
 use crate::driver::{Content, Found};
 use crate::files::{open_file, read_whole};
@@ -56,6 +56,56 @@ pub fn header_name(alloc: Global, name: &Name) -> Result<Name, WalkFault>
     Ok(name.header(alloc)?)
 }
 
+// The length in bytes of the file of a name.
+fn data_len<F: Folder>(folder: &mut F, name: &Name) -> Result<u64, WalkFault>
+    ensures ok { IfOk result (λ n. (m : Files) → F.names folder.old ≡ Some m → (b : List ℕ) × (file_in m name.now ≡ Ok b) × (n ≡ length b)) }
+    ensures err { IfErr result (λ f. (m : Files) → F.names folder.old ≡ Some m → IsOutside f ⊎ (file_in m name.now ≡ Err f)) }
+    ensures names { F.names folder.new ≡ F.names folder.old }
+    ensures write_calls { F.write_calls folder.new ≡ F.write_calls folder.old }
+    ensures cause { HasCause WalkFault.FolderFault (F.faults folder.old) (F.faults folder.new) result }
+    ensures of_file { IfErr result IsOfFile }
+{
+    let file = open_file(folder, name)?;
+    Ok(folder.len(&file))
+}
+
+// Reads the header beside the raw data of a name.
+fn header_beside<F: Folder>(
+    alloc: Global,
+    folder: &mut F,
+    name: &Name,
+) -> Result<RawHead, WalkFault>
+    requires raw { IsTrue (is_raw (extension_of name.now)) }
+    ensures told { (m : Files) → F.names folder.old ≡ Some m → Gives IsOutside (λ h. h) result (header_in m (header_of name.now)) }
+    ensures names { F.names folder.new ≡ F.names folder.old }
+    ensures write_calls { F.write_calls folder.new ≡ F.write_calls folder.old }
+    ensures cause { HasCause WalkFault.FolderFault (F.faults folder.old) (F.faults folder.new) result }
+    ensures of_file { IfErr result IsOfFile }
+{
+    let header = header_name(alloc, name)?;
+    read_header(alloc, folder, &header)
+}
+
+// What is found of raw data that have this header and so many bytes.
+fn found(name: &Name, head: RawHead, has: u64) -> Result<Found, WalkFault>
+    requires raw { IsTrue (is_raw (extension_of name.now)) }
+    ensures told { Gives IsMemory (λ found. found) result (if nat_lt has (needed_of head) then Err (WalkFault.Short name.now (needed_of head) has) else Ok (record { content = Content.File (DriverHead.Raw head); length = has })) }
+    ensures fits { IfOk result (λ found. Fits name.now found.content found.length) }
+{
+    let needed = needed_len(&head);
+    if has < needed {
+        return Err(WalkFault::Short {
+            name: name.try_clone()?,
+            needed,
+            has,
+        });
+    }
+    Ok(Found {
+        content: Content::File(DriverHead::Raw(head)),
+        length: has,
+    })
+}
+
 // Finds the raw data of a name: opens them, reads their header, and compares their length.
 #[tactic(auto, using(crate::proofs::Headers::outside_fails), unfolding(crate::specs::Heads::raw_in))]
 pub fn find_raw<F: Folder>(alloc: Global, folder: &mut F, name: &Name) -> Result<Found, WalkFault>
@@ -68,20 +118,7 @@ pub fn find_raw<F: Folder>(alloc: Global, folder: &mut F, name: &Name) -> Result
     ensures cause { HasCause WalkFault.FolderFault (F.faults folder.old) (F.faults folder.new) result }
     ensures of_file { IfErr result IsOfFile }
 {
-    let file = open_file(folder, name)?;
-    let header = header_name(alloc, name)?;
-    let head = read_header(alloc, folder, &header)?;
-    let needed = needed_len(&head);
-    let has = folder.len(&file);
-    if has < needed {
-        return Err(WalkFault::Short {
-            name: name.try_clone()?,
-            needed,
-            has,
-        });
-    }
-    Ok(Found {
-        content: Content::File(DriverHead::Raw(head)),
-        length: has,
-    })
+    let has = data_len(folder, name)?;
+    let head = header_beside(alloc, folder, name)?;
+    found(name, head, has)
 }

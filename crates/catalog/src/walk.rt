@@ -29,6 +29,14 @@ enum Meeting {
     Open(u32),
 }
 
+// A source: the mosaic's number, the band and the source in the band, each counted from 0.
+#[derive(Clone, Copy)]
+struct SourceAt {
+    id: u32,
+    band: usize,
+    source: usize,
+}
+
 // What a source names, and which of its bands.
 #[derive(Drop)]
 struct Wanted {
@@ -38,20 +46,14 @@ struct Wanted {
 
 // What a source of a mosaic names. Limit comes exactly where the text of the name has more than 4,096
 // bytes.
-fn resolve_source(
-    alloc: Global,
-    met: &Met,
-    id: u32,
-    band: usize,
-    source: usize,
-) -> Result<Wanted, WalkFault>
-    requires there { HasSource met.now id band source }
-    ensures told { (w : HasSource met.now id band source) → Gives IsMemory (λ r. r.name) result (resolved w.of.mosaic.dataset.head.name w.value) }
-    ensures band { (w : HasSource met.now id band source) → IfOk result (λ r. r.band ≡ w.value.band) }
+fn resolve_source(alloc: Global, met: &Met, at: SourceAt) -> Result<Wanted, WalkFault>
+    requires there { HasSource met.now at.id at.band at.source }
+    ensures told { (w : HasSource met.now at.id at.band at.source) → Gives IsMemory (λ r. r.name) result (resolved w.of.mosaic.dataset.head.name w.value) }
+    ensures band { (w : HasSource met.now at.id at.band at.source) → IfOk result (λ r. r.band ≡ w.value.band) }
     ensures plain { IfErr result IsPlain }
 {
-    let base = met.name(id);
-    let source = met.band(id, band).sources.get(source);
+    let base = met.name(at.id);
+    let source = met.band(at.id, at.band).sources.get(at.source);
     match resolve(alloc, base, source) {
         Ok(name) => Ok(Wanted {
             name,
@@ -104,18 +106,12 @@ fn check_again(met: &Met, id: u32, room: u32, name: &Name) -> Result<(), WalkFau
 }
 
 // Counts a source of a mosaic, and resolves what it names.
-fn count_and_resolve(
-    alloc: Global,
-    met: &mut Met,
-    id: u32,
-    band: usize,
-    source: usize,
-) -> Result<Wanted, WalkFault>
-    requires there { HasSource met.old id band source }
-    ensures names { (w : HasSource met.old id band source) → Names w.of.mosaic.dataset.head.name w.value met.old met.new result }
+fn count_and_resolve(alloc: Global, met: &mut Met, at: SourceAt) -> Result<Wanted, WalkFault>
+    requires there { HasSource met.old at.id at.band at.source }
+    ensures names { (w : HasSource met.old at.id at.band at.source) → Names w.of.mosaic.dataset.head.name w.value met.old met.new result }
 {
     met.count_source()?;
-    resolve_source(alloc, met, id, band, source)
+    resolve_source(alloc, met, at)
 }
 
 // Reads the dataset of a name that is met for the first time; a mosaic is open then.
@@ -184,16 +180,14 @@ fn visit_source<F: Folder>(
     folder: &mut F,
     verify: bool,
     room: u32,
-    id: u32,
-    band: usize,
-    source: usize,
+    at: SourceAt,
 ) -> Result<u32, WalkFault>
     requires linked { IsLinked met.old }
     requires room { room < 16 }
-    requires there { HasSource met.old id band source }
-    ensures passes { (w : HasSource met.old id band source) → Passes verify room w.of.mosaic.dataset.head.name (w.value ∷ []) (seen (F.names folder.old) (F.write_calls folder.old) (F.read_calls folder.old) (F.faults folder.old)) (seen (F.names folder.new) (F.write_calls folder.new) (F.read_calls folder.new) (F.faults folder.new)) met.old met.new (λ t. Reaches met.new room w.of.mosaic.dataset.head.name (w.value ∷ []) (t ∷ [])) result }
+    requires there { HasSource met.old at.id at.band at.source }
+    ensures passes { (w : HasSource met.old at.id at.band at.source) → Passes verify room w.of.mosaic.dataset.head.name (w.value ∷ []) (seen (F.names folder.old) (F.write_calls folder.old) (F.read_calls folder.old) (F.faults folder.old)) (seen (F.names folder.new) (F.write_calls folder.new) (F.read_calls folder.new) (F.faults folder.new)) met.old met.new (λ t. Reaches met.new room w.of.mosaic.dataset.head.name (w.value ∷ []) (t ∷ [])) result }
 {
-    let wanted = count_and_resolve(alloc, met, id, band, source)?;
+    let wanted = count_and_resolve(alloc, met, at)?;
     let target = visit(alloc, met, folder, verify, room, &wanted.name)?;
     check_band(met, target, &wanted)?;
     Ok(target)
@@ -218,7 +212,8 @@ fn visit_band<F: Folder>(
     let mut row = Items::new(alloc);
     let count = met.band(id, band).sources.len();
     for source in 0..count {
-        let target = visit_source(alloc, met, folder, verify, room, id, band, source)?;
+        let at = SourceAt { id, band, source };
+        let target = visit_source(alloc, met, folder, verify, room, at)?;
         row.push(target)?;
     }
     Ok(row)

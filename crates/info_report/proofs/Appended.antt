@@ -1,9 +1,7 @@
 -- Pieces that are appended one after another.
-use Rattle.std.proofs.Common.{◌≡◌, ◌∙◌, ap, sym, ℕ, ◌+◌, ◌<◌, List, [], ◌∷◌, ◌++◌, length, take, drop, get_or, append_assoc}
-use Rattle.std.proofs.lemmas.List.{append-nil, take_more, drop_more}
-use Rattle.std.proofs.lemmas.Grind.{flat_map-append}
+use Rattle.std.proofs.Common.{◌≡◌, ◌∙◌, ap, sym, ℕ, ◌+◌, ◌<◌, List, [], ◌++◌, length, drop, get_or, append_assoc}
+use Rattle.std.proofs.lemmas.List.{append-nil, drop_more}
 use Rattle.std.proofs.Common.{Option, Some}
-use Rattle.std.specs.Prelude.{flat_map}
 use Rattle.outside.specs.Streams.{GetsPart}
 use Rattle.catalog.specs.declared.kind.BandHead.{BandHead}
 use Rattle.info_report.specs.Report.{band_text, bands_text}
@@ -15,13 +13,6 @@ two o x y a b p q = q ∙ ap (λ (t : List ℕ). t ++ b) p ∙ simp (append_asso
 -- three pieces
 pub three : (o x y z a b c : List ℕ) → x ≡ o ++ a → y ≡ x ++ b → z ≡ y ++ c → z ≡ o ++ (a ++ (b ++ (c ++ [])))
 three o x y z a b c p q r = r ∙ ap (λ (t : List ℕ). t ++ c) (q ∙ ap (λ (t : List ℕ). t ++ b) p) ∙ simp (append_assoc, append-nil)
-
--- one item's piece more
-pub one_more : {T : Type 0} (f : T → List ℕ) (xs : List T) (i : ℕ) (d : T) (o x y : List ℕ) → i < length xs → x ≡ o ++ flat_map f (take i xs) → y ≡ x ++ f (get_or xs i d) → y ≡ o ++ flat_map f (take (i + 1) xs)
-one_more f xs i d o x y less so_far one =
-    let more : flat_map f (take (i + 1) xs) ≡ flat_map f (take i xs) ++ f (get_or xs i d) =
-    ap (flat_map f) (take_more xs i d less) ∙ flat_map-append f (take i xs) (get_or xs i d ∷ []) ∙ ap (λ (t : List ℕ). flat_map f (take i xs) ++ t) (append-nil (f (get_or xs i d))) in
-    one ∙ ap (λ (t : List ℕ). t ++ f (get_or xs i d)) so_far ∙ append_assoc o (flat_map f (take i xs)) (f (get_or xs i d)) ∙ ap (λ (t : List ℕ). o ++ t) (sym more)
 
 -- four, five and six pieces
 pub four : (o x y z w a b c d : List ℕ) → x ≡ o ++ a → y ≡ x ++ b → z ≡ y ++ c → w ≡ z ++ d → w ≡ o ++ (a ++ (b ++ (c ++ (d ++ []))))

@@ -2,10 +2,10 @@
 ghost use Rattle.std.specs.Prelude.{◌≡◌, ◌++◌, ◌≤◌, length, OnOk};
 ghost use Rattle.info_report.specs.Report.{nodata_text, band_text, bands_text};
 
-use crate::pieces::push_all;
 use catalog::BandHead;
 use geotransform::Sample;
 use itoa::Buffer;
+use lists_and_answers::push_all;
 use std::alloc::AllocError;
 
 /// Appends the line of a NODATA, where there is one.

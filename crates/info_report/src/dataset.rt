@@ -3,10 +3,10 @@ ghost use Rattle.std.specs.Prelude.{◌≡◌, ◌++◌, OnOk, codes, flat_map};
 ghost use Rattle.std.specs.List.{join_by};
 ghost use Rattle.info_report.specs.Report.{driver_of, driver_text, files_text, size_text, srs_text};
 
-use crate::pieces::push_all;
 use catalog::Kind;
 use geotransform::Size;
 use itoa::Buffer;
+use lists_and_answers::push_all;
 use outside::{Name, Text};
 use std::alloc::AllocError;
 
@@ -32,7 +32,7 @@ pub fn push_driver(kind: Kind, out: &mut Vec<u8>) -> Result<(), AllocError>
 }
 
 /// Appends the further names, each on a line of its own.
-#[tactic(auto, using(crate::proofs::Appended::one_more))]
+#[tactic(auto, using(lists_and_answers::proofs::Pieces::one_more))]
 fn push_further(names: &[Name], out: &mut Vec<u8>) -> Result<(), AllocError>
     ensures { OnOk result (out.new.items ≡ out.old.items ++ flat_map (λ name. codes "\n       " ++ name) names.now) }
 {

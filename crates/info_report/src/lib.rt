@@ -3,7 +3,6 @@
 
 mod bands;
 mod dataset;
-mod pieces;
 mod places;
 mod report;
 

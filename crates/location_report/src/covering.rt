@@ -1,6 +1,7 @@
 // The names of the files that a mosaic's pixel is covered by.
 ghost use Rattle.std.specs.Prelude.{◌≡◌, ◌<◌, bytes_eq, length, take, slice_get, OnOk, OnErr, Some};
 ghost use Rattle.std.specs.List.{list_any};
+ghost use Rattle.catalog.specs.Dataset.{band_count};
 ghost use Rattle.catalog.specs.Drivers.{Dataset};
 ghost use Rattle.catalog.specs.Links.{source_at};
 ghost use Rattle.location_report.specs.Covering.{covering_name, with_name, with_found, covered_by, with_covering};
@@ -43,47 +44,53 @@ fn push_new(name: &Name, out: &mut Names) -> Result<(), AllocError>
 
 #[tactic(auto, using(crate::proofs::Same::covered, crate::proofs::Kept::kept_same))]
 /// Adds the name of a source's dataset, which has this size in pixels, where the source covers column `x`, line `y`
-/// of its mosaic, of the size `target`, and the name isn't there yet. After want of memory the list is as before, and
+/// of its mosaic, of the size `mosaic`, and the name isn't there yet. After want of memory the list is as before, and
 /// what it held always stays in front.
 pub fn push_covering(
     source: &Source,
-    target: Size,
+    mosaic: Size,
     name: &Name,
     size: Size,
     x: u32,
     y: u32,
     out: &mut Names,
 ) -> Result<(), AllocError>
-    ensures ok { OnOk result (out.new ≡ with_found out.old (covering_name source.now target name.now size x y)) }
+    ensures ok { OnOk result (out.new ≡ with_found out.old (covering_name source.now mosaic name.now size x y)) }
     ensures err { OnErr result (out.new ≡ out.old) }
     ensures kept { take (length out.old) out.new ≡ out.old }
 {
-    match cover(source, target, size, x, y) {
+    match cover(source, mosaic, size, x, y) {
         None => Ok(()),
         Some(_) => push_new(name, out),
     }
 }
 
-// Adds the name of the dataset that a source of a mosaic names, where it covers the pixel and the name isn't there yet.
-fn push_target(
-    cat: &Catalog,
+// A source: the mosaic's number, the band and the source in the band, each counted from 0.
+#[derive(Clone, Copy)]
+struct SourceAt {
     id: u32,
     band: u32,
     number: u32,
+}
+
+// Adds the name of the dataset that a source of a mosaic names, where it covers the pixel and the name isn't there yet.
+fn push_target(
+    cat: &Catalog,
+    at: SourceAt,
     source: &Source,
     x: u32,
     y: u32,
     out: &mut Names,
 ) -> Result<(), AllocError>
-    requires known { id < length cat.now }
-    requires source { (d : Dataset) → slice_get cat.now id ≡ Some d → source_at d band number ≡ Some source.now }
-    ensures ok { (d : Dataset) → slice_get cat.now id ≡ Some d → OnOk result (out.new ≡ with_found out.old (covered_by cat.now d x y source.now)) }
+    requires known { at.id < length cat.now }
+    requires source { (d : Dataset) → slice_get cat.now at.id ≡ Some d → source_at d at.band at.number ≡ Some source.now }
+    ensures ok { (d : Dataset) → slice_get cat.now at.id ≡ Some d → OnOk result (out.new ≡ with_found out.old (covered_by cat.now d x y source.now)) }
     ensures err { OnErr result (out.new ≡ out.old) }
     ensures kept { take (length out.old) out.new ≡ out.old }
 {
-    let target = cat.head(cat.target(id, band, number));
-    let size = cat.head(id).size;
-    push_covering(source, size, &target.name, target.size, x, y, out)
+    let dataset = cat.head(cat.target(at.id, at.band, at.number));
+    let mosaic = cat.head(at.id).size;
+    push_covering(source, mosaic, &dataset.name, dataset.size, x, y, out)
 }
 
 #[tactic(auto, using(crate::proofs::Named::fold_more, crate::proofs::Kept::kept_same, crate::proofs::Kept::kept_then), unfolding(crate::specs::Covering::with_covering))]
@@ -101,18 +108,22 @@ pub fn files_at(
     out: &mut Names,
 ) -> Result<(), AllocError>
     requires known { id < length cat.now }
-    requires band { (d : Dataset) → slice_get cat.now id ≡ Some d → band < length d.head.bands }
+    requires band { (d : Dataset) → slice_get cat.now id ≡ Some d → band < band_count d.head }
     ensures ok { (d : Dataset) → slice_get cat.now id ≡ Some d → OnOk result (out.new ≡ with_covering cat.now d band x y out.old) }
     ensures kept { take (length out.old) out.new ≡ out.old }
 {
-    let _count = cat.count();
     let Some(document) = cat.document(id) else {
         return Ok(());
     };
     document.rules();
     let sources = &document.bands.get(band as usize).sources;
     for (number, source) in sources.as_slice().iter().enumerate() {
-        push_target(cat, id, band, number as u32, source, x, y, out)?;
+        let at = SourceAt {
+            id,
+            band,
+            number: number as u32,
+        };
+        push_target(cat, at, source, x, y, out)?;
     }
     Ok(())
 }

@@ -3,7 +3,7 @@ ghost use Rattle.std.specs.Prelude.{◌≡◌, ◌++◌, OnOk, OnErr};
 ghost use Rattle.lists_and_answers.specs.Growth.{KeepsFront};
 ghost use Rattle.location_report.specs.Location.{files_text};
 
-use crate::pieces::push_all;
+use lists_and_answers::push_all;
 use outside::Name;
 use std::alloc::AllocError;
 

@@ -3,7 +3,6 @@
 
 pub mod covering;
 mod files;
-mod pieces;
 mod report;
 mod values;
 

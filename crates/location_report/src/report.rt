@@ -8,10 +8,10 @@ ghost use Rattle.location_report.specs.Location.{place_text, report_text, only_t
 ghost use Rattle.location_report.specs.declared.report.ReportFault.TheVariants as report_fault;
 
 use crate::files::push_files;
-use crate::pieces::push_all;
 use crate::values::{push_bands, push_values};
 use geotransform::Sample;
 use itoa::Buffer;
+use lists_and_answers::push_all;
 use outside::{Failed, Names, Sink};
 use std::alloc::{AllocError, Global};
 

@@ -3,9 +3,9 @@ ghost use Rattle.std.specs.Prelude.{◌≡◌, ◌++◌, length, OnOk, OnErr};
 ghost use Rattle.lists_and_answers.specs.Growth.{KeepsFront};
 ghost use Rattle.location_report.specs.Location.{value_text, values_text, band_text, bands_text};
 
-use crate::pieces::push_all;
 use geotransform::Sample;
 use itoa::Buffer;
+use lists_and_answers::push_all;
 use std::alloc::AllocError;
 
 /// Appends the line of a value.

@@ -5,7 +5,7 @@ use Rattle.catalog.specs.Drivers.{Dataset}
 use Rattle.catalog.specs.Walk.{walked, IsCatalog, IsWalked}
 use Rattle.catalog.specs.Linked.{State, IsWhole}
 use Rattle.catalog.proofs.Wholes.{whole_goes}
-use Rattle.catalog.proofs.Opened.{open_told, refused_told, datasets_kept, cut_same}
+use Rattle.catalog.proofs.Opened.{open_told, refused_told, datasets_kept, goes_on, cut_same}
 use Rattle.catalog.proofs.catalog.open_all.Goals as goal
 
 pub invariant_of-cat : goal.invariant_of-cat
@@ -23,7 +23,7 @@ returns-in-Ok-clause-told g c = λ m told.
 
 pub returns-in-Ok-clause-kept : goal.returns-in-Ok-clause-kept
 returns-in-Ok-clause-kept g c =
-    subst (λ (ds : List Dataset). take (length ds) c.visit.new.met.datasets ≡ ds) c.cat.view_is (datasets_kept c.cat.inside.met c.visit.new.met c.in-Ok.ensures.visits.steps.grows)
+    goes_on c.args.cat.now c.visit.new.met.datasets (subst (λ (ds : List Dataset). take (length ds) c.visit.new.met.datasets ≡ ds) c.cat.view_is (datasets_kept c.cat.inside.met c.visit.new.met c.in-Ok.ensures.visits.steps.grows))
 
 pub returns-in-Ok-clause-valid : goal.returns-in-Ok-clause-valid
 returns-in-Ok-clause-valid g c = (whole_goes c.cat.inside.met c.visit.new.met c.cat.invariant c.in-Ok.ensures.visits.steps.goes).catalog
@@ -41,7 +41,7 @@ returns-in-Err-clause-refused g c =
 pub returns-in-Err-clause-kept : goal.returns-in-Err-clause-kept
 returns-in-Err-clause-kept g c =
     let same = cut_same c.cat.inside.met c.visit.new.met c.cut.new.self c.count-count.result c.sources-sources.result c.cat.invariant c.in-Err.ensures.visits.steps.grows c.count-count.ensures.count c.sources-sources.ensures.sources c.cut.ensures.cut in
-    ap (take (length c.args.cat.now)) (ap (λ (s : State). s.datasets) same ∙ c.cat.view_is) ∙ take_all (length c.args.cat.now) c.args.cat.now (omega arith)
+    goes_on c.args.cat.now c.cut.new.self.datasets (ap (take (length c.args.cat.now)) (ap (λ (s : State). s.datasets) same ∙ c.cat.view_is) ∙ take_all (length c.args.cat.now) c.args.cat.now (omega arith))
 
 pub returns-in-Err-clause-valid : goal.returns-in-Err-clause-valid
 returns-in-Err-clause-valid g c =

@@ -9,13 +9,13 @@ returns-in_err-count_source c =
     record { names = λ w. rw result (names_uncounted w.of.mosaic.dataset.head.name w.value c.args.met.now c.count_source.new.self c.in_err-count_source.field-0.0 e.told e.plain e.err) }
 
 pub resolve_source-requires : goal.resolve_source-requires
-resolve_source-requires c = record { there = counted_source c.args.met.now c.count_source.new.self c.args.id c.args.band c.args.source c.in_ok-count_source.ensures.ok c.requires.there }
+resolve_source-requires c = record { there = counted_source c.args.met.now c.count_source.new.self c.args.at.id c.args.at.band c.args.at.source c.in_ok-count_source.ensures.ok c.requires.there }
 
 pub returns : goal.returns
 returns c = record {
   names = λ w.
       let e = c.in_ok-count_source.ensures in
-      let v = counted_source c.args.met.now c.count_source.new.self c.args.id c.args.band c.args.source e.ok w in
+      let v = counted_source c.args.met.now c.count_source.new.self c.args.at.id c.args.at.band c.args.at.source e.ok w in
       let r = c.resolve_source.ensures in
       names_resolved w.of.mosaic.dataset.head.name w.value c.args.met.now c.count_source.new.self c.resolve_source.result e.told e.ok (r.told v) (r.band v) r.plain;
 }

@@ -7,8 +7,8 @@ use Rattle.location_report.proofs.Kept.{kept_then}
 use Rattle.location_report.proofs.Named.{few_sources, fold_more, source_stands, sources_are}
 use Rattle.location_report.proofs.covering.files_at.Goals as goal
 
-pub overflow_cast-number : goal.overflow_cast-number
-overflow_cast-number c =
+pub overflow_cast-at : goal.overflow_cast-at
+overflow_cast-at c =
     let few = c.document-2.invariant.sources in
     let bound = few_sources c.document-2.inside.bands c.args.band c.get.result.now c.get.ensures.item in
     let same = ap (λ (b : BandValue). length b.sources) c.behind-document.view_is in
