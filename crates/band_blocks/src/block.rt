@@ -1,10 +1,15 @@
 // A block of samples.
-ghost use Rattle.std.specs.Prelude.{◌≡◌, ◌≤◌, ◌<◌, ◌+◌, ◌^◌, length, map, replicate, pos, true, IfOk, slice_index_or, slice_set};
+ghost use Rattle.std.specs.Prelude.{◌≡◌, ◌≤◌, ◌<◌, ◌+◌, ◌^◌, ℕ, length, map, replicate, pos, true, IfOk, get_or, slice_index_or, slice_set};
+ghost use Rattle.std.specs.List.{range_with_len};
 ghost use Rattle.geotransform.specs.Types.{is_in, clamp};
+ghost use Rattle.interleaved_raw.specs.Raw.{run_of as sample_of, bytes_at, sample_bytes, Holds, IsBetween};
 ghost use Rattle.band_blocks.specs.Views.{cells_view};
 ghost use Rattle.band_blocks.specs.Blocks.{block_view, IsPacked, AreIn, written, run_of};
 
-use crate::cell::{Cell, clamp_cells, copy_cells, pack_cells, set_cell, write_cells};
+use crate::cell::{
+    Cell, clamp_cells, copy_cells, decode_cells, encode_cells, set_cell, write_cells,
+};
+use esri_hdr::RawHead;
 use geotransform::{PixelType, Sample};
 use std::alloc::{AllocError, Global};
 use std::marker::Model;
@@ -62,24 +67,34 @@ impl Block {
     }
 
     /// A block of these samples. It is refused where memory is.
+    #[tactic(auto, using(crate::proofs::Cells::all_written))]
     pub fn pack(alloc: Global, kind: PixelType, samples: &[Sample]) -> Result<Block, AllocError>
         requires few { length samples.now < 2 ^ 32 }
         requires range { AreIn kind samples.now }
         ensures samples { IfOk result (λ block. block ≡ block_view kind samples.now) }
     {
-        let cells = match kind {
-            PixelType::Byte => Cells::Bytes(pack_cells(alloc, samples)?),
-            PixelType::UInt16 => Cells::UInts16(pack_cells(alloc, samples)?),
-            PixelType::Int16 => Cells::Ints16(pack_cells(alloc, samples)?),
-            PixelType::UInt32 => Cells::UInts32(pack_cells(alloc, samples)?),
-            PixelType::Int32 => Cells::Ints32(pack_cells(alloc, samples)?),
-        };
-        Ok(Block { cells })
+        let mut block = Block::new(alloc, kind, samples.len() as u32)?;
+        block.write_run(0, samples);
+        Ok(block)
+    }
+
+    // Puts as many samples as the block has, each clamped to the range of its type.
+    fn clamp_all(&mut self, samples: &[Sample])
+        requires count { length samples.now ≡ length self.old.samples }
+        ensures samples { self.new ≡ block_view self.old.kind (map (clamp self.old.kind) samples.now) }
+    {
+        match &mut self.cells {
+            Cells::Bytes(cells) => return clamp_cells(samples, cells),
+            Cells::UInts16(cells) => return clamp_cells(samples, cells),
+            Cells::Ints16(cells) => return clamp_cells(samples, cells),
+            Cells::UInts32(cells) => return clamp_cells(samples, cells),
+            Cells::Ints32(cells) => return clamp_cells(samples, cells),
+        }
     }
 
     /// A block of these samples, each clamped to the range of the type. It is refused where memory
     /// is.
-    #[tactic(auto, using(crate::proofs::Cells::clamped_in))]
+    #[tactic(auto, using(crate::proofs::Cells::zeros_long))]
     pub fn pack_clamped(
         alloc: Global,
         kind: PixelType,
@@ -88,14 +103,10 @@ impl Block {
         requires few { length samples.now < 2 ^ 32 }
         ensures samples { IfOk result (λ block. block ≡ block_view kind (map (clamp kind) samples.now)) }
     {
-        let cells = match kind {
-            PixelType::Byte => Cells::Bytes(clamp_cells(alloc, samples)?),
-            PixelType::UInt16 => Cells::UInts16(clamp_cells(alloc, samples)?),
-            PixelType::Int16 => Cells::Ints16(clamp_cells(alloc, samples)?),
-            PixelType::UInt32 => Cells::UInts32(clamp_cells(alloc, samples)?),
-            PixelType::Int32 => Cells::Ints32(clamp_cells(alloc, samples)?),
-        };
-        Ok(Block { cells })
+        let count = samples.len() as u32;
+        let mut block = Block::new(alloc, kind, count)?;
+        block.clamp_all(samples);
+        Ok(block)
     }
 
     /// The type of the samples.
@@ -165,6 +176,7 @@ impl Block {
         ensures samples { out.new ≡ run_of at (length out.old) self.now.samples }
         ensures range { AreIn self.now.kind out.new }
     {
+        // This call is made for the proof: it says what holds of every block.
         let _len = self.len();
         let at = at as usize;
         let end = at + out.len();
@@ -190,6 +202,48 @@ impl Block {
             Cells::Ints16(cells) => return write_cells(cells, at, samples),
             Cells::UInts32(cells) => return write_cells(cells, at, samples),
             Cells::Ints32(cells) => return write_cells(cells, at, samples),
+        }
+    }
+
+    /// Reads so many samples, which stand a stride apart in the bytes of raw data of the block's type,
+    /// into the places from `at` on.
+    pub fn decode(&mut self, head: &RawHead, bytes: &[u8], at: u32, count: u32)
+        requires kind { self.old.kind ≡ head.now.kind }
+        requires holds { Holds head.now bytes.now count }
+        requires within { at + count ≤ length self.old.samples }
+        ensures samples { self.new ≡ block_view self.old.kind (written at (map (sample_of head.now bytes.now) (range_with_len 0 count)) self.old.samples) }
+    {
+        let at = at as usize;
+        let count = count as usize;
+        match &mut self.cells {
+            Cells::Bytes(cells) => return decode_cells(head, bytes, count, cells, at),
+            Cells::UInts16(cells) => return decode_cells(head, bytes, count, cells, at),
+            Cells::Ints16(cells) => return decode_cells(head, bytes, count, cells, at),
+            Cells::UInts32(cells) => return decode_cells(head, bytes, count, cells, at),
+            Cells::Ints32(cells) => return decode_cells(head, bytes, count, cells, at),
+        }
+    }
+
+    /// Writes so many samples, from the place `at` on, a stride apart over the bytes of raw data of the
+    /// block's type. All bytes between them stay.
+    pub fn encode(&self, head: &RawHead, at: u32, count: u32, bytes: &mut [u8])
+        requires kind { self.now.kind ≡ head.now.kind }
+        requires holds { Holds head.now bytes.old count }
+        requires within { at + count ≤ length self.now.samples }
+        ensures bytes { (i : ℕ) → i < count → bytes_at head.now bytes.new i ≡ sample_bytes head.now (get_or (run_of at count self.now.samples) i (pos 0)) }
+        ensures samples { map (sample_of head.now bytes.new) (range_with_len 0 count) ≡ run_of at count self.now.samples }
+        ensures others { (j : ℕ) → IsBetween head.now count j → get_or bytes.new j 0 ≡ get_or bytes.old j 0 }
+    {
+        // This call is made for the proof: it says what holds of every block.
+        let _len = self.len();
+        let at = at as usize;
+        let end = at + count as usize;
+        match &self.cells {
+            Cells::Bytes(cells) => return encode_cells(head, &cells[at..end], bytes),
+            Cells::UInts16(cells) => return encode_cells(head, &cells[at..end], bytes),
+            Cells::Ints16(cells) => return encode_cells(head, &cells[at..end], bytes),
+            Cells::UInts32(cells) => return encode_cells(head, &cells[at..end], bytes),
+            Cells::Ints32(cells) => return encode_cells(head, &cells[at..end], bytes),
         }
     }
 }

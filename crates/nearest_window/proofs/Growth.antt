@@ -8,7 +8,8 @@ use Rattle.catalog.proofs.PixelLaws.{more_block}
 use Rattle.band_blocks.specs.declared.key.BlockKey.{BlockKey}
 use Rattle.band_blocks.specs.Blocks.{BlockView}
 use Rattle.block_cache.specs.Entries.{PoolView}
-use Rattle.nearest_window.specs.Right.{IsBlock, IsRight}
+use Rattle.band_blocks.specs.Contents.{IsBlock}
+use Rattle.nearest_window.specs.Right.{IsRight}
 
 still_there : (cat more : List Dataset) (id : ℕ) (d : Dataset) → slice_get cat id ≡ Some d → slice_get (cat ++ more) id ≡ Some d
 still_there [] more id d at = cc
@@ -27,5 +28,5 @@ pub right_stays : {File : Type 0} (bytes : File → Option (List ℕ)) (len : Fi
 right_stays bytes len told cat more pool files valid right = record {
   valid = right.valid;
   blocks = λ key entry held. block_stays told cat more key entry.block valid (right.blocks key entry held);
-  good = λ n f kept. let g = right.good n f kept in record { dataset = g.dataset; at = still_there cat more n g.dataset g.at; length = g.length; content = g.content };
+  good = λ n f kept. let g = right.good n f kept in record { dataset = g.dataset; at = still_there cat more n g.dataset g.at; is_file = g.is_file; length = g.length; content = g.content };
 }

@@ -17,7 +17,9 @@ use Rattle.std.proofs.Common.{Result, Ok, Err, OnOk}
 use Rattle.std.specs.Prelude.{IsSome}
 use Rattle.std.proofs.lemmas.Bool.Decides.{nat_tests}
 use Rattle.block_cache.specs.Entries.{PoolView}
-use Rattle.nearest_window.specs.Right.{IsBlock, AreBlocks}
+use Rattle.band_blocks.specs.Contents.{IsBlock}
+use Rattle.nearest_window.specs.Lanes.{LaneView, lane_view}
+use Rattle.nearest_window.specs.Right.{AreBlocks}
 
 both_true : (a b : Bool) → (a && b) ≡ true → (a ≡ true) × (b ≡ true)
 both_true true b h = (refl, h)
@@ -112,6 +114,6 @@ held_admitted cap k e es = on es (lookup_entry (same_key k) es) refl
     on es None h = rw (same_key_refl k) refl
     on es (Some old) h = rw (found es old h) refl
 
-pub held_kept : {T E : Type 0} (r : Result T E) (p q : PoolView) (k : BlockKey) (e : Entry) → OnOk r (q ≡ pool_view (admitted p.capacity k e p.entries) p.capacity) → OnOk r (IsSome (held_at k q.entries))
-held_kept (Ok x) p q k e kept = subst (λ z. IsSome (held_at k z.entries)) (sym kept) (subst IsSome (sym (held_admitted p.capacity k e p.entries)) refl)
+pub held_kept : {T E File : Type 0} (r : Result T E) (p q : LaneView File) (k : BlockKey) (e : Entry) → OnOk r (q ≡ lane_view (pool_view (admitted p.pool.capacity k e p.pool.entries) p.pool.capacity) p.files) → OnOk r (IsSome (held_at k q.pool.entries))
+held_kept (Ok x) p q k e kept = subst (λ z. IsSome (held_at k z.pool.entries)) (sym kept) (subst IsSome (sym (held_admitted p.pool.capacity k e p.pool.entries)) refl)
 held_kept (Err x) p q k e kept = tt

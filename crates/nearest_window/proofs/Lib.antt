@@ -2,6 +2,7 @@ pub mod Blocks
 mod Columns
 mod Counting
 mod Covers
+mod Filled
 mod Fills
 mod Growth
 mod Keys
@@ -11,3 +12,4 @@ mod Shown
 mod Steps
 mod Windows
 mod Naming
+mod Ranges

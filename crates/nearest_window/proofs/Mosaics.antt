@@ -31,7 +31,8 @@ use Rattle.catalog.proofs.Pixels.{item}
 use Rattle.catalog.proofs.PixelLaws.{mosaic_is_of_its_targets}
 use Rattle.band_blocks.specs.declared.key.BlockKey.{BlockKey}
 use Rattle.band_blocks.specs.Blocks.{BlockView, block_view, IsPacked}
-use Rattle.nearest_window.specs.Right.{IsBlock, IsPartBlock, IsMosaicKey}
+use Rattle.band_blocks.specs.Contents.{IsBlock}
+use Rattle.nearest_window.specs.Right.{IsPartBlock, IsMosaicKey}
 use Rattle.nearest_window.specs.Shown.{IsSourceShown, AreSourcesShown}
 use Rattle.nearest_window.proofs.Painted.{painted_none, painted_same, painted_then}
 use Rattle.nearest_window.proofs.Shown.{filled_row_by_row}
@@ -178,9 +179,11 @@ pub filled_part : (told : Option Files) (cat : List Dataset) (key : BlockKey) (b
 filled_part told cat key b mosaic count rect xs block valid rules size all filled packed fits = record {
   dataset = mosaic.dataset;
   in_range = mosaic.in_range;
-  kind = band_told cat valid key.file mosaic.dataset mosaic.in_range.at mosaic.document mosaic.content key.band b mosaic.band_at ∙ ap (λ (v : BlockView). Some v.kind) (sym packed);
-  count = whole;
-  range = fits.range;
+  shape = record {
+    kind = band_told cat valid key.file mosaic.dataset mosaic.in_range.at mosaic.document mosaic.content key.band b mosaic.band_at ∙ ap (λ (v : BlockView). Some v.kind) (sym packed);
+    count = whole;
+    range = fits.range;
+  };
   content = content;
 }
   where
@@ -212,7 +215,7 @@ whole_block told cat key rect block rect_is part =
     record {
       dataset = part.dataset;
       in_range = part.in_range;
-      shape = record { kind = part.kind; count = part.count ∙ ap (λ (r : Rect). r.w * r.h) same; range = part.range };
+      shape = record { kind = part.shape.kind; count = part.shape.count ∙ ap (λ (r : Rect). r.w * r.h) same; range = part.shape.range };
       content = λ m e. part.content m e ∙ ap (row_by_row (pixel_of m cat key.file key.band)) same ∙ sym (ap (block_by m cat key.file key.band key.block) part.in_range.at);
     }
 

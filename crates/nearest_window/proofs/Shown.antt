@@ -16,9 +16,11 @@ use Rattle.band_blocks.specs.Blocks.{BlockView}
 use Rattle.block_cache.specs.declared.pool.Entry.{Entry}
 use Rattle.block_cache.specs.Entries.{held_at}
 use Rattle.nearest_window.specs.declared.picture.Picture.{Picture}
+use Rattle.nearest_window.specs.declared.targets.Piece.{Piece}
 use Rattle.nearest_window.specs.Painted.{IsPainted, placed, in_columns}
 use Rattle.nearest_window.specs.Pictures.{from_block}
-use Rattle.nearest_window.specs.Right.{IsBlock, AreBlocks}
+use Rattle.band_blocks.specs.Contents.{IsBlock}
+use Rattle.nearest_window.specs.Right.{AreBlocks}
 use Rattle.nearest_window.specs.Shown.{IsPartOf, IsShown, shown}
 use Rattle.nearest_window.specs.Taken.{place_at, taken_by}
 use Rattle.nearest_window.proofs.Keys.{is_block_held}
@@ -79,7 +81,25 @@ rect_shown m cat file band rect p column columns line lines block old new file_i
     ∙ ap (λ n. pixel_of m cat n band (place_at p.columns (column + c)) (place_at p.lines (line + r))) (sym file_is)
     ∙ ap (λ n. pixel_of m cat p.file n (place_at p.columns (column + c)) (place_at p.lines (line + r))) (sym band_is)))
 
-module _ (told : Option Files) (cat : List Dataset) (key : BlockKey) (rect : Rect) (p : Picture) (column columns line lines : ℕ) (part : IsPartOf cat key rect p column columns line lines) where
+module _ (told : Option Files) (cat : List Dataset) (p : Picture) (piece : Piece) (part : IsPartOf cat p piece) where
+  abbrev key : BlockKey
+  key = piece.key
+
+  abbrev rect : Rect
+  rect = piece.rect
+
+  abbrev column : ℕ
+  column = piece.area.column
+
+  abbrev columns : ℕ
+  columns = piece.area.columns
+
+  abbrev line : ℕ
+  line = piece.area.line
+
+  abbrev lines : ℕ
+  lines = piece.area.lines
+
   same_dataset : (b : BlockView) (h : IsBlock told cat key b) → h.dataset ≡ part.dataset
   same_dataset b h = let i = h.in_range.at in let j = part.in_range.at in cc
 

@@ -4,12 +4,14 @@ use Rattle.outside.specs.Outside.{Files}
 use Rattle.catalog.specs.Drivers.{Dataset}
 use Rattle.catalog.specs.Blocks.{all_blocks}
 use Rattle.band_blocks.specs.declared.key.BlockKey.{BlockKey}
-use Rattle.band_blocks.specs.Contents.{most_calls}
+use Rattle.band_blocks.specs.Contents.{IsBlock, most_calls}
 use Rattle.band_blocks.specs.Keys.{IsKeyOf}
 use Rattle.band_blocks.specs.Open.{AreGood}
 use Rattle.block_cache.specs.declared.pool.Entry.{Entry}
 use Rattle.block_cache.specs.Entries.{PoolView, moved_to_front, admitted, held_at, IsPool, pool_view}
-use Rattle.nearest_window.specs.Right.{IsBlock, AreBlocks, IsRight, LaneState, lane_state, Serves, slack_of}
+use Rattle.nearest_window.specs.Right.{AreBlocks, IsReady, IsRight, LaneState, lane_state, Serves, slack_of, state_of}
+use Rattle.nearest_window.specs.Lanes.{LaneView, lane_view}
+use Rattle.outside.specs.declared.folder.Folder.{Ghosts}
 use Rattle.nearest_window.proofs.Keys.{length_moved, are_blocks_moved, are_blocks_admitted, length_admitted, length_admitted_new}
 use Rattle.nearest_window.proofs.Counting.{room_for_one}
 
@@ -76,15 +78,15 @@ module _ {File : Type 0} (bytes : File → Option (List ℕ)) (len : File → �
   }
 
   -- a block is kept, or memory was refused
-  pub serves_keep : {T E : Type 0} (r : Result T E) (told : Option Files) (p q : PoolView) (fs : List (ℕ × File)) (f n w l : ℕ) (k : BlockKey) (e : Entry) → IsRight bytes len told cat p fs → IsBlock told cat k e.block
-      → OnOk r (q ≡ pool_view (admitted p.capacity k e p.entries) p.capacity) → OnErr r (q ≡ p) → IsPool q
-      → Serves bytes len cat (slack_of r) (lane_state told p fs f n w l) (lane_state told q fs f n w l)
-  serves_keep (Ok v) told p q fs f n w l k e right new kept refused valid =
-      subst (λ q. Serves bytes len cat 0 (lane_state told p fs f n w l) (lane_state told q fs f n w l)) (sym kept)
-      (serves_admitted told p fs f n w l k e right new (subst IsPool kept valid))
-  serves_keep (Err d) told p q fs f n w l k e right new kept refused valid =
-      subst (λ q. Serves bytes len cat 1 (lane_state told p fs f n w l) (lane_state told q fs f n w l)) (sym refused)
-      (serves_slack (lane_state told p fs f n w l) (lane_state told p fs f n w l) (serves_refl (lane_state told p fs f n w l) right))
+  pub serves_keep : {T E : Type 0} (r : Result T E) (told : Option Files) (p q : LaneView File) (f n w l : ℕ) (k : BlockKey) (e : Entry) → IsRight bytes len told cat p.pool p.files → IsBlock told cat k e.block
+      → OnOk r (q ≡ lane_view (pool_view (admitted p.pool.capacity k e p.pool.entries) p.pool.capacity) p.files) → OnErr r (q ≡ p) → IsPool q.pool
+      → Serves bytes len cat (slack_of r) (lane_state told p.pool p.files f n w l) (lane_state told q.pool q.files f n w l)
+  serves_keep (Ok v) told p q f n w l k e right new kept refused valid =
+      subst (λ (q : LaneView File). Serves bytes len cat 0 (lane_state told p.pool p.files f n w l) (lane_state told q.pool q.files f n w l)) (sym kept)
+      (serves_admitted told p.pool p.files f n w l k e right new (subst (λ (q : LaneView File). IsPool q.pool) kept valid))
+  serves_keep (Err d) told p q f n w l k e right new kept refused valid =
+      subst (λ (q : LaneView File). Serves bytes len cat 1 (lane_state told p.pool p.files f n w l) (lane_state told q.pool q.files f n w l)) (sym refused)
+      (serves_slack (lane_state told p.pool p.files f n w l) (lane_state told p.pool p.files f n w l) (serves_refl (lane_state told p.pool p.files f n w l) right))
 
   are_blocks_told : (told told' : Option Files) (es : List (BlockKey × Entry)) → told' ≡ told → AreBlocks told cat es → AreBlocks told' cat es
   are_blocks_told told told' es e h = subst (λ t. AreBlocks t cat es) (sym e) h
@@ -108,14 +110,14 @@ module _ {File : Type 0} (bytes : File → Option (List ℕ)) (len : File → �
   }
 
   -- a file's block was loaded, and then kept, or memory was refused
-  pub serves_load : {T E : Type 0} (r : Result T E) (told told' : Option Files) (p q : PoolView) (fs fs' : List (ℕ × File)) (f f' n n' w w' l : ℕ) (k : BlockKey) (d : Dataset) (e : Entry)
+  pub serves_load : {T E : Type 0} (r : Result T E) (told told' : Option Files) (p : PoolView) (fs fs' : List (ℕ × File)) (q : LaneView File) (f f' n n' w w' l : ℕ) (k : BlockKey) (d : Dataset) (e : Entry)
       → IsRight bytes len told cat p fs → IsKeyOf cat k d → held_at k p.entries ≡ None
       → told' ≡ told → w' ≡ w → AreGood bytes len told' cat fs' → f ≤ f' → n' ≤ n + most_calls cat → IsBlock told' cat k e.block
-      → OnOk r (q ≡ pool_view (admitted p.capacity k e p.entries) p.capacity) → OnErr r (q ≡ p) → IsPool q
-      → Serves bytes len cat (slack_of r) (lane_state told p fs f n w l) (lane_state told' q fs' f' n' w' (l + 1))
-  serves_load (Ok v) told told' p q fs fs' f f' n n' w w' l k d e right key absent same unwritten good faults reads new kept refused valid =
-      subst (λ q. Serves bytes len cat 0 (lane_state told p fs f n w l) (lane_state told' q fs' f' n' w' (l + 1))) (sym kept) (record {
-        right = record { valid = subst IsPool kept valid; blocks = are_blocks_admitted told' cat p.capacity k e p.entries new (are_blocks_told told told' p.entries same right.blocks); good = good };
+      → OnOk r (q ≡ lane_view (pool_view (admitted p.capacity k e p.entries) p.capacity) fs') → OnErr r (q ≡ lane_view p fs') → IsPool q.pool
+      → Serves bytes len cat (slack_of r) (lane_state told p fs f n w l) (lane_state told' q.pool q.files f' n' w' (l + 1))
+  serves_load (Ok v) told told' p fs fs' q f f' n n' w w' l k d e right key absent same unwritten good faults reads new kept refused valid =
+      subst (λ (q : LaneView File). Serves bytes len cat 0 (lane_state told p fs f n w l) (lane_state told' q.pool q.files f' n' w' (l + 1))) (sym kept) (record {
+        right = record { valid = subst (λ (q : LaneView File). IsPool q.pool) kept valid; blocks = are_blocks_admitted told' cat p.capacity k e p.entries new (are_blocks_told told told' p.entries same right.blocks); good = good };
         told = same;
         writes = unwritten;
         capacity = refl;
@@ -125,5 +127,10 @@ module _ {File : Type 0} (bytes : File → Option (List ℕ)) (len : File → �
         held = length_admitted p.capacity k e p.entries right.valid.within right.valid.some;
         bound = λ h. let room = room_for_one told cat k d p right.valid right.blocks key absent in let m = length_admitted_new p.capacity k e p.entries absent (omega arith) in omega arith;
       })
-  serves_load (Err d') told told' p q fs fs' f f' n n' w w' l k d e right key absent same unwritten good faults reads new kept refused valid =
-      subst (λ q. Serves bytes len cat 1 (lane_state told p fs f n w l) (lane_state told' q fs' f' n' w' (l + 1))) (sym refused) (serves_refused told told' p fs fs' f f' n n' w w' l right same unwritten good faults reads)
+  serves_load (Err d') told told' p fs fs' q f f' n n' w w' l k d e right key absent same unwritten good faults reads new kept refused valid =
+      subst (λ (q : LaneView File). Serves bytes len cat 1 (lane_state told p fs f n w l) (lane_state told' q.pool q.files f' n' w' (l + 1))) (sym refused) (serves_refused told told' p fs fs' f f' n n' w w' l right same unwritten good faults reads)
+
+-- a lane that was ready is ready after what served
+pub ready_then : {F File Draft : Type 0} (calls : Ghosts F File Draft) (cat : List Dataset) (slack : ℕ) (folder folder' : F) (lane lane' : LaneView File) (loads loads' : ℕ) → IsReady calls folder cat lane
+    → Serves calls.file_bytes calls.file_len cat slack (state_of calls folder lane loads) (state_of calls folder' lane' loads') → IsReady calls folder' cat lane'
+ready_then calls cat slack folder folder' lane lane' loads loads' ready served = record { right = served.right; walked = λ m e. ready.walked m (sym served.told ∙ e) }

@@ -1,4 +1,5 @@
 pub mod Heights
+pub mod Lanes
 pub mod Painted
 pub mod Pictures
 pub mod Right

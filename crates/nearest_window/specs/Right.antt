@@ -1,38 +1,32 @@
 -- When a lane is right for a catalog and a folder, and what a call does to a lane.
-use Rattle.std.specs.Prelude.{◌≡◌, ℕ, ◌+◌, ◌*◌, ◌≤◌, List, length, Option, Some, None, Contains, Result, Ok, Err, option_map, slice_get}
+use Rattle.std.specs.Prelude.{◌≡◌, ℕ, ◌+◌, ◌*◌, ◌≤◌, List, length, Option, Some, None, Contains, Result, Ok, Err, slice_get}
 use Rattle.geotransform.specs.declared.types.Rect.{Rect}
 use Rattle.outside.specs.Outside.{Files}
+use Rattle.outside.specs.Reading.{WhereTold}
+use Rattle.outside.specs.declared.folder.Folder.{Ghosts}
 use Rattle.vrt_profile.specs.Values.{BandValue, DocumentValue}
 use Rattle.catalog.specs.Drivers.{Dataset, document_of}
-use Rattle.catalog.specs.Blocks.{block_pixels, all_blocks}
+use Rattle.catalog.specs.Blocks.{all_blocks}
 use Rattle.catalog.specs.Pixels.{pixel_of}
 use Rattle.catalog.specs.Places.{row_by_row}
+use Rattle.catalog.specs.Walk.{IsWalked}
 use Rattle.band_blocks.specs.declared.key.BlockKey.{BlockKey}
-use Rattle.band_blocks.specs.Blocks.{BlockView, AreIn}
-use Rattle.band_blocks.specs.Contents.{IsBlockOf, most_calls}
+use Rattle.band_blocks.specs.Blocks.{BlockView}
+use Rattle.band_blocks.specs.Contents.{IsBlock, IsOfBand, most_calls}
 use Rattle.band_blocks.specs.Keys.{IsKeyOf}
 use Rattle.band_blocks.specs.declared.load.LoadFault.{LoadFault}
 use Rattle.band_blocks.specs.declared.load.LoadFault.TheVariants.{FolderFault, Changed, Memory}
 use Rattle.band_blocks.specs.Open.{AreGood, TellsChange}
 use Rattle.block_cache.specs.declared.pool.Entry.{Entry}
 use Rattle.block_cache.specs.Entries.{PoolView, IsPool}
-
--- the block is that of its key: it has the block's length and its samples are of the band's type, and over a folder
--- that tells its files they are the block's pixels
-pub record IsBlock (told : Option Files) (cat : List Dataset) (key : BlockKey) (block : BlockView) : Type 0 where
-  pub dataset : Dataset
-  pub in_range : IsKeyOf cat key dataset
-  pub shape : IsBlockOf dataset key block
-  pub content : (m : Files) → told ≡ Some m → block.samples ≡ block_pixels m cat key.file key.band key.block
+use Rattle.nearest_window.specs.Lanes.{LaneView}
 
 -- the block is that of a rectangle of its key's band: it has a sample of the band's type for each pixel, and over a folder
 -- that tells its files they are the rectangle's pixels
 pub record IsPartBlock (told : Option Files) (cat : List Dataset) (key : BlockKey) (rect : Rect) (block : BlockView) : Type 0 where
   pub dataset : Dataset
   pub in_range : IsKeyOf cat key dataset
-  pub kind : option_map (λ band. band.kind) (slice_get dataset.head.bands key.band) ≡ Some block.kind
-  pub count : length block.samples ≡ rect.w * rect.h
-  pub range : AreIn block.kind block.samples
+  pub shape : IsOfBand dataset key.band rect block
   pub content : (m : Files) → told ≡ Some m → block.samples ≡ row_by_row (pixel_of m cat key.file key.band) rect
 
 -- each held block is that of its key
@@ -44,6 +38,16 @@ pub record IsRight {File : Type 0} (bytes : File → Option (List ℕ)) (len : F
   pub valid : IsPool pool
   pub blocks : AreBlocks told cat pool.entries
   pub good : AreGood bytes len told cat files
+
+-- The lane is ready for a catalog and a folder: what it holds is right for both, and over a folder that tells its files
+-- the catalog was walked over them.
+pub record IsReady {F File Draft : Type 0} (calls : Ghosts F File Draft) (folder : F) (cat : List Dataset) (lane : LaneView File) : Type 0 where
+  pub right : IsRight calls.file_bytes calls.file_len (calls.names folder) cat lane.pool lane.files
+  pub walked : WhereTold calls folder (λ m. IsWalked m cat)
+
+-- the lane is ready for each folder and each catalog that was walked over it
+abbrev pub IsFresh : {F File Draft : Type 0} → Ghosts F File Draft → LaneView File → Type 0
+IsFresh {F} calls lane = (folder : F) (cat : List Dataset) → WhereTold calls folder (λ m. IsWalked m cat) → IsReady calls folder cat lane
 
 -- a lane with its folder and its count of loads, at one moment
 pub record LaneState (File : Type 0) : Type 0 where
@@ -76,6 +80,14 @@ pub record Serves {File : Type 0} (bytes : File → Option (List ℕ)) (len : Fi
 abbrev pub slack_of : {T E : Type 0} → Result T E → ℕ
 slack_of (Ok x) = 0
 slack_of (Err e) = 1
+
+-- a lane with a folder and a count of loads
+abbrev pub state_of : {F File Draft : Type 0} → Ghosts F File Draft → F → LaneView File → ℕ → LaneState File
+state_of calls folder lane loads = lane_state (calls.names folder) lane.pool lane.files (calls.faults folder) (calls.read_calls folder) (calls.write_calls folder) loads
+
+-- what a call does to a lane, its folder and its count of loads, by its answer
+abbrev pub Served : {F File Draft T E : Type 0} → Ghosts F File Draft → List Dataset → Result T E → F → LaneView File → ℕ → F → LaneView File → ℕ → Type 0
+Served calls cat result folder lane loads folder' lane' loads' = Serves calls.file_bytes calls.file_len cat (slack_of result) (state_of calls folder lane loads) (state_of calls folder' lane' loads')
 
 -- the key is of a block of a file
 pub record IsFileKey (cat : List Dataset) (key : BlockKey) : Type 0 where

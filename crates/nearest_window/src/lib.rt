@@ -13,3 +13,4 @@ mod window;
 
 pub use lane::Lane;
 pub use laws::right_lanes_stay;
+pub use window::Window;

@@ -1,15 +1,17 @@
 // Windows of pixels.
-ghost use Rattle.std.specs.Prelude.{◌≡◌, ℕ, ◌+◌, ◌-◌, ◌*◌, ◌<◌, ◌≤◌, Some, length, IfErr, OnOk};
-ghost use Rattle.outside.specs.Outside.{Files};
+ghost use Rattle.std.specs.Prelude.{◌≡◌, ◌+◌, ◌-◌, ◌*◌, ◌<◌, ◌≤◌, All, Some, length, slice_get, IfErr, OnOk};
+ghost use Rattle.outside.specs.Reading.{OnlyRead, WhereTold};
 ghost use Rattle.outside.specs.Causes.{HasCause};
-ghost use Rattle.catalog.specs.Walk.{IsWalked};
 ghost use Rattle.catalog.specs.Blocks.{all_blocks};
-ghost use Rattle.catalog.specs.Pixels.{pixel_of};
+ghost use Rattle.catalog.specs.Drivers.{Dataset};
+ghost use Rattle.catalog.specs.Pixels.{pixel_of, pixel_of_name};
 ghost use Rattle.catalog.specs.Places.{row_by_row};
+ghost use Rattle.catalog.specs.Walk.{IsCatalog};
 ghost use Rattle.band_blocks.specs.Contents.{most_calls};
 ghost use Rattle.band_blocks.specs.Open.{IsUnchanged};
-ghost use Rattle.nearest_window.specs.Right.{IsRight, slack_of, TellsChangeIn};
-ghost use Rattle.nearest_window.specs.Shown.{IsWindow, IsPictureOf, IsWhole};
+ghost use Rattle.nearest_window.specs.Lanes.{held_in, room_of};
+ghost use Rattle.nearest_window.specs.Right.{IsReady, slack_of, TellsChangeIn};
+ghost use Rattle.nearest_window.specs.Shown.{IsInBand, IsWindow, IsPictureOf, IsWhole};
 
 use crate::Lane;
 use crate::picture::Picture;
@@ -22,17 +24,28 @@ use outside::Folder;
 use std::alloc::Global;
 use std::sync::ledger::Ledger;
 
-// The pixels of a rectangle, each as it is.
-fn window_of<'a>(cat: &Catalog, id: u32, band: u32, rect: Rect) -> Picture<'a>
-    requires window { IsWindow cat.now id band rect }
-    requires some { 0 < rect.w }
+/// A rectangle of a band of a dataset, which has this number in the catalog. Bands count from 0.
+#[derive(Clone, Copy)]
+pub struct Window {
+    pub dataset: u32,
+    pub band: u32,
+    pub rect: Rect,
+}
+
+// The pixels of a window, each as it is.
+fn window_of<'a>(cat: &Catalog, window: Window) -> Picture<'a>
+    requires window { IsWindow cat.now window }
+    requires some { 0 < window.rect.w }
     ensures picture { IsPictureOf cat.now result }
-    ensures whole { IsWhole id band rect result }
+    ensures whole { IsWhole window result }
+    ensures valid { IsCatalog cat.now }
 {
+    // This call is made for the proof: it says what holds of every catalog.
     let _count = cat.count();
+    let rect = window.rect;
     Picture {
-        file: id,
-        band,
+        file: window.dataset,
+        band: window.band,
         taking: Taking::All,
         width: rect.w,
         columns: Places::Row(rect.x),
@@ -45,9 +58,8 @@ fn window_of<'a>(cat: &Catalog, id: u32, band: u32, rect: Rect) -> Picture<'a>
 }
 
 impl<F: Folder> Lane<F> {
-    /// Fills `out` with the pixels of a rectangle of a band, row by row. The band is counted from 0; the
-    /// rectangle lies in the raster, and `out` has its size. The lane is right for the catalog and the
-    /// folder, and over a folder that tells its files the catalog was walked over them.
+    /// Fills `out` with the pixels of a window, row by row. The window lies in the raster, and `out` has its
+    /// size. The lane is ready for the catalog and the folder.
     ///
     /// Each block of a file that isn't held is loaded, which ticks `loads` once. A block of a mosaic is
     /// made of the blocks of its sources, through every nesting, and takes memory for its samples until it
@@ -61,34 +73,34 @@ impl<F: Folder> Lane<F> {
         alloc: Global,
         cat: &Catalog,
         folder: &mut F,
-        id: u32,
-        band: u32,
-        rect: Rect,
+        window: Window,
         out: &mut [Sample],
         loads: &mut Steps<L>,
     ) -> Result<(), LoadFault>
-        requires right { IsRight F.file_bytes F.file_len (F.names folder.old) cat.now self.old.pool self.old.files }
-        requires walked { (m : Files) → F.names folder.old ≡ Some m → IsWalked m cat.now }
-        requires window { IsWindow cat.now id band rect }
-        requires size { length out.old ≡ rect.w * rect.h }
-        ensures pixels { (m : Files) → F.names folder.old ≡ Some m → OnOk result (out.new ≡ row_by_row (pixel_of m cat.now id band) rect) }
-        ensures right { IsRight F.file_bytes F.file_len (F.names folder.new) cat.now self.new.pool self.new.files }
+        requires ready { IsReady F.Folder folder.old cat.now self.old }
+        requires window { IsWindow cat.now window }
+        requires size { length out.old ≡ window.rect.w * window.rect.h }
+        ensures pixels { WhereTold F.Folder folder.old (λ m. OnOk result (out.new ≡ row_by_row (pixel_of m cat.now window.dataset window.band) window.rect)) }
+        // the pixels that the dataset's name has by itself
+        ensures named { WhereTold F.Folder folder.old (λ m. (d : Dataset) → slice_get cat.now window.dataset ≡ Some d → OnOk result (out.new ≡ row_by_row (pixel_of_name m d.head.name window.band) window.rect)) }
+        // each sample is in the band's type, whatever the folder tells
+        ensures typed { OnOk result (All (IsInBand cat.now window.dataset window.band) out.new) }
+        ensures ready { IsReady F.Folder folder.new cat.now self.new }
         // with room for all blocks, each load makes one more block held, but for the last one of a refused call
-        ensures loads { all_blocks cat.now ≤ self.old.pool.capacity → loads.new ≤ loads.old + (length self.new.pool.entries - length self.old.pool.entries) + slack_of result }
+        ensures loads { all_blocks cat.now ≤ room_of self.old → loads.new ≤ loads.old + (held_in self.new - held_in self.old) + slack_of result }
         ensures reads { F.read_calls folder.new ≤ F.read_calls folder.old + most_calls cat.now * (loads.new - loads.old) }
         ensures counted { loads.old ≤ loads.new }
-        ensures kept { length self.old.pool.entries ≤ length self.new.pool.entries }
-        ensures capacity { self.new.pool.capacity ≡ self.old.pool.capacity }
-        ensures names { F.names folder.new ≡ F.names folder.old }
-        ensures write_calls { F.write_calls folder.new ≡ F.write_calls folder.old }
+        ensures kept { held_in self.old ≤ held_in self.new }
+        ensures capacity { room_of self.new ≡ room_of self.old }
+        ensures only_read { OnlyRead F.Folder folder.old folder.new }
         ensures cause { HasCause LoadFault.FolderFault (F.faults folder.old) (F.faults folder.new) result }
         ensures changed { IfErr result (TellsChangeIn cat.now) }
-        ensures never { (m : Files) → F.names folder.old ≡ Some m → IfErr result IsUnchanged }
+        ensures never { WhereTold F.Folder folder.old (λ _. IfErr result IsUnchanged) }
     {
-        if rect.w == 0 {
+        if window.rect.w == 0 {
             return Ok(());
         }
-        let picture = window_of(cat, id, band, rect);
+        let picture = window_of(cat, window);
         self.paint_picture(alloc, cat, folder, &picture, out, loads)
     }
 }

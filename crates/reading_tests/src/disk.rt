@@ -140,19 +140,25 @@ fn publishes<F: Folder>(rt: &HostRuntime, folder: &mut F, at: &str, left: &str) 
     }
 }
 
-// The path of the first draft of a process.
-fn draft_path(rt: &HostRuntime, at: &str, process: u32) -> Result<String, AllocError> {
-    format!(in rt.alloc(); "{at}/.jirovamby.{process}.1.tmp")
+// Makes the file that the first draft of a process would be, as one that a process left; returns its path.
+fn leave_draft(rt: &HostRuntime, at: &str, process: u32) -> io::Result<String> {
+    let left = format!(in rt.alloc(); "{at}/.jirovamby.{process}.1.tmp")?;
+    fs::write(rt, left.as_str(), b"left".as_slice())?;
+    Ok(left)
+}
+
+// Whether a new folder of a process publishes its drafts or leaves nothing of them.
+fn drafts_are_published(rt: &HostRuntime, at: &str) -> io::Result<bool> {
+    let process = process::id(rt.process());
+    let left = leave_draft(rt, at, process)?;
+    let mut folder = DiskFolder::new(rt.clone()?, process, rt.alloc());
+    Ok(publishes(rt, &mut folder, at, left.as_str()))
 }
 
 #[test]
 fn drafts_are_published_or_leave_nothing(rt: HostRuntime) -> io::Result<()> {
     let at = fixture(&rt, "drafts")?;
-    let process = process::id(rt.process());
-    let left = draft_path(&rt, at.as_str(), process)?;
-    fs::write(&rt, left.as_str(), b"left".as_slice())?;
-    let mut folder = DiskFolder::new(rt.clone()?, process, rt.alloc());
-    assert!(rt; publishes(&rt, &mut folder, at.as_str(), left.as_str()));
+    assert!(rt; drafts_are_published(&rt, at.as_str())?);
     fs::remove_dir_all(&rt, at.as_str())
 }
 

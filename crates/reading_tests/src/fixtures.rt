@@ -1,6 +1,6 @@
 // What the tests share: folders in memory, documents, heads, and what is said of them.
 use catalog::{Bad, Head, LimitKind, WalkFault, head_of};
-use lists_and_answers::Items;
+use lists_and_answers::{Items, push_all};
 use outside::{Failing, Listed, MemFolder, Name};
 use std::alloc::{AllocError, Global};
 use std::test::*;
@@ -83,30 +83,23 @@ pub fn is_said(alloc: Global, verify: bool, (name, files, call, said): Row) -> R
 /// A source of a mosaic: the texts of its name and of its band.
 pub type Source<'a> = (&'a str, &'a str);
 
-fn push_all(text: &mut String, parts: &[&str]) -> Result<(), AllocError> {
-    for part in parts {
-        text.push_str(part)?;
-    }
-    Ok(())
-}
-
 /// A document of one pixel, one band and these sources, each relative to it.
-pub fn document(alloc: Global, sources: &[Source]) -> Result<String, AllocError> {
-    let mut text = String::from_str(
+pub fn document(alloc: Global, sources: &[Source]) -> Result<Vec<u8>, AllocError> {
+    let mut text = Vec::from_slice(
         alloc,
-        "<VRTDataset rasterXSize=\"1\" rasterYSize=\"1\"><VRTRasterBand dataType=\"Byte\" band=\"1\">",
+        b"<VRTDataset rasterXSize=\"1\" rasterYSize=\"1\"><VRTRasterBand dataType=\"Byte\" band=\"1\">",
     )?;
     for (name, band) in sources {
-        let parts = [
-            "<SimpleSource><SourceFilename relativeToVRT=\"1\">",
-            *name,
-            "</SourceFilename><SourceBand>",
-            *band,
-            "</SourceBand></SimpleSource>",
+        let parts: [&[u8]; 5] = [
+            b"<SimpleSource><SourceFilename relativeToVRT=\"1\">",
+            name.as_bytes(),
+            b"</SourceFilename><SourceBand>",
+            band.as_bytes(),
+            b"</SourceBand></SimpleSource>",
         ];
-        push_all(&mut text, &parts)?;
+        push_all(&parts, &mut text)?;
     }
-    text.push_str("</VRTRasterBand></VRTDataset>")?;
+    text.extend_from_slice(b"</VRTRasterBand></VRTDataset>")?;
     Ok(text)
 }
 

@@ -342,7 +342,7 @@ const LISTINGS: [Listing<'static>; 4] = [
 fn is_listed(alloc: Global, (name, sources, files): Listing) -> Result<bool, Fail> {
     let text = document(alloc, sources)?;
     Ok(
-        match head_in(alloc, name, &[(name, text.as_bytes())], 3, false)? {
+        match head_in(alloc, name, &[(name, text.as_slice())], 3, false)? {
             Ok(head) => is_named(&head, files),
             Err(_) => false,
         },
@@ -367,7 +367,7 @@ fn files_of_mosaics(rt: HostRuntime) -> Result<(), Fail> {
 }
 
 // A document whose second source has a name of so many letters.
-fn long_named(alloc: Global, count: usize) -> Result<String, AllocError> {
+fn long_named(alloc: Global, count: usize) -> Result<Vec<u8>, AllocError> {
     let mut name = String::new(alloc);
     for _ in 0..count {
         name.push('a')?;
@@ -386,7 +386,7 @@ const LENGTHS: [(&str, usize, Option<Said<'static>>); 4] = [
 // Whether that is said of a mosaic whose source has a name of so many letters.
 fn is_long(alloc: Global, name: &str, count: usize, said: Option<Said<'_>>) -> Result<bool, Fail> {
     let text = long_named(alloc, count)?;
-    is_said(alloc, false, (name, &[(name, text.as_bytes())], 3, said))
+    is_said(alloc, false, (name, &[(name, text.as_slice())], 3, said))
 }
 
 // The first of these mosaics of which something else is said, or how many mosaics there are.

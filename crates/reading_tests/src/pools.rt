@@ -145,8 +145,8 @@ fn first_untold(alloc: Global, pool: &mut Pool, steps: &[Step]) -> Result<usize,
 #[test]
 fn a_pool_of_one(rt: HostRuntime) -> Result<(), Fail> {
     let mut pool = Pool::new(rt.alloc(), 1)?;
-    assert_eq!(rt; first_untold(rt.alloc(), &mut pool, &ONE)?, ONE.len());
-    assert_eq!(rt; pool.capacity(), 1);
+    let untold = first_untold(rt.alloc(), &mut pool, &ONE)?;
+    assert_eq!(rt; (untold, pool.capacity()), (ONE.len(), 1));
     Ok(())
 }
 
@@ -160,7 +160,7 @@ fn a_pool_of_two(rt: HostRuntime) -> Result<(), Fail> {
 #[test]
 fn a_pool_of_three(rt: HostRuntime) -> Result<(), Fail> {
     let mut pool = Pool::new(rt.alloc(), 3)?;
-    assert_eq!(rt; first_untold(rt.alloc(), &mut pool, &THREE)?, THREE.len());
-    assert!(rt; !pool.holds(&key(3)));
+    let untold = first_untold(rt.alloc(), &mut pool, &THREE)?;
+    assert_eq!(rt; (untold, pool.holds(&key(3))), (THREE.len(), false));
     Ok(())
 }

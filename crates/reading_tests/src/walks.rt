@@ -30,7 +30,7 @@ type Mosaic<'a> = (&'a str, &'a [Source<'a>]);
 fn put_mosaics(alloc: Global, folder: &mut MemFolder, mosaics: &[Mosaic]) -> Result<(), Fail> {
     for (name, sources) in mosaics {
         let text = document(alloc, sources)?;
-        put_all(alloc, folder, &[(*name, text.as_bytes())])?;
+        put_all(alloc, folder, &[(*name, text.as_slice())])?;
     }
     Ok(())
 }

@@ -1,13 +1,13 @@
 ghost use Rattle.std.specs.Prelude.{◌≡◌, ◌<◌, ◌≤◌, ℕ, Some, length};
 ghost use Rattle.outside.specs.Outside.{Files};
 ghost use Rattle.catalog.specs.Walk.{IsWalked};
-ghost use Rattle.nearest_window.specs.Right.{IsRight};
+ghost use Rattle.nearest_window.specs.Right.{IsReady};
 
 use band_blocks::{LoadFault, Steps};
 use catalog::{Catalog, open_all};
 use geotransform::{Rect, Sample, Size};
 use lists_and_answers::Items;
-use nearest_window::Lane;
+use nearest_window::{Lane, Window};
 use outside::{CalmFolder, Failing, Folder, Listed, MemoryFolder, Name, Never, Schedule, Tally};
 use std::alloc::Global;
 use std::marker::Brand;
@@ -65,13 +65,17 @@ fn read_twice<F: Folder, L: Ledger>(
     if w > 16 || h > 16 {
         return Ok(Reading::Wrong);
     }
-    let rect = Rect { x: 0, y: 0, w, h };
+    let window = Window {
+        dataset: id,
+        band: 0,
+        rect: Rect { x: 0, y: 0, w, h },
+    };
     let mut out = vec![in alloc; 0i128; (w * h) as usize]?;
     let mut lane = Lane::new(alloc, capacity)?;
     let mut loads: Steps<L> = Steps::open(blank);
     let samples = out.as_mut_slice();
-    let first = lane.read_window(alloc, cat, folder, id, 0, rect, samples, &mut loads);
-    let second = lane.read_window(alloc, cat, folder, id, 0, rect, samples, &mut loads);
+    let first = lane.read_window(alloc, cat, folder, window, samples, &mut loads);
+    let second = lane.read_window(alloc, cat, folder, window, samples, &mut loads);
     Ok(judged(&first, &second, samples, wanted))
 }
 
@@ -367,30 +371,40 @@ fn drawn(alloc: Global) -> Result<CalmFolder, Fail> {
     Ok(folder)
 }
 
+// A column and a line of a dataset, which has this number in the catalog.
+#[derive(Clone, Copy)]
+struct Place {
+    dataset: u32,
+    x: u32,
+    y: u32,
+}
+
 // The pixel of the first band, or -1 where there is none or it isn't read.
 fn point<F: Folder, L: Ledger>(
     alloc: Global,
     lane: &mut Lane<F>,
     cat: &Catalog,
     folder: &mut F,
-    id: u32,
-    x: u32,
-    y: u32,
+    place: Place,
     loads: &mut Steps<L>,
 ) -> Sample
-    requires id { id < length cat.now }
-    requires right { IsRight F.file_bytes F.file_len (F.names folder.old) cat.now lane.old.pool lane.old.files }
-    requires walked { (m : Files) → F.names folder.old ≡ Some m → IsWalked m cat.now }
-    ensures right { IsRight F.file_bytes F.file_len (F.names folder.new) cat.now lane.new.pool lane.new.files }
+    requires dataset { place.dataset < length cat.now }
+    requires ready { IsReady F.Folder folder.old cat.now lane.old }
+    ensures ready { IsReady F.Folder folder.new cat.now lane.new }
     ensures names { F.names folder.new ≡ F.names folder.old }
 {
-    let Size { w, h } = cat.head(id).size;
+    let Place { dataset, x, y } = place;
+    let Size { w, h } = cat.head(dataset).size;
     if x >= w || y >= h {
         return -1;
     }
-    let rect = Rect { x, y, w: 1, h: 1 };
+    let window = Window {
+        dataset,
+        band: 0,
+        rect: Rect { x, y, w: 1, h: 1 },
+    };
     let mut out = [0; 1];
-    match lane.read_window(alloc, cat, folder, id, 0, rect, &mut out, loads) {
+    match lane.read_window(alloc, cat, folder, window, &mut out, loads) {
         Ok(()) => return out[0],
         Err(_) => return -1,
     }
@@ -424,11 +438,10 @@ fn wrong_points<F: Folder, L: Ledger>(
     let mut loads: Steps<L> = Steps::open(blank);
     let mut wrong = 0;
     for step in 0..w * h {
-        let place = step * 59 % (w * h);
-        let (x, y) = (place % w, place / w);
-        if point(alloc, &mut lane, cat, folder, id, x, y, &mut loads)
-            != pixel(image, x, y) as Sample
-        {
+        let number = step * 59 % (w * h);
+        let (x, y) = (number % w, number / w);
+        let place = Place { dataset: id, x, y };
+        if point(alloc, &mut lane, cat, folder, place, &mut loads) != pixel(image, x, y) as Sample {
             wrong += 1;
         }
     }
@@ -457,12 +470,16 @@ fn wrong_pixels<F: Folder, L: Ledger>(
     if w > 200 || h > 10 {
         return Ok(1);
     }
-    let rect = Rect { x: 0, y: 0, w, h };
+    let window = Window {
+        dataset: id,
+        band: 0,
+        rect: Rect { x: 0, y: 0, w, h },
+    };
     let mut out = vec![in alloc; 0i128; (w * h) as usize]?;
     let mut lane = Lane::new(alloc, capacity)?;
     let mut loads: Steps<L> = Steps::open(blank);
     let samples = out.as_mut_slice();
-    let answer = lane.read_window(alloc, cat, folder, id, 0, rect, samples, &mut loads);
+    let answer = lane.read_window(alloc, cat, folder, window, samples, &mut loads);
     let mut wrong = if answer.is_ok() { 0 } else { 1 };
     for place in 0..w * h {
         if samples[place as usize] != pixel(image, place % w, place / w) as Sample {
@@ -549,7 +566,12 @@ fn read_points<F: Folder, L: Ledger>(
     let mut lane = Lane::new(alloc, 1)?;
     let mut loads: Steps<L> = Steps::open(blank);
     for (x, y) in places.iter() {
-        let _pixel = point(alloc, &mut lane, cat, folder, id, *x, *y, &mut loads);
+        let place = Place {
+            dataset: id,
+            x: *x,
+            y: *y,
+        };
+        let _pixel = point(alloc, &mut lane, cat, folder, place, &mut loads);
     }
     Ok(())
 }

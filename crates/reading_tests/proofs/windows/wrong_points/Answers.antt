@@ -1,5 +1,5 @@
-use Rattle.std.proofs.Common.{sym, ◌∙◌}
+use Rattle.std.proofs.Common.{refl, rules}
 use Rattle.reading_tests.proofs.windows.wrong_points.Goals as goal
 
-pub point-requires-clause-walked : goal.point-requires-clause-walked
-point-requires-clause-walked g c κs within m told = c.requires.walked m (sym c.loop-step.invariant.names ∙ told)
+pub loop-step-init : goal.loop-step-init
+loop-step-init g c = record { ready = c.in_ok-lane.ensures.fresh c.args.folder.now c.args.cat.now c.requires.walked; names = refl; few = (search rules) }

@@ -13,16 +13,17 @@ use Rattle.catalog.specs.Places.{IsWithin}
 use Rattle.band_blocks.specs.Blocks.{block_view}
 use Rattle.block_cache.specs.Entries.{entry_of}
 use Rattle.nearest_window.specs.Heights.{height_at}
-use Rattle.nearest_window.specs.Right.{slack_of}
+use Rattle.nearest_window.specs.Right.{IsReady, slack_of}
 use Rattle.nearest_window.specs.Painted.{IsPainted, first, in_columns}
 use Rattle.nearest_window.specs.Taken.{place_at}
-use Rattle.nearest_window.specs.Shown.{shown, IsShown, IsSourceOf, IsSourceShown, AreSourcesShown}
+use Rattle.nearest_window.specs.Shown.{shown, AreTyped, IsTyped, IsShown, IsSourceOf, IsSourceShown, AreSourcesShown}
 use Rattle.nearest_window.proofs.Keys.{held_kept}
-use Rattle.nearest_window.proofs.Steps.{held_blocks, serves_moved, serves_trans, serves_keep}
+use Rattle.nearest_window.proofs.Steps.{held_blocks, ready_then, serves_moved, serves_trans, serves_keep}
 use Rattle.nearest_window.proofs.Shown.{held_size, block_shown, rect_shown}
 use Rattle.nearest_window.proofs.Mosaics.{sources_more, source_stands, filled_part, whole_block}
 use Rattle.nearest_window.proofs.Fills.{source_unseen, source_part, columns_more, bands_more, part_length, on_ok}
 use Rattle.nearest_window.proofs.Painted.{painted_whole}
+use Rattle.nearest_window.proofs.Ranges.{block_typed, rect_typed, rows_typed, typed_more}
 use Rattle.nearest_window.proofs.Blocks.{around_at, in_row, from_row}
 use Rattle.nearest_window.proofs.lane.Lane.+read.Goals as goal
 
@@ -37,18 +38,18 @@ pub hold-returns-in-Some-clause-serves : goal.hold-returns-in-Some-clause-serves
 hold-returns-in-Some-clause-serves g t c =
     let filled = c.in_ok-block-in-Some.ensures.serves in
     let whole = whole_block (g.F.Folder.names c.fill.new.folder) c.args.cat.now c.args.key c.mosaic_rect-rect.result c.in_ok-block-in-Some.block c.mosaic_rect-rect.ensures.rect c.in_ok-block-in-Some.ensures.block in
-    let kept = serves_keep g.F.Folder.file_bytes g.F.Folder.file_len c.args.cat.now c.keep.result (g.F.Folder.names c.fill.new.folder) c.fill.new.self.pool c.keep.new.pool c.fill.new.self.files (g.F.Folder.faults c.fill.new.folder) (g.F.Folder.read_calls c.fill.new.folder) (g.F.Folder.write_calls c.fill.new.folder) c.fill.new.loads c.args.key (entry_of c.in_ok-block-in-Some.block false) filled.right whole c.keep.ensures.kept c.keep.ensures.refused c.keep.ensures.valid in
+    let kept = serves_keep g.F.Folder.file_bytes g.F.Folder.file_len c.args.cat.now c.keep.result (g.F.Folder.names c.fill.new.folder) c.fill.new.self c.keep.new.self (g.F.Folder.faults c.fill.new.folder) (g.F.Folder.read_calls c.fill.new.folder) (g.F.Folder.write_calls c.fill.new.folder) c.fill.new.loads c.args.key (entry_of c.in_ok-block-in-Some.block false) filled.right whole c.keep.ensures.kept c.keep.ensures.refused c.keep.ensures.valid in
     serves_trans g.F.Folder.file_bytes g.F.Folder.file_len c.args.cat.now (slack_of c.keep.result) _ _ _ filled kept
 
 pub hold-returns-in-Some-clause-held : goal.hold-returns-in-Some-clause-held
-hold-returns-in-Some-clause-held g t c = held_kept c.keep.result c.fill.new.self.pool c.keep.new.pool c.args.key (entry_of c.in_ok-block-in-Some.block false) c.keep.ensures.kept
+hold-returns-in-Some-clause-held g t c = held_kept c.keep.result c.fill.new.self c.keep.new.self c.args.key (entry_of c.in_ok-block-in-Some.block false) c.keep.ensures.kept
 
 pub fill-paint-requires : goal.fill-paint-requires
 fill-paint-requires g t c =
     let k = c.requires.key in
     let right = c.loop-number.invariant.serves.right in
     let told = c.loop-number.invariant.serves.told in
-    let walked : (m : Files) → g.F.Folder.names c.loop-number.folder ≡ Some m → IsWalked m c.args.cat.now = λ m e. c.requires.walked m (sym told ∙ e) in
+    let walked : (m : Files) → g.F.Folder.names c.loop-number.folder ≡ Some m → IsWalked m c.args.cat.now = λ m e. c.requires.ready.walked m (sym told ∙ e) in
     let item : slice_get c.args.band.now.sources c.loop-number.number ≡ Some c.get-source.result.now = ap (λ (l : List SourceValue). slice_get l c.loop-number.number) (sym (ap (λ (b : BandValue). b.sources) c.band.view_is)) ∙ c.get-source.ensures.item in
     let source : IsSourceOf c.args.cat.now c.args.key c.loop-number.number c.get-source.result.now = record { dataset = k.dataset; in_range = k.in_range; source = source_stands c.args.cat.now c.args.key c.args.band.now k c.loop-number.number c.get-source.result.now item } in
     let fall : 6 * height_at c.args.cat.now c.args.key.file < t = (let m : 6 * height_at c.args.cat.now c.args.key.file + 1 ≡ t = c.decreases in omega arith) in
@@ -56,7 +57,8 @@ fill-paint-requires g t c =
     let inside = c.requires.within k.dataset k.in_range.at in
     let some : 0 < c.args.rect.w = inside.columns in
     let size : length c.as_mut_slice-out.result.now ≡ c.args.rect.w * c.args.rect.h = ap length c.as_mut_slice-out.ensures.value ∙ c.loop-number.invariant.size in
-    search (rules, fall, right, walked, source, within, some, size)
+    let ready : IsReady g.F.Folder c.loop-number.folder c.args.cat.now c.loop-number.self = record { right = right; walked = walked } in
+    search (rules, fall, ready, source, within, some, size)
 
 pub fill-loop-number-preserved : goal.fill-loop-number-preserved
 fill-loop-number-preserved g t c =
@@ -97,15 +99,23 @@ fill-returns-clause-block g t c =
 
 pub paint-returns-in_default-clause-painted : goal.paint-returns-in_default-clause-painted
 paint-returns-in_default-clause-painted g t c = λ d at.
-    source_unseen (g.F.Folder.names c.args.folder.now) c.args.cat.now d c.args.key.band c.args.number c.args.source.now c.args.rect c.args.samples.now c.requires.some c.requires.rows (c.in_ok-picture.ensures.none c.in_default.is d at)
+    source_unseen (g.F.Folder.names c.args.folder.now) c.args.cat.now d c.args.source.key.band c.args.source.number c.args.source.source.now c.args.rect c.args.samples.now c.requires.some c.requires.rows (c.in_ok-picture.ensures.none c.in_default.is d at)
 
 pub paint-returns-clause-painted : goal.paint-returns-clause-painted
 paint-returns-clause-painted g t c = λ d at.
     let seen = rw c.in-Some.is at c.in_ok-picture.ensures.seen in
     on_ok c.paint_picture.result _ _
-    (source_part (g.F.Folder.names c.paint_picture.new.folder) c.args.cat.now d c.args.key.band c.args.number c.in-Some.picture.file c.args.source.now c.args.rect c.in-Some.picture (seen.seen d at) (λ m. seen.pixels m d at) c.requires.some c.args.samples.now c.paint_picture.new.out c.requires.rows
+    (source_part (g.F.Folder.names c.paint_picture.new.folder) c.args.cat.now d c.args.source.key.band c.args.source.number c.in-Some.picture.file c.args.source.source.now c.args.rect c.in-Some.picture (seen.seen d at) (λ m. seen.pixels m d at) c.requires.some c.args.samples.now c.paint_picture.new.out c.requires.rows
     (c.in-Some.picture.top * c.in-Some.picture.stride) ((c.in-Some.picture.top + c.in-Some.picture.height) * c.in-Some.picture.stride) refl refl)
     c.paint_picture.ensures.painted
+
+pub paint_picture-paint_band-requires-clause-ready : goal.paint_picture-paint_band-requires-clause-ready
+paint_picture-paint_band-requires-clause-ready g t c κs within =
+    ready_then g.F.Folder c.args.cat.now 0 c.args.folder.now c.loop-line.folder c.args.self.now c.loop-line.self c.args.loads.now c.loop-line.loads c.requires.ready c.loop-line.invariant.serves
+
+pub paint_band-paint_block-requires-clause-ready : goal.paint_band-paint_block-requires-clause-ready
+paint_band-paint_block-requires-clause-ready g t c κs within =
+    ready_then g.F.Folder c.args.cat.now 0 c.args.folder.now c.loop-column.folder c.args.self.now c.loop-column.self c.args.loads.now c.loop-column.loads c.requires.ready c.loop-column.invariant.serves
 
 pub paint_picture-paint_band-requires-clause-band : goal.paint_picture-paint_band-requires-clause-band
 paint_picture-paint_band-requires-clause-band g t c κs within d at k low high =
@@ -138,7 +148,19 @@ paint_picture-loop-line-preserved g t c =
       painted = subst (λ n. (m : Files) → g.F.Folder.names c.paint_band.new.folder ≡ Some m → IsPainted (first (n * c.args.picture.now.stride) (in_columns c.args.picture.now.stride (c.args.picture.now.to + 0) (c.args.picture.now.to + 0 + c.args.picture.now.width) (shown m c.args.cat.now c.args.picture.now 0 0))) c.args.out.now (put_mid (c.loop-line.line * c.args.picture.now.stride) (c.run_end-end.result * c.args.picture.now.stride - c.loop-line.line * c.args.picture.now.stride) c.loop-line.out c.paint_band.new.out)) sum
           (bands_more (g.F.Folder.names c.loop-line.folder) (g.F.Folder.names c.paint_band.new.folder) c.args.cat.now c.args.picture.now c.loop-line.line (c.run_end-end.result - c.loop-line.line) (c.loop-line.line * c.args.picture.now.stride) (c.run_end-end.result * c.args.picture.now.stride) c.args.out.now c.loop-line.out c.paint_band.new.out
           o.serves.told refl (ap (λ n. n * c.args.picture.now.stride) (sym sum)) c.requires.picture.picture.some there before.painted o.painted);
+      typed = subst (λ n. AreTyped c.args.cat.now c.args.picture.now (n * c.args.picture.now.stride) (put_mid (c.loop-line.line * c.args.picture.now.stride) (c.run_end-end.result * c.args.picture.now.stride - c.loop-line.line * c.args.picture.now.stride) c.loop-line.out c.paint_band.new.out)) sum
+          (rows_typed c.args.cat.now c.args.picture.now c.loop-line.line (c.run_end-end.result - c.loop-line.line) (c.loop-line.line * c.args.picture.now.stride) (c.run_end-end.result * c.args.picture.now.stride) c.loop-line.out c.paint_band.new.out
+          refl (ap (λ n. n * c.args.picture.now.stride) (sym sum)) c.requires.picture.picture.some there
+          (part_length c.args.picture.now.stride c.loop-line.line c.run_end-end.result c.loop-line.out (omega arith) (omega arith)) before.typed o.typed);
     }
+
+pub paint_picture-returns-clause-typed : goal.paint_picture-returns-clause-typed
+paint_picture-returns-clause-typed g t c =
+    let before = c.loop-line.invariant in
+    let test = c.loop-line-test.false in
+    let below = before.below in
+    let all : c.loop-line.line ≡ c.args.picture.now.height = omega arith in
+    subst (λ n. AreTyped c.args.cat.now c.args.picture.now (n * c.args.picture.now.stride) c.loop-line.out) all before.typed
 
 pub paint_picture-returns-clause-painted : goal.paint_picture-returns-clause-painted
 paint_picture-returns-clause-painted g t c = λ m e.
@@ -150,8 +172,8 @@ paint_picture-returns-clause-painted g t c = λ m e.
     let long : length c.args.out.now ≤ c.loop-line.line * c.args.picture.now.stride = (let e : c.loop-line.line * c.args.picture.now.stride ≡ c.args.picture.now.height * c.args.picture.now.stride = ap (λ n. n * c.args.picture.now.stride) all in omega arith) in
     painted_whole _ (c.loop-line.line * c.args.picture.now.stride) c.args.out.now c.loop-line.out long (before.painted m e)
 
-pub paint_band-paint_block-requires-clause-part : goal.paint_band-paint_block-requires-clause-part
-paint_band-paint_block-requires-clause-part g t c κs within =
+pub paint_band-paint_block-requires-clause-piece : goal.paint_band-paint_block-requires-clause-piece
+paint_band-paint_block-requires-clause-piece g t c κs within =
     let around = c.block_around.ensures.around in
     record {
       dataset = around.dataset;
@@ -160,8 +182,8 @@ paint_band-paint_block-requires-clause-part g t c κs within =
       file = around.file;
       band = around.band;
       across = λ k low high. (c.run_end-end.ensures.low k low (omega arith), c.run_end-end.ensures.edge k low (omega arith));
-      down = λ k low high. from_row c.args.cat.now c.args.picture.now c.loop-column.column c.args.line c.block_around.result.key c.block_around.result.rect around (place_at c.args.picture.now.lines k)
-          (c.requires.band around.dataset (around_at c.args.cat.now c.args.picture.now c.loop-column.column c.args.line c.block_around.result.key c.block_around.result.rect around) k low high);
+      down = λ k low high. from_row c.args.cat.now c.args.picture.now c.loop-column.column c.args.lines.first c.block_around.result.key c.block_around.result.rect around (place_at c.args.picture.now.lines k)
+          (c.requires.band around.dataset (around_at c.args.cat.now c.args.picture.now c.loop-column.column c.args.lines.first c.block_around.result.key c.block_around.result.rect around) k low high);
     }
 
 pub paint_band-loop-column-preserved : goal.paint_band-loop-column-preserved
@@ -173,9 +195,19 @@ paint_band-loop-column-preserved g t c =
     record {
       serves = serves_trans g.F.Folder.file_bytes g.F.Folder.file_len c.args.cat.now 0 _ _ _ before.serves o.serves;
       below = c.run_end-end.ensures.below;
-      painted = subst (λ n. IsShown (g.F.Folder.names c.paint_block.new.folder) c.args.cat.now c.args.picture.now 0 n c.args.line c.args.out.now c.paint_block.new.out) sum
-          (columns_more (g.F.Folder.names c.loop-column.folder) (g.F.Folder.names c.paint_block.new.folder) c.args.cat.now c.args.picture.now c.loop-column.column (c.run_end-end.result - c.loop-column.column) c.args.line c.args.out.now c.loop-column.out c.paint_block.new.out o.serves.told before.painted o.painted);
+      painted = subst (λ n. IsShown (g.F.Folder.names c.paint_block.new.folder) c.args.cat.now c.args.picture.now 0 n c.args.lines.first c.args.out.now c.paint_block.new.out) sum
+          (columns_more (g.F.Folder.names c.loop-column.folder) (g.F.Folder.names c.paint_block.new.folder) c.args.cat.now c.args.picture.now c.loop-column.column (c.run_end-end.result - c.loop-column.column) c.args.lines.first c.args.out.now c.loop-column.out c.paint_block.new.out o.serves.told before.painted o.painted);
+      typed = subst (λ n. IsTyped c.args.cat.now c.args.picture.now 0 n c.args.out.now c.paint_block.new.out) sum
+          (typed_more c.args.cat.now c.args.picture.now c.loop-column.column (c.run_end-end.result - c.loop-column.column) c.args.out.now c.loop-column.out c.paint_block.new.out before.typed o.typed);
     }
+
+pub paint_band-returns-clause-typed : goal.paint_band-returns-clause-typed
+paint_band-returns-clause-typed g t c =
+    let before = c.loop-column.invariant in
+    let test = c.loop-column-test.false in
+    let below = before.below in
+    let all : c.loop-column.column ≡ c.args.picture.now.width = omega arith in
+    subst (λ n. IsTyped c.args.cat.now c.args.picture.now 0 n c.args.out.now c.loop-column.out) all before.typed
 
 pub paint_band-returns-clause-painted : goal.paint_band-returns-clause-painted
 paint_band-returns-clause-painted g t c =
@@ -183,31 +215,42 @@ paint_band-returns-clause-painted g t c =
     let test = c.loop-column-test.false in
     let below = before.below in
     let all : c.loop-column.column ≡ c.args.picture.now.width = omega arith in
-    subst (λ n. IsShown (g.F.Folder.names c.loop-column.folder) c.args.cat.now c.args.picture.now 0 n c.args.line c.args.out.now c.loop-column.out) all before.painted
+    subst (λ n. IsShown (g.F.Folder.names c.loop-column.folder) c.args.cat.now c.args.picture.now 0 n c.args.lines.first c.args.out.now c.loop-column.out) all before.painted
 
-pub paint_part-returns-clause-painted : goal.paint_part-returns-clause-painted
-paint_part-returns-clause-painted g t c = λ m e.
-    let part = c.requires.part in
+pub paint_block-returns-in-Some-clause-painted : goal.paint_block-returns-in-Some-clause-painted
+paint_block-returns-in-Some-clause-painted g t c = λ m e.
+    let part = rw c.in-Some.is at c.lone_part.ensures.part in
     let made = c.in_ok-block.ensures.block in
     let rows = c.requires.rows in
-    rect_shown m c.args.cat.now c.args.key.file c.args.key.band c.args.part.rect c.args.picture.now c.args.column c.args.columns c.args.line c.args.lines c.in_ok-block.block c.args.out.now c.paint_rows.new.out part.file part.band_is part.across part.down (made.content m e) c.requires.picture.picture.some (omega arith) c.paint_rows.ensures.painted
+    rect_shown m c.args.cat.now c.args.piece.key.file c.args.piece.key.band c.in-Some.part.rect c.args.picture.now c.args.piece.area.column c.args.piece.area.columns c.args.piece.area.line c.args.piece.area.lines c.in_ok-block.block c.args.out.now c.paint_rows.new.out part.file part.band_is part.across part.down (made.content m e) c.requires.picture.picture.some (omega arith) c.paint_rows.ensures.painted
+
+pub paint_block-returns-in-Some-clause-typed : goal.paint_block-returns-in-Some-clause-typed
+paint_block-returns-in-Some-clause-typed g t c =
+    let part = rw c.in-Some.is at c.lone_part.ensures.part in
+    let made = c.in_ok-block.ensures.block in
+    rect_typed c.args.cat.now c.args.picture.now c.args.piece c.in-Some.part.rect made.dataset c.in_ok-block.block c.args.out.now c.paint_rows.new.out part.file part.band_is made.in_range made.shape c.paint_rows.ensures.painted
+
+pub paint_block-returns-clause-typed : goal.paint_block-returns-clause-typed
+paint_block-returns-clause-typed g t c =
+    let o = c.in_ok-hold.ensures in
+    block_typed (g.F.Folder.names c.hold.new.folder) c.args.cat.now c.args.picture.now c.args.piece c.requires.piece c.hold.new.self.pool.entries c.args.out.now c.paint_held.new.out o.serves.right.blocks o.held c.paint_held.ensures.painted
 
 pub paint_block-paint_held-requires-clause-held : goal.paint_block-paint_held-requires-clause-held
-paint_block-paint_held-requires-clause-held g t c =
+paint_block-paint_held-requires-clause-held g t c κs within =
     let o = c.in_ok-hold.ensures in
-    held_size (g.F.Folder.names c.hold.new.folder) c.args.cat.now c.args.key c.args.rect c.args.picture.now c.args.column c.args.columns c.args.line c.args.lines c.requires.part c.hold.new.self.pool.entries (held_blocks g.F.Folder.file_bytes g.F.Folder.file_len c.args.cat.now (g.F.Folder.names c.hold.new.folder) c.hold.new.self.pool c.hold.new.self.files o.serves.right) o.held
+    held_size (g.F.Folder.names c.hold.new.folder) c.args.cat.now c.args.picture.now c.args.piece c.requires.piece c.hold.new.self.pool.entries (held_blocks g.F.Folder.file_bytes g.F.Folder.file_len c.args.cat.now (g.F.Folder.names c.hold.new.folder) c.hold.new.self.pool c.hold.new.self.files o.serves.right) o.held
 
 pub paint_block-returns-clause-serves : goal.paint_block-returns-clause-serves
 paint_block-returns-clause-serves g t c =
     let o = c.in_ok-hold.ensures in
     serves_trans g.F.Folder.file_bytes g.F.Folder.file_len c.args.cat.now 0 _ _ _ o.serves
-    (rw c.paint_held.ensures.entries (serves_moved g.F.Folder.file_bytes g.F.Folder.file_len c.args.cat.now (g.F.Folder.names c.hold.new.folder) c.hold.new.self.pool c.hold.new.self.files (g.F.Folder.faults c.hold.new.folder) (g.F.Folder.read_calls c.hold.new.folder) (g.F.Folder.write_calls c.hold.new.folder) c.hold.new.loads c.args.key o.serves.right (rw c.paint_held.ensures.entries at c.paint_held.ensures.valid)))
+    (rw c.paint_held.ensures.entries (serves_moved g.F.Folder.file_bytes g.F.Folder.file_len c.args.cat.now (g.F.Folder.names c.hold.new.folder) c.hold.new.self.pool c.hold.new.self.files (g.F.Folder.faults c.hold.new.folder) (g.F.Folder.read_calls c.hold.new.folder) (g.F.Folder.write_calls c.hold.new.folder) c.hold.new.loads c.args.piece.key o.serves.right (rw c.paint_held.ensures.entries at c.paint_held.ensures.valid)))
 
 pub paint_block-returns-clause-painted : goal.paint_block-returns-clause-painted
 paint_block-returns-clause-painted g t c =
     let o = c.in_ok-hold.ensures in
     let rows = c.requires.rows in
-    block_shown (g.F.Folder.names c.hold.new.folder) c.args.cat.now c.args.key c.args.rect c.args.picture.now c.args.column c.args.columns c.args.line c.args.lines c.requires.part c.hold.new.self.pool.entries c.args.out.now c.paint_held.new.out (held_blocks g.F.Folder.file_bytes g.F.Folder.file_len c.args.cat.now (g.F.Folder.names c.hold.new.folder) c.hold.new.self.pool c.hold.new.self.files o.serves.right) o.held c.requires.picture.picture.some (omega arith) c.paint_held.ensures.painted
+    block_shown (g.F.Folder.names c.hold.new.folder) c.args.cat.now c.args.picture.now c.args.piece c.requires.piece c.hold.new.self.pool.entries c.args.out.now c.paint_held.new.out (held_blocks g.F.Folder.file_bytes g.F.Folder.file_len c.args.cat.now (g.F.Folder.names c.hold.new.folder) c.hold.new.self.pool c.hold.new.self.files o.serves.right) o.held c.requires.picture.picture.some (omega arith) c.paint_held.ensures.painted
 
 pub paint-slice_bounds-out-end : goal.paint-slice_bounds-out-end
 paint-slice_bounds-out-end g t c =

@@ -1,15 +1,55 @@
-use Rattle.std.proofs.Common.{◌<◌, ◌∙◌, arith}
+use Rattle.std.proofs.Common.{◌≡◌, ◌<◌, ◌*◌, ◌∙◌, ap, sym, ℕ, length, arith}
+use Rattle.catalog.specs.Pixels.{pixel_of, pixel_of_name}
+use Rattle.nearest_window.specs.Right.{slack_of}
+use Rattle.nearest_window.specs.Shown.{IsInBand}
 use Rattle.nearest_window.proofs.Fills.{on_ok}
-use Rattle.nearest_window.proofs.Windows.{window_shown, empty_window}
+use Rattle.nearest_window.proofs.Ranges.{no_sample, window_typed}
+use Rattle.nearest_window.proofs.Steps.{ready_then}
+use Rattle.nearest_window.proofs.Windows.{window_shown, empty_window, named_window}
 use Rattle.nearest_window.proofs.lane.Lane.read_window.Goals as goal
 
-pub returns-then-rect-eq0-clause-pixels : goal.returns-then-rect-eq0-clause-pixels
-returns-then-rect-eq0-clause-pixels g c = λ m e. empty_window m c.args.cat.now c.args.id c.args.band c.args.rect c.args.out.now c.if-rect-eq0.true c.requires.size
+pub returns-then-window-eq0-clause-pixels : goal.returns-then-window-eq0-clause-pixels
+returns-then-window-eq0-clause-pixels g c = λ m e. empty_window (pixel_of m c.args.cat.now c.args.window.dataset c.args.window.band) c.args.window.rect c.args.out.now c.if-window-eq0.true c.requires.size
+
+pub returns-then-window-eq0-clause-named : goal.returns-then-window-eq0-clause-named
+returns-then-window-eq0-clause-named g c = λ m e d at. empty_window (pixel_of_name m d.head.name c.args.window.band) c.args.window.rect c.args.out.now c.if-window-eq0.true c.requires.size
+
+pub returns-then-window-eq0-clause-typed : goal.returns-then-window-eq0-clause-typed
+returns-then-window-eq0-clause-typed g c = no_sample (IsInBand c.args.cat.now c.args.window.dataset c.args.window.band) c.args.window.rect c.args.out.now c.if-window-eq0.true c.requires.size
 
 pub returns-clause-pixels : goal.returns-clause-pixels
 returns-clause-pixels g c = λ m e.
-    let zero = c.if-rect-eq0.false in
-    let some : 0 < c.args.rect.w = omega arith in
+    let zero = c.if-window-eq0.false in
+    let some : 0 < c.args.window.rect.w = omega arith in
     on_ok c.paint_picture.result _ _
-    (λ shown. window_shown m c.args.cat.now c.args.id c.args.band c.args.rect c.window_of-picture.result c.window_of-picture.ensures.whole some c.args.out.now c.paint_picture.new.out c.requires.size (shown m (c.paint_picture.ensures.serves.told ∙ e)))
+    (λ shown. window_shown m c.args.cat.now c.args.window c.window_of-picture.result c.window_of-picture.ensures.whole some c.args.out.now c.paint_picture.new.out c.requires.size (shown m (c.paint_picture.ensures.serves.told ∙ e)))
     c.paint_picture.ensures.painted
+
+pub returns-clause-named : goal.returns-clause-named
+returns-clause-named g c = λ m e d at.
+    on_ok c.paint_picture.result _ _
+    (named_window m c.args.cat.now c.args.window d c.paint_picture.new.out c.window_of-picture.ensures.valid (c.requires.ready.walked m e) at)
+    (returns-clause-pixels g c m e)
+
+pub returns-clause-typed : goal.returns-clause-typed
+returns-clause-typed g c =
+    let zero = c.if-window-eq0.false in
+    let some : 0 < c.args.window.rect.w = omega arith in
+    let whole = c.window_of-picture.ensures.whole in
+    let rect = c.args.window.rect in
+    let turned : rect.w * rect.h ≡ rect.h * rect.w = grind arith in
+    let rows : length c.args.out.now ≡ c.window_of-picture.result.height * c.window_of-picture.result.stride =
+    c.requires.size ∙ turned ∙ ap (λ (n : ℕ). n * rect.w) (sym whole.height) ∙ ap (λ (n : ℕ). c.window_of-picture.result.height * n) (sym whole.stride) in
+    on_ok c.paint_picture.result _ _
+    (window_typed c.args.cat.now c.args.window c.window_of-picture.result c.paint_picture.new.out (c.window_of-picture.result.height * c.window_of-picture.result.stride) whole some
+    (c.paint_picture.auto.out ∙ rows))
+    c.paint_picture.ensures.typed
+
+pub returns-clause-ready : goal.returns-clause-ready
+returns-clause-ready g c =
+    ready_then g.F.Folder c.args.cat.now (slack_of c.paint_picture.result) c.args.folder.now c.paint_picture.new.folder c.args.self.now c.paint_picture.new.self c.args.loads.now c.paint_picture.new.loads c.requires.ready c.paint_picture.ensures.serves
+
+pub returns-clause-only_read : goal.returns-clause-only_read
+returns-clause-only_read g c =
+    let s = c.paint_picture.ensures.serves in
+    record { names = s.told; writes = s.writes; faults = s.faults }
