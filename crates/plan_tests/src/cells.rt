@@ -21,12 +21,13 @@ pub struct Posts {
     pub lon_step: i16,
 }
 
-/// Ticks by which a raster is moved and its columns are widened.
+/// Ticks by which a raster is moved, its columns are widened, and its lines, whose spacing is below 0, are thinned.
 #[derive(Clone, Copy)]
 pub struct Moved {
     pub ox: i64,
     pub oy: i64,
     pub dx: i64,
+    pub dy: i64,
 }
 
 /// A raster that isn't moved.
@@ -34,6 +35,7 @@ pub const STILL: Moved = Moved {
     ox: 0,
     oy: 0,
     dx: 0,
+    dy: 0,
 };
 
 /// So many whole degrees and half tenths of an arc second, and some ticks.
@@ -48,7 +50,7 @@ pub fn raster(posts: Posts, moved: Moved) -> Option<GeoTransform> {
     let ox = place(posts.lon as i32, -(posts.lon_step as i32), moved.ox)?;
     let oy = place(posts.lat as i32 + 1, posts.lat_step as i32, moved.oy)?;
     let dx = place(0, 2 * posts.lon_step as i32, moved.dx)?;
-    let dy = place(0, -2 * posts.lat_step as i32, 0)?;
+    let dy = place(0, -2 * posts.lat_step as i32, moved.dy)?;
     GeoTransform::new(ox, oy, dx, dy)
 }
 
@@ -154,31 +156,68 @@ fn columns_thin_out_to_the_poles(rt: HostRuntime) {
     assert_eq!(rt; wrong_zone(), None);
 }
 
-/// The latitude, the width, the longitude step, the ticks by which it is moved east and north and by which its
-/// columns are widened, and whether it is a cell of level 0.
-type Near = (i16, u32, i16, (i64, i64, i64), bool);
+/// The latitude, the width, the longitude step, the ticks by which it is moved east and north, by which its columns are
+/// widened and its lines thinned, and whether it is a cell of level 0.
+type Near = (i16, u32, i16, (i64, i64, i64, i64), bool);
 
 /// A thousandth of a spacing is 1,500,000,000,000 ticks in latitude, and as often that in longitude as the zone says.
-/// Where columns are widened, the first one stays in its place, and the last is moved by 120 times as much.
-const NEAR: [Near; 14] = [
-    (0, 121, 300, (1_500_000_000_000, 0, 0), true),
-    (0, 121, 300, (1_500_000_000_001, 0, 0), false),
-    (0, 121, 300, (-1_500_000_000_000, 0, 0), true),
-    (0, 121, 300, (-1_500_000_000_001, 0, 0), false),
-    (0, 121, 300, (0, 1_500_000_000_000, 0), true),
-    (0, 121, 300, (0, 1_500_000_000_001, 0), false),
-    (0, 121, 300, (0, -1_500_000_000_000, 0), true),
-    (0, 121, 300, (0, -1_500_000_000_001, 0), false),
-    (50, 61, 600, (3_000_000_000_000, 0, 0), true),
-    (50, 61, 600, (3_000_000_000_001, 0, 0), false),
-    (50, 61, 600, (0, 1_500_000_000_000, 0), true),
-    (50, 61, 600, (0, 1_500_000_000_001, 0), false),
-    (0, 121, 300, (-6_250_000_000, 0, 12_500_000_000), true),
-    (0, 121, 300, (-6_250_000_001, 0, 12_500_000_002), false),
+/// Where columns are widened, the first one stays in its place, and the last is moved by 120 times as much. Where lines
+/// are widened, the last one stays, and the first is moved by 120 times as much: the upper edge then moves by 120.5 times
+/// as much.
+const NEAR: [Near; 19] = [
+    (0, 121, 300, (1_500_000_000_000, 0, 0, 0), true),
+    (0, 121, 300, (1_500_000_000_001, 0, 0, 0), false),
+    (0, 121, 300, (-1_500_000_000_000, 0, 0, 0), true),
+    (0, 121, 300, (-1_500_000_000_001, 0, 0, 0), false),
+    (0, 121, 300, (0, 1_500_000_000_000, 0, 0), true),
+    (0, 121, 300, (0, 1_500_000_000_001, 0, 0), false),
+    (0, 121, 300, (0, -1_500_000_000_000, 0, 0), true),
+    (0, 121, 300, (0, -1_500_000_000_001, 0, 0), false),
+    (50, 61, 600, (3_000_000_000_000, 0, 0, 0), true),
+    (50, 61, 600, (3_000_000_000_001, 0, 0, 0), false),
+    (50, 61, 600, (0, 1_500_000_000_000, 0, 0), true),
+    (50, 61, 600, (0, 1_500_000_000_001, 0, 0), false),
+    (0, 121, 300, (-6_250_000_000, 0, 12_500_000_000, 0), true),
+    (0, 121, 300, (-6_250_000_001, 0, 12_500_000_002, 0), false),
+    (
+        0,
+        121,
+        300,
+        (0, 1_506_249_999_759, 0, -12_499_999_998),
+        true,
+    ),
+    (
+        0,
+        121,
+        300,
+        (0, 1_506_250_000_000, 0, -12_500_000_000),
+        true,
+    ),
+    (
+        0,
+        121,
+        300,
+        (0, 1_506_250_000_241, 0, -12_500_000_002),
+        false,
+    ),
+    (
+        0,
+        121,
+        300,
+        (0, -1_506_249_999_759, 0, 12_499_999_998),
+        true,
+    ),
+    (
+        0,
+        121,
+        300,
+        (0, -1_506_250_000_241, 0, 12_500_000_002),
+        false,
+    ),
 ];
 
 fn near_holds(near: Near) -> bool {
-    let (lat, w, lon_step, (ox, oy, dx), fits) = near;
+    let (lat, w, lon_step, (ox, oy, dx, dy), fits) = near;
     let posts = Posts {
         lat,
         lon: 7,
@@ -186,7 +225,7 @@ fn near_holds(near: Near) -> bool {
         lon_step,
     };
     let size = Size { w, h: 121 };
-    match cell(0, size, posts, Moved { ox, oy, dx }) {
+    match cell(0, size, posts, Moved { ox, oy, dx, dy }) {
         Some(head) => fits && is_head(&head, size, posts),
         None => !fits,
     }

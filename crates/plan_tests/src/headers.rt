@@ -1,18 +1,10 @@
 // The headers of raw data that is planned.
 use crate::asking::{Ask, Inside, Out, Seen, Word, head, options};
+use crate::sources::{FIVE, PLACED};
 use esri_hdr::write;
 use std::alloc::{AllocError, Global};
 use std::test::*;
 use translate_plan::{Driver, Plan, plan};
-
-const FIVE: &str = "<VRTDataset rasterXSize=\"5\" rasterYSize=\"1\">\
-    <VRTRasterBand dataType=\"Byte\"></VRTRasterBand></VRTDataset>";
-
-/// Three lines of two columns and two bands, whose upper left corner is (0, 10).
-const PLACED: &str = "<VRTDataset rasterXSize=\"2\" rasterYSize=\"3\">\
-    <GeoTransform>0,1,0,10,0,-0.5</GeoTransform>\
-    <VRTRasterBand dataType=\"Int16\"></VRTRasterBand>\
-    <VRTRasterBand dataType=\"Int16\"></VRTRasterBand></VRTDataset>";
 
 /// The text of the source, what is asked for, and the header.
 type Row<'a> = (&'a str, Ask<'a>, &'a [u8]);

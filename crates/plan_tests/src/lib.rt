@@ -5,10 +5,24 @@
 #[cfg(test)]
 mod asking;
 #[cfg(test)]
+mod bands;
+#[cfg(test)]
 mod cells;
+#[cfg(test)]
+mod documents;
 #[cfg(test)]
 mod headers;
 #[cfg(test)]
+mod numbers;
+#[cfg(test)]
 mod plans;
 #[cfg(test)]
+mod rasters;
+#[cfg(test)]
 mod records;
+#[cfg(test)]
+mod refusals;
+#[cfg(test)]
+mod sources;
+#[cfg(test)]
+mod windows;

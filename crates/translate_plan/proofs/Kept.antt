@@ -1,6 +1,6 @@
 -- What is planned keeps all limits, and its driver can hold it.
 use Rattle.std.proofs.Common.{◌≡◌, ℕ, ℤ, zero, suc, ◌<◌, ◌≤◌, Bool, true, false, not, ◌&&◌, ◌||◌, List, [], ◌∷◌, length, map, get_or, refl, ap, sym, ◌∙◌, subst, arith, pos, negsuc, Option, Some, None, Result, Ok, Err, cond, zero-add}
-use Rattle.std.specs.Prelude.{IfSome, nat_lt, unsigned_abs}
+use Rattle.std.specs.Prelude.{◌-◌, IfSome, nat_lt, slice_index, unsigned_abs}
 use Rattle.std.specs.List.{range_with_len, list_all, All}
 use Rattle.std.proofs.lemmas.Int.{ints}
 use Rattle.std.proofs.lemmas.Bool.Decides.{nat_tests}
@@ -174,6 +174,19 @@ one_kept o h false k kinds words less =
     (λ n e. ap (λ t. is_in t n) (tile_kind o.driver o.kind first own.kind n kinds e) ∙ own_in o.driver n e)
     (λ n e is. passes (λ b. is_in b.kind n) (λ j. out_band_at o h j) (count_of o.bands (length h.bands)) k (out_band_at o h 0) (number_taken None o.nodata o.driver n (asked_bands o h) e is words) less)
 
+-- the source's band is one of those that there may be
+few_sources : (bands : List ℕ) (k count : ℕ) → All (λ b. (0 < b) × (b ≤ 256)) bands → count ≤ 256 → k < count_of bands count → source_of bands k < 256
+few_sources [] k count all few less = omega (arith, less, few)
+few_sources (b ∷ bs) k count all few less =
+    let many : count_of (b ∷ bs) count ≡ length (b ∷ bs) = grind (arith, nat_tests) in
+    let own : source_of (b ∷ bs) k ≡ slice_index (b ∷ bs) k - 1 = grind (arith, nat_tests) in
+    let one = all k 0 (omega arith) in
+    omega (arith, one.1)
+
+source_kept : (o : Options) (h : DatasetHead) (bare : Bool) (k : ℕ) → source_of o.bands k < 256 → (band_by bare (out_band_at o h k)).source < 256
+source_kept o h true k few = few
+source_kept o h false k few = few
+
 -- two bands of raw data
 same_is : (a b : Option ℤ) → same_nodata a b ≡ true → a ≡ b
 same_is None None e = refl
@@ -272,6 +285,7 @@ plan_kept o h p options dataset found =
       bands = omega (arith, long, counted.0);
       single = λ s. omega (arith, long, counted.1 s);
       each = all_by IsOutBand (λ k. band_by (is_bare o.driver (asked_bands o h)) (out_band_at o h k)) n (λ k less. one_kept o h (is_bare o.driver (asked_bands o h)) k second.0 third.1 less);
+      sources = all_by (λ b. b.source < 256) (λ k. band_by (is_bare o.driver (asked_bands o h)) (out_band_at o h k)) n (λ k less. source_kept o h (is_bare o.driver (asked_bands o h)) k (few_sources o.bands k (length h.bands) options.bands dataset.bands less));
       alike = alike o h o.driver refl second.0 third.0;
       geo = first.0;
       places = λ is. places_kept o.driver h.geo v.value size.value geo.value is geo.found;

@@ -5,3 +5,7 @@ pub mod Kept
 pub mod Written
 pub mod Examples
 pub mod Shown
+pub mod Covers
+pub mod Published
+pub mod Documents
+pub mod Added

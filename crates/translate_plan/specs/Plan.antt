@@ -87,6 +87,7 @@ pub record IsPlan (p : Planned) : Type 0 where
   pub bands : length p.bands ≤ 256
   pub single : is_single p.driver ≡ true → length p.bands ≤ 1
   pub each : All IsOutBand p.bands
+  pub sources : All (λ b. b.source < 256) p.bands
   pub alike : BandsHold p.driver p.bands
   pub geo : holds_geo p.driver p.size p.geo ≡ true
   pub places : p.driver ≡ Vrt → IfSome p.geo IsDecimal

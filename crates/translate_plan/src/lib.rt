@@ -8,6 +8,8 @@ mod laws;
 mod options;
 mod planned;
 mod planning;
+mod publishing;
+mod publishing_laws;
 mod window;
 
 pub use band::OutBand;
@@ -15,3 +17,5 @@ pub use laws::{pixels_are_held, plans_are_kept, plans_can_be_written, windows_ar
 pub use options::{Driver, Numbers, OutSize, TranslateOptions, View};
 pub use planned::Plan;
 pub use planning::plan;
+pub use publishing::document;
+pub use publishing_laws::documents_show_outputs;
