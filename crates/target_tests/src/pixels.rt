@@ -1,0 +1,84 @@
+// What windows that lie over one another show, and samples all over the range of a type.
+use crate::fixtures::{Story, Window, area};
+use geotransform::Sample;
+use std::alloc::{AllocError, Global};
+
+/// The least number of a type, and how many there are.
+pub type Range = (i64, u64);
+
+pub const BYTE: Range = (0, 256);
+
+pub const UINT16: Range = (0, 65_536);
+
+pub const INT16: Range = (-32_768, 65_536);
+
+pub const UINT32: Range = (0, 4_294_967_296);
+
+pub const INT32: Range = (-2_147_483_648, 4_294_967_296);
+
+/// The elevations that a cell can hold.
+pub const ELEVATIONS: Range = (-32_767, 65_535);
+
+// A number of a range for each place: the least, the greatest, and others all over it.
+fn sample_at((least, count): Range, at: u32) -> Sample {
+    let count = count.max(1);
+    let above = match at % 16 {
+        5 => 0,
+        11 => count - 1,
+        _ => (at as u64).wrapping_mul(2_654_435_761) % count,
+    };
+    least as i128 + above as i128
+}
+
+/// So many samples of a range.
+pub fn samples_in(alloc: Global, range: Range, count: u32) -> Result<Vec<Sample>, AllocError> {
+    let mut samples = Vec::new(alloc);
+    for at in 0..count {
+        samples.push(sample_at(range, at))?;
+    }
+    Ok(samples)
+}
+
+// The sample of a window at a pixel, where it covers it.
+fn sample_in(window: &Window, samples: &[Sample], (band, x, y): (u16, u16, u16)) -> Option<Sample> {
+    let (own, (left, top), (w, h), at) = *window;
+    if band != own || x < left || y < top {
+        return None;
+    }
+    let column = x - left;
+    let line = y - top;
+    if column >= w || line >= h {
+        return None;
+    }
+    let at = at as usize + area(line, w) + column as usize;
+    samples.get(at).copied()
+}
+
+/// The sample of the last window that covers a pixel, and 0 where none does: the band, the column and the line.
+pub fn pixel(story: Story<'_>, place: (u16, u16, u16)) -> Sample {
+    let mut seen = 0;
+    for window in story.windows {
+        if let Some(sample) = sample_in(window, story.samples, place) {
+            seen = sample;
+        }
+    }
+    seen
+}
+
+/// The number that bytes are, the first of which is the most significant.
+pub fn number_of(bytes: &[u8]) -> u64 {
+    let mut number = 0u64;
+    for byte in bytes {
+        number = number.wrapping_mul(256).wrapping_add(*byte as u64);
+    }
+    number
+}
+
+/// The number that bytes are, the last of which is the most significant.
+pub fn number_from_end(bytes: &[u8]) -> u64 {
+    let mut number = 0u64;
+    for byte in bytes.iter().rev() {
+        number = number.wrapping_mul(256).wrapping_add(*byte as u64);
+    }
+    number
+}

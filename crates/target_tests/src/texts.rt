@@ -1,0 +1,191 @@
+// Files that are given byte by byte: a part of a raster with its header, and the texts of grids.
+use crate::fixtures::{
+    Asked, Ended, File, Form, Story, Window, folder_of, has_all, ordered, written,
+};
+use esri_hdr::Layout;
+use geotransform::Sample;
+use std::alloc::Global;
+use std::test::*;
+
+// Four columns of a line of five, the last two of which are outside of it.
+const PART: Asked = Asked {
+    text: "<VRTDataset rasterXSize=\"5\" rasterYSize=\"1\">\
+        <VRTRasterBand dataType=\"Byte\"></VRTRasterBand></VRTDataset>",
+    form: Form::Raw(Layout::Bil),
+    name: "out.bil",
+    bands: &[],
+    seen: Some((3, 0, 4, 1)),
+    nodata: Some(9),
+    kind: None,
+};
+
+const PART_FILES: [File; 2] = [
+    ("out.bil", &[4, 5, 9, 9]),
+    (
+        "out.hdr",
+        b"BYTEORDER      I\nLAYOUT         BIL\nNROWS          1\nNCOLS          4\nNBANDS         1\nNBITS          8\nSKIPBYTES      0\nBANDROWBYTES   4\nTOTALROWBYTES  4\nBANDGAPBYTES   0\nPIXELTYPE      UNSIGNEDINT\nNODATA         9\n",
+    ),
+];
+
+/// Two columns and lines of two units.
+pub const SQUARE: Asked = Asked {
+    text: "<VRTDataset rasterXSize=\"2\" rasterYSize=\"2\">\
+        <GeoTransform>9, 2, 0, 23, 0, -2</GeoTransform>\
+        <VRTRasterBand dataType=\"Int32\"></VRTRasterBand></VRTDataset>",
+    form: Form::Grid,
+    name: "h.asc",
+    bands: &[],
+    seen: None,
+    nodata: None,
+    kind: None,
+};
+
+const SQUARE_FILES: [File; 1] = [(
+    "h.asc",
+    b"ncols        2\nnrows        2\nxllcorner    9\nyllcorner    19\ncellsize     2\n1 -2\n30 4\n",
+)];
+
+// Two columns and lines whose width isn't their height.
+const OBLONG: Asked = Asked {
+    text: "<VRTDataset rasterXSize=\"2\" rasterYSize=\"2\">\
+        <GeoTransform>10, 0.5, 0, 20, 0, -0.25</GeoTransform>\
+        <VRTRasterBand dataType=\"Int16\"></VRTRasterBand></VRTDataset>",
+    name: "g.grd",
+    ..SQUARE
+};
+
+const OBLONG_FILES: [File; 1] = [(
+    "g.grd",
+    b"ncols        2\nnrows        2\nxllcorner    10\nyllcorner    19.5\ndx           0.5\ndy           0.25\n1 -2\n30 4\n",
+)];
+
+// Three columns and four lines without a place, and with a NODATA.
+const BARE: Asked = Asked {
+    text: "<VRTDataset rasterXSize=\"3\" rasterYSize=\"4\">\
+        <VRTRasterBand dataType=\"Int32\"></VRTRasterBand></VRTDataset>",
+    nodata: Some(-9),
+    ..SQUARE
+};
+
+const BARE_FILES: [File; 1] = [(
+    "h.asc",
+    b"ncols        3\nnrows        4\nxllcorner    0\nyllcorner    0\ncellsize     1\nNODATA_value -9\n0 -1 2147483647\n-2147483648 5 10\n7 8 9\n-9 -9 100\n",
+)];
+
+const BARE_SAMPLES: [Sample; 12] = [
+    0,
+    -1,
+    2_147_483_647,
+    -2_147_483_648,
+    5,
+    10,
+    7,
+    8,
+    9,
+    -9,
+    -9,
+    100,
+];
+
+/// What is asked for, its windows, their samples, and the files.
+type Row<'a> = (Asked, &'a [Window], &'a [Sample], &'a [File<'a>]);
+
+const ROWS: [Row; 6] = [
+    (PART, &[(0, (0, 0), (4, 1), 0)], &[4, 5, 9, 9], &PART_FILES),
+    (
+        SQUARE,
+        &[(0, (0, 0), (2, 2), 0)],
+        &[1, -2, 30, 4],
+        &SQUARE_FILES,
+    ),
+    (
+        SQUARE,
+        &[(0, (0, 0), (2, 1), 0), (0, (0, 1), (2, 1), 2)],
+        &[1, -2, 30, 4],
+        &SQUARE_FILES,
+    ),
+    (
+        OBLONG,
+        &[(0, (0, 0), (2, 2), 0)],
+        &[1, -2, 30, 4],
+        &OBLONG_FILES,
+    ),
+    (
+        BARE,
+        &[
+            (0, (0, 0), (3, 0), 0),
+            (0, (0, 0), (3, 2), 0),
+            (0, (0, 2), (3, 0), 6),
+            (0, (0, 2), (3, 1), 6),
+            (0, (0, 3), (3, 1), 9),
+        ],
+        &BARE_SAMPLES,
+        &BARE_FILES,
+    ),
+    (BARE, &[(0, (0, 0), (3, 4), 0)], &BARE_SAMPLES, &BARE_FILES),
+];
+
+fn is_written(
+    alloc: Global,
+    (asked, windows, samples, files): Row<'_>,
+    capacity: u16,
+) -> Result<bool, Fail> {
+    let order = ordered(alloc, &asked)?;
+    let mut folder = folder_of(alloc, &[], &[])?;
+    let story = Story { windows, samples };
+    let closed = written(alloc, &mut folder, &order, capacity, story) == Ended::Closed;
+    Ok(closed && has_all(alloc, &folder, files)?)
+}
+
+// The first of these rows whose files are others at a pool of one block or of two, or how many rows there are.
+fn first_unwritten(alloc: Global) -> Result<usize, Fail> {
+    for (at, row) in ROWS.iter().enumerate() {
+        if !is_written(alloc, *row, 1)? || !is_written(alloc, *row, 2)? {
+            return Ok(at);
+        }
+    }
+    Ok(ROWS.len())
+}
+
+#[test]
+fn files_are_as_they_are_given(rt: HostRuntime) -> Result<(), Fail> {
+    assert_eq!(rt; first_unwritten(rt.alloc())?, ROWS.len());
+    Ok(())
+}
+
+// The windows of a grid that aren't its next whole lines.
+const OTHERS: [&[Window]; 4] = [
+    &[(0, (0, 1), (2, 1), 2)],
+    &[(0, (0, 0), (1, 2), 0)],
+    &[(0, (0, 0), (2, 1), 0), (0, (0, 0), (2, 1), 0)],
+    &[(0, (0, 0), (2, 1), 0), (0, (1, 1), (1, 1), 0)],
+];
+
+// Whether those windows aren't put, and the grid isn't published.
+fn is_left(alloc: Global, windows: &[Window]) -> Result<bool, Fail> {
+    let order = ordered(alloc, &SQUARE)?;
+    let mut folder = folder_of(alloc, &[], &[("h.asc", b"old")])?;
+    let story = Story {
+        windows,
+        samples: &[1, -2, 30, 4],
+    };
+    let left = written(alloc, &mut folder, &order, 1, story) == Ended::NotAsked;
+    let held = has_all(alloc, &folder, &[("h.asc", b"old")])?;
+    Ok(left && held && folder.drafts() == 0)
+}
+
+// The first of those rows of windows that is put, or how many there are.
+fn first_put(alloc: Global) -> Result<usize, Fail> {
+    for (at, windows) in OTHERS.iter().enumerate() {
+        if !is_left(alloc, windows)? {
+            return Ok(at);
+        }
+    }
+    Ok(OTHERS.len())
+}
+
+#[test]
+fn lines_of_a_grid_come_in_their_order(rt: HostRuntime) -> Result<(), Fail> {
+    assert_eq!(rt; first_put(rt.alloc())?, OTHERS.len());
+    Ok(())
+}

@@ -1,0 +1,11 @@
+pub mod Columns
+pub mod Files
+pub mod Forms
+pub mod Grids
+pub mod Overlay
+pub mod Pieces
+pub mod Plans
+pub mod Reading
+pub mod Seen
+pub mod State
+pub mod View

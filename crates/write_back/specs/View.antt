@@ -1,0 +1,175 @@
+-- What a contract sees of an output that is being written.
+use Rattle.std.specs.Prelude.{◌≡◌, ◌<◌, ◌≤◌, ◌+◌, ◌-◌, ◌*◌, min, ℕ, ℤ, pos, Bool, List, Option, Some, None, IsSome, true}
+use Rattle.std.specs.List.{All}
+use Rattle.geotransform.specs.declared.types.Rect.{Rect}
+use Rattle.outside.specs.Outside.{Files}
+use Rattle.ascii_grid.specs.Values.{is_value}
+use Rattle.block_cache.specs.Entries.{PoolView}
+use Rattle.write_back.specs.declared.fault.TargetFault.{TargetFault}
+use Rattle.write_back.specs.declared.forms.Writer.{Writer}
+use Rattle.write_back.specs.declared.forms.Writer.TheVariants.{Raw, Hgt, Dted}
+use Rattle.write_back.specs.declared.rows.GridForm.{GridForm}
+use Rattle.write_back.specs.Forms.{cut_of, holds, most_calls, width_of, height_of, seen}
+use Rattle.write_back.specs.Grids.{HasRows, grid_in}
+use Rattle.write_back.specs.Overlay.{IsOverlaid, WasMet, overlay}
+use Rattle.write_back.specs.State.{IsRight, IsSound, lines_met, lines_of}
+
+-- what is written: a raster in blocks, or a grid in lines
+pub data Output : Type 0 where
+  Blocks : Writer → Output
+  Rows : GridForm → Output
+
+-- an output's data: what is written, the pool, the draft's bytes where they are told, and its length and name, and the lines of a grid that were written
+pub record SheetView : Type 0 where
+  pub output : Output
+  pub pool : PoolView
+  pub draft : Option (List ℕ)
+  pub len : ℕ
+  pub name : List ℕ
+  pub lines : ℕ
+
+-- a target: its data, the bytes and the name of its header's draft, and the fault that a refused window left
+pub record TargetView : Type 0 where
+  pub output : Output
+  pub pool : PoolView
+  pub draft : Option (List ℕ)
+  pub len : ℕ
+  pub name : List ℕ
+  pub lines : ℕ
+  pub header : Option (Option (List ℕ) × List ℕ)
+  pub fault : Option TargetFault
+
+abbrev pub sheet_in : TargetView → SheetView
+sheet_in t = record { output = t.output; pool = t.pool; draft = t.draft; len = t.len; name = t.name; lines = t.lines }
+
+abbrev pub target_of : SheetView → Option (Option (List ℕ) × List ℕ) → Option TargetFault → TargetView
+target_of s header fault = record { output = s.output; pool = s.pool; draft = s.draft; len = s.len; name = s.name; lines = s.lines; header = header; fault = fault }
+
+-- the bands, the columns and the lines
+abbrev pub bands_of : Output → ℕ
+bands_of (Blocks w) = (cut_of w).bands
+bands_of (Rows g) = 1
+
+abbrev pub columns_of : Output → ℕ
+columns_of (Blocks w) = width_of w
+columns_of (Rows g) = g.size.w
+
+abbrev pub rows_of : Output → ℕ
+rows_of (Blocks w) = height_of w
+rows_of (Rows g) = g.size.h
+
+-- a sample can be written
+abbrev pub is_writable : Output → ℤ → Bool
+is_writable (Blocks w) n = holds w n
+is_writable (Rows g) n = is_value n
+
+-- each sample can be written
+abbrev pub AreWritable : Output → List ℤ → Type 0
+AreWritable o samples = All (λ n. is_writable o n ≡ true) samples
+
+-- a pixel of a band
+pub record IsIn (o : Output) (k x y : ℕ) : Type 0 where
+  pub band : k < bands_of o
+  pub column : x < columns_of o
+  pub line : y < rows_of o
+
+-- a window of a grid is whole lines, the first of which is the next that is written
+abbrev pub IsNext : Output → ℕ → Rect → Type 0
+IsNext (Blocks w) lines rect = Unit {0}
+IsNext (Rows g) lines rect = (rect.x ≡ 0) × (rect.w ≡ g.size.w) × (rect.y ≡ lines)
+
+-- the blocks that a window meets, and all blocks, and the most calls that the writing of one takes; a grid is appended to, and takes none
+abbrev pub blocks_in : Output → Rect → ℕ
+blocks_in (Blocks w) rect = lines_met w rect
+blocks_in (Rows g) rect = rect.h
+
+abbrev pub all_blocks : Output → ℕ
+all_blocks (Blocks w) = lines_of w
+all_blocks (Rows g) = g.size.h
+
+abbrev pub calls_of : Output → ℕ
+calls_of (Blocks w) = most_calls w
+calls_of (Rows g) = 0
+
+-- its blocks go through a pool
+abbrev pub IsPooled : Output → Type 0
+IsPooled (Blocks w) = Unit {0}
+IsPooled (Rows g) = ⊥
+
+-- the samples that a pool and a draft show
+abbrev pub seen_in : Writer → PoolView → Option (List ℕ) → ℕ → ℕ → ℕ → ℤ
+seen_in w pool None k x y = pos 0
+seen_in w pool (Some b) k x y = seen w (overlay w pool.entries b) k x y
+
+abbrev pub shown_on : Output → PoolView → Option (List ℕ) → ℕ → ℕ → ℕ → ℤ
+shown_on (Blocks w) pool draft k x y = seen_in w pool draft k x y
+shown_on (Rows g) pool draft k x y = grid_in g draft x y
+
+abbrev pub shown : TargetView → ℕ → ℕ → ℕ → ℤ
+shown t k x y = shown_on t.output t.pool t.draft k x y
+
+-- what always holds of an output's data
+abbrev pub IsSoundOn : Output → SheetView → Type 0
+IsSoundOn (Blocks w) s = IsSound w s.pool
+IsSoundOn (Rows g) s = s.lines ≤ g.size.h
+
+-- what holds as long as no call was refused
+abbrev pub IsRightOn : Output → Option Files → SheetView → Type 0
+IsRightOn (Blocks w) told s = IsRight w told s.len s.draft s.pool
+IsRightOn (Rows g) told s = (m : Files) → told ≡ Some m → (rows : List (List ℤ)) × HasRows g s.lines s.draft rows
+
+-- a column was met: its record in the draft begins with 170, or the pool holds it and it isn't written yet
+abbrev pub IsMetOn : Output → SheetView → ℕ → Type 0
+IsMetOn (Blocks w) s x = (b : List ℕ) → s.draft ≡ Some b → WasMet w s.pool.entries b 0 x
+IsMetOn (Rows g) s x = Unit {0}
+
+-- each column that was met is met still, and each one of a window is met
+pub record Meets (o : Output) (rect : Rect) (old new : SheetView) : Type 0 where
+  pub stays : (x : ℕ) → x < columns_of o → IsMetOn o old x → IsMetOn o new x
+  pub here : 0 < rect.h → (x : ℕ) → rect.x ≤ x → x < rect.x + rect.w → IsMetOn o new x
+
+-- the lines of a grid that were written after a window
+abbrev pub lines_after : Output → ℕ → Rect → ℕ
+lines_after (Blocks w) lines rect = lines
+lines_after (Rows g) lines rect = lines + rect.h
+
+-- what a window does to an output's data and its folder, whatever it answers
+pub record Keeps (rect : Rect) (old new : SheetView) (told told' : Option Files) (r r' c c' w w' : ℕ) : Type 0 where
+  pub sound : IsSoundOn old.output new
+  pub output : new.output ≡ old.output
+  pub name : new.name ≡ old.name
+  pub capacity : new.pool.capacity ≡ old.pool.capacity
+  pub names : told' ≡ told
+  pub reads : r' ≡ r
+  pub counted : w ≤ w'
+  pub few : w' ≤ w + blocks_in old.output rect
+  pub none : IsPooled old.output → all_blocks old.output ≤ old.pool.capacity → w' ≡ w
+  pub calls : c' ≤ c + calls_of old.output * (w' - w)
+
+-- and where it answers Ok
+pub record Puts (band : ℕ) (rect : Rect) (samples : List ℤ) (told told' : Option Files) (old new : SheetView) : Type 0 where
+  pub right : IsRightOn old.output told' new
+  pub overlay : IsSome told → IsOverlaid (IsIn old.output) band rect samples (shown_on old.output old.pool old.draft) (shown_on old.output new.pool new.draft)
+  pub met : IsSome told → Meets old.output rect old new
+  pub lines : new.lines ≡ lines_after old.output old.lines rect
+
+-- what the last writing does, whatever it answers
+pub record Finishes (old new : SheetView) (told told' : Option Files) (r r' c c' w w' : ℕ) : Type 0 where
+  pub name : new.name ≡ old.name
+  pub names : told' ≡ told
+  pub reads : r' ≡ r
+  pub counted : w ≤ w'
+  pub few : w' ≤ w + min old.pool.capacity (all_blocks old.output)
+  pub calls : c' ≤ c + calls_of old.output * (w' - w)
+
+-- each sample is 0
+abbrev pub IsZero : TargetView → Type 0
+IsZero t = (k x y : ℕ) → IsIn t.output k x y → shown t k x y ≡ pos 0
+
+-- over a folder that tells its names, a window's samples stand inside its rectangle, and all others are as before
+abbrev pub Shows : Option Files → ℕ → Rect → List ℤ → TargetView → TargetView → Type 0
+Shows told band rect samples old new = IsSome told → IsOverlaid (IsIn old.output) band rect samples (shown old) (shown new)
+
+-- over a folder that tells its names, each column that was met is met still, and each one of a window is met
+abbrev pub MeetsAll : Option Files → Rect → TargetView → TargetView → Type 0
+MeetsAll told rect old new = IsSome told → Meets old.output rect (sheet_in old) (sheet_in new)

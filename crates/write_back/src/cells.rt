@@ -1,0 +1,211 @@
+// Columns of a DTED cell, each written and read as a whole record.
+ghost use Rattle.std.specs.Prelude.{◌≡◌, ◌<◌, ◌≤◌, ◌+◌, ◌*◌, ℕ, List, length, vec_len, vec_items, true, pos, Some, OnOk, IfOk};
+ghost use Rattle.std.specs.List.{All};
+ghost use Rattle.outside.specs.Causes.{HasCause, one_more};
+ghost use Rattle.outside.specs.Outside.{Written};
+ghost use Rattle.geotransform.specs.declared.types.PixelType.TheVariants.{Int16};
+ghost use Rattle.dted_records.specs.Head.{IsHead};
+ghost use Rattle.dted_records.specs.Places.{needed_of, record_len, record_of};
+ghost use Rattle.dted_records.specs.Records.{column_of, dted_at};
+ghost use Rattle.lists_and_answers.specs.Places.{StandsAt};
+ghost use Rattle.dted_records.specs.Written.{record_bytes};
+ghost use Rattle.write_back.specs.Columns.{cell_of, is_elevation, IsBegun, IsCell};
+ghost use Rattle.write_back.specs.Pieces.{AreBytes};
+
+use crate::TargetFault;
+use crate::pieces::put_bytes;
+use band_blocks::Block;
+use dted_records::{DtedHead, decode_record, encode_record};
+use geotransform::{PixelType, Sample};
+use outside::Folder;
+use std::alloc::{AllocError, Global};
+use std::marker::Model;
+
+/// Writes and reads the columns of a cell, through room of its own. Contracts see the head, and the bytes in front of
+/// the records.
+#[derive(Drop)]
+pub(crate) struct ColumnWriter {
+    head: DtedHead,
+    front: Vec<u8>,
+    samples: Vec<Sample>,
+    bytes: Vec<u8>,
+}
+
+impl Model for ColumnWriter {
+    ghost use Rattle.std.specs.Prelude.{vec_items, vec_len};
+    ghost use Rattle.write_back.specs.Columns.{Cell, FitsCell};
+
+    ghost Value = { Cell };
+
+    ghost view = { λ w. record { head = w.head; front = vec_items w.front } };
+
+    ghost invariant = { λ w. FitsCell w.head (vec_len w.front) (vec_len w.samples) (vec_len w.bytes) };
+}
+
+impl ColumnWriter {
+    // Room for a record, with the bytes in front of the records. It is refused where memory is.
+    pub(crate) fn new(
+        alloc: Global,
+        head: &DtedHead,
+        front: Vec<u8>,
+    ) -> Result<ColumnWriter, AllocError>
+        requires front { vec_len front ≡ record_of head.now 0 }
+        ensures cell { IfOk result (λ writer. writer ≡ cell_of head.now (vec_items front)) }
+    {
+        let samples = vec![in alloc; 0i128; head.points as usize]?;
+        let bytes = vec![in alloc; 0u8; head.record_len()]?;
+        Ok(ColumnWriter {
+            head: *head,
+            front,
+            samples,
+            bytes,
+        })
+    }
+
+    // The head. It keeps the rules of a head.
+    pub(crate) fn head(&self) -> DtedHead
+        ensures head { result ≡ self.now.head }
+        ensures valid { IsHead self.now.head }
+    {
+        let _lines = self.head.lines;
+        self.head
+    }
+
+    // Writes a column into the draft, as a whole record.
+    pub(crate) fn write_column<F: Folder>(
+        &mut self,
+        folder: &mut F,
+        draft: &mut F::Draft,
+        x: u32,
+        block: &Block,
+    ) -> Result<(), TargetFault>
+        requires column { x < self.old.head.lines }
+        requires long { F.draft_len draft.old ≡ needed_of self.old.head }
+        requires range { All (λ n. is_elevation n ≡ true) block.now.samples }
+        requires room { length block.now.samples ≡ self.old.head.points }
+        ensures cell { self.new ≡ self.old }
+        ensures told { OnOk result (Written (record_of self.old.head x) (record_bytes x block.now.samples) (F.draft_bytes draft.old) (F.draft_bytes draft.new)) }
+        ensures small { AreBytes (record_bytes x block.now.samples) }
+        ensures len { OnOk result (F.draft_len draft.new ≡ F.draft_len draft.old) }
+        ensures name { F.draft_name draft.new ≡ F.draft_name draft.old }
+        ensures names { F.names folder.new ≡ F.names folder.old }
+        ensures reads { F.read_calls folder.new ≡ F.read_calls folder.old }
+        ensures calls { F.write_calls folder.new ≡ one_more (F.write_calls folder.old) }
+        ensures cause { HasCause TargetFault.FolderFault (F.faults folder.old) (F.faults folder.new) result }
+    {
+        let head = self.head;
+        let samples = self.samples.as_mut_slice();
+        let bytes = self.bytes.as_mut_slice();
+        put_record(folder, draft, &head, x, block, samples, bytes)
+    }
+
+    // Reads a column from the draft. Where its record wasn't begun its elevations are 0, and one byte alone is read.
+    pub(crate) fn read_column<F: Folder>(
+        &mut self,
+        alloc: Global,
+        folder: &mut F,
+        draft: &mut F::Draft,
+        x: u32,
+    ) -> Result<Block, TargetFault>
+        requires column { x < self.old.head.lines }
+        requires long { F.draft_len draft.old ≡ needed_of self.old.head }
+        ensures cell { self.new ≡ self.old }
+        ensures told { (b : List ℕ) → F.draft_bytes draft.old ≡ Some b → length b ≡ needed_of self.old.head → IsCell self.old b → IfOk result (λ block. block.samples ≡ column_of self.old.head b x) }
+        ensures kind { IfOk result (λ block. block.kind ≡ Int16) }
+        ensures count { IfOk result (λ block. length block.samples ≡ self.old.head.points) }
+        ensures range { IfOk result (λ block. All (λ n. is_elevation n ≡ true) block.samples) }
+        ensures bytes { F.draft_bytes draft.new ≡ F.draft_bytes draft.old }
+        ensures len { F.draft_len draft.new ≡ F.draft_len draft.old }
+        ensures name { F.draft_name draft.new ≡ F.draft_name draft.old }
+        ensures names { F.names folder.new ≡ F.names folder.old }
+        ensures reads { F.read_calls folder.new ≡ F.read_calls folder.old }
+        ensures calls { F.write_calls folder.new ≡ F.write_calls folder.old }
+        ensures cause { HasCause TargetFault.FolderFault (F.faults folder.old) (F.faults folder.new) result }
+    {
+        let head = self.head;
+        let samples = self.samples.as_mut_slice();
+        let bytes = self.bytes.as_mut_slice();
+        get_record(alloc, folder, draft, &head, x, samples, bytes)
+    }
+}
+
+// Reads the elevations of a record from north to south.
+fn decode_column(head: &DtedHead, bytes: &[u8], out: &mut [Sample])
+    requires len { length bytes.now ≡ record_len head.now }
+    requires points { length out.old ≡ head.now.points }
+    ensures file { (file : List ℕ) (x : ℕ) → StandsAt file bytes.now (record_of head.now x) → out.new ≡ column_of head.now file x }
+    ensures range { All (λ n. is_elevation n ≡ true) out.new }
+{
+    decode_record(head, bytes, out);
+}
+
+// Puts a column into a draft as a record, through room for its elevations and bytes.
+fn put_record<F: Folder>(
+    folder: &mut F,
+    draft: &mut F::Draft,
+    head: &DtedHead,
+    x: u32,
+    block: &Block,
+    samples: &mut [Sample],
+    bytes: &mut [u8],
+) -> Result<(), TargetFault>
+    requires column { x < head.now.lines }
+    requires samples { length samples.old ≡ head.now.points }
+    requires bytes { length bytes.old ≡ record_len head.now }
+    requires long { F.draft_len draft.old ≡ needed_of head.now }
+    requires range { All (λ n. is_elevation n ≡ true) block.now.samples }
+    requires room { length block.now.samples ≡ head.now.points }
+    ensures told { OnOk result (Written (record_of head.now x) (record_bytes x block.now.samples) (F.draft_bytes draft.old) (F.draft_bytes draft.new)) }
+    ensures small { AreBytes (record_bytes x block.now.samples) }
+    ensures len { OnOk result (F.draft_len draft.new ≡ F.draft_len draft.old) }
+    ensures name { F.draft_name draft.new ≡ F.draft_name draft.old }
+    ensures names { F.names folder.new ≡ F.names folder.old }
+    ensures reads { F.read_calls folder.new ≡ F.read_calls folder.old }
+    ensures calls { F.write_calls folder.new ≡ one_more (F.write_calls folder.old) }
+    ensures cause { HasCause TargetFault.FolderFault (F.faults folder.old) (F.faults folder.new) result }
+{
+    let _lines = head.lines;
+    block.copy_run(0, samples);
+    encode_record(x, samples, bytes);
+    put_bytes(folder, draft, head.record_at(x), bytes)
+}
+
+// Reads a column, through room for its elevations and bytes.
+fn get_record<F: Folder>(
+    alloc: Global,
+    folder: &mut F,
+    draft: &mut F::Draft,
+    head: &DtedHead,
+    x: u32,
+    samples: &mut [Sample],
+    bytes: &mut [u8],
+) -> Result<Block, TargetFault>
+    requires column { x < head.now.lines }
+    requires samples { length samples.old ≡ head.now.points }
+    requires bytes { length bytes.old ≡ record_len head.now }
+    requires long { F.draft_len draft.old ≡ needed_of head.now }
+    ensures told { (b : List ℕ) → F.draft_bytes draft.old ≡ Some b → length b ≡ needed_of head.now → ((y : ℕ) → y < head.now.points → (IsBegun head.now b x → ⊥) → dted_at head.now b x y ≡ pos 0) → IfOk result (λ block. block.samples ≡ column_of head.now b x) }
+    ensures kind { IfOk result (λ block. block.kind ≡ Int16) }
+    ensures count { IfOk result (λ block. length block.samples ≡ head.now.points) }
+    ensures range { IfOk result (λ block. All (λ n. is_elevation n ≡ true) block.samples) }
+    ensures bytes { F.draft_bytes draft.new ≡ F.draft_bytes draft.old }
+    ensures len { F.draft_len draft.new ≡ F.draft_len draft.old }
+    ensures name { F.draft_name draft.new ≡ F.draft_name draft.old }
+    ensures names { F.names folder.new ≡ F.names folder.old }
+    ensures reads { F.read_calls folder.new ≡ F.read_calls folder.old }
+    ensures calls { F.write_calls folder.new ≡ F.write_calls folder.old }
+    ensures cause { HasCause TargetFault.FolderFault (F.faults folder.old) (F.faults folder.new) result }
+{
+    let points = head.points;
+    let at = head.record_at(x);
+    let mut first = [0u8; 1];
+    folder.draft_read(draft, at, &mut first)?;
+    if first[0] != 170 {
+        let block = Block::new(alloc, PixelType::Int16, points)?;
+        return Ok(block);
+    }
+    folder.draft_read(draft, at, bytes)?;
+    decode_column(head, bytes, samples);
+    let block = Block::pack(alloc, PixelType::Int16, samples)?;
+    Ok(block)
+}

@@ -1,0 +1,171 @@
+// What differs between the outputs that are written through a pool of blocks.
+ghost use Rattle.std.specs.Prelude.{◌≡◌, ◌<◌, ◌≤◌, ◌+◌, ◌*◌, ◌^◌, ℕ, List, length, Some, OnOk, IfOk};
+ghost use Rattle.outside.specs.Causes.{HasCause};
+ghost use Rattle.write_back.specs.Forms.{cut_of, height_of, holds, most_calls, needed_of, width_of, IsFormed};
+ghost use Rattle.write_back.specs.Overlay.{held_in, line_key, IsBlockWritten, IsLine};
+
+use crate::TargetFault;
+use crate::cells::ColumnWriter;
+use crate::tiles::TileWriter;
+use crate::writer::LineWriter;
+use band_blocks::{Block, BlockKey};
+use geotransform::{PixelType, Sample, Size, holds};
+use outside::Folder;
+use std::alloc::Global;
+
+/// How a raster is cut into blocks: lines, or columns.
+#[derive(Clone, Copy)]
+pub(crate) struct Shape {
+    pub(crate) kind: PixelType,
+    pub(crate) bands: u32,
+    pub(crate) spots: u32,
+    pub(crate) blocks: u32,
+    pub(crate) by_columns: bool,
+}
+
+/// What writes and reads the blocks of an output.
+#[derive(Drop)]
+pub(crate) enum Writer {
+    /// Raw data, a line of a band a block.
+    Raw(LineWriter),
+    /// A tile, a line a block.
+    Hgt(TileWriter),
+    /// A cell, a column a block.
+    Dted(ColumnWriter),
+}
+
+impl Writer {
+    // How the raster is cut.
+    pub(crate) fn shape(&self) -> Shape
+        ensures shape { result ≡ cut_of self.now }
+        ensures spots { result.spots ≤ 4194304 }
+        ensures blocks { result.blocks < 2 ^ 32 }
+    {
+        match self {
+            Writer::Raw(lines) => {
+                let head = lines.head();
+                Shape {
+                    kind: head.kind,
+                    bands: head.bands,
+                    spots: head.size.w,
+                    blocks: head.size.h,
+                    by_columns: false,
+                }
+            }
+            Writer::Hgt(tile) => {
+                let side = tile.side();
+                Shape {
+                    kind: PixelType::Int16,
+                    bands: 1,
+                    spots: side,
+                    blocks: side,
+                    by_columns: false,
+                }
+            }
+            Writer::Dted(cell) => {
+                let head = cell.head();
+                Shape {
+                    kind: PixelType::Int16,
+                    bands: 1,
+                    spots: head.points,
+                    blocks: head.lines,
+                    by_columns: true,
+                }
+            }
+        }
+    }
+
+    // The columns and the lines.
+    pub(crate) fn size(&self) -> Size
+        ensures columns { result.w ≡ width_of self.now }
+        ensures rows { result.h ≡ height_of self.now }
+    {
+        match self {
+            Writer::Raw(lines) => lines.head().size,
+            Writer::Hgt(tile) => Size {
+                w: tile.side(),
+                h: tile.side(),
+            },
+            Writer::Dted(cell) => Size {
+                w: cell.head().lines,
+                h: cell.head().points,
+            },
+        }
+    }
+
+    // Whether a sample can be written.
+    pub(crate) fn holds(&self, n: Sample) -> bool
+        ensures holds { result ≡ holds self.now n }
+    {
+        match self {
+            Writer::Raw(lines) => holds(lines.head().kind, n),
+            Writer::Hgt(_) => holds(PixelType::Int16, n),
+            Writer::Dted(_) => holds(PixelType::Int16, n) && n >= -32_767,
+        }
+    }
+
+    // Writes a block into the draft.
+    pub(crate) fn write_block<F: Folder>(
+        &mut self,
+        folder: &mut F,
+        draft: &mut F::Draft,
+        key: BlockKey,
+        block: &Block,
+    ) -> Result<(), TargetFault>
+        requires line { IsLine self.old key block.now }
+        requires long { F.draft_len draft.old ≡ needed_of self.old }
+        ensures same { self.new ≡ self.old }
+        ensures told { OnOk result ((b : List ℕ) → F.draft_bytes draft.old ≡ Some b → length b ≡ needed_of self.old → (c : List ℕ) × (F.draft_bytes draft.new ≡ Some c) × IsBlockWritten self.old key block.now.samples b c) }
+        ensures len { OnOk result (F.draft_len draft.new ≡ F.draft_len draft.old) }
+        ensures name { F.draft_name draft.new ≡ F.draft_name draft.old }
+        ensures names { F.names folder.new ≡ F.names folder.old }
+        ensures reads { F.read_calls folder.new ≡ F.read_calls folder.old }
+        ensures calls { F.write_calls folder.new ≤ F.write_calls folder.old + most_calls self.old }
+        ensures cause { HasCause TargetFault.FolderFault (F.faults folder.old) (F.faults folder.new) result }
+    {
+        match self {
+            Writer::Raw(lines) => {
+                let _head = lines.head();
+                lines.write_line(folder, draft, key.band, key.block as u32, block)
+            }
+            Writer::Hgt(tile) => {
+                let _side = tile.side();
+                tile.write_line(folder, draft, key.block as u32, block)
+            }
+            Writer::Dted(cell) => {
+                let _head = cell.head();
+                cell.write_column(folder, draft, key.block as u32, block)
+            }
+        }
+    }
+
+    // Reads a block from the draft.
+    pub(crate) fn read_block<F: Folder>(
+        &mut self,
+        alloc: Global,
+        folder: &mut F,
+        draft: &mut F::Draft,
+        band: u32,
+        block: u32,
+    ) -> Result<Block, TargetFault>
+        requires band { band < (cut_of self.old).bands }
+        requires block { block < (cut_of self.old).blocks }
+        requires long { F.draft_len draft.old ≡ needed_of self.old }
+        ensures same { self.new ≡ self.old }
+        ensures told { (b : List ℕ) → F.draft_bytes draft.old ≡ Some b → length b ≡ needed_of self.old → IsFormed self.old b → IfOk result (λ got. got.samples ≡ held_in self.old b band block) }
+        ensures line { IfOk result (λ got. IsLine self.old (line_key band block) got) }
+        ensures bytes { F.draft_bytes draft.new ≡ F.draft_bytes draft.old }
+        ensures len { F.draft_len draft.new ≡ F.draft_len draft.old }
+        ensures name { F.draft_name draft.new ≡ F.draft_name draft.old }
+        ensures names { F.names folder.new ≡ F.names folder.old }
+        ensures reads { F.read_calls folder.new ≡ F.read_calls folder.old }
+        ensures calls { F.write_calls folder.new ≡ F.write_calls folder.old }
+        ensures cause { HasCause TargetFault.FolderFault (F.faults folder.old) (F.faults folder.new) result }
+    {
+        match self {
+            Writer::Raw(lines) => lines.read_line(alloc, folder, draft, band, block),
+            Writer::Hgt(tile) => tile.read_line(alloc, folder, draft, block),
+            Writer::Dted(cell) => cell.read_column(alloc, folder, draft, block),
+        }
+    }
+}

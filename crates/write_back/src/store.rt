@@ -1,0 +1,289 @@
+// A pool of lines over a draft: a line that the pool drops is written, and one that it lacks is read back.
+ghost use Rattle.std.specs.Prelude.{◌≡◌, ◌<◌, ◌≤◌, ◌+◌, ◌*◌, [], ℕ, List, length, Some, None, true, false, OnOk, IfOk, map, get_or, pos};
+ghost use Rattle.std.specs.List.{range_with_len};
+ghost use Rattle.outside.specs.Causes.{HasCause};
+ghost use Rattle.band_blocks.specs.Blocks.{written};
+ghost use Rattle.block_cache.specs.Entries.{held_at};
+ghost use Rattle.write_back.specs.Forms.{cut_of, needed_of, most_calls, AreHeld, IsFormed, IsSpot, width_of, height_of};
+ghost use Rattle.write_back.specs.Overlay.{IsLine, IsOverlaid, IsWindow, IsLineSet, AreSame, HoldsDirty, IsBlockWritten, held_in, line_rect, line_key};
+ghost use Rattle.write_back.specs.State.{AreMet, Changes, IsSound, Serves, lines_met, store_state};
+
+use crate::TargetFault;
+use crate::forms::Writer;
+use band_blocks::{Block, BlockKey};
+use block_cache::Pool;
+use geotransform::{Rect, Sample};
+use outside::{Folder, Steps};
+use std::alloc::Global;
+use std::sync::ledger::Ledger;
+
+/// Lines of a raster: those in a pool, and those in a draft.
+pub(crate) struct Store<F: Folder> {
+    pub(crate) writer: Writer,
+    pub(crate) pool: Pool,
+    pub(crate) draft: F::Draft,
+}
+
+// Gathers a column of samples that stand row by row.
+fn gather(samples: &[Sample], width: usize, x: usize, height: usize, out: &mut [Sample])
+    requires within { x < width }
+    requires size { length samples.now ≡ width * height }
+    requires room { length out.old ≡ height }
+    ensures column { out.new ≡ map (λ y. get_or samples.now (y * width + x) (pos 0)) (range_with_len 0 height) }
+{
+    for y in 0..height {
+        out[y] = samples[y * width + x];
+    }
+}
+
+impl<F: Folder> Store<F> {
+    // Writes a line into the draft.
+    fn write<L: Ledger>(
+        &mut self,
+        folder: &mut F,
+        key: BlockKey,
+        block: Block,
+        writes: &mut Steps<L>,
+    ) -> Result<(), TargetFault>
+        requires line { IsLine self.old.writer key block }
+        requires long { F.draft_len self.old.draft ≡ needed_of self.old.writer }
+        ensures head { self.new.writer ≡ self.old.writer }
+        ensures pool { self.new.pool ≡ self.old.pool }
+        ensures written { OnOk result ((b : List ℕ) → F.draft_bytes self.old.draft ≡ Some b → length b ≡ needed_of self.old.writer → (c : List ℕ) × (F.draft_bytes self.new.draft ≡ Some c) × IsBlockWritten self.old.writer key block.samples b c) }
+        ensures len { OnOk result (F.draft_len self.new.draft ≡ F.draft_len self.old.draft) }
+        ensures name { F.draft_name self.new.draft ≡ F.draft_name self.old.draft }
+        ensures names { F.names folder.new ≡ F.names folder.old }
+        ensures reads { F.read_calls folder.new ≡ F.read_calls folder.old }
+        ensures calls { F.write_calls folder.new ≤ F.write_calls folder.old + most_calls self.old.writer }
+        ensures one { writes.new ≡ writes.old + 1 }
+        ensures cause { HasCause TargetFault.FolderFault (F.faults folder.old) (F.faults folder.new) result }
+    {
+        writes.tick();
+        self.writer
+            .write_block(folder, &mut self.draft, key, &block)
+    }
+
+    // Keeps a line that isn't held. The line that a full pool drops for it is written, where it isn't yet.
+    fn keep<L: Ledger>(
+        &mut self,
+        folder: &mut F,
+        key: BlockKey,
+        block: Block,
+        writes: &mut Steps<L>,
+    ) -> Result<(), TargetFault>
+        requires sound { IsSound self.old.writer self.old.pool }
+        requires long { F.draft_len self.old.draft ≡ needed_of self.old.writer }
+        requires absent { held_at key self.old.pool.entries ≡ None }
+        requires line { IsLine self.old.writer key block }
+        ensures head { self.new.writer ≡ self.old.writer }
+        ensures serves { Serves self.old.writer 1 0 (store_state (F.names folder.old) self.old.pool (F.draft_bytes self.old.draft) (F.draft_len self.old.draft) (F.draft_name self.old.draft) (F.faults folder.old) (F.read_calls folder.old) (F.write_calls folder.old) writes.old) (store_state (F.names folder.new) self.new.pool (F.draft_bytes self.new.draft) (F.draft_len self.new.draft) (F.draft_name self.new.draft) (F.faults folder.new) (F.read_calls folder.new) (F.write_calls folder.new) writes.new) }
+        ensures changed { OnOk result (Changes self.old.writer (IsLineSet self.old.writer key block.samples) (store_state (F.names folder.old) self.old.pool (F.draft_bytes self.old.draft) (F.draft_len self.old.draft) (F.draft_name self.old.draft) (F.faults folder.old) (F.read_calls folder.old) (F.write_calls folder.old) writes.old) (store_state (F.names folder.new) self.new.pool (F.draft_bytes self.new.draft) (F.draft_len self.new.draft) (F.draft_name self.new.draft) (F.faults folder.new) (F.read_calls folder.new) (F.write_calls folder.new) writes.new)) }
+        ensures dirty { OnOk result (HoldsDirty self.new.pool.entries key) }
+        ensures cause { HasCause TargetFault.FolderFault (F.faults folder.old) (F.faults folder.new) result }
+    {
+        match self.pool.admit(key, block, true) {
+            Ok(None) => Ok(()),
+            Ok(Some(last)) => {
+                if !last.dirty {
+                    return Ok(());
+                }
+                self.write(folder, last.key, last.block, writes)
+            }
+            Err(_) => Err(TargetFault::Memory),
+        }
+    }
+
+    // The line of a band with these samples from a column on, and the draft's elsewhere.
+    fn line_with(
+        &mut self,
+        alloc: Global,
+        folder: &mut F,
+        band: u32,
+        x: u32,
+        y: u32,
+        samples: &[Sample],
+    ) -> Result<Block, TargetFault>
+        requires long { F.draft_len self.old.draft ≡ needed_of self.old.writer }
+        requires band { band < (cut_of self.old.writer).bands }
+        requires line { y < (cut_of self.old.writer).blocks }
+        requires columns { x + length samples.now ≤ (cut_of self.old.writer).spots }
+        requires range { AreHeld self.old.writer samples.now }
+        ensures head { self.new.writer ≡ self.old.writer }
+        ensures pool { self.new.pool ≡ self.old.pool }
+        ensures line { IfOk result (λ block. IsLine self.old.writer (line_key band y) block) }
+        ensures told { (b : List ℕ) → F.draft_bytes self.old.draft ≡ Some b → length b ≡ needed_of self.old.writer → IsFormed self.old.writer b → IfOk result (λ block. block.samples ≡ written x samples.now (held_in self.old.writer b band y)) }
+        ensures bytes { F.draft_bytes self.new.draft ≡ F.draft_bytes self.old.draft }
+        ensures len { F.draft_len self.new.draft ≡ F.draft_len self.old.draft }
+        ensures name { F.draft_name self.new.draft ≡ F.draft_name self.old.draft }
+        ensures names { F.names folder.new ≡ F.names folder.old }
+        ensures reads { F.read_calls folder.new ≡ F.read_calls folder.old }
+        ensures calls { F.write_calls folder.new ≡ F.write_calls folder.old }
+        ensures cause { HasCause TargetFault.FolderFault (F.faults folder.old) (F.faults folder.new) result }
+    {
+        let shape = self.writer.shape();
+        if samples.len() == shape.spots as usize {
+            let block = Block::pack(alloc, shape.kind, samples)?;
+            return Ok(block);
+        }
+        let mut block = self
+            .writer
+            .read_block(alloc, folder, &mut self.draft, band, y)?;
+        block.write_run(x, samples);
+        Ok(block)
+    }
+
+    // Puts samples into a line of a band from a column on.
+    fn put<L: Ledger>(
+        &mut self,
+        alloc: Global,
+        folder: &mut F,
+        band: u32,
+        x: u32,
+        y: u32,
+        samples: &[Sample],
+        writes: &mut Steps<L>,
+    ) -> Result<(), TargetFault>
+        requires sound { IsSound self.old.writer self.old.pool }
+        requires long { F.draft_len self.old.draft ≡ needed_of self.old.writer }
+        requires band { band < (cut_of self.old.writer).bands }
+        requires line { y < (cut_of self.old.writer).blocks }
+        requires columns { x + length samples.now ≤ (cut_of self.old.writer).spots }
+        requires range { AreHeld self.old.writer samples.now }
+        ensures head { self.new.writer ≡ self.old.writer }
+        ensures serves { Serves self.old.writer 1 0 (store_state (F.names folder.old) self.old.pool (F.draft_bytes self.old.draft) (F.draft_len self.old.draft) (F.draft_name self.old.draft) (F.faults folder.old) (F.read_calls folder.old) (F.write_calls folder.old) writes.old) (store_state (F.names folder.new) self.new.pool (F.draft_bytes self.new.draft) (F.draft_len self.new.draft) (F.draft_name self.new.draft) (F.faults folder.new) (F.read_calls folder.new) (F.write_calls folder.new) writes.new) }
+        ensures changed { OnOk result (Changes self.old.writer (IsOverlaid (IsSpot self.old.writer) band (line_rect x y (length samples.now)) samples.now) (store_state (F.names folder.old) self.old.pool (F.draft_bytes self.old.draft) (F.draft_len self.old.draft) (F.draft_name self.old.draft) (F.faults folder.old) (F.read_calls folder.old) (F.write_calls folder.old) writes.old) (store_state (F.names folder.new) self.new.pool (F.draft_bytes self.new.draft) (F.draft_len self.new.draft) (F.draft_name self.new.draft) (F.faults folder.new) (F.read_calls folder.new) (F.write_calls folder.new) writes.new)) }
+        ensures dirty { OnOk result (HoldsDirty self.new.pool.entries (line_key band y)) }
+        ensures cause { HasCause TargetFault.FolderFault (F.faults folder.old) (F.faults folder.new) result }
+    {
+        let key = BlockKey {
+            file: 0,
+            band,
+            block: y as u64,
+        };
+        if self.pool.patch(&key, x, samples) {
+            return Ok(());
+        }
+        let block = self.line_with(alloc, folder, band, x, y, samples)?;
+        self.keep(folder, key, block, writes)
+    }
+
+    // Puts the samples of a rectangle of a band, row by row, where blocks are lines.
+    fn put_rows<L: Ledger>(
+        &mut self,
+        alloc: Global,
+        folder: &mut F,
+        band: u32,
+        rect: Rect,
+        samples: &[Sample],
+        writes: &mut Steps<L>,
+    ) -> Result<(), TargetFault>
+        requires rows { (cut_of self.old.writer).by_columns ≡ false }
+        requires sound { IsSound self.old.writer self.old.pool }
+        requires long { F.draft_len self.old.draft ≡ needed_of self.old.writer }
+        requires band { band < (cut_of self.old.writer).bands }
+        requires across { rect.x + rect.w ≤ (cut_of self.old.writer).spots }
+        requires down { rect.y + rect.h ≤ (cut_of self.old.writer).blocks }
+        requires size { length samples.now ≡ rect.w * rect.h }
+        requires range { AreHeld self.old.writer samples.now }
+        ensures head { self.new.writer ≡ self.old.writer }
+        ensures serves { Serves self.old.writer rect.h 0 (store_state (F.names folder.old) self.old.pool (F.draft_bytes self.old.draft) (F.draft_len self.old.draft) (F.draft_name self.old.draft) (F.faults folder.old) (F.read_calls folder.old) (F.write_calls folder.old) writes.old) (store_state (F.names folder.new) self.new.pool (F.draft_bytes self.new.draft) (F.draft_len self.new.draft) (F.draft_name self.new.draft) (F.faults folder.new) (F.read_calls folder.new) (F.write_calls folder.new) writes.new) }
+        ensures changed { OnOk result (Changes self.old.writer (IsWindow self.old.writer band rect samples.now) (store_state (F.names folder.old) self.old.pool (F.draft_bytes self.old.draft) (F.draft_len self.old.draft) (F.draft_name self.old.draft) (F.faults folder.old) (F.read_calls folder.old) (F.write_calls folder.old) writes.old) (store_state (F.names folder.new) self.new.pool (F.draft_bytes self.new.draft) (F.draft_len self.new.draft) (F.draft_name self.new.draft) (F.faults folder.new) (F.read_calls folder.new) (F.write_calls folder.new) writes.new)) }
+        ensures cause { HasCause TargetFault.FolderFault (F.faults folder.old) (F.faults folder.new) result }
+    {
+        let _shape = self.writer.shape();
+        let width = rect.w as usize;
+        for row in 0..rect.h {
+            let from = row as usize * width;
+            let line = &samples[from..from + width];
+            self.put(alloc, folder, band, rect.x, rect.y + row, line, writes)?;
+        }
+        Ok(())
+    }
+
+    // Puts the samples of a rectangle of a band, column by column, where blocks are columns.
+    fn put_columns<L: Ledger>(
+        &mut self,
+        alloc: Global,
+        folder: &mut F,
+        band: u32,
+        rect: Rect,
+        samples: &[Sample],
+        writes: &mut Steps<L>,
+    ) -> Result<(), TargetFault>
+        requires columns { (cut_of self.old.writer).by_columns ≡ true }
+        requires sound { IsSound self.old.writer self.old.pool }
+        requires long { F.draft_len self.old.draft ≡ needed_of self.old.writer }
+        requires band { band < (cut_of self.old.writer).bands }
+        requires across { rect.x + rect.w ≤ (cut_of self.old.writer).blocks }
+        requires down { rect.y + rect.h ≤ (cut_of self.old.writer).spots }
+        requires size { length samples.now ≡ rect.w * rect.h }
+        requires range { AreHeld self.old.writer samples.now }
+        ensures head { self.new.writer ≡ self.old.writer }
+        ensures serves { Serves self.old.writer rect.w 0 (store_state (F.names folder.old) self.old.pool (F.draft_bytes self.old.draft) (F.draft_len self.old.draft) (F.draft_name self.old.draft) (F.faults folder.old) (F.read_calls folder.old) (F.write_calls folder.old) writes.old) (store_state (F.names folder.new) self.new.pool (F.draft_bytes self.new.draft) (F.draft_len self.new.draft) (F.draft_name self.new.draft) (F.faults folder.new) (F.read_calls folder.new) (F.write_calls folder.new) writes.new) }
+        ensures changed { OnOk result (Changes self.old.writer (IsWindow self.old.writer band rect samples.now) (store_state (F.names folder.old) self.old.pool (F.draft_bytes self.old.draft) (F.draft_len self.old.draft) (F.draft_name self.old.draft) (F.faults folder.old) (F.read_calls folder.old) (F.write_calls folder.old) writes.old) (store_state (F.names folder.new) self.new.pool (F.draft_bytes self.new.draft) (F.draft_len self.new.draft) (F.draft_name self.new.draft) (F.faults folder.new) (F.read_calls folder.new) (F.write_calls folder.new) writes.new)) }
+        ensures met { OnOk result (AreMet self.old.writer band rect.x rect.w (store_state (F.names folder.old) self.old.pool (F.draft_bytes self.old.draft) (F.draft_len self.old.draft) (F.draft_name self.old.draft) (F.faults folder.old) (F.read_calls folder.old) (F.write_calls folder.old) writes.old) (store_state (F.names folder.new) self.new.pool (F.draft_bytes self.new.draft) (F.draft_len self.new.draft) (F.draft_name self.new.draft) (F.faults folder.new) (F.read_calls folder.new) (F.write_calls folder.new) writes.new)) }
+        ensures cause { HasCause TargetFault.FolderFault (F.faults folder.old) (F.faults folder.new) result }
+    {
+        let _shape = self.writer.shape();
+        let mut column = vec![in alloc; 0i128; rect.h as usize]?;
+        let line = column.as_mut_slice();
+        for x in 0..rect.w {
+            gather(samples, rect.w as usize, x as usize, rect.h as usize, line);
+            self.put(alloc, folder, band, rect.y, rect.x + x, line, writes)?;
+        }
+        Ok(())
+    }
+
+    // Puts the samples of a rectangle of a band that isn't empty.
+    pub(crate) fn put_window<L: Ledger>(
+        &mut self,
+        alloc: Global,
+        folder: &mut F,
+        band: u32,
+        rect: Rect,
+        samples: &[Sample],
+        writes: &mut Steps<L>,
+    ) -> Result<(), TargetFault>
+        requires wide { 0 < rect.w }
+        requires high { 0 < rect.h }
+        requires sound { IsSound self.old.writer self.old.pool }
+        requires long { F.draft_len self.old.draft ≡ needed_of self.old.writer }
+        requires band { band < (cut_of self.old.writer).bands }
+        requires across { rect.x + rect.w ≤ width_of self.old.writer }
+        requires down { rect.y + rect.h ≤ height_of self.old.writer }
+        requires size { length samples.now ≡ rect.w * rect.h }
+        requires range { AreHeld self.old.writer samples.now }
+        ensures head { self.new.writer ≡ self.old.writer }
+        ensures serves { Serves self.old.writer (lines_met self.old.writer rect) 0 (store_state (F.names folder.old) self.old.pool (F.draft_bytes self.old.draft) (F.draft_len self.old.draft) (F.draft_name self.old.draft) (F.faults folder.old) (F.read_calls folder.old) (F.write_calls folder.old) writes.old) (store_state (F.names folder.new) self.new.pool (F.draft_bytes self.new.draft) (F.draft_len self.new.draft) (F.draft_name self.new.draft) (F.faults folder.new) (F.read_calls folder.new) (F.write_calls folder.new) writes.new) }
+        ensures changed { OnOk result (Changes self.old.writer (IsWindow self.old.writer band rect samples.now) (store_state (F.names folder.old) self.old.pool (F.draft_bytes self.old.draft) (F.draft_len self.old.draft) (F.draft_name self.old.draft) (F.faults folder.old) (F.read_calls folder.old) (F.write_calls folder.old) writes.old) (store_state (F.names folder.new) self.new.pool (F.draft_bytes self.new.draft) (F.draft_len self.new.draft) (F.draft_name self.new.draft) (F.faults folder.new) (F.read_calls folder.new) (F.write_calls folder.new) writes.new)) }
+        ensures met { OnOk result ((cut_of self.old.writer).by_columns ≡ true → AreMet self.old.writer band rect.x rect.w (store_state (F.names folder.old) self.old.pool (F.draft_bytes self.old.draft) (F.draft_len self.old.draft) (F.draft_name self.old.draft) (F.faults folder.old) (F.read_calls folder.old) (F.write_calls folder.old) writes.old) (store_state (F.names folder.new) self.new.pool (F.draft_bytes self.new.draft) (F.draft_len self.new.draft) (F.draft_name self.new.draft) (F.faults folder.new) (F.read_calls folder.new) (F.write_calls folder.new) writes.new)) }
+        ensures cause { HasCause TargetFault.FolderFault (F.faults folder.old) (F.faults folder.new) result }
+    {
+        let shape = self.writer.shape();
+        if shape.by_columns {
+            self.put_columns(alloc, folder, band, rect, samples, writes)
+        } else {
+            self.put_rows(alloc, folder, band, rect, samples, writes)
+        }
+    }
+
+    // Writes all lines that aren't written yet. The pool is then empty.
+    pub(crate) fn flush<L: Ledger>(
+        &mut self,
+        folder: &mut F,
+        writes: &mut Steps<L>,
+    ) -> Result<(), TargetFault>
+        requires sound { IsSound self.old.writer self.old.pool }
+        requires long { F.draft_len self.old.draft ≡ needed_of self.old.writer }
+        ensures head { self.new.writer ≡ self.old.writer }
+        ensures serves { Serves self.old.writer (length self.old.pool.entries) (length self.old.pool.entries) (store_state (F.names folder.old) self.old.pool (F.draft_bytes self.old.draft) (F.draft_len self.old.draft) (F.draft_name self.old.draft) (F.faults folder.old) (F.read_calls folder.old) (F.write_calls folder.old) writes.old) (store_state (F.names folder.new) self.new.pool (F.draft_bytes self.new.draft) (F.draft_len self.new.draft) (F.draft_name self.new.draft) (F.faults folder.new) (F.read_calls folder.new) (F.write_calls folder.new) writes.new) }
+        ensures changed { OnOk result (Changes self.old.writer (AreSame self.old.writer) (store_state (F.names folder.old) self.old.pool (F.draft_bytes self.old.draft) (F.draft_len self.old.draft) (F.draft_name self.old.draft) (F.faults folder.old) (F.read_calls folder.old) (F.write_calls folder.old) writes.old) (store_state (F.names folder.new) self.new.pool (F.draft_bytes self.new.draft) (F.draft_len self.new.draft) (F.draft_name self.new.draft) (F.faults folder.new) (F.read_calls folder.new) (F.write_calls folder.new) writes.new)) }
+        ensures empty { OnOk result (self.new.pool.entries ≡ []) }
+        ensures cause { HasCause TargetFault.FolderFault (F.faults folder.old) (F.faults folder.new) result }
+    {
+        while let Some((key, block)) = self.pool.take_dirty() {
+            self.write(folder, key, block, writes)?;
+        }
+        Ok(())
+    }
+}
