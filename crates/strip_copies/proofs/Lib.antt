@@ -1,0 +1,9 @@
+pub mod Cells
+mod Examples
+pub mod Grown
+pub mod Holdings
+pub mod Joined
+pub mod Samples
+pub mod Sources
+pub mod Strips
+pub mod Told

@@ -1,0 +1,42 @@
+-- What is translated, and lines of its output.
+use Rattle.std.specs.Prelude.{◌≡◌, ◌<◌, ◌≤◌, ◌-◌, ℕ, ℤ, List, length, All, Option, Some, slice_get}
+use Rattle.geotransform.specs.declared.types.Rect.{Rect}
+use Rattle.geotransform.specs.declared.types.Size.{Size}
+use Rattle.outside.specs.Outside.{Files}
+use Rattle.catalog.specs.Drivers.{Dataset}
+use Rattle.translate_plan.specs.declared.band.OutBand.{OutBand}
+use Rattle.translate_plan.specs.Plan.{Planned}
+use Rattle.strip_copies.specs.declared.columns.Columns.{Columns}
+use Rattle.strip_copies.specs.declared.spans.Run.{Run}
+use Rattle.strip_copies.specs.Rows.{AreColumns, AreIn, AreSamples}
+
+-- the catalog has the dataset of this number, which has the bands that the plan shows
+pub record IsTranslation (cat : List Dataset) (id : ℕ) (p : Planned) : Type 0 where
+  pub dataset : Dataset
+  pub at : slice_get cat id ≡ Some dataset
+  pub sources : All (λ (b : OutBand). b.source < length dataset.head.bands) p.bands
+
+-- the columns are those of the dataset that the plan shows, and there is room for a line of them
+pub record IsRoomFor (cat : List Dataset) (id : ℕ) (p : Planned) (columns : Columns) (samples : List ℤ) : Type 0 where
+  pub dataset : Dataset
+  pub at : slice_get cat id ≡ Some dataset
+  pub shown : AreColumns p dataset.head.size.w columns
+  pub room : columns.count ≤ length samples
+
+-- the run is of lines of a band of the plan, which show lines of the dataset
+pub record IsPart (cat : List Dataset) (id : ℕ) (p : Planned) (columns : Columns) (run : Run) : Type 0 where
+  pub dataset : Dataset
+  pub at : slice_get cat id ≡ Some dataset
+  pub band : run.band < length p.bands
+  pub some : run.first < run.end
+  pub end : run.end ≤ p.size.h
+  pub shown : AreColumns p dataset.head.size.w columns
+  pub lines : AreIn p dataset.head.size.h run.first run.end run.span
+
+-- the lines of an output from one up to another
+abbrev pub lines_rect : Size → ℕ → ℕ → Rect
+lines_rect size from to = record { x = 0; y = from; w = size.w; h = to - from }
+
+-- the first n samples of lines of a band of a translation's output from one on, row by row
+abbrev pub AreOf : Option Files → List Dataset → ℕ → Planned → ℕ → ℕ → ℕ → List ℤ → Type 0
+AreOf told cat id p k from n samples = (d : Dataset) → slice_get cat id ≡ Some d → AreSamples told d.head.name p d.head.size k from n samples

@@ -1,0 +1,110 @@
+-- Rows of an output's band, made of lines of the source.
+use Rattle.std.specs.Prelude.{◌≡◌, ◌<◌, ◌≤◌, ◌+◌, ◌/◌, ◌%◌, ℕ, ℤ, pos, negsuc, min, List, length, get_or, Option, Some, None, slice_get, int_lt, nat_lt, if◌then◌else◌, true}
+use Rattle.std.specs.Option.{unwrap_or}
+use Rattle.geotransform.specs.Types.{is_in, lowest}
+use Rattle.geotransform.specs.declared.types.PixelType.{PixelType}
+use Rattle.geotransform.specs.declared.types.Rect.{Rect}
+use Rattle.geotransform.specs.declared.types.Size.{Size}
+use Rattle.outside.specs.Outside.{Files}
+use Rattle.dted_records.specs.Written.{IsElevation}
+use Rattle.catalog.specs.Pixels.{pixel_of_name}
+use Rattle.catalog.specs.Places.{row_by_row}
+use Rattle.translate_plan.specs.declared.band.OutBand.{OutBand}
+use Rattle.translate_plan.specs.declared.options.Driver.{Driver}
+use Rattle.translate_plan.specs.declared.options.Driver.TheVariants.{EHdr, Dted, SrtmHgt, AaiGrid, Vrt}
+use Rattle.translate_plan.specs.Plan.{Planned, held, out_pixel, shown_column, shown_line}
+use Rattle.strip_copies.specs.declared.columns.Columns.{Columns}
+use Rattle.strip_copies.specs.declared.holding.Holding.{Holding}
+use Rattle.strip_copies.specs.declared.making.Making.{Making}
+use Rattle.strip_copies.specs.declared.spans.Span.{Span}
+
+-- a whole number as a column or a line of a side
+abbrev pub within : ℕ → ℤ → Option ℕ
+within side (pos n) = if nat_lt n side then Some n else None
+within side (negsuc n) = None
+
+-- the column at a place among n columns from `first` on
+abbrev pub column_at : ℕ → ℕ → ℕ → Option ℕ
+column_at first n place = if nat_lt place n then Some (first + place) else None
+
+-- the columns of a source of this width that are read for a plan, and the place of each of the output's columns among them
+pub record AreColumns (p : Planned) (width : ℕ) (c : Columns) : Type 0 where
+  pub inside : c.first + c.count ≤ width
+  pub long : length c.places.items ≡ p.size.w
+  pub each : (i : ℕ) → i < p.size.w → within width (shown_column p i) ≡ column_at c.first c.count (get_or c.places.items i 0)
+
+-- the number from `least` to `most` that is nearest to v
+abbrev pub nearest : ℤ → ℤ → ℤ → ℤ
+nearest least most v = if int_lt v least then least else (if int_lt most v then most else v)
+
+-- the least sample of a driver's files: that of the type, in a cell the least elevation
+abbrev pub least_of : Driver → PixelType → ℤ
+least_of EHdr kind = lowest kind
+least_of (Dted level) kind = negsuc 32766
+least_of SrtmHgt kind = lowest kind
+least_of AaiGrid kind = lowest kind
+least_of Vrt kind = lowest kind
+
+-- what a band of a plan makes of a sample of the source, and what stands outside the raster
+pub record IsHolding (p : Planned) (k : ℕ) (h : Holding) : Type 0 where
+  pub band : OutBand
+  pub at : slice_get p.bands k ≡ Some band
+  pub held : (v : ℤ) → nearest h.least h.most v ≡ held p.driver band.kind v
+  pub fill : h.fill ≡ unwrap_or band.nodata (pos 0)
+
+-- the sample that a band makes of one, or of none
+abbrev pub made_found : Holding → Option ℤ → ℤ
+made_found h None = h.fill
+made_found h (Some v) = nearest h.least h.most v
+
+-- the sample that a band makes of the one at a place of a line
+abbrev pub made_of : Holding → List ℤ → ℕ → ℤ
+made_of h line place = made_found h (slice_get line place)
+
+-- the number from 0 to a side that is nearest to a whole number
+abbrev pub held_to : ℕ → ℤ → ℕ
+held_to side (pos n) = min n side
+held_to side (negsuc n) = 0
+
+-- a line lies in a span
+pub record IsIn (s : Span) (y : ℕ) : Type 0 where
+  pub top : s.top ≤ y
+  pub bottom : y < s.top + s.height
+
+-- the lines of a source of this height that lines of the output from `first` up to `end` show lie in a span
+pub record AreIn (p : Planned) (height first end : ℕ) (s : Span) : Type 0 where
+  pub inside : s.top + s.height ≤ height
+  pub each : (j y : ℕ) → first ≤ j → j < end → within height (shown_line p j) ≡ Some y → IsIn s y
+
+-- a sample that stands in a column and a line of a band of the output: that of some pixels of the source, and over a folder
+-- that tells its files that of the source's pixels
+pub record IsSample (told : Option Files) (name : List ℕ) (p : Planned) (source : Size) (k i j : ℕ) (v : ℤ) : Type 0 where
+  pub pixels : ℕ → ℕ → ℕ → ℤ
+  pub shows : v ≡ out_pixel p source pixels k i j
+  pub named : (m : Files) → told ≡ Some m → v ≡ out_pixel p source (pixel_of_name m name) k i j
+
+-- the first n samples of lines of a band of the output from one on, row by row
+abbrev pub AreSamples : Option Files → List ℕ → Planned → Size → ℕ → ℕ → ℕ → List ℤ → Type 0
+AreSamples told name p source k from n samples = (at : ℕ) → at < n → IsSample told name p source k (at % p.size.w) (from + at / p.size.w) (get_or samples at (pos 0))
+
+-- a row of a band of the output
+abbrev pub IsRow : Option Files → List ℕ → Planned → Size → ℕ → ℕ → List ℤ → Type 0
+IsRow told name p source k j row = (i : ℕ) → i < p.size.w → IsSample told name p source k i j (get_or row i (pos 0))
+
+-- the columns that are read, in the lines of a span
+abbrev pub strip_rect : Columns → Span → Rect
+strip_rect c s = record { x = c.first; y = s.top; w = c.count; h = s.height }
+
+-- the samples of the source's band that a band of the output shows, in a rectangle, as far as the folder tells its files
+abbrev pub IsStrip : Option Files → List ℕ → Planned → ℕ → Rect → List ℤ → Type 0
+IsStrip told name p k rect strip = (m : Files) (b : OutBand) → told ≡ Some m → slice_get p.bands k ≡ Some b → strip ≡ row_by_row (pixel_of_name m name b.source) rect
+
+-- what rows are made with is of one plan, one band and one source
+pub record IsMaking (making : Making) : Type 0 where
+  pub columns : AreColumns making.plan.now making.size.w making.columns.now
+  pub holding : IsHolding making.plan.now making.band making.holding
+
+-- a band of the output can hold a sample: it is of the band's type, and in a cell an elevation
+pub record IsHeldIn (p : Planned) (k : ℕ) (v : ℤ) : Type 0 where
+  pub kind : (b : OutBand) → slice_get p.bands k ≡ Some b → is_in b.kind v ≡ true
+  pub elevation : (level : ℕ) → p.driver ≡ Dted level → IsElevation v

@@ -1,0 +1,17 @@
+// Lines of a translation's output, read through a lane and written into a target.
+#![tactic(auto)]
+
+mod columns;
+mod height;
+mod holding;
+mod laws;
+mod making;
+mod places;
+mod reading;
+mod rows;
+mod spans;
+
+pub use columns::Columns;
+pub use height::strip_height;
+pub use laws::plans_are_translations;
+pub use reading::{Lines, PixelReader, StripReader, Translation, read_lines};

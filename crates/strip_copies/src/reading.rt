@@ -1,0 +1,294 @@
+// Lines of a translation's output, read through a lane.
+ghost use Rattle.std.specs.Prelude.{◌≡◌, ◌<◌, ◌≤◌, ◌+◌, ◌-◌, ◌*◌, All, IfErr, IfOk, OnOk, length, slice_get, Some};
+ghost use Rattle.geotransform.specs.Geo.{IsRaster};
+ghost use Rattle.outside.specs.Causes.{HasCause};
+ghost use Rattle.outside.specs.Reading.{OnlyRead, WhereTold};
+ghost use Rattle.band_blocks.specs.Contents.{most_calls};
+ghost use Rattle.band_blocks.specs.Open.{IsUnchanged};
+ghost use Rattle.catalog.specs.Drivers.{Dataset};
+ghost use Rattle.catalog.specs.Pixels.{pixel_of_name};
+ghost use Rattle.catalog.specs.Places.{row_by_row};
+ghost use Rattle.nearest_window.specs.Right.{IsFresh, IsReady, TellsChangeIn};
+ghost use Rattle.nearest_window.specs.Shown.{IsWindow};
+ghost use Rattle.translate_plan.specs.Plan.{out_pixel};
+ghost use Rattle.translate_plan.specs.declared.band.OutBand.{OutBand};
+ghost use Rattle.strip_copies.specs.Copies.{lines_rect, AreOf, IsPart, IsRoomFor, IsTranslation};
+ghost use Rattle.strip_copies.specs.Rows.{strip_rect, AreColumns, IsHeldIn, IsMaking};
+
+use crate::columns::Columns;
+use crate::height::{height_of, is_tall};
+use crate::holding::Holding;
+use crate::making::{Making, area, make_lines};
+use crate::spans::{Run, run_from};
+use band_blocks::{LoadFault, Steps};
+use catalog::Catalog;
+use geotransform::{Rect, Sample, Size};
+use nearest_window::{Lane, Window};
+use outside::Folder;
+use std::alloc::{AllocError, Global};
+use std::sync::ledger::{Blank, Ledger};
+use translate_plan::Plan;
+
+/// What is translated: a dataset of a catalog, by its number, and the plan of its output.
+#[derive(Drop)]
+pub struct Translation {
+    pub alloc: Global,
+    pub cat: Catalog,
+    pub id: u32,
+    pub plan: Plan,
+}
+
+/// A lane, and the count of its loads.
+#[derive(Drop)]
+pub struct PixelReader<F: Folder, L: Ledger> {
+    pub lane: Lane<F>,
+    pub loads: Steps<L>,
+}
+
+/// What lines of a translation are read with: a lane, the columns of the source that are read, and room for lines of
+/// them, which is made once.
+#[derive(Drop)]
+pub struct StripReader<F: Folder, L: Ledger> {
+    pub pixels: PixelReader<F, L>,
+    pub columns: Columns,
+    pub samples: Vec<Sample>,
+}
+
+// How many lines of the source are read at a time into the room for them, at least one.
+fn room_height(tall: bool, columns: u32, lines: u32) -> u32
+    requires columns { columns ≤ 4194304 }
+    requires lines { 1 ≤ lines }
+    ensures some { 1 ≤ result }
+    ensures bound { columns * result ≤ 4194304 }
+{
+    if columns == 0 {
+        return 1;
+    }
+    height_of(tall, columns).min(lines)
+}
+
+impl<F: Folder, L: Ledger> StripReader<F, L> {
+    /// A reader for a translation whose lane holds so many blocks at a time, 1 to 65,536. It has read nothing. The room
+    /// for lines has 4,194,304 samples at most.
+    pub fn new(
+        translation: &Translation,
+        capacity: u32,
+        blank: Blank,
+    ) -> Result<StripReader<F, L>, AllocError>
+        requires translation { IsTranslation translation.now.cat translation.now.id translation.now.plan }
+        requires some { 1 ≤ capacity }
+        requires few { capacity ≤ 65536 }
+        requires name { blank.name ≡ L.name }
+        requires parts { blank.parts ≡ L.parts }
+        requires shares { 0 < blank.parts }
+        ensures fresh { IfOk result (λ reader. IsFresh F.Folder reader.pixels.lane) }
+        ensures room { IfOk result (λ reader. IsRoomFor translation.now.cat translation.now.id translation.now.plan reader.columns reader.samples.items) }
+        ensures bound { IfOk result (λ reader. length reader.samples.items ≤ 4194304) }
+        ensures none { IfOk result (λ reader. reader.pixels.loads ≡ 0) }
+    {
+        let alloc = translation.alloc;
+        let loads = Steps::open(blank);
+        let size = source_size(translation);
+        let columns = Columns::new(alloc, &translation.plan, size.w)?;
+        let lines = room_height(is_tall(translation), columns.count, size.h);
+        let samples = vec![in alloc; 0; area(columns.count, lines)]?;
+        let lane = Lane::new(alloc, capacity)?;
+        let pixels = PixelReader { lane, loads };
+        Ok(StripReader {
+            pixels,
+            columns,
+            samples,
+        })
+    }
+}
+
+/// Lines of a band of an output, from `first` up to `end`. Bands and lines count from 0.
+#[derive(Clone, Copy)]
+pub struct Lines {
+    pub band: u32,
+    pub first: u32,
+    pub end: u32,
+}
+
+// The columns and lines of the dataset.
+fn source_size(translation: &Translation) -> Size
+    requires translation { IsTranslation translation.now.cat translation.now.id translation.now.plan }
+    ensures size { (d : Dataset) → slice_get translation.now.cat translation.now.id ≡ Some d → result ≡ d.head.size }
+    ensures limits { IsRaster result }
+{
+    let head = translation.cat.head(translation.id);
+    head.size
+}
+
+// The window of the source that is read for a run.
+fn window_of(translation: &Translation, columns: &Columns, run: Run) -> Window
+    requires translation { IsTranslation translation.now.cat translation.now.id translation.now.plan }
+    requires part { IsPart translation.now.cat translation.now.id translation.now.plan columns.now run }
+    ensures window { IsWindow translation.now.cat result }
+    ensures dataset { result.dataset ≡ translation.now.id }
+    ensures band { (b : OutBand) → slice_get translation.now.plan.bands run.band ≡ Some b → result.band ≡ b.source }
+    ensures rect { result.rect ≡ strip_rect columns.now run.span }
+{
+    let plan = &translation.plan;
+    Window {
+        dataset: translation.id,
+        band: plan.source(run.band),
+        rect: Rect {
+            x: columns.first,
+            y: run.span.top,
+            w: columns.count,
+            h: run.span.height,
+        },
+    }
+}
+
+// What rows of a band of the output are made with.
+fn making_of<'a>(translation: &'a Translation, columns: &'a Columns, band: u32) -> Making<'a>
+    requires translation { IsTranslation translation.now.cat translation.now.id translation.now.plan }
+    requires columns { (d : Dataset) → slice_get translation.now.cat translation.now.id ≡ Some d → AreColumns translation.now.plan d.head.size.w columns.now }
+    requires band { band < length translation.now.plan.bands }
+    ensures making { IsMaking result }
+    ensures plan { result.plan.now ≡ translation.now.plan }
+    ensures columns { result.columns.now ≡ columns.now }
+    ensures band { result.band ≡ band }
+    ensures size { (d : Dataset) → slice_get translation.now.cat translation.now.id ≡ Some d → result.size ≡ d.head.size }
+{
+    let plan = &translation.plan;
+    Making {
+        plan,
+        columns,
+        holding: Holding::of(plan, band),
+        band,
+        size: source_size(translation),
+    }
+}
+
+// Reads the lines of a run. After a refusal `strip` and `out` are unknown.
+fn read_part<F: Folder, L: Ledger>(
+    translation: &Translation,
+    pixels: &mut PixelReader<F, L>,
+    folder: &mut F,
+    columns: &Columns,
+    run: Run,
+    strip: &mut [Sample],
+    out: &mut [Sample],
+) -> Result<(), LoadFault>
+    requires ready { IsReady F.Folder folder.old translation.now.cat pixels.old.lane }
+    requires translation { IsTranslation translation.now.cat translation.now.id translation.now.plan }
+    requires part { IsPart translation.now.cat translation.now.id translation.now.plan columns.now run }
+    requires strip { length strip.old ≡ columns.now.count * run.span.height }
+    requires room { length out.old ≡ (run.end - run.first) * translation.now.plan.size.w }
+    ensures samples { OnOk result (AreOf (F.names folder.old) translation.now.cat translation.now.id translation.now.plan run.band run.first (length out.old) out.new) }
+    ensures ready { IsReady F.Folder folder.new translation.now.cat pixels.new.lane }
+    ensures only_read { OnlyRead F.Folder folder.old folder.new }
+    ensures cause { HasCause LoadFault.FolderFault (F.faults folder.old) (F.faults folder.new) result }
+    ensures changed { IfErr result (TellsChangeIn translation.now.cat) }
+    ensures never { WhereTold F.Folder folder.old (λ _. IfErr result IsUnchanged) }
+    ensures counted { pixels.old.loads ≤ pixels.new.loads }
+    ensures reads { F.read_calls folder.new ≤ F.read_calls folder.old + most_calls translation.now.cat * (pixels.new.loads - pixels.old.loads) }
+{
+    let window = window_of(translation, columns, run);
+    let alloc = translation.alloc;
+    let loads = &mut pixels.loads;
+    pixels
+        .lane
+        .read_window(alloc, &translation.cat, folder, window, strip, loads)?;
+    let making = making_of(translation, columns, run.band);
+    make_lines(making, run, strip, out);
+    Ok(())
+}
+
+// How many lines of so many columns there is room for, at least one.
+fn lines_in(samples: usize, columns: u32) -> u32
+    requires room { columns ≤ samples }
+    ensures some { 1 ≤ result }
+    ensures fits { columns * result ≤ samples }
+{
+    if columns == 0 {
+        return 1;
+    }
+    let lines = samples / columns as usize;
+    lines.min(4_194_304) as u32
+}
+
+// Reads lines of a band, one run after the other. After a refusal `samples` and `out` are unknown.
+fn read_runs<F: Folder, L: Ledger>(
+    translation: &Translation,
+    pixels: &mut PixelReader<F, L>,
+    folder: &mut F,
+    columns: &Columns,
+    lines: Lines,
+    samples: &mut [Sample],
+    out: &mut [Sample],
+) -> Result<(), LoadFault>
+    requires ready { IsReady F.Folder folder.old translation.now.cat pixels.old.lane }
+    requires translation { IsTranslation translation.now.cat translation.now.id translation.now.plan }
+    requires room { IsRoomFor translation.now.cat translation.now.id translation.now.plan columns.now samples.old }
+    requires band { lines.band < length translation.now.plan.bands }
+    requires order { lines.first ≤ lines.end }
+    requires end { lines.end ≤ translation.now.plan.size.h }
+    requires size { length out.old ≡ (lines.end - lines.first) * translation.now.plan.size.w }
+    ensures samples { OnOk result (AreOf (F.names folder.old) translation.now.cat translation.now.id translation.now.plan lines.band lines.first (length out.old) out.new) }
+    ensures ready { IsReady F.Folder folder.new translation.now.cat pixels.new.lane }
+    ensures only_read { OnlyRead F.Folder folder.old folder.new }
+    ensures cause { HasCause LoadFault.FolderFault (F.faults folder.old) (F.faults folder.new) result }
+    ensures changed { IfErr result (TellsChangeIn translation.now.cat) }
+    ensures never { WhereTold F.Folder folder.old (λ _. IfErr result IsUnchanged) }
+    ensures counted { pixels.old.loads ≤ pixels.new.loads }
+    ensures reads { F.read_calls folder.new ≤ F.read_calls folder.old + most_calls translation.now.cat * (pixels.new.loads - pixels.old.loads) }
+{
+    let plan = &translation.plan;
+    plan.rules();
+    let height = source_size(translation).h;
+    let rows = lines_in(samples.len(), columns.count);
+    let mut line = lines.first;
+    while line < lines.end {
+        let run = run_from(plan, height, rows, lines.band, line, lines.end);
+        let begin = area(line - lines.first, plan.size.w);
+        let end = area(run.end - lines.first, plan.size.w);
+        let part = &mut out[begin..end];
+        let strip = &mut samples[..area(columns.count, run.span.height)];
+        read_part(translation, pixels, folder, columns, run, strip, part)?;
+        line = run.end;
+    }
+    Ok(())
+}
+
+/// Fills `out` with lines of a band of the translation's output, row by row: each pixel of the output that lies outside
+/// the raster is the band's NODATA, or 0. The lane is ready for the catalog and the folder.
+///
+/// FolderFault comes only where the folder's count rose, Memory freely. Changed comes only where a file was opened again
+/// and had another length than the walk found, or was absent: never over a folder that tells its files. After a refusal
+/// `out` is unknown, and the lane is still ready.
+pub fn read_lines<F: Folder, L: Ledger>(
+    translation: &Translation,
+    reader: &mut StripReader<F, L>,
+    folder: &mut F,
+    lines: Lines,
+    out: &mut [Sample],
+) -> Result<(), LoadFault>
+    requires ready { IsReady F.Folder folder.old translation.now.cat reader.old.pixels.lane }
+    requires translation { IsTranslation translation.now.cat translation.now.id translation.now.plan }
+    requires room { IsRoomFor translation.now.cat translation.now.id translation.now.plan reader.old.columns reader.old.samples.items }
+    requires band { lines.band < length translation.now.plan.bands }
+    requires order { lines.first ≤ lines.end }
+    requires end { lines.end ≤ translation.now.plan.size.h }
+    requires size { length out.old ≡ (lines.end - lines.first) * translation.now.plan.size.w }
+    ensures pixels { WhereTold F.Folder folder.old (λ m. (d : Dataset) → slice_get translation.now.cat translation.now.id ≡ Some d → OnOk result (out.new ≡ row_by_row (out_pixel translation.now.plan d.head.size (pixel_of_name m d.head.name) lines.band) (lines_rect translation.now.plan.size lines.first lines.end))) }
+    // each sample is one that the output can hold, whatever the folder tells
+    ensures held { OnOk result (All (IsHeldIn translation.now.plan lines.band) out.new) }
+    ensures ready { IsReady F.Folder folder.new translation.now.cat reader.new.pixels.lane }
+    ensures room { IsRoomFor translation.now.cat translation.now.id translation.now.plan reader.new.columns reader.new.samples.items }
+    ensures only_read { OnlyRead F.Folder folder.old folder.new }
+    ensures cause { HasCause LoadFault.FolderFault (F.faults folder.old) (F.faults folder.new) result }
+    ensures changed { IfErr result (TellsChangeIn translation.now.cat) }
+    ensures never { WhereTold F.Folder folder.old (λ _. IfErr result IsUnchanged) }
+    ensures counted { reader.old.pixels.loads ≤ reader.new.pixels.loads }
+    ensures reads { F.read_calls folder.new ≤ F.read_calls folder.old + most_calls translation.now.cat * (reader.new.pixels.loads - reader.old.pixels.loads) }
+{
+    translation.plan.rules();
+    let columns = &reader.columns;
+    let pixels = &mut reader.pixels;
+    let samples = reader.samples.as_mut_slice();
+    read_runs(translation, pixels, folder, columns, lines, samples, out)
+}
