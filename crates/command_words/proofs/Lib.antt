@@ -1,0 +1,4 @@
+pub mod Examples
+mod Listed
+mod Short
+mod Told

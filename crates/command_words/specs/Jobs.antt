@@ -1,0 +1,134 @@
+-- The work that words ask for: what is missing, and what doesn't go together.
+use Rattle.std.specs.Prelude.{ℕ, ℤ, max, Bool, true, false, List, Option, Some, None, option_and_then, Result, Ok, Err, ok_or, if◌then◌else◌}
+use Rattle.lists_and_answers.specs.Answers.{◌>>=◌}
+use Rattle.outside.specs.Names.{extension_of}
+use Rattle.outside.specs.declared.name.Ext.{Ext}
+use Rattle.outside.specs.declared.name.Ext.TheVariants as ext
+use Rattle.esri_hdr.specs.declared.parts.Layout.{Layout}
+use Rattle.esri_hdr.specs.declared.parts.Layout.TheVariants.{Bil, Bip, Bsq}
+use Rattle.location_report.specs.declared.report.Form.{Form}
+use Rattle.location_report.specs.declared.report.Form.TheVariants.{Report, ValuesOnly, FilesOnly}
+use Rattle.translate_plan.specs.declared.options.Driver.TheVariants as driver
+use Rattle.translate_plan.specs.declared.options.View.{View}
+use Rattle.translate_plan.specs.declared.options.View.TheVariants.{Whole}
+use Rattle.translate_plan.specs.Options.{Options}
+use Rattle.command_words.specs.declared.command.Job.{Job}
+use Rattle.command_words.specs.declared.command.Job.TheVariants as job
+use Rattle.command_words.specs.declared.options.Tool.{Tool}
+use Rattle.command_words.specs.declared.options.Tool.TheVariants.{Info, Locate, Translate}
+use Rattle.command_words.specs.declared.jobs.Asked.{Asked}
+use Rattle.command_words.specs.declared.jobs.Written.{Written}
+use Rattle.command_words.specs.declared.spoken.OutFormat.{OutFormat}
+use Rattle.command_words.specs.declared.spoken.OutFormat.TheVariants.{EHdr, Dted, SrtmHgt, AaiGrid}
+use Rattle.command_words.specs.declared.spoken.Spoken.{Spoken}
+use Rattle.command_words.specs.declared.spoken.Wanted.{Wanted}
+use Rattle.command_words.specs.declared.spoken.WordFault.{WordFault}
+use Rattle.command_words.specs.declared.spoken.WordFault.TheVariants.{Usage}
+
+-- the two numbers of a point, or neither; one alone lacks the other
+abbrev pub point_of : Option ℤ → Option ℤ → Option (Option (ℤ × ℤ))
+point_of None None = Some None
+point_of None (Some y) = None
+point_of (Some x) None = None
+point_of (Some x) (Some y) = Some (Some (x, y))
+
+-- the form that is asked for; two forms don't go together, and the one that stands later is refused
+abbrev pub form_of : Option ℕ → Option ℕ → Result Form WordFault
+form_of None None = Ok Report
+form_of (Some values) None = Ok ValuesOnly
+form_of None (Some files) = Ok FilesOnly
+form_of (Some values) (Some files) = Err (Usage (max values files))
+
+-- how an extension is written: the format, its driver, and the layout of raw data; mosaics aren't written
+abbrev pub raw_in : Layout → Option Written
+raw_in layout = Some (record { format = EHdr; driver = driver.EHdr; layout = layout })
+
+abbrev pub cell_at : ℕ → Option Written
+cell_at level = Some (record { format = Dted; driver = driver.Dted level; layout = Bil })
+
+abbrev pub written_as : Ext → Option Written
+written_as ext.Bil = raw_in Bil
+written_as ext.Bip = raw_in Bip
+written_as ext.Bsq = raw_in Bsq
+written_as ext.Dt0 = cell_at 0
+written_as ext.Dt1 = cell_at 1
+written_as ext.Dt2 = cell_at 2
+written_as ext.Hgt = Some (record { format = SrtmHgt; driver = driver.SrtmHgt; layout = Bil })
+written_as ext.Asc = Some (record { format = AaiGrid; driver = driver.AaiGrid; layout = Bil })
+written_as ext.Grd = Some (record { format = AaiGrid; driver = driver.AaiGrid; layout = Bil })
+written_as ext.Vrt = None
+
+abbrev pub is_same_format : OutFormat → OutFormat → Bool
+is_same_format EHdr EHdr = true
+is_same_format Dted Dted = true
+is_same_format SrtmHgt SrtmHgt = true
+is_same_format AaiGrid AaiGrid = true
+is_same_format format other = false
+
+-- an output of the format that is asked for, where one is
+abbrev pub of_format : Option OutFormat → Written → Option Written
+of_format None w = Some w
+of_format (Some format) w = if is_same_format format w.format then Some w else None
+
+-- how an output of this name is written
+unfoldable pub written_of : Option OutFormat → List ℕ → Option Written
+written_of format name = option_and_then (λ w. of_format format w) (option_and_then written_as (extension_of name))
+
+-- the window that is asked for; pixels and places don't go together, and what stands later is refused
+abbrev pub view_of : Option (ℕ × View) → Option (ℕ × View) → Result View WordFault
+view_of None None = Ok Whole
+view_of (Some window) None = Ok window.1
+view_of None (Some places) = Ok places.1
+view_of (Some window) (Some places) = Err (Usage (max window.0 places.0))
+
+-- the layout of an output; only raw data is asked for one
+abbrev pub layout_in : Option (ℕ × Layout) → Written → Result Layout WordFault
+layout_in None w = Ok w.layout
+layout_in (Some asked) w = if is_same_format EHdr w.format then Ok asked.1 else Err (Usage asked.0)
+
+unfoldable pub info_job : ℕ → Spoken → Result Job WordFault
+info_job count s = do
+  name ← ok_or s.source (Usage count)
+  Ok (job.Info name)
+
+unfoldable pub locate_job : ℕ → Spoken → Result Job WordFault
+locate_job count s = do
+  name ← ok_or s.source (Usage count)
+  point ← ok_or (point_of s.x s.y) (Usage count)
+  form ← form_of s.values_only s.files_only
+  Ok (job.Locate name point s.bands form s.geoloc)
+
+-- how the output of this name, which is the word of this number, is to be
+unfoldable pub asked_of : Wanted → ℕ → List ℕ → Result Asked WordFault
+asked_of wanted at name = do
+  written ← ok_or (written_of wanted.format name) (Usage at)
+  view ← view_of wanted.window wanted.places
+  layout ← layout_in wanted.interleave written
+  Ok (record { written = written; view = view; layout = layout })
+
+abbrev pub options_of : Wanted → List ℕ → List ℕ → Asked → Options
+options_of wanted name bands a = record {
+  driver = a.written.driver;
+  layout = a.layout;
+  out = name;
+  bands = bands;
+  view = a.view;
+  outsize = wanted.outsize;
+  nodata = wanted.nodata;
+  kind = wanted.kind;
+  epo = wanted.inside;
+  eco = wanted.touching;
+}
+
+unfoldable pub translate_job : ℕ → Spoken → Result Job WordFault
+translate_job count s = do
+  name ← ok_or s.source (Usage count)
+  output ← ok_or s.output (Usage count)
+  asked ← asked_of s.wanted output.0 output.1
+  Ok (job.Translate name (options_of s.wanted output.1 s.bands asked) s.wanted.quiet)
+
+-- the work that the words ask for, where none of them is missing, of which there are so many
+abbrev pub job_of : Tool → ℕ → Spoken → Result Job WordFault
+job_of Info count s = info_job count s
+job_of Locate count s = locate_job count s
+job_of Translate count s = translate_job count s

@@ -1,0 +1,5 @@
+pub mod Jobs
+pub mod Options
+pub mod Uses
+pub mod Values
+pub mod Words

@@ -1,0 +1,74 @@
+-- The values of options.
+use Rattle.std.specs.Prelude.{ℕ, ℤ, pos, neg_ℤ, ◌-◌, ◌==◌, ◌&&◌, ◌||◌, ◌^◌, Bool, false, nat_le, List, [], ◌∷◌, length, take, drop, codes, bytes_eq, Option, Some, None, option_map, option_and_then, if◌then◌else◌, int_le}
+use Rattle.geotransform.specs.Decimal.{number_of, whole_of}
+use Rattle.outside.specs.Names.{same_letters}
+use Rattle.outside.specs.Paths.{normal}
+use Rattle.esri_hdr.specs.declared.parts.Layout.{Layout}
+use Rattle.esri_hdr.specs.declared.parts.Layout.TheVariants.{Bil, Bip, Bsq}
+use Rattle.catalog.specs.declared.nodata.NodataWord.{NodataWord}
+use Rattle.catalog.specs.declared.nodata.NodataWord.TheVariants as nodata
+use Rattle.translate_plan.specs.declared.options.OutSize.{OutSize}
+use Rattle.translate_plan.specs.declared.options.OutSize.TheVariants as sizes
+use Rattle.command_words.specs.declared.spoken.OutFormat.{OutFormat}
+use Rattle.command_words.specs.declared.spoken.OutFormat.TheVariants.{EHdr, Dted, SrtmHgt, AaiGrid}
+
+abbrev pub begins_with_dash : List ℕ → Bool
+begins_with_dash [] = false
+begins_with_dash (b ∷ bs) = b == 45
+
+-- the number that one to nine digits write
+abbrev pub short_of : List ℕ → Option ℕ
+short_of word = if nat_le (length word) 9 then number_of word else None
+
+-- a number from 1 to a greatest one
+abbrev pub number_within : ℕ → Option ℕ → Option ℕ
+number_within most None = None
+number_within most (Some n) = if nat_le 1 n && nat_le n most then Some n else None
+
+abbrev pub band_of : List ℕ → Option ℕ
+band_of word = number_within 256 (short_of word)
+
+abbrev pub blocks_of : List ℕ → Option ℕ
+blocks_of word = number_within 65536 (short_of word)
+
+-- one to nine digits, with a minus or without
+abbrev pub integer_of : List ℕ → Option ℤ
+integer_of [] = None
+integer_of (b ∷ bs) = if b == 45 then option_map (λ n. neg_ℤ (pos n)) (short_of bs) else option_map (λ n. pos n) (short_of (b ∷ bs))
+
+-- what stands before the last byte of a text, and that byte, if there is one
+abbrev pub before_last : List ℕ → List ℕ × List ℕ
+before_last word = (take (length word - 1) word, drop (length word - 1) word)
+
+-- a number of pixels, or with a % behind it of parts of a hundred
+abbrev pub side_of : List ℕ → Option OutSize
+side_of word =
+    let cut = before_last word in
+    if bytes_eq cut.1 (codes "%") then option_map (λ n. sizes.Percent n) (short_of cut.0) else option_map (λ n. sizes.Count n) (short_of word)
+
+-- the normal form of a word of 1 to 4,096 bytes
+abbrev pub name_of : List ℕ → Option (List ℕ)
+name_of word = if nat_le 1 (length word) && nat_le (length word) 4096 then Some (normal word) else None
+
+-- the settings that mean no
+abbrev pub is_no : List ℕ → Bool
+is_no word = same_letters word (codes "NO") || (same_letters word (codes "FALSE") || (same_letters word (codes "OFF") || same_letters word (codes "0")))
+
+-- the format that -of names
+unfoldable pub format_of : List ℕ → Option OutFormat
+format_of word = if same_letters word (codes "EHdr") then Some EHdr else if same_letters word (codes "DTED") then Some Dted else if same_letters word (codes "SRTMHGT") then Some SrtmHgt else if same_letters word (codes "AAIGrid") then Some AaiGrid else None
+
+-- the layout that -co asks for
+unfoldable pub layout_of : List ℕ → Option Layout
+layout_of word = if same_letters word (codes "INTERLEAVE=BIL") then Some Bil else if same_letters word (codes "INTERLEAVE=BIP") then Some Bip else if same_letters word (codes "INTERLEAVE=BSQ") then Some Bsq else None
+
+-- a number of 64 bits
+abbrev pub is_wide : ℤ → Bool
+is_wide n = int_le (neg_ℤ (pos (2 ^ 63))) n && int_le n (pos (2 ^ 63 - 1))
+
+abbrev pub wide_number : ℤ → Option NodataWord
+wide_number n = if is_wide n then Some (nodata.Number n) else None
+
+-- no NODATA, or a whole number
+unfoldable pub nodata_of : List ℕ → Option NodataWord
+nodata_of word = if same_letters word (codes "none") then Some nodata.Remove else option_and_then wide_number (whole_of word)

@@ -1,0 +1,302 @@
+// The work that words ask for.
+ghost use Rattle.std.specs.Prelude.{◌≡◌, ◌<◌, ◌≤◌, All, IfSome, IfOk, IfErr};
+ghost use Rattle.lists_and_answers.specs.Answers.{Gives};
+ghost use Rattle.translate_plan.specs.Options.{IsDriver, IsView, IsOutSize};
+ghost use Rattle.command_words.specs.Jobs.{point_of, form_of, raw_in, cell_at, written_as, is_same_format, of_format, written_of, view_of, layout_in, asked_of, info_job, locate_job, translate_job, job_of};
+ghost use Rattle.command_words.specs.Words.{IsMemory};
+
+use crate::command::Job;
+use crate::numbers::{AskedView, BandNumber, Side};
+use crate::options::Tool;
+use crate::spoken::{OutFormat, Spoken, Wanted, WordFault};
+use esri_hdr::Layout;
+use input_points::Position;
+use location_report::Form;
+use outside::{Ext, Name};
+use std::alloc::Global;
+use translate_plan::{Driver, Numbers, OutSize, TranslateOptions, View};
+
+/// How an output is written.
+#[derive(Clone, Copy)]
+pub struct Written {
+    pub format: OutFormat,
+    pub driver: Driver,
+    /// How the bands of raw data lie, where nothing else is asked for.
+    pub layout: Layout,
+}
+
+fn point_of(x: Option<Position>, y: Option<Position>) -> Option<Option<(Position, Position)>>
+    ensures { result ≡ point_of x y }
+{
+    match (x, y) {
+        (None, None) => Some(None),
+        (Some(x), Some(y)) => Some(Some((x, y))),
+        (None, Some(_)) | (Some(_), None) => None,
+    }
+}
+
+fn form_of(values_only: Option<u64>, files_only: Option<u64>) -> Result<Form, WordFault>
+    ensures { result ≡ form_of values_only files_only }
+{
+    match (values_only, files_only) {
+        (None, None) => Ok(Form::Report),
+        (Some(_), None) => Ok(Form::ValuesOnly),
+        (None, Some(_)) => Ok(Form::FilesOnly),
+        (Some(values), Some(files)) => Err(WordFault::Usage {
+            word: values.max(files),
+        }),
+    }
+}
+
+#[tactic(auto, unfolding(crate::specs::Jobs::info_job))]
+fn info_job(count: u64, said: Spoken) -> Result<Job, WordFault>
+    ensures { result ≡ info_job count said }
+{
+    let Spoken { source, .. } = said;
+    match source {
+        Some(name) => Ok(Job::Info { name }),
+        None => Err(WordFault::Usage { word: count }),
+    }
+}
+
+#[tactic(auto, unfolding(crate::specs::Jobs::locate_job))]
+fn locate_job(count: u64, said: Spoken) -> Result<Job, WordFault>
+    ensures { result ≡ locate_job count said }
+{
+    let Spoken {
+        values_only,
+        files_only,
+        geoloc,
+        bands,
+        source,
+        x,
+        y,
+        ..
+    } = said;
+    let Some(name) = source else {
+        return Err(WordFault::Usage { word: count });
+    };
+    let Some(point) = point_of(x, y) else {
+        return Err(WordFault::Usage { word: count });
+    };
+    let form = form_of(values_only, files_only)?;
+    Ok(Job::Locate {
+        name,
+        point,
+        bands,
+        form,
+        geoloc,
+    })
+}
+
+fn raw_in(layout: Layout) -> Option<Written>
+    ensures { result ≡ raw_in layout }
+{
+    Some(Written {
+        format: OutFormat::EHdr,
+        driver: Driver::EHdr,
+        layout,
+    })
+}
+
+fn cell_at(level: u32) -> Option<Written>
+    ensures { result ≡ cell_at level }
+{
+    Some(Written {
+        format: OutFormat::Dted,
+        driver: Driver::Dted { level },
+        layout: Layout::Bil,
+    })
+}
+
+// How a file of a kind is written; mosaics aren't.
+fn written_as(ext: Ext) -> Option<Written>
+    ensures value { result ≡ written_as ext }
+    ensures kept { IfSome result (λ w. IsDriver w.driver) }
+{
+    match ext {
+        Ext::Bil => raw_in(Layout::Bil),
+        Ext::Bip => raw_in(Layout::Bip),
+        Ext::Bsq => raw_in(Layout::Bsq),
+        Ext::Dt0 => cell_at(0),
+        Ext::Dt1 => cell_at(1),
+        Ext::Dt2 => cell_at(2),
+        Ext::Hgt => Some(Written {
+            format: OutFormat::SrtmHgt,
+            driver: Driver::SrtmHgt,
+            layout: Layout::Bil,
+        }),
+        Ext::Asc | Ext::Grd => Some(Written {
+            format: OutFormat::AaiGrid,
+            driver: Driver::AaiGrid,
+            layout: Layout::Bil,
+        }),
+        Ext::Vrt => None,
+    }
+}
+
+fn is_same_format(format: OutFormat, other: OutFormat) -> bool
+    ensures { result ≡ is_same_format format other }
+{
+    match (format, other) {
+        (OutFormat::EHdr, OutFormat::EHdr)
+        | (OutFormat::Dted, OutFormat::Dted)
+        | (OutFormat::SrtmHgt, OutFormat::SrtmHgt)
+        | (OutFormat::AaiGrid, OutFormat::AaiGrid) => true,
+        _ => false,
+    }
+}
+
+fn of_format(format: Option<OutFormat>, written: Written) -> Option<Written>
+    ensures value { result ≡ of_format format written }
+    ensures kept { IfSome result (λ w. w ≡ written) }
+{
+    match format {
+        None => Some(written),
+        Some(format) => {
+            if is_same_format(format, written.format) {
+                Some(written)
+            } else {
+                None
+            }
+        }
+    }
+}
+
+// How an output of this name is written, in the format that is asked for.
+#[tactic(auto, unfolding(crate::specs::Jobs::written_of))]
+fn written_of(format: Option<OutFormat>, name: &Name) -> Option<Written>
+    ensures value { result ≡ written_of format name.now }
+    ensures kept { IfSome result (λ w. IsDriver w.driver) }
+{
+    let ext = name.extension()?;
+    let written = written_as(ext)?;
+    of_format(format, written)
+}
+
+fn view_of(
+    window: Option<(u64, AskedView)>,
+    places: Option<(u64, AskedView)>,
+) -> Result<View, WordFault>
+    ensures value { result ≡ view_of window places }
+    ensures kept { IfOk result IsView }
+{
+    match (window, places) {
+        (None, None) => Ok(View::Whole),
+        (Some((_, view)), None) | (None, Some((_, view))) => Ok(view.get()),
+        (Some((window, _)), Some((places, _))) => Err(WordFault::Usage {
+            word: window.max(places),
+        }),
+    }
+}
+
+fn layout_in(interleave: Option<(u64, Layout)>, written: Written) -> Result<Layout, WordFault>
+    ensures { result ≡ layout_in interleave written }
+{
+    match interleave {
+        None => Ok(written.layout),
+        Some((at, layout)) => {
+            if is_same_format(OutFormat::EHdr, written.format) {
+                Ok(layout)
+            } else {
+                Err(WordFault::Usage { word: at })
+            }
+        }
+    }
+}
+
+// The numbers of these bands.
+#[tactic(auto, using(crate::proofs::Listed::numbers_more))]
+fn numbers_of(alloc: Global, bands: &[BandNumber]) -> Result<Numbers, WordFault>
+    ensures ok { IfOk result (λ numbers. numbers ≡ bands.now) }
+    ensures within { IfOk result (All (λ b. (0 < b) × (b ≤ 256))) }
+    ensures err { IfErr result IsMemory }
+{
+    let mut numbers = Numbers::new(alloc);
+    for band in bands {
+        numbers.push(band.get())?;
+    }
+    Ok(numbers)
+}
+
+// The sides that are asked for.
+fn sides_of(sides: Option<(Side, Side)>) -> Option<(OutSize, OutSize)>
+    ensures value { result ≡ sides }
+    ensures kept { IfSome result (λ s. IsOutSize s.0 × IsOutSize s.1) }
+{
+    match sides {
+        None => None,
+        Some((w, h)) => Some((w.get(), h.get())),
+    }
+}
+
+/// How an output is written, and which window of the source it shows.
+#[derive(Clone, Copy)]
+pub struct Asked {
+    pub written: Written,
+    pub view: View,
+    pub layout: Layout,
+}
+
+// How the output of this name, which is the word of this number, is to be: what doesn't go together is refused.
+#[tactic(auto, unfolding(crate::specs::Jobs::asked_of))]
+fn asked_of(wanted: Wanted, at: u64, name: &Name) -> Result<Asked, WordFault>
+    ensures value { result ≡ asked_of wanted at name.now }
+    ensures kept { IfOk result (λ a. IsDriver a.written.driver × IsView a.view) }
+{
+    let Some(written) = written_of(wanted.format, name) else {
+        return Err(WordFault::Usage { word: at });
+    };
+    let view = view_of(wanted.window, wanted.places)?;
+    let layout = layout_in(wanted.interleave, written)?;
+    Ok(Asked {
+        written,
+        view,
+        layout,
+    })
+}
+
+#[tactic(auto, unfolding(crate::specs::Jobs::translate_job))]
+fn translate_job(alloc: Global, count: u64, said: Spoken) -> Result<Job, WordFault>
+    ensures { Gives IsMemory (λ job. job) result (translate_job count said) }
+{
+    let Spoken {
+        bands,
+        wanted,
+        source,
+        output,
+        ..
+    } = said;
+    let (Some(src), Some((at, out))) = (source, output) else {
+        return Err(WordFault::Usage { word: count });
+    };
+    let asked = asked_of(wanted, at, &out)?;
+    let options = TranslateOptions {
+        driver: asked.written.driver,
+        layout: asked.layout,
+        out,
+        bands: numbers_of(alloc, bands.as_slice())?,
+        view: asked.view,
+        outsize: sides_of(wanted.outsize),
+        nodata: wanted.nodata.get(),
+        kind: wanted.kind,
+        epo: wanted.inside,
+        eco: wanted.touching,
+    };
+    Ok(Job::Translate {
+        src,
+        options,
+        quiet: wanted.quiet,
+    })
+}
+
+/// The work that the words ask for, of which there are so many.
+pub fn job_of(alloc: Global, tool: Tool, count: u64, said: Spoken) -> Result<Job, WordFault>
+    ensures { Gives IsMemory (λ job. job) result (job_of tool count said) }
+{
+    match tool {
+        Tool::Info => info_job(count, said),
+        Tool::Locate => locate_job(count, said),
+        Tool::Translate => translate_job(alloc, count, said),
+    }
+}

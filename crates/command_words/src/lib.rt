@@ -1,0 +1,16 @@
+// The words of a command line, and the commands that they are.
+#![tactic(auto)]
+
+mod command;
+mod jobs;
+mod numbers;
+mod options;
+mod spoken;
+mod uses;
+mod values;
+mod words;
+
+pub use command::{BandNumbers, Command, Job};
+pub use numbers::{BandNumber, BlockCount};
+pub use spoken::WordFault;
+pub use words::read_words;

@@ -1,0 +1,210 @@
+// Numbers and other values that keep the ranges of words.
+ghost use Rattle.std.specs.Prelude.{◌≡◌, ◌≤◌, ◌&&◌, nat_le, if◌then◌else◌, Some, None};
+ghost use Rattle.translate_plan.specs.Options.{IsView, IsOutSize, IsWord};
+
+use catalog::NodataWord;
+use std::marker::Model;
+use translate_plan::{OutSize, View};
+
+/// The number of a band as words count it, from 1 to 256.
+#[derive(Clone, Copy)]
+pub struct BandNumber {
+    number: u32,
+}
+
+impl Model for BandNumber {
+    ghost use Rattle.std.specs.Prelude.{ℕ, ◌≤◌};
+
+    ghost Value = { ℕ };
+
+    ghost view = { λ b. b.number };
+
+    ghost invariant = { λ b. (1 ≤ b.number) × (b.number ≤ 256) };
+
+    ghost inverse = { λ n. record { number = n } };
+}
+
+impl BandNumber {
+    /// The number where it is from 1 to 256, else none.
+    pub fn new(number: u32) -> Option<BandNumber>
+        ensures exact { result ≡ (if nat_le 1 number && nat_le number 256 then Some number else None) }
+    {
+        if number >= 1 && number <= 256 {
+            Some(BandNumber { number })
+        } else {
+            None
+        }
+    }
+
+    /// This number.
+    pub fn of(number: u32) -> BandNumber
+        requires first { 1 ≤ number }
+        requires last { number ≤ 256 }
+        ensures value { result ≡ number }
+    {
+        BandNumber { number }
+    }
+
+    /// The number, from 1.
+    pub fn get(self) -> u32
+        ensures value { result ≡ self }
+        ensures first { 1 ≤ result }
+        ensures last { result ≤ 256 }
+    {
+        self.number
+    }
+}
+
+/// How many blocks are held at once, from 1 to 65,536.
+#[derive(Clone, Copy)]
+pub struct BlockCount {
+    number: u32,
+}
+
+impl Model for BlockCount {
+    ghost use Rattle.std.specs.Prelude.{ℕ, ◌≤◌};
+
+    ghost Value = { ℕ };
+
+    ghost view = { λ b. b.number };
+
+    ghost invariant = { λ b. (1 ≤ b.number) × (b.number ≤ 65536) };
+
+    ghost inverse = { λ n. record { number = n } };
+}
+
+impl BlockCount {
+    /// As many as are held where nothing is said.
+    pub const USUAL: BlockCount = BlockCount { number: 64 };
+
+    /// The number where it is from 1 to 65,536, else none.
+    pub fn new(number: u32) -> Option<BlockCount>
+        ensures exact { result ≡ (if nat_le 1 number && nat_le number 65536 then Some number else None) }
+    {
+        if number >= 1 && number <= 65_536 {
+            Some(BlockCount { number })
+        } else {
+            None
+        }
+    }
+
+    /// The number.
+    pub fn get(self) -> u32
+        ensures value { result ≡ self }
+        ensures some { 1 ≤ result }
+        ensures few { result ≤ 65536 }
+    {
+        self.number
+    }
+}
+
+/// A window with numbers as words give them.
+#[derive(Clone, Copy)]
+pub struct AskedView {
+    view: View,
+}
+
+impl Model for AskedView {
+    ghost use Rattle.translate_plan.specs.declared.options.View.{View};
+    ghost use Rattle.translate_plan.specs.Options.{IsView};
+
+    ghost Value = { View };
+
+    ghost view = { λ v. v.view };
+
+    ghost invariant = { λ v. IsView v.view };
+
+    ghost inverse = { λ v. record { view = v } };
+}
+
+impl AskedView {
+    /// This window.
+    pub fn of(view: View) -> AskedView
+        requires { IsView view }
+        ensures { result ≡ view }
+    {
+        AskedView { view }
+    }
+
+    /// What was asked for.
+    pub fn get(self) -> View
+        ensures value { result ≡ self }
+        ensures kept { IsView result }
+    {
+        self.view
+    }
+}
+
+/// A side of an output, with a number as words give it.
+#[derive(Clone, Copy)]
+pub struct Side {
+    size: OutSize,
+}
+
+impl Model for Side {
+    ghost use Rattle.translate_plan.specs.declared.options.OutSize.{OutSize};
+    ghost use Rattle.translate_plan.specs.Options.{IsOutSize};
+
+    ghost Value = { OutSize };
+
+    ghost view = { λ v. v.size };
+
+    ghost invariant = { λ v. IsOutSize v.size };
+
+    ghost inverse = { λ v. record { size = v } };
+}
+
+impl Side {
+    /// This side.
+    pub fn of(size: OutSize) -> Side
+        requires { IsOutSize size }
+        ensures { result ≡ size }
+    {
+        Side { size }
+    }
+
+    /// What was asked for.
+    pub fn get(self) -> OutSize
+        ensures value { result ≡ self }
+        ensures kept { IsOutSize result }
+    {
+        self.size
+    }
+}
+
+/// A NODATA that is asked for, where it is a number one of 64 bits.
+#[derive(Clone, Copy)]
+pub struct AskedNodata {
+    word: NodataWord,
+}
+
+impl Model for AskedNodata {
+    ghost use Rattle.catalog.specs.declared.nodata.NodataWord.{NodataWord};
+    ghost use Rattle.translate_plan.specs.Options.{IsWord};
+
+    ghost Value = { NodataWord };
+
+    ghost view = { λ v. v.word };
+
+    ghost invariant = { λ v. IsWord v.word };
+
+    ghost inverse = { λ v. record { word = v } };
+}
+
+impl AskedNodata {
+    /// This NODATA.
+    pub fn of(word: NodataWord) -> AskedNodata
+        requires { IsWord word }
+        ensures { result ≡ word }
+    {
+        AskedNodata { word }
+    }
+
+    /// What was asked for.
+    pub fn get(self) -> NodataWord
+        ensures value { result ≡ self }
+        ensures kept { IsWord result }
+    {
+        self.word
+    }
+}

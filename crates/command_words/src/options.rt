@@ -1,0 +1,137 @@
+// The commands and their options.
+ghost use Rattle.std.specs.Prelude.{◌≡◌, ◌≤◌};
+ghost use Rattle.command_words.specs.Options.{tool_of, shared_option_of, own_option_of, option_of, option_in, locate_options, translate_options, value_count};
+
+/// The command that the first word names.
+#[derive(Clone, Copy, Debug, PartialEq, Eq)]
+pub enum Tool {
+    Info,
+    Locate,
+    Translate,
+}
+
+/// An option's name.
+#[derive(Clone, Copy, Debug, PartialEq, Eq)]
+pub enum OptionWord {
+    Config,
+    Blocks,
+    Band,
+    ValuesOnly,
+    FilesOnly,
+    Geoloc,
+    /// `-of`
+    Format,
+    /// `-srcwin`
+    Window,
+    /// `-projwin`
+    Places,
+    OutSize,
+    Nodata,
+    /// `-ot`
+    Kind,
+    /// `-co`
+    Creation,
+    Quiet,
+    /// `-epo`: the window has to lie inside the raster.
+    Inside,
+    /// `-eco`: the window has to touch the raster.
+    Touching,
+}
+
+/// The command that a word names.
+pub fn tool_of(word: &str) -> Option<Tool>
+    ensures { result ≡ tool_of word.now }
+{
+    match word {
+        _ if word == "gdalinfo" => Some(Tool::Info),
+        _ if word == "gdallocationinfo" => Some(Tool::Locate),
+        _ if word == "gdal_translate" => Some(Tool::Translate),
+        _ => None,
+    }
+}
+
+#[tactic(auto, unfolding(crate::specs::Options::shared_option_of))]
+fn shared_option_of(word: &str) -> Option<OptionWord>
+    ensures { result ≡ shared_option_of word.now }
+{
+    match word {
+        _ if word == "--config" => Some(OptionWord::Config),
+        _ if word == "--blocks" => Some(OptionWord::Blocks),
+        _ => None,
+    }
+}
+
+fn locate_option_of(word: &str) -> Option<OptionWord>
+    ensures { result ≡ option_in locate_options word.now }
+{
+    match word {
+        _ if word == "-b" => Some(OptionWord::Band),
+        _ if word == "-valonly" => Some(OptionWord::ValuesOnly),
+        _ if word == "-lifonly" => Some(OptionWord::FilesOnly),
+        _ if word == "-geoloc" => Some(OptionWord::Geoloc),
+        _ => None,
+    }
+}
+
+fn translate_option_of(word: &str) -> Option<OptionWord>
+    ensures { result ≡ option_in translate_options word.now }
+{
+    match word {
+        _ if word == "-of" => Some(OptionWord::Format),
+        _ if word == "-b" => Some(OptionWord::Band),
+        _ if word == "-srcwin" => Some(OptionWord::Window),
+        _ if word == "-projwin" => Some(OptionWord::Places),
+        _ if word == "-outsize" => Some(OptionWord::OutSize),
+        _ if word == "-a_nodata" => Some(OptionWord::Nodata),
+        _ if word == "-ot" => Some(OptionWord::Kind),
+        _ if word == "-co" => Some(OptionWord::Creation),
+        _ if word == "-q" => Some(OptionWord::Quiet),
+        _ if word == "-epo" => Some(OptionWord::Inside),
+        _ if word == "-eco" => Some(OptionWord::Touching),
+        _ => None,
+    }
+}
+
+#[tactic(auto, unfolding(crate::specs::Options::own_option_of))]
+fn own_option_of(tool: Tool, word: &str) -> Option<OptionWord>
+    ensures { result ≡ own_option_of tool word.now }
+{
+    match tool {
+        Tool::Info => None,
+        Tool::Locate => locate_option_of(word),
+        Tool::Translate => translate_option_of(word),
+    }
+}
+
+/// The option of a command that a word names.
+pub fn option_of(tool: Tool, word: &str) -> Option<OptionWord>
+    ensures { result ≡ option_of tool word.now }
+{
+    match shared_option_of(word) {
+        Some(option) => Some(option),
+        None => own_option_of(tool, word),
+    }
+}
+
+/// How many values an option takes.
+pub fn value_count(option: OptionWord) -> usize
+    ensures value { result ≡ value_count option }
+    ensures kept { result ≤ 4 }
+{
+    match option {
+        OptionWord::ValuesOnly
+        | OptionWord::FilesOnly
+        | OptionWord::Geoloc
+        | OptionWord::Quiet
+        | OptionWord::Inside
+        | OptionWord::Touching => 0,
+        OptionWord::Blocks
+        | OptionWord::Band
+        | OptionWord::Format
+        | OptionWord::Nodata
+        | OptionWord::Kind
+        | OptionWord::Creation => 1,
+        OptionWord::Config | OptionWord::OutSize => 2,
+        OptionWord::Window | OptionWord::Places => 4,
+    }
+}

@@ -1,0 +1,103 @@
+// What the words of a command line say.
+ghost use Rattle.std.specs.Prelude.{◌≡◌};
+ghost use Rattle.command_words.specs.declared.spoken.WordFault.TheVariants as word_fault;
+
+use crate::command::BandNumbers;
+use crate::numbers::{AskedNodata, AskedView, BandNumber, BlockCount, Side};
+use esri_hdr::Layout;
+use geotransform::PixelType;
+use input_points::Position;
+use outside::Name;
+use std::alloc::AllocError;
+
+/// A format that an output may be asked to have.
+#[derive(Clone, Copy, Debug, PartialEq, Eq)]
+pub enum OutFormat {
+    EHdr,
+    Dted,
+    SrtmHgt,
+    AaiGrid,
+}
+
+/// Where a word stands: its number, and how many words there are.
+#[derive(Clone, Copy, Debug, PartialEq, Eq)]
+pub struct Spot {
+    pub at: u64,
+    pub count: u64,
+}
+
+/// What one option says by its values, or one positional word.
+#[derive(Drop)]
+pub enum Said {
+    /// A setting without effect.
+    Setting,
+    /// Whether the sums of records are to be checked.
+    Verification(bool),
+    Blocks(BlockCount),
+    Band(BandNumber),
+    ValuesOnly,
+    FilesOnly,
+    Geoloc,
+    Format(OutFormat),
+    Window(AskedView),
+    Places(AskedView),
+    OutSize(Side, Side),
+    Nodata(AskedNodata),
+    Kind(PixelType),
+    Interleave(Layout),
+    Quiet,
+    Inside,
+    Touching,
+    Source(Name),
+    Output(Name),
+    X(Position),
+    Y(Position),
+}
+
+/// What is wanted of a translation: the last of each option, some with the number of its word.
+#[derive(Clone, Copy)]
+pub struct Wanted {
+    pub format: Option<OutFormat>,
+    pub window: Option<(u64, AskedView)>,
+    pub places: Option<(u64, AskedView)>,
+    pub outsize: Option<(Side, Side)>,
+    pub nodata: AskedNodata,
+    pub kind: Option<PixelType>,
+    pub interleave: Option<(u64, Layout)>,
+    pub quiet: bool,
+    pub inside: bool,
+    pub touching: bool,
+}
+
+/// What all words behind the first say: the last of each option, some with the number of its word.
+#[derive(Drop)]
+pub struct Spoken {
+    pub verify: bool,
+    pub blocks: BlockCount,
+    pub bands: BandNumbers,
+    pub values_only: Option<u64>,
+    pub files_only: Option<u64>,
+    pub geoloc: bool,
+    pub wanted: Wanted,
+    pub source: Option<Name>,
+    pub output: Option<(u64, Name)>,
+    pub x: Option<Position>,
+    pub y: Option<Position>,
+}
+
+/// Why words are no command.
+#[derive(Clone, Copy, Debug, PartialEq, Eq)]
+pub enum WordFault {
+    /// The word with this number, counted from 0, doesn't fit; the number of words where one is missing.
+    Usage { word: u64 },
+    /// Want of memory.
+    Memory,
+}
+
+impl From<AllocError> for WordFault {
+    ghost from_gives = { λ _ f. f ≡ word_fault.Memory };
+
+    fn from(_: AllocError) -> Self {
+        WordFault::Memory
+    }
+}
