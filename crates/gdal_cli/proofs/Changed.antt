@@ -1,9 +1,9 @@
 -- Files whose lengths changed.
 use Rattle.std.proofs.Common.{◌≡◌, refl, subst, ℕ, List, Result, Ok, Err, Option, Some, None}
 use Rattle.outside.specs.Outside.{Files}
-use Rattle.gdal_cli.specs.declared.faults.Fault.{Fault}
-use Rattle.gdal_cli.specs.declared.faults.Fault.TheVariants.{Changed}
-use Rattle.gdal_cli.specs.Faults.{Differs, HasChanged, IsOutside}
+use Rattle.error_lines.specs.declared.faults.Fault.{Fault}
+use Rattle.error_lines.specs.declared.faults.Fault.TheVariants.{Changed}
+use Rattle.error_lines.specs.Faults.{Differs, HasChanged, IsOutside}
 use Rattle.gdal_cli.specs.Location.{PutsText}
 use Rattle.gdal_cli.specs.Run.{ended}
 use Rattle.gdal_cli.proofs.Datasets.{refused_so}

@@ -1,17 +1,15 @@
 -- Commands whose dataset's name tells no kind which they read.
 use Rattle.std.proofs.Common.{◌≡◌, ap, subst, sym, ◌⊎◌, inl, inr, ℕ, false, not, List, Result, Ok, Err, Some}
+use Rattle.catalog.specs.declared.faults.WalkFault.{WalkFault}
 use Rattle.catalog.specs.declared.faults.WalkFault.TheVariants as walk
+use Rattle.catalog.specs.Walk.{WalksUnknown}
+use Rattle.error_lines.specs.Faults.{fault_of}
 use Rattle.catalog.specs.Heads.{kind_in}
 use Rattle.gdal_cli.specs.declared.command.Command.{Command}
 use Rattle.gdal_cli.specs.declared.spoken.WordFault.{WordFault}
-use Rattle.gdal_cli.specs.declared.faults.Fault.{Fault}
-use Rattle.gdal_cli.specs.declared.faults.Fault.TheVariants.{NotRecognized, Memory}
-use Rattle.lists_and_answers.specs.Answers.{◌>>=◌}
-use Rattle.outside.specs.Outside.{Files}
-use Rattle.input_points.specs.declared.entry.Entry.{Entry}
-use Rattle.gdal_cli.specs.Faults.{by_words}
-use Rattle.gdal_cli.specs.Words.{words_of}
-use Rattle.gdal_cli.specs.Run.{ended, name_read, reads_sources, printed_by, printed_in, RefusesUnknown, RefusesDataset}
+use Rattle.error_lines.specs.declared.faults.Fault.{Fault}
+use Rattle.error_lines.specs.declared.faults.Fault.TheVariants.{NotRecognized, Usage, Memory}
+use Rattle.gdal_cli.specs.Run.{ended, name_read, reads_sources, RefusesKind, RefusesDataset}
 
 -- a call that ended with a fault was refused so
 pub refused_so : (result : Result (Unit {0}) Fault) (f : Fault) → ended result ≡ Some f → result ≡ Err f
@@ -23,7 +21,7 @@ ends_so result f (inl is) = inl (ap ended is)
 ends_so result f (inr is) = inr (ap ended is)
 
 -- a command that the words are refuses as its job does
-pub dataset_refused : (words : Result Command WordFault) (command : Command) (result : Result (Unit {0}) Fault) → words ≡ Ok command → RefusesUnknown (not (reads_sources command.job)) (name_read command.job) result → RefusesDataset words (ended result)
+pub dataset_refused : (words : Result Command WordFault) (command : Command) (result : Result (Unit {0}) Fault) → words ≡ Ok command → RefusesKind (not (reads_sources command.job)) (name_read command.job) result → RefusesDataset words (ended result)
 dataset_refused words command result is unknown =
     let one : (c : Command) → words ≡ Ok c → command ≡ c = λ c same. cc in
     record {
@@ -33,7 +31,46 @@ dataset_refused words command result is unknown =
       file = λ c k n same kind other so. unknown.file k n (subst (λ (d : Command). kind_in (name_read d.job) ≡ Ok k) (sym (one c same)) kind) other (refused_so result (NotRecognized n) so);
     }
 
--- what the words print is what their command prints
-pub command_said : (words : List (List ℕ)) (command : Command) → words_of words ≡ Ok command → (m : Files) (lines : List Entry) → printed_in m lines words ≡ printed_by command.job m command.verify lines
-unfolding printed_in
-command_said words command is m lines = ap (λ (e : Result Command WordFault). by_words e >>= (λ (c : Command). printed_by c.job m c.verify lines)) is
+-- a walk that was refused refuses a name of no kind as the walk does
+abbrev refused_walk : WalkFault → Result ℕ WalkFault
+refused_walk f = Err f
+
+abbrev failed : WalkFault → Result (Unit {0}) Fault
+failed f = Err (fault_of f)
+
+walk_one : (f : WalkFault) (n : List ℕ) → failed f ≡ Err (NotRecognized n) → f ≡ walk.NotRecognized n
+walk_one (walk.Absent name) n is = let no : ⊥ = cc in absurd no
+walk_one (walk.NotRecognized name) n is = let one : name ≡ n = cc in ap walk.NotRecognized one
+walk_one (walk.Malformed name bad) n is = let no : ⊥ = cc in absurd no
+walk_one (walk.Short name needed has) n is = let no : ⊥ = cc in absurd no
+walk_one (walk.Cycle name) n is = let no : ⊥ = cc in absurd no
+walk_one (walk.TooDeep name) n is = let no : ⊥ = cc in absurd no
+walk_one (walk.Limit what value) n is = let no : ⊥ = cc in absurd no
+walk_one (walk.SourceBand name band) n is = let no : ⊥ = cc in absurd no
+walk_one walk.FolderFault n is = let no : ⊥ = cc in absurd no
+walk_one walk.Memory n is = let no : ⊥ = cc in absurd no
+
+walk_no_usage : (f : WalkFault) (n : ℕ) → failed f ≡ Err (Usage n) → ⊥
+walk_no_usage (walk.Absent name) n is = cc
+walk_no_usage (walk.NotRecognized name) n is = cc
+walk_no_usage (walk.Malformed name bad) n is = cc
+walk_no_usage (walk.Short name needed has) n is = cc
+walk_no_usage (walk.Cycle name) n is = cc
+walk_no_usage (walk.TooDeep name) n is = cc
+walk_no_usage (walk.Limit what value) n is = cc
+walk_no_usage (walk.SourceBand name band) n is = cc
+walk_no_usage walk.FolderFault n is = cc
+walk_no_usage walk.Memory n is = cc
+
+pub walk_refuses : (name : List ℕ) (f : WalkFault) → WalksUnknown {T = ℕ} name (Err f) → RefusesKind false name (failed f)
+walk_refuses name f unknown = record {
+  always = λ e kind. by e (unknown.always e kind);
+  only = λ n is. unknown.only n (ap (λ (e : WalkFault). refused_walk e) (walk_one f n is));
+  own = λ alone. let no : ⊥ = cc in absurd no;
+  file = λ k n kind other is. unknown.file k n kind other (ap (λ (e : WalkFault). refused_walk e) (walk_one f n is));
+  no_usage = walk_no_usage f;
+}
+  where
+    by : (e : WalkFault) → (refused_walk f ≡ Err e) ⊎ (refused_walk f ≡ Err walk.Memory) → (failed f ≡ Err (fault_of e)) ⊎ (failed f ≡ Err Memory)
+    by e (inl is) = let one : f ≡ e = cc in inl (ap (λ (x : WalkFault). failed x) one)
+    by e (inr is) = let one : f ≡ walk.Memory = cc in inr (ap (λ (x : WalkFault). failed x) one)

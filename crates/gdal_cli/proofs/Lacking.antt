@@ -9,12 +9,12 @@ use Rattle.geotransform.specs.declared.faults.PlanFault.TheVariants.{NoBand, NoG
 use Rattle.catalog.specs.Dataset.{DatasetHead}
 use Rattle.location_report.specs.declared.report.Form.{Form}
 use Rattle.gdal_cli.specs.declared.asked.Asked.{Asked}
-use Rattle.gdal_cli.specs.declared.faults.Fault.{Fault}
-use Rattle.gdal_cli.specs.declared.faults.Fault.TheVariants.{Plan, Changed}
-use Rattle.gdal_cli.specs.Faults.{IsOutside}
+use Rattle.error_lines.specs.declared.faults.Fault.{Fault}
+use Rattle.error_lines.specs.declared.faults.Fault.TheVariants.{Plan, Changed}
+use Rattle.error_lines.specs.Faults.{IsOutside}
 use Rattle.gdal_cli.specs.Location.{asked_in, chosen_in, chosen_of, unless_lacking, frame_in}
 
-abbrev IsPlan : Fault → Type 0
+abbrev pub IsPlan : Fault → Type 0
 IsPlan f = (p : PlanFault) × (f ≡ Plan p)
 
 chosen_plan : (lacking : Option ℕ) (bands : List ℕ) (f : Fault) → unless_lacking lacking bands ≡ Err f → IsPlan f
@@ -42,7 +42,7 @@ with_bands form bands geoloc head f (inl is) = chosen_plan (find (λ (band : ℕ
 with_bands form bands geoloc head f (inr told) = with_frame form told.0 geoloc head.geo f (one_refused (frame_in geoloc head.geo) (asked_with form told.0) f told.1)
 
 -- what is asked is refused for what the dataset lacks alone
-asked_plan : (form : Form) (bands : List ℕ) (geoloc : Bool) (head : DatasetHead) (f : Fault) → asked_in form bands geoloc head ≡ Err f → IsPlan f
+pub asked_plan : (form : Form) (bands : List ℕ) (geoloc : Bool) (head : DatasetHead) (f : Fault) → asked_in form bands geoloc head ≡ Err f → IsPlan f
 unfolding asked_in
 asked_plan form bands geoloc head f is = with_bands form bands geoloc head f (one_refused (chosen_in (length head.bands) bands) (λ (chosen : List ℕ). frame_in geoloc head.geo >>= asked_with form chosen) f is)
 

@@ -1,13 +1,15 @@
+pub mod Causes
 pub mod Changed
+pub mod Cuts
 pub mod Datasets
 pub mod Ended
+pub mod Judging
 pub mod Lacking
 pub mod Lines
 pub mod Listed
 pub mod Outcomes
-pub mod Owned
 pub mod Pieces
 pub mod Placed
+pub mod Printing
 pub mod Reached
-pub mod Said
 pub mod Told

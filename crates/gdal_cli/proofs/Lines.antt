@@ -13,12 +13,13 @@ use Rattle.input_points.specs.declared.entry.LineKind.TheVariants.{Blank, Point,
 use Rattle.input_points.specs.Lines.{ended_lines}
 use Rattle.input_points.specs.Entries.{ends, entries, ended_entries}
 use Rattle.input_points.specs.Reading.{Reading, start, kept, behind, coming}
-use Rattle.gdal_cli.specs.declared.faults.Fault.{Fault}
-use Rattle.gdal_cli.specs.declared.faults.Fault.TheVariants.{Changed}
-use Rattle.gdal_cli.specs.Faults.{IsOutside}
-use Rattle.gdal_cli.specs.Location.{line_text, line_fault, first_fault, lines_text, lines_fault, PutsText}
+use Rattle.error_lines.specs.declared.faults.Fault.{Fault}
+use Rattle.error_lines.specs.declared.faults.Fault.TheVariants.{Changed}
+use Rattle.error_lines.specs.Faults.{IsOutside}
+use Rattle.gdal_cli.specs.Location.{answers, line_text, line_fault, first_fault, lines_text, lines_fault, PutsText}
 use Rattle.gdal_cli.specs.Input.{IsReading, room_of, Answered, EndsLines, AnswersInput, StopsBehind}
-use Rattle.gdal_cli.specs.Run.{ran_lines}
+use Rattle.gdal_cli.specs.Steps.{prints, printed}
+use Rattle.gdal_cli.proofs.Cuts.{printed_prints}
 
 abbrev pub stopped_by : Fault → Result (Unit {0}) Fault
 stopped_by f = Err f
@@ -220,14 +221,14 @@ module _ (tell : ℤ → ℤ → List ℕ) where
       (ends_behind a.given (coming lines r rest) f before mid after a.passed.good a.put h)
 
   -- the input failed
-  pub stopped : (r : Reading) (input given rest : List ℕ) (left before after : Option (List ℕ)) (a : Answered tell start given r [] before after) → input ≡ given ++ rest → left ≡ Some rest → coming ended_lines r [] ≡ [] → ((text : List ℕ) → coming ended_lines start text ≡ ended_entries text) → StopsBehind (ran_lines tell) input left before after
+  pub stopped : (r : Reading) (input given rest : List ℕ) (left before after : Option (List ℕ)) (a : Answered tell start given r [] before after) → input ≡ given ++ rest → left ≡ Some rest → coming ended_lines r [] ≡ [] → ((text : List ℕ) → coming ended_lines start text ≡ ended_entries text) → StopsBehind (answers tell None) input left before after
   stopped r input given rest left before after a parts left_is none ended = record {
     given = given;
     rest = rest;
     parts = parts;
     left_is = left_is;
     not_refused = ap lines_fault (sym lines_are) ∙ a.passed.good;
-    answered = subst (λ (es : List Entry). Gets (lines_text tell es) before after) lines_are a.put;
+    answered = subst (λ (t : List ℕ). Gets t before after) (ap (lines_text tell) lines_are ∙ sym (printed_prints (λ (e : Entry). line_text tell e.kind) (ended_entries given))) a.put;
   }
     where
       lines_are : a.given ≡ ended_entries given

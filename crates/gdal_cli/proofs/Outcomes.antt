@@ -1,13 +1,16 @@
 -- How a run answers, by how its job ended.
-use Rattle.std.proofs.Common.{◌≡◌, ap, sym, ◌⊎◌, inl, inr, ◌≤◌, ℕ, List, take, refl, arith, Result, Ok, Err, Option, Some}
+use Rattle.std.proofs.Common.{◌≡◌, ◌∙◌, ap, sym, subst, ◌⊎◌, inl, inr, ◌≤◌, ◌++◌, ℕ, List, [], length, refl, arith, Result, Ok, Err, Option, Some}
 use Rattle.outside.specs.Outside.{Files}
+use Rattle.outside.specs.Streams.{Gets, GetsPart}
 use Rattle.outside.specs.Causes.{HasCause, Rose}
-use Rattle.outside.proofs.Sinks.{gets-whole}
-use Rattle.gdal_cli.specs.declared.faults.Fault.{Fault}
-use Rattle.gdal_cli.specs.declared.faults.Fault.TheVariants.{Usage, Absent, NotRecognized, Malformed, Short, Cycle, TooDeep, Limit, SourceBand, Plan, BadPoint, Changed, FolderFault, InputFault, OutFault, Memory}
-use Rattle.gdal_cli.specs.Faults.{IsOutside, HasCauses, fault_status, status_of}
-use Rattle.gdal_cli.specs.Location.{Printed}
-use Rattle.gdal_cli.specs.Run.{ran_of, ended, Ends, applied, Answers, EndsEarly}
+use Rattle.outside.proofs.Sinks.{gets-none}
+use Rattle.error_lines.specs.declared.faults.Fault.{Fault}
+use Rattle.error_lines.specs.declared.faults.Fault.TheVariants.{Usage, Absent, NotRecognized, Malformed, Short, Cycle, TooDeep, Limit, SourceBand, Plan, SameName, BadPoint, Changed, FolderFault, InputFault, OutFault, Memory}
+use Rattle.error_lines.specs.Faults.{IsOutside, HasCauses, fault_status, status_of}
+use Rattle.error_lines.specs.Texts.{line_of}
+use Rattle.gdal_cli.specs.Run.{ended, Ends, Goes, Answers, AreTold}
+use Rattle.gdal_cli.specs.Steps.{Step, Done, prints, printed, warned, published, applied, cut, IsFirstPart, AreDone}
+use Rattle.gdal_cli.proofs.Cuts.{cut_none, cut_warned, cut_whole, prints_cut, prints_done}
 
 -- a fault of the outside ends a run with status 2 or 3
 outside_status : (f : Fault) → IsOutside f → 2 ≤ fault_status f
@@ -21,6 +24,7 @@ outside_status (TooDeep name) out = absurd out
 outside_status (Limit what value) out = absurd out
 outside_status (SourceBand name band) out = absurd out
 outside_status (Plan fault) out = absurd out
+outside_status (SameName name) out = absurd out
 outside_status (BadPoint line) out = absurd out
 outside_status (Changed name was now) out = absurd out
 outside_status FolderFault out = omega arith
@@ -28,26 +32,62 @@ outside_status InputFault out = omega arith
 outside_status OutFault out = omega arith
 outside_status Memory out = omega arith
 
--- such a run publishes nothing
-none_published : (d : Result Printed Fault) (m : Files) (names : Option Files) → names ≡ Some m → names ≡ Some (applied (ran_of d).published m)
-none_published (Ok printed) m names is = is
-none_published (Err fault) m names is = is
+-- nothing was done
+pub nothing_done : (steps : List Step) (m : Files) (names : Option Files) (old : Option (List ℕ)) → names ≡ Some m → AreDone (cut 0 0 steps) m names old old
+nothing_done steps m names old is =
+    let none = cut_none steps in
+    record {
+      printed = subst (λ (t : List ℕ). Gets t old old) (sym none.0) (gets-none old);
+      published = is ∙ ap (λ (files : List (List ℕ × List ℕ)). Some (applied files m)) (sym none.1);
+    }
 
-none_early : (d : Result Printed Fault) (m : Files) (names : Option Files) → names ≡ Some m → (k : ℕ) × (names ≡ Some (applied (take k (ran_of d).published) m))
-none_early (Ok printed) m names is = (0, is)
-none_early (Err fault) m names is = (0, is)
+-- the outside failed before the first step, or the run was refused
+pub goes_nowhere : (r : Done) (m : Files) (f : Fault) (names : Option Files) (old : Option (List ℕ)) → names ≡ Some m → IsOutside f → Goes r m (Err f) names old old
+goes_nowhere r m f names old is out = inr (out, (cut 0 0 r.steps, (0, 0, refl), nothing_done r.steps m names old is))
+
+-- where the texts of a run that prints were put, its steps were done
+pub printing_goes : (r : Done) (texts : List (List ℕ)) (result : Result (Unit {0}) Fault) (m : Files) (names : Option Files) (before after : Option (List ℕ)) → r.steps ≡ prints texts → names ≡ Some m → Ends r result before after → Goes r m result names before after
+printing_goes r texts result m names before after steps is ends = by result ends
+  where
+    all : Gets (printed r.steps) before after → AreDone r.steps m names before after
+    all got = subst (λ (s : List Step). AreDone s m names before after) (sym steps) (prints_done texts m names before after is (subst (λ (s : List Step). Gets (printed s) before after) steps got))
+
+    some : GetsPart (printed r.steps) before after → (part : List Step) × IsFirstPart part r.steps × AreDone part m names before after
+    some got =
+        let at = prints_cut texts m names before after is (subst (λ (s : List Step). GetsPart (printed s) before after) steps got) in
+        (cut at.0 at.1 r.steps, (at.0, at.1, refl), subst (λ (s : List Step). AreDone (cut at.0 at.1 s) m names before after) (sym steps) at.2)
+
+    by : (e : Result (Unit {0}) Fault) → Ends r e before after → Goes r m e names before after
+    by (Ok done) h = (h.0, all h.1)
+    by (Err f) (inl h) = inl (h.0, all h.1)
+    by (Err f) (inr h) = inr (h.0, some h.1)
+
+-- the same of another way to say the run
+pub same_goes : (r q : Done) (result : Result (Unit {0}) Fault) (m : Files) (names : Option Files) (before after : Option (List ℕ)) → Ends r result before after → ((texts : List (List ℕ)) × (r.steps ≡ prints texts)) → r ≡ q → names ≡ Some m → Goes q m result names before after
+same_goes r q result m names before after ends printing same is = subst (λ (x : Done). Goes x m result names before after) same (printing_goes r printing.0 result m names before after printing.1 is ends)
 
 -- where the status is 0 or 1, the answer is the definition's
-pub answered : (d : Result Printed Fault) (result : Result (Unit {0}) Fault) (m : Files) (names : Option Files) (before after : Option (List ℕ)) → status_of (ended result) ≤ 1 → names ≡ Some m → Ends (ran_of d) result before after → Answers (ran_of d) m (ended result) names before after
-answered d (Ok done) m names before after low is h = record { fault_is = sym h.0; printed = h.1; published = none_published d m names is }
-answered d (Err f) m names before after low is (inl h) = record { fault_is = sym h.0; printed = h.1; published = none_published d m names is }
-answered d (Err f) m names before after low is (inr h) = let high = outside_status f h.0 in absurd (omega arith)
+pub answered : (r : Done) (result : Result (Unit {0}) Fault) (m : Files) (names : Option Files) (before after : Option (List ℕ)) → status_of (ended result) ≤ 1 → Goes r m result names before after → Answers r m (ended result) names before after
+answered r (Ok done) m names before after low h = record { fault_is = sym h.0; done = h.1 }
+answered r (Err f) m names before after low (inl h) = record { fault_is = sym h.0; done = h.1 }
+answered r (Err f) m names before after low (inr h) = let high = outside_status f h.0 in absurd (omega arith)
 
--- where it is 2 or 3, a first part was printed
-pub ended_early : (d : Result Printed Fault) (result : Result (Unit {0}) Fault) (m : Files) (names : Option Files) (before after : Option (List ℕ)) → 2 ≤ status_of (ended result) → names ≡ Some m → Ends (ran_of d) result before after → EndsEarly (ran_of d) m names before after
-ended_early d (Ok done) m names before after high is h = absurd (omega arith)
-ended_early d (Err f) m names before after high is (inl h) = record { printed = gets-whole _ before after h.1; published = none_early d m names is }
-ended_early d (Err f) m names before after high is (inr h) = record { printed = h.1; published = none_early d m names is }
+-- where it is 2 or 3, the first of the steps were done
+pub ended_early : (r : Done) (result : Result (Unit {0}) Fault) (m : Files) (names : Option Files) (before after : Option (List ℕ)) → 2 ≤ status_of (ended result) → Goes r m result names before after → (part : List Step) × IsFirstPart part r.steps × AreDone part m names before after
+ended_early r (Ok done) m names before after high h = absurd (omega arith)
+ended_early r (Err f) m names before after high (inl h) = (r.steps, (length r.steps, 0, sym (cut_whole 0 r.steps)), h.1)
+ended_early r (Err f) m names before after high (inr h) = h.1
+
+-- a first part of steps that don't warn doesn't
+pub part_warned : (part steps : List Step) → IsFirstPart part steps → warned steps ≡ [] → warned part ≡ []
+part_warned part steps first none = ap warned first.2 ∙ cut_warned first.0 first.1 steps none
+
+-- what the error stream gets of steps that don't warn
+pub told_line : (steps : List Step) (fault : Option Fault) (faults faults_after : ℕ) (before after : Option (List ℕ)) → warned steps ≡ [] → ((Rose faults faults_after → ⊥) → Gets (line_of fault) before after) → GetsPart (line_of fault) before after → AreTold steps fault faults faults_after before after
+told_line steps fault faults faults_after before after none whole part = record {
+  whole = λ calm. subst (λ (w : List ℕ). Gets (w ++ line_of fault) before after) (sym none) (whole calm);
+  part = subst (λ (w : List ℕ). GetsPart (w ++ line_of fault) before after) (sym none) part;
+}
 
 -- a fault of the outside where no count rose is want of memory
 only_memory : (f : Fault) (folder folder_now input input_now out out_now : ℕ) → IsOutside f → HasCauses {T = Unit {0}} folder folder_now out out_now (Err f) → HasCause {T = Unit {0}} InputFault input input_now (Err f) → (Rose folder folder_now → ⊥) → (Rose input input_now → ⊥) → (Rose out out_now → ⊥) → f ≡ Memory
@@ -61,6 +101,7 @@ only_memory (TooDeep name) a b c d e g out causes cause calm full still = absurd
 only_memory (Limit what value) a b c d e g out causes cause calm full still = absurd out
 only_memory (SourceBand name band) a b c d e g out causes cause calm full still = absurd out
 only_memory (Plan fault) a b c d e g out causes cause calm full still = absurd out
+only_memory (SameName name) a b c d e g out causes cause calm full still = absurd out
 only_memory (BadPoint line) a b c d e g out causes cause calm full still = absurd out
 only_memory (Changed name was now) a b c d e g out causes cause calm full still = absurd out
 only_memory FolderFault a b c d e g out causes cause calm full still = absurd (calm (causes.folder_failed refl))
@@ -69,7 +110,7 @@ only_memory OutFault a b c d e g out causes cause calm full still = absurd (stil
 only_memory Memory a b c d e g out causes cause calm full still = refl
 
 -- where no count rose, the fault is the definition's, or want of memory
-pub completed : (d : Result Printed Fault) (result : Result (Unit {0}) Fault) (folder folder_now input input_now out out_now : ℕ) (before after : Option (List ℕ)) → HasCauses folder folder_now out out_now result → HasCause InputFault input input_now result → (Rose folder folder_now → ⊥) → (Rose input input_now → ⊥) → (Rose out out_now → ⊥) → Ends (ran_of d) result before after → (ended result ≡ (ran_of d).fault) ⊎ (ended result ≡ Some Memory)
-completed d (Ok done) folder folder_now input input_now out out_now before after causes cause calm full still h = inl (sym h.0)
-completed d (Err f) folder folder_now input input_now out out_now before after causes cause calm full still (inl h) = inl (sym h.0)
-completed d (Err f) folder folder_now input input_now out out_now before after causes cause calm full still (inr h) = inr (ap (λ (g : Fault). Some g) (only_memory f folder folder_now input input_now out out_now h.0 causes cause calm full still))
+pub completed : (r : Done) (result : Result (Unit {0}) Fault) (m : Files) (names : Option Files) (folder folder_now input input_now out out_now : ℕ) (before after : Option (List ℕ)) → HasCauses folder folder_now out out_now result → HasCause InputFault input input_now result → (Rose folder folder_now → ⊥) → (Rose input input_now → ⊥) → (Rose out out_now → ⊥) → Goes r m result names before after → (ended result ≡ r.fault) ⊎ (ended result ≡ Some Memory)
+completed r (Ok done) m names folder folder_now input input_now out out_now before after causes cause calm full still h = inl (sym h.0)
+completed r (Err f) m names folder folder_now input input_now out out_now before after causes cause calm full still (inl h) = inl (sym h.0)
+completed r (Err f) m names folder folder_now input input_now out out_now before after causes cause calm full still (inr h) = inr (ap (λ (g : Fault). Some g) (only_memory f folder folder_now input input_now out out_now h.0 causes cause calm full still))

@@ -10,12 +10,11 @@ use Rattle.input_points.specs.declared.entry.Entry.{Entry}
 use Rattle.input_points.specs.Lines.{ended_lines}
 use Rattle.input_points.specs.Entries.{entries, ended_entries}
 use Rattle.input_points.specs.Reading.{Reading, start, coming}
-use Rattle.gdal_cli.specs.declared.faults.Fault.{Fault}
-use Rattle.gdal_cli.specs.declared.faults.Fault.TheVariants.{FolderFault, InputFault, OutFault}
-use Rattle.gdal_cli.specs.Faults.{IsOutside, HasCauses}
-use Rattle.gdal_cli.specs.Location.{line_text, line_fault, lines_text, PutsText}
+use Rattle.error_lines.specs.declared.faults.Fault.{Fault}
+use Rattle.error_lines.specs.declared.faults.Fault.TheVariants.{FolderFault, InputFault, OutFault}
+use Rattle.error_lines.specs.Faults.{IsOutside, HasCauses}
+use Rattle.gdal_cli.specs.Location.{answers, line_text, line_fault, lines_text, PutsText}
 use Rattle.gdal_cli.specs.Input.{IsReading, Answered, EndsLines, AnswersPieces, AnswersInput, StopsBehind, Taken}
-use Rattle.gdal_cli.specs.Run.{ran_lines}
 use Rattle.gdal_cli.proofs.Ended.{nothing_put}
 use Rattle.gdal_cli.proofs.Lines.{answered_none, answered_more, ends_of, failed_behind, stopped, whole_input, last_input, line_stops, ends_behind, gone_on, stopped_by}
 
@@ -119,7 +118,7 @@ module _ (tell : ℤ → ℤ → List ℕ) where
       (ends_of tell r t.given t.rest f before mid after t.holds from_start (subst (λ (s : List ℕ). EndsLines tell (coming lines r s) f mid after) parts (h (drop n t.rest))))
 
   -- the input failed
-  pub input_stops : (r : Reading) (input : List ℕ) (left now before after : Option (List ℕ)) → TakenSo r before after input left → ((b : List ℕ) → left ≡ Some b → now ≡ Some b) → coming ended_lines r [] ≡ [] → StopsBehind (ran_lines tell) input now before after
+  pub input_stops : (r : Reading) (input : List ℕ) (left now before after : Option (List ℕ)) → TakenSo r before after input left → ((b : List ℕ) → left ≡ Some b → now ≡ Some b) → coming ended_lines r [] ≡ [] → StopsBehind (answers tell None) input now before after
   input_stops r input left now before after t kept none = stopped tell r input t.given t.rest now before after t.holds t.parts (kept t.rest t.left_is) none ended_from_start
 
   pub input_failed : (r : Reading) (input : List ℕ) (f : Fault) (left before after : Option (List ℕ)) → TakenSo r before after input left → IsOutside f → EndsLines tell (entries input) f before after

@@ -6,10 +6,10 @@ use Rattle.input_points.specs.declared.entry.Entry.{Entry}
 use Rattle.input_points.specs.Lines.{ended_lines}
 use Rattle.input_points.specs.Entries.{entries, ended_entries}
 use Rattle.input_points.specs.Reading.{Reading, start, coming}
-use Rattle.gdal_cli.specs.declared.faults.Fault.{Fault}
-use Rattle.gdal_cli.specs.Faults.{IsOutside}
+use Rattle.error_lines.specs.declared.faults.Fault.{Fault}
+use Rattle.error_lines.specs.Faults.{IsOutside}
 use Rattle.gdal_cli.specs.Location.{lines_text, lines_fault}
-use Rattle.gdal_cli.specs.Run.{Ran}
+use Rattle.gdal_cli.specs.Steps.{Done, printed}
 
 -- a reading goes on, within the limits on lines
 pub record IsReading (r : Reading) : Type 0 where
@@ -60,13 +60,13 @@ AnswersInput tell input left (Err fault) before after = EndsLines tell (entries 
 
 -- The input gave a first part of its bytes. The run over the whole lines among them, which `ran` gives, isn't refused,
 -- and all that it prints is printed, and nothing more.
-pub record StopsBehind (ran : List Entry → Ran) (input : List ℕ) (left before after : Option (List ℕ)) : Type 0 where
+pub record StopsBehind (ran : List Entry → Done) (input : List ℕ) (left before after : Option (List ℕ)) : Type 0 where
   pub given : List ℕ
   pub rest : List ℕ
   pub parts : input ≡ given ++ rest
   pub left_is : left ≡ Some rest
   pub not_refused : (ran (ended_entries given)).fault ≡ None
-  pub answered : Gets (ran (ended_entries given)).printed before after
+  pub answered : Gets (printed (ran (ended_entries given)).steps) before after
 
 -- what holds of the bytes that an input gave, behind which these are left
 pub record Taken (Holds : List ℕ → Type 0) (input : List ℕ) (left : Option (List ℕ)) : Type 0 where

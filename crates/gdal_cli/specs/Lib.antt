@@ -3,5 +3,6 @@ pub mod Input
 pub mod Location
 pub mod Pixels
 pub mod Run
-pub mod Texts
+pub mod Steps
 pub mod Words
+pub mod Work

@@ -13,17 +13,16 @@ use Rattle.input_points.specs.declared.entry.LineKind.{LineKind}
 use Rattle.input_points.specs.declared.entry.LineKind.TheVariants.{Blank, Point, Bad, TooMany}
 use Rattle.catalog.specs.Dataset.{DatasetHead}
 use Rattle.catalog.specs.Drivers.{Dataset}
-use Rattle.catalog.specs.Heads.{dataset_in}
-use Rattle.catalog.specs.Walk.{walked}
 use Rattle.catalog.specs.Pixels.{pixel_of_name}
 use Rattle.catalog.specs.declared.faults.LimitKind.TheVariants as limits
 use Rattle.location_report.specs.Covering.{covering_files}
 use Rattle.location_report.specs.Location.{location_text}
 use Rattle.location_report.specs.declared.report.Form.{Form}
 use Rattle.gdal_cli.specs.declared.asked.Asked.{Asked}
-use Rattle.gdal_cli.specs.declared.faults.Fault.{Fault}
-use Rattle.gdal_cli.specs.declared.faults.Fault.TheVariants.{Plan, Limit, BadPoint}
-use Rattle.gdal_cli.specs.Faults.{by_walk, IsOutside}
+use Rattle.error_lines.specs.declared.faults.Fault.{Fault}
+use Rattle.error_lines.specs.declared.faults.Fault.TheVariants.{Plan, Limit, BadPoint}
+use Rattle.error_lines.specs.Faults.{IsOutside}
+use Rattle.gdal_cli.specs.Steps.{Done, all_done, prints}
 
 -- a whole number as a column or a line of a side
 abbrev pub within : ℕ → ℤ → Option ℕ
@@ -110,31 +109,10 @@ abbrev pub lines_fault : List Entry → Option Fault
 lines_fault [] = None
 lines_fault (e ∷ es) = first_fault (line_fault e.line e.kind) (lines_fault es)
 
--- what is printed, and the fault behind it, if there is one
-pub record Printed : Type 0 where
-  pub text : List ℕ
-  pub fault : Option Fault
-
-abbrev pub whole : List ℕ → Printed
-whole text = record { text = text; fault = None }
-
--- the answer to a point, or where there is none to the lines of an input
-abbrev pub answers : (ℤ → ℤ → List ℕ) → Option (ℤ × ℤ) → List Entry → Printed
-answers tell (Some point) lines = whole (tell point.0 point.1)
-answers tell None lines = record { text = lines_text tell lines; fault = lines_fault lines }
-
--- the answers of a dataset of a catalog, or what it lacks
-unfoldable pub answers_in : Files → List Dataset → Option (ℤ × ℤ) → List ℕ → Form → Bool → List Entry → Dataset → Result Printed Fault
-answers_in m cat point bands form geoloc lines d = do
-  asked ← asked_in form bands geoloc d.head
-  Ok (answers (point_text m cat d asked) point lines)
-
--- the answers of the dataset of a name, or the first refusal; the walk has verified what is to be
-unfoldable pub location_in : Files → Bool → List ℕ → Option (ℤ × ℤ) → List ℕ → Form → Bool → List Entry → Result Printed Fault
-location_in m verify name point bands form geoloc lines = do
-  cat ← by_walk (walked m verify [] name)
-  d ← by_walk (dataset_in m false name)
-  answers_in m cat point bands form geoloc lines d
+-- the answer to a point, or where there is none to the lines of an input, each by a step of its own
+abbrev pub answers : (ℤ → ℤ → List ℕ) → Option (ℤ × ℤ) → List Entry → Done
+answers tell (Some point) lines = all_done (prints (tell point.0 point.1 ∷ []))
+answers tell None lines = record { steps = prints (map (λ (e : Entry). line_text tell e.kind) lines); fault = lines_fault lines }
 
 -- a call puts a whole text, or a first part of it behind which the outside failed
 abbrev pub PutsText : List ℕ → Result (Unit {0}) Fault → Option (List ℕ) → Option (List ℕ) → Type 0

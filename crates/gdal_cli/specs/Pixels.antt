@@ -1,5 +1,6 @@
 -- Pixels and bands of a dataset of a catalog, by its number.
-use Rattle.std.specs.Prelude.{◌≡◌, ◌<◌, ℕ, List, length, slice_get, Some}
+use Rattle.std.specs.Prelude.{◌≡◌, ◌<◌, ℕ, List, slice_get, Some}
+use Rattle.catalog.specs.Dataset.{band_count}
 use Rattle.catalog.specs.Drivers.{Dataset}
 
 -- the column and the line are in the raster
@@ -13,4 +14,4 @@ pub record IsPixel (cat : List Dataset) (id x y : ℕ) : Type 0 where
 pub record AreBands (cat : List Dataset) (id : ℕ) (Holds : ℕ → Type 0) : Type 0 where
   pub dataset : Dataset
   pub at : slice_get cat id ≡ Some dataset
-  pub holds : Holds (length dataset.head.bands)
+  pub holds : Holds (band_count dataset.head)

@@ -1,52 +1,44 @@
--- A run of the program, by what its words, files and input mean.
-use Rattle.std.specs.Prelude.{ℕ, ℤ, ◌≡◌, ◌⊎◌, ◌≤◌, Bool, true, false, List, [], ◌∷◌, ◌++◌, take, Option, Some, None, Result, Ok, Err}
-use Rattle.std.specs.FinMap.{insert}
-use Rattle.lists_and_answers.specs.Answers.{◌>>=◌}
+-- What is promised of a run of the program.
+use Rattle.std.specs.Prelude.{ℕ, ℤ, ◌≡◌, ◌⊎◌, ◌≤◌, Bool, true, false, List, [], ◌++◌, Contains, Option, Some, None, Result, Ok, Err}
 use Rattle.outside.specs.Outside.{Files}
 use Rattle.outside.specs.Causes.{Rose}
 use Rattle.outside.specs.Streams.{Gets, GetsPart}
-use Rattle.catalog.specs.Heads.{head_in, kind_in}
+use Rattle.catalog.specs.Heads.{kind_in}
+use Rattle.catalog.specs.declared.faults.LimitKind.TheVariants as limits
 use Rattle.catalog.specs.declared.kind.Kind.{Kind}
 use Rattle.catalog.specs.declared.kind.Kind.TheVariants as kinds
 use Rattle.catalog.specs.declared.faults.WalkFault.{WalkFault}
 use Rattle.catalog.specs.declared.faults.WalkFault.TheVariants as walk
-use Rattle.info_report.specs.Report.{info_text}
-use Rattle.input_points.specs.declared.entry.Entry.{Entry}
-use Rattle.input_points.specs.Entries.{entries}
 use Rattle.gdal_cli.specs.declared.command.Command.{Command}
 use Rattle.gdal_cli.specs.declared.command.Job.{Job}
 use Rattle.gdal_cli.specs.declared.command.Job.TheVariants.{Info, Locate}
 use Rattle.gdal_cli.specs.declared.spoken.WordFault.{WordFault}
 use Rattle.gdal_cli.specs.declared.spoken.WordFault.TheVariants as word
-use Rattle.gdal_cli.specs.declared.faults.Fault.{Fault}
-use Rattle.gdal_cli.specs.declared.faults.Fault.TheVariants.{Usage, NotRecognized, Memory}
-use Rattle.gdal_cli.specs.Faults.{by_words, by_walk, fault_of, IsOutside, status_of}
-use Rattle.gdal_cli.specs.Texts.{line_of}
-use Rattle.gdal_cli.specs.Location.{Printed, whole, answers, location_in}
-use Rattle.gdal_cli.specs.Words.{words_of}
+use Rattle.error_lines.specs.declared.faults.Fault.{Fault}
+use Rattle.error_lines.specs.declared.faults.Fault.TheVariants.{Usage, Absent, NotRecognized, Malformed, Short, Cycle, TooDeep, Limit, SourceBand, Plan, SameName, BadPoint, Changed, FolderFault, InputFault, OutFault, Memory}
+use Rattle.error_lines.specs.Faults.{fault_of, IsOutside, status_of}
+use Rattle.error_lines.specs.Texts.{line_of}
+use Rattle.gdal_cli.specs.Steps.{Step, Done, printed, warned, IsFirstPart, AreDone}
 
--- what a run answers, prints, warns of and publishes
-pub record Ran : Type 0 where
-  pub fault : Option Fault
-  pub printed : List ℕ
-  pub warned : List ℕ
-  pub published : List (List ℕ × List ℕ)
-
--- the report of a dataset, or the first refusal
-unfoldable pub info_in : Files → List ℕ → Bool → Result Printed Fault
-info_in m name verify = do
-  head ← by_walk (head_in m verify name)
-  Ok (whole (info_text head))
-
--- the name of the dataset that a job reads
+-- the name of the dataset that a job reads first
 abbrev pub name_read : Job → List ℕ
 name_read (Info name) = name
 name_read (Locate name point bands form geoloc) = name
+
+-- the names that a job publishes, in order
+abbrev pub names_published : Job → List (List ℕ)
+names_published (Info name) = []
+names_published (Locate name point bands form geoloc) = []
 
 -- whether a job goes to what the sources of a mosaic name
 abbrev pub reads_sources : Job → Bool
 reads_sources (Info name) = false
 reads_sources (Locate name point bands form geoloc) = true
+
+-- whether a job reads pixels
+abbrev pub reads_pixels : Job → Bool
+reads_pixels (Info name) = false
+reads_pixels (Locate name point bands form geoloc) = true
 
 -- whether a job takes its points from the input
 abbrev pub reads_input : Job → Bool
@@ -59,32 +51,36 @@ abbrev pub words_read_input : Result Command WordFault → Bool
 words_read_input (Ok command) = reads_input command.job
 words_read_input (Err fault) = false
 
-abbrev pub printed_by : Job → Files → Bool → List Entry → Result Printed Fault
-printed_by (Info name) m verify lines = info_in m name verify
-printed_by (Locate name point bands form geoloc) m verify lines = location_in m verify name point bands form geoloc lines
+abbrev pub words_published : Result Command WordFault → List (List ℕ)
+words_published (Ok command) = names_published command.job
+words_published (Err fault) = []
 
--- what a command prints, or the first refusal before anything is printed
-unfoldable pub printed_in : Files → List Entry → List (List ℕ) → Result Printed Fault
-printed_in m lines words = do
-  command ← by_words (words_of words)
-  printed_by command.job m command.verify lines
+-- The faults that a job may end with over every folder. The name of SameName is one that the job publishes; what is
+-- asked of a dataset, and files that changed, come where pixels are read, and faults of the input where it is read.
+abbrev pub MayEnd : Job → Fault → Type 0
+MayEnd job (Usage n) = ⊥
+MayEnd job (Absent name) = Unit {0}
+MayEnd job (NotRecognized name) = Unit {0}
+MayEnd job (Malformed name bad) = Unit {0}
+MayEnd job (Short name needed has) = Unit {0}
+MayEnd job (Cycle name) = Unit {0}
+MayEnd job (TooDeep name) = Unit {0}
+MayEnd job (Limit what value) = Unit {0}
+MayEnd job (SourceBand name band) = Unit {0}
+MayEnd job (Plan fault) = reads_pixels job ≡ true
+MayEnd job (SameName name) = Contains (names_published job) name
+MayEnd job (BadPoint line) = reads_input job ≡ true
+MayEnd job (Changed name was now) = reads_pixels job ≡ true
+MayEnd job FolderFault = Unit {0}
+MayEnd job InputFault = reads_input job ≡ true
+MayEnd job OutFault = Unit {0}
+MayEnd job Memory = Unit {0}
 
--- a run that prints a text, behind which it may be refused, and one that is refused at once
-abbrev pub ran_of : Result Printed Fault → Ran
-ran_of (Ok printed) = record { fault = printed.fault; printed = printed.text; warned = []; published = [] }
-ran_of (Err fault) = record { fault = Some fault; printed = []; warned = []; published = [] }
-
--- a run that answers these lines, where `tell` tells of a point
-abbrev pub ran_lines : (ℤ → ℤ → List ℕ) → List Entry → Ran
-ran_lines tell lines = ran_of (Ok (answers tell None lines))
-
--- the run of these words over these files and these lines of an input
-abbrev pub run_over : List (List ℕ) → Files → List Entry → Ran
-run_over words m lines = ran_of (printed_in m lines words)
-
--- the run of these words over these files and this input
-abbrev pub run_of : List (List ℕ) → Files → List ℕ → Ran
-run_of words m input = run_over words m (entries input)
+-- a refusal that isn't of a line of the input
+pub record IsRefusal (fault : Option Fault) : Type 0 where
+  pub refused : status_of fault ≡ 1
+  pub no_line : (n : ℕ) → fault ≡ Some (BadPoint n) → ⊥
+  pub no_limit : (n : ℕ) → fault ≡ Some (Limit limits.Points n) → ⊥
 
 -- the fault that a call ended with, if there is one
 abbrev pub ended : Result (Unit {0}) Fault → Option Fault
@@ -93,7 +89,7 @@ ended (Err fault) = Some fault
 
 -- A name that tells no kind is refused so, or for want of memory; no other name is refused so that tells a kind, and
 -- where `alone` holds no other name at all. Words are not looked at again.
-pub record RefusesUnknown (alone : Bool) (name : List ℕ) (result : Result (Unit {0}) Fault) : Type 0 where
+pub record RefusesKind (alone : Bool) (name : List ℕ) (result : Result (Unit {0}) Fault) : Type 0 where
   pub always : (f : WalkFault) → kind_in name ≡ Err f → (result ≡ Err (fault_of f)) ⊎ (result ≡ Err Memory)
   pub only : (n : List ℕ) → result ≡ Err (NotRecognized n) → kind_in n ≡ Err (walk.NotRecognized n)
   pub own : alone ≡ true → (n : List ℕ) → result ≡ Err (NotRecognized n) → kind_in name ≡ Err (walk.NotRecognized n)
@@ -113,35 +109,22 @@ pub record RefusesDataset (words : Result Command WordFault) (fault : Option Fau
   pub own : (c : Command) (n : List ℕ) → words ≡ Ok c → reads_sources c.job ≡ false → fault ≡ Some (NotRecognized n) → kind_in (name_read c.job) ≡ Err (walk.NotRecognized n)
   pub file : (c : Command) (k : Kind) (n : List ℕ) → words ≡ Ok c → kind_in (name_read c.job) ≡ Ok k → (k ≡ kinds.Vrt → ⊥) → fault ≡ Some (NotRecognized n) → ⊥
 
--- how far a run went: to its end, or to a fault of the outside behind a first part of its text
-abbrev pub Ends : Ran → Result (Unit {0}) Fault → Option (List ℕ) → Option (List ℕ) → Type 0
-Ends r (Ok done) before after = (r.fault ≡ None) × Gets r.printed before after
-Ends r (Err fault) before after = ((r.fault ≡ Some fault) × Gets r.printed before after) ⊎ (IsOutside fault × GetsPart r.printed before after)
+-- how far the texts of a run were put: all of them, or a first part before a fault of the outside
+abbrev pub Ends : Done → Result (Unit {0}) Fault → Option (List ℕ) → Option (List ℕ) → Type 0
+Ends r (Ok done) before after = (r.fault ≡ None) × Gets (printed r.steps) before after
+Ends r (Err fault) before after = ((r.fault ≡ Some fault) × Gets (printed r.steps) before after) ⊎ (IsOutside fault × GetsPart (printed r.steps) before after)
 
--- the map after these files are published, the first of them first
-abbrev pub applied : List (List ℕ × List ℕ) → Files → Files
-applied [] m = m
-applied (file ∷ files) m = applied files (insert m file.0 file.1)
+-- how far a run went over the files of a map: to its end, or to a fault of the outside within its steps
+abbrev pub Goes : Done → Files → Result (Unit {0}) Fault → Option Files → Option (List ℕ) → Option (List ℕ) → Type 0
+Goes r m (Ok done) names before after = (r.fault ≡ None) × AreDone r.steps m names before after
+Goes r m (Err fault) names before after = ((r.fault ≡ Some fault) × AreDone r.steps m names before after) ⊎ (IsOutside fault × ((part : List Step) × IsFirstPart part r.steps × AreDone part m names before after))
 
--- the answer, the whole text and all the files
-pub record Answers (r : Ran) (m : Files) (fault : Option Fault) (names : Option Files) (before after : Option (List ℕ)) : Type 0 where
+-- the answer, and all the steps
+pub record Answers (r : Done) (m : Files) (fault : Option Fault) (names : Option Files) (before after : Option (List ℕ)) : Type 0 where
   pub fault_is : fault ≡ r.fault
-  pub printed : Gets r.printed before after
-  pub published : names ≡ Some (applied r.published m)
+  pub done : AreDone r.steps m names before after
 
--- a first part of the text and the first of the files
-pub record EndsEarly (r : Ran) (m : Files) (names : Option Files) (before after : Option (List ℕ)) : Type 0 where
-  pub printed : GetsPart r.printed before after
-  pub published : (k : ℕ) × (names ≡ Some (applied (take k r.published) m))
-
--- the warnings and the fault's line; after an early end the first of the warnings
-pub record IsSaid (r : Ran) (fault : Option Fault) (text : List ℕ) : Type 0 where
-  pub whole : status_of fault ≤ 1 → text ≡ r.warned ++ line_of fault
-  pub part : (k : ℕ) × (text ≡ take k r.warned ++ line_of fault)
-
--- what the error stream gets
-pub record Says (r : Ran) (fault : Option Fault) (faults faults_after : ℕ) (before after : Option (List ℕ)) : Type 0 where
-  pub text : List ℕ
-  pub is : IsSaid r fault text
-  pub whole : (Rose faults faults_after → ⊥) → Gets text before after
-  pub part : GetsPart text before after
+-- the error stream gets the warnings among these steps and the line of the fault, or where it fails a first part of them
+pub record AreTold (steps : List Step) (fault : Option Fault) (faults faults_after : ℕ) (before after : Option (List ℕ)) : Type 0 where
+  pub whole : (Rose faults faults_after → ⊥) → Gets (warned steps ++ line_of fault) before after
+  pub part : GetsPart (warned steps ++ line_of fault) before after

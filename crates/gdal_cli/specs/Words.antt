@@ -142,9 +142,9 @@ unfoldable pub taken : Tool → ℕ → Spoken → List ℕ → Result Spoken Wo
 taken tool at s word = taken_by s.awaited tool at s word
 
 -- all words from this number on, from left to right
-abbrev pub walked : Tool → ℕ → Spoken → List (List ℕ) → Result Spoken WordFault
-walked tool at s [] = Ok s
-walked tool at s (word ∷ words) = taken tool at s word >>= (λ t. walked tool (at + 1) t words)
+abbrev pub all_taken : Tool → ℕ → Spoken → List (List ℕ) → Result Spoken WordFault
+all_taken tool at s [] = Ok s
+all_taken tool at s (word ∷ words) = taken tool at s word >>= (λ t. all_taken tool (at + 1) t words)
 
 abbrev pub nothing_said : Spoken
 nothing_said = record { awaited = Nothing; verify = false; blocks = 64; values_only = None; files_only = None; geoloc = false; bands = []; name = None; x = None; y = None }
@@ -199,7 +199,7 @@ unfoldable pub words_of : List (List ℕ) → Result Command WordFault
 words_of [] = Err (Usage 0)
 words_of (word ∷ words) = do
   tool ← ok_or (tool_of word) (Usage 0)
-  said ← walked tool 1 nothing_said words
+  said ← all_taken tool 1 nothing_said words
   finished tool (length (word ∷ words)) said
 
 -- want of memory, which no definition gives

@@ -2,12 +2,12 @@
 ghost use Rattle.std.specs.Prelude.{◌≡◌, ◌≤◌, ◌++◌, [], ◌∷◌, All, IfOk, IfErr, OnOk, length, nat_lt};
 ghost use Rattle.std.specs.List.{find, range_with_len};
 ghost use Rattle.lists_and_answers.specs.Answers.{Gives};
-ghost use Rattle.gdal_cli.specs.Faults.{IsOutside, IsLate, HasNoCause};
+ghost use Rattle.error_lines.specs.Faults.{IsOutside, IsLate, HasNoCause};
 ghost use Rattle.gdal_cli.specs.Location.{chosen_in, frame_in, asked_in};
 
-use crate::Fault;
 use crate::command::BandNumber;
 use catalog::Head;
+use error_lines::Fault;
 use geotransform::{GeoTransform, PlanFault};
 use lists_and_answers::Items;
 use location_report::Form;

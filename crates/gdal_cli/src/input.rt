@@ -6,23 +6,19 @@ ghost use Rattle.input_points.specs.Entries.{ends};
 ghost use Rattle.input_points.specs.Lines.{ended_lines};
 ghost use Rattle.input_points.specs.Reading.{start, coming};
 ghost use Rattle.catalog.specs.Drivers.{Dataset};
-ghost use Rattle.catalog.specs.Walk.{IsWalked};
-ghost use Rattle.nearest_window.specs.Right.{IsRight};
-ghost use Rattle.gdal_cli.specs.Faults.{IsLate, Differs, HasCauses};
+ghost use Rattle.nearest_window.specs.Right.{IsReady};
+ghost use Rattle.error_lines.specs.Faults.{Differs, HasCauses};
+ghost use Rattle.gdal_cli.specs.Faults.{IsOfLines};
 ghost use Rattle.gdal_cli.specs.Input.{IsReading, room_of, AnswersNext, AnswersPiece, AnswersPieces, AnswersInput, StopsBehind};
-ghost use Rattle.gdal_cli.specs.Location.{point_text, line_text, line_fault, PutsText};
+ghost use Rattle.gdal_cli.specs.Location.{answers, point_text, line_text, line_fault, PutsText};
 ghost use Rattle.gdal_cli.specs.Pixels.{AreBands};
-ghost use Rattle.gdal_cli.specs.Run.{ran_lines};
 
-use crate::Fault;
-use crate::asked::Asked;
-use crate::points::{Room, put_point};
-use band_blocks::Steps;
-use catalog::{Catalog, LimitKind};
+use crate::points::put_point;
+use crate::reader::{PointReader, Question};
+use catalog::LimitKind;
+use error_lines::Fault;
 use input_points::{Entry, LineKind, PointLines};
-use nearest_window::Lane;
 use outside::{Failed, Folder, Input, Sink};
-use std::alloc::Global;
 use std::sync::ledger::Ledger;
 
 /// The most bytes of the input that are asked for at once.
@@ -33,39 +29,32 @@ const TOO_MANY: u64 = 16_777_217;
 
 // Answers a line that has this number and says this.
 fn answer_line<F: Folder, O: Sink, L: Ledger>(
-    alloc: Global,
-    cat: &Catalog,
+    question: &Question,
+    points: &mut PointReader<F, L>,
     folder: &mut F,
     out: &mut O,
-    lane: &mut Lane<F>,
-    loads: &mut Steps<L>,
-    id: u32,
-    asked: &Asked,
-    room: &mut Room,
     line: u32,
     kind: LineKind,
 ) -> Result<(), Fault>
-    requires right { IsRight F.file_bytes F.file_len (F.names folder.old) cat.now lane.old.pool lane.old.files }
-    requires walked { (m : Files) → F.names folder.old ≡ Some m → IsWalked m cat.now }
-    requires bands { AreBands cat.now id (λ count. All (λ band. (1 ≤ band) × (band ≤ count)) asked.now.bands) }
-    requires room { length room.old.values.items ≡ length asked.now.bands }
-    ensures told { (m : Files) → F.names folder.old ≡ Some m → (d : Dataset) → slice_get cat.now id ≡ Some d → line_fault line kind ≡ None → PutsText (line_text (point_text m cat.now d asked.now) kind) result (O.got out.old) (O.got out.new) }
+    requires ready { IsReady F.Folder folder.old question.now.cat points.old.pixels.lane }
+    requires bands { AreBands question.now.cat question.now.id (λ count. All (λ band. (1 ≤ band) × (band ≤ count)) question.now.asked.bands) }
+    requires room { length points.old.room.values.items ≡ length question.now.asked.bands }
+    ensures told { (m : Files) → F.names folder.old ≡ Some m → (d : Dataset) → slice_get question.now.cat question.now.id ≡ Some d → line_fault line kind ≡ None → PutsText (line_text (point_text m question.now.cat d question.now.asked) kind) result (O.got out.old) (O.got out.new) }
     ensures refused { (f : Fault) → line_fault line kind ≡ Some f → (result ≡ Err f) × (O.got out.new ≡ O.got out.old) }
     ensures ends { ends kind ≡ true → IfOk result (λ done. ⊥) }
     ensures never { (m : Files) → F.names folder.old ≡ Some m → (name : List ℕ) (was : ℕ) (now : Option ℕ) → result ≡ Err (Fault.Changed name was now) → ⊥ }
     ensures cause { HasCauses (F.faults folder.old) (F.faults folder.new) (O.faults out.old) (O.faults out.new) result }
     ensures not_input { result ≡ Err Fault.InputFault → ⊥ }
-    ensures right { IsRight F.file_bytes F.file_len (F.names folder.new) cat.now lane.new.pool lane.new.files }
-    ensures room { length room.new.values.items ≡ length room.old.values.items }
-    ensures late { IfErr result IsLate }
+    ensures ready { IsReady F.Folder folder.new question.now.cat points.new.pixels.lane }
+    ensures room { length points.new.room.values.items ≡ length points.old.room.values.items }
+    ensures late { IfErr result IsOfLines }
     ensures differs { Differs result }
     ensures names { F.names folder.new ≡ F.names folder.old }
+    ensures writes { F.write_calls folder.new ≡ F.write_calls folder.old }
 {
     match kind {
         LineKind::Blank => Ok(()),
-        LineKind::Point(x, y) => {
-            put_point(alloc, cat, folder, out, lane, loads, id, asked, room, x, y)
-        }
+        LineKind::Point(x, y) => { put_point(question, points, folder, out, x, y) }
         LineKind::Bad => Err(Fault::BadPoint { line }),
         LineKind::TooMany => Err(Fault::Limit {
             what: LimitKind::Points,
@@ -76,25 +65,19 @@ fn answer_line<F: Folder, O: Sink, L: Ledger>(
 
 // Answers the next line that ends in a piece, if there is one, and gives the number of the piece's bytes that were read.
 fn answer_next<F: Folder, O: Sink, L: Ledger>(
-    alloc: Global,
-    cat: &Catalog,
+    question: &Question,
+    points: &mut PointReader<F, L>,
     folder: &mut F,
     out: &mut O,
-    lane: &mut Lane<F>,
-    loads: &mut Steps<L>,
-    id: u32,
-    asked: &Asked,
-    room: &mut Room,
     reader: &mut PointLines,
     piece: &[u8],
 ) -> Result<usize, Fault>
-    requires right { IsRight F.file_bytes F.file_len (F.names folder.old) cat.now lane.old.pool lane.old.files }
-    requires walked { (m : Files) → F.names folder.old ≡ Some m → IsWalked m cat.now }
-    requires bands { AreBands cat.now id (λ count. All (λ band. (1 ≤ band) × (band ≤ count)) asked.now.bands) }
-    requires room { length room.old.values.items ≡ length asked.now.bands }
+    requires ready { IsReady F.Folder folder.old question.now.cat points.old.pixels.lane }
+    requires bands { AreBands question.now.cat question.now.id (λ count. All (λ band. (1 ≤ band) × (band ≤ count)) question.now.asked.bands) }
+    requires room { length points.old.room.values.items ≡ length question.now.asked.bands }
     requires reading { IsReading reader.old }
     requires some { 0 < length piece.now }
-    ensures told { (m : Files) → F.names folder.old ≡ Some m → (d : Dataset) → slice_get cat.now id ≡ Some d → AnswersNext (point_text m cat.now d asked.now) reader.old piece.now reader.new result (O.got out.old) (O.got out.new) }
+    ensures told { (m : Files) → F.names folder.old ≡ Some m → (d : Dataset) → slice_get question.now.cat question.now.id ≡ Some d → AnswersNext (point_text m question.now.cat d question.now.asked) reader.old piece.now reader.new result (O.got out.old) (O.got out.new) }
     ensures used { IfOk result (λ used. (0 < used) × (used ≤ length piece.now)) }
     // no line that has an end is left unanswered, and less can be taken than before
     ensures reading { OnOk result (IsReading reader.new × (room_of reader.new < room_of reader.old)) }
@@ -102,18 +85,17 @@ fn answer_next<F: Folder, O: Sink, L: Ledger>(
     ensures never { (m : Files) → F.names folder.old ≡ Some m → (name : List ℕ) (was : ℕ) (now : Option ℕ) → result ≡ Err (Fault.Changed name was now) → ⊥ }
     ensures cause { HasCauses (F.faults folder.old) (F.faults folder.new) (O.faults out.old) (O.faults out.new) result }
     ensures not_input { result ≡ Err Fault.InputFault → ⊥ }
-    ensures right { IsRight F.file_bytes F.file_len (F.names folder.new) cat.now lane.new.pool lane.new.files }
-    ensures room { length room.new.values.items ≡ length room.old.values.items }
-    ensures late { IfErr result IsLate }
+    ensures ready { IsReady F.Folder folder.new question.now.cat points.new.pixels.lane }
+    ensures room { length points.new.room.values.items ≡ length points.old.room.values.items }
+    ensures late { IfErr result IsOfLines }
     ensures differs { Differs result }
     ensures names { F.names folder.new ≡ F.names folder.old }
+    ensures writes { F.write_calls folder.new ≡ F.write_calls folder.old }
 {
     let (entry, used) = reader.next(piece);
     match entry {
         Some(found) => {
-            answer_line(
-                alloc, cat, folder, out, lane, loads, id, asked, room, found.line, found.kind,
-            )?;
+            answer_line(question, points, folder, out, found.line, found.kind)?;
             Ok(used)
         }
         None => Ok(used),
@@ -122,24 +104,18 @@ fn answer_next<F: Folder, O: Sink, L: Ledger>(
 
 // Answers the lines that end in a piece, in order.
 fn answer_piece<F: Folder, O: Sink, L: Ledger>(
-    alloc: Global,
-    cat: &Catalog,
+    question: &Question,
+    points: &mut PointReader<F, L>,
     folder: &mut F,
     out: &mut O,
-    lane: &mut Lane<F>,
-    loads: &mut Steps<L>,
-    id: u32,
-    asked: &Asked,
-    room: &mut Room,
     reader: &mut PointLines,
     piece: &[u8],
 ) -> Result<(), Fault>
-    requires right { IsRight F.file_bytes F.file_len (F.names folder.old) cat.now lane.old.pool lane.old.files }
-    requires walked { (m : Files) → F.names folder.old ≡ Some m → IsWalked m cat.now }
-    requires bands { AreBands cat.now id (λ count. All (λ band. (1 ≤ band) × (band ≤ count)) asked.now.bands) }
-    requires room { length room.old.values.items ≡ length asked.now.bands }
+    requires ready { IsReady F.Folder folder.old question.now.cat points.old.pixels.lane }
+    requires bands { AreBands question.now.cat question.now.id (λ count. All (λ band. (1 ≤ band) × (band ≤ count)) question.now.asked.bands) }
+    requires room { length points.old.room.values.items ≡ length question.now.asked.bands }
     requires reading { IsReading reader.old }
-    ensures told { (m : Files) → F.names folder.old ≡ Some m → (d : Dataset) → slice_get cat.now id ≡ Some d → AnswersPiece (point_text m cat.now d asked.now) reader.old piece.now reader.new result (O.got out.old) (O.got out.new) }
+    ensures told { (m : Files) → F.names folder.old ≡ Some m → (d : Dataset) → slice_get question.now.cat question.now.id ≡ Some d → AnswersPiece (point_text m question.now.cat d question.now.asked) reader.old piece.now reader.new result (O.got out.old) (O.got out.new) }
     // no line that has an end is left unanswered, and less can be taken than before
     ensures reading { OnOk result (IsReading reader.new) }
     ensures none { OnOk result (0 < length piece.now → coming ended_lines reader.new [] ≡ []) }
@@ -147,18 +123,17 @@ fn answer_piece<F: Folder, O: Sink, L: Ledger>(
     ensures never { (m : Files) → F.names folder.old ≡ Some m → (name : List ℕ) (was : ℕ) (now : Option ℕ) → result ≡ Err (Fault.Changed name was now) → ⊥ }
     ensures cause { HasCauses (F.faults folder.old) (F.faults folder.new) (O.faults out.old) (O.faults out.new) result }
     ensures not_input { result ≡ Err Fault.InputFault → ⊥ }
-    ensures right { IsRight F.file_bytes F.file_len (F.names folder.new) cat.now lane.new.pool lane.new.files }
-    ensures room { length room.new.values.items ≡ length room.old.values.items }
-    ensures late { IfErr result IsLate }
+    ensures ready { IsReady F.Folder folder.new question.now.cat points.new.pixels.lane }
+    ensures room { length points.new.room.values.items ≡ length points.old.room.values.items }
+    ensures late { IfErr result IsOfLines }
     ensures differs { Differs result }
     ensures names { F.names folder.new ≡ F.names folder.old }
+    ensures writes { F.write_calls folder.new ≡ F.write_calls folder.old }
 {
     let mut at = 0;
     while at < piece.len() {
         let rest = &piece[at..];
-        let used = answer_next(
-            alloc, cat, folder, out, lane, loads, id, asked, room, reader, rest,
-        )?;
+        let used = answer_next(question, points, folder, out, reader, rest)?;
         at += used;
     }
     Ok(())
@@ -166,36 +141,31 @@ fn answer_piece<F: Folder, O: Sink, L: Ledger>(
 
 // Answers the lines that end in the input, which is taken in pieces up to its end.
 fn answer_pieces<F: Folder, I: Input, O: Sink, L: Ledger>(
-    alloc: Global,
-    cat: &Catalog,
+    question: &Question,
+    points: &mut PointReader<F, L>,
     folder: &mut F,
     input: &mut I,
     out: &mut O,
-    lane: &mut Lane<F>,
-    loads: &mut Steps<L>,
-    id: u32,
-    asked: &Asked,
-    room: &mut Room,
     reader: &mut PointLines,
     bytes: &mut [u8],
 ) -> Result<(), Fault>
-    requires right { IsRight F.file_bytes F.file_len (F.names folder.old) cat.now lane.old.pool lane.old.files }
-    requires walked { (m : Files) → F.names folder.old ≡ Some m → IsWalked m cat.now }
-    requires bands { AreBands cat.now id (λ count. All (λ band. (1 ≤ band) × (band ≤ count)) asked.now.bands) }
-    requires room { length room.old.values.items ≡ length asked.now.bands }
+    requires ready { IsReady F.Folder folder.old question.now.cat points.old.pixels.lane }
+    requires bands { AreBands question.now.cat question.now.id (λ count. All (λ band. (1 ≤ band) × (band ≤ count)) question.now.asked.bands) }
+    requires room { length points.old.room.values.items ≡ length question.now.asked.bands }
     requires start { reader.old ≡ start }
     requires some { 0 < length bytes.old }
-    ensures told { (m : Files) → F.names folder.old ≡ Some m → (d : Dataset) → slice_get cat.now id ≡ Some d → (i : List ℕ) → I.left input.old ≡ Some i → AnswersPieces (point_text m cat.now d asked.now) i (I.left input.new) reader.new result (O.got out.old) (O.got out.new) }
-    ensures stopped { result ≡ Err Fault.InputFault → (m : Files) → F.names folder.old ≡ Some m → (d : Dataset) → slice_get cat.now id ≡ Some d → (i : List ℕ) → I.left input.old ≡ Some i → StopsBehind (ran_lines (point_text m cat.now d asked.now)) i (I.left input.new) (O.got out.old) (O.got out.new) }
+    ensures told { (m : Files) → F.names folder.old ≡ Some m → (d : Dataset) → slice_get question.now.cat question.now.id ≡ Some d → (i : List ℕ) → I.left input.old ≡ Some i → AnswersPieces (point_text m question.now.cat d question.now.asked) i (I.left input.new) reader.new result (O.got out.old) (O.got out.new) }
+    ensures stopped { result ≡ Err Fault.InputFault → (m : Files) → F.names folder.old ≡ Some m → (d : Dataset) → slice_get question.now.cat question.now.id ≡ Some d → (i : List ℕ) → I.left input.old ≡ Some i → StopsBehind (answers (point_text m question.now.cat d question.now.asked) None) i (I.left input.new) (O.got out.old) (O.got out.new) }
     ensures read { OnOk result ((i : List ℕ) → I.left input.old ≡ Some i → I.left input.new ≡ Some []) }
     ensures never { (m : Files) → F.names folder.old ≡ Some m → (name : List ℕ) (was : ℕ) (now : Option ℕ) → result ≡ Err (Fault.Changed name was now) → ⊥ }
     ensures cause { HasCauses (F.faults folder.old) (F.faults folder.new) (O.faults out.old) (O.faults out.new) result }
     ensures input_cause { HasCause Fault.InputFault (I.faults input.old) (I.faults input.new) result }
-    ensures right { IsRight F.file_bytes F.file_len (F.names folder.new) cat.now lane.new.pool lane.new.files }
-    ensures room { length room.new.values.items ≡ length room.old.values.items }
-    ensures late { IfErr result IsLate }
+    ensures ready { IsReady F.Folder folder.new question.now.cat points.new.pixels.lane }
+    ensures room { length points.new.room.values.items ≡ length points.old.room.values.items }
+    ensures late { IfErr result IsOfLines }
     ensures differs { Differs result }
     ensures names { F.names folder.new ≡ F.names folder.old }
+    ensures writes { F.write_calls folder.new ≡ F.write_calls folder.old }
 {
     'pieces: loop {
         let count = match input.take(bytes) {
@@ -206,9 +176,7 @@ fn answer_pieces<F: Folder, I: Input, O: Sink, L: Ledger>(
             return Ok(());
         }
         let piece = &bytes[..count];
-        answer_piece(
-            alloc, cat, folder, out, lane, loads, id, asked, room, reader, piece,
-        )?;
+        answer_piece(question, points, folder, out, reader, piece)?;
     }
 }
 
@@ -220,54 +188,42 @@ fn answer_pieces<F: Folder, I: Input, O: Sink, L: Ledger>(
 /// the input's count rose; exactly the whole lines among the bytes that it gave were answered then. All other
 /// refusals are those of `put_point`.
 pub fn answer_input<F: Folder, I: Input, O: Sink, L: Ledger>(
-    alloc: Global,
-    cat: &Catalog,
+    question: &Question,
+    points: &mut PointReader<F, L>,
     folder: &mut F,
     input: &mut I,
     out: &mut O,
-    lane: &mut Lane<F>,
-    loads: &mut Steps<L>,
-    id: u32,
-    asked: &Asked,
-    room: &mut Room,
 ) -> Result<(), Fault>
-    requires right { IsRight F.file_bytes F.file_len (F.names folder.old) cat.now lane.old.pool lane.old.files }
-    requires walked { (m : Files) → F.names folder.old ≡ Some m → IsWalked m cat.now }
-    requires bands { AreBands cat.now id (λ count. All (λ band. (1 ≤ band) × (band ≤ count)) asked.now.bands) }
-    requires room { length room.old.values.items ≡ length asked.now.bands }
-    ensures told { (m : Files) → F.names folder.old ≡ Some m → (d : Dataset) → slice_get cat.now id ≡ Some d → (i : List ℕ) → I.left input.old ≡ Some i → AnswersInput (point_text m cat.now d asked.now) i (I.left input.new) result (O.got out.old) (O.got out.new) }
-    ensures stopped { result ≡ Err Fault.InputFault → (m : Files) → F.names folder.old ≡ Some m → (d : Dataset) → slice_get cat.now id ≡ Some d → (i : List ℕ) → I.left input.old ≡ Some i → StopsBehind (ran_lines (point_text m cat.now d asked.now)) i (I.left input.new) (O.got out.old) (O.got out.new) }
+    requires ready { IsReady F.Folder folder.old question.now.cat points.old.pixels.lane }
+    requires bands { AreBands question.now.cat question.now.id (λ count. All (λ band. (1 ≤ band) × (band ≤ count)) question.now.asked.bands) }
+    requires room { length points.old.room.values.items ≡ length question.now.asked.bands }
+    ensures told { (m : Files) → F.names folder.old ≡ Some m → (d : Dataset) → slice_get question.now.cat question.now.id ≡ Some d → (i : List ℕ) → I.left input.old ≡ Some i → AnswersInput (point_text m question.now.cat d question.now.asked) i (I.left input.new) result (O.got out.old) (O.got out.new) }
+    ensures stopped { result ≡ Err Fault.InputFault → (m : Files) → F.names folder.old ≡ Some m → (d : Dataset) → slice_get question.now.cat question.now.id ≡ Some d → (i : List ℕ) → I.left input.old ≡ Some i → StopsBehind (answers (point_text m question.now.cat d question.now.asked) None) i (I.left input.new) (O.got out.old) (O.got out.new) }
     // over every folder, success is at the end of the input; over one that tells its names, no length is said to have changed
     ensures read { OnOk result ((i : List ℕ) → I.left input.old ≡ Some i → I.left input.new ≡ Some []) }
     ensures never { (m : Files) → F.names folder.old ≡ Some m → (name : List ℕ) (was : ℕ) (now : Option ℕ) → result ≡ Err (Fault.Changed name was now) → ⊥ }
     ensures cause { HasCauses (F.faults folder.old) (F.faults folder.new) (O.faults out.old) (O.faults out.new) result }
     ensures input_cause { HasCause Fault.InputFault (I.faults input.old) (I.faults input.new) result }
-    ensures right { IsRight F.file_bytes F.file_len (F.names folder.new) cat.now lane.new.pool lane.new.files }
-    ensures room { length room.new.values.items ≡ length room.old.values.items }
-    ensures late { IfErr result IsLate }
+    ensures ready { IsReady F.Folder folder.new question.now.cat points.new.pixels.lane }
+    ensures room { length points.new.room.values.items ≡ length points.old.room.values.items }
+    ensures late { IfErr result IsOfLines }
     ensures differs { Differs result }
     ensures names { F.names folder.new ≡ F.names folder.old }
+    ensures writes { F.write_calls folder.new ≡ F.write_calls folder.old }
 {
-    let mut reader = PointLines::new(alloc)?;
-    let mut bytes = vec![in alloc; 0u8; PIECE]?;
+    let mut reader = PointLines::new(question.alloc)?;
+    let mut bytes = vec![in question.alloc; 0u8; PIECE]?;
     answer_pieces(
-        alloc,
-        cat,
+        question,
+        points,
         folder,
         input,
         out,
-        lane,
-        loads,
-        id,
-        asked,
-        room,
         &mut reader,
         &mut bytes,
     )?;
     match reader.finish() {
-        Some(last) => answer_line(
-            alloc, cat, folder, out, lane, loads, id, asked, room, last.line, last.kind,
-        ),
+        Some(last) => answer_line(question, points, folder, out, last.line, last.kind),
         None => Ok(()),
     }
 }

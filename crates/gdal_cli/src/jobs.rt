@@ -2,33 +2,50 @@
 ghost use Rattle.std.specs.Prelude.{◌≡◌, ◌≤◌, ◌<◌, ℕ, List, All, IfErr, OnOk, Option, Some, Ok, Err, [], not, true, false, slice_get, is_some};
 ghost use Rattle.outside.specs.Outside.{Files};
 ghost use Rattle.outside.specs.Causes.{HasCause};
+ghost use Rattle.outside.specs.Reading.{OnlyRead};
 ghost use Rattle.input_points.specs.Entries.{entries};
+ghost use Rattle.input_points.specs.declared.entry.Entry.{Entry};
 ghost use Rattle.catalog.specs.Drivers.{Dataset};
 ghost use Rattle.catalog.specs.Walk.{IsWalked};
-ghost use Rattle.gdal_cli.specs.Faults.{HasCauses, HasChanged, OwnsFault, IsLate, Differs};
+ghost use Rattle.error_lines.specs.Faults.{HasCauses, HasChanged, OwnsFault, Differs};
+ghost use Rattle.gdal_cli.specs.Faults.{IsOfReading, IsOfLines};
 ghost use Rattle.gdal_cli.specs.Input.{StopsBehind};
-ghost use Rattle.gdal_cli.specs.Location.{answers, point_text, location_in};
+ghost use Rattle.gdal_cli.specs.Location.{answers, point_text};
 ghost use Rattle.gdal_cli.specs.Pixels.{AreBands};
-ghost use Rattle.gdal_cli.specs.Run.{Ends, ran_of, info_in, printed_by, name_read, reads_sources, reads_input, ended, RefusesUnknown};
+ghost use Rattle.gdal_cli.specs.Run.{Ends, Goes, MayEnd, IsRefusal, name_read, names_published, reads_sources, reads_input, ended, RefusesKind};
+ghost use Rattle.gdal_cli.specs.Work.{info_judged, location_judged, judged_by, carried_out};
 
-use crate::Fault;
-use crate::asked::{Asked, asked_in};
+use crate::asked::asked_in;
 use crate::command::{BandNumber, BlockCount, Command, Job};
 use crate::input::answer_input;
-use crate::points::{Room, put_point};
-use band_blocks::Steps;
+use crate::points::put_point;
+use crate::reader::{PointReader, Question};
 use catalog::{Catalog, head_of, open_all};
+use error_lines::Fault;
 use info_report::write_info;
 use input_points::Position;
 use location_report::Form;
-use nearest_window::Lane;
 use outside::{Folder, Input, Name, Sink};
 use std::alloc::Global;
 use std::marker::Brand;
 use std::sync::ledger::{Blank, Ledger};
 
+// How points of a dataset are asked for.
+#[derive(Clone, Copy)]
+struct LocateOptions {
+    // The one point, or none where the points are the lines of the input.
+    point: Option<(Position, Position)>,
+    form: Form,
+    // Whether a point is a place, and not a column and a line.
+    geoloc: bool,
+    // Whether the sums of records are to be checked.
+    verify: bool,
+    // How many blocks are held at once.
+    blocks: BlockCount,
+}
+
 // Puts the report of a dataset.
-#[tactic(auto, unfolding(crate::specs::Run::info_in))]
+#[tactic(auto, unfolding(crate::specs::Work::info_judged))]
 fn put_info<F: Folder, O: Sink>(
     alloc: Global,
     folder: &mut F,
@@ -36,11 +53,14 @@ fn put_info<F: Folder, O: Sink>(
     name: &Name,
     verify: bool,
 ) -> Result<(), Fault>
-    ensures told { (m : Files) → F.names folder.old ≡ Some m → Ends (ran_of (info_in m name.now verify)) result (O.got out.old) (O.got out.new) }
+    ensures told { (m : Files) → F.names folder.old ≡ Some m → (lines : List Entry) → Ends (carried_out (info_judged m verify name.now) m lines) result (O.got out.old) (O.got out.new) }
+    ensures refused { IsRefusal (ended result) → out.new ≡ out.old }
     ensures names { F.names folder.new ≡ F.names folder.old }
+    ensures writes { F.write_calls folder.new ≡ F.write_calls folder.old }
     ensures cause { HasCauses (F.faults folder.old) (F.faults folder.new) (O.faults out.old) (O.faults out.new) result }
+    ensures may_end { IfErr result (MayEnd (Job.Info name.now)) }
     ensures not_input { result ≡ Err Fault.InputFault → ⊥ }
-    ensures unknown { RefusesUnknown true name.now result }
+    ensures unknown { RefusesKind true name.now result }
     ensures changed { HasChanged (F.names folder.old) (ended result) }
     ensures own { OwnsFault (ended result) }
 {
@@ -51,13 +71,10 @@ fn put_info<F: Folder, O: Sink>(
 
 // Answers a point of a dataset, or the lines of the input where none is given, through one lane.
 fn put_answers<F: Folder, I: Input, O: Sink, L: Ledger>(
-    alloc: Global,
-    cat: &Catalog,
+    question: &Question,
     folder: &mut F,
     input: &mut I,
     out: &mut O,
-    id: u32,
-    asked: &Asked,
     point: Option<(Position, Position)>,
     blocks: BlockCount,
     blank: Blank,
@@ -65,77 +82,79 @@ fn put_answers<F: Folder, I: Input, O: Sink, L: Ledger>(
     requires name { blank.name ≡ L.name }
     requires parts { blank.parts ≡ L.parts }
     requires some { 0 < blank.parts }
-    requires walked { (m : Files) → F.names folder.old ≡ Some m → IsWalked m cat.now }
-    requires bands { AreBands cat.now id (λ count. All (λ band. (1 ≤ band) × (band ≤ count)) asked.now.bands) }
-    ensures told { (m : Files) → F.names folder.old ≡ Some m → (d : Dataset) → slice_get cat.now id ≡ Some d → (i : List ℕ) → I.left input.old ≡ Some i → Ends (ran_of (Ok (answers (point_text m cat.now d asked.now) point (entries i)))) result (O.got out.old) (O.got out.new) }
+    requires walked { (m : Files) → F.names folder.old ≡ Some m → IsWalked m question.now.cat }
+    requires bands { AreBands question.now.cat question.now.id (λ count. All (λ band. (1 ≤ band) × (band ≤ count)) question.now.asked.bands) }
+    ensures told { (m : Files) → F.names folder.old ≡ Some m → (d : Dataset) → slice_get question.now.cat question.now.id ≡ Some d → (i : List ℕ) → (is_some point ≡ false → I.left input.old ≡ Some i) → Ends (answers (point_text m question.now.cat d question.now.asked) point (entries i)) result (O.got out.old) (O.got out.new) }
     ensures never { (m : Files) → F.names folder.old ≡ Some m → (name : List ℕ) (was : ℕ) (now : Option ℕ) → result ≡ Err (Fault.Changed name was now) → ⊥ }
-    ensures stopped { result ≡ Err Fault.InputFault → (m : Files) → F.names folder.old ≡ Some m → (d : Dataset) → slice_get cat.now id ≡ Some d → (i : List ℕ) → I.left input.old ≡ Some i → StopsBehind (λ lines. ran_of (Ok (answers (point_text m cat.now d asked.now) point lines))) i (I.left input.new) (O.got out.old) (O.got out.new) }
+    ensures stopped { result ≡ Err Fault.InputFault → (m : Files) → F.names folder.old ≡ Some m → (d : Dataset) → slice_get question.now.cat question.now.id ≡ Some d → (i : List ℕ) → I.left input.old ≡ Some i → StopsBehind (answers (point_text m question.now.cat d question.now.asked) point) i (I.left input.new) (O.got out.old) (O.got out.new) }
     ensures read { OnOk result (is_some point ≡ false → (i : List ℕ) → I.left input.old ≡ Some i → I.left input.new ≡ Some []) }
     ensures untouched { is_some point ≡ true → input.new ≡ input.old }
     ensures cause { HasCauses (F.faults folder.old) (F.faults folder.new) (O.faults out.old) (O.faults out.new) result }
     ensures input_cause { HasCause Fault.InputFault (I.faults input.old) (I.faults input.new) result }
-    ensures late { IfErr result IsLate }
+    ensures lines { IfErr result IsOfLines }
+    ensures point { is_some point ≡ true → IfErr result IsOfReading }
     ensures differs { Differs result }
     ensures names { F.names folder.new ≡ F.names folder.old }
+    ensures writes { F.write_calls folder.new ≡ F.write_calls folder.old }
 {
-    let mut loads: Steps<L> = Steps::open(blank);
-    let mut lane = Lane::new(alloc, blocks.get())?;
-    let mut room = Room::new(alloc, asked.bands.len())?;
-    let (lane, room) = (&mut lane, &mut room);
+    let bands = question.asked.bands.len();
+    let mut points: PointReader<F, L> = PointReader::new(question.alloc, blocks, bands, blank)?;
     match point {
-        Some((x, y)) => put_point(
-            alloc, cat, folder, out, lane, &mut loads, id, asked, room, x, y,
-        ),
-        None => answer_input(
-            alloc, cat, folder, input, out, lane, &mut loads, id, asked, room,
-        ),
+        Some((x, y)) => put_point(question, &mut points, folder, out, x, y),
+        None => answer_input(question, &mut points, folder, input, out),
     }
 }
 
 // Walks from a dataset, and answers what is asked of it.
-#[tactic(auto, unfolding(crate::specs::Location::location_in))]
+#[tactic(auto, unfolding(crate::specs::Work::location_judged))]
 fn put_location<F: Folder, I: Input, O: Sink>(
     alloc: Global,
     folder: &mut F,
     input: &mut I,
     out: &mut O,
     name: &Name,
-    point: Option<(Position, Position)>,
     bands: &[BandNumber],
-    form: Form,
-    geoloc: bool,
-    verify: bool,
-    blocks: BlockCount,
+    options: LocateOptions,
 ) -> Result<(), Fault>
-    ensures told { (m : Files) → F.names folder.old ≡ Some m → (i : List ℕ) → I.left input.old ≡ Some i → Ends (ran_of (location_in m verify name.now point bands.now form geoloc (entries i))) result (O.got out.old) (O.got out.new) }
-    ensures stopped { result ≡ Err Fault.InputFault → (m : Files) → F.names folder.old ≡ Some m → (i : List ℕ) → I.left input.old ≡ Some i → StopsBehind (λ lines. ran_of (location_in m verify name.now point bands.now form geoloc lines)) i (I.left input.new) (O.got out.old) (O.got out.new) }
-    ensures read { OnOk result (is_some point ≡ false → (i : List ℕ) → I.left input.old ≡ Some i → I.left input.new ≡ Some []) }
-    ensures untouched { is_some point ≡ true → input.new ≡ input.old }
+    ensures told { (m : Files) → F.names folder.old ≡ Some m → (i : List ℕ) → (is_some options.point ≡ false → I.left input.old ≡ Some i) → Ends (carried_out (location_judged m options.verify name.now options.point bands.now options.form options.geoloc) m (entries i)) result (O.got out.old) (O.got out.new) }
+    ensures stopped { result ≡ Err Fault.InputFault → (m : Files) → F.names folder.old ≡ Some m → (i : List ℕ) → I.left input.old ≡ Some i → StopsBehind (carried_out (location_judged m options.verify name.now options.point bands.now options.form options.geoloc) m) i (I.left input.new) (O.got out.old) (O.got out.new) }
+    ensures read { OnOk result (is_some options.point ≡ false → (i : List ℕ) → I.left input.old ≡ Some i → I.left input.new ≡ Some []) }
+    ensures untouched { is_some options.point ≡ true → input.new ≡ input.old }
+    ensures refused { IsRefusal (ended result) → (out.new ≡ out.old) × (input.new ≡ input.old) }
+    ensures may_end { IfErr result (MayEnd (Job.Locate name.now options.point bands.now options.form options.geoloc)) }
     ensures names { F.names folder.new ≡ F.names folder.old }
+    ensures writes { F.write_calls folder.new ≡ F.write_calls folder.old }
     ensures cause { HasCauses (F.faults folder.old) (F.faults folder.new) (O.faults out.old) (O.faults out.new) result }
     ensures input_cause { HasCause Fault.InputFault (I.faults input.old) (I.faults input.new) result }
-    ensures unknown { RefusesUnknown false name.now result }
+    ensures unknown { RefusesKind false name.now result }
     ensures changed { HasChanged (F.names folder.old) (ended result) }
     ensures own { OwnsFault (ended result) }
 {
     let mut cat = Catalog::new(alloc);
-    let id = open_all(alloc, &mut cat, folder, name, verify)?;
-    let asked = asked_in(alloc, form, bands, geoloc, cat.head(id))?;
-    put_answers::<F, I, O, Brand>(
+    let id = open_all(alloc, &mut cat, folder, name, options.verify)?;
+    let asked = asked_in(alloc, options.form, bands, options.geoloc, cat.head(id))?;
+    let question = Question {
         alloc,
-        &cat,
+        cat,
+        id,
+        asked,
+    };
+    put_answers::<F, I, O, Brand>(
+        &question,
         folder,
         input,
         out,
-        id,
-        &asked,
-        point,
-        blocks,
+        options.point,
+        options.blocks,
         Blank::new(1),
     )
 }
 
-/// Does a job, and puts its text.
+/// Does a job: judges the files that it names, and then puts its texts.
+///
+/// Each refusal comes where the files are judged, before anything is put, but for BadPoint and the limit of points, which
+/// come at their line of the input. FolderFault, InputFault and OutFault come only where the count of the folder, of the
+/// input and of the output rose, Changed only over a folder that doesn't tell its names, Memory freely.
 pub fn put_job<F: Folder, I: Input, O: Sink>(
     alloc: Global,
     folder: &mut F,
@@ -143,14 +162,16 @@ pub fn put_job<F: Folder, I: Input, O: Sink>(
     out: &mut O,
     command: Command,
 ) -> Result<(), Fault>
-    ensures told { (m : Files) → F.names folder.old ≡ Some m → (i : List ℕ) → I.left input.old ≡ Some i → Ends (ran_of (printed_by command.job m command.verify (entries i))) result (O.got out.old) (O.got out.new) }
-    ensures stopped { result ≡ Err Fault.InputFault → (m : Files) → F.names folder.old ≡ Some m → (i : List ℕ) → I.left input.old ≡ Some i → StopsBehind (λ lines. ran_of (printed_by command.job m command.verify lines)) i (I.left input.new) (O.got out.old) (O.got out.new) }
+    ensures told { (m : Files) → F.names folder.old ≡ Some m → (i : List ℕ) → (reads_input command.job ≡ true → I.left input.old ≡ Some i) → Goes (carried_out (judged_by command.job command.verify m) m (entries i)) m result (F.names folder.new) (O.got out.old) (O.got out.new) }
+    ensures stopped { result ≡ Err Fault.InputFault → (m : Files) → F.names folder.old ≡ Some m → (i : List ℕ) → I.left input.old ≡ Some i → StopsBehind (carried_out (judged_by command.job command.verify m) m) i (I.left input.new) (O.got out.old) (O.got out.new) }
+    ensures refused { IsRefusal (ended result) → (out.new ≡ out.old) × (input.new ≡ input.old) × (F.names folder.new ≡ F.names folder.old) }
+    ensures only_read { names_published command.job ≡ [] → OnlyRead F.Folder folder.old folder.new }
+    ensures may_end { IfErr result (MayEnd command.job) }
     ensures read { OnOk result (reads_input command.job ≡ true → (i : List ℕ) → I.left input.old ≡ Some i → I.left input.new ≡ Some []) }
     ensures untouched { reads_input command.job ≡ false → input.new ≡ input.old }
-    ensures names { F.names folder.new ≡ F.names folder.old }
     ensures cause { HasCauses (F.faults folder.old) (F.faults folder.new) (O.faults out.old) (O.faults out.new) result }
     ensures input_cause { HasCause Fault.InputFault (I.faults input.old) (I.faults input.new) result }
-    ensures unknown { RefusesUnknown (not (reads_sources command.job)) (name_read command.job) result }
+    ensures unknown { RefusesKind (not (reads_sources command.job)) (name_read command.job) result }
     ensures changed { HasChanged (F.names folder.old) (ended result) }
     ensures own { OwnsFault (ended result) }
 {
@@ -164,18 +185,15 @@ pub fn put_job<F: Folder, I: Input, O: Sink>(
             bands,
             form,
             geoloc,
-        } => put_location(
-            alloc,
-            folder,
-            input,
-            out,
-            &name,
-            point,
-            bands.as_slice(),
-            form,
-            geoloc,
-            verify,
-            blocks,
-        ),
+        } => {
+            let options = LocateOptions {
+                point,
+                form,
+                geoloc,
+                verify,
+                blocks,
+            };
+            put_location(alloc, folder, input, out, &name, bands.as_slice(), options)
+        }
     }
 }

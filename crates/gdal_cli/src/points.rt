@@ -3,45 +3,23 @@ ghost use Rattle.std.specs.Prelude.{◌≡◌, ◌≤◌, ℕ, pos, List, [], Al
 ghost use Rattle.outside.specs.Outside.{Files};
 ghost use Rattle.outside.specs.Causes.{HasCause};
 ghost use Rattle.catalog.specs.Drivers.{Dataset};
-ghost use Rattle.catalog.specs.Walk.{IsWalked};
-ghost use Rattle.nearest_window.specs.Right.{IsRight};
+ghost use Rattle.nearest_window.specs.Right.{IsReady};
 ghost use Rattle.location_report.specs.Covering.{covering_files};
-ghost use Rattle.gdal_cli.specs.Faults.{IsOutside, IsLate, Differs, HasCauses};
+ghost use Rattle.error_lines.specs.Faults.{IsOutside, Differs, HasCauses};
+ghost use Rattle.gdal_cli.specs.Faults.{IsOfReading};
 ghost use Rattle.gdal_cli.specs.Location.{told_text, point_text, PutsText};
 ghost use Rattle.gdal_cli.specs.Pixels.{IsPixel, AreBands};
 
-use crate::Fault;
-use crate::asked::Asked;
 use crate::places::{place_of, within};
+use crate::reader::{PixelReader, PointReader, Question, Room};
 use crate::values::read_values;
-use band_blocks::Steps;
 use catalog::Catalog;
-use geotransform::Sample;
+use error_lines::Fault;
 use input_points::Position;
 use location_report::{Form, files_at, push_location};
-use nearest_window::Lane;
 use outside::{Failed, Folder, Names, Sink};
-use std::alloc::{AllocError, Global};
+use std::alloc::Global;
 use std::sync::ledger::Ledger;
-
-/// Room for the values of one point, one for each band, and for its text, which is used again for the next point.
-#[derive(Drop)]
-pub struct Room {
-    values: Vec<Sample>,
-    text: Vec<u8>,
-}
-
-impl Room {
-    /// Room for the values of so many bands, and no text.
-    pub fn new(alloc: Global, bands: usize) -> Result<Room, AllocError>
-        ensures values { IfOk result (λ room. length room.values.items ≡ bands) }
-    {
-        Ok(Room {
-            values: vec![in alloc; 0; bands]?,
-            text: Vec::new(alloc),
-        })
-    }
-}
 
 // The names of the files that cover a column and a line in these bands, counted from 1.
 fn covering(
@@ -65,57 +43,47 @@ fn covering(
 
 // Makes the text of a place in the raster, of which only what the form tells is read.
 fn make_inside<F: Folder, L: Ledger>(
-    alloc: Global,
-    cat: &Catalog,
+    question: &Question,
+    pixels: &mut PixelReader<F, L>,
     folder: &mut F,
-    lane: &mut Lane<F>,
-    loads: &mut Steps<L>,
-    id: u32,
-    asked: &Asked,
     room: &mut Room,
     x: u32,
     y: u32,
 ) -> Result<(), Fault>
-    requires right { IsRight F.file_bytes F.file_len (F.names folder.old) cat.now lane.old.pool lane.old.files }
-    requires walked { (m : Files) → F.names folder.old ≡ Some m → IsWalked m cat.now }
-    requires bands { AreBands cat.now id (λ count. All (λ band. (1 ≤ band) × (band ≤ count)) asked.now.bands) }
-    requires room { length room.old.values.items ≡ length asked.now.bands }
-    requires pixel { IsPixel cat.now id x y }
+    requires ready { IsReady F.Folder folder.old question.now.cat pixels.old.lane }
+    requires bands { AreBands question.now.cat question.now.id (λ count. All (λ band. (1 ≤ band) × (band ≤ count)) question.now.asked.bands) }
+    requires room { length room.old.values.items ≡ length question.now.asked.bands }
+    requires pixel { IsPixel question.now.cat question.now.id x y }
     requires empty { room.old.text.items ≡ [] }
-    ensures text { (m : Files) → F.names folder.old ≡ Some m → (d : Dataset) → slice_get cat.now id ≡ Some d → OnOk result (room.new.text.items ≡ told_text m cat.now d asked.now (pos x, pos y)) }
+    ensures text { (m : Files) → F.names folder.old ≡ Some m → (d : Dataset) → slice_get question.now.cat question.now.id ≡ Some d → OnOk result (room.new.text.items ≡ told_text m question.now.cat d question.now.asked (pos x, pos y)) }
     ensures never { (m : Files) → F.names folder.old ≡ Some m → IfErr result IsOutside }
     ensures cause { HasCause Fault.FolderFault (F.faults folder.old) (F.faults folder.new) result }
     ensures not_input { result ≡ Err Fault.InputFault → ⊥ }
     ensures not_out { result ≡ Err Fault.OutFault → ⊥ }
-    ensures right { IsRight F.file_bytes F.file_len (F.names folder.new) cat.now lane.new.pool lane.new.files }
+    ensures ready { IsReady F.Folder folder.new question.now.cat pixels.new.lane }
     ensures room { length room.new.values.items ≡ length room.old.values.items }
-    ensures late { IfErr result IsLate }
+    ensures late { IfErr result IsOfReading }
     ensures differs { Differs result }
     ensures names { F.names folder.new ≡ F.names folder.old }
+    ensures writes { F.write_calls folder.new ≡ F.write_calls folder.old }
 {
-    let _count = cat.count();
-    let bands = asked.bands.as_slice();
+    // The catalog keeps its rules.
+    let _count = question.cat.count();
+    let form = question.asked.form;
+    let bands = question.asked.bands.as_slice();
     let (column, line) = (i128::from(x), i128::from(y));
-    match asked.form {
+    match form {
         Form::FilesOnly => {
-            let files = covering(alloc, cat, id, bands, x, y)?;
-            push_location(
-                asked.form,
-                column,
-                line,
-                None,
-                bands,
-                &files,
-                &mut room.text,
-            )?;
+            let files = covering(question.alloc, &question.cat, question.id, bands, x, y)?;
+            push_location(form, column, line, None, bands, &files, &mut room.text)?;
         }
         Form::Report | Form::ValuesOnly => {
             let values = room.values.as_mut_slice();
-            read_values(alloc, cat, folder, lane, loads, id, bands, x, y, values)?;
-            let none = Names::new(alloc);
+            read_values(question, pixels, folder, bands, x, y, values)?;
+            let none = Names::new(question.alloc);
             let values = room.values.as_slice();
             push_location(
-                asked.form,
+                form,
                 column,
                 line,
                 Some(values),
@@ -130,40 +98,44 @@ fn make_inside<F: Folder, L: Ledger>(
 
 // Makes the text of a place.
 fn make_text<F: Folder, L: Ledger>(
-    alloc: Global,
-    cat: &Catalog,
+    question: &Question,
+    pixels: &mut PixelReader<F, L>,
     folder: &mut F,
-    lane: &mut Lane<F>,
-    loads: &mut Steps<L>,
-    id: u32,
-    asked: &Asked,
     room: &mut Room,
     column: i128,
     line: i128,
 ) -> Result<(), Fault>
-    requires right { IsRight F.file_bytes F.file_len (F.names folder.old) cat.now lane.old.pool lane.old.files }
-    requires walked { (m : Files) → F.names folder.old ≡ Some m → IsWalked m cat.now }
-    requires bands { AreBands cat.now id (λ count. All (λ band. (1 ≤ band) × (band ≤ count)) asked.now.bands) }
-    requires room { length room.old.values.items ≡ length asked.now.bands }
-    ensures text { (m : Files) → F.names folder.old ≡ Some m → (d : Dataset) → slice_get cat.now id ≡ Some d → OnOk result (room.new.text.items ≡ told_text m cat.now d asked.now (column, line)) }
+    requires ready { IsReady F.Folder folder.old question.now.cat pixels.old.lane }
+    requires bands { AreBands question.now.cat question.now.id (λ count. All (λ band. (1 ≤ band) × (band ≤ count)) question.now.asked.bands) }
+    requires room { length room.old.values.items ≡ length question.now.asked.bands }
+    ensures text { (m : Files) → F.names folder.old ≡ Some m → (d : Dataset) → slice_get question.now.cat question.now.id ≡ Some d → OnOk result (room.new.text.items ≡ told_text m question.now.cat d question.now.asked (column, line)) }
     ensures never { (m : Files) → F.names folder.old ≡ Some m → IfErr result IsOutside }
     ensures cause { HasCause Fault.FolderFault (F.faults folder.old) (F.faults folder.new) result }
     ensures not_input { result ≡ Err Fault.InputFault → ⊥ }
     ensures not_out { result ≡ Err Fault.OutFault → ⊥ }
-    ensures right { IsRight F.file_bytes F.file_len (F.names folder.new) cat.now lane.new.pool lane.new.files }
+    ensures ready { IsReady F.Folder folder.new question.now.cat pixels.new.lane }
     ensures room { length room.new.values.items ≡ length room.old.values.items }
-    ensures late { IfErr result IsLate }
+    ensures late { IfErr result IsOfReading }
     ensures differs { Differs result }
     ensures names { F.names folder.new ≡ F.names folder.old }
+    ensures writes { F.write_calls folder.new ≡ F.write_calls folder.old }
 {
-    let size = cat.head(id).size;
+    let size = question.cat.head(question.id).size;
     room.text.clear();
     match (within(size.w, column), within(size.h, line)) {
-        (Some(x), Some(y)) => make_inside(alloc, cat, folder, lane, loads, id, asked, room, x, y),
+        (Some(x), Some(y)) => make_inside(question, pixels, folder, room, x, y),
         (Some(_), None) | (None, _) => {
-            let none = Names::new(alloc);
-            let bands = asked.bands.as_slice();
-            push_location(asked.form, column, line, None, bands, &none, &mut room.text)?;
+            let none = Names::new(question.alloc);
+            let bands = question.asked.bands.as_slice();
+            push_location(
+                question.asked.form,
+                column,
+                line,
+                None,
+                bands,
+                &none,
+                &mut room.text,
+            )?;
             Ok(())
         }
     }
@@ -175,37 +147,31 @@ fn make_text<F: Folder, L: Ledger>(
 /// that doesn't tell its names, Memory freely. Nothing was put then, but for an OutFault, before which a first part of
 /// the text was.
 pub fn put_point<F: Folder, O: Sink, L: Ledger>(
-    alloc: Global,
-    cat: &Catalog,
+    question: &Question,
+    points: &mut PointReader<F, L>,
     folder: &mut F,
     out: &mut O,
-    lane: &mut Lane<F>,
-    loads: &mut Steps<L>,
-    id: u32,
-    asked: &Asked,
-    room: &mut Room,
     x: Position,
     y: Position,
 ) -> Result<(), Fault>
-    requires right { IsRight F.file_bytes F.file_len (F.names folder.old) cat.now lane.old.pool lane.old.files }
-    requires walked { (m : Files) → F.names folder.old ≡ Some m → IsWalked m cat.now }
-    requires bands { AreBands cat.now id (λ count. All (λ band. (1 ≤ band) × (band ≤ count)) asked.now.bands) }
-    requires room { length room.old.values.items ≡ length asked.now.bands }
-    ensures told { (m : Files) → F.names folder.old ≡ Some m → (d : Dataset) → slice_get cat.now id ≡ Some d → PutsText (point_text m cat.now d asked.now x y) result (O.got out.old) (O.got out.new) }
+    requires ready { IsReady F.Folder folder.old question.now.cat points.old.pixels.lane }
+    requires bands { AreBands question.now.cat question.now.id (λ count. All (λ band. (1 ≤ band) × (band ≤ count)) question.now.asked.bands) }
+    requires room { length points.old.room.values.items ≡ length question.now.asked.bands }
+    ensures told { (m : Files) → F.names folder.old ≡ Some m → (d : Dataset) → slice_get question.now.cat question.now.id ≡ Some d → PutsText (point_text m question.now.cat d question.now.asked x y) result (O.got out.old) (O.got out.new) }
     ensures never { (m : Files) → F.names folder.old ≡ Some m → (name : List ℕ) (was : ℕ) (now : Option ℕ) → result ≡ Err (Fault.Changed name was now) → ⊥ }
     ensures cause { HasCauses (F.faults folder.old) (F.faults folder.new) (O.faults out.old) (O.faults out.new) result }
     ensures not_input { result ≡ Err Fault.InputFault → ⊥ }
-    ensures right { IsRight F.file_bytes F.file_len (F.names folder.new) cat.now lane.new.pool lane.new.files }
-    ensures room { length room.new.values.items ≡ length room.old.values.items }
-    ensures late { IfErr result IsLate }
+    ensures ready { IsReady F.Folder folder.new question.now.cat points.new.pixels.lane }
+    ensures room { length points.new.room.values.items ≡ length points.old.room.values.items }
+    ensures late { IfErr result IsOfReading }
     ensures differs { Differs result }
     ensures names { F.names folder.new ≡ F.names folder.old }
+    ensures writes { F.write_calls folder.new ≡ F.write_calls folder.old }
 {
-    let (column, line) = place_of(asked.frame, x, y);
-    make_text(
-        alloc, cat, folder, lane, loads, id, asked, room, column, line,
-    )?;
-    match out.put(&room.text) {
+    let (column, line) = place_of(question.asked.frame, x, y);
+    let pixels = &mut points.pixels;
+    make_text(question, pixels, folder, &mut points.room, column, line)?;
+    match out.put(&points.room.text) {
         Ok(()) => Ok(()),
         Err(Failed) => Err(Fault::OutFault),
     }

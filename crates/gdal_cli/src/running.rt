@@ -1,25 +1,26 @@
 // A run of the program.
-ghost use Rattle.std.specs.Prelude.{◌≡◌, ◌≤◌, ◌⊎◌, ℕ, List, [], Option, Some, None, Ok, Err, OnOk, true, false, map, string_bytes};
+ghost use Rattle.std.specs.Prelude.{◌≡◌, ◌≤◌, ◌⊎◌, ℕ, List, [], IfOk, IfErr, IfSome, Option, Some, None, Ok, Err, OnOk, true, false, map, string_bytes};
 ghost use Rattle.outside.specs.Outside.{Files};
 ghost use Rattle.outside.specs.Causes.{HasCause, Rose};
-ghost use Rattle.input_points.specs.Entries.{entries};
+ghost use Rattle.outside.specs.Reading.{OnlyRead};
 ghost use Rattle.outside.specs.Streams.{Gets, GetsPart};
-ghost use Rattle.gdal_cli.specs.Faults.{HasCauses, HasChanged, IsOutside, OwnsFault, status_of};
+ghost use Rattle.input_points.specs.Entries.{entries};
+ghost use Rattle.error_lines.specs.Faults.{HasCauses, HasChanged, OwnsFault, status_of};
+ghost use Rattle.error_lines.specs.Texts.{line_of};
 ghost use Rattle.gdal_cli.specs.Input.{StopsBehind};
-ghost use Rattle.gdal_cli.specs.Texts.{line_of};
+ghost use Rattle.gdal_cli.specs.Run.{Goes, Answers, AreTold, MayEnd, IsRefusal, RefusesWords, RefusesDataset, words_read_input, words_published, ended};
+ghost use Rattle.gdal_cli.specs.Steps.{Step, IsFirstPart, AreDone};
 ghost use Rattle.gdal_cli.specs.Words.{words_of};
-ghost use Rattle.gdal_cli.specs.Run.{Ran, ran_of, run_of, run_over, printed_in, words_read_input, Ends, Answers, EndsEarly, Says, RefusesWords, RefusesDataset, ended};
+ghost use Rattle.gdal_cli.specs.Work.{run_of, run_over};
 
 use crate::jobs::put_job;
-use crate::texts::put_fault;
 use crate::words::read_words;
-use crate::{Fault, Outcome};
+use error_lines::{Fault, Outcome, tell};
 use outside::{Folder, Input, Sink};
 use std::alloc::Global;
 use std::thread::Threads;
 
 // Reads the words, and does what they ask for.
-#[tactic(auto, unfolding(crate::specs::Run::printed_in))]
 fn perform<F: Folder, I: Input, O: Sink>(
     alloc: Global,
     words: &[String],
@@ -27,12 +28,14 @@ fn perform<F: Folder, I: Input, O: Sink>(
     input: &mut I,
     out: &mut O,
 ) -> Result<(), Fault>
-    ensures told { (m : Files) → F.names folder.old ≡ Some m → (i : List ℕ) → I.left input.old ≡ Some i → Ends (ran_of (printed_in m (entries i) (map string_bytes words.now))) result (O.got out.old) (O.got out.new) }
+    ensures told { (m : Files) → F.names folder.old ≡ Some m → (i : List ℕ) → (words_read_input (words_of (map string_bytes words.now)) ≡ true → I.left input.old ≡ Some i) → Goes (run_over (map string_bytes words.now) m (entries i)) m result (F.names folder.new) (O.got out.old) (O.got out.new) }
     ensures stopped { result ≡ Err Fault.InputFault → (m : Files) → F.names folder.old ≡ Some m → (i : List ℕ) → I.left input.old ≡ Some i → StopsBehind (run_over (map string_bytes words.now) m) i (I.left input.new) (O.got out.old) (O.got out.new) }
+    ensures refused { IsRefusal (ended result) → (out.new ≡ out.old) × (input.new ≡ input.old) × (F.names folder.new ≡ F.names folder.old) }
+    ensures only_read { words_published (words_of (map string_bytes words.now)) ≡ [] → OnlyRead F.Folder folder.old folder.new }
+    ensures may_end { IfOk (words_of (map string_bytes words.now)) (λ command. IfErr result (MayEnd command.job)) }
     ensures read { OnOk result (words_read_input (words_of (map string_bytes words.now)) ≡ true → (i : List ℕ) → I.left input.old ≡ Some i → I.left input.new ≡ Some []) }
     ensures untouched { words_read_input (words_of (map string_bytes words.now)) ≡ false → input.new ≡ input.old }
     ensures input_cause { HasCause Fault.InputFault (I.faults input.old) (I.faults input.new) result }
-    ensures names { F.names folder.new ≡ F.names folder.old }
     ensures cause { HasCauses (F.faults folder.old) (F.faults folder.new) (O.faults out.old) (O.faults out.new) result }
     ensures usage { RefusesWords (words_of (map string_bytes words.now)) (ended result) }
     ensures unknown { RefusesDataset (words_of (map string_bytes words.now)) (ended result) }
@@ -49,53 +52,6 @@ fn ended(end: Result<(), Fault>) -> Option<Fault>
     end.err()
 }
 
-fn status(fault: &Option<Fault>) -> u8
-    ensures { result ≡ status_of fault.now }
-{
-    match fault {
-        None => 0,
-        Some(
-            Fault::Usage { .. }
-            | Fault::Absent { .. }
-            | Fault::NotRecognized { .. }
-            | Fault::Malformed { .. }
-            | Fault::Short { .. }
-            | Fault::Cycle { .. }
-            | Fault::TooDeep { .. }
-            | Fault::Limit { .. }
-            | Fault::SourceBand { .. }
-            | Fault::Plan(_)
-            | Fault::BadPoint { .. },
-        ) => 1,
-        Some(Fault::Changed { .. } | Fault::FolderFault | Fault::InputFault | Fault::OutFault) => 2,
-        Some(Fault::Memory) => 3,
-    }
-}
-
-// The line of the fault, where there is one. A failing stream changes nothing else.
-fn say<E: Sink>(err: &mut E, fault: &Option<Fault>)
-    ensures whole { (Rose (E.faults err.old) (E.faults err.new) → ⊥) → Gets (line_of fault.now) (E.got err.old) (E.got err.new) }
-    ensures part { GetsPart (line_of fault.now) (E.got err.old) (E.got err.new) }
-    ensures later { E.faults err.old ≤ E.faults err.new }
-{
-    if let Some(fault) = fault {
-        let _ = put_fault(err, fault);
-    }
-}
-
-/// Tells how a run ended: puts the line of its fault, where there is one. A failing `err` changes nothing else.
-pub fn tell<E: Sink>(err: &mut E, fault: Option<Fault>) -> Outcome
-    ensures fault { result.fault ≡ fault }
-    ensures status { result.status ≡ status_of fault }
-    ensures whole { (Rose (E.faults err.old) (E.faults err.new) → ⊥) → Gets (line_of fault) (E.got err.old) (E.got err.new) }
-    ensures part { GetsPart (line_of fault) (E.got err.old) (E.got err.new) }
-    ensures later { E.faults err.old ≤ E.faults err.new }
-{
-    say(err, &fault);
-    let status = status(&fault);
-    Outcome { status, fault }
-}
-
 /// Does all that the program does: reads the words behind the program's name, does what they ask
 /// for over the files of the folder and the lines of the input, prints on `out`, and tells a fault
 /// on `err`. It answers for every list of words.
@@ -108,13 +64,23 @@ pub fn run<R: Threads + Sync, F: Folder, I: Input, O: Sink, E: Sink>(
     out: &mut O,
     err: &mut E,
 ) -> Outcome
-    // Where the status is 0 or 1, fault, printed text and files are those of the definition.
-    ensures answer { result.status ≤ 1 → (m : Files) → F.names folder.old ≡ Some m → (i : List ℕ) → I.left input.old ≡ Some i
+    // Where the status is 0 or 1, the fault and all that was done are those of the definition.
+    ensures answer { result.status ≤ 1 → (m : Files) → F.names folder.old ≡ Some m → (i : List ℕ) → (words_read_input (words_of (map string_bytes words.now)) ≡ true → I.left input.old ≡ Some i)
         → Answers (run_of (map string_bytes words.now) m i) m result.fault (F.names folder.new) (O.got out.old) (O.got out.new) }
 
-    // Where it is 2 or 3, a first part of that text was printed and the first of the files stand.
-    ensures early_end { 2 ≤ result.status → (m : Files) → F.names folder.old ≡ Some m → (i : List ℕ) → I.left input.old ≡ Some i
-        → EndsEarly (run_of (map string_bytes words.now) m i) m (F.names folder.new) (O.got out.old) (O.got out.new) }
+    // Where it is 2 or 3, the first of its steps were done and told, and a first part of the text of the next.
+    ensures early_end { 2 ≤ result.status → (m : Files) → F.names folder.old ≡ Some m → (i : List ℕ) → (words_read_input (words_of (map string_bytes words.now)) ≡ true → I.left input.old ≡ Some i)
+        → (part : List Step) × IsFirstPart part (run_of (map string_bytes words.now) m i).steps × AreDone part m (F.names folder.new) (O.got out.old) (O.got out.new)
+        × AreTold part result.fault (E.faults err.old) (E.faults err.new) (E.got err.old) (E.got err.new) }
+
+    // Over every folder, a run that is refused before a line of the input has printed, taken and published nothing.
+    ensures refused { IsRefusal result.fault → (out.new ≡ out.old) × (input.new ≡ input.old) × (F.names folder.new ≡ F.names folder.old) }
+
+    // Over every folder, words that publish nothing only read it.
+    ensures only_read { words_published (words_of (map string_bytes words.now)) ≡ [] → OnlyRead F.Folder folder.old folder.new }
+
+    // Over every folder, a command ends with the faults of its job alone.
+    ensures may_end { IfOk (words_of (map string_bytes words.now)) (λ command. IfSome result.fault (MayEnd command.job)) }
 
     // Only a command that takes its points from the input reads it; one that succeeds read it to its end.
     ensures input { words_read_input (words_of (map string_bytes words.now)) ≡ false → input.new ≡ input.old }
@@ -147,7 +113,7 @@ pub fn run<R: Threads + Sync, F: Folder, I: Input, O: Sink, E: Sink>(
     ensures not_recognized { RefusesDataset (words_of (map string_bytes words.now)) result.fault }
 
     // Where nothing failed outside, the fault is that of the definition, or want of memory.
-    ensures complete { (m : Files) → F.names folder.old ≡ Some m → (i : List ℕ) → I.left input.old ≡ Some i
+    ensures complete { (m : Files) → F.names folder.old ≡ Some m → (i : List ℕ) → (words_read_input (words_of (map string_bytes words.now)) ≡ true → I.left input.old ≡ Some i)
         → (Rose (F.faults folder.old) (F.faults folder.new) → ⊥) → (Rose (I.faults input.old) (I.faults input.new) → ⊥) → (Rose (O.faults out.old) (O.faults out.new) → ⊥)
         → (result.fault ≡ (run_of (map string_bytes words.now) m i).fault) ⊎ (result.fault ≡ Some Fault.Memory) }
 
@@ -155,9 +121,9 @@ pub fn run<R: Threads + Sync, F: Folder, I: Input, O: Sink, E: Sink>(
     ensures fault_told { (Rose (E.faults err.old) (E.faults err.new) → ⊥) → Gets (line_of result.fault) (E.got err.old) (E.got err.new) }
     ensures fault_part { GetsPart (line_of result.fault) (E.got err.old) (E.got err.new) }
 
-    // The error stream gets the warnings and the line of the fault, or a first part where it fails.
-    ensures errors { (m : Files) → F.names folder.old ≡ Some m → (i : List ℕ) → I.left input.old ≡ Some i
-        → Says (run_of (map string_bytes words.now) m i) result.fault (E.faults err.old) (E.faults err.new) (E.got err.old) (E.got err.new) }
+    // Where the status is 0 or 1, it gets the warnings of all steps before that line, or a first part where it fails.
+    ensures errors { result.status ≤ 1 → (m : Files) → F.names folder.old ≡ Some m → (i : List ℕ) → (words_read_input (words_of (map string_bytes words.now)) ≡ true → I.left input.old ≡ Some i)
+        → AreTold (run_of (map string_bytes words.now) m i).steps result.fault (E.faults err.old) (E.faults err.new) (E.got err.old) (E.got err.new) }
 {
     let fault = ended(perform(alloc, words, folder, input, out));
     tell(err, fault)

@@ -2,7 +2,7 @@
 ghost use Rattle.std.specs.Prelude.{◌≡◌, ◌<◌, ◌^◌, length, map, drop, string_bytes, IfOk, IfErr, ok_or, List, ℕ};
 ghost use Rattle.lists_and_answers.specs.Answers.{Gives};
 ghost use Rattle.outside.specs.Names.{same_letters};
-ghost use Rattle.gdal_cli.specs.Words.{tool_of, option_of, own_option_of, begins_with_dash, may_be_negative, is_positional, band_of, name_of, is_no, blocks_of, setting_of, with_option, with_name, with_x, with_y, behind_name, placed, free, with_band, with_blocks, taken, walked, nothing_said, is_whole, point_of, form_of, locate_job, info_job, job_of, finished, words_of, IsMemory};
+ghost use Rattle.gdal_cli.specs.Words.{tool_of, option_of, own_option_of, begins_with_dash, may_be_negative, is_positional, band_of, name_of, is_no, blocks_of, setting_of, with_option, with_name, with_x, with_y, behind_name, placed, free, with_band, with_blocks, taken, all_taken, nothing_said, is_whole, point_of, form_of, locate_job, info_job, job_of, finished, words_of, IsMemory};
 
 use crate::command::{BandNumber, BandNumbers, BlockCount, Command, Job};
 use crate::spoken::{Awaited, OptionWord, Spoken, Tool, WordFault};
@@ -302,8 +302,8 @@ fn nothing_said(alloc: Global) -> Spoken
 }
 
 // All words behind the first, from left to right.
-fn walked(alloc: Global, tool: Tool, words: &[String]) -> Result<Spoken, WordFault>
-    ensures { Gives IsMemory (λ s. s) result (walked tool 1 nothing_said (map string_bytes words.now)) }
+fn all_taken(alloc: Global, tool: Tool, words: &[String]) -> Result<Spoken, WordFault>
+    ensures { Gives IsMemory (λ s. s) result (all_taken tool 1 nothing_said (map string_bytes words.now)) }
 {
     let mut said = nothing_said(alloc);
     for (before, word) in words.iter().enumerate() {
@@ -424,6 +424,6 @@ pub fn read_words(alloc: Global, words: &[String]) -> Result<Command, WordFault>
     let Some(tool) = tool_of(first.as_str()) else {
         return Err(WordFault::Usage { word: 0 });
     };
-    let said = walked(alloc, tool, rest)?;
+    let said = all_taken(alloc, tool, rest)?;
     finished(tool, words.len() as u64, said)
 }

@@ -1,7 +1,7 @@
 // Runs over the points of an input, and over mosaics of mosaics.
 use crate::trials::{
     Calls, FOLDER, Fed, FileOf, READING, Row, Trial, WRITING, first_failing, first_harmless,
-    first_wrong,
+    first_wrong, left_of,
 };
 use outside::{Failing, Method};
 use std::alloc::Global;
@@ -286,6 +286,16 @@ const FED: [Trial<'static>; 5] = [
 #[test]
 fn failing_inputs(rt: HostRuntime) -> Result<(), Fail> {
     assert_eq!(rt; first_failing(&rt, rt.alloc(), &FILES, &FED)?, FED.len());
+    Ok(())
+}
+
+// An answer that can't be put ends the run before the next piece is taken.
+const PIECES: Fed<'static> = ("gdallocationinfo -valonly two.bil", (b"0 0\n1 0\n2 0\n", 4));
+
+#[test]
+fn pieces_left(rt: HostRuntime) -> Result<(), Fail> {
+    let left = left_of(&rt, rt.alloc(), &FILES, PIECES, &[Failing::Call(1)])?;
+    assert_eq!(rt; left, 8);
     Ok(())
 }
 

@@ -146,6 +146,20 @@ fn run_failing<R: Threads + Sync>(
     run_fed(rt, alloc, &mut folder, &mut input, line, puts)
 }
 
+// How much of an input is left by a run over these files, where these calls of the output fail.
+pub fn left_of<R: Threads + Sync>(
+    rt: &R,
+    alloc: Global,
+    files: &[FileOf<'_>],
+    (line, input): Fed<'_>,
+    puts: &[Failing],
+) -> Result<usize, Fail> {
+    let mut folder = folder_of(alloc, files, &[])?;
+    let mut input = input_of(alloc, input, &[])?;
+    run_fed(rt, alloc, &mut folder, &mut input, line, puts)?;
+    Ok(input.left().len())
+}
+
 // A run, the calls that fail, and the status, what is printed and what is told.
 pub type Trial<'a> = (Fed<'a>, Calls<'a>, (u8, &'a str, &'a str));
 

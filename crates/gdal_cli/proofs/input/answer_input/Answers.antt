@@ -1,5 +1,5 @@
 use Rattle.std.proofs.Common.{◌∙◌, subst, sym, Result}
-use Rattle.gdal_cli.specs.declared.faults.Fault.{Fault}
+use Rattle.error_lines.specs.declared.faults.Fault.{Fault}
 use Rattle.gdal_cli.specs.Input.{AnswersInput}
 use Rattle.gdal_cli.specs.Location.{point_text}
 use Rattle.gdal_cli.proofs.Ended.{err_is}
@@ -8,7 +8,7 @@ use Rattle.gdal_cli.proofs.input.answer_input.Goals as goal
 
 pub returns-in_err-answer_pieces-clause-told : goal.returns-in_err-answer_pieces-clause-told
 returns-in_err-answer_pieces-clause-told g c m named d at i left_is =
-    subst (λ (r : Result (Unit {0}) Fault). AnswersInput (point_text m c.args.cat.now d c.args.asked.now) i (g.I.Input.left c.answer_pieces.new.input) r (g.O.Sink.got c.args.out.now) (g.O.Sink.got c.answer_pieces.new.out))
+    subst (λ (r : Result (Unit {0}) Fault). AnswersInput (point_text m c.args.question.now.cat d c.args.question.now.asked) i (g.I.Input.left c.answer_pieces.new.input) r (g.O.Sink.got c.args.out.now) (g.O.Sink.got c.answer_pieces.new.out))
     (sym (err_is c.from_residual-in_err-answer_pieces.result c.in_err-answer_pieces.field-0.0 c.from_residual-in_err-answer_pieces.ensures))
     (c.in_err-answer_pieces.ensures.told m named d at i left_is)
 
@@ -27,14 +27,14 @@ returns-in_err-answer_pieces-clause-cause g c =
 pub returns-in-Some-clause-told : goal.returns-in-Some-clause-told
 returns-in-Some-clause-told g c m named d at i left_is =
     let e = c.in_ok-answer_pieces.ensures in
-    last_ends (point_text m c.args.cat.now d c.args.asked.now) c.answer_pieces.new.reader i c.in-Some.last c.answer_line.result (g.I.Input.left c.answer_pieces.new.input) (g.O.Sink.got c.args.out.now) (g.O.Sink.got c.answer_pieces.new.out) (g.O.Sink.got c.answer_line.new.out) (e.told m named d at i left_is) c.in-Some.ensures (c.answer_line.ensures.told m (e.names ∙ named) d at) c.answer_line.ensures.refused
+    last_ends (point_text m c.args.question.now.cat d c.args.question.now.asked) c.answer_pieces.new.reader i c.in-Some.last c.answer_line.result (g.I.Input.left c.answer_pieces.new.input) (g.O.Sink.got c.args.out.now) (g.O.Sink.got c.answer_pieces.new.out) (g.O.Sink.got c.answer_line.new.out) (e.told m named d at i left_is) c.in-Some.ensures (c.answer_line.ensures.told m (e.names ∙ named) d at) c.answer_line.ensures.refused
 
 pub returns-in-Some-clause-read : goal.returns-in-Some-clause-read
 returns-in-Some-clause-read g c = always_ok c.answer_line.result _ c.in_ok-answer_pieces.ensures.read
 
 pub returns-clause-told : goal.returns-clause-told
 returns-clause-told g c m named d at i left_is =
-    input_ends (point_text m c.args.cat.now d c.args.asked.now) c.answer_pieces.new.reader i (g.I.Input.left c.answer_pieces.new.input) (g.O.Sink.got c.args.out.now) (g.O.Sink.got c.answer_pieces.new.out) (c.in_ok-answer_pieces.ensures.told m named d at i left_is) c.in-None.ensures
+    input_ends (point_text m c.args.question.now.cat d c.args.question.now.asked) c.answer_pieces.new.reader i (g.I.Input.left c.answer_pieces.new.input) (g.O.Sink.got c.args.out.now) (g.O.Sink.got c.answer_pieces.new.out) (c.in_ok-answer_pieces.ensures.told m named d at i left_is) c.in-None.ensures
 
 pub returns-in-Some-clause-never : goal.returns-in-Some-clause-never
 returns-in-Some-clause-never g c m named name was now is = c.answer_line.ensures.never m (c.in_ok-answer_pieces.ensures.names ∙ named) name was now is

@@ -1,24 +1,26 @@
-use Rattle.std.proofs.Common.{rules, arith, sym, subst, ℤ, Ok, Option}
+use Rattle.std.proofs.Common.{rules, arith, ap, sym, subst, ℤ, Option}
+use Rattle.std.specs.Prelude.{is_some}
 use Rattle.std.proofs.lemmas.Grind.{common_steps}
 use Rattle.input_points.specs.Entries.{entries}
-use Rattle.gdal_cli.specs.declared.faults.Fault.TheVariants.{Memory}
+use Rattle.error_lines.specs.declared.faults.Fault.TheVariants.{Memory}
 use Rattle.gdal_cli.specs.Input.{StopsBehind}
 use Rattle.gdal_cli.specs.Location.{answers, point_text}
-use Rattle.gdal_cli.specs.Run.{ran_of, Ends}
+use Rattle.gdal_cli.specs.Run.{Ends}
+use Rattle.gdal_cli.proofs.Causes.{readings_of_lines}
 use Rattle.gdal_cli.proofs.Changed.{puts_unchanged}
 use Rattle.gdal_cli.proofs.Ended.{err_is, ends_outside, equal_put, lines_put}
 use Rattle.gdal_cli.proofs.jobs.put_answers.Goals as goal
 
-pub returns-in_err-room-clause-told : goal.returns-in_err-room-clause-told
-returns-in_err-room-clause-told g c = λ m is d at i left.
-    ends_outside (Ok (answers (point_text m c.args.cat.now d c.args.asked.now) c.args.point (entries i))) c.from_residual-in_err-room.result Memory (g.O.Sink.got c.args.out.now)
-    (err_is c.from_residual-in_err-room.result Memory c.from_residual-in_err-room.ensures) tt
+pub returns-in_err-points-clause-told : goal.returns-in_err-points-clause-told
+returns-in_err-points-clause-told g c = λ m is d at i left.
+    ends_outside (answers (point_text m c.args.question.now.cat d c.args.question.now.asked) c.args.point (entries i)) c.from_residual.result Memory (g.O.Sink.got c.args.out.now)
+    (err_is c.from_residual.result Memory c.from_residual.ensures) tt
 
 pub returns-in-Some-clause-told : goal.returns-in-Some-clause-told
 returns-in-Some-clause-told g c = λ m is d at i left.
-    subst (λ (p : Option (ℤ × ℤ)). Ends (ran_of (Ok (answers (point_text m c.args.cat.now d c.args.asked.now) p (entries i)))) c.put_point.result (g.O.Sink.got c.args.out.now) (g.O.Sink.got c.put_point.new.out))
+    subst (λ (p : Option (ℤ × ℤ)). Ends (answers (point_text m c.args.question.now.cat d c.args.question.now.asked) p (entries i)) c.put_point.result (g.O.Sink.got c.args.out.now) (g.O.Sink.got c.put_point.new.out))
     (sym c.in-Some.is)
-    (equal_put (point_text m c.args.cat.now d c.args.asked.now c.in-Some.x c.in-Some.y) _ c.put_point.result _ _ (c.put_point.ensures.told m is d at) (first_of (search rules, grind (arith, common_steps), cc)))
+    (equal_put (point_text m c.args.question.now.cat d c.args.question.now.asked c.in-Some.x c.in-Some.y) _ c.put_point.result _ _ (c.put_point.ensures.told m is d at) (first_of (search rules, grind (arith, common_steps), cc)))
 
 pub returns-in-Some-clause-never : goal.returns-in-Some-clause-never
 returns-in-Some-clause-never g c = λ m is.
@@ -27,12 +29,21 @@ returns-in-Some-clause-never g c = λ m is.
 
 pub returns-clause-told : goal.returns-clause-told
 returns-clause-told g c = λ m is d at i left.
-    subst (λ (p : Option (ℤ × ℤ)). Ends (ran_of (Ok (answers (point_text m c.args.cat.now d c.args.asked.now) p (entries i)))) c.answer_input.result (g.O.Sink.got c.args.out.now) (g.O.Sink.got c.answer_input.new.out))
+    subst (λ (p : Option (ℤ × ℤ)). Ends (answers (point_text m c.args.question.now.cat d c.args.question.now.asked) p (entries i)) c.answer_input.result (g.O.Sink.got c.args.out.now) (g.O.Sink.got c.answer_input.new.out))
     (sym c.in-None.is)
-    (lines_put (point_text m c.args.cat.now d c.args.asked.now) i (g.I.Input.left c.answer_input.new.input) c.answer_input.result _ _ (c.answer_input.ensures.told m is d at i left))
+    (lines_put (point_text m c.args.question.now.cat d c.args.question.now.asked) i (g.I.Input.left c.answer_input.new.input) c.answer_input.result _ _ (c.answer_input.ensures.told m is d at i (left (ap (λ (p : Option (ℤ × ℤ)). is_some p) c.in-None.is))))
 
 pub returns-clause-stopped : goal.returns-clause-stopped
 returns-clause-stopped g c = λ so m is d at i left.
-    subst (λ (p : Option (ℤ × ℤ)). StopsBehind (λ lines. ran_of (Ok (answers (point_text m c.args.cat.now d c.args.asked.now) p lines))) i (g.I.Input.left c.answer_input.new.input) (g.O.Sink.got c.args.out.now) (g.O.Sink.got c.answer_input.new.out))
+    subst (λ (p : Option (ℤ × ℤ)). StopsBehind (answers (point_text m c.args.question.now.cat d c.args.question.now.asked) p) i (g.I.Input.left c.answer_input.new.input) (g.O.Sink.got c.args.out.now) (g.O.Sink.got c.answer_input.new.out))
     (sym c.in-None.is)
     (c.answer_input.ensures.stopped so m is d at i left)
+
+pub returns-in-Some-clause-lines : goal.returns-in-Some-clause-lines
+returns-in-Some-clause-lines g c = readings_of_lines c.put_point.result c.put_point.ensures.late
+
+pub put_point-requires-clause-ready : goal.put_point-requires-clause-ready
+put_point-requires-clause-ready g c κs within = c.in_ok-points.ensures.fresh c.args.folder.now c.args.question.now.cat c.requires.walked
+
+pub answer_input-requires-clause-ready : goal.answer_input-requires-clause-ready
+answer_input-requires-clause-ready g c κs within = c.in_ok-points.ensures.fresh c.args.folder.now c.args.question.now.cat c.requires.walked

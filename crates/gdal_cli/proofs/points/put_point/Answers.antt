@@ -9,7 +9,7 @@ use Rattle.gdal_cli.proofs.points.put_point.Goals as goal
 pub returns-in_err-make_text-clause-told : goal.returns-in_err-make_text-clause-told
 returns-in_err-make_text-clause-told g c m told d at =
     let f = c.in_err-make_text.field-0.0 in
-    fails_before c.from_residual.result f (point_text m c.args.cat.now d c.args.asked.now c.args.x c.args.y) (g.O.Sink.got c.args.out.now) (err_is c.from_residual.result f c.from_residual.ensures) (c.in_err-make_text.ensures.never m told)
+    fails_before c.from_residual.result f (point_text m c.args.question.now.cat d c.args.question.now.asked c.args.x c.args.y) (g.O.Sink.got c.args.out.now) (err_is c.from_residual.result f c.from_residual.ensures) (c.in_err-make_text.ensures.never m told)
 
 pub returns-in_err-make_text-clause-never : goal.returns-in_err-make_text-clause-never
 returns-in_err-make_text-clause-never g c m told name was now is =
@@ -22,7 +22,7 @@ returns-in-Ok-clause-told g c m told d at =
     let column : to_z w128 (of_z w128 c.place_of-column.result.0) ≡ c.place_of-column.result.0 = search rules in
     let line : to_z w128 (of_z w128 c.place_of-column.result.1) ≡ c.place_of-column.result.1 = search rules in
     let place : (to_z w128 (of_z w128 c.place_of-column.result.0), to_z w128 (of_z w128 c.place_of-column.result.1)) ≡ c.place_of-column.result = ap (λ (k : ℤ). (k, to_z w128 (of_z w128 c.place_of-column.result.1))) column ∙ ap (λ (k : ℤ). (c.place_of-column.result.0, k)) line in
-    let text : c.deref.result.now ≡ point_text m c.args.cat.now d c.args.asked.now c.args.x c.args.y = c.deref.ensures.value ∙ c.in_ok-make_text.ensures.text m told d at ∙ ap (told_text m c.args.cat.now d c.args.asked.now) (place ∙ c.place_of-column.ensures.place) in
+    let text : c.deref.result.now ≡ point_text m c.args.question.now.cat d c.args.question.now.asked c.args.x c.args.y = c.deref.ensures.value ∙ c.in_ok-make_text.ensures.text m told d at ∙ ap (told_text m c.args.question.now.cat d c.args.question.now.asked) (place ∙ c.place_of-column.ensures.place) in
     subst (λ (t : List ℕ). Gets t (g.O.Sink.got c.args.out.now) (g.O.Sink.got c.put.new.self)) text c.in-Ok.ensures.ok
 
 pub returns-in-Err-clause-told : goal.returns-in-Err-clause-told
@@ -31,5 +31,5 @@ returns-in-Err-clause-told g c m told d at =
     let column : to_z w128 (of_z w128 c.place_of-column.result.0) ≡ c.place_of-column.result.0 = search rules in
     let line : to_z w128 (of_z w128 c.place_of-column.result.1) ≡ c.place_of-column.result.1 = search rules in
     let place : (to_z w128 (of_z w128 c.place_of-column.result.0), to_z w128 (of_z w128 c.place_of-column.result.1)) ≡ c.place_of-column.result = ap (λ (k : ℤ). (k, to_z w128 (of_z w128 c.place_of-column.result.1))) column ∙ ap (λ (k : ℤ). (c.place_of-column.result.0, k)) line in
-    let text : c.deref.result.now ≡ point_text m c.args.cat.now d c.args.asked.now c.args.x c.args.y = c.deref.ensures.value ∙ c.in_ok-make_text.ensures.text m told d at ∙ ap (told_text m c.args.cat.now d c.args.asked.now) (place ∙ c.place_of-column.ensures.place) in
+    let text : c.deref.result.now ≡ point_text m c.args.question.now.cat d c.args.question.now.asked c.args.x c.args.y = c.deref.ensures.value ∙ c.in_ok-make_text.ensures.text m told d at ∙ ap (told_text m c.args.question.now.cat d c.args.question.now.asked) (place ∙ c.place_of-column.ensures.place) in
     (tt, subst (λ (t : List ℕ). GetsPart t (g.O.Sink.got c.args.out.now) (g.O.Sink.got c.put.new.self)) text c.in-Err.ensures.err)

@@ -1,28 +1,47 @@
-use Rattle.std.proofs.Common.{◌≡◌, ◌∙◌, ◌⊎◌, ◌≤◌, ap, map, string_bytes, sym, subst, ℕ, Option, Some}
+use Rattle.std.proofs.Common.{◌≡◌, ◌∙◌, ◌⊎◌, ◌≤◌, ap, map, string_bytes, sym, subst, ℕ, List, Option, Some}
+use Rattle.std.specs.Prelude.{IfOk, IfSome}
 use Rattle.input_points.specs.Entries.{entries}
-use Rattle.gdal_cli.specs.declared.faults.Fault.{Fault}
-use Rattle.gdal_cli.specs.declared.faults.Fault.TheVariants.{InputFault, Memory}
-use Rattle.gdal_cli.specs.Faults.{status_of}
-use Rattle.gdal_cli.specs.Texts.{line_of}
-use Rattle.gdal_cli.specs.Run.{printed_in, run_of, Answers, Says}
+use Rattle.error_lines.specs.declared.faults.Fault.{Fault}
+use Rattle.error_lines.specs.declared.faults.Fault.TheVariants.{InputFault, Memory}
+use Rattle.error_lines.specs.Faults.{status_of}
+use Rattle.gdal_cli.specs.Run.{Answers, AreTold, MayEnd, IsRefusal}
+use Rattle.gdal_cli.specs.Steps.{Step}
+use Rattle.gdal_cli.specs.Words.{words_of}
+use Rattle.gdal_cli.specs.Work.{judged, run_of}
+use Rattle.gdal_cli.proofs.Causes.{command_may}
 use Rattle.gdal_cli.proofs.Datasets.{refused_so}
-use Rattle.gdal_cli.proofs.Outcomes.{answered, ended_early, completed}
-use Rattle.gdal_cli.proofs.Said.{said}
+use Rattle.gdal_cli.proofs.Outcomes.{answered, ended_early, completed, part_warned, told_line}
+use Rattle.gdal_cli.proofs.Printing.{none_warned}
 use Rattle.gdal_cli.proofs.running.run.Goals as goal
 
 pub returns-clause-answer : goal.returns-clause-answer
-returns-clause-answer g c = λ low m told i input_told.
+returns-clause-answer g c = λ low m told i fed.
+    let run = run_of (map string_bytes c.args.words.now) m i in
     let fault = c.tell.ensures.fault ∙ c.ended-fault.ensures in
     let status = c.tell.ensures.status ∙ ap status_of c.ended-fault.ensures in
     let few = subst (λ (n : ℕ). n ≤ 1) status low in
-    subst (λ (f : Option Fault). Answers (run_of (map string_bytes c.args.words.now) m i) m f (g.F.Folder.names c.perform.new.folder) (g.O.Sink.got c.args.out.now) (g.O.Sink.got c.perform.new.out)) (sym fault)
-    (answered (printed_in m (entries i) (map string_bytes c.args.words.now)) c.perform.result m _ _ _ few (c.perform.ensures.names ∙ told) (c.perform.ensures.told m told i input_told))
+    subst (λ (f : Option Fault). Answers run m f (g.F.Folder.names c.perform.new.folder) (g.O.Sink.got c.args.out.now) (g.O.Sink.got c.perform.new.out)) (sym fault)
+    (answered run c.perform.result m _ _ _ few (c.perform.ensures.told m told i fed))
 
 pub returns-clause-early_end : goal.returns-clause-early_end
-returns-clause-early_end g c = λ high m told i input_told.
+returns-clause-early_end g c = λ high m told i fed.
+    let words = map string_bytes c.args.words.now in
+    let run = run_of words m i in
     let status = c.tell.ensures.status ∙ ap status_of c.ended-fault.ensures in
     let many = subst (λ (n : ℕ). 2 ≤ n) status high in
-    ended_early (printed_in m (entries i) (map string_bytes c.args.words.now)) c.perform.result m _ _ _ many (c.perform.ensures.names ∙ told) (c.perform.ensures.told m told i input_told)
+    let early = ended_early run c.perform.result m _ _ _ many (c.perform.ensures.told m told i fed) in
+    let quiet = part_warned early.0 run.steps early.1 (none_warned m (entries i) (judged words m)) in
+    let said = told_line early.0 c.ended-fault.result _ _ _ _ quiet c.tell.ensures.whole c.tell.ensures.part in
+    (early.0, early.1, early.2, subst (λ (f : Option Fault). AreTold early.0 f (g.E.Sink.faults c.args.err.now) (g.E.Sink.faults c.tell.new.err) (g.E.Sink.got c.args.err.now) (g.E.Sink.got c.tell.new.err)) (sym c.tell.ensures.fault) said)
+
+pub returns-clause-refused : goal.returns-clause-refused
+returns-clause-refused g c = λ refusal. c.perform.ensures.refused (subst IsRefusal (c.tell.ensures.fault ∙ c.ended-fault.ensures) refusal)
+
+pub returns-clause-may_end : goal.returns-clause-may_end
+returns-clause-may_end g c =
+    let words = words_of (map string_bytes c.args.words.now) in
+    subst (λ (f : Option Fault). IfOk words (λ command. IfSome f (MayEnd command.job))) (sym (c.tell.ensures.fault ∙ c.ended-fault.ensures))
+    (command_may words c.perform.result c.perform.ensures.may_end)
 
 pub returns-clause-input_stopped : goal.returns-clause-input_stopped
 returns-clause-input_stopped g c = λ so m told i left.
@@ -30,17 +49,14 @@ returns-clause-input_stopped g c = λ so m told i left.
     c.perform.ensures.stopped (refused_so c.perform.result InputFault (sym fault ∙ so)) m told i left
 
 pub returns-clause-complete : goal.returns-clause-complete
-returns-clause-complete g c = λ m told i input_told calm quiet still.
+returns-clause-complete g c = λ m told i fed calm quiet still.
+    let run = run_of (map string_bytes c.args.words.now) m i in
     let fault = c.tell.ensures.fault ∙ c.ended-fault.ensures in
-    subst (λ (f : Option Fault). (f ≡ (run_of (map string_bytes c.args.words.now) m i).fault) ⊎ (f ≡ Some Memory)) (sym fault)
-    (completed (printed_in m (entries i) (map string_bytes c.args.words.now)) c.perform.result _ _ _ _ _ _ _ _ c.perform.ensures.cause c.perform.ensures.input_cause calm quiet still (c.perform.ensures.told m told i input_told))
+    subst (λ (f : Option Fault). (f ≡ run.fault) ⊎ (f ≡ Some Memory)) (sym fault)
+    (completed run c.perform.result m _ _ _ _ _ _ _ _ _ c.perform.ensures.cause c.perform.ensures.input_cause calm quiet still (c.perform.ensures.told m told i fed))
 
 pub returns-clause-errors : goal.returns-clause-errors
-returns-clause-errors g c = λ m told i input_told.
-    let says : Says (run_of (map string_bytes c.args.words.now) m i) c.ended-fault.result (g.E.Sink.faults c.args.err.now) (g.E.Sink.faults c.tell.new.err) (g.E.Sink.got c.args.err.now) (g.E.Sink.got c.tell.new.err) = record {
-      text = line_of c.ended-fault.result;
-      is = said (printed_in m (entries i) (map string_bytes c.args.words.now)) c.ended-fault.result;
-      whole = c.tell.ensures.whole;
-      part = c.tell.ensures.part;
-    } in
-    subst (λ (fault : Option Fault). Says (run_of (map string_bytes c.args.words.now) m i) fault (g.E.Sink.faults c.args.err.now) (g.E.Sink.faults c.tell.new.err) (g.E.Sink.got c.args.err.now) (g.E.Sink.got c.tell.new.err)) (sym c.tell.ensures.fault) says
+returns-clause-errors g c = λ low m told i fed.
+    let words = map string_bytes c.args.words.now in
+    let said = told_line (run_of words m i).steps c.ended-fault.result _ _ _ _ (none_warned m (entries i) (judged words m)) c.tell.ensures.whole c.tell.ensures.part in
+    subst (λ (f : Option Fault). AreTold (run_of words m i).steps f (g.E.Sink.faults c.args.err.now) (g.E.Sink.faults c.tell.new.err) (g.E.Sink.got c.args.err.now) (g.E.Sink.got c.tell.new.err)) (sym c.tell.ensures.fault) said

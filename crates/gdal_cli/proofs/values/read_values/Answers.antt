@@ -13,9 +13,10 @@ loop-at-preserved g c =
     let same : to_z w128 (of_z w128 c.in_ok-values.field-0) ≡ c.in_ok-values.field-0 = search rules in
     record {
       room = simp length-set c.loop-at.invariant.room;
-      values = λ m is. values_more (λ (band : ℕ). pixel_of m c.args.cat.now c.args.id (band - 1) c.args.x c.args.y) c.args.bands.now c.loop-at.values c.loop-at.at (get_or c.args.bands.now c.loop-at.at 0) 0 _ less room refl (same ∙ c.in_ok-values.ensures.value m (c.loop-at.invariant.names ∙ is)) (c.loop-at.invariant.values m is);
-      right = c.read_value.ensures.right;
+      values = λ m is. values_more (λ (band : ℕ). pixel_of m c.args.question.now.cat c.args.question.now.id (band - 1) c.args.x c.args.y) c.args.bands.now c.loop-at.values c.loop-at.at (get_or c.args.bands.now c.loop-at.at 0) 0 _ less room refl (same ∙ c.in_ok-values.ensures.value m (c.loop-at.invariant.names ∙ is)) (c.loop-at.invariant.values m is);
+      ready = c.read_value.ensures.ready;
       names = c.read_value.ensures.names ∙ c.loop-at.invariant.names;
+      writes = c.read_value.ensures.writes ∙ c.loop-at.invariant.writes;
       later = omega (arith, c.loop-at.invariant.later, c.read_value.ensures.cause.later);
     }
 
@@ -23,4 +24,4 @@ pub returns-clause-values : goal.returns-clause-values
 returns-clause-values g c = λ m is.
     let values : take c.loop-at.at c.loop-at.values ≡ c.loop-at.values = take_all c.loop-at.at c.loop-at.values (omega (arith, c.loop-at.invariant.room, c.requires.room)) in
     let bands : take c.loop-at.at c.args.bands.now ≡ c.args.bands.now = take_all c.loop-at.at c.args.bands.now (omega arith) in
-    sym values ∙ c.loop-at.invariant.values m is ∙ ap (map (λ (band : ℕ). pixel_of m c.args.cat.now c.args.id (band - 1) c.args.x c.args.y)) bands
+    sym values ∙ c.loop-at.invariant.values m is ∙ ap (map (λ (band : ℕ). pixel_of m c.args.question.now.cat c.args.question.now.id (band - 1) c.args.x c.args.y)) bands

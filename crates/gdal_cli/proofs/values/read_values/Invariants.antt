@@ -1,15 +1,16 @@
 use Rattle.std.proofs.Common.{◌≡◌, ◌≤◌, ◌-◌, Some, take, length, map}
 use Rattle.outside.specs.Outside.{Files}
 use Rattle.catalog.specs.Pixels.{pixel_of}
-use Rattle.nearest_window.specs.Right.{IsRight}
+use Rattle.nearest_window.specs.Right.{IsReady}
 use Rattle.gdal_cli.proofs.values.read_values.Given as goal
 
 -- the values of the bands so far
 abbrev pub invariant-loop-at : goal.invariant-loop-at
 invariant-loop-at g l = record {
   room : length l.values ≡ length l.fn.values;
-  values : (m : Files) → g.F.Folder.names l.fn.folder ≡ Some m → take l.at l.values ≡ map (λ band. pixel_of m l.cat l.id (band - 1) l.x l.y) (take l.at l.bands);
-  right : IsRight g.F.Folder.file_bytes g.F.Folder.file_len (g.F.Folder.names l.folder) l.cat l.lane.pool l.lane.files;
+  values : (m : Files) → g.F.Folder.names l.fn.folder ≡ Some m → take l.at l.values ≡ map (λ band. pixel_of m l.question.cat l.question.id (band - 1) l.x l.y) (take l.at l.bands);
+  ready : IsReady g.F.Folder l.folder l.question.cat l.pixels.lane;
   names : g.F.Folder.names l.folder ≡ g.F.Folder.names l.fn.folder;
+  writes : g.F.Folder.write_calls l.folder ≡ g.F.Folder.write_calls l.fn.folder;
   later : g.F.Folder.faults l.fn.folder ≤ g.F.Folder.faults l.folder;
 }

@@ -1,0 +1,10 @@
+// The faults of a run: where they come from, how they end it, and the line that tells each.
+#![tactic(auto)]
+
+mod faults;
+mod telling;
+mod texts;
+
+pub use faults::{Fault, Outcome};
+pub use telling::tell;
+pub use texts::put_fault;

@@ -1,0 +1,13 @@
+// What holds of every run.
+ghost use Rattle.std.specs.Prelude.{◌≡◌, ℕ, List, Ok};
+ghost use Rattle.outside.specs.Outside.{Files};
+ghost use Rattle.gdal_cli.specs.declared.command.Command.{Command};
+ghost use Rattle.gdal_cli.specs.Words.{words_of};
+ghost use Rattle.gdal_cli.specs.Work.{run_of};
+
+/// How many blocks are held changes no run: two command lines whose commands have the same job, and
+/// check the same, mean the same run over all files and every input.
+#[tactic(auto, using(crate::proofs::Judging::same_runs))]
+pub fn blocks_change_nothing()
+    ensures same { (a b : List (List ℕ)) (c d : Command) (m : Files) (input : List ℕ) → words_of a ≡ Ok c → words_of b ≡ Ok d → c.job ≡ d.job → c.verify ≡ d.verify → run_of a m input ≡ run_of b m input }
+{}
