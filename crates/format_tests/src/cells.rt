@@ -97,8 +97,8 @@ fn first_misjudged() -> usize {
 
 #[test]
 fn refuses_by_the_first_rule(rt: HostRuntime) {
-    assert_eq!(rt; first_misjudged(), HEADS.len());
-    assert_eq!(rt; DtedFault::BadRecord(7).number(), 4);
+    let record = DtedFault::BadRecord(7).number();
+    assert_eq!(rt; (first_misjudged(), record), (HEADS.len(), 4));
 }
 
 // How many leading records there are, what they begin with, and the fault's number.
@@ -194,8 +194,10 @@ fn line() -> Option<DtedHead> {
 #[test]
 fn reads_from_north_to_south(rt: HostRuntime) -> Result<(), Fail> {
     let head = line().ok_or("it is a head")?;
-    assert!(rt; is_of_line(&head));
-    assert_eq!(rt; first_misread(&head), SUMS.len());
+    assert_eq!(rt;
+        (is_of_line(&head), first_misread(&head)),
+        (true, SUMS.len())
+    );
     Ok(())
 }
 

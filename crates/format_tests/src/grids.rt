@@ -313,6 +313,12 @@ fn takes_zeros(scanner: &mut Scanner, zeros: u32) -> bool {
     true
 }
 
+// How many zeros a token begins with, and what comes of them and a 7.
+const TOKENS: [(u32, Result<(), GridFault>); 2] = [
+    (63, Ok(())),
+    (64, Err(GridFault::BadToken(51))),
+];
+
 // Whether that comes of a token of so many zeros and a 7.
 fn ends_in(alloc: Global, zeros: u32, wanted: Result<(), GridFault>) -> bool {
     let mut scanner = Scanner::new(alloc);
@@ -323,10 +329,19 @@ fn ends_in(alloc: Global, zeros: u32, wanted: Result<(), GridFault>) -> bool {
         && scanner.finish().map(|_| ()) == wanted
 }
 
+// The first of these tokens that ends otherwise, or how many tokens there are.
+fn first_other_end(alloc: Global) -> usize {
+    for (at, (zeros, wanted)) in TOKENS.iter().enumerate() {
+        if !ends_in(alloc, *zeros, *wanted) {
+            return at;
+        }
+    }
+    TOKENS.len()
+}
+
 #[test]
 fn takes_64_bytes(rt: HostRuntime) {
-    assert!(rt; ends_in(rt.alloc(), 63, Ok(())));
-    assert!(rt; ends_in(rt.alloc(), 64, Err(GridFault::BadToken(51))));
+    assert_eq!(rt; first_other_end(rt.alloc()), TOKENS.len());
 }
 
 fn is_refused(alloc: Global) -> bool {
@@ -435,8 +450,9 @@ fn first_miscut(rest: &[u8], wanted: [Sample; 2]) -> Option<usize> {
 // The second piece isn't empty where it is asked for.
 #[test]
 fn reads_rows_of_each_cut(rt: HostRuntime) {
-    assert_eq!(rt; first_miscut(&GRID[53..], [1, -2]), None);
-    assert_eq!(rt; first_miscut(&GRID[58..], [30, 4]), None);
+    let first = first_miscut(&GRID[53..], [1, -2]);
+    let second = first_miscut(&GRID[58..], [30, 4]);
+    assert_eq!(rt; (first, second), (None, None));
 }
 
 // Two pieces of a row of three values, and what is read of them.
@@ -471,25 +487,43 @@ fn reads_rows(rt: HostRuntime) {
     assert_eq!(rt; first_misread(), ROWS.len());
 }
 
-// Whether that is written of a head of two columns and two lines.
+// The height of a pixel of a grid whose pixels are two units wide, the NODATA, and the head that is written. A grid
+// with no height lies nowhere.
+const HEADS: [(Option<i64>, Option<Sample>, &[u8]); 3] = [
+    (Some(-2), None, SAME),
+    (Some(-3), Some(-7), OTHER),
+    (None, None, NOWHERE),
+];
+
+// Whether that is written of a head of two columns and two lines, which has a place where it has a height.
 fn is_written(
     alloc: Global,
-    geo: Option<&GeoTransform>,
+    height: Option<i64>,
     nodata: Option<Sample>,
     wanted: &[u8],
 ) -> Result<bool, AllocError> {
+    let geo = match height {
+        Some(height) => transform(9, 23, 2, height),
+        None => None,
+    };
     let mut text = Vec::new(alloc);
-    write_head(Size { w: 2, h: 2 }, geo, nodata, &mut text)?;
-    Ok(text.as_slice() == wanted)
+    write_head(Size { w: 2, h: 2 }, geo.as_ref(), nodata, &mut text)?;
+    Ok(geo.is_some() == height.is_some() && text.as_slice() == wanted)
+}
+
+// The first of these heads of which something else is written, or how many heads there are.
+fn first_miswritten(alloc: Global) -> Result<usize, AllocError> {
+    for (at, (height, nodata, wanted)) in HEADS.iter().enumerate() {
+        if !is_written(alloc, *height, *nodata, wanted)? {
+            return Ok(at);
+        }
+    }
+    Ok(HEADS.len())
 }
 
 #[test]
 fn writes_heads(rt: HostRuntime) -> Result<(), Fail> {
-    let even = transform(9, 23, 2, -2).ok_or("it is near")?;
-    let uneven = transform(9, 23, 2, -3).ok_or("it is near")?;
-    assert!(rt; is_written(rt.alloc(), Some(&even), None, SAME)?);
-    assert!(rt; is_written(rt.alloc(), Some(&uneven), Some(-7), OTHER)?);
-    assert!(rt; is_written(rt.alloc(), None, None, NOWHERE)?);
+    assert_eq!(rt; first_miswritten(rt.alloc())?, HEADS.len());
     Ok(())
 }
 

@@ -290,20 +290,25 @@ fn first_not_whole() -> usize {
 
 #[test]
 fn reads_decimals(rt: HostRuntime) {
-    assert_eq!(rt; first_misread(), DECIMALS.len());
-    assert_eq!(rt; first_not_whole(), WHOLES.len());
+    let first = (first_misread(), first_not_whole());
+    assert_eq!(rt; first, (DECIMALS.len(), WHOLES.len()));
 }
 
 #[test]
 fn tells_decimals(rt: HostRuntime) {
-    assert!(rt; is_decimal(b"1e999") && !is_decimal(b"5."));
-    assert!(rt; is_negative_decimal(b"-1e-999") && !is_negative_decimal(b"-0.0e5"));
+    let told = (is_decimal(b"1e999"), is_decimal(b"5."));
+    let below = (
+        is_negative_decimal(b"-1e-999"),
+        is_negative_decimal(b"-0.0e5"),
+    );
+    assert_eq!(rt; (told, below), ((true, false), (true, false)));
 }
 
 #[test]
 fn reads_numbers(rt: HostRuntime) {
-    assert_eq!(rt; read_number(b"000000000000000012"), Some(12));
-    assert_eq!(rt; read_number(b"0000000000000000012"), None);
+    let longest = read_number(b"000000000000000012");
+    let longer = read_number(b"0000000000000000012");
+    assert_eq!(rt; (longest, longer), (Some(12), None));
 }
 
 // Whether a value is printed so behind what stands, with so many places.
@@ -429,9 +434,8 @@ fn first_named() -> usize {
 
 #[test]
 fn keeps_types(rt: HostRuntime) {
-    assert_eq!(rt; first_of_other_name(), KINDS.len());
-    assert_eq!(rt; first_of_other_range(), KINDS.len());
-    assert_eq!(rt; first_named(), NO_NAMES.len());
+    let first = (first_of_other_name(), first_of_other_range(), first_named());
+    assert_eq!(rt; first, (KINDS.len(), KINDS.len(), NO_NAMES.len()));
 }
 
 fn geo(ox: i128, oy: i128, dx: i128, dy: i128) -> Option<GeoTransform> {
@@ -504,11 +508,16 @@ fn finds_places(rt: HostRuntime) -> Result<(), Fail> {
     Ok(())
 }
 
+// Whether ticks are rounded to the nearest that have sixteen places, half away from zero.
+fn are_rounded() -> bool {
+    round16(Ticks::of(9)).get() == 18
+        && round16(Ticks::of(-9)).get() == -18
+        && round16(Ticks::of(-8)).get() == 0
+}
+
 #[test]
 fn rounds_ticks(rt: HostRuntime) {
-    assert_eq!(rt; round16(Ticks::of(9)).get(), 18);
-    assert_eq!(rt; round16(Ticks::of(-9)).get(), -18);
-    assert_eq!(rt; round16(Ticks::of(-8)).get(), 0);
+    assert!(rt; are_rounded());
 }
 
 type Numbers = (i128, i128, i128, i128);
@@ -568,6 +577,5 @@ fn are_cut() -> bool {
 
 #[test]
 fn cuts_windows(rt: HostRuntime) {
-    assert!(rt; are_windows());
-    assert!(rt; are_cut());
+    assert_eq!(rt; (are_windows(), are_cut()), (true, true));
 }
