@@ -10,6 +10,8 @@ use Rattle.band_blocks.specs.declared.load.LoadFault.{LoadFault}
 use Rattle.band_blocks.specs.declared.load.LoadFault.TheVariants as load
 use Rattle.info_report.specs.declared.report.ReportFault.{ReportFault}
 use Rattle.info_report.specs.declared.report.ReportFault.TheVariants as report
+use Rattle.write_back.specs.declared.fault.TargetFault.{TargetFault}
+use Rattle.write_back.specs.declared.fault.TargetFault.TheVariants as target
 use Rattle.error_lines.specs.declared.faults.Fault.{Fault}
 use Rattle.error_lines.specs.declared.faults.Fault.TheVariants.{Usage, Absent, NotRecognized, Malformed, Short, Cycle, TooDeep, Limit, SourceBand, Plan, SameName, BadPoint, Changed, FolderFault, InputFault, OutFault, Memory}
 
@@ -34,6 +36,10 @@ load_fault_of load.Memory = Memory
 abbrev pub report_fault_of : ReportFault → Fault
 report_fault_of report.OutFault = OutFault
 report_fault_of report.Memory = Memory
+
+abbrev pub target_fault_of : TargetFault → Fault
+target_fault_of target.FolderFault = FolderFault
+target_fault_of target.Memory = Memory
 
 -- what a walk finds, as the run's answer
 abbrev pub by_walk : {T : Type 0} → Result T WalkFault → Result T Fault
@@ -79,6 +85,26 @@ IsLate FolderFault = Unit {0}
 IsLate InputFault = Unit {0}
 IsLate OutFault = Unit {0}
 IsLate Memory = Unit {0}
+
+-- a fault that reading pixels, and putting their text or writing them, may end with
+abbrev pub IsOfReading : Fault → Type 0
+IsOfReading (Usage n) = ⊥
+IsOfReading (Absent name) = ⊥
+IsOfReading (NotRecognized name) = ⊥
+IsOfReading (Malformed name bad) = ⊥
+IsOfReading (Short name needed has) = ⊥
+IsOfReading (Cycle name) = ⊥
+IsOfReading (TooDeep name) = ⊥
+IsOfReading (Limit what value) = ⊥
+IsOfReading (SourceBand name band) = ⊥
+IsOfReading (Plan fault) = ⊥
+IsOfReading (SameName name) = ⊥
+IsOfReading (BadPoint line) = ⊥
+IsOfReading (Changed name was now) = Unit {0}
+IsOfReading FolderFault = Unit {0}
+IsOfReading InputFault = ⊥
+IsOfReading OutFault = Unit {0}
+IsOfReading Memory = Unit {0}
 
 -- the status that a fault ends a run with
 abbrev pub fault_status : Fault → ℕ

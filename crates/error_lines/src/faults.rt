@@ -1,6 +1,6 @@
 // The answers of a run other than success.
 ghost use Rattle.std.specs.Prelude.{◌≡◌};
-ghost use Rattle.error_lines.specs.Faults.{fault_of, load_fault_of, report_fault_of};
+ghost use Rattle.error_lines.specs.Faults.{fault_of, load_fault_of, report_fault_of, target_fault_of};
 ghost use Rattle.error_lines.specs.declared.faults.Fault.TheVariants as fault;
 
 use band_blocks::LoadFault;
@@ -9,6 +9,7 @@ use geotransform::PlanFault;
 use info_report::ReportFault;
 use outside::Name;
 use std::alloc::AllocError;
+use write_back::TargetFault;
 
 /// Why a run ended without success.
 #[derive(Drop)]
@@ -119,6 +120,17 @@ impl From<ReportFault> for Fault {
         match fault {
             ReportFault::OutFault => Fault::OutFault,
             ReportFault::Memory => Fault::Memory,
+        }
+    }
+}
+
+impl From<TargetFault> for Fault {
+    ghost from_gives = { λ t f. f ≡ target_fault_of t };
+
+    fn from(fault: TargetFault) -> Self {
+        match fault {
+            TargetFault::FolderFault => Fault::FolderFault,
+            TargetFault::Memory => Fault::Memory,
         }
     }
 }

@@ -5,7 +5,7 @@ use Rattle.std.proofs.Math.Seq.{take-append-add}
 use Rattle.std.proofs.Math.Nat.{le_refl}
 use Rattle.outside.specs.Outside.{Files}
 use Rattle.outside.specs.Streams.{Gets, GetsPart}
-use Rattle.gdal_cli.specs.Steps.{Step, Prints, Warns, Publishes, prints, printed, warned, published, begun, cut, applied, AreDone}
+use Rattle.error_lines.specs.Steps.{Step, Prints, Warns, Publishes, prints, printed, warned, published, begun, cut, applied, AreDone}
 
 -- texts that are put one after another
 pub printed_prints : {T : Type 0} (f : T → List ℕ) (xs : List T) → printed (prints (map f xs)) ≡ flat_map f xs

@@ -14,7 +14,8 @@ use Rattle.std.specs.Prelude.{is_some}
 use Rattle.gdal_cli.specs.declared.spoken.WordFault.{WordFault}
 use Rattle.gdal_cli.specs.declared.spoken.WordFault.TheVariants.{Usage, Memory}
 use Rattle.gdal_cli.specs.Faults.{by_words, word_fault_of}
-use Rattle.gdal_cli.specs.Run.{Goes, reads_input}
+use Rattle.gdal_cli.specs.Run.{reads_input}
+use Rattle.error_lines.specs.Steps.{Goes}
 use Rattle.gdal_cli.specs.Words.{words_of, IsMemory}
 use Rattle.gdal_cli.specs.Work.{Work, judged, judged_by, carried_out, run_over, run_of}
 use Rattle.gdal_cli.proofs.Outcomes.{goes_nowhere}

@@ -8,8 +8,8 @@ use Rattle.error_lines.specs.declared.faults.Fault.{Fault}
 use Rattle.error_lines.specs.declared.faults.Fault.TheVariants.{Usage, Absent, NotRecognized, Malformed, Short, Cycle, TooDeep, Limit, SourceBand, Plan, SameName, BadPoint, Changed, FolderFault, InputFault, OutFault, Memory}
 use Rattle.error_lines.specs.Faults.{IsOutside, HasCauses, fault_status, status_of}
 use Rattle.error_lines.specs.Texts.{line_of}
-use Rattle.gdal_cli.specs.Run.{ended, Ends, Goes, Answers, AreTold}
-use Rattle.gdal_cli.specs.Steps.{Step, Done, prints, printed, warned, published, applied, cut, IsFirstPart, AreDone}
+use Rattle.gdal_cli.specs.Run.{ended, Ends, Answers, AreTold}
+use Rattle.error_lines.specs.Steps.{Step, Done, prints, printed, warned, published, applied, cut, IsFirstPart, AreDone, Goes}
 use Rattle.gdal_cli.proofs.Cuts.{cut_none, cut_warned, cut_whole, prints_cut, prints_done}
 
 -- a fault of the outside ends a run with status 2 or 3

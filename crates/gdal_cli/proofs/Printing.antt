@@ -14,7 +14,7 @@ use Rattle.error_lines.specs.declared.faults.Fault.{Fault}
 use Rattle.error_lines.specs.Faults.{by_walk}
 use Rattle.gdal_cli.specs.declared.asked.Asked.{Asked}
 use Rattle.gdal_cli.specs.Location.{answers, asked_in, line_text, point_text}
-use Rattle.gdal_cli.specs.Steps.{Done, prints, warned}
+use Rattle.error_lines.specs.Steps.{Done, prints, warned}
 use Rattle.gdal_cli.specs.Work.{Work, Reports, Tells, info_judged, location_judged, carried_out}
 use Rattle.gdal_cli.proofs.Cuts.{prints_warned}
 

@@ -15,26 +15,6 @@ abbrev pub by_words : {T : Type 0} → Result T WordFault → Result T Fault
 by_words (Ok x) = Ok x
 by_words (Err f) = Err (word_fault_of f)
 
--- a fault that reading pixels and putting their text may end with
-abbrev pub IsOfReading : Fault → Type 0
-IsOfReading (Usage n) = ⊥
-IsOfReading (Absent name) = ⊥
-IsOfReading (NotRecognized name) = ⊥
-IsOfReading (Malformed name bad) = ⊥
-IsOfReading (Short name needed has) = ⊥
-IsOfReading (Cycle name) = ⊥
-IsOfReading (TooDeep name) = ⊥
-IsOfReading (Limit what value) = ⊥
-IsOfReading (SourceBand name band) = ⊥
-IsOfReading (Plan fault) = ⊥
-IsOfReading (SameName name) = ⊥
-IsOfReading (BadPoint line) = ⊥
-IsOfReading (Changed name was now) = Unit {0}
-IsOfReading FolderFault = Unit {0}
-IsOfReading InputFault = ⊥
-IsOfReading OutFault = Unit {0}
-IsOfReading Memory = Unit {0}
-
 -- a fault that answering the lines of an input may end with
 abbrev pub IsOfLines : Fault → Type 0
 IsOfLines (Usage n) = ⊥

@@ -9,7 +9,7 @@ use Rattle.input_points.specs.Reading.{Reading, start, coming}
 use Rattle.error_lines.specs.declared.faults.Fault.{Fault}
 use Rattle.error_lines.specs.Faults.{IsOutside}
 use Rattle.gdal_cli.specs.Location.{lines_text, lines_fault}
-use Rattle.gdal_cli.specs.Steps.{Done, printed}
+use Rattle.error_lines.specs.Steps.{Done, printed}
 
 -- a reading goes on, within the limits on lines
 pub record IsReading (r : Reading) : Type 0 where

@@ -3,6 +3,5 @@ pub mod Input
 pub mod Location
 pub mod Pixels
 pub mod Run
-pub mod Steps
 pub mod Words
 pub mod Work

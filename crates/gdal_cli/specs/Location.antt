@@ -22,7 +22,7 @@ use Rattle.gdal_cli.specs.declared.asked.Asked.{Asked}
 use Rattle.error_lines.specs.declared.faults.Fault.{Fault}
 use Rattle.error_lines.specs.declared.faults.Fault.TheVariants.{Plan, Limit, BadPoint}
 use Rattle.error_lines.specs.Faults.{IsOutside}
-use Rattle.gdal_cli.specs.Steps.{Done, all_done, prints}
+use Rattle.error_lines.specs.Steps.{Done, all_done, prints}
 
 -- a whole number as a column or a line of a side
 abbrev pub within : ℕ → ℤ → Option ℕ

@@ -18,7 +18,7 @@ use Rattle.error_lines.specs.declared.faults.Fault.{Fault}
 use Rattle.error_lines.specs.declared.faults.Fault.TheVariants.{Usage, Absent, NotRecognized, Malformed, Short, Cycle, TooDeep, Limit, SourceBand, Plan, SameName, BadPoint, Changed, FolderFault, InputFault, OutFault, Memory}
 use Rattle.error_lines.specs.Faults.{fault_of, IsOutside, status_of}
 use Rattle.error_lines.specs.Texts.{line_of}
-use Rattle.gdal_cli.specs.Steps.{Step, Done, printed, warned, IsFirstPart, AreDone}
+use Rattle.error_lines.specs.Steps.{Step, Done, printed, warned, AreDone}
 
 -- the name of the dataset that a job reads first
 abbrev pub name_read : Job → List ℕ
@@ -113,11 +113,6 @@ pub record RefusesDataset (words : Result Command WordFault) (fault : Option Fau
 abbrev pub Ends : Done → Result (Unit {0}) Fault → Option (List ℕ) → Option (List ℕ) → Type 0
 Ends r (Ok done) before after = (r.fault ≡ None) × Gets (printed r.steps) before after
 Ends r (Err fault) before after = ((r.fault ≡ Some fault) × Gets (printed r.steps) before after) ⊎ (IsOutside fault × GetsPart (printed r.steps) before after)
-
--- how far a run went over the files of a map: to its end, or to a fault of the outside within its steps
-abbrev pub Goes : Done → Files → Result (Unit {0}) Fault → Option Files → Option (List ℕ) → Option (List ℕ) → Type 0
-Goes r m (Ok done) names before after = (r.fault ≡ None) × AreDone r.steps m names before after
-Goes r m (Err fault) names before after = ((r.fault ≡ Some fault) × AreDone r.steps m names before after) ⊎ (IsOutside fault × ((part : List Step) × IsFirstPart part r.steps × AreDone part m names before after))
 
 -- the answer, and all the steps
 pub record Answers (r : Done) (m : Files) (fault : Option Fault) (names : Option Files) (before after : Option (List ℕ)) : Type 0 where

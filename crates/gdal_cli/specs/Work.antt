@@ -18,7 +18,7 @@ use Rattle.gdal_cli.specs.declared.command.Job.{Job}
 use Rattle.gdal_cli.specs.declared.command.Job.TheVariants.{Info, Locate}
 use Rattle.gdal_cli.specs.Faults.{by_words}
 use Rattle.gdal_cli.specs.Location.{asked_in, answers, point_text}
-use Rattle.gdal_cli.specs.Steps.{Done, all_done, refused, prints}
+use Rattle.error_lines.specs.Steps.{Done, all_done, refused, prints}
 use Rattle.gdal_cli.specs.Words.{words_of}
 
 -- Work whose files are judged: the report of a dataset, or what is asked of a dataset of a catalog, in one point or in

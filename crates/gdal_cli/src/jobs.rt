@@ -7,12 +7,13 @@ ghost use Rattle.input_points.specs.Entries.{entries};
 ghost use Rattle.input_points.specs.declared.entry.Entry.{Entry};
 ghost use Rattle.catalog.specs.Drivers.{Dataset};
 ghost use Rattle.catalog.specs.Walk.{IsWalked};
-ghost use Rattle.error_lines.specs.Faults.{HasCauses, HasChanged, OwnsFault, Differs};
-ghost use Rattle.gdal_cli.specs.Faults.{IsOfReading, IsOfLines};
+ghost use Rattle.error_lines.specs.Faults.{HasCauses, HasChanged, OwnsFault, Differs, IsOfReading};
+ghost use Rattle.gdal_cli.specs.Faults.{IsOfLines};
 ghost use Rattle.gdal_cli.specs.Input.{StopsBehind};
 ghost use Rattle.gdal_cli.specs.Location.{answers, point_text};
 ghost use Rattle.gdal_cli.specs.Pixels.{AreBands};
-ghost use Rattle.gdal_cli.specs.Run.{Ends, Goes, MayEnd, IsRefusal, name_read, names_published, reads_sources, reads_input, ended, RefusesKind};
+ghost use Rattle.gdal_cli.specs.Run.{Ends, MayEnd, IsRefusal, name_read, names_published, reads_sources, reads_input, ended, RefusesKind};
+ghost use Rattle.error_lines.specs.Steps.{Goes};
 ghost use Rattle.gdal_cli.specs.Work.{info_judged, location_judged, judged_by, carried_out};
 
 use crate::asked::asked_in;

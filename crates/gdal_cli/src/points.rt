@@ -5,8 +5,7 @@ ghost use Rattle.outside.specs.Causes.{HasCause};
 ghost use Rattle.catalog.specs.Drivers.{Dataset};
 ghost use Rattle.nearest_window.specs.Right.{IsReady};
 ghost use Rattle.location_report.specs.Covering.{covering_files};
-ghost use Rattle.error_lines.specs.Faults.{IsOutside, Differs, HasCauses};
-ghost use Rattle.gdal_cli.specs.Faults.{IsOfReading};
+ghost use Rattle.error_lines.specs.Faults.{IsOutside, Differs, HasCauses, IsOfReading};
 ghost use Rattle.gdal_cli.specs.Location.{told_text, point_text, PutsText};
 ghost use Rattle.gdal_cli.specs.Pixels.{IsPixel, AreBands};
 

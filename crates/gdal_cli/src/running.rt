@@ -8,8 +8,8 @@ ghost use Rattle.input_points.specs.Entries.{entries};
 ghost use Rattle.error_lines.specs.Faults.{HasCauses, HasChanged, OwnsFault, status_of};
 ghost use Rattle.error_lines.specs.Texts.{line_of};
 ghost use Rattle.gdal_cli.specs.Input.{StopsBehind};
-ghost use Rattle.gdal_cli.specs.Run.{Goes, Answers, AreTold, MayEnd, IsRefusal, RefusesWords, RefusesDataset, words_read_input, words_published, ended};
-ghost use Rattle.gdal_cli.specs.Steps.{Step, IsFirstPart, AreDone};
+ghost use Rattle.gdal_cli.specs.Run.{Answers, AreTold, MayEnd, IsRefusal, RefusesWords, RefusesDataset, words_read_input, words_published, ended};
+ghost use Rattle.error_lines.specs.Steps.{Step, IsFirstPart, AreDone, Goes};
 ghost use Rattle.gdal_cli.specs.Words.{words_of};
 ghost use Rattle.gdal_cli.specs.Work.{run_of, run_over};
 

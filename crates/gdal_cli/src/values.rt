@@ -4,8 +4,7 @@ ghost use Rattle.outside.specs.Outside.{Files};
 ghost use Rattle.outside.specs.Causes.{HasCause};
 ghost use Rattle.catalog.specs.Pixels.{pixel_of};
 ghost use Rattle.nearest_window.specs.Right.{IsReady};
-ghost use Rattle.error_lines.specs.Faults.{IsOutside, Differs};
-ghost use Rattle.gdal_cli.specs.Faults.{IsOfReading};
+ghost use Rattle.error_lines.specs.Faults.{IsOutside, Differs, IsOfReading};
 ghost use Rattle.gdal_cli.specs.Pixels.{IsPixel, AreBands};
 
 use crate::reader::{PixelReader, Question};

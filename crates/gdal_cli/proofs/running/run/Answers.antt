@@ -5,7 +5,7 @@ use Rattle.error_lines.specs.declared.faults.Fault.{Fault}
 use Rattle.error_lines.specs.declared.faults.Fault.TheVariants.{InputFault, Memory}
 use Rattle.error_lines.specs.Faults.{status_of}
 use Rattle.gdal_cli.specs.Run.{Answers, AreTold, MayEnd, IsRefusal}
-use Rattle.gdal_cli.specs.Steps.{Step}
+use Rattle.error_lines.specs.Steps.{Step}
 use Rattle.gdal_cli.specs.Words.{words_of}
 use Rattle.gdal_cli.specs.Work.{judged, run_of}
 use Rattle.gdal_cli.proofs.Causes.{command_may}

@@ -1,9 +1,10 @@
--- What a run does, a step at a time.
-use Rattle.std.specs.Prelude.{ℕ, ◌≡◌, List, [], ◌∷◌, ◌++◌, take, drop, Option, Some, None}
+-- What a run does, a step at a time, and how far it goes.
+use Rattle.std.specs.Prelude.{ℕ, ◌≡◌, ◌⊎◌, List, [], ◌∷◌, ◌++◌, take, drop, Option, Some, None, Result, Ok, Err}
 use Rattle.std.specs.FinMap.{insert}
 use Rattle.outside.specs.Outside.{Files}
 use Rattle.outside.specs.Streams.{Gets}
 use Rattle.error_lines.specs.declared.faults.Fault.{Fault}
+use Rattle.error_lines.specs.Faults.{IsOutside}
 
 -- one thing that a run does: it puts a text on the output or a line on the error stream, or gives these bytes to a name
 pub data Step : Type 0 where
@@ -73,3 +74,13 @@ applied (file ∷ files) m = applied files (insert m file.0 file.1)
 pub record AreDone (steps : List Step) (m : Files) (names : Option Files) (before after : Option (List ℕ)) : Type 0 where
   pub printed : Gets (printed steps) before after
   pub published : names ≡ Some (applied (published steps) m)
+
+-- the steps that give these files to their names
+abbrev pub publishes : List (List ℕ × List ℕ) → List Step
+publishes [] = []
+publishes (file ∷ files) = Publishes file.0 file.1 ∷ publishes files
+
+-- how far a run went over the files of a map: to its end, or to a fault of the outside within its steps
+abbrev pub Goes : Done → Files → Result (Unit {0}) Fault → Option Files → Option (List ℕ) → Option (List ℕ) → Type 0
+Goes r m (Ok done) names before after = (r.fault ≡ None) × AreDone r.steps m names before after
+Goes r m (Err fault) names before after = ((r.fault ≡ Some fault) × AreDone r.steps m names before after) ⊎ (IsOutside fault × ((part : List Step) × IsFirstPart part r.steps × AreDone part m names before after))

@@ -1,0 +1,43 @@
+-- What a translation does, a step at a time.
+use Rattle.std.specs.Prelude.{ℕ, ℤ, Bool, true, false, List, [], ◌∷◌, ◌++◌, codes, Option, Some, None}
+use Rattle.std.specs.Fmt.{decimal}
+use Rattle.lists_and_answers.specs.Texts.{text}
+use Rattle.geotransform.specs.declared.types.Size.{Size}
+use Rattle.outside.specs.Outside.{Files}
+use Rattle.catalog.specs.Drivers.{Dataset}
+use Rattle.catalog.specs.Pixels.{pixel_of_name}
+use Rattle.translate_plan.specs.Plan.{Planned, out_pixel}
+use Rattle.write_back.specs.Files.{files_of}
+use Rattle.write_back.specs.Plans.{output_of}
+use Rattle.write_back.specs.View.{Output}
+use Rattle.error_lines.specs.Steps.{Step, Prints, publishes}
+
+-- what is told before the work: the size of the source
+abbrev pub size_line : Size → List ℕ
+size_line size = text (codes "Input file size is " ∷ decimal size.w ∷ codes ", " ∷ decimal size.h ∷ codes "\n" ∷ [])
+
+-- what is told while the lines are written, and behind the last file
+abbrev pub progress : List ℕ
+progress = codes "0...10...20...30...40...50...60...70...80...90..."
+
+abbrev pub progress_end : List ℕ
+progress_end = codes "100 - done.\n"
+
+-- a text is put, but for a quiet translation
+abbrev pub unless_quiet : Bool → List ℕ → List Step
+unless_quiet true told = []
+unless_quiet false told = Prints told ∷ []
+
+-- the samples of the output of a plan of a dataset, by band, column and line
+abbrev pub raster_of : Files → Dataset → Planned → ℕ → ℕ → ℕ → ℤ
+raster_of m d p = out_pixel p d.head.size (pixel_of_name m d.head.name)
+
+-- the files that a plan's output becomes under a name; a mosaic has no samples of its own
+abbrev pub files_by : Option Output → List ℕ → (ℕ → ℕ → ℕ → ℤ) → List (List ℕ × List ℕ)
+files_by None name samples = []
+files_by (Some o) name samples = files_of o name samples
+
+-- the steps of a translation of a dataset by a plan into files under a name
+unfoldable pub translation_steps : Bool → Files → Dataset → Planned → List ℕ → List Step
+translation_steps quiet m d p name =
+    unless_quiet quiet (size_line d.head.size) ++ (unless_quiet quiet progress ++ (publishes (files_by (output_of p) name (raster_of m d p)) ++ unless_quiet quiet progress_end))
