@@ -1,0 +1,5 @@
+pub mod Alike
+pub mod Copied
+pub mod Ends
+pub mod Goes
+pub mod Told
