@@ -1,6 +1,8 @@
 -- Lines of an output that are copied one after another.
 use Rattle.std.proofs.Common.{◌≡◌, ◌∙◌, ap, sym, subst, refl, ℕ, ℤ, pos, ◌+◌, ◌-◌, ◌*◌, ◌/◌, ◌%◌, ◌<◌, ◌≤◌, arith, length, get_or, inl, inr, List, Option, Some, None}
 use Rattle.std.specs.Prelude.{is_some, slice_get, IsSome}
+use Rattle.std.specs.List.{All}
+use Rattle.std.proofs.lemmas.Option.{slice_get-get_or}
 use Rattle.std.proofs.lemmas.Bool.{cases_lt}
 use Rattle.std.proofs.lemmas.Nat.{div-mul-add, mod-mul-add, mul-add-lt}
 use Rattle.geotransform.specs.declared.types.Rect.{Rect}
@@ -9,14 +11,16 @@ use Rattle.outside.specs.Outside.{Files}
 use Rattle.catalog.specs.Drivers.{Dataset}
 use Rattle.catalog.specs.Places.{row_by_row}
 use Rattle.band_blocks.proofs.Corners.{get_or-row_by_row}
+use Rattle.translate_plan.specs.Bands.{no_out_band}
 use Rattle.translate_plan.specs.Plan.{Planned, IsPlan}
 use Rattle.write_back.specs.declared.forms.Writer.TheVariants.{Raw, Hgt, Dted}
 use Rattle.write_back.specs.Files.{files_in, files_of, IsForm, IsTarget, IsWhole, IsWholeOn}
 use Rattle.write_back.specs.Overlay.{IsInside, IsOverlaid}
 use Rattle.write_back.specs.Plans.{output_of}
-use Rattle.write_back.specs.View.{Output, Blocks, Rows, SheetView, TargetView, bands_of, columns_of, lines_after, rows_of, sheet_in, shown, IsIn, IsMetOn, IsNext, Meets, MeetsAll, Shows}
-use Rattle.write_back.proofs.Outputs.{HasSize, has_size}
+use Rattle.write_back.specs.View.{Output, Blocks, Rows, SheetView, TargetView, bands_of, columns_of, lines_after, rows_of, sheet_in, shown, AreWritable, IsIn, IsMetOn, IsNext, Meets, MeetsAll, Shows}
+use Rattle.write_back.proofs.Outputs.{HasSize, has_size, sample_held}
 use Rattle.strip_copies.specs.Copies.{lines_rect}
+use Rattle.strip_copies.specs.Rows.{IsHeldIn}
 use Rattle.output_copies.specs.Copying.{AreMet, IsAtLine, IsCopied, IsFilled}
 use Rattle.output_copies.specs.Steps.{files_by, raster_of}
 use Rattle.output_copies.proofs.Alike.{files_same}
@@ -59,9 +63,9 @@ copied_more want size t u first end k samples some same wide over meets is copie
       beside = λ b x y p less line. elim (cases_lt b k) [
         | inl a ↦ lines_kept (IsIn u.output) k (lines_rect size first end) samples want (shown t) (shown u) refl over at b x y p (λ e. absurd (omega arith)) (copied.beside b x y (place b x y p) a line)
         | inr c ↦ elim (cases_lt y first) [
-            | inl a ↦ lines_kept (IsIn u.output) k (lines_rect size first end) samples want (shown t) (shown u) refl over at b x y p (λ e. a) (copied.above b x y (place b x y p) a)
-            | inr d ↦ let column = p.column in lines_here (IsIn u.output) k (lines_rect size first end) samples want (shown t) (shown u) refl over at b x y (omega arith) (omega arith) d (omega arith)
-          ]
+          | inl a ↦ lines_kept (IsIn u.output) k (lines_rect size first end) samples want (shown t) (shown u) refl over at b x y p (λ e. a) (copied.above b x y (place b x y p) a)
+          | inr d ↦ let column = p.column in lines_here (IsIn u.output) k (lines_rect size first end) samples want (shown t) (shown u) refl over at b x y (omega arith) (omega arith) d (omega arith)
+        ]
       ];
       met = λ before. met;
       met_beside = λ before. met;
@@ -127,6 +131,29 @@ module _ (told : Option Files) (cat : List Dataset) (id : ℕ) (p : Planned) (pl
             (subst (λ (o : Output). Meets o (lines_rect p.size first end) (sheet_in t) (sheet_in u)) (sym same) (meets (known told m e)))
             (is m d e f) (filled.copied m d e f);
       }
+
+  -- the same by the facts of the calls
+  pub filled_behind : (mid new : Option Files) (size : Size) (t u : TargetView) (first end k : ℕ) (samples : List ℤ) → mid ≡ told → new ≡ mid → size ≡ p.size → first < end → end ≤ p.size.h → k < length p.bands → IsFilled told cat id p t first end k
+      → IsTarget new u → u.output ≡ t.output → u.fault ≡ None → u.lines ≡ lines_after t.output t.lines (lines_rect size first end)
+      → Shows mid k (lines_rect size first end) samples t u → MeetsAll mid (lines_rect size first end) t u
+      → ((m : Files) → told ≡ Some m → (d : Dataset) → slice_get cat id ≡ Some d → samples ≡ row_by_row (raster_of m d p k) (lines_rect p.size first end))
+      → IsFilled new cat id p u first end (k + 1)
+  filled_behind mid new size t u first end k samples mid_is new_is size_is some low band filled target same fault lines shows meets is =
+      let here : new ≡ told = new_is ∙ mid_is in
+      subst (λ (o : Option Files). IsFilled o cat id p u first end (k + 1)) (sym here)
+      (filled_more t u first end k samples some low band filled (subst (λ (o : Option Files). IsTarget o u) here target) same fault
+      (lines ∙ ap (λ (s : Size). lines_after t.output t.lines (lines_rect s first end)) size_is)
+      (subst (λ (s : Size). Shows told k (lines_rect s first end) samples t u) size_is (subst (λ (o : Option Files). Shows o k (lines_rect size first end) samples t u) mid_is shows))
+      (subst (λ (s : Size). MeetsAll told (lines_rect s first end) t u) size_is (subst (λ (o : Option Files). MeetsAll o (lines_rect size first end) t u) mid_is meets))
+      (λ m d e f. is m e d f))
+
+  -- each sample that was read can be written
+  pub are_writable : (o : Output) (k : ℕ) (samples : List ℤ) → output_of p ≡ Some o → k < length p.bands → All (IsHeldIn p k) samples → AreWritable o samples
+  are_writable o k samples e band held at d less =
+      let h = held at d less in
+      let b = get_or p.bands k no_out_band in
+      let found : slice_get p.bands k ≡ Some b = slice_get-get_or p.bands k no_out_band band in
+      sample_held p o b k (get_or samples at d) plan e found (h.kind b found) h.elevation
 
   -- all bands were copied up to a line
   pub filled_next : (t : TargetView) (first end next : ℕ) → first < end → IsFilled told cat id p t first end (length p.bands) → IsFilled told cat id p t end next 0
@@ -200,9 +227,8 @@ module _ (told : Option Files) (cat : List Dataset) (id : ℕ) (p : Planned) (pl
       let size = has_size p t.output plan filled.output in
       let tall : rows_of t.output ≡ p.size.h = size.lines_are in
       let some : 0 < p.size.h = plan.size.some_lines in
-      let copied = filled.copied m d e f in
-      (
+      let copied = filled.copied m d e f in (
         whole_on t.output (sheet_in t) tall (filled.at refl) (copied.met some),
         files_same (shown t) (raster_of m d p) t.output t.name filled.target.form (λ k x y place. let line = place.line in copied.above k x y place (omega arith))
-        ∙ ap (λ (o : Option Output). files_by o t.name (raster_of m d p)) (sym filled.output),
+            ∙ ap (λ (o : Option Output). files_by o t.name (raster_of m d p)) (sym filled.output),
       )

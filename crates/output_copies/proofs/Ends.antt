@@ -12,7 +12,7 @@ use Rattle.write_back.specs.declared.fault.TargetFault.{TargetFault}
 use Rattle.write_back.specs.declared.fault.TargetFault.TheVariants as target
 use Rattle.error_lines.specs.declared.faults.Fault.{Fault}
 use Rattle.error_lines.specs.declared.faults.Fault.TheVariants.{Changed, FolderFault, OutFault, Memory}
-use Rattle.error_lines.specs.Faults.{load_fault_of, target_fault_of}
+use Rattle.error_lines.specs.Faults.{load_fault_of, target_fault_of, IsOutside}
 use Rattle.output_copies.specs.Copying.{MayEnd}
 
 -- a fault as an answer
@@ -85,6 +85,10 @@ ends_load cat load.Memory told f g cause changed never = ends_memory told f g 0 
 pub ends_target : {T U : Type 0} (t : TargetFault) (told : Option Files) (f g : ℕ) → HasCause {T = U} target.FolderFault f g (Err t) → MayEnd {T = T} told f g 0 0 (Err (target_fault_of t))
 ends_target target.FolderFault told f g cause = ends_folder told f g 0 0 cause.later (omega arith) (cause.failed refl)
 ends_target target.Memory told f g cause = ends_memory told f g 0 0 cause.later (omega arith)
+
+pub outside_target : (t : TargetFault) (f : Fault) → f ≡ target_fault_of t → IsOutside f
+outside_target target.FolderFault f is = subst IsOutside (sym is) tt
+outside_target target.Memory f is = subst IsOutside (sym is) tt
 
 -- behind calls that succeeded
 pub ends_after : {T : Type 0} (told told' : Option Files) (f g h o p q : ℕ) (r : Result T Fault) → told' ≡ told → f ≤ g → o ≤ p → MayEnd told' g h p q r → MayEnd told f h o q r

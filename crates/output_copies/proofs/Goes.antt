@@ -117,20 +117,41 @@ take_none zero = refl
 take_none (suc j) = refl
 
 pub spoken_stops : (quiet : Bool) (told : List ℕ) (f : Fault) (m : Files) (names : Option Files) (before after : Option (List ℕ)) → names ≡ Some m → IsOutside f → GetsPart (spoken quiet told) before after → Goes (all_done (unless_quiet quiet told)) m (Err f) names before after
-spoken_stops true told f m names before after is out part = inr (out, ([], (0, 0, refl), record {
-  printed = λ g at. let here = part g at in here.1 ∙ ap (λ (t : List ℕ). Some (g ++ t)) (take_none here.0);
-  published = is;
-}))
-spoken_stops false told f m names None after is out part = inr (out, (Prints (take 0 told) ∷ [], (0, 0, refl), record {
-  printed = λ g at. let no : ⊥ = cc in absurd no;
-  published = is;
-}))
+spoken_stops true told f m names before after is out part = inr (
+  out,
+  (
+    [],
+    (0, 0, refl),
+    record {
+      printed = λ g at. let here = part g at in here.1 ∙ ap (λ (t : List ℕ). Some (g ++ t)) (take_none here.0);
+      published = is;
+    },
+  ),
+)
+spoken_stops false told f m names None after is out part = inr (
+  out,
+  (
+    Prints (take 0 told) ∷ [],
+    (0, 0, refl),
+    record {
+      printed = λ g at. let no : ⊥ = cc in absurd no;
+      published = is;
+    },
+  ),
+)
 spoken_stops false told f m names (Some old) after is out part =
     let here = part old refl in
-    inr (out, (Prints (take here.0 told) ∷ [], (0, here.0, refl), record {
-      printed = λ g at. let one : old ≡ g = cc in here.1 ∙ ap (λ (o : List ℕ). Some (o ++ take here.0 told)) one ∙ ap (λ (t : List ℕ). Some (g ++ t)) (sym (append-nil (take here.0 told)));
-      published = is;
-    }))
+    inr (
+      out,
+      (
+        Prints (take here.0 told) ∷ [],
+        (0, here.0, refl),
+        record {
+          printed = λ g at. let one : old ≡ g = cc in here.1 ∙ ap (λ (o : List ℕ). Some (o ++ take here.0 told)) one ∙ ap (λ (t : List ℕ). Some (g ++ t)) (sym (append-nil (take here.0 told)));
+          published = is;
+        },
+      ),
+    )
 
 -- files that are published
 publishes_published : (files : List (List ℕ × List ℕ)) → published (publishes files) ≡ files

@@ -17,6 +17,7 @@ ghost use Rattle.output_copies.specs.Steps.{files_by, progress, raster_of, trans
 use crate::copying::{Copier, area, copy_all};
 use crate::texts::{put_end, put_size};
 use error_lines::Fault;
+use geotransform::Sample;
 use outside::{Folder, Name, Sink, Steps};
 use std::marker::Brand;
 use std::sync::ledger::{Blank, Ledger};
@@ -32,7 +33,7 @@ pub struct Writing<'a> {
     pub quiet: bool,
 }
 
-// The reader, the room and the count that a translation's lines are copied with.
+// The reader and the count that a translation's lines are copied with.
 fn copier_for<F: Folder, L: Ledger, W: Ledger>(
     translation: &Translation,
     blocks: u32,
@@ -50,18 +51,22 @@ fn copier_for<F: Folder, L: Ledger, W: Ledger>(
     requires writes_shares { 0 < writes.parts }
     ensures fresh { IfOk result (λ copier. IsFresh F.Folder copier.reader.pixels.lane) }
     ensures room { IfOk result (λ copier. IsRoomFor translation.now.cat translation.now.id translation.now.plan copier.reader.columns copier.reader.samples.items) }
-    ensures long { IfOk result (λ copier. translation.now.plan.size.w * strip_height (is_tall translation.now.cat translation.now.plan.driver) translation.now.plan.size.w ≤ length copier.samples.items) }
     ensures memory { IfErr result (λ f. f ≡ Fault.Memory) }
 {
     let reader = StripReader::new(translation, blocks, loads)?;
-    let count = area(translation.plan.size.w, strip_height(translation));
-    let samples = vec![in translation.alloc; 0; count]?;
     let writes = Steps::open(writes);
-    Ok(Copier {
-        reader,
-        samples,
-        writes,
-    })
+    Ok(Copier { reader, writes })
+}
+
+// Room for the lines of a strip of one band.
+fn room_for(translation: &Translation) -> Result<Vec<Sample>, Fault>
+    ensures long { IfOk result (λ samples. translation.now.plan.size.w * strip_height (is_tall translation.now.cat translation.now.plan.driver) translation.now.plan.size.w ≤ length samples.items) }
+    ensures memory { IfErr result (λ f. f ≡ Fault.Memory) }
+{
+    let plan = &translation.plan;
+    let count = area(plan.size.w, strip_height(translation));
+    let samples = vec![in translation.alloc; 0; count]?;
+    Ok(samples)
 }
 
 // Publishes the files of an output, all lines of which were written.
@@ -103,13 +108,14 @@ fn write_files<F: Folder, O: Sink, L: Ledger, W: Ledger>(
     requires writes_name { writes.name ≡ W.name }
     requires writes_parts { writes.parts ≡ W.parts }
     requires writes_shares { 0 < writes.parts }
-    ensures goes { (m : Files) (d : Dataset) → F.names folder.old ≡ Some m → slice_get translation.now.cat translation.now.id ≡ Some d → Goes (all_done (unless_quiet writing.quiet progress ++ publishes (files_by (output_of translation.now.plan) writing.name.now (raster_of m d translation.now.plan)))) m result (F.names folder.new) (O.got out.old) (O.got out.new) }
+    ensures goes { (m : Files) (d : Dataset) → F.names folder.old ≡ Some m → slice_get translation.now.cat translation.now.id ≡ Some d → Goes (all_done (unless_quiet writing.entry.quiet progress ++ publishes (files_by (output_of translation.now.plan) writing.entry.name.now (raster_of m d translation.now.plan)))) m result (F.names folder.new) (O.got out.old) (O.got out.new) }
     ensures ends { MayEnd (F.names folder.old) (F.faults folder.old) (F.faults folder.new) (O.faults out.old) (O.faults out.new) result }
 {
     let alloc = translation.alloc;
     let plan = &translation.plan;
     let blocks = writing.blocks;
     let mut copier: Copier<F, L, W> = copier_for(translation, blocks, loads, writes)?;
+    let mut samples = room_for(translation)?;
     let mut target = Target::create(alloc, folder, plan, writing.name, blocks)?;
     match copy_all(
         translation,
@@ -118,6 +124,7 @@ fn write_files<F: Folder, O: Sink, L: Ledger, W: Ledger>(
         &mut target,
         out,
         writing.quiet,
+        &mut samples,
     ) {
         Ok(()) => publish(translation, folder, target, &mut copier.writes),
         Err(fault) => {
@@ -147,7 +154,7 @@ pub fn write_output<F: Folder, O: Sink>(
     requires files { translation.now.plan.driver ≢ Vrt }
     requires extension { IsNamedFor translation.now.plan writing.name.now }
     // over a folder that tells its files: all the steps are done, or where the outside failed the first of them
-    ensures told { WhereTold F.Folder folder.old (λ m. (d : Dataset) → slice_get translation.now.cat translation.now.id ≡ Some d → Goes (all_done (translation_steps writing.quiet m d translation.now.plan writing.name.now)) m result (F.names folder.new) (O.got out.old) (O.got out.new)) }
+    ensures told { WhereTold F.Folder folder.old (λ m. (d : Dataset) → slice_get translation.now.cat translation.now.id ≡ Some d → Goes (all_done (translation_steps writing.entry.quiet m d translation.now.plan writing.entry.name.now)) m result (F.names folder.new) (O.got out.old) (O.got out.new)) }
     ensures faults { IfErr result IsOfReading }
     ensures differs { Differs result }
     ensures cause { HasCauses (F.faults folder.old) (F.faults folder.new) (O.faults out.old) (O.faults out.new) result }

@@ -36,12 +36,7 @@ fn reached(share: Share) -> usize
 }
 
 /// Tells how far the lines are written, where so many bytes of it were told before, and gives how many are told now.
-pub fn tell<O: Sink>(
-    out: &mut O,
-    quiet: bool,
-    told: usize,
-    share: Share,
-) -> Result<usize, Fault>
+pub fn tell<O: Sink>(out: &mut O, quiet: bool, told: usize, share: Share) -> Result<usize, Fault>
     requires told { told ≤ 49 }
     requires some { 0 < share.height }
     requires within { share.done ≤ share.height }
