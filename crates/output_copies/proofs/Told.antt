@@ -3,7 +3,7 @@ use Rattle.std.proofs.Common.{◌≡◌, ◌∙◌, ap, sym, subst, ℕ, ◌+◌
 use Rattle.std.proofs.lemmas.List.{append-nil}
 use Rattle.std.proofs.Math.Seq.{take-add}
 use Rattle.outside.specs.Streams.{Gets, GetsPart}
-use Rattle.outside.proofs.Sinks.{gets-then, gets-then-part, part-first}
+use Rattle.outside.proofs.Sinks.{gets-none, gets-then, gets-then-part, part-first}
 use Rattle.output_copies.specs.Copying.{spoken}
 
 -- so much of a text, and behind it up to more
@@ -25,6 +25,11 @@ told_part false text part told next before mid after order is first second =
     (part-first (take next text) (drop next text) before after
     (subst (λ (t : List ℕ). GetsPart t before after) (ap (λ (t : List ℕ). take told text ++ t) (append-nil part ∙ is) ∙ take_on text told next order)
     (gets-then-part (take told text) (part ++ []) before mid after first second)))
+
+-- nothing was told yet
+pub told_none : (quiet : Bool) (text : List ℕ) (old : Option (List ℕ)) → Gets (spoken quiet (take 0 text)) old old
+told_none true text old = gets-none old
+told_none false text old = gets-none old
 
 -- lines of which nothing more is told, after some were told
 pub told_so_far : (quiet : Bool) (text : List ℕ) (told : ℕ) (before after : Option (List ℕ)) → Gets (spoken quiet (take told text)) before after → GetsPart (spoken quiet text) before after
