@@ -86,6 +86,9 @@ pub ends_target : {T U : Type 0} (t : TargetFault) (told : Option Files) (f g : 
 ends_target target.FolderFault told f g cause = ends_folder told f g 0 0 cause.later (omega arith) (cause.failed refl)
 ends_target target.Memory told f g cause = ends_memory told f g 0 0 cause.later (omega arith)
 
+pub outside_memory : (f : Fault) → f ≡ Memory → IsOutside f
+outside_memory f is = subst IsOutside (sym is) tt
+
 pub outside_target : (t : TargetFault) (f : Fault) → f ≡ target_fault_of t → IsOutside f
 outside_target target.FolderFault f is = subst IsOutside (sym is) tt
 outside_target target.Memory f is = subst IsOutside (sym is) tt

@@ -106,6 +106,9 @@ pub goes_nowhere : (steps : List Step) (m : Files) (f : Fault) (names : Option F
 goes_nowhere steps m f names old is out =
     inr (out, (cut 0 0 steps, (0, 0, refl), done_same (cut 0 0 steps) [] m names old old (cut_none steps) (record { printed = gets-none old; published = is })))
 
+pub goes_refused : (steps : List Step) (m : Files) (r : Result (Unit {0}) Fault) (f : Fault) (names : Option Files) (old : Option (List ℕ)) → r ≡ Err f → names ≡ Some m → IsOutside f → Goes (all_done steps) m r names old old
+goes_refused steps m r f names old is told out = subst (λ (e : Result (Unit {0}) Fault). Goes (all_done steps) m e names old old) (sym is) (goes_nowhere steps m f names old told out)
+
 -- a text was put, but for a quiet translation
 pub spoken_done : (quiet : Bool) (told : List ℕ) (m : Files) (names : Option Files) (before after : Option (List ℕ)) → names ≡ Some m → Gets (spoken quiet told) before after → AreDone (unless_quiet quiet told) m names before after
 spoken_done true told m names before after is got = record { printed = got; published = is }

@@ -3,3 +3,4 @@ pub mod Copied
 pub mod Ends
 pub mod Goes
 pub mod Told
+pub mod Whole
