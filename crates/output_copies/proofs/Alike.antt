@@ -1,5 +1,5 @@
 -- Outputs with the same samples become the same files.
-use Rattle.std.proofs.Common.{◌≡◌, ◌∙◌, ap, refl, ℕ, ℤ, zero, suc, ◌+◌, ◌*◌, ◌/◌, ◌%◌, ◌<◌, ◌≤◌, arith, List, [], ◌∷◌, ◌++◌, map}
+use Rattle.std.proofs.Common.{◌≡◌, ap, refl, ℕ, ℤ, zero, suc, ◌+◌, ◌*◌, ◌/◌, ◌<◌, ◌≤◌, arith, List, ◌∷◌, ◌++◌, map}
 use Rattle.std.specs.List.{flat_map, range_with_len}
 use Rattle.std.proofs.lemmas.Nat.{div_below, mod_below}
 use Rattle.esri_hdr.specs.declared.parts.Layout.{Layout}
@@ -8,7 +8,6 @@ use Rattle.esri_hdr.specs.Head.{Head, IsHead}
 use Rattle.interleaved_raw.specs.Raw.{sample_bytes}
 use Rattle.hgt_tiles.specs.Samples.{row_bytes}
 use Rattle.dted_records.specs.Written.{record_bytes}
-use Rattle.ascii_grid.specs.Text.{row_text}
 use Rattle.write_back.specs.declared.forms.Writer.TheVariants.{Raw, Hgt, Dted}
 use Rattle.write_back.specs.Files.{band_by, column_by, line_by, raw_bytes, line_at, column_at, bytes_of, header_file, header_in, files_of, IsForm}
 use Rattle.write_back.specs.Grids.{front_of, lines_text}

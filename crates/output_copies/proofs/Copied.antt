@@ -14,11 +14,11 @@ use Rattle.band_blocks.proofs.Corners.{get_or-row_by_row}
 use Rattle.translate_plan.specs.Bands.{no_out_band}
 use Rattle.translate_plan.specs.Plan.{Planned, IsPlan}
 use Rattle.write_back.specs.declared.forms.Writer.TheVariants.{Raw, Hgt, Dted}
-use Rattle.write_back.specs.Files.{files_in, files_of, IsForm, IsTarget, IsWhole, IsWholeOn}
-use Rattle.write_back.specs.Overlay.{IsInside, IsOverlaid}
+use Rattle.write_back.specs.Files.{files_in, IsTarget, IsWhole, IsWholeOn}
+use Rattle.write_back.specs.Overlay.{IsOverlaid}
 use Rattle.write_back.specs.Plans.{output_of}
 use Rattle.write_back.specs.View.{Output, Blocks, Rows, SheetView, TargetView, bands_of, columns_of, lines_after, rows_of, sheet_in, shown, AreWritable, IsIn, IsMetOn, IsNext, Meets, MeetsAll, Shows}
-use Rattle.write_back.proofs.Outputs.{HasSize, has_size, sample_held}
+use Rattle.write_back.proofs.Outputs.{has_size, sample_held}
 use Rattle.strip_copies.specs.Copies.{lines_rect}
 use Rattle.strip_copies.specs.Rows.{IsHeldIn}
 use Rattle.output_copies.specs.Copying.{AreMet, IsAtLine, IsCopied, IsFilled}

@@ -1,5 +1,5 @@
 -- How far a run goes whose parts are done one after another.
-use Rattle.std.proofs.Common.{◌≡◌, ◌∙◌, ap, sym, subst, refl, ◌⊎◌, inl, inr, ℕ, zero, suc, Bool, true, false, List, [], ◌∷◌, ◌++◌, append_assoc, length, take, drop, Result, Ok, Err, Option, Some, None}
+use Rattle.std.proofs.Common.{◌≡◌, ◌∙◌, ap, sym, subst, refl, inl, inr, ℕ, zero, suc, Bool, true, false, List, [], ◌∷◌, ◌++◌, append_assoc, length, take, Result, Ok, Err, Option, Some, None}
 use Rattle.std.proofs.lemmas.List.{append-nil}
 use Rattle.std.proofs.Math.Seq.{take-length}
 use Rattle.std.specs.FinMap.{insert}
@@ -8,7 +8,7 @@ use Rattle.outside.specs.Streams.{Gets, GetsPart}
 use Rattle.outside.proofs.Sinks.{gets-none, gets-then}
 use Rattle.error_lines.specs.declared.faults.Fault.{Fault}
 use Rattle.error_lines.specs.Faults.{IsOutside}
-use Rattle.error_lines.specs.Steps.{Step, Prints, Warns, Publishes, printed, published, publishes, begun, cut, applied, all_done, IsFirstPart, AreDone, Goes}
+use Rattle.error_lines.specs.Steps.{Step, Prints, Warns, Publishes, printed, published, publishes, cut, applied, all_done, IsFirstPart, AreDone, Goes}
 use Rattle.output_copies.specs.Copying.{spoken}
 use Rattle.output_copies.specs.Steps.{unless_quiet}
 use Rattle.write_back.specs.Files.{with_files}

@@ -1,5 +1,5 @@
 -- How far a translation goes.
-use Rattle.std.proofs.Common.{◌≡◌, ◌∙◌, refl, subst, sym, Bool, ℕ, List, ◌++◌, append_assoc, Result, Ok, Err, Option, Some}
+use Rattle.std.proofs.Common.{◌≡◌, refl, subst, Bool, ℕ, List, ◌++◌, append_assoc, Result, Ok, Err, Option, Some}
 use Rattle.std.specs.Prelude.{IfErr, OnErr, OnOk}
 use Rattle.outside.specs.Outside.{Files}
 use Rattle.outside.specs.Streams.{Gets, GetsPart}
@@ -8,7 +8,7 @@ use Rattle.translate_plan.specs.Plan.{Planned}
 use Rattle.write_back.specs.Plans.{output_of}
 use Rattle.error_lines.specs.declared.faults.Fault.{Fault}
 use Rattle.error_lines.specs.Faults.{IsOutside}
-use Rattle.error_lines.specs.Steps.{Step, all_done, applied, published, publishes, AreDone, Goes}
+use Rattle.error_lines.specs.Steps.{Step, all_done, applied, published, publishes, Goes}
 use Rattle.output_copies.specs.Copying.{spoken}
 use Rattle.output_copies.specs.Steps.{files_by, progress, progress_end, raster_of, size_line, translation_steps, unless_quiet}
 use Rattle.output_copies.proofs.Goes.{goes_stop, goes_then, spoken_done, spoken_stops}

@@ -1,5 +1,5 @@
 -- What stands in an output while its lines are copied, what is told meanwhile, and how that may end.
-use Rattle.std.specs.Prelude.{ℕ, ℤ, ◌≡◌, ◌<◌, Bool, true, false, List, [], length, take, Option, Some, None, Result, Ok, Err, IfErr, slice_get}
+use Rattle.std.specs.Prelude.{ℕ, ℤ, ◌≡◌, ◌<◌, Bool, true, false, List, [], take, Option, Some, None, Result, Ok, Err, IfErr, slice_get}
 use Rattle.outside.specs.Outside.{Files}
 use Rattle.outside.specs.Streams.{Gets, GetsPart}
 use Rattle.catalog.specs.Drivers.{Dataset}

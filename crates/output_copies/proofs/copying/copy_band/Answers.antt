@@ -1,5 +1,4 @@
-use Rattle.std.proofs.Common.{◌≡◌, ◌∙◌, ap, arith, sym}
-use Rattle.geotransform.specs.declared.types.Size.{Size}
+use Rattle.std.proofs.Common.{◌≡◌, ap, arith}
 use Rattle.translate_plan.specs.Plan.{Planned}
 use Rattle.output_copies.proofs.Copied.{are_writable, filled_behind, may_come}
 use Rattle.output_copies.proofs.copying.copy_band.Goals as goal

@@ -1,8 +1,5 @@
-use Rattle.std.proofs.Common.{◌≡◌, ◌∙◌, ap, sym, subst, length, take, ℕ, List, Option, Some, Result, Ok, Err}
-use Rattle.outside.specs.Outside.{Files}
+use Rattle.std.proofs.Common.{◌≡◌, subst, length, take, ℕ, List, Some}
 use Rattle.write_back.specs.Files.{with_files}
-use Rattle.error_lines.specs.declared.faults.Fault.{Fault}
-use Rattle.error_lines.specs.Steps.{all_done, publishes, Goes}
 use Rattle.output_copies.specs.Steps.{files_by, raster_of}
 use Rattle.write_back.specs.Plans.{output_of}
 use Rattle.output_copies.proofs.Copied.{filled_whole}

@@ -1,6 +1,4 @@
-use Rattle.std.proofs.Common.{◌≡◌, ◌∙◌, ◌++◌, refl, arith, sym, subst, ℕ, List, Option, Some, Result, Err}
-use Rattle.outside.specs.Outside.{Files}
-use Rattle.error_lines.specs.declared.faults.Fault.{Fault}
+use Rattle.std.proofs.Common.{◌≡◌, ◌∙◌, refl, arith, sym, subst, ℕ, List, Some, Err}
 use Rattle.error_lines.specs.Faults.{target_fault_of}
 use Rattle.error_lines.specs.Steps.{all_done, publishes, Goes}
 use Rattle.write_back.specs.Plans.{output_of}

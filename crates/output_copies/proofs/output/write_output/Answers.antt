@@ -1,4 +1,4 @@
-use Rattle.std.proofs.Common.{◌≡◌, refl, arith, sym, subst, Result, Err}
+use Rattle.std.proofs.Common.{refl, arith, sym, subst, Result, Err}
 use Rattle.error_lines.specs.declared.faults.Fault.{Fault}
 use Rattle.error_lines.specs.Steps.{all_done, Goes}
 use Rattle.output_copies.specs.Steps.{translation_steps}
@@ -55,7 +55,7 @@ returns-in_err-write_files-clause-cause g c =
     let r = c.from_residual-in_err-write_files.result in
     let first = c.in_ok-put_size.ensures.ends told (g.F.Folder.faults c.args.folder.now) in
     let ends = ends_so {T = Unit {0}} _ _ _ _ _ f r (err_is r f c.from_residual-in_err-write_files.ensures)
-        (ends_after told told (g.F.Folder.faults c.args.folder.now) (g.F.Folder.faults c.args.folder.now) (g.F.Folder.faults c.write_files.new.folder) (g.O.Sink.faults c.args.out.now) (g.O.Sink.faults c.put_size.new.out) (g.O.Sink.faults c.write_files.new.out) (Err f) refl (omega arith) first.cause.out_later c.in_err-write_files.ensures.ends) in
+    (ends_after told told (g.F.Folder.faults c.args.folder.now) (g.F.Folder.faults c.args.folder.now) (g.F.Folder.faults c.write_files.new.folder) (g.O.Sink.faults c.args.out.now) (g.O.Sink.faults c.put_size.new.out) (g.O.Sink.faults c.write_files.new.out) (Err f) refl (omega arith) first.cause.out_later c.in_err-write_files.ensures.ends) in
     ends.cause
 
 pub returns-clause-faults : goal.returns-clause-faults
@@ -73,5 +73,5 @@ returns-clause-cause g c =
     let out_first = first.cause.out_later in
     let out_second = second.cause.out_later in
     let ends = ends_after told told (g.F.Folder.faults c.args.folder.now) (g.F.Folder.faults c.write_files.new.folder) (g.F.Folder.faults c.write_files.new.folder) (g.O.Sink.faults c.args.out.now) (g.O.Sink.faults c.write_files.new.out) (g.O.Sink.faults c.put_end.new.out) c.put_end.result refl
-        folder_later (omega arith) (c.put_end.ensures.ends told (g.F.Folder.faults c.write_files.new.folder)) in
+    folder_later (omega arith) (c.put_end.ensures.ends told (g.F.Folder.faults c.write_files.new.folder)) in
     ends.cause
