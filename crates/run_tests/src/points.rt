@@ -1,7 +1,7 @@
 // Runs over the points of an input, and over mosaics of mosaics.
 use crate::trials::{
-    Calls, FOLDER, Fed, FileOf, READING, Row, Trial, WRITING, first_failing, first_harmless,
-    first_wrong, left_of,
+    Calls, FOLDER, Fed, FileOf, READING, Row, Trial, Unmade, WRITING, first_failing,
+    first_harmless, first_wrong, left_of,
 };
 use outside::{Failing, Method};
 use std::alloc::Global;
@@ -193,7 +193,7 @@ fn first_unfed<R: Threads + Sync>(
     alloc: Global,
     rows: &[Answer<'_>],
     most: usize,
-) -> Result<usize, Fail> {
+) -> Result<usize, Unmade> {
     for (at, (line, input, said)) in rows.iter().enumerate() {
         let trial: Trial<'_> = ((*line, (*input, most)), CALM, *said);
         if first_failing(rt, alloc, &FILES, &[trial])? == 0 {
@@ -209,7 +209,7 @@ fn first_unfed_of<R: Threads + Sync>(
     alloc: Global,
     rows: &[Answer<'_>],
     sizes: [usize; 3],
-) -> Result<(usize, usize), Fail> {
+) -> Result<(usize, usize), Unmade> {
     for most in sizes {
         let at = first_unfed(rt, alloc, rows, most)?;
         if at < rows.len() {

@@ -1,4 +1,6 @@
-use crate::trials::{FileOf, Row, Trial, WRITING, first_failing, first_harmless, first_wrong};
+use crate::trials::{
+    FileOf, Row, Trial, Unmade, WRITING, first_failing, first_harmless, first_wrong,
+};
 use outside::{Failing, Method};
 use std::alloc::Global;
 use std::test::*;
@@ -199,7 +201,7 @@ fn a_failing_output(rt: HostRuntime) -> Result<(), Fail> {
 
 const WIDEST: [Row<'static>; 1] = [("gdallocationinfo -valonly w.bil 4194303 0", 0, "7\n", "")];
 
-fn try_widest<R: Threads + Sync>(rt: &R, alloc: Global) -> Result<usize, Fail> {
+fn try_widest<R: Threads + Sync>(rt: &R, alloc: Global) -> Result<usize, Unmade> {
     let bytes = vec![in alloc; 7u8; 4_194_304]?;
     let files: [FileOf<'_>; 2] = [("w.hdr", b"NROWS 1\nNCOLS 4194304\n"), ("w.bil", &bytes)];
     first_wrong(rt, alloc, &files, &WIDEST)
