@@ -13,15 +13,15 @@ use Rattle.error_lines.specs.declared.faults.Fault.{Fault}
 use Rattle.error_lines.specs.declared.faults.Fault.TheVariants.{Usage, Absent, NotRecognized, Malformed, Short, Cycle, TooDeep, Limit, SourceBand, Plan, SameName, BadPoint, Changed, FolderFault, InputFault, OutFault, Memory}
 use Rattle.error_lines.specs.Faults.{fault_of, report_fault_of, IsOutside, HasNoCause, IsOfReading}
 use Rattle.gdal_cli.specs.declared.asked.Asked.{Asked}
-use Rattle.gdal_cli.specs.declared.command.Command.{Command}
-use Rattle.gdal_cli.specs.declared.command.Job.{Job}
-use Rattle.gdal_cli.specs.declared.command.Job.TheVariants.{Locate}
-use Rattle.gdal_cli.specs.declared.spoken.WordFault.{WordFault}
-use Rattle.gdal_cli.specs.declared.spoken.WordFault.TheVariants as word
+use Rattle.command_words.specs.declared.command.Command.{Command}
+use Rattle.command_words.specs.declared.command.Job.{Job}
+use Rattle.command_words.specs.declared.command.Job.TheVariants.{Locate}
+use Rattle.command_words.specs.declared.spoken.WordFault.{WordFault}
+use Rattle.command_words.specs.declared.spoken.WordFault.TheVariants as word
 use Rattle.gdal_cli.specs.Faults.{IsOfLines, word_fault_of}
 use Rattle.gdal_cli.specs.Location.{asked_in}
 use Rattle.gdal_cli.specs.Run.{MayEnd, IsRefusal, ended, reads_input, reads_pixels}
-use Rattle.gdal_cli.specs.Words.{IsMemory}
+use Rattle.command_words.specs.Words.{IsMemory}
 use Rattle.gdal_cli.proofs.Lacking.{asked_plan}
 
 -- what a walk answers
