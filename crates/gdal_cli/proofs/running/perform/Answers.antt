@@ -2,12 +2,12 @@ use Rattle.std.proofs.Common.{◌∙◌, ap, sym, subst, map, string_bytes, Resu
 use Rattle.std.specs.Prelude.{IfOk, IfErr}
 use Rattle.input_points.specs.Entries.{entries}
 use Rattle.error_lines.specs.declared.faults.Fault.{Fault}
-use Rattle.gdal_cli.specs.declared.command.Command.{Command}
-use Rattle.gdal_cli.specs.declared.spoken.WordFault.{WordFault}
+use Rattle.command_words.specs.declared.command.Command.{Command}
+use Rattle.command_words.specs.declared.spoken.WordFault.{WordFault}
 use Rattle.gdal_cli.specs.Faults.{word_fault_of}
 use Rattle.gdal_cli.specs.Run.{MayEnd, words_read_input}
 use Rattle.error_lines.specs.Steps.{Goes}
-use Rattle.gdal_cli.specs.Words.{words_of}
+use Rattle.command_words.specs.Words.{words_of}
 use Rattle.gdal_cli.specs.Work.{Work, judged_by, carried_out, run_over}
 use Rattle.gdal_cli.proofs.Causes.{words_may}
 use Rattle.gdal_cli.proofs.Datasets.{dataset_refused}
