@@ -47,7 +47,7 @@ Band 1 Block=1x4 Type=Int16
   NoData Value=-32767
 ";
 
-const CELLS: [Row<'static>; 18] = [
+static CELLS: [Row<'static>; 18] = [
     ("gdalinfo c.dt0", 0, CELL_REPORT, ""),
     ("gdallocationinfo -valonly c.dt0 0 3", 0, "5\n", ""),
     ("gdallocationinfo -valonly c.dt0 0 2", 0, "-5\n", ""),
@@ -134,7 +134,7 @@ fn cells(rt: HostRuntime) -> Result<(), Fail> {
 }
 
 // So many bytes of the cell, and the status, what is printed and what is told of them.
-const CUTS: [(usize, u8, &str, &str); 10] = [
+static CUTS: [(usize, u8, &str, &str); 10] = [
     (0, 1, "", "ERROR 4: c.dt0: malformed dted (3)\n"),
     (3, 1, "", "ERROR 4: c.dt0: malformed dted (3)\n"),
     (79, 1, "", "ERROR 4: c.dt0: malformed dted (3)\n"),
@@ -170,7 +170,7 @@ fn cut_cells(rt: HostRuntime) -> Result<(), Fail> {
     Ok(())
 }
 
-const LARGE: [Row<'static>; 1] = [(
+static LARGE: [Row<'static>; 1] = [(
     "gdalinfo l.dt2",
     1,
     "",
@@ -204,7 +204,7 @@ fn failing_calls_of_a_cell(rt: HostRuntime) -> Result<(), Fail> {
 }
 
 // Files whose names are those of tiles are refused for their length alone.
-const NAMES: [Row<'static>; 8] = [
+static NAMES: [Row<'static>; 8] = [
     (
         "gdalinfo N90E180.hgt",
         1,
@@ -255,7 +255,7 @@ const NAMES: [Row<'static>; 8] = [
     ),
 ];
 
-const TILES: [FileOf<'static>; 7] = [
+static TILES: [FileOf<'static>; 7] = [
     ("N90E180.hgt", b""),
     ("S90W180.hgt", b""),
     ("d/n00w000.HGT", b""),
@@ -294,7 +294,7 @@ Band 1 Block=1201x1 Type=Int16
 ";
 
 // The centre of that pixel is what the name tells.
-const CORNER: [Row<'static>; 2] = [
+static CORNER: [Row<'static>; 2] = [
     ("gdalinfo S01W180.hgt", 0, TILE_REPORT, ""),
     (
         "gdallocationinfo -valonly S01W180.hgt 0.5 1200.5",
@@ -317,7 +317,7 @@ fn a_tile(rt: HostRuntime) -> Result<(), Fail> {
 
 // The length of the file of a tile when it is opened again, the words, and the status, what is printed and what is
 // told.
-const CHANGES: [(Option<u64>, &str, (u8, &str, &str)); 4] = [
+static CHANGES: [(Option<u64>, &str, (u8, &str, &str)); 4] = [
     (
         Some(25_934_402),
         "gdallocationinfo -valonly N00E000.hgt 1 1",

@@ -45,7 +45,7 @@ Band 1 Block=128x128 Type=Int16
 
 // Mosaics whose sources aren't there, which nothing opens: one that names itself, two that are refused, and one whose
 // band takes a kind that isn't read.
-const FILES: [FileOf<'static>; 6] = [
+static FILES: [FileOf<'static>; 6] = [
     ("wide.vrt", WIDE),
     (
         "m.vrt",
@@ -66,7 +66,7 @@ const FILES: [FileOf<'static>; 6] = [
     ("empty.vrt", b""),
 ];
 
-const ROWS: [Row<'static>; 9] = [
+static ROWS: [Row<'static>; 9] = [
     ("gdalinfo wide.vrt", 0, WIDE_REPORT, ""),
     (
         "gdalinfo itself.vrt",
@@ -125,7 +125,7 @@ fn mosaics(rt: HostRuntime) -> Result<(), Fail> {
 }
 
 // A source whose name would be as many bytes long before it is normalised, and what is told.
-const NAMES: [(usize, &str); 2] = [(4096, ""), (4097, "ERROR 6: limit of name passed (4097)\n")];
+static NAMES: [(usize, &str); 2] = [(4096, ""), (4097, "ERROR 6: limit of name passed (4097)\n")];
 
 // A document whose source has a name of so many bytes, with the name of the folder and the slash that stand before it.
 fn with_name(alloc: Global, len: usize) -> Result<Vec<u8>, Unmade> {
