@@ -1,18 +1,28 @@
 // A translation, from its first text to its last.
-ghost use Rattle.std.specs.Prelude.{◌≡◌, ◌≢◌, ◌≤◌, IfErr, Some, slice_get};
+ghost use Rattle.std.specs.Prelude.{◌≡◌, ◌≢◌, ◌≤◌, ◌<◌, ◌*◌, ◌++◌, ℕ, List, Option, IfErr, IfOk, Some, length, slice_get};
+ghost use Rattle.outside.specs.Outside.{Files};
 ghost use Rattle.outside.specs.Reading.{WhereTold};
 ghost use Rattle.catalog.specs.Drivers.{Dataset};
 ghost use Rattle.catalog.specs.Walk.{IsWalked};
+ghost use Rattle.nearest_window.specs.Right.{IsFresh};
 ghost use Rattle.translate_plan.specs.declared.options.Driver.TheVariants.{Vrt};
-ghost use Rattle.write_back.specs.Plans.{IsNamedFor};
-ghost use Rattle.strip_copies.specs.Copies.{IsTranslation};
+ghost use Rattle.write_back.specs.Plans.{output_of, IsNamedFor};
+ghost use Rattle.strip_copies.specs.Copies.{IsRoomFor, IsTranslation};
+ghost use Rattle.strip_copies.specs.Heights.{is_tall, strip_height};
 ghost use Rattle.error_lines.specs.Faults.{Differs, HasCauses, IsOfReading};
-ghost use Rattle.error_lines.specs.Steps.{all_done, Goes};
-ghost use Rattle.output_copies.specs.Steps.{translation_steps};
+ghost use Rattle.error_lines.specs.Steps.{all_done, publishes, Goes};
+ghost use Rattle.output_copies.specs.Copying.{IsFilled, MayEnd};
+ghost use Rattle.output_copies.specs.Steps.{files_by, progress, raster_of, translation_steps, unless_quiet};
 
+use crate::copying::{Copier, area, copy_all};
+use crate::texts::{put_end, put_size};
 use error_lines::Fault;
-use outside::{Folder, Name, Sink};
-use strip_copies::Translation;
+use geotransform::Sample;
+use outside::{Folder, Name, Sink, Steps};
+use std::marker::Brand;
+use std::sync::ledger::{Blank, Ledger};
+use strip_copies::{StripReader, Translation, strip_height};
+use write_back::Target;
 
 /// How an output is written: under which name, with how many blocks held at a time by what is read and by what is
 /// written, and whether nothing is told of the work.
@@ -21,6 +31,107 @@ pub struct Writing<'a> {
     pub name: &'a Name,
     pub blocks: u32,
     pub quiet: bool,
+}
+
+// The reader and the count that a translation's lines are copied with.
+fn copier_for<F: Folder, L: Ledger, W: Ledger>(
+    translation: &Translation,
+    blocks: u32,
+    loads: Blank,
+    writes: Blank,
+) -> Result<Copier<F, L, W>, Fault>
+    requires translation { IsTranslation translation.now.cat translation.now.id translation.now.plan }
+    requires some { 1 ≤ blocks }
+    requires few { blocks ≤ 65536 }
+    requires loads_name { loads.name ≡ L.name }
+    requires loads_parts { loads.parts ≡ L.parts }
+    requires loads_shares { 0 < loads.parts }
+    requires writes_name { writes.name ≡ W.name }
+    requires writes_parts { writes.parts ≡ W.parts }
+    requires writes_shares { 0 < writes.parts }
+    ensures fresh { IfOk result (λ copier. IsFresh F.Folder copier.reader.pixels.lane) }
+    ensures room { IfOk result (λ copier. IsRoomFor translation.now.cat translation.now.id translation.now.plan copier.reader.columns copier.reader.samples.items) }
+    ensures memory { IfErr result (λ f. f ≡ Fault.Memory) }
+{
+    let reader = StripReader::new(translation, blocks, loads)?;
+    let writes = Steps::open(writes);
+    Ok(Copier { reader, writes })
+}
+
+// Room for the lines of a strip of one band.
+fn room_for(translation: &Translation) -> Result<Vec<Sample>, Fault>
+    ensures long { IfOk result (λ samples. translation.now.plan.size.w * strip_height (is_tall translation.now.cat translation.now.plan.driver) translation.now.plan.size.w ≤ length samples.items) }
+    ensures memory { IfErr result (λ f. f ≡ Fault.Memory) }
+{
+    let plan = &translation.plan;
+    let count = area(plan.size.w, strip_height(translation));
+    let samples = vec![in translation.alloc; 0; count]?;
+    Ok(samples)
+}
+
+// Publishes the files of an output, all lines of which were written.
+fn publish<F: Folder, W: Ledger>(
+    translation: &Translation,
+    folder: &mut F,
+    target: Target<F>,
+    writes: &mut Steps<W>,
+) -> Result<(), Fault>
+    requires filled { IsFilled (F.names folder.old) translation.now.cat translation.now.id translation.now.plan target translation.now.plan.size.h translation.now.plan.size.h 0 }
+    ensures goes { (m : Files) (d : Dataset) → F.names folder.old ≡ Some m → slice_get translation.now.cat translation.now.id ≡ Some d → (text : Option (List ℕ)) → Goes (all_done (publishes (files_by (output_of translation.now.plan) target.name (raster_of m d translation.now.plan)))) m result (F.names folder.new) text text }
+    ensures ends { MayEnd (F.names folder.old) (F.faults folder.old) (F.faults folder.new) 0 0 result }
+{
+    translation.plan.rules();
+    match target.close(folder, writes) {
+        Ok(()) => Ok(()),
+        Err(fault) => Err(Fault::from(fault.cause)),
+    }
+}
+
+// Copies the lines of an output, and publishes its files.
+fn write_files<F: Folder, O: Sink, L: Ledger, W: Ledger>(
+    translation: &Translation,
+    folder: &mut F,
+    out: &mut O,
+    writing: Writing,
+    loads: Blank,
+    writes: Blank,
+) -> Result<(), Fault>
+    requires translation { IsTranslation translation.now.cat translation.now.id translation.now.plan }
+    requires walked { WhereTold F.Folder folder.old (λ m. IsWalked m translation.now.cat) }
+    requires some { 1 ≤ writing.blocks }
+    requires few { writing.blocks ≤ 65536 }
+    requires files { translation.now.plan.driver ≢ Vrt }
+    requires extension { IsNamedFor translation.now.plan writing.name.now }
+    requires loads_name { loads.name ≡ L.name }
+    requires loads_parts { loads.parts ≡ L.parts }
+    requires loads_shares { 0 < loads.parts }
+    requires writes_name { writes.name ≡ W.name }
+    requires writes_parts { writes.parts ≡ W.parts }
+    requires writes_shares { 0 < writes.parts }
+    ensures goes { (m : Files) (d : Dataset) → F.names folder.old ≡ Some m → slice_get translation.now.cat translation.now.id ≡ Some d → Goes (all_done (unless_quiet writing.entry.quiet progress ++ publishes (files_by (output_of translation.now.plan) writing.entry.name.now (raster_of m d translation.now.plan)))) m result (F.names folder.new) (O.got out.old) (O.got out.new) }
+    ensures ends { MayEnd (F.names folder.old) (F.faults folder.old) (F.faults folder.new) (O.faults out.old) (O.faults out.new) result }
+{
+    let alloc = translation.alloc;
+    let plan = &translation.plan;
+    let blocks = writing.blocks;
+    let mut copier: Copier<F, L, W> = copier_for(translation, blocks, loads, writes)?;
+    let mut samples = room_for(translation)?;
+    let mut target = Target::create(alloc, folder, plan, writing.name, blocks)?;
+    match copy_all(
+        translation,
+        &mut copier,
+        folder,
+        &mut target,
+        out,
+        writing.quiet,
+        &mut samples,
+    ) {
+        Ok(()) => publish(translation, folder, target, &mut copier.writes),
+        Err(fault) => {
+            target.give_up(folder);
+            Err(fault)
+        }
+    }
 }
 
 /// Does a translation: tells the size of the source, copies the pixels of the output strip by strip, telling how far
@@ -43,11 +154,19 @@ pub fn write_output<F: Folder, O: Sink>(
     requires files { translation.now.plan.driver ≢ Vrt }
     requires extension { IsNamedFor translation.now.plan writing.name.now }
     // over a folder that tells its files: all the steps are done, or where the outside failed the first of them
-    ensures told { WhereTold F.Folder folder.old (λ m. (d : Dataset) → slice_get translation.now.cat translation.now.id ≡ Some d → Goes (all_done (translation_steps writing.quiet m d translation.now.plan writing.name.now)) m result (F.names folder.new) (O.got out.old) (O.got out.new)) }
+    ensures told { WhereTold F.Folder folder.old (λ m. (d : Dataset) → slice_get translation.now.cat translation.now.id ≡ Some d → Goes (all_done (translation_steps writing.entry.quiet m d translation.now.plan writing.entry.name.now)) m result (F.names folder.new) (O.got out.old) (O.got out.new)) }
     ensures faults { IfErr result IsOfReading }
     ensures differs { Differs result }
     ensures cause { HasCauses (F.faults folder.old) (F.faults folder.new) (O.faults out.old) (O.faults out.new) result }
 {
-    let _alloc = translation.alloc;
-    Err(Fault::Memory)
+    put_size(translation, out, writing.quiet)?;
+    write_files::<F, O, Brand, Brand>(
+        translation,
+        folder,
+        out,
+        writing,
+        Blank::new(1),
+        Blank::new(1),
+    )?;
+    put_end(out, writing.quiet)
 }

@@ -1,0 +1,6 @@
+pub mod Alike
+pub mod Copied
+pub mod Ends
+pub mod Goes
+pub mod Told
+pub mod Whole

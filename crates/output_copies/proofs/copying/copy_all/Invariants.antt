@@ -1,0 +1,26 @@
+use Rattle.std.proofs.Common.{◌≡◌, ◌≤◌, ◌-◌, take}
+use Rattle.outside.specs.Streams.{Gets}
+use Rattle.nearest_window.specs.Right.{IsReady}
+use Rattle.strip_copies.specs.Copies.{IsRoomFor}
+use Rattle.output_copies.specs.Copying.{spoken, IsFilled}
+use Rattle.output_copies.specs.Steps.{progress}
+use Rattle.output_copies.proofs.copying.copy_all.Given as goal
+
+-- the lines so far
+abbrev pub invariant-loop-line : goal.invariant-loop-line
+invariant-loop-line g l = record {
+  below : l.line ≤ l.height;
+  ready : IsReady g.F.Folder l.folder l.translation.cat l.copier.reader.pixels.lane;
+  room : IsRoomFor l.translation.cat l.translation.id l.translation.plan l.copier.reader.columns l.copier.reader.samples.items;
+  filled : IsFilled (g.F.Folder.names l.fn.folder) l.translation.cat l.translation.id l.translation.plan l.target l.line l.line 0;
+  name : l.target.name ≡ l.fn.target.name;
+  names : g.F.Folder.names l.folder ≡ g.F.Folder.names l.fn.folder;
+  folder_later : g.F.Folder.faults l.fn.folder ≤ g.F.Folder.faults l.folder;
+  out_later : g.O.Sink.faults l.fn.out ≤ g.O.Sink.faults l.out;
+  told : l.told ≤ 49;
+  whole : l.line ≡ l.height → l.told ≡ 49;
+  text : Gets (spoken l.quiet (take l.told progress)) (g.O.Sink.got l.fn.out) (g.O.Sink.got l.out);
+}
+
+abbrev pub decreases-loop-line : goal.decreases-loop-line
+decreases-loop-line g l = l.height - l.line

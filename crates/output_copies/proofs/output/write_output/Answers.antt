@@ -1,0 +1,31 @@
+use Rattle.std.proofs.Common.{◌≡◌, ◌∙◌, sym, subst, Result}
+use Rattle.error_lines.specs.declared.faults.Fault.{Fault}
+use Rattle.error_lines.specs.Steps.{all_done, Goes}
+use Rattle.output_copies.specs.Steps.{translation_steps}
+use Rattle.output_copies.proofs.Ends.{err_is}
+use Rattle.output_copies.proofs.Whole.{end_goes, files_stop, size_stops}
+use Rattle.output_copies.proofs.output.write_output.Goals as goal
+
+pub returns-in_err-put_size-clause-told : goal.returns-in_err-put_size-clause-told
+returns-in_err-put_size-clause-told g c = λ m told d at.
+    let f = c.in_err-put_size.field-0.0 in
+    subst (λ (r : Result (Unit {0}) Fault). Goes (all_done (translation_steps c.args.writing.quiet m d c.args.translation.now.plan c.args.writing.name.now)) m r (g.F.Folder.names c.args.folder.now) (g.O.Sink.got c.args.out.now) (g.O.Sink.got c.put_size.new.out))
+    (sym (err_is c.from_residual.result c.in_err-put_size.field-0.0 c.from_residual.ensures))
+    (size_stops c.args.writing.quiet m d c.args.translation.now.plan c.args.writing.name.now f (g.F.Folder.names c.args.folder.now) (g.O.Sink.got c.args.out.now) (g.O.Sink.got c.put_size.new.out) told
+    ((c.in_err-put_size.ensures.ends (g.F.Folder.names c.args.folder.now) 0).never m told) (c.in_err-put_size.ensures.err d at))
+
+pub returns-in_err-write_files-clause-told : goal.returns-in_err-write_files-clause-told
+returns-in_err-write_files-clause-told g c = λ m told d at.
+    let f = c.in_err-write_files.field-0.0 in
+    let goes = c.in_err-write_files.ensures.goes m d told at in
+    subst (λ (r : Result (Unit {0}) Fault). Goes (all_done (translation_steps c.args.writing.quiet m d c.args.translation.now.plan c.args.writing.name.now)) m r (g.F.Folder.names c.write_files.new.folder) (g.O.Sink.got c.args.out.now) (g.O.Sink.got c.write_files.new.out))
+    (sym (err_is c.from_residual-in_err-write_files.result c.in_err-write_files.field-0.0 c.from_residual-in_err-write_files.ensures))
+    (files_stop c.args.writing.quiet m d c.args.translation.now.plan c.args.writing.name.now f (g.F.Folder.names c.write_files.new.folder) (g.O.Sink.got c.args.out.now) (g.O.Sink.got c.put_size.new.out) (g.O.Sink.got c.write_files.new.out)
+    (c.in_ok-put_size.ensures.ok d at) goes)
+
+pub returns-clause-told : goal.returns-clause-told
+returns-clause-told g c = λ m told d at.
+    let goes = c.in_ok-write_files.ensures.goes m d told at in
+    let ends = c.put_end.ensures.ends (g.F.Folder.names c.args.folder.now) 0 in
+    end_goes c.args.writing.quiet m d c.args.translation.now.plan c.args.writing.name.now c.put_end.result (g.F.Folder.names c.write_files.new.folder) (g.O.Sink.got c.args.out.now) (g.O.Sink.got c.put_size.new.out) (g.O.Sink.got c.write_files.new.out) (g.O.Sink.got c.put_end.new.out)
+    (c.in_ok-put_size.ensures.ok d at) goes c.put_end.ensures.ok c.put_end.ensures.err (ends.never m told)

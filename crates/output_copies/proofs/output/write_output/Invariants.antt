@@ -1,0 +1,7 @@
+use Rattle.output_copies.proofs.output.write_output.Given as goal
+
+abbrev pub ghosts-write_files-L-Ledger : goal.ghosts-write_files-L-Ledger
+ghosts-write_files-L-Ledger g a = record { name = a.loads.name; parts = a.loads.parts }
+
+abbrev pub ghosts-write_files-W-Ledger : goal.ghosts-write_files-W-Ledger
+ghosts-write_files-W-Ledger g a = record { name = a.writes.name; parts = a.writes.parts }

@@ -1,0 +1,53 @@
+// What is told while the lines of an output are written.
+ghost use Rattle.std.specs.Prelude.{◌≡◌, ◌<◌, ◌≤◌, ℕ, List, Option, IfOk, length, take};
+ghost use Rattle.outside.specs.Outside.{Files};
+ghost use Rattle.outside.specs.Streams.{Gets};
+ghost use Rattle.output_copies.specs.Copying.{spoken, MayEnd, Tells};
+ghost use Rattle.output_copies.specs.Steps.{progress};
+
+use crate::texts::put_text;
+use error_lines::Fault;
+use outside::Sink;
+
+/// How many lines of an output are written, of so many.
+#[derive(Clone, Copy)]
+pub struct Share {
+    pub done: u32,
+    pub height: u32,
+}
+
+// All that is told.
+fn progress_text() -> &'static [u8]
+    ensures text { result.now ≡ progress }
+    ensures length { length result.now ≡ 49 }
+{
+    b"0...10...20...30...40...50...60...70...80...90..."
+}
+
+// The bytes of it that are told by now: the first piece, and one more for each tenth of the lines.
+fn reached(share: Share) -> usize
+    requires some { 0 < share.height }
+    requires within { share.done ≤ share.height }
+    ensures within { result ≤ 49 }
+    ensures whole { share.done ≡ share.height → result ≡ 49 }
+{
+    let tenths = 10 * u64::from(share.done) / u64::from(share.height);
+    (4 + 5 * tenths as usize).min(49)
+}
+
+/// Tells how far the lines are written, where so many bytes of it were told before, and gives how many are told now.
+pub fn tell<O: Sink>(out: &mut O, quiet: bool, told: usize, share: Share) -> Result<usize, Fault>
+    requires told { told ≤ 49 }
+    requires some { 0 < share.height }
+    requires within { share.done ≤ share.height }
+    ensures told { (before : Option (List ℕ)) → Gets (spoken quiet (take told progress)) before (O.got out.old) → Tells quiet result before (O.got out.new) }
+    ensures within { IfOk result (λ next. next ≤ 49) }
+    ensures whole { share.done ≡ share.height → IfOk result (λ next. next ≡ 49) }
+    ensures ends { (names : Option Files) (faults : ℕ) → MayEnd names faults faults (O.faults out.old) (O.faults out.new) result }
+{
+    let next = reached(share).max(told);
+    let text = progress_text();
+    let part = &text[told..next];
+    put_text(out, quiet, &[part])?;
+    Ok(next)
+}
