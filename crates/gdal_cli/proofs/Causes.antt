@@ -22,7 +22,7 @@ use Rattle.command_words.specs.declared.spoken.WordFault.TheVariants as word
 use Rattle.gdal_cli.specs.Faults.{IsOfLines, word_fault_of}
 use Rattle.gdal_cli.specs.Location.{asked_in}
 use Rattle.gdal_cli.specs.Published.{names_written, unless_read}
-use Rattle.gdal_cli.proofs.Published.{same_name}
+use Rattle.gdal_cli.proofs.Unread.{same_name}
 use Rattle.translate_plan.specs.Options.{Options}
 use Rattle.gdal_cli.specs.Run.{MayEnd, IsRefusal, ended, reads_input, reads_pixels}
 use Rattle.command_words.specs.Words.{IsMemory}

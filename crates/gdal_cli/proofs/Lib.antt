@@ -13,7 +13,7 @@ pub mod Outcomes
 pub mod Pieces
 pub mod Placed
 pub mod Printing
-pub mod Published
 pub mod Reached
 pub mod Told
 pub mod Translated
+pub mod Unread

@@ -1,5 +1,6 @@
 -- How translations end.
 use Rattle.std.proofs.Common.{◌≡◌, ◌∙◌, ap, sym, subst, refl, ◌⊎◌, inl, inr, ℕ, Bool, false, List, [], length, Result, Ok, Err, Option, Some, None}
+use Rattle.std.specs.Prelude.{slice_get, option_map}
 use Rattle.lists_and_answers.specs.Answers.{◌>>=◌}
 use Rattle.outside.specs.Outside.{Files}
 use Rattle.outside.proofs.Sinks.{gets-none}
@@ -8,7 +9,8 @@ use Rattle.catalog.specs.Outcomes as outcomes
 use Rattle.catalog.specs.Dataset.{DatasetHead}
 use Rattle.catalog.specs.Drivers.{Dataset}
 use Rattle.catalog.specs.Heads.{dataset_in}
-use Rattle.catalog.specs.Walk.{walked}
+use Rattle.catalog.specs.Walk.{walked, number_of, IsWalked}
+use Rattle.catalog.proofs.Found.{found}
 use Rattle.catalog.specs.declared.faults.WalkFault.{WalkFault}
 use Rattle.translate_plan.specs.Options.{Options}
 use Rattle.translate_plan.specs.declared.options.Driver.{Driver}
@@ -18,7 +20,7 @@ use Rattle.translate_plan.specs.Window.{asked_in, window_in, inside_in, sides_of
 use Rattle.translate_plan.specs.Fits.{count_in, geo_in, place_in}
 use Rattle.input_points.specs.declared.entry.Entry.{Entry}
 use Rattle.error_lines.specs.declared.faults.Fault.{Fault}
-use Rattle.error_lines.specs.declared.faults.Fault.TheVariants.{Plan, Changed, Memory}
+use Rattle.error_lines.specs.declared.faults.Fault.TheVariants.{Changed, Memory}
 use Rattle.error_lines.specs.Faults.{fault_of, by_walk, IsOutside}
 use Rattle.error_lines.specs.Steps.{Done, all_done, Goes}
 use Rattle.output_copies.specs.Steps.{translation_steps}
@@ -28,6 +30,26 @@ use Rattle.gdal_cli.specs.Work.{Work, Translates, translate_judged, carried_out}
 use Rattle.gdal_cli.proofs.Bound.{bind_is, ok_same}
 use Rattle.gdal_cli.proofs.Ended.{walk_fails, choice}
 use Rattle.gdal_cli.proofs.Outcomes.{goes_nowhere}
+use Rattle.gdal_cli.proofs.Reached.{told_of, walked_read}
+
+-- what was walked, and the dataset that its name has
+pub record Walked (m : Files) (verify : Bool) (src : List ℕ) (cat : List Dataset) (id : ℕ) (head : DatasetHead) : Type 0 where
+  pub dataset : Dataset
+  pub at : slice_get cat id ≡ Some dataset
+  pub walk : walked m verify [] src ≡ Ok cat
+  pub read : dataset_in m false src ≡ Ok dataset
+  pub headed : head ≡ dataset.head
+
+pub walked_so : (m : Files) (verify : Bool) (src : List ℕ) (old cat : List Dataset) (id : ℕ) (head : DatasetHead) → old ≡ [] → walked m verify old src ≡ Ok cat → (IsWalked m old → IsWalked m cat) → number_of cat src ≡ Some id → option_map (λ (d : Dataset). d.head) (slice_get cat id) ≡ Some head → Walked m verify src cat id head
+walked_so m verify src old cat id head empty walk more number is =
+    let d = found cat src id number in
+    record {
+      dataset = d.dataset;
+      at = d.at;
+      walk = subst (λ (c : List Dataset). walked m verify c src ≡ Ok cat) empty walk;
+      read = walked_read m old cat src id d.dataset empty more d.at d.named;
+      headed = sym (told_of (λ (d : Dataset). d.head) cat id d.dataset head d.at is);
+    }
 
 -- the driver of a plan is the one that is asked for
 pub planned_driver : (o : Options) (h : DatasetHead) (p : Planned) → plan_of o h ≡ Ok p → p.driver ≡ o.driver
@@ -49,14 +71,13 @@ pub refused_goes : (f : Fault) (d : Result Work Fault) (m : Files) (lines : List
 refused_goes f d m lines names old is (inl out) = goes_nowhere (carried_out d m lines) m f names old is out
 refused_goes f d m lines names old is (inr refused) = subst (λ (e : Result Work Fault). Goes (carried_out e m lines) m (Err f) names old old) (sym refused) (inl (refl, record { printed = gets-none old; published = is }))
 
--- the refusal of a plan
-plan_fails : {T : Type 0} (d : Result T PlanFault) (f : Fault) → by_plan d ≡ Err f → (e : PlanFault) × (d ≡ Err e) × (f ≡ Plan e)
-plan_fails (Ok x) f is = let no : ⊥ = cc in absurd no
-plan_fails (Err e) f is = let same : f ≡ Plan e = cc in (e, refl, same)
-
-plan_is : {T : Type 0} (d : Result T PlanFault) (x : T) → by_plan d ≡ Ok x → d ≡ Ok x
+-- what is planned, as the run has it
+pub plan_is : {T : Type 0} (d : Result T PlanFault) (x : T) → by_plan d ≡ Ok x → d ≡ Ok x
 plan_is (Ok y) x is = let same : y ≡ x = cc in ap Ok same
 plan_is (Err e) x is = let no : ⊥ = cc in absurd no
+
+pub planned_so : (o : Options) (head read : DatasetHead) (planned : Result Planned PlanFault) (r : Result Planned Fault) → head ≡ read → planned ≡ plan_of o head → r ≡ by_plan planned → by_plan (plan_of o read) ≡ r
+planned_so o head read planned r headed is so = ap (λ (h : DatasetHead). by_plan (plan_of o h)) (sym headed) ∙ ap (λ (d : Result Planned PlanFault). by_plan d) (sym is) ∙ sym so
 
 module _ (m : Files) (verify : Bool) (src : List ℕ) (options : Options) (quiet : Bool) where
   abbrev work : Result Work Fault

@@ -1,5 +1,5 @@
 // Translations, from the words' options to the files.
-ghost use Rattle.std.specs.Prelude.{◌≡◌, ◌≤◌, List, ℕ, IfErr, Err, Some};
+ghost use Rattle.std.specs.Prelude.{◌≡◌, ℕ, List, IfErr, Err, Some, false};
 ghost use Rattle.outside.specs.Outside.{Files};
 ghost use Rattle.input_points.specs.declared.entry.Entry.{Entry};
 ghost use Rattle.error_lines.specs.Faults.{HasCauses, HasChanged, OwnsFault};

@@ -36,14 +36,17 @@ raw_named o named is = raw_ext (extension_of o.out) (named.extension ∙ ap (λ 
 abbrev pub IsSame : List (List ℕ) → Fault → Type 0
 IsSame names f = (n : List ℕ) × (f ≡ SameName n) × Contains names n
 
-own_refused : (read : Bool) (name : List ℕ) (f : Fault) → cond read (Err (SameName name)) (Ok tt) ≡ Err f → f ≡ SameName name
+abbrev refused_if : Bool → List ℕ → Result (Unit {0}) Fault
+refused_if read name = cond read (Err (SameName name)) (Ok tt)
+
+own_refused : (read : Bool) (name : List ℕ) (f : Fault) → refused_if read name ≡ Err f → f ≡ SameName name
 own_refused true name f is = cc
 own_refused false name f is = let no : ⊥ = cc in absurd no
 
 pub same_name : (cat : List Dataset) (names : List (List ℕ)) (f : Fault) → unless_read cat names ≡ Err f → IsSame names f
 same_name cat [] f is = let no : ⊥ = cc in absurd no
-same_name cat (name ∷ names) f is = by (one_refused (unless_own cat name) (λ free. unless_read cat names) f is)
+same_name cat (name ∷ names) f is = by (one_refused (unless_own cat name) (λ free. unless_read cat names) f is) (λ rest. same_name cat names f rest)
   where
-    by : (unless_own cat name ≡ Err f) ⊎ ((free : Unit {0}) × (unless_own cat name ≡ Ok free) × (unless_read cat names ≡ Err f)) → IsSame (name ∷ names) f
-    by (inl own) = (name, own_refused (is_read cat name) name f own, Contains-get_or (name ∷ names) 0 name (omega arith))
-    by (inr rest) = let more = same_name cat names f rest.2 in (more.0, more.1, Contains-append_right (name ∷ []) names more.0 more.2)
+    by : (unless_own cat name ≡ Err f) ⊎ ((free : Unit {0}) × (unless_own cat name ≡ Ok free) × (unless_read cat names ≡ Err f)) → (unless_read cat names ≡ Err f → IsSame names f) → IsSame (name ∷ names) f
+    by (inl own) later = (name, own_refused (is_read cat name) name f own, Contains-get_or (name ∷ names) 0 name (omega arith))
+    by (inr rest) later = let more = later rest.2 in (more.0, more.1, Contains-append_right (name ∷ []) names more.0 more.2)
