@@ -1,8 +1,8 @@
-use Rattle.std.proofs.Common.{◌≡◌, ◌∙◌, sym, subst, Result}
+use Rattle.std.proofs.Common.{◌≡◌, refl, arith, sym, subst, Result, Err}
 use Rattle.error_lines.specs.declared.faults.Fault.{Fault}
 use Rattle.error_lines.specs.Steps.{all_done, Goes}
 use Rattle.output_copies.specs.Steps.{translation_steps}
-use Rattle.output_copies.proofs.Ends.{err_is}
+use Rattle.output_copies.proofs.Ends.{ends_after, ends_so, err_is}
 use Rattle.output_copies.proofs.Whole.{end_goes, files_stop, size_stops}
 use Rattle.output_copies.proofs.output.write_output.Goals as goal
 
@@ -29,3 +29,49 @@ returns-clause-told g c = λ m told d at.
     let ends = c.put_end.ensures.ends (g.F.Folder.names c.args.folder.now) 0 in
     end_goes c.args.writing.quiet m d c.args.translation.now.plan c.args.writing.name.now c.put_end.result (g.F.Folder.names c.write_files.new.folder) (g.O.Sink.got c.args.out.now) (g.O.Sink.got c.put_size.new.out) (g.O.Sink.got c.write_files.new.out) (g.O.Sink.got c.put_end.new.out)
     (c.in_ok-put_size.ensures.ok d at) goes c.put_end.ensures.ok c.put_end.ensures.err (ends.never m told)
+
+pub returns-in_err-put_size-clause-faults : goal.returns-in_err-put_size-clause-faults
+returns-in_err-put_size-clause-faults g c =
+    let f = c.in_err-put_size.field-0.0 in
+    let ends = ends_so {T = Unit {0}} _ _ _ _ _ f c.from_residual.result (err_is c.from_residual.result f c.from_residual.ensures) (c.in_err-put_size.ensures.ends (g.F.Folder.names c.args.folder.now) (g.F.Folder.faults c.args.folder.now)) in
+    ends.reading
+
+pub returns-in_err-put_size-clause-differs : goal.returns-in_err-put_size-clause-differs
+returns-in_err-put_size-clause-differs g c =
+    let f = c.in_err-put_size.field-0.0 in
+    let ends = ends_so {T = Unit {0}} _ _ _ _ _ f c.from_residual.result (err_is c.from_residual.result f c.from_residual.ensures) (c.in_err-put_size.ensures.ends (g.F.Folder.names c.args.folder.now) (g.F.Folder.faults c.args.folder.now)) in
+    ends.differs
+
+pub returns-in_err-put_size-clause-cause : goal.returns-in_err-put_size-clause-cause
+returns-in_err-put_size-clause-cause g c =
+    let f = c.in_err-put_size.field-0.0 in
+    let ends = ends_so {T = Unit {0}} _ _ _ _ _ f c.from_residual.result (err_is c.from_residual.result f c.from_residual.ensures) (c.in_err-put_size.ensures.ends (g.F.Folder.names c.args.folder.now) (g.F.Folder.faults c.args.folder.now)) in
+    ends.cause
+
+pub returns-in_err-write_files-clause-cause : goal.returns-in_err-write_files-clause-cause
+returns-in_err-write_files-clause-cause g c =
+    let told = g.F.Folder.names c.args.folder.now in
+    let f = c.in_err-write_files.field-0.0 in
+    let r = c.from_residual-in_err-write_files.result in
+    let first = c.in_ok-put_size.ensures.ends told (g.F.Folder.faults c.args.folder.now) in
+    let ends = ends_so {T = Unit {0}} _ _ _ _ _ f r (err_is r f c.from_residual-in_err-write_files.ensures)
+        (ends_after told told (g.F.Folder.faults c.args.folder.now) (g.F.Folder.faults c.args.folder.now) (g.F.Folder.faults c.write_files.new.folder) (g.O.Sink.faults c.args.out.now) (g.O.Sink.faults c.put_size.new.out) (g.O.Sink.faults c.write_files.new.out) (Err f) refl (omega arith) first.cause.out_later c.in_err-write_files.ensures.ends) in
+    ends.cause
+
+pub returns-clause-faults : goal.returns-clause-faults
+returns-clause-faults g c = (c.put_end.ensures.ends (g.F.Folder.names c.args.folder.now) (g.F.Folder.faults c.write_files.new.folder)).reading
+
+pub returns-clause-differs : goal.returns-clause-differs
+returns-clause-differs g c = (c.put_end.ensures.ends (g.F.Folder.names c.args.folder.now) (g.F.Folder.faults c.write_files.new.folder)).differs
+
+pub returns-clause-cause : goal.returns-clause-cause
+returns-clause-cause g c =
+    let told = g.F.Folder.names c.args.folder.now in
+    let first = c.in_ok-put_size.ensures.ends told (g.F.Folder.faults c.args.folder.now) in
+    let second = c.in_ok-write_files.ensures.ends in
+    let folder_later = second.cause.folder_later in
+    let out_first = first.cause.out_later in
+    let out_second = second.cause.out_later in
+    let ends = ends_after told told (g.F.Folder.faults c.args.folder.now) (g.F.Folder.faults c.write_files.new.folder) (g.F.Folder.faults c.write_files.new.folder) (g.O.Sink.faults c.args.out.now) (g.O.Sink.faults c.write_files.new.out) (g.O.Sink.faults c.put_end.new.out) c.put_end.result refl
+        folder_later (omega arith) (c.put_end.ensures.ends told (g.F.Folder.faults c.write_files.new.folder)) in
+    ends.cause
