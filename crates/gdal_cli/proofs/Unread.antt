@@ -13,6 +13,8 @@ use Rattle.write_back.specs.Plans.{driver_of}
 use Rattle.error_lines.specs.declared.faults.Fault.{Fault}
 use Rattle.error_lines.specs.declared.faults.Fault.TheVariants.{SameName}
 use Rattle.gdal_cli.specs.Published.{names_written, is_read, unless_own, unless_read, IsNamed}
+use Rattle.command_words.specs.declared.command.Job.TheVariants.{Translate}
+use Rattle.gdal_cli.specs.Run.{names_published}
 use Rattle.gdal_cli.proofs.Bound.{one_refused}
 
 -- what raw data are written under is a name of raw data
@@ -50,3 +52,7 @@ same_name cat (name ∷ names) f is = by (one_refused (unless_own cat name) (λ 
     by : (unless_own cat name ≡ Err f) ⊎ ((free : Unit {0}) × (unless_own cat name ≡ Ok free) × (unless_read cat names ≡ Err f)) → (unless_read cat names ≡ Err f → IsSame names f) → IsSame (name ∷ names) f
     by (inl own) later = (name, own_refused (is_read cat name) name f own, Contains-get_or (name ∷ names) 0 name (omega arith))
     by (inr rest) later = let more = later rest.2 in (more.0, more.1, Contains-append_right (name ∷ []) names more.0 more.2)
+
+-- a translation publishes a name
+pub publishes_some : (src : List ℕ) (o : Options) (quiet : Bool) → names_published (Translate src o quiet) ≡ [] → ⊥
+publishes_some src o quiet none = cc
