@@ -1,8 +1,9 @@
 -- The faults that the parts of a job end with, as those of the job.
-use Rattle.std.proofs.Common.{◌≡◌, ap, refl, subst, ◌⊎◌, inl, inr, ℕ, ℤ, Bool, true, List, Result, Ok, Err, Option, Some, None, arith}
+use Rattle.std.proofs.Common.{◌≡◌, ap, refl, sym, subst, ◌⊎◌, inl, inr, ℕ, ℤ, Bool, true, List, Result, Ok, Err, Option, Some, None, arith}
 use Rattle.std.specs.Prelude.{IfOk, IfErr, IfSome, is_some}
 use Rattle.geotransform.specs.declared.faults.PlanFault.{PlanFault}
 use Rattle.catalog.specs.Dataset.{DatasetHead}
+use Rattle.catalog.specs.Drivers.{Dataset}
 use Rattle.catalog.specs.declared.faults.LimitKind.{LimitKind}
 use Rattle.catalog.specs.declared.faults.WalkFault.{WalkFault}
 use Rattle.catalog.specs.declared.faults.WalkFault.TheVariants as walk
@@ -13,15 +14,18 @@ use Rattle.error_lines.specs.declared.faults.Fault.{Fault}
 use Rattle.error_lines.specs.declared.faults.Fault.TheVariants.{Usage, Absent, NotRecognized, Malformed, Short, Cycle, TooDeep, Limit, SourceBand, Plan, SameName, BadPoint, Changed, FolderFault, InputFault, OutFault, Memory}
 use Rattle.error_lines.specs.Faults.{fault_of, report_fault_of, IsOutside, HasNoCause, IsOfReading}
 use Rattle.gdal_cli.specs.declared.asked.Asked.{Asked}
-use Rattle.gdal_cli.specs.declared.command.Command.{Command}
-use Rattle.gdal_cli.specs.declared.command.Job.{Job}
-use Rattle.gdal_cli.specs.declared.command.Job.TheVariants.{Locate}
-use Rattle.gdal_cli.specs.declared.spoken.WordFault.{WordFault}
-use Rattle.gdal_cli.specs.declared.spoken.WordFault.TheVariants as word
+use Rattle.command_words.specs.declared.command.Command.{Command}
+use Rattle.command_words.specs.declared.command.Job.{Job}
+use Rattle.command_words.specs.declared.command.Job.TheVariants.{Locate, Translate}
+use Rattle.command_words.specs.declared.spoken.WordFault.{WordFault}
+use Rattle.command_words.specs.declared.spoken.WordFault.TheVariants as word
 use Rattle.gdal_cli.specs.Faults.{IsOfLines, word_fault_of}
 use Rattle.gdal_cli.specs.Location.{asked_in}
+use Rattle.gdal_cli.specs.Published.{names_written, unless_read}
+use Rattle.gdal_cli.proofs.Unread.{same_name}
+use Rattle.translate_plan.specs.Options.{Options}
 use Rattle.gdal_cli.specs.Run.{MayEnd, IsRefusal, ended, reads_input, reads_pixels}
-use Rattle.gdal_cli.specs.Words.{IsMemory}
+use Rattle.command_words.specs.Words.{IsMemory}
 use Rattle.gdal_cli.proofs.Lacking.{asked_plan}
 
 -- what a walk answers
@@ -74,7 +78,7 @@ asked_may job form bands geoloc head f pixels (inr is) inner = let p = asked_pla
     sym_of is = cc
 
 -- what answering ends with
-reading_may : (job : Job) (f : Fault) → reads_pixels job ≡ true → IsOfReading f → MayEnd job f
+pub reading_may : (job : Job) (f : Fault) → reads_pixels job ≡ true → IsOfReading f → MayEnd job f
 reading_may job (Usage n) pixels h = absurd h
 reading_may job (Absent name) pixels h = absurd h
 reading_may job (NotRecognized name) pixels h = absurd h
@@ -164,6 +168,19 @@ line_refuses Memory h refusal = absurd (omega (arith, refusal.refused))
 pub lines_refuse : (r : Result (Unit {0}) Fault) → IfErr r IsOfLines → IsRefusal (ended r) → ⊥
 lines_refuse (Ok done) h refusal = absurd (omega (arith, refusal.refused))
 lines_refuse (Err f) h refusal = line_refuses f h refusal
+
+-- reading is never refused
+pub readings_refuse : (r : Result (Unit {0}) Fault) → IfErr r IsOfReading → IsRefusal (ended r) → ⊥
+readings_refuse r h refusal = lines_refuse r (readings_of_lines r h) refusal
+
+pub readings_may : (job : Job) (r : Result (Unit {0}) Fault) → reads_pixels job ≡ true → IfErr r IsOfReading → IfErr r (MayEnd job)
+readings_may job (Ok done) pixels h = tt
+readings_may job (Err f) pixels h = reading_may job f pixels h
+
+-- what a translation is refused for
+pub same_may : (src : List ℕ) (options : Options) (quiet : Bool) (cat : List Dataset) (f : Fault) → (f ≡ Memory) ⊎ (unless_read cat (names_written options) ≡ Err f) → MayEnd (Translate src options quiet) f
+same_may src options quiet cat f (inl is) = subst (MayEnd (Translate src options quiet)) (sym is) tt
+same_may src options quiet cat f (inr is) = let one = same_name cat (names_written options) f is in subst (MayEnd (Translate src options quiet)) (sym one.1) one.2
 
 -- words that are no command
 pub words_may : (d : Result Command WordFault) (f : WordFault) → IsMemory f ⊎ (d ≡ Err f) → IfOk d (λ c. MayEnd c.job (word_fault_of f))

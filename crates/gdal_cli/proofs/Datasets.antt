@@ -5,8 +5,8 @@ use Rattle.catalog.specs.declared.faults.WalkFault.TheVariants as walk
 use Rattle.catalog.specs.Walk.{WalksUnknown}
 use Rattle.error_lines.specs.Faults.{fault_of}
 use Rattle.catalog.specs.Heads.{kind_in}
-use Rattle.gdal_cli.specs.declared.command.Command.{Command}
-use Rattle.gdal_cli.specs.declared.spoken.WordFault.{WordFault}
+use Rattle.command_words.specs.declared.command.Command.{Command}
+use Rattle.command_words.specs.declared.spoken.WordFault.{WordFault}
 use Rattle.error_lines.specs.declared.faults.Fault.{Fault}
 use Rattle.error_lines.specs.declared.faults.Fault.TheVariants.{NotRecognized, Usage, Memory}
 use Rattle.gdal_cli.specs.Run.{ended, name_read, reads_sources, RefusesKind, RefusesDataset}

@@ -59,11 +59,11 @@ either f d m lines old (inl out) = ended_before f (carried_out d m lines) old ou
 either f d m lines old (inr is) = subst (λ (e : Result Work Fault). Ends (carried_out e m lines) (Err f) old old) (sym is) (inl (refl, gets-none old))
 
 -- what a walk answers ends a run that goes on from it
-walk_fails : {T : Type 0} (f : WalkFault) (d : Result T WalkFault) (k : T → Result Work Fault) → outcomes.IsOutside f ⊎ (d ≡ Err f) → IsOutside (fault_of f) ⊎ ((by_walk d >>= k) ≡ Err (fault_of f))
+pub walk_fails : {T : Type 0} (f : WalkFault) (d : Result T WalkFault) (k : T → Result Work Fault) → outcomes.IsOutside f ⊎ (d ≡ Err f) → IsOutside (fault_of f) ⊎ ((by_walk d >>= k) ≡ Err (fault_of f))
 walk_fails f d k (inl out) = inl (outside_walk f out)
 walk_fails {T} f d k (inr is) = inr (ap (λ (e : Result T WalkFault). by_walk e >>= k) is)
 
-choice : {T : Type 0} (f : Fault) (d : Result T Fault) (k : T → Result Work Fault) → IsOutside f ⊎ (d ≡ Err f) → IsOutside f ⊎ ((d >>= k) ≡ Err f)
+pub choice : {T : Type 0} (f : Fault) (d : Result T Fault) (k : T → Result Work Fault) → IsOutside f ⊎ (d ≡ Err f) → IsOutside f ⊎ ((d >>= k) ≡ Err f)
 choice f d k (inl out) = inl out
 choice {T} f d k (inr is) = inr (ap (λ (e : Result T Fault). e >>= k) is)
 

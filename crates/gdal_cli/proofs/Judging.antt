@@ -6,17 +6,17 @@ use Rattle.outside.proofs.Sinks.{gets-none}
 use Rattle.input_points.specs.declared.entry.Entry.{Entry}
 use Rattle.input_points.specs.Entries.{entries}
 use Rattle.error_lines.specs.declared.faults.Fault.{Fault}
-use Rattle.gdal_cli.specs.declared.command.Command.{Command}
-use Rattle.gdal_cli.specs.declared.command.Job.{Job}
-use Rattle.gdal_cli.specs.declared.command.Job.TheVariants.{Locate}
+use Rattle.command_words.specs.declared.command.Command.{Command}
+use Rattle.command_words.specs.declared.command.Job.{Job}
+use Rattle.command_words.specs.declared.command.Job.TheVariants.{Locate}
 use Rattle.location_report.specs.declared.report.Form.{Form}
 use Rattle.std.specs.Prelude.{is_some}
-use Rattle.gdal_cli.specs.declared.spoken.WordFault.{WordFault}
-use Rattle.gdal_cli.specs.declared.spoken.WordFault.TheVariants.{Usage, Memory}
+use Rattle.command_words.specs.declared.spoken.WordFault.{WordFault}
+use Rattle.command_words.specs.declared.spoken.WordFault.TheVariants.{Usage, Memory}
 use Rattle.gdal_cli.specs.Faults.{by_words, word_fault_of}
 use Rattle.gdal_cli.specs.Run.{reads_input}
 use Rattle.error_lines.specs.Steps.{Goes}
-use Rattle.gdal_cli.specs.Words.{words_of, IsMemory}
+use Rattle.command_words.specs.Words.{words_of, IsMemory}
 use Rattle.gdal_cli.specs.Work.{Work, judged, judged_by, carried_out, run_over, run_of}
 use Rattle.gdal_cli.proofs.Outcomes.{goes_nowhere}
 

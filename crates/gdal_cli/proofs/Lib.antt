@@ -1,3 +1,4 @@
+pub mod Bound
 pub mod Causes
 pub mod Changed
 pub mod Cuts
@@ -7,9 +8,12 @@ pub mod Judging
 pub mod Lacking
 pub mod Lines
 pub mod Listed
+pub mod Named
 pub mod Outcomes
 pub mod Pieces
 pub mod Placed
 pub mod Printing
 pub mod Reached
 pub mod Told
+pub mod Translated
+pub mod Unread

@@ -1,5 +1,5 @@
 -- Runs that print, and do nothing else.
-use Rattle.std.proofs.Common.{◌≡◌, refl, ℕ, ℤ, Bool, false, List, [], ◌∷◌, map, Result, Ok, Err, Option, Some, None}
+use Rattle.std.proofs.Common.{◌≡◌, ◌∙◌, ap, refl, ℕ, ℤ, Bool, true, false, List, [], ◌∷◌, ◌++◌, map, Result, Ok, Err, Option, Some, None}
 use Rattle.lists_and_answers.specs.Answers.{◌>>=◌}
 use Rattle.outside.specs.Outside.{Files}
 use Rattle.catalog.specs.declared.faults.WalkFault.{WalkFault}
@@ -14,8 +14,12 @@ use Rattle.error_lines.specs.declared.faults.Fault.{Fault}
 use Rattle.error_lines.specs.Faults.{by_walk}
 use Rattle.gdal_cli.specs.declared.asked.Asked.{Asked}
 use Rattle.gdal_cli.specs.Location.{answers, asked_in, line_text, point_text}
-use Rattle.error_lines.specs.Steps.{Done, prints, warned}
-use Rattle.gdal_cli.specs.Work.{Work, Reports, Tells, info_judged, location_judged, carried_out}
+use Rattle.error_lines.specs.Steps.{Step, Prints, Warns, Publishes, Done, prints, publishes, warned}
+use Rattle.geotransform.specs.declared.types.Size.{Size}
+use Rattle.translate_plan.specs.Plan.{Planned}
+use Rattle.write_back.specs.Plans.{output_of}
+use Rattle.output_copies.specs.Steps.{translation_steps, unless_quiet, size_line, progress, progress_end, files_by, raster_of}
+use Rattle.gdal_cli.specs.Work.{Work, Reports, Tells, Translates, info_judged, location_judged, carried_out}
 use Rattle.gdal_cli.proofs.Cuts.{prints_warned}
 
 abbrev pub AllPrint : Done → Type 0
@@ -25,6 +29,33 @@ AllPrint d = (texts : List (List ℕ)) × (d.steps ≡ prints texts)
 pub answers_print : (tell : ℤ → ℤ → List ℕ) (point : Option (ℤ × ℤ)) (lines : List Entry) → AllPrint (answers tell point lines)
 answers_print tell (Some p) lines = (tell p.0 p.1 ∷ [], refl)
 answers_print tell None lines = (map (λ (e : Entry). line_text tell e.kind) lines, refl)
+
+-- steps that don't warn
+both_warned : (a b : List Step) → warned a ≡ [] → warned b ≡ [] → warned (a ++ b) ≡ []
+both_warned [] b none rest = rest
+both_warned (Prints text ∷ a) b none rest = both_warned a b none rest
+both_warned (Warns [] ∷ a) b none rest = both_warned a b none rest
+both_warned (Warns (c ∷ line) ∷ a) b none rest = let no : ⊥ = cc in absurd no
+both_warned (Publishes name bytes ∷ a) b none rest = both_warned a b none rest
+
+quiet_warned : (quiet : Bool) (text : List ℕ) → warned (unless_quiet quiet text) ≡ []
+quiet_warned true text = refl
+quiet_warned false text = refl
+
+files_warned : (files : List (List ℕ × List ℕ)) → warned (publishes files) ≡ []
+files_warned [] = refl
+files_warned (file ∷ files) = files_warned files
+
+translation_warned : (quiet : Bool) (m : Files) (d : Dataset) (p : Planned) (name : List ℕ) → warned (translation_steps quiet m d p name) ≡ []
+unfolding translation_steps
+translation_warned quiet m d p name =
+    let size = unless_quiet quiet (size_line d.head.size) in
+    let begin = unless_quiet quiet progress in
+    let files = files_by (output_of p) name (raster_of m d p) in
+    let end = unless_quiet quiet progress_end in
+    both_warned size (begin ++ (publishes files ++ end)) (quiet_warned quiet (size_line d.head.size))
+    (both_warned begin (publishes files ++ end) (quiet_warned quiet progress)
+    (both_warned (publishes files) end (files_warned files) (quiet_warned quiet progress_end)))
 
 module _ (m : Files) (lines : List Entry) where
   headed : (r : Result DatasetHead WalkFault) → AllPrint (carried_out (by_walk r >>= (λ head. Ok (Reports head))) m lines)
@@ -61,4 +92,5 @@ module _ (m : Files) (lines : List Entry) where
     where
       of : AllPrint (answers (point_text m cat d asked) point lines) → warned (answers (point_text m cat d asked) point lines).steps ≡ []
       of printing = rw printing.1 (prints_warned printing.0)
+  none_warned (Ok (Translates d p name quiet)) = translation_warned quiet m d p name
   none_warned (Err f) = refl

@@ -2,6 +2,6 @@ pub mod Faults
 pub mod Input
 pub mod Location
 pub mod Pixels
+pub mod Published
 pub mod Run
-pub mod Words
 pub mod Work

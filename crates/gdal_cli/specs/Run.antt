@@ -9,11 +9,12 @@ use Rattle.catalog.specs.declared.kind.Kind.{Kind}
 use Rattle.catalog.specs.declared.kind.Kind.TheVariants as kinds
 use Rattle.catalog.specs.declared.faults.WalkFault.{WalkFault}
 use Rattle.catalog.specs.declared.faults.WalkFault.TheVariants as walk
-use Rattle.gdal_cli.specs.declared.command.Command.{Command}
-use Rattle.gdal_cli.specs.declared.command.Job.{Job}
-use Rattle.gdal_cli.specs.declared.command.Job.TheVariants.{Info, Locate}
-use Rattle.gdal_cli.specs.declared.spoken.WordFault.{WordFault}
-use Rattle.gdal_cli.specs.declared.spoken.WordFault.TheVariants as word
+use Rattle.command_words.specs.declared.command.Command.{Command}
+use Rattle.command_words.specs.declared.command.Job.{Job}
+use Rattle.command_words.specs.declared.command.Job.TheVariants.{Info, Locate, Translate}
+use Rattle.command_words.specs.declared.spoken.WordFault.{WordFault}
+use Rattle.command_words.specs.declared.spoken.WordFault.TheVariants as word
+use Rattle.gdal_cli.specs.Published.{names_written}
 use Rattle.error_lines.specs.declared.faults.Fault.{Fault}
 use Rattle.error_lines.specs.declared.faults.Fault.TheVariants.{Usage, Absent, NotRecognized, Malformed, Short, Cycle, TooDeep, Limit, SourceBand, Plan, SameName, BadPoint, Changed, FolderFault, InputFault, OutFault, Memory}
 use Rattle.error_lines.specs.Faults.{fault_of, IsOutside, status_of}
@@ -24,27 +25,32 @@ use Rattle.error_lines.specs.Steps.{Step, Done, printed, warned, AreDone}
 abbrev pub name_read : Job → List ℕ
 name_read (Info name) = name
 name_read (Locate name point bands form geoloc) = name
+name_read (Translate src options quiet) = src
 
 -- the names that a job publishes, in order
 abbrev pub names_published : Job → List (List ℕ)
 names_published (Info name) = []
 names_published (Locate name point bands form geoloc) = []
+names_published (Translate src options quiet) = names_written options
 
 -- whether a job goes to what the sources of a mosaic name
 abbrev pub reads_sources : Job → Bool
 reads_sources (Info name) = false
 reads_sources (Locate name point bands form geoloc) = true
+reads_sources (Translate src options quiet) = true
 
 -- whether a job reads pixels
 abbrev pub reads_pixels : Job → Bool
 reads_pixels (Info name) = false
 reads_pixels (Locate name point bands form geoloc) = true
+reads_pixels (Translate src options quiet) = true
 
 -- whether a job takes its points from the input
 abbrev pub reads_input : Job → Bool
 reads_input (Info name) = false
 reads_input (Locate name None bands form geoloc) = true
 reads_input (Locate name (Some point) bands form geoloc) = false
+reads_input (Translate src options quiet) = false
 
 -- the same of words; those that are no command do nothing
 abbrev pub words_read_input : Result Command WordFault → Bool

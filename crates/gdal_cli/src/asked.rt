@@ -5,8 +5,8 @@ ghost use Rattle.lists_and_answers.specs.Answers.{Gives};
 ghost use Rattle.error_lines.specs.Faults.{IsOutside, IsLate, HasNoCause};
 ghost use Rattle.gdal_cli.specs.Location.{chosen_in, frame_in, asked_in};
 
-use crate::command::BandNumber;
 use catalog::Head;
+use command_words::BandNumber;
 use error_lines::Fault;
 use geotransform::{GeoTransform, PlanFault};
 use lists_and_answers::Items;

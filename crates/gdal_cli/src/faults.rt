@@ -1,17 +1,27 @@
-// Faults of words, as those of a run.
+// Faults of words and of plans, as those of a run.
 ghost use Rattle.std.specs.Prelude.{◌≡◌};
-ghost use Rattle.gdal_cli.specs.Faults.{word_fault_of};
+ghost use Rattle.gdal_cli.specs.Faults.{by_plan, word_fault_of};
 
-use crate::spoken::WordFault;
+use command_words::WordFault;
 use error_lines::Fault;
+use geotransform::PlanFault;
 
-impl From<WordFault> for Fault {
-    ghost from_gives = { λ w f. f ≡ word_fault_of w };
+/// A fault of words as that of the run.
+pub fn word_fault_of(fault: WordFault) -> Fault
+    ensures { result ≡ word_fault_of fault }
+{
+    match fault {
+        WordFault::Usage { word } => Fault::Usage { word },
+        WordFault::Memory => Fault::Memory,
+    }
+}
 
-    fn from(fault: WordFault) -> Self {
-        match fault {
-            WordFault::Usage { word } => Fault::Usage { word },
-            WordFault::Memory => Fault::Memory,
-        }
+/// What is planned, as the run's answer.
+pub fn by_plan<T>(planned: Result<T, PlanFault>) -> Result<T, Fault>
+    ensures { result ≡ by_plan planned }
+{
+    match planned {
+        Ok(plan) => Ok(plan),
+        Err(fault) => Err(Fault::Plan(fault)),
     }
 }

@@ -12,16 +12,18 @@ ghost use Rattle.gdal_cli.specs.Faults.{IsOfLines};
 ghost use Rattle.gdal_cli.specs.Input.{StopsBehind};
 ghost use Rattle.gdal_cli.specs.Location.{answers, point_text};
 ghost use Rattle.gdal_cli.specs.Pixels.{AreBands};
+ghost use Rattle.gdal_cli.specs.Published.{IsNamedJob};
 ghost use Rattle.gdal_cli.specs.Run.{Ends, MayEnd, IsRefusal, name_read, names_published, reads_sources, reads_input, ended, RefusesKind};
 ghost use Rattle.error_lines.specs.Steps.{Goes};
 ghost use Rattle.gdal_cli.specs.Work.{info_judged, location_judged, judged_by, carried_out};
 
 use crate::asked::asked_in;
-use crate::command::{BandNumber, BlockCount, Command, Job};
 use crate::input::answer_input;
 use crate::points::put_point;
 use crate::reader::{PointReader, Question};
+use crate::translating::{Way, put_translation};
 use catalog::{Catalog, head_of, open_all};
+use command_words::{BandNumber, BlockCount, Command, Job};
 use error_lines::Fault;
 use info_report::write_info;
 use input_points::Position;
@@ -151,7 +153,7 @@ fn put_location<F: Folder, I: Input, O: Sink>(
     )
 }
 
-/// Does a job: judges the files that it names, and then puts its texts.
+/// Does a job: judges the files that it names, and then puts its texts and publishes its files.
 ///
 /// Each refusal comes where the files are judged, before anything is put, but for BadPoint and the limit of points, which
 /// come at their line of the input. FolderFault, InputFault and OutFault come only where the count of the folder, of the
@@ -163,6 +165,7 @@ pub fn put_job<F: Folder, I: Input, O: Sink>(
     out: &mut O,
     command: Command,
 ) -> Result<(), Fault>
+    requires named { IsNamedJob command.job }
     ensures told { (m : Files) → F.names folder.old ≡ Some m → (i : List ℕ) → (reads_input command.job ≡ true → I.left input.old ≡ Some i) → Goes (carried_out (judged_by command.job command.verify m) m (entries i)) m result (F.names folder.new) (O.got out.old) (O.got out.new) }
     ensures stopped { result ≡ Err Fault.InputFault → (m : Files) → F.names folder.old ≡ Some m → (i : List ℕ) → I.left input.old ≡ Some i → StopsBehind (carried_out (judged_by command.job command.verify m) m) i (I.left input.new) (O.got out.old) (O.got out.new) }
     ensures refused { IsRefusal (ended result) → (out.new ≡ out.old) × (input.new ≡ input.old) × (F.names folder.new ≡ F.names folder.old) }
@@ -195,6 +198,18 @@ pub fn put_job<F: Folder, I: Input, O: Sink>(
                 blocks,
             };
             put_location(alloc, folder, input, out, &name, bands.as_slice(), options)
+        }
+        Job::Translate {
+            src,
+            options,
+            quiet,
+        } => {
+            let way = Way {
+                verify,
+                blocks,
+                quiet,
+            };
+            put_translation(alloc, folder, out, &src, &options, way)
         }
     }
 }

@@ -1,8 +1,8 @@
 // What holds of every run.
 ghost use Rattle.std.specs.Prelude.{◌≡◌, ℕ, List, Ok};
 ghost use Rattle.outside.specs.Outside.{Files};
-ghost use Rattle.gdal_cli.specs.declared.command.Command.{Command};
-ghost use Rattle.gdal_cli.specs.Words.{words_of};
+ghost use Rattle.command_words.specs.declared.command.Command.{Command};
+ghost use Rattle.command_words.specs.Words.{words_of};
 ghost use Rattle.gdal_cli.specs.Work.{run_of};
 
 /// How many blocks are held changes no run: two command lines whose commands have the same job, and

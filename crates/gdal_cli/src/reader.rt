@@ -3,9 +3,9 @@ ghost use Rattle.std.specs.Prelude.{◌≡◌, ◌<◌, IfOk, length};
 ghost use Rattle.nearest_window.specs.Right.{IsFresh};
 
 use crate::asked::Asked;
-use crate::command::BlockCount;
 use band_blocks::Steps;
 use catalog::Catalog;
+use command_words::BlockCount;
 use geotransform::Sample;
 use nearest_window::Lane;
 use outside::Folder;

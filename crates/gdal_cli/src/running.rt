@@ -10,11 +10,12 @@ ghost use Rattle.error_lines.specs.Texts.{line_of};
 ghost use Rattle.gdal_cli.specs.Input.{StopsBehind};
 ghost use Rattle.gdal_cli.specs.Run.{Answers, AreTold, MayEnd, IsRefusal, RefusesWords, RefusesDataset, words_read_input, words_published, ended};
 ghost use Rattle.error_lines.specs.Steps.{Step, IsFirstPart, AreDone, Goes};
-ghost use Rattle.gdal_cli.specs.Words.{words_of};
+ghost use Rattle.command_words.specs.Words.{words_of};
 ghost use Rattle.gdal_cli.specs.Work.{run_of, run_over};
 
+use crate::faults::word_fault_of;
 use crate::jobs::put_job;
-use crate::words::read_words;
+use command_words::read_words;
 use error_lines::{Fault, Outcome, tell};
 use outside::{Folder, Input, Sink};
 use std::alloc::Global;
@@ -42,8 +43,10 @@ fn perform<F: Folder, I: Input, O: Sink>(
     ensures changed { HasChanged (F.names folder.old) (ended result) }
     ensures own { OwnsFault (ended result) }
 {
-    let command = read_words(alloc, words)?;
-    put_job(alloc, folder, input, out, command)
+    match read_words(alloc, words) {
+        Ok(command) => put_job(alloc, folder, input, out, command),
+        Err(fault) => Err(word_fault_of(fault)),
+    }
 }
 
 fn ended(end: Result<(), Fault>) -> Option<Fault>

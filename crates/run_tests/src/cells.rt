@@ -1,12 +1,12 @@
 // Runs over cells and tiles.
 use crate::fickle::Fickle;
-use crate::trials::{FileOf, Row, Said, first_harmless, first_wrong, run_in};
+use crate::trials::{FileOf, Row, Said, Unmade, first_harmless, first_wrong, run_in};
 use std::alloc::Global;
 use std::test::*;
 use std::thread::Threads;
 
 // The head of a cell at 10 degrees east, 20 degrees north, with steps of 30 arc seconds and these counts.
-fn head(alloc: Global, counts: &[u8; 8]) -> Result<Vec<u8>, Fail> {
+fn head(alloc: Global, counts: &[u8; 8]) -> Result<Vec<u8>, Unmade> {
     let mut file = vec![in alloc; b' '; 3428]?;
     file[..33].copy_from_slice(b"UHL10100000E0200000N03000300NA  U");
     file[47..55].copy_from_slice(counts);
@@ -16,7 +16,7 @@ fn head(alloc: Global, counts: &[u8; 8]) -> Result<Vec<u8>, Fail> {
 }
 
 // A cell of one line of longitude and four points: 5, -5, the null elevation and 0 from the south.
-fn one_line(alloc: Global, sum: u8) -> Result<Vec<u8>, Fail> {
+fn one_line(alloc: Global, sum: u8) -> Result<Vec<u8>, Unmade> {
     let mut file = head(alloc, b"00010004")?;
     file.extend_from_slice(&[0xaa, 0, 0, 0, 0, 0, 0, 0])?;
     file.extend_from_slice(&[0, 5, 0x80, 5, 0xff, 0xff, 0x80, 0, 0, 0, 3, sum])?;
@@ -24,7 +24,7 @@ fn one_line(alloc: Global, sum: u8) -> Result<Vec<u8>, Fail> {
 }
 
 // A cell of two lines of one point, 7 and -9, behind a leading record.
-fn two_lines(alloc: Global, sum: u8) -> Result<Vec<u8>, Fail> {
+fn two_lines(alloc: Global, sum: u8) -> Result<Vec<u8>, Unmade> {
     let mut file = vec![in alloc; b' '; 80]?;
     file[..3].copy_from_slice(b"VOL");
     file.extend_from_slice(&head(alloc, b"00020001")?)?;
@@ -47,7 +47,7 @@ Band 1 Block=1x4 Type=Int16
   NoData Value=-32767
 ";
 
-const CELLS: [Row<'static>; 15] = [
+static CELLS: [Row<'static>; 18] = [
     ("gdalinfo c.dt0", 0, CELL_REPORT, ""),
     ("gdallocationinfo -valonly c.dt0 0 3", 0, "5\n", ""),
     ("gdallocationinfo -valonly c.dt0 0 2", 0, "-5\n", ""),
@@ -68,7 +68,10 @@ const CELLS: [Row<'static>; 15] = [
     ),
     ("gdallocationinfo -valonly d.DT1 0 0", 0, "7\n", ""),
     ("gdallocationinfo -valonly d.DT1 1 0", 0, "-9\n", ""),
+    ("gdallocationinfo -valonly w.dt2 0 3", 0, "5\n", ""),
     ("gdallocationinfo -valonly w.dt2 0 2", 0, "-5\n", ""),
+    ("gdallocationinfo -valonly w.dt2 0 1", 0, "-32767\n", ""),
+    ("gdallocationinfo -valonly w.dt2 0 0", 0, "0\n", ""),
     (
         "gdallocationinfo --config DTED_VERIFY_CHECKSUM off -valonly w.dt2 0 2",
         0,
@@ -104,7 +107,7 @@ struct CellFiles {
     broken: Vec<u8>,
 }
 
-fn all_cells(alloc: Global) -> Result<CellFiles, Fail> {
+fn all_cells(alloc: Global) -> Result<CellFiles, Unmade> {
     Ok(CellFiles {
         right: one_line(alloc, 0xb2)?,
         wrong: one_line(alloc, 0xb3)?,
@@ -113,7 +116,7 @@ fn all_cells(alloc: Global) -> Result<CellFiles, Fail> {
     })
 }
 
-fn try_cells<R: Threads + Sync>(rt: &R, alloc: Global) -> Result<usize, Fail> {
+fn try_cells<R: Threads + Sync>(rt: &R, alloc: Global) -> Result<usize, Unmade> {
     let cells = all_cells(alloc)?;
     let files: [FileOf<'_>; 4] = [
         ("c.dt0", &cells.right),
@@ -131,7 +134,7 @@ fn cells(rt: HostRuntime) -> Result<(), Fail> {
 }
 
 // So many bytes of the cell, and the status, what is printed and what is told of them.
-const CUTS: [(usize, u8, &str, &str); 10] = [
+static CUTS: [(usize, u8, &str, &str); 10] = [
     (0, 1, "", "ERROR 4: c.dt0: malformed dted (3)\n"),
     (3, 1, "", "ERROR 4: c.dt0: malformed dted (3)\n"),
     (79, 1, "", "ERROR 4: c.dt0: malformed dted (3)\n"),
@@ -145,7 +148,7 @@ const CUTS: [(usize, u8, &str, &str); 10] = [
 ];
 
 // The first of these cuts of a cell of which something else is said, or how many cuts there are.
-fn first_wrong_cut<R: Threads + Sync>(rt: &R, alloc: Global, cell: &[u8]) -> Result<usize, Fail> {
+fn first_wrong_cut<R: Threads + Sync>(rt: &R, alloc: Global, cell: &[u8]) -> Result<usize, Unmade> {
     let line = "gdallocationinfo -valonly c.dt0 0 3";
     for (at, (len, status, out, err)) in CUTS.iter().enumerate() {
         let (front, _) = cell.split_at((*len).min(cell.len()));
@@ -156,7 +159,7 @@ fn first_wrong_cut<R: Threads + Sync>(rt: &R, alloc: Global, cell: &[u8]) -> Res
     Ok(CUTS.len())
 }
 
-fn try_cuts<R: Threads + Sync>(rt: &R, alloc: Global) -> Result<usize, Fail> {
+fn try_cuts<R: Threads + Sync>(rt: &R, alloc: Global) -> Result<usize, Unmade> {
     let cell = one_line(alloc, 0xb2)?;
     first_wrong_cut(rt, alloc, &cell)
 }
@@ -167,14 +170,14 @@ fn cut_cells(rt: HostRuntime) -> Result<(), Fail> {
     Ok(())
 }
 
-const LARGE: [Row<'static>; 1] = [(
+static LARGE: [Row<'static>; 1] = [(
     "gdalinfo l.dt2",
     1,
     "",
     "ERROR 4: l.dt2: needs 200083418 bytes, has 3428\n",
 )];
 
-fn try_large<R: Threads + Sync>(rt: &R, alloc: Global) -> Result<usize, Fail> {
+fn try_large<R: Threads + Sync>(rt: &R, alloc: Global) -> Result<usize, Unmade> {
     let large = head(alloc, b"99999999")?;
     first_wrong(rt, alloc, &[("l.dt2", &large)], &LARGE)
 }
@@ -185,7 +188,7 @@ fn a_large_cell(rt: HostRuntime) -> Result<(), Fail> {
     Ok(())
 }
 
-fn harmless_of_cell<R: Threads + Sync>(rt: &R, alloc: Global) -> Result<(u64, bool), Fail> {
+fn harmless_of_cell<R: Threads + Sync>(rt: &R, alloc: Global) -> Result<(u64, bool), Unmade> {
     let cell = one_line(alloc, 0xb2)?;
     let line = "gdallocationinfo --config DTED_VERIFY_CHECKSUM YES -valonly c.dt0 0 2";
     first_harmless(rt, alloc, &[("c.dt0", &cell)], (line, (b"", 1)), "-5\n")
@@ -201,7 +204,7 @@ fn failing_calls_of_a_cell(rt: HostRuntime) -> Result<(), Fail> {
 }
 
 // Files whose names are those of tiles are refused for their length alone.
-const NAMES: [Row<'static>; 8] = [
+static NAMES: [Row<'static>; 8] = [
     (
         "gdalinfo N90E180.hgt",
         1,
@@ -252,7 +255,7 @@ const NAMES: [Row<'static>; 8] = [
     ),
 ];
 
-const TILES: [FileOf<'static>; 7] = [
+static TILES: [FileOf<'static>; 7] = [
     ("N90E180.hgt", b""),
     ("S90W180.hgt", b""),
     ("d/n00w000.HGT", b""),
@@ -269,22 +272,39 @@ fn names_of_tiles(rt: HostRuntime) -> Result<(), Fail> {
 }
 
 // A tile of which one sample isn't 0: that in column 0 of the last line.
-fn tile(alloc: Global) -> Result<Vec<u8>, Fail> {
+pub fn tile(alloc: Global) -> Result<Vec<u8>, Unmade> {
     let mut bytes = vec![in alloc; 0u8; 2_884_802]?;
     bytes[2_882_400] = 0xff;
     bytes[2_882_401] = 0xfe;
     Ok(bytes)
 }
 
-// The centre of that pixel is what the name tells.
-const CORNER: [Row<'static>; 1] = [(
-    "gdallocationinfo -valonly S01W180.hgt 0.5 1200.5",
-    0,
-    "-2\n",
-    "",
-)];
+const TILE_REPORT: &str = "Driver: SRTMHGT
+Files: S01W180.hgt
+Size is 1201, 1201
+Origin = (-180.000416666666667,0.000416666666667)
+Pixel Size = (0.000833333333333,-0.000833333333333)
+Corner Coordinates:
+Upper Left  (-180.000416667, 0.000416667)
+Lower Left  (-180.000416667, -1.000416667)
+Upper Right (-178.999583333, 0.000416667)
+Lower Right (-178.999583333, -1.000416667)
+Band 1 Block=1201x1 Type=Int16
+  NoData Value=-32768
+";
 
-fn try_tile<R: Threads + Sync>(rt: &R, alloc: Global) -> Result<usize, Fail> {
+// The centre of that pixel is what the name tells.
+static CORNER: [Row<'static>; 2] = [
+    ("gdalinfo S01W180.hgt", 0, TILE_REPORT, ""),
+    (
+        "gdallocationinfo -valonly S01W180.hgt 0.5 1200.5",
+        0,
+        "-2\n",
+        "",
+    ),
+];
+
+fn try_tile<R: Threads + Sync>(rt: &R, alloc: Global) -> Result<usize, Unmade> {
     let bytes = tile(alloc)?;
     first_wrong(rt, alloc, &[("S01W180.hgt", &bytes)], &CORNER)
 }
@@ -297,7 +317,7 @@ fn a_tile(rt: HostRuntime) -> Result<(), Fail> {
 
 // The length of the file of a tile when it is opened again, the words, and the status, what is printed and what is
 // told.
-const CHANGES: [(Option<u64>, &str, (u8, &str, &str)); 4] = [
+static CHANGES: [(Option<u64>, &str, (u8, &str, &str)); 4] = [
     (
         Some(25_934_402),
         "gdallocationinfo -valonly N00E000.hgt 1 1",
@@ -338,7 +358,7 @@ fn run_changed<R: Threads + Sync>(
     alloc: Global,
     again: Option<u64>,
     line: &str,
-) -> Result<Said, Fail> {
+) -> Result<Said, Unmade> {
     let mut folder = Fickle {
         first: Some(2_884_802),
         again,
@@ -349,7 +369,7 @@ fn run_changed<R: Threads + Sync>(
 }
 
 // The first of these runs that says something else than is listed, or how many runs there are.
-fn first_wrong_change<R: Threads + Sync>(rt: &R, alloc: Global) -> Result<usize, Fail> {
+fn first_wrong_change<R: Threads + Sync>(rt: &R, alloc: Global) -> Result<usize, Unmade> {
     for (at, (again, line, (status, out, err))) in CHANGES.iter().enumerate() {
         if !run_changed(rt, alloc, *again, line)?.is(*status, out, err) {
             return Ok(at);

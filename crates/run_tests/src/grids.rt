@@ -5,7 +5,7 @@ use std::test::*;
 const GRID: &[u8] = b"ncols 2\nnrows\t2\nxllcenter 10\nyllcenter 20\ncellsize 2\n1\t-2\n30 4\n";
 
 // A grid, one with a NODATA, one whose last value isn't whole, and others that are refused.
-const FILES: [FileOf<'static>; 8] = [
+static FILES: [FileOf<'static>; 8] = [
     ("g.asc", GRID),
     (
         "d/n.GRD",
@@ -41,7 +41,7 @@ Lower Right (13.000000000, 19.000000000)
 Band 1 Block=2x1 Type=Int32
 ";
 
-const GRIDS: [Row<'static>; 14] = [
+static GRIDS: [Row<'static>; 14] = [
     ("gdalinfo g.asc", 0, REPORT, ""),
     ("gdallocationinfo -valonly g.asc 0 0", 0, "1\n", ""),
     ("gdallocationinfo -valonly g.asc 1 0", 0, "-2\n", ""),

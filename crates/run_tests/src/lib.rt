@@ -15,4 +15,14 @@ mod points;
 #[cfg(test)]
 mod raw;
 #[cfg(test)]
+mod stories;
+#[cfg(test)]
+mod translated_cells;
+#[cfg(test)]
+mod translation_faults;
+#[cfg(test)]
+mod translations;
+#[cfg(test)]
 mod trials;
+#[cfg(test)]
+mod worked;

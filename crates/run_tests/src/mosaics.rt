@@ -1,5 +1,5 @@
 // Runs over mosaics.
-use crate::trials::{FileOf, Row, first_harmless, first_wrong, run_over};
+use crate::trials::{FileOf, Row, Unmade, first_harmless, first_wrong, run_over};
 use std::alloc::Global;
 use std::test::*;
 use std::thread::Threads;
@@ -45,7 +45,7 @@ Band 1 Block=128x128 Type=Int16
 
 // Mosaics whose sources aren't there, which nothing opens: one that names itself, two that are refused, and one whose
 // band takes a kind that isn't read.
-const FILES: [FileOf<'static>; 6] = [
+static FILES: [FileOf<'static>; 6] = [
     ("wide.vrt", WIDE),
     (
         "m.vrt",
@@ -66,7 +66,7 @@ const FILES: [FileOf<'static>; 6] = [
     ("empty.vrt", b""),
 ];
 
-const ROWS: [Row<'static>; 9] = [
+static ROWS: [Row<'static>; 9] = [
     ("gdalinfo wide.vrt", 0, WIDE_REPORT, ""),
     (
         "gdalinfo itself.vrt",
@@ -125,10 +125,10 @@ fn mosaics(rt: HostRuntime) -> Result<(), Fail> {
 }
 
 // A source whose name would be as many bytes long before it is normalised, and what is told.
-const NAMES: [(usize, &str); 2] = [(4096, ""), (4097, "ERROR 6: limit of name passed (4097)\n")];
+static NAMES: [(usize, &str); 2] = [(4096, ""), (4097, "ERROR 6: limit of name passed (4097)\n")];
 
 // A document whose source has a name of so many bytes, with the name of the folder and the slash that stand before it.
-fn with_name(alloc: Global, len: usize) -> Result<Vec<u8>, Fail> {
+fn with_name(alloc: Global, len: usize) -> Result<Vec<u8>, Unmade> {
     let mut document = Vec::new(alloc);
     document.extend_from_slice(
         b"<VRTDataset rasterXSize='1' rasterYSize='1'><VRTRasterBand><SimpleSource><SourceFilename relativeToVRT='1'>",
@@ -144,14 +144,14 @@ fn tells_name<R: Threads + Sync>(
     alloc: Global,
     len: usize,
     err: &str,
-) -> Result<bool, Fail> {
+) -> Result<bool, Unmade> {
     let document = with_name(alloc, len)?;
     let said = run_over(rt, alloc, &[("d/m.vrt", &document)], "gdalinfo d/m.vrt")?;
     Ok(said.tells(err))
 }
 
 // The first of these names of which something else is told, or how many names there are.
-fn first_wrong_name<R: Threads + Sync>(rt: &R, alloc: Global) -> Result<usize, Fail> {
+fn first_wrong_name<R: Threads + Sync>(rt: &R, alloc: Global) -> Result<usize, Unmade> {
     for (at, (len, err)) in NAMES.iter().enumerate() {
         if !tells_name(rt, alloc, *len, err)? {
             return Ok(at);

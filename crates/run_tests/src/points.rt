@@ -1,7 +1,7 @@
 // Runs over the points of an input, and over mosaics of mosaics.
 use crate::trials::{
-    Calls, FOLDER, Fed, FileOf, READING, Row, Trial, WRITING, first_failing, first_harmless,
-    first_wrong, left_of,
+    Calls, FOLDER, Fed, FileOf, READING, Row, Trial, Unmade, WRITING, first_failing,
+    first_harmless, first_wrong, left_of,
 };
 use outside::{Failing, Method};
 use std::alloc::Global;
@@ -12,7 +12,7 @@ const TWELVE: [u8; 12] = [1, 2, 3, 4, 5, 6, 7, 8, 9, 10, 11, 12];
 
 // Two bands of 3 x 2 bytes; two rasters of three numbers; mosaics of them, in one another and in themselves; values
 // that are scaled and looked up; and a raster that has a place.
-const FILES: [FileOf<'static>; 19] = [
+static FILES: [FileOf<'static>; 19] = [
     ("two.bil", &TWELVE),
     ("two.hdr", b"NROWS 2\nNCOLS 3\nNBANDS 2\nLAYOUT BIL\n"),
     ("a.bil", &[5, 0, 0, 0, 7, 0]),
@@ -73,7 +73,7 @@ const FILES: [FileOf<'static>; 19] = [
     ),
 ];
 
-const ROWS: [Row<'static>; 16] = [
+static ROWS: [Row<'static>; 16] = [
     (
         "gdallocationinfo two.bil 2 1",
         0,
@@ -153,7 +153,7 @@ const CALM: Calls<'static> = (&[], &[], &[]);
 // The words, the input, and the status, what is printed and what is told.
 type Answer<'a> = (&'a str, &'a [u8], (u8, &'a str, &'a str));
 
-const INPUTS: [Answer<'static>; 6] = [
+static INPUTS: [Answer<'static>; 6] = [
     (
         "gdallocationinfo -valonly m.vrt",
         b"0 0\n1 0\n2 0\n",
@@ -193,7 +193,7 @@ fn first_unfed<R: Threads + Sync>(
     alloc: Global,
     rows: &[Answer<'_>],
     most: usize,
-) -> Result<usize, Fail> {
+) -> Result<usize, Unmade> {
     for (at, (line, input, said)) in rows.iter().enumerate() {
         let trial: Trial<'_> = ((*line, (*input, most)), CALM, *said);
         if first_failing(rt, alloc, &FILES, &[trial])? == 0 {
@@ -209,7 +209,7 @@ fn first_unfed_of<R: Threads + Sync>(
     alloc: Global,
     rows: &[Answer<'_>],
     sizes: [usize; 3],
-) -> Result<(usize, usize), Fail> {
+) -> Result<(usize, usize), Unmade> {
     for most in sizes {
         let at = first_unfed(rt, alloc, rows, most)?;
         if at < rows.len() {
@@ -232,7 +232,7 @@ fn inputs(rt: HostRuntime) -> Result<(), Fail> {
 }
 
 // A line that is no point is told with its number, behind the answers to those before it.
-const BAD: [Answer<'static>; 1] = [(
+static BAD: [Answer<'static>; 1] = [(
     "gdallocationinfo -valonly two.bil",
     b"0 0\n9 9\n2 1\nx\n0 0\n",
     (1, "1\n4\n\n9\n12\n", "ERROR 5: input line 4 is no point\n"),
@@ -251,7 +251,7 @@ const FIVE: &[u8] = b"0 0\n9";
 
 // A report of a point of the input; and inputs that fail: the whole lines among the bytes that they gave are answered,
 // and nothing more.
-const FED: [Trial<'static>; 5] = [
+static FED: [Trial<'static>; 5] = [
     (
         ("gdallocationinfo two.bil", (b"9 9\n", 2)),
         CALM,
@@ -312,7 +312,7 @@ const OPENS: u64 = 7;
 const READS: u64 = 5;
 
 // The folder's last calls, and those that would come behind them.
-const BEHIND: [Trial<'static>; 5] = [
+static BEHIND: [Trial<'static>; 5] = [
     (
         MOSAIC,
         (&[Failing::Of(Method::Open, OPENS)], &[], &[]),
@@ -341,7 +341,7 @@ const BEHIND: [Trial<'static>; 5] = [
 ];
 
 // Where a call fails, the answers before it stand; behind the last call nothing fails.
-const STREAMS: [Trial<'static>; 9] = [
+static STREAMS: [Trial<'static>; 9] = [
     (MOSAIC, (&[], &[Failing::Call(1)], &[]), (2, "", READING)),
     (MOSAIC, (&[], &[Failing::Call(2)], &[]), (2, "5\n", READING)),
     (
@@ -400,7 +400,7 @@ fn failing_streams_of_points(rt: HostRuntime) -> Result<(), Fail> {
 }
 
 // Seventeen mosaics of one pixel, each of which names the next one, and the last one a file.
-const NESTED: [FileOf<'static>; 19] = [
+static NESTED: [FileOf<'static>; 19] = [
     ("a.bil", &[7]),
     ("a.hdr", b"NROWS 1\nNCOLS 1\n"),
     (
@@ -490,7 +490,7 @@ const NESTED: [FileOf<'static>; 19] = [
     ),
 ];
 
-const DEPTHS: [Row<'static>; 2] = [
+static DEPTHS: [Row<'static>; 2] = [
     (
         "gdallocationinfo -valonly m1.vrt 0 0",
         1,

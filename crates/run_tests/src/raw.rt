@@ -1,4 +1,6 @@
-use crate::trials::{FileOf, Row, Trial, WRITING, first_failing, first_harmless, first_wrong};
+use crate::trials::{
+    FileOf, Row, Trial, Unmade, WRITING, first_failing, first_harmless, first_wrong,
+};
 use outside::{Failing, Method};
 use std::alloc::Global;
 use std::test::*;
@@ -8,7 +10,7 @@ const TWELVE: [u8; 12] = [1, 2, 3, 4, 5, 6, 7, 8, 9, 10, 11, 12];
 
 // Two bands of 3 x 2 bytes in three layouts, a raster that is too short, one whose header is refused, one with a
 // NODATA and no geotransform, and one of 16 bits.
-const FILES: [FileOf<'static>; 14] = [
+static FILES: [FileOf<'static>; 14] = [
     ("a.bil", &TWELVE),
     ("a.hdr", b"NROWS 2\nNCOLS 3\nNBANDS 2\nLAYOUT BIL\n"),
     ("b.BIP", &TWELVE),
@@ -31,7 +33,7 @@ const FILES: [FileOf<'static>; 14] = [
     ),
 ];
 
-const VALUES: [Row<'static>; 9] = [
+static VALUES: [Row<'static>; 9] = [
     ("gdallocationinfo -valonly a.bil 2 1", 0, "9\n12\n", ""),
     ("gdallocationinfo -valonly b.BIP 2 1", 0, "11\n12\n", ""),
     (
@@ -77,7 +79,7 @@ fn values(rt: HostRuntime) -> Result<(), Fail> {
     Ok(())
 }
 
-const REFUSALS: [Row<'static>; 16] = [
+static REFUSALS: [Row<'static>; 16] = [
     ("", 1, "", "ERROR 1: word 0 doesn't fit\n"),
     ("gdalinfo", 1, "", "ERROR 1: word 1 doesn't fit\n"),
     (
@@ -185,7 +187,7 @@ fn failing_calls(rt: HostRuntime) -> Result<(), Fail> {
     Ok(())
 }
 
-const PUTS: [Trial<'static>; 1] = [(
+static PUTS: [Trial<'static>; 1] = [(
     (LINE, (b"", 1)),
     (&[], &[], &[Failing::Of(Method::Put, 1)]),
     (2, "", WRITING),
@@ -197,9 +199,9 @@ fn a_failing_output(rt: HostRuntime) -> Result<(), Fail> {
     Ok(())
 }
 
-const WIDEST: [Row<'static>; 1] = [("gdallocationinfo -valonly w.bil 4194303 0", 0, "7\n", "")];
+static WIDEST: [Row<'static>; 1] = [("gdallocationinfo -valonly w.bil 4194303 0", 0, "7\n", "")];
 
-fn try_widest<R: Threads + Sync>(rt: &R, alloc: Global) -> Result<usize, Fail> {
+fn try_widest<R: Threads + Sync>(rt: &R, alloc: Global) -> Result<usize, Unmade> {
     let bytes = vec![in alloc; 7u8; 4_194_304]?;
     let files: [FileOf<'_>; 2] = [("w.hdr", b"NROWS 1\nNCOLS 4194304\n"), ("w.bil", &bytes)];
     first_wrong(rt, alloc, &files, &WIDEST)

@@ -2,11 +2,33 @@
 use gdal_cli::{Outcome, run};
 use lists_and_answers::Items;
 use outside::{
-    CalmInput, Failing, Folder, Input, Listed, MemFolder, MemInput, MemSink, Name, Never,
+    CalmInput, Failing, Folder, Input, Listed, MemFolder, MemInput, MemSink, Name, NameFault, Never,
 };
-use std::alloc::Global;
+use std::alloc::{AllocError, AllocFailed, Global};
 use std::test::*;
 use std::thread::Threads;
+
+/// Why a run wasn't made: memory was refused, or a text is no name.
+#[derive(Clone, Copy, Debug)]
+pub struct Unmade;
+
+impl From<AllocError> for Unmade {
+    fn from(_: AllocError) -> Self {
+        Unmade
+    }
+}
+
+impl<T: Drop> From<AllocFailed<T>> for Unmade {
+    fn from(_: AllocFailed<T>) -> Self {
+        Unmade
+    }
+}
+
+impl From<NameFault> for Unmade {
+    fn from(_: NameFault) -> Self {
+        Unmade
+    }
+}
 
 // What a run answered, printed and told.
 #[derive(Drop)]
@@ -26,12 +48,23 @@ impl Said {
     pub fn tells(&self, err: &str) -> bool {
         self.err.got() == err.as_bytes()
     }
+
+    // Whether a run ended with this status, printed a first part of this text, and told this.
+    pub fn ends_in(&self, status: u8, out: &str, err: &str) -> bool {
+        self.status == status && out.as_bytes().starts_with(self.out.got()) && self.tells(err)
+    }
+
+    // Whether a run told the first bytes of this text, at most so many.
+    pub fn tells_part(&self, err: &str, most: usize) -> bool {
+        self.err.got().len() == most.min(err.len()) && err.as_bytes().starts_with(self.err.got())
+    }
 }
 
 // A name and its bytes.
 pub type FileOf<'a> = (&'a str, &'a [u8]);
 
-fn plan(alloc: Global, calls: &[Failing]) -> Result<Listed, Fail> {
+/// The schedule by which these calls fail.
+pub fn plan(alloc: Global, calls: &[Failing]) -> Result<Listed, Unmade> {
     let mut failing = Items::new(alloc);
     for call in calls {
         failing.push(*call)?;
@@ -39,7 +72,7 @@ fn plan(alloc: Global, calls: &[Failing]) -> Result<Listed, Fail> {
     Ok(Listed::new(failing))
 }
 
-fn split(alloc: Global, line: &str) -> Result<Vec<String>, Fail> {
+fn split(alloc: Global, line: &str) -> Result<Vec<String>, Unmade> {
     let mut words = Vec::new(alloc);
     for word in line.split_ascii_whitespace() {
         words.push(String::from_str(alloc, word)?)?;
@@ -47,15 +80,19 @@ fn split(alloc: Global, line: &str) -> Result<Vec<String>, Fail> {
     Ok(words)
 }
 
-fn put_all(alloc: Global, folder: &mut MemFolder, files: &[FileOf<'_>]) -> Result<(), Fail> {
+fn put_all(alloc: Global, folder: &mut MemFolder, files: &[FileOf<'_>]) -> Result<(), Unmade> {
     for (name, bytes) in files {
         folder.put(&Name::read(alloc, name)?, bytes)?;
     }
     Ok(())
 }
 
-// A folder with these files, whose calls fail as they are listed.
-fn folder_of(alloc: Global, files: &[FileOf<'_>], calls: &[Failing]) -> Result<MemFolder, Fail> {
+/// A folder with these files, whose calls fail as they are listed.
+pub fn folder_of(
+    alloc: Global,
+    files: &[FileOf<'_>],
+    calls: &[Failing],
+) -> Result<MemFolder, Unmade> {
     let mut folder = MemFolder::new(alloc, plan(alloc, calls)?);
     put_all(alloc, &mut folder, files)?;
     Ok(folder)
@@ -66,9 +103,35 @@ fn input_of(
     alloc: Global,
     (bytes, most): (&[u8], usize),
     calls: &[Failing],
-) -> Result<MemInput, Fail> {
+) -> Result<MemInput, Unmade> {
     let plan = plan(alloc, calls)?;
     Ok(MemInput::in_pieces(bytes.to_vec(alloc)?, most, plan))
+}
+
+// A run of these words over a folder and an input, which prints and tells into these sinks.
+fn run_to<R: Threads + Sync, F: Folder, I: Input>(
+    rt: &R,
+    alloc: Global,
+    folder: &mut F,
+    input: &mut I,
+    line: &str,
+    (mut out, mut err): (MemSink, MemSink),
+) -> Result<Said, Unmade> {
+    let words = split(alloc, line)?;
+    let Outcome { status, .. } = run(rt, alloc, &words, folder, input, &mut out, &mut err);
+    Ok(Said { status, out, err })
+}
+
+/// A run of these words over a folder, where the input is empty, which prints and tells into these sinks.
+pub fn run_into<R: Threads + Sync, F: Folder>(
+    rt: &R,
+    alloc: Global,
+    folder: &mut F,
+    line: &str,
+    sinks: (MemSink, MemSink),
+) -> Result<Said, Unmade> {
+    let mut input = CalmInput::new(Vec::new(alloc), Never);
+    run_to(rt, alloc, folder, &mut input, line, sinks)
 }
 
 // A run of these words over a folder and an input, whose output's calls fail as they are listed.
@@ -79,12 +142,10 @@ fn run_fed<R: Threads + Sync, F: Folder, I: Input>(
     input: &mut I,
     line: &str,
     puts: &[Failing],
-) -> Result<Said, Fail> {
-    let words = split(alloc, line)?;
-    let mut out = MemSink::new(alloc, plan(alloc, puts)?);
-    let mut err = MemSink::new(alloc, Listed::new(Items::new(alloc)));
-    let Outcome { status, .. } = run(rt, alloc, &words, folder, input, &mut out, &mut err);
-    Ok(Said { status, out, err })
+) -> Result<Said, Unmade> {
+    let out = MemSink::new(alloc, plan(alloc, puts)?);
+    let err = MemSink::new(alloc, Listed::new(Items::new(alloc)));
+    run_to(rt, alloc, folder, input, line, (out, err))
 }
 
 // The same where the input is empty, and no call of the output fails.
@@ -93,7 +154,7 @@ pub fn run_in<R: Threads + Sync, F: Folder>(
     alloc: Global,
     folder: &mut F,
     line: &str,
-) -> Result<Said, Fail> {
+) -> Result<Said, Unmade> {
     let mut input = CalmInput::new(Vec::new(alloc), Never);
     run_fed(rt, alloc, folder, &mut input, line, &[])
 }
@@ -104,7 +165,7 @@ pub fn run_over<R: Threads + Sync>(
     alloc: Global,
     files: &[FileOf<'_>],
     line: &str,
-) -> Result<Said, Fail> {
+) -> Result<Said, Unmade> {
     let mut folder = folder_of(alloc, files, &[])?;
     run_in(rt, alloc, &mut folder, line)
 }
@@ -118,7 +179,7 @@ pub fn first_wrong<R: Threads + Sync>(
     alloc: Global,
     files: &[FileOf<'_>],
     rows: &[Row<'_>],
-) -> Result<usize, Fail> {
+) -> Result<usize, Unmade> {
     for (at, (line, status, out, err)) in rows.iter().enumerate() {
         if !run_over(rt, alloc, files, line)?.is(*status, out, err) {
             return Ok(at);
@@ -140,7 +201,7 @@ fn run_failing<R: Threads + Sync>(
     files: &[FileOf<'_>],
     (line, input): Fed<'_>,
     (calls, takes, puts): Calls<'_>,
-) -> Result<Said, Fail> {
+) -> Result<Said, Unmade> {
     let mut folder = folder_of(alloc, files, calls)?;
     let mut input = input_of(alloc, input, takes)?;
     run_fed(rt, alloc, &mut folder, &mut input, line, puts)
@@ -153,7 +214,7 @@ pub fn left_of<R: Threads + Sync>(
     files: &[FileOf<'_>],
     (line, input): Fed<'_>,
     puts: &[Failing],
-) -> Result<usize, Fail> {
+) -> Result<usize, Unmade> {
     let mut folder = folder_of(alloc, files, &[])?;
     let mut input = input_of(alloc, input, &[])?;
     run_fed(rt, alloc, &mut folder, &mut input, line, puts)?;
@@ -169,7 +230,7 @@ pub fn first_failing<R: Threads + Sync>(
     alloc: Global,
     files: &[FileOf<'_>],
     trials: &[Trial<'_>],
-) -> Result<usize, Fail> {
+) -> Result<usize, Unmade> {
     for (at, (fed, calls, (status, out, err))) in trials.iter().enumerate() {
         if !run_failing(rt, alloc, files, *fed, *calls)?.is(*status, out, err) {
             return Ok(at);
@@ -192,7 +253,7 @@ pub fn first_harmless<R: Threads + Sync>(
     files: &[FileOf<'_>],
     fed: Fed<'_>,
     out: &str,
-) -> Result<(u64, bool), Fail> {
+) -> Result<(u64, bool), Unmade> {
     for number in 1..=64u64 {
         let calls: Calls<'_> = (&[Failing::Call(number)], &[], &[]);
         let said = run_failing(rt, alloc, files, fed, calls)?;

@@ -1,9 +1,14 @@
-use Rattle.std.proofs.Common.{rules, ◌∙◌, refl}
+use Rattle.std.proofs.Common.{◌≡◌, rules, ◌∙◌, ap, List, ℕ, [], refl, subst, sym}
 use Rattle.input_points.specs.Entries.{entries}
-use Rattle.gdal_cli.specs.Work.{judged_by, carried_out}
+use Rattle.error_lines.specs.Steps.{Done, Goes}
+use Rattle.command_words.specs.declared.command.Job.{Job}
+use Rattle.gdal_cli.specs.Published.{IsNamedJob}
+use Rattle.gdal_cli.specs.Run.{names_published}
+use Rattle.gdal_cli.specs.Work.{judged_by, translate_judged, carried_out}
 use Rattle.gdal_cli.proofs.Ended.{stops_same}
-use Rattle.gdal_cli.proofs.Outcomes.{same_goes}
+use Rattle.gdal_cli.proofs.Outcomes.{goes_as, same_goes}
 use Rattle.gdal_cli.proofs.Printing.{info_prints, location_prints}
+use Rattle.gdal_cli.proofs.Unread.{publishes_some}
 use Rattle.gdal_cli.proofs.jobs.put_job.Goals as goal
 
 pub returns-in-Info-clause-told : goal.returns-in-Info-clause-told
@@ -31,3 +36,19 @@ returns-in-Locate-clause-refused g c = λ refusal. let still = c.put_location.en
 
 pub returns-in-Locate-clause-only_read : goal.returns-in-Locate-clause-only_read
 returns-in-Locate-clause-only_read g c = λ none. record { names = c.put_location.ensures.names; writes = c.put_location.ensures.writes; faults = c.put_location.ensures.cause.folder_later }
+
+pub put_translation-requires-clause-named : goal.put_translation-requires-clause-named
+put_translation-requires-clause-named g c κs within = rw c.in-Translate.is (subst IsNamedJob c.in-Translate.is c.requires.named)
+
+pub returns-in-Translate-clause-told : goal.returns-in-Translate-clause-told
+returns-in-Translate-clause-told g c = λ m is i fed.
+    goes_as _ (carried_out (judged_by c.args.command.job c.args.command.verify m) m (entries i)) c.put_translation.result m _ _ _ (c.put_translation.ensures.told m is (entries i)) (rw c.in-Translate.is (search rules))
+
+pub returns-in-Translate-clause-stopped : goal.returns-in-Translate-clause-stopped
+returns-in-Translate-clause-stopped g c = λ so. absurd (c.put_translation.ensures.not_input so)
+
+pub returns-in-Translate-clause-refused : goal.returns-in-Translate-clause-refused
+returns-in-Translate-clause-refused g c = λ refusal. let still = c.put_translation.ensures.refused refusal in (still.0, refl, still.1)
+
+pub returns-in-Translate-clause-only_read : goal.returns-in-Translate-clause-only_read
+returns-in-Translate-clause-only_read g c = λ none. absurd (publishes_some c.in-Translate.src c.in-Translate.options c.in-Translate.quiet (sym (ap (λ (j : Job). names_published j) c.in-Translate.is) ∙ none))

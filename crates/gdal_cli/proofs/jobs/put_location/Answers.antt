@@ -9,7 +9,7 @@ use Rattle.catalog.proofs.Found.{found}
 use Rattle.error_lines.specs.declared.faults.Fault.{Fault}
 use Rattle.error_lines.specs.declared.faults.Fault.TheVariants.{Changed}
 use Rattle.error_lines.specs.Faults.{fault_of, IsOutside, OwnsFault}
-use Rattle.gdal_cli.specs.declared.command.Job.TheVariants.{Locate}
+use Rattle.command_words.specs.declared.command.Job.TheVariants.{Locate}
 use Rattle.gdal_cli.specs.Location.{asked_in, answers, point_text}
 use Rattle.gdal_cli.specs.Run.{Ends, MayEnd, RefusesKind, ended}
 use Rattle.gdal_cli.specs.Work.{Work, location_judged, carried_out}

@@ -6,7 +6,7 @@ use Rattle.error_lines.specs.declared.faults.Fault.TheVariants.{InputFault, Memo
 use Rattle.error_lines.specs.Faults.{status_of}
 use Rattle.gdal_cli.specs.Run.{Answers, AreTold, MayEnd, IsRefusal}
 use Rattle.error_lines.specs.Steps.{Step}
-use Rattle.gdal_cli.specs.Words.{words_of}
+use Rattle.command_words.specs.Words.{words_of}
 use Rattle.gdal_cli.specs.Work.{judged, run_of}
 use Rattle.gdal_cli.proofs.Causes.{command_may}
 use Rattle.gdal_cli.proofs.Datasets.{refused_so}

@@ -1,0 +1,69 @@
+// Translations, from the words' options to the files.
+ghost use Rattle.std.specs.Prelude.{◌≡◌, ℕ, List, IfErr, Err, Some, false};
+ghost use Rattle.outside.specs.Outside.{Files};
+ghost use Rattle.input_points.specs.declared.entry.Entry.{Entry};
+ghost use Rattle.error_lines.specs.Faults.{HasCauses, HasChanged, OwnsFault};
+ghost use Rattle.error_lines.specs.Steps.{Goes};
+ghost use Rattle.gdal_cli.specs.Published.{IsNamed};
+ghost use Rattle.gdal_cli.specs.Run.{MayEnd, IsRefusal, RefusesKind, ended};
+ghost use Rattle.gdal_cli.specs.Work.{carried_out, translate_judged};
+
+use crate::faults::by_plan;
+use crate::published::unless_read;
+use catalog::{Catalog, open_all};
+use command_words::{BlockCount, Job};
+use error_lines::Fault;
+use output_copies::{Writing, write_output};
+use outside::{Folder, Name, Sink};
+use std::alloc::Global;
+use strip_copies::Translation;
+use translate_plan::{TranslateOptions, plan};
+
+/// How a translation is done.
+#[derive(Clone, Copy)]
+pub struct Way {
+    /// Whether the sums of records are to be checked.
+    pub verify: bool,
+    /// How many blocks are held at once.
+    pub blocks: BlockCount,
+    /// Whether nothing is told of the work.
+    pub quiet: bool,
+}
+
+/// Walks from a dataset, plans its output and sees that this is no file that is read, and then does the work.
+#[tactic(auto, unfolding(crate::specs::Work::translate_judged))]
+pub fn put_translation<F: Folder, O: Sink>(
+    alloc: Global,
+    folder: &mut F,
+    out: &mut O,
+    src: &Name,
+    options: &TranslateOptions,
+    way: Way,
+) -> Result<(), Fault>
+    requires named { IsNamed options.now }
+    ensures told { (m : Files) → F.names folder.old ≡ Some m → (lines : List Entry) → Goes (carried_out (translate_judged m way.verify src.now options.now way.quiet) m lines) m result (F.names folder.new) (O.got out.old) (O.got out.new) }
+    ensures refused { IsRefusal (ended result) → (out.new ≡ out.old) × (F.names folder.new ≡ F.names folder.old) }
+    ensures may_end { IfErr result (MayEnd (Job.Translate src.now options.now way.quiet)) }
+    ensures cause { HasCauses (F.faults folder.old) (F.faults folder.new) (O.faults out.old) (O.faults out.new) result }
+    ensures not_input { result ≡ Err Fault.InputFault → ⊥ }
+    ensures unknown { RefusesKind false src.now result }
+    ensures changed { HasChanged (F.names folder.old) (ended result) }
+    ensures own { OwnsFault (ended result) }
+{
+    let mut cat = Catalog::new(alloc);
+    let id = open_all(alloc, &mut cat, folder, src, way.verify)?;
+    let plan = by_plan(plan(options, cat.head(id)))?;
+    unless_read(alloc, &cat, options)?;
+    let translation = Translation {
+        alloc,
+        cat,
+        id,
+        plan,
+    };
+    let writing = Writing {
+        name: &options.out,
+        blocks: way.blocks.get(),
+        quiet: way.quiet,
+    };
+    write_output(&translation, folder, out, writing)
+}

@@ -1,0 +1,399 @@
+// Translations of which a call of the outside fails: what is told, what the names hold then, and that no draft is left.
+use crate::stories::{has, has_count};
+use crate::trials::{FOLDER, FileOf, Said, Unmade, WRITING, folder_of, plan, run_into};
+use outside::{Failing, MemFolder, MemSink, Method};
+use std::alloc::Global;
+use std::test::*;
+use std::thread::Threads;
+
+const TALL: [u8; 1000] = [7; 1000];
+
+// Rasters and a grid, and what stands under the names of outputs before.
+static FILES: [FileOf<'static>; 8] = [
+    ("five.bil", &[1, 2, 3, 4, 5]),
+    ("five.hdr", b"NROWS 1\nNCOLS 5\n"),
+    ("tall.bil", &TALL),
+    ("tall.hdr", b"NROWS 100\nNCOLS 10\n"),
+    (
+        "g.asc",
+        b"ncols 2\nnrows 2\nxllcorner 9\nyllcorner 19\ncellsize 2\n1 -2\n30 4\n",
+    ),
+    ("out.bil", b"old data"),
+    ("out.hdr", b"old header"),
+    ("h.asc", b"old grid"),
+];
+
+// The name of an output, and its bytes before and behind.
+type Output<'a> = (&'a str, &'a [u8], &'a [u8]);
+
+// A translation: the words, what is printed, and the files in the order in which they are published.
+#[derive(Clone, Copy)]
+struct Work<'a> {
+    line: &'a str,
+    text: &'a str,
+    outputs: &'a [Output<'a>],
+}
+
+const FIVE_LINE: &str = "gdal_translate five.bil out.bil";
+
+const FIVE_OUTPUTS: [Output<'static>; 2] = [
+    ("out.bil", b"old data", &[1, 2, 3, 4, 5]),
+    (
+        "out.hdr",
+        b"old header",
+        b"BYTEORDER      I
+LAYOUT         BIL
+NROWS          1
+NCOLS          5
+NBANDS         1
+NBITS          8
+SKIPBYTES      0
+BANDROWBYTES   5
+TOTALROWBYTES  5
+BANDGAPBYTES   0
+PIXELTYPE      UNSIGNEDINT
+",
+    ),
+];
+
+const FIVE: Work<'static> = Work {
+    line: FIVE_LINE,
+    text: "Input file size is 5, 1\n0...10...20...30...40...50...60...70...80...90...100 - done.\n",
+    outputs: &FIVE_OUTPUTS,
+};
+
+const QUIET: Work<'static> = Work {
+    line: "gdal_translate -q five.bil out.bil",
+    text: "",
+    outputs: &FIVE_OUTPUTS,
+};
+
+const TALLER: Work<'static> = Work {
+    line: "gdal_translate --blocks 1 tall.bil out.bil",
+    text: "Input file size is 10, 100\n0...10...20...30...40...50...60...70...80...90...100 - done.\n",
+    outputs: &[
+        ("out.bil", b"old data", &TALL),
+        (
+            "out.hdr",
+            b"old header",
+            b"BYTEORDER      I
+LAYOUT         BIL
+NROWS          100
+NCOLS          10
+NBANDS         1
+NBITS          8
+SKIPBYTES      0
+BANDROWBYTES   10
+TOTALROWBYTES  10
+BANDGAPBYTES   0
+PIXELTYPE      UNSIGNEDINT
+",
+        ),
+    ],
+};
+
+const GRID: Work<'static> = Work {
+    line: "gdal_translate g.asc h.asc",
+    text: "Input file size is 2, 2\n0...10...20...30...40...50...60...70...80...90...100 - done.\n",
+    outputs: &[(
+        "h.asc",
+        b"old grid",
+        b"ncols        2
+nrows        2
+xllcorner    9
+yllcorner    19
+cellsize     2
+1 -2
+30 4
+",
+    )],
+};
+
+// The calls of the folder, of the output and of the error stream that fail, and how many bytes such a call of a stream
+// takes first.
+#[derive(Clone, Copy)]
+struct Failures<'a> {
+    calls: &'a [Failing],
+    puts: &'a [Failing],
+    tells: &'a [Failing],
+    front: usize,
+}
+
+const CALM: Failures<'static> = Failures {
+    calls: &[],
+    puts: &[],
+    tells: &[],
+    front: 0,
+};
+
+// What a run said, and its folder.
+#[derive(Drop)]
+struct Ran {
+    said: Said,
+    folder: MemFolder,
+}
+
+fn run_with<R: Threads + Sync>(
+    rt: &R,
+    alloc: Global,
+    line: &str,
+    failures: Failures<'_>,
+) -> Result<Ran, Unmade> {
+    let mut folder = folder_of(alloc, &FILES, failures.calls)?;
+    let out = MemSink::in_part(alloc, plan(alloc, failures.puts)?, failures.front);
+    let err = MemSink::in_part(alloc, plan(alloc, failures.tells)?, failures.front);
+    let said = run_into(rt, alloc, &mut folder, line, (out, err))?;
+    Ok(Ran { said, folder })
+}
+
+// Whether the first so many outputs have their new bytes, and the others those from before.
+fn stand(
+    alloc: Global,
+    folder: &MemFolder,
+    outputs: &[Output<'_>],
+    count: usize,
+) -> Result<bool, Unmade> {
+    for (at, (name, before, behind)) in outputs.iter().enumerate() {
+        let bytes = if at < count { behind } else { before };
+        if !has(alloc, folder, name, bytes)? {
+            return Ok(false);
+        }
+    }
+    Ok(true)
+}
+
+// How many outputs were published, where the others are as before and there is no other file and no open draft.
+fn published(
+    alloc: Global,
+    folder: &MemFolder,
+    outputs: &[Output<'_>],
+) -> Result<Option<usize>, Unmade> {
+    if !has_count(folder, FILES.len())? {
+        return Ok(None);
+    }
+    for count in 0..3usize {
+        if stand(alloc, folder, outputs, count)? {
+            return Ok(Some(count));
+        }
+    }
+    Ok(None)
+}
+
+// How a run ended: early by a fault of the outside, or with all that it does.
+#[derive(Clone, Copy, PartialEq, Eq, Debug)]
+enum End {
+    Early(usize),
+    Whole,
+    Wrong,
+}
+
+fn end_of(alloc: Global, work: Work<'_>, fault: &str, ran: &Ran) -> Result<End, Unmade> {
+    let said = &ran.said;
+    let count = published(alloc, &ran.folder, work.outputs)?;
+    Ok(match count {
+        None => End::Wrong,
+        Some(count) => {
+            if said.is(0, work.text, "") && count == work.outputs.len() {
+                End::Whole
+            } else if said.ends_in(2, work.text, fault) {
+                End::Early(count)
+            } else {
+                End::Wrong
+            }
+        }
+    })
+}
+
+fn ended<R: Threads + Sync>(
+    rt: &R,
+    alloc: Global,
+    work: Work<'_>,
+    fault: &str,
+    failures: Failures<'_>,
+) -> Result<End, Unmade> {
+    let ran = run_with(rt, alloc, work.line, failures)?;
+    end_of(alloc, work, fault, &ran)
+}
+
+// The calls that fail, and how the run ends then.
+type Failed<'a> = (Work<'a>, &'a [Failing], End);
+
+// A read behind those of the header and of the first line; a write; the making of a draft; and the publishing of each
+// of the two files, behind which nothing is published.
+static CALLS: [Failed<'static>; 8] = [
+    (TALLER, &[], End::Whole),
+    (TALLER, &[Failing::Of(Method::ReadAt, 3)], End::Early(0)),
+    (TALLER, &[Failing::Of(Method::WriteAt, 1)], End::Early(0)),
+    (TALLER, &[Failing::Of(Method::Create, 1)], End::Early(0)),
+    (TALLER, &[Failing::Of(Method::Create, 2)], End::Early(0)),
+    (TALLER, &[Failing::Of(Method::Publish, 1)], End::Early(0)),
+    (TALLER, &[Failing::Of(Method::Publish, 2)], End::Early(1)),
+    (TALLER, &[Failing::Of(Method::Publish, 3)], End::Whole),
+];
+
+// The first of these that ends otherwise, or how many there are.
+fn first_other<R: Threads + Sync>(rt: &R, alloc: Global) -> Result<usize, Unmade> {
+    for (at, (work, calls, end)) in CALLS.iter().enumerate() {
+        let failures = Failures { calls, ..CALM };
+        if ended(rt, alloc, *work, FOLDER, failures)? != *end {
+            return Ok(at);
+        }
+    }
+    Ok(CALLS.len())
+}
+
+#[test]
+fn failing_calls_of_a_raster(rt: HostRuntime) -> Result<(), Fail> {
+    assert_eq!(rt; first_other(&rt, rt.alloc())?, CALLS.len());
+    Ok(())
+}
+
+// The first call of the folder whose failing doesn't end the run early, and how the run ends then.
+fn first_unmet<R: Threads + Sync>(
+    rt: &R,
+    alloc: Global,
+    work: Work<'_>,
+) -> Result<(u64, End), Unmade> {
+    for number in 1..=64u64 {
+        let calls: &[Failing] = &[Failing::Call(number)];
+        let end = ended(rt, alloc, work, FOLDER, Failures { calls, ..CALM })?;
+        if !matches!(end, End::Early(_)) {
+            return Ok((number, end));
+        }
+    }
+    Ok((0, End::Wrong))
+}
+
+// Translations, and how many calls of the folder each makes at least.
+static EACH: [(Work<'static>, u64); 3] = [(FIVE, 9), (QUIET, 9), (GRID, 6)];
+
+// The first of these of which a call's failing isn't met, or how many there are.
+fn first_unmet_of<R: Threads + Sync>(rt: &R, alloc: Global) -> Result<usize, Unmade> {
+    for (at, (work, least)) in EACH.iter().enumerate() {
+        let (number, end) = first_unmet(rt, alloc, *work)?;
+        if number <= *least || end != End::Whole {
+            return Ok(at);
+        }
+    }
+    Ok(EACH.len())
+}
+
+// Each call of the folder fails in turn.
+#[test]
+fn each_failing_call(rt: HostRuntime) -> Result<(), Fail> {
+    assert_eq!(rt; first_unmet_of(&rt, rt.alloc())?, EACH.len());
+    Ok(())
+}
+
+// The first call of the output whose failing, behind so many bytes, doesn't end the run early, and how the run ends
+// then.
+fn first_put<R: Threads + Sync>(
+    rt: &R,
+    alloc: Global,
+    work: Work<'_>,
+    front: usize,
+) -> Result<(u64, End), Unmade> {
+    for number in 1..=64u64 {
+        let puts: &[Failing] = &[Failing::Call(number)];
+        let failures = Failures {
+            puts,
+            front,
+            ..CALM
+        };
+        let end = ended(rt, alloc, work, WRITING, failures)?;
+        if !matches!(end, End::Early(_)) {
+            return Ok((number, end));
+        }
+    }
+    Ok((0, End::Wrong))
+}
+
+// Translations, how many bytes a failing call of the output takes first, and how many calls each makes at least.
+static PUTS: [(Work<'static>, usize, u64); 5] = [
+    (FIVE, 0, 2),
+    (FIVE, 1, 2),
+    (FIVE, 5, 2),
+    (GRID, 3, 2),
+    (QUIET, 3, 0),
+];
+
+// The first of these of which a call's failing isn't met, or how many there are.
+fn first_put_of<R: Threads + Sync>(rt: &R, alloc: Global) -> Result<usize, Unmade> {
+    for (at, (work, front, least)) in PUTS.iter().enumerate() {
+        let (number, end) = first_put(rt, alloc, *work, *front)?;
+        if number <= *least || end != End::Whole {
+            return Ok(at);
+        }
+    }
+    Ok(PUTS.len())
+}
+
+// Each call of the output fails in turn. A quiet translation makes none.
+#[test]
+fn each_failing_put(rt: HostRuntime) -> Result<(), Fail> {
+    assert_eq!(rt; first_put_of(&rt, rt.alloc())?, PUTS.len());
+    Ok(())
+}
+
+// Words, the calls of the folder that fail, the status, the fault's line, and how many outputs are published.
+type Untold<'a> = (&'a str, &'a [Failing], u8, &'a str, usize);
+
+// Runs whose error stream fails: one that is done, one that is refused, and two whose folder fails.
+static UNTOLD: [Untold<'static>; 4] = [
+    (FIVE_LINE, &[], 0, "", 2),
+    (
+        "gdal_translate -b 2 five.bil out.bil",
+        &[],
+        1,
+        "ERROR 5: no band 2\n",
+        0,
+    ),
+    (FIVE_LINE, &[Failing::Of(Method::Publish, 1)], 2, FOLDER, 0),
+    (FIVE_LINE, &[Failing::Of(Method::Publish, 2)], 2, FOLDER, 1),
+];
+
+// Whether a run whose error stream fails ends so.
+fn ends_untold<R: Threads + Sync>(
+    rt: &R,
+    alloc: Global,
+    (line, calls, status, fault, count): Untold<'_>,
+    front: usize,
+) -> Result<bool, Unmade> {
+    let tells: &[Failing] = &[Failing::Call(1)];
+    let failures = Failures {
+        calls,
+        tells,
+        front,
+        ..CALM
+    };
+    let ran = run_with(rt, alloc, line, failures)?;
+    let published = published(alloc, &ran.folder, &FIVE_OUTPUTS)?;
+    Ok(ran.said.status == status && ran.said.tells_part(fault, front) && published == Some(count))
+}
+
+// The first of these runs that ends otherwise, or how many there are.
+fn first_untold<R: Threads + Sync>(rt: &R, alloc: Global, front: usize) -> Result<usize, Unmade> {
+    for (at, untold) in UNTOLD.iter().enumerate() {
+        if !ends_untold(rt, alloc, *untold, front)? {
+            return Ok(at);
+        }
+    }
+    Ok(UNTOLD.len())
+}
+
+// The same, where the error stream takes nothing and where it takes five bytes.
+fn first_untold_of<R: Threads + Sync>(rt: &R, alloc: Global) -> Result<(usize, usize), Unmade> {
+    let none = first_untold(rt, alloc, 0)?;
+    let some = first_untold(rt, alloc, 5)?;
+    Ok((none, some))
+}
+
+// The error stream fails, and nothing else changes.
+#[test]
+fn a_failing_error_stream(rt: HostRuntime) -> Result<(), Fail> {
+    assert_eq!(rt;
+        first_untold_of(&rt, rt.alloc())?,
+        (UNTOLD.len(), UNTOLD.len())
+    );
+    Ok(())
+}
