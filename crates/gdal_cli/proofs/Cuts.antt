@@ -1,11 +1,10 @@
 -- First parts of steps.
-use Rattle.std.proofs.Common.{◌≡◌, ◌∙◌, ap, sym, subst, refl, ◌⊎◌, inl, inr, ℕ, zero, suc, ◌+◌, ◌-◌, ◌≤◌, ◌<◌, arith, List, [], ◌∷◌, ◌++◌, length, map, take, drop, flat_map, Option, Some, None}
-use Rattle.std.proofs.lemmas.List.{append-nil, take-append-le, take_all}
+use Rattle.std.proofs.Common.{◌≡◌, ◌∙◌, ap, sym, refl, ◌⊎◌, inl, inr, ℕ, zero, suc, ◌+◌, ◌≤◌, arith, List, [], ◌∷◌, ◌++◌, length, map, take, flat_map, Option, Some, None}
+use Rattle.std.proofs.lemmas.List.{append-nil, take-append-le}
 use Rattle.std.proofs.Math.Seq.{take-append-add}
-use Rattle.std.proofs.Math.Nat.{le_refl}
 use Rattle.outside.specs.Outside.{Files}
 use Rattle.outside.specs.Streams.{Gets, GetsPart}
-use Rattle.error_lines.specs.Steps.{Step, Prints, Warns, Publishes, prints, printed, warned, published, begun, cut, applied, AreDone}
+use Rattle.error_lines.specs.Steps.{Step, Prints, Warns, Publishes, prints, printed, warned, published, cut, applied, AreDone}
 
 -- texts that are put one after another
 pub printed_prints : {T : Type 0} (f : T → List ℕ) (xs : List T) → printed (prints (map f xs)) ≡ flat_map f xs

@@ -18,7 +18,6 @@ use Rattle.error_lines.specs.declared.faults.Fault.TheVariants.{Changed}
 use Rattle.error_lines.specs.Faults.{IsOutside}
 use Rattle.gdal_cli.specs.Location.{answers, line_text, line_fault, first_fault, lines_text, lines_fault, PutsText}
 use Rattle.gdal_cli.specs.Input.{IsReading, room_of, Answered, EndsLines, AnswersInput, StopsBehind}
-use Rattle.error_lines.specs.Steps.{prints, printed}
 use Rattle.gdal_cli.proofs.Cuts.{printed_prints}
 
 abbrev pub stopped_by : Fault → Result (Unit {0}) Fault

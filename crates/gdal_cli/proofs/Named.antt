@@ -1,13 +1,9 @@
 -- The extension of an output's name is one of its driver, as the words have it.
-use Rattle.std.proofs.Common.{◌≡◌, ◌∙◌, ap, sym, subst, refl, true, false, ℕ, Bool, List, [], ◌∷◌, length, Result, Ok, Err, Option, Some, None, option_map, option_and_then, cond}
+use Rattle.std.proofs.Common.{◌≡◌, subst, refl, true, false, ℕ, Bool, List, [], ◌∷◌, length, Ok, Option, Some, None, option_map, option_and_then, cond}
 use Rattle.std.specs.Prelude.{◌≢◌, ok_or}
-use Rattle.lists_and_answers.specs.Answers.{◌>>=◌}
 use Rattle.outside.specs.Names.{extension_of}
 use Rattle.outside.specs.declared.name.Ext.{Ext}
 use Rattle.outside.specs.declared.name.Ext.TheVariants as ext
-use Rattle.esri_hdr.specs.declared.parts.Layout.{Layout}
-use Rattle.esri_hdr.specs.declared.parts.Layout.TheVariants.{Bil, Bip, Bsq}
-use Rattle.translate_plan.specs.Options.{Options}
 use Rattle.translate_plan.specs.declared.options.Driver.{Driver}
 use Rattle.translate_plan.specs.declared.options.Driver.TheVariants as driver
 use Rattle.write_back.specs.Plans.{driver_of}
@@ -28,7 +24,7 @@ use Rattle.command_words.specs.Options.{tool_of}
 use Rattle.command_words.specs.Uses.{spoken_in}
 use Rattle.command_words.specs.Words.{command_of, words_of}
 use Rattle.gdal_cli.specs.Published.{IsNamed, IsNamedJob}
-use Rattle.gdal_cli.proofs.Bound.{Found, bind_is, ok_same, some_of}
+use Rattle.gdal_cli.proofs.Bound.{bind_is, ok_same, some_of}
 
 -- what is written is written so in every format that is asked for
 kept_if : (same : Bool) (v w : Written) → cond same (Some v) None ≡ Some w → v ≡ w

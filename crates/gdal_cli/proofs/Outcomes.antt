@@ -9,7 +9,7 @@ use Rattle.error_lines.specs.declared.faults.Fault.TheVariants.{Usage, Absent, N
 use Rattle.error_lines.specs.Faults.{IsOutside, HasCauses, fault_status, status_of}
 use Rattle.error_lines.specs.Texts.{line_of}
 use Rattle.gdal_cli.specs.Run.{ended, Ends, Answers, AreTold}
-use Rattle.error_lines.specs.Steps.{Step, Done, prints, printed, warned, published, applied, cut, IsFirstPart, AreDone, Goes}
+use Rattle.error_lines.specs.Steps.{Step, Done, prints, printed, warned, applied, cut, IsFirstPart, AreDone, Goes}
 use Rattle.gdal_cli.proofs.Cuts.{cut_none, cut_warned, cut_whole, prints_cut, prints_done}
 
 -- a fault of the outside ends a run with status 2 or 3

@@ -1,5 +1,5 @@
 -- Runs that print, and do nothing else.
-use Rattle.std.proofs.Common.{◌≡◌, ◌∙◌, ap, refl, ℕ, ℤ, Bool, true, false, List, [], ◌∷◌, ◌++◌, map, Result, Ok, Err, Option, Some, None}
+use Rattle.std.proofs.Common.{◌≡◌, refl, ℕ, ℤ, Bool, true, false, List, [], ◌∷◌, ◌++◌, map, Result, Ok, Err, Option, Some, None}
 use Rattle.lists_and_answers.specs.Answers.{◌>>=◌}
 use Rattle.outside.specs.Outside.{Files}
 use Rattle.catalog.specs.declared.faults.WalkFault.{WalkFault}
@@ -15,7 +15,6 @@ use Rattle.error_lines.specs.Faults.{by_walk}
 use Rattle.gdal_cli.specs.declared.asked.Asked.{Asked}
 use Rattle.gdal_cli.specs.Location.{answers, asked_in, line_text, point_text}
 use Rattle.error_lines.specs.Steps.{Step, Prints, Warns, Publishes, Done, prints, publishes, warned}
-use Rattle.geotransform.specs.declared.types.Size.{Size}
 use Rattle.translate_plan.specs.Plan.{Planned}
 use Rattle.write_back.specs.Plans.{output_of}
 use Rattle.output_copies.specs.Steps.{translation_steps, unless_quiet, size_line, progress, progress_end, files_by, raster_of}

@@ -13,7 +13,6 @@ use Rattle.catalog.specs.Walk.{walked, number_of, IsWalked}
 use Rattle.catalog.proofs.Found.{found}
 use Rattle.catalog.specs.declared.faults.WalkFault.{WalkFault}
 use Rattle.translate_plan.specs.Options.{Options}
-use Rattle.translate_plan.specs.declared.options.Driver.{Driver}
 use Rattle.translate_plan.specs.Plan.{Planned, plan_of, fits_in}
 use Rattle.translate_plan.specs.Bands.{all_known, count_of, asked_bands}
 use Rattle.translate_plan.specs.Window.{asked_in, window_in, inside_in, sides_of, size_in}
@@ -28,7 +27,7 @@ use Rattle.gdal_cli.specs.Faults.{by_plan}
 use Rattle.gdal_cli.specs.Published.{names_written, unless_read}
 use Rattle.gdal_cli.specs.Work.{Work, Translates, translate_judged, carried_out}
 use Rattle.gdal_cli.proofs.Bound.{bind_is, ok_same}
-use Rattle.gdal_cli.proofs.Ended.{walk_fails, choice}
+use Rattle.gdal_cli.proofs.Ended.{walk_fails}
 use Rattle.gdal_cli.proofs.Outcomes.{goes_nowhere}
 use Rattle.gdal_cli.proofs.Reached.{told_of, walked_read}
 

@@ -1,7 +1,6 @@
 -- The names that a translation publishes.
-use Rattle.std.proofs.Common.{◌≡◌, ◌∙◌, ap, sym, subst, refl, ◌⊎◌, inl, inr, ◌<◌, true, false, ℕ, Bool, List, [], ◌∷◌, length, Result, Ok, Err, Option, Some, None, option_map, cond, Contains, arith}
+use Rattle.std.proofs.Common.{◌≡◌, ◌∙◌, ap, refl, ◌⊎◌, inl, inr, true, false, ℕ, Bool, List, [], ◌∷◌, Result, Ok, Err, Option, Some, None, option_map, cond, Contains, arith}
 use Rattle.std.proofs.lemmas.List.Elements.{Contains-get_or, Contains-append_right}
-use Rattle.lists_and_answers.specs.Answers.{◌>>=◌}
 use Rattle.outside.specs.Names.{extension_of, is_raw}
 use Rattle.outside.specs.declared.name.Ext.{Ext}
 use Rattle.outside.specs.declared.name.Ext.TheVariants as ext
@@ -12,7 +11,7 @@ use Rattle.translate_plan.specs.declared.options.Driver.TheVariants as driver
 use Rattle.write_back.specs.Plans.{driver_of}
 use Rattle.error_lines.specs.declared.faults.Fault.{Fault}
 use Rattle.error_lines.specs.declared.faults.Fault.TheVariants.{SameName}
-use Rattle.gdal_cli.specs.Published.{names_written, is_read, unless_own, unless_read, IsNamed}
+use Rattle.gdal_cli.specs.Published.{is_read, unless_own, unless_read, IsNamed}
 use Rattle.command_words.specs.declared.command.Job.TheVariants.{Translate}
 use Rattle.gdal_cli.specs.Run.{names_published}
 use Rattle.gdal_cli.proofs.Bound.{one_refused}

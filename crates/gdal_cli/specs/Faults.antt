@@ -1,5 +1,5 @@
 -- Faults of words and of plans as those of a run, and the faults that its parts may end with.
-use Rattle.std.specs.Prelude.{ℕ, ◌≡◌, Result, Ok, Err}
+use Rattle.std.specs.Prelude.{◌≡◌, Result, Ok, Err}
 use Rattle.geotransform.specs.declared.faults.PlanFault.{PlanFault}
 use Rattle.catalog.specs.declared.faults.LimitKind.TheVariants.{Points}
 use Rattle.command_words.specs.declared.spoken.WordFault.{WordFault}

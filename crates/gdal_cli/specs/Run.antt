@@ -1,5 +1,5 @@
 -- What is promised of a run of the program.
-use Rattle.std.specs.Prelude.{ℕ, ℤ, ◌≡◌, ◌⊎◌, ◌≤◌, Bool, true, false, List, [], ◌++◌, Contains, Option, Some, None, Result, Ok, Err}
+use Rattle.std.specs.Prelude.{ℕ, ◌≡◌, ◌⊎◌, Bool, true, false, List, [], ◌++◌, Contains, Option, Some, None, Result, Ok, Err}
 use Rattle.outside.specs.Outside.{Files}
 use Rattle.outside.specs.Causes.{Rose}
 use Rattle.outside.specs.Streams.{Gets, GetsPart}

@@ -16,7 +16,6 @@ use Rattle.output_copies.specs.Steps.{translation_steps}
 use Rattle.error_lines.specs.declared.faults.Fault.{Fault}
 use Rattle.error_lines.specs.Faults.{by_walk}
 use Rattle.gdal_cli.specs.declared.asked.Asked.{Asked}
-use Rattle.command_words.specs.declared.command.Command.{Command}
 use Rattle.command_words.specs.declared.command.Job.{Job}
 use Rattle.command_words.specs.declared.command.Job.TheVariants.{Info, Locate, Translate}
 use Rattle.gdal_cli.specs.Faults.{by_plan, by_words}

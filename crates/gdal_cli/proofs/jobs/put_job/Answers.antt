@@ -1,10 +1,9 @@
-use Rattle.std.proofs.Common.{◌≡◌, rules, ◌∙◌, ap, List, ℕ, [], refl, subst, sym}
+use Rattle.std.proofs.Common.{rules, ◌∙◌, ap, refl, subst, sym}
 use Rattle.input_points.specs.Entries.{entries}
-use Rattle.error_lines.specs.Steps.{Done, Goes}
 use Rattle.command_words.specs.declared.command.Job.{Job}
 use Rattle.gdal_cli.specs.Published.{IsNamedJob}
 use Rattle.gdal_cli.specs.Run.{names_published}
-use Rattle.gdal_cli.specs.Work.{judged_by, translate_judged, carried_out}
+use Rattle.gdal_cli.specs.Work.{judged_by, carried_out}
 use Rattle.gdal_cli.proofs.Ended.{stops_same}
 use Rattle.gdal_cli.proofs.Outcomes.{goes_as, same_goes}
 use Rattle.gdal_cli.proofs.Printing.{info_prints, location_prints}

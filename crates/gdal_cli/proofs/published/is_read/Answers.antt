@@ -1,6 +1,4 @@
-use Rattle.std.proofs.Common.{◌≡◌, ◌∙◌, Some, sym, subst, inl, inr, arith}
-use Rattle.std.specs.Prelude.{slice_get}
-use Rattle.std.proofs.lemmas.Bool.{cases_lt}
+use Rattle.std.proofs.Common.{◌∙◌, sym, arith}
 use Rattle.catalog.specs.Drivers.{Dataset}
 use Rattle.strip_copies.proofs.Cells.{any_found, any_missed}
 use Rattle.gdal_cli.specs.Published.{is_own}

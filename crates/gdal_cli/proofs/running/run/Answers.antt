@@ -1,11 +1,10 @@
-use Rattle.std.proofs.Common.{◌≡◌, ◌∙◌, ◌⊎◌, ◌≤◌, ap, map, string_bytes, sym, subst, ℕ, List, Option, Some}
+use Rattle.std.proofs.Common.{◌≡◌, ◌∙◌, ◌⊎◌, ◌≤◌, ap, map, string_bytes, sym, subst, ℕ, Option, Some}
 use Rattle.std.specs.Prelude.{IfOk, IfSome}
 use Rattle.input_points.specs.Entries.{entries}
 use Rattle.error_lines.specs.declared.faults.Fault.{Fault}
 use Rattle.error_lines.specs.declared.faults.Fault.TheVariants.{InputFault, Memory}
 use Rattle.error_lines.specs.Faults.{status_of}
 use Rattle.gdal_cli.specs.Run.{Answers, AreTold, MayEnd, IsRefusal}
-use Rattle.error_lines.specs.Steps.{Step}
 use Rattle.command_words.specs.Words.{words_of}
 use Rattle.gdal_cli.specs.Work.{judged, run_of}
 use Rattle.gdal_cli.proofs.Causes.{command_may}

@@ -1,9 +1,8 @@
-use Rattle.std.proofs.Common.{◌≡◌, ◌∙◌, ◌⊎◌, ap, false, refl, sym, subst, List, ℕ, Result, Ok, Err, Option, Some, option_map}
+use Rattle.std.proofs.Common.{◌≡◌, ◌∙◌, ◌⊎◌, ap, false, refl, sym, subst, List, Result, Ok, Err, Some, option_map}
 use Rattle.std.specs.Prelude.{IfErr}
 use Rattle.std.proofs.lemmas.Option.{slice_get_within}
 use Rattle.outside.specs.Names.{extension_of}
 use Rattle.catalog.specs.Outcomes as outcomes
-use Rattle.catalog.specs.Dataset.{DatasetHead}
 use Rattle.catalog.specs.Drivers.{Dataset}
 use Rattle.catalog.specs.Walk.{walked}
 use Rattle.catalog.proofs.Found.{found}
@@ -112,4 +111,4 @@ pub returns-clause-changed : goal.returns-clause-changed
 returns-clause-changed g c =
     let d = found c.open_all.new.cat c.args.src.now c.in_ok-id.id c.in_ok-id.ensures.number in
     has_changed (g.F.Folder.names c.args.folder.now) c.write_output.result c.write_output.ensures.differs (λ m is.
-        goes_unchanged _ m c.write_output.result _ _ _ refl (c.write_output.ensures.told m (c.in_ok-id.ensures.names ∙ is) d.dataset d.at))
+    goes_unchanged _ m c.write_output.result _ _ _ refl (c.write_output.ensures.told m (c.in_ok-id.ensures.names ∙ is) d.dataset d.at))
