@@ -4,7 +4,7 @@ ghost use Rattle.outside.specs.Outside.{Files};
 ghost use Rattle.outside.specs.Streams.{Gets, GetsPart};
 ghost use Rattle.nearest_window.specs.Right.{IsReady};
 ghost use Rattle.strip_copies.specs.Copies.{IsRoomFor, IsTranslation};
-ghost use Rattle.strip_copies.specs.Heights.{is_tall, strip_height};
+ghost use Rattle.strip_copies.specs.Heights.{lines_copied};
 ghost use Rattle.output_copies.specs.Copying.{spoken, IsFilled, MayEnd};
 ghost use Rattle.output_copies.specs.Steps.{progress};
 
@@ -130,7 +130,7 @@ pub fn copy_all<F: Folder, O: Sink, L: Ledger, W: Ledger>(
     requires translation { IsTranslation translation.now.cat translation.now.id translation.now.plan }
     requires ready { IsReady F.Folder folder.old translation.now.cat copier.old.reader.pixels.lane }
     requires room { IsRoomFor translation.now.cat translation.now.id translation.now.plan copier.old.reader.columns copier.old.reader.samples.items }
-    requires long { translation.now.plan.size.w * strip_height (is_tall translation.now.cat translation.now.plan.driver) translation.now.plan.size.w ≤ length samples.old }
+    requires long { translation.now.plan.size.w * lines_copied translation.now.cat translation.now.plan ≤ length samples.old }
     requires filled { IsFilled (F.names folder.old) translation.now.cat translation.now.id translation.now.plan target.old 0 0 0 }
     ensures filled { OnOk result (IsFilled (F.names folder.new) translation.now.cat translation.now.id translation.now.plan target.new translation.now.plan.size.h translation.now.plan.size.h 0) }
     ensures name { target.new.name ≡ target.old.name }

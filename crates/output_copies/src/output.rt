@@ -8,7 +8,7 @@ ghost use Rattle.nearest_window.specs.Right.{IsFresh};
 ghost use Rattle.translate_plan.specs.declared.options.Driver.TheVariants.{Vrt};
 ghost use Rattle.write_back.specs.Plans.{output_of, IsNamedFor};
 ghost use Rattle.strip_copies.specs.Copies.{IsRoomFor, IsTranslation};
-ghost use Rattle.strip_copies.specs.Heights.{is_tall, strip_height};
+ghost use Rattle.strip_copies.specs.Heights.{lines_copied};
 ghost use Rattle.error_lines.specs.Faults.{Differs, HasCauses, IsOfReading};
 ghost use Rattle.error_lines.specs.Steps.{all_done, publishes, Goes};
 ghost use Rattle.output_copies.specs.Copying.{IsFilled, MayEnd};
@@ -60,7 +60,7 @@ fn copier_for<F: Folder, L: Ledger, W: Ledger>(
 
 // Room for the lines of a strip of one band.
 fn room_for(translation: &Translation) -> Result<Vec<Sample>, Fault>
-    ensures long { IfOk result (λ samples. translation.now.plan.size.w * strip_height (is_tall translation.now.cat translation.now.plan.driver) translation.now.plan.size.w ≤ length samples.items) }
+    ensures long { IfOk result (λ samples. translation.now.plan.size.w * lines_copied translation.now.cat translation.now.plan ≤ length samples.items) }
     ensures memory { IfErr result (λ f. f ≡ Fault.Memory) }
 {
     let plan = &translation.plan;

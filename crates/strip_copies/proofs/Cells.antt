@@ -1,4 +1,4 @@
--- Whether some dataset is a cell.
+-- Whether some dataset is cut so.
 use Rattle.std.proofs.Common.{◌≡◌, ◌∙◌, ℕ, ◌<◌, Bool, true, false, List, Some, ap, inl, inr, length, arith}
 use Rattle.std.specs.Prelude.{slice_get}
 use Rattle.std.specs.List.{list_any}

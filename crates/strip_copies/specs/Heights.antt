@@ -1,12 +1,16 @@
 -- How many lines are copied at a time.
-use Rattle.std.specs.Prelude.{ℕ, ◌/◌, min, Bool, true, false, List}
+use Rattle.std.specs.Prelude.{ℕ, ◌/◌, min, Bool, true, false, List, if◌then◌else◌}
 use Rattle.std.specs.List.{list_any}
 use Rattle.catalog.specs.Drivers.{Dataset}
 use Rattle.catalog.specs.declared.kind.Kind.{Kind}
 use Rattle.catalog.specs.declared.kind.Kind.TheVariants as kinds
 use Rattle.translate_plan.specs.declared.options.Driver.{Driver}
 use Rattle.translate_plan.specs.declared.options.Driver.TheVariants.{EHdr, Dted, SrtmHgt, AaiGrid, Vrt}
+use Rattle.translate_plan.specs.Plan.{Planned}
+use Rattle.strip_copies.specs.declared.height.BlockShape.{BlockShape}
+use Rattle.strip_copies.specs.declared.height.BlockShape.TheVariants.{Columns, Squares}
 
+-- datasets whose blocks are whole columns are cells, and those whose blocks are squares are mosaics
 abbrev pub is_cell : Kind → Bool
 is_cell kinds.Raw = false
 is_cell kinds.Dted = true
@@ -14,19 +18,37 @@ is_cell kinds.Hgt = false
 is_cell kinds.Ascii = false
 is_cell kinds.Vrt = false
 
--- some dataset is a DTED cell
-abbrev pub has_cell : List Dataset → Bool
-has_cell cat = list_any (λ (d : Dataset). is_cell d.head.kind) cat
+abbrev pub is_mosaic : Kind → Bool
+is_mosaic kinds.Raw = false
+is_mosaic kinds.Dted = false
+is_mosaic kinds.Hgt = false
+is_mosaic kinds.Ascii = false
+is_mosaic kinds.Vrt = true
+
+abbrev pub is_cut_in : BlockShape → Kind → Bool
+is_cut_in Columns kind = is_cell kind
+is_cut_in Squares kind = is_mosaic kind
+
+-- some dataset is cut into such blocks
+abbrev pub has_blocks : BlockShape → List Dataset → Bool
+has_blocks shape cat = list_any (λ (d : Dataset). is_cut_in shape d.head.kind) cat
 
 -- strips are as tall as they can be: the source is made of cells, or the output is one
 abbrev pub is_tall : List Dataset → Driver → Bool
-is_tall cat EHdr = has_cell cat
+is_tall cat EHdr = has_blocks Columns cat
 is_tall cat (Dted level) = true
-is_tall cat SrtmHgt = has_cell cat
-is_tall cat AaiGrid = has_cell cat
-is_tall cat Vrt = has_cell cat
+is_tall cat SrtmHgt = has_blocks Columns cat
+is_tall cat AaiGrid = has_blocks Columns cat
+is_tall cat Vrt = has_blocks Columns cat
 
--- the lines of a strip of so many columns, from 1 to 4,194,304: at most 4,194,304 samples, and 32 lines where it isn't tall
-abbrev pub strip_height : Bool → ℕ → ℕ
-strip_height true width = 4194304 / width
-strip_height false width = min 32 (4194304 / width)
+-- the most lines of a strip: those of a square where the source is a mosaic, and 32 where it is a file of lines
+abbrev pub most_lines : List Dataset → Driver → ℕ
+most_lines cat driver = if is_tall cat driver then 4194304 else (if has_blocks Squares cat then 128 else 32)
+
+-- the lines of a strip of so many columns, from 1 to 4,194,304: at most 4,194,304 samples
+abbrev pub strip_height : ℕ → ℕ → ℕ
+strip_height most width = min most (4194304 / width)
+
+-- the lines of an output that are copied at a time
+abbrev pub lines_copied : List Dataset → Planned → ℕ
+lines_copied cat p = min (strip_height (most_lines cat p.driver) p.size.w) p.size.h

@@ -1,69 +1,115 @@
 // How many lines are copied at a time.
 ghost use Rattle.std.specs.Prelude.{◌≡◌, ◌<◌, ◌≤◌, ◌*◌, Some, length, slice_get};
 ghost use Rattle.catalog.specs.Drivers.{Dataset};
-ghost use Rattle.strip_copies.specs.Heights.{has_cell, is_cell, is_tall, strip_height};
+ghost use Rattle.strip_copies.specs.Heights.{has_blocks, is_cell, is_cut_in, is_mosaic, is_tall, lines_copied, most_lines, strip_height};
 
 use crate::reading::Translation;
 use catalog::{Catalog, Kind};
 use translate_plan::Driver;
 
-/// The lines of a strip of so many columns. It has 4,194,304 samples at most, or one line.
-pub fn height_of(tall: bool, width: u32) -> u32
+/// How a dataset's blocks lie, where they are taller than a line.
+#[derive(Clone, Copy)]
+pub enum BlockShape {
+    /// Whole columns, as in a DTED cell.
+    Columns,
+    /// Squares of 128 pixels, as in a mosaic.
+    Squares,
+}
+
+/// The lines of a strip of so many columns, at most so many. It has 4,194,304 samples at most, or one line.
+pub fn height_of(most: u32, width: u32) -> u32
+    requires any { 1 ≤ most }
     requires some { 0 < width }
     requires most { width ≤ 4194304 }
-    ensures height { result ≡ strip_height tall width }
+    ensures height { result ≡ strip_height most width }
     ensures least { 1 ≤ result }
     ensures bound { width * result ≤ 4194304 }
 {
     let lines = 4_194_304 / width;
-    if tall { lines } else { lines.min(32) }
+    lines.min(most)
 }
 
-// Whether a dataset of the catalog is a DTED cell.
-fn is_cell_at(cat: &Catalog, id: u32) -> bool
-    requires known { id < length cat.now }
-    ensures cell { (d : Dataset) → slice_get cat.now id ≡ Some d → result ≡ is_cell d.head.kind }
+// Whether datasets of a kind are cells.
+fn is_cell(kind: Kind) -> bool
+    ensures cell { result ≡ is_cell kind }
 {
-    let head = cat.head(id);
-    match head.kind {
+    match kind {
         Kind::Dted => true,
         Kind::Raw | Kind::Hgt | Kind::Ascii | Kind::Vrt => false,
     }
 }
 
-// Whether some dataset of the catalog is one.
-fn has_cell(cat: &Catalog) -> bool
-    ensures cell { result ≡ has_cell cat.now }
+// Whether they are mosaics.
+fn is_mosaic(kind: Kind) -> bool
+    ensures mosaic { result ≡ is_mosaic kind }
+{
+    match kind {
+        Kind::Vrt => true,
+        Kind::Raw | Kind::Dted | Kind::Hgt | Kind::Ascii => false,
+    }
+}
+
+// Whether a dataset of the catalog is cut into such blocks.
+fn is_cut_at(cat: &Catalog, id: u32, shape: BlockShape) -> bool
+    requires known { id < length cat.now }
+    ensures cut { (d : Dataset) → slice_get cat.now id ≡ Some d → result ≡ is_cut_in shape d.head.kind }
+{
+    let head = cat.head(id);
+    match shape {
+        BlockShape::Columns => is_cell(head.kind),
+        BlockShape::Squares => is_mosaic(head.kind),
+    }
+}
+
+// Whether some dataset of the catalog is.
+fn has_blocks(cat: &Catalog, shape: BlockShape) -> bool
+    ensures blocks { result ≡ has_blocks shape cat.now }
 {
     for id in 0..cat.count() {
-        if is_cell_at(cat, id) {
+        if is_cut_at(cat, id, shape) {
             return true;
         }
     }
     false
 }
 
-/// Whether strips are as tall as they can be: the walk met a DTED cell, or the output is one, whose columns would be
-/// read or written again for every strip.
-pub fn is_tall(translation: &Translation) -> bool
+// Whether strips are as tall as they can be: the walk met a DTED cell, or the output is one, whose columns would be
+// read or written again for every strip.
+fn is_tall(translation: &Translation) -> bool
     ensures tall { result ≡ is_tall translation.now.cat translation.now.plan.driver }
 {
     let plan = &translation.plan;
     match plan.driver {
         Driver::Dted { .. } => true,
         Driver::EHdr | Driver::SrtmHgt | Driver::AaiGrid | Driver::Vrt => {
-            has_cell(&translation.cat)
+            has_blocks(&translation.cat, BlockShape::Columns)
         }
     }
 }
 
-/// How many lines of the output are copied at a time.
+/// The most lines of a strip: as many as a square of a mosaic has, so that it isn't made again for each of its lines,
+/// and 32 of a file of lines.
+pub fn most_lines(translation: &Translation) -> u32
+    ensures most { result ≡ most_lines translation.now.cat translation.now.plan.driver }
+    ensures some { 1 ≤ result }
+{
+    if is_tall(translation) {
+        4_194_304
+    } else if has_blocks(&translation.cat, BlockShape::Squares) {
+        128
+    } else {
+        32
+    }
+}
+
+/// How many lines of the output are copied at a time: those of a strip, or all that there are.
 pub fn strip_height(translation: &Translation) -> u32
-    ensures height { result ≡ strip_height (is_tall translation.now.cat translation.now.plan.driver) translation.now.plan.size.w }
+    ensures height { result ≡ lines_copied translation.now.cat translation.now.plan }
     ensures some { 1 ≤ result }
     ensures bound { translation.now.plan.size.w * result ≤ 4194304 }
 {
     let plan = &translation.plan;
     plan.rules();
-    height_of(is_tall(translation), plan.size.w)
+    let lines = height_of(most_lines(translation), plan.size.w);
+    lines.min(plan.size.h)
 }

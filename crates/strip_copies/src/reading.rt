@@ -16,7 +16,7 @@ ghost use Rattle.strip_copies.specs.Copies.{lines_rect, AreOf, IsPart, IsRoomFor
 ghost use Rattle.strip_copies.specs.Rows.{strip_rect, AreColumns, IsHeldIn, IsMaking};
 
 use crate::columns::Columns;
-use crate::height::{height_of, is_tall};
+use crate::height::{height_of, most_lines};
 use crate::holding::Holding;
 use crate::making::{Making, area, make_lines};
 use crate::spans::{Run, run_from};
@@ -55,7 +55,8 @@ pub struct StripReader<F: Folder, L: Ledger> {
 }
 
 // How many lines of the source are read at a time into the room for them, at least one.
-fn room_height(tall: bool, columns: u32, lines: u32) -> u32
+fn room_height(most: u32, columns: u32, lines: u32) -> u32
+    requires any { 1 ≤ most }
     requires columns { columns ≤ 4194304 }
     requires lines { 1 ≤ lines }
     ensures some { 1 ≤ result }
@@ -64,7 +65,7 @@ fn room_height(tall: bool, columns: u32, lines: u32) -> u32
     if columns == 0 {
         return 1;
     }
-    height_of(tall, columns).min(lines)
+    height_of(most, columns).min(lines)
 }
 
 impl<F: Folder, L: Ledger> StripReader<F, L> {
@@ -90,7 +91,7 @@ impl<F: Folder, L: Ledger> StripReader<F, L> {
         let loads = Steps::open(blank);
         let size = source_size(translation);
         let columns = Columns::new(alloc, &translation.plan, size.w)?;
-        let lines = room_height(is_tall(translation), columns.count, size.h);
+        let lines = room_height(most_lines(translation), columns.count, size.h);
         let samples = vec![in alloc; 0; area(columns.count, lines)]?;
         let lane = Lane::new(alloc, capacity)?;
         let pixels = PixelReader { lane, loads };

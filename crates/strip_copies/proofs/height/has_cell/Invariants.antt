@@ -1,9 +1,0 @@
-use Rattle.std.proofs.Common.{◌≡◌, ◌<◌, ℕ, Some, false}
-use Rattle.std.specs.Prelude.{slice_get}
-use Rattle.catalog.specs.Drivers.{Dataset}
-use Rattle.strip_copies.specs.Heights.{is_cell}
-use Rattle.strip_copies.proofs.height.has_cell.Given as goal
-
--- no cell so far
-abbrev pub invariant-loop-id : goal.invariant-loop-id
-invariant-loop-id l = (i : ℕ) (d : Dataset) → i < l.id → slice_get l.cat i ≡ Some d → is_cell d.head.kind ≡ false
