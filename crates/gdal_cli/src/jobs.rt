@@ -153,7 +153,8 @@ fn put_location<F: Folder, I: Input, O: Sink>(
     )
 }
 
-/// Does a job: judges the files that it names, and then puts its texts and publishes its files.
+/// Does a job: judges the files that it names, and then puts its texts and publishes its files. The extension of an
+/// output's name is one of its driver.
 ///
 /// Each refusal comes where the files are judged, before anything is put, but for BadPoint and the limit of points, which
 /// come at their line of the input. FolderFault, InputFault and OutFault come only where the count of the folder, of the

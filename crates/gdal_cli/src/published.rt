@@ -68,7 +68,8 @@ fn unless_own(alloc: Global, cat: &Catalog, name: &Name) -> Result<(), Fault>
     Ok(())
 }
 
-/// Refuses the first name of the output that is that of an own file of a dataset of the catalog.
+/// SameName comes exactly with the first name of the output that is that of an own file of a dataset of the catalog,
+/// Memory freely.
 pub fn unless_read(alloc: Global, cat: &Catalog, options: &TranslateOptions) -> Result<(), Fault>
     requires named { IsNamed options.now }
     ensures gives { Gives (λ f. f ≡ Fault.Memory) (λ done. done) result (unless_read cat.now (names_written options.now)) }

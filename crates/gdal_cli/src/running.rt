@@ -56,8 +56,8 @@ fn ended(end: Result<(), Fault>) -> Option<Fault>
 }
 
 /// Does all that the program does: reads the words behind the program's name, does what they ask
-/// for over the files of the folder and the lines of the input, prints on `out`, and tells a fault
-/// on `err`. It answers for every list of words.
+/// for over the files of the folder and the lines of the input, prints on `out`, publishes files in
+/// the folder, and tells a fault on `err`. It answers for every list of words.
 pub fn run<R: Threads + Sync, F: Folder, I: Input, O: Sink, E: Sink>(
     _rt: &R,
     alloc: Global,

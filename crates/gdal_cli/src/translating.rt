@@ -30,7 +30,12 @@ pub struct Way {
     pub quiet: bool,
 }
 
-/// Walks from a dataset, plans its output and sees that this is no file that is read, and then does the work.
+/// Walks from a dataset, plans its output, sees that no name of this is that of a file that is read, and then does the
+/// work. The extension of the output's name is one of its driver.
+///
+/// The refusals of the walk come first, then Plan, then SameName with the first such name, all before anything is put or
+/// published. FolderFault and OutFault come only where the count of the folder and of the output rose, Changed only over
+/// a folder that doesn't tell its names, Memory freely.
 #[tactic(auto, unfolding(crate::specs::Work::translate_judged))]
 pub fn put_translation<F: Folder, O: Sink>(
     alloc: Global,
