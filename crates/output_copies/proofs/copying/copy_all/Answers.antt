@@ -5,7 +5,7 @@ use Rattle.outside.specs.Streams.{Gets, GetsPart}
 use Rattle.error_lines.specs.declared.faults.Fault.{Fault}
 use Rattle.output_copies.specs.Copying.{spoken, IsFilled}
 use Rattle.output_copies.specs.Steps.{progress}
-use Rattle.output_copies.proofs.Ends.{ends_after, ends_so, err_is}
+use Rattle.output_copies.proofs.Ends.{ends_after, ends_beside, ends_so, err_is}
 use Rattle.output_copies.proofs.Told.{told_none, told_so_far}
 use Rattle.output_copies.proofs.copying.copy_all.Goals as goal
 
@@ -41,6 +41,14 @@ pub returns-in_err-copy_strip-clause-err : goal.returns-in_err-copy_strip-clause
 returns-in_err-copy_strip-clause-err g c =
     subst (λ (r : Result (Unit {0}) Fault). OnErr r (GetsPart (spoken c.args.quiet progress) (g.O.Sink.got c.args.out.now) (g.O.Sink.got c.loop-line.out))) (sym (err_is c.from_residual-in_err-copy_strip.result c.in_err-copy_strip.field-0.0 c.from_residual-in_err-copy_strip.ensures))
     (told_so_far c.args.quiet progress c.loop-line.told (g.O.Sink.got c.args.out.now) (g.O.Sink.got c.loop-line.out) c.loop-line.invariant.text)
+
+pub returns-in_err-copy_strip-clause-ends : goal.returns-in_err-copy_strip-clause-ends
+returns-in_err-copy_strip-clause-ends g c =
+    let told = g.F.Folder.names c.args.folder.now in
+    let before = c.loop-line.invariant in
+    ends_so told _ _ _ _ c.in_err-copy_strip.field-0.0 c.from_residual-in_err-copy_strip.result (err_is c.from_residual-in_err-copy_strip.result c.in_err-copy_strip.field-0.0 c.from_residual-in_err-copy_strip.ensures)
+    (ends_after told (g.F.Folder.names c.loop-line.folder) (g.F.Folder.faults c.args.folder.now) (g.F.Folder.faults c.loop-line.folder) (g.F.Folder.faults c.copy_strip.new.folder) (g.O.Sink.faults c.args.out.now) (g.O.Sink.faults c.loop-line.out) (g.O.Sink.faults c.loop-line.out) (Err c.in_err-copy_strip.field-0.0) before.names before.folder_later before.out_later
+    (ends_beside (g.F.Folder.names c.loop-line.folder) (g.F.Folder.faults c.loop-line.folder) (g.F.Folder.faults c.copy_strip.new.folder) (g.O.Sink.faults c.loop-line.out) (Err c.in_err-copy_strip.field-0.0) c.in_err-copy_strip.ensures.ends))
 
 pub returns-in_err-told-2-clause-err : goal.returns-in_err-told-2-clause-err
 returns-in_err-told-2-clause-err g c =

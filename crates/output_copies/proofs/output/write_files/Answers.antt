@@ -4,7 +4,7 @@ use Rattle.error_lines.specs.Steps.{all_done, publishes, Goes}
 use Rattle.write_back.specs.Plans.{output_of}
 use Rattle.output_copies.specs.Copying.{MayEnd}
 use Rattle.output_copies.specs.Steps.{files_by, progress, raster_of, unless_quiet}
-use Rattle.output_copies.proofs.Ends.{ends_after, ends_beside, err_is, outside_memory, outside_target}
+use Rattle.output_copies.proofs.Ends.{ends_after, ends_beside, ends_so, ends_target, err_is, outside_memory, outside_target}
 use Rattle.output_copies.proofs.Goes.{goes_refused, goes_stop, goes_then, spoken_done, spoken_stops}
 use Rattle.output_copies.proofs.Whole.{middle}
 use Rattle.output_copies.proofs.output.write_files.Goals as goal
@@ -24,6 +24,14 @@ returns-in_err-target-clause-goes g c = λ m d told at.
     let t = c.in_err-target.field-0.0 in
     goes_refused (middle c.args.writing.quiet m d c.args.translation.now.plan c.args.writing.name.now) m c.from_residual-in_err-target.result (target_fault_of t) (g.F.Folder.names c.create.new.folder) (g.O.Sink.got c.args.out.now)
     (err_is c.from_residual-in_err-target.result (target_fault_of t) c.from_residual-in_err-target.ensures) (c.create.ensures.names ∙ told) (outside_target t (target_fault_of t) refl)
+
+pub returns-in_err-target-clause-ends : goal.returns-in_err-target-clause-ends
+returns-in_err-target-clause-ends g c =
+    let t = c.in_err-target.field-0.0 in
+    let told = g.F.Folder.names c.args.folder.now in
+    ends_so told _ _ _ _ (target_fault_of t) c.from_residual-in_err-target.result (err_is c.from_residual-in_err-target.result (target_fault_of t) c.from_residual-in_err-target.ensures)
+    (ends_beside {T = Unit {0}} told (g.F.Folder.faults c.args.folder.now) (g.F.Folder.faults c.create.new.folder) (g.O.Sink.faults c.args.out.now) (Err (target_fault_of t))
+    (ends_target t told (g.F.Folder.faults c.args.folder.now) (g.F.Folder.faults c.create.new.folder) c.in_err-target.ensures.cause))
 
 pub copy_all-requires-clause-ready : goal.copy_all-requires-clause-ready
 copy_all-requires-clause-ready g c κs within = c.in_ok-copier.ensures.fresh c.create.new.folder c.args.translation.now.cat (λ m is. c.requires.walked m (sym c.create.ensures.names ∙ is))
