@@ -17,3 +17,4 @@ pub mod Reached
 pub mod Told
 pub mod Translated
 pub mod Unread
+pub mod Warning
