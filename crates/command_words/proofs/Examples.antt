@@ -15,9 +15,10 @@ use Rattle.translate_plan.specs.declared.options.OutSize.TheVariants.{Count, Per
 use Rattle.command_words.specs.declared.command.Job.TheVariants.{Info, Locate, Translate}
 use Rattle.command_words.specs.declared.spoken.WordFault.TheVariants.{Usage}
 use Rattle.command_words.specs.Options.{shared_option_of, own_option_of}
-use Rattle.command_words.specs.Values.{format_of, layout_of, nodata_of}
-use Rattle.command_words.specs.Uses.{config_said, window_said, places_said, outsize_said, band_said, blocks_said, format_said, nodata_said, kind_said, creation_said, placed_said, spoken_of, spoken_in}
-use Rattle.command_words.specs.Jobs.{written_of, asked_of, info_job, locate_job, translate_job}
+use Rattle.command_words.specs.Values.{format_of, layout_of, nodata_of, resolution_named}
+use Rattle.command_words.specs.Said.{config_said, window_said, places_said, outsize_said, band_said, blocks_said, format_said, nodata_said, kind_said, creation_said, resolution_said, pixel_size_said, extent_said, source_nodata_said, mosaic_nodata_said, list_said}
+use Rattle.command_words.specs.Uses.{placed_said, spoken_of, spoken_in}
+use Rattle.command_words.specs.Jobs.{written_of, asked_of, asked_mosaic, info_job, locate_job, translate_job, build_job, synth_job}
 use Rattle.command_words.specs.Words.{command_of, words_of}
 
 -- the last use of an option counts, all bands do, and options stand anywhere
