@@ -1,5 +1,5 @@
 -- What options say by their values.
-use Rattle.std.specs.Prelude.{ℕ, pos, ◌+◌, not, true, List, codes, bytes_eq, slice_get, Option, Some, Result, Ok, Err, ok_or, if◌then◌else◌}
+use Rattle.std.specs.Prelude.{ℕ, pos, ◌+◌, not, true, List, codes, bytes_eq, slice_get, Option, Some, Result, Ok, ok_or, if◌then◌else◌}
 use Rattle.lists_and_answers.specs.Answers.{◌>>=◌}
 use Rattle.geotransform.specs.Decimal.{ticks_of}
 use Rattle.geotransform.specs.Types.{type_named}

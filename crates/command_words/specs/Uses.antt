@@ -21,7 +21,6 @@ use Rattle.command_words.specs.declared.spoken.OutFormat.{OutFormat}
 use Rattle.command_words.specs.declared.spoken.ResolutionWord.{ResolutionWord}
 use Rattle.command_words.specs.declared.spoken.Said.{Said}
 use Rattle.command_words.specs.declared.spoken.Said.TheVariants as said
-use Rattle.command_words.specs.declared.spoken.Spot.{Spot}
 use Rattle.command_words.specs.declared.spoken.Spoken.{Spoken}
 use Rattle.command_words.specs.declared.spoken.Wanted.{Wanted}
 use Rattle.command_words.specs.declared.spoken.WordFault.{WordFault}

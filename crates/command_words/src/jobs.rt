@@ -1,8 +1,8 @@
 // The work that words ask for.
-ghost use Rattle.std.specs.Prelude.{◌≡◌, ◌<◌, ◌≤◌, ℕ, List, All, Bool, IfSome, IfOk, IfErr};
+ghost use Rattle.std.specs.Prelude.{◌≡◌, ◌<◌, ◌≤◌, All, IfSome, IfOk, IfErr};
 ghost use Rattle.lists_and_answers.specs.Answers.{Gives};
 ghost use Rattle.translate_plan.specs.Options.{IsDriver, IsView, IsOutSize};
-ghost use Rattle.buildvrt.specs.Options.{IsBandNumber, IsResolution, IsExtent, IsWord};
+ghost use Rattle.buildvrt.specs.Options.{IsResolution, IsExtent, IsWord};
 ghost use Rattle.command_words.specs.Jobs.{point_of, form_of, raw_in, cell_at, written_as, is_same_format, of_format, written_of, view_of, layout_in, asked_of, info_job, locate_job, translate_job, inputs_of, separate_of, named_resolution, given_resolution, resolution_of, asked_mosaic, build_job, synth_job, job_of};
 ghost use Rattle.command_words.specs.Words.{IsMemory};
 
