@@ -1,2 +1,4 @@
 pub mod Owned
 mod Said
+pub mod Silent
+pub mod Warned

@@ -6,6 +6,8 @@ use Rattle.catalog.specs.Heads.{IsOwnFault}
 use Rattle.catalog.specs.declared.faults.Bad.{Bad}
 use Rattle.catalog.specs.declared.faults.WalkFault.{WalkFault}
 use Rattle.catalog.specs.declared.faults.WalkFault.TheVariants as walk
+use Rattle.buildvrt.specs.declared.faults.BuildFault.{BuildFault}
+use Rattle.buildvrt.specs.declared.faults.BuildFault.TheVariants as build
 use Rattle.band_blocks.specs.declared.load.LoadFault.{LoadFault}
 use Rattle.band_blocks.specs.declared.load.LoadFault.TheVariants as load
 use Rattle.info_report.specs.declared.report.ReportFault.{ReportFault}
@@ -13,9 +15,9 @@ use Rattle.info_report.specs.declared.report.ReportFault.TheVariants as report
 use Rattle.write_back.specs.declared.fault.TargetFault.{TargetFault}
 use Rattle.write_back.specs.declared.fault.TargetFault.TheVariants as target
 use Rattle.error_lines.specs.declared.faults.Fault.{Fault}
-use Rattle.error_lines.specs.declared.faults.Fault.TheVariants.{Usage, Absent, NotRecognized, Malformed, Short, Cycle, TooDeep, Limit, SourceBand, Plan, SameName, BadPoint, Changed, FolderFault, InputFault, OutFault, Memory}
+use Rattle.error_lines.specs.declared.faults.Fault.TheVariants.{Usage, Absent, NotRecognized, Malformed, Short, Cycle, TooDeep, Limit, SourceBand, Plan, Build, SameName, BadPoint, Changed, FolderFault, InputFault, OutFault, Memory}
 
--- a fault of a walk, of a block, of a report and of an output as the run's
+-- a fault of a walk, of a mosaic, of a block, of a report and of an output as the run's
 abbrev pub fault_of : WalkFault → Fault
 fault_of (walk.Absent name) = Absent name
 fault_of (walk.NotRecognized name) = NotRecognized name
@@ -27,6 +29,12 @@ fault_of (walk.Limit what value) = Limit what value
 fault_of (walk.SourceBand name band) = SourceBand name band
 fault_of walk.FolderFault = FolderFault
 fault_of walk.Memory = Memory
+
+abbrev pub build_fault_of : BuildFault → Fault
+build_fault_of build.Nothing = Build build.Nothing
+build_fault_of (build.Strict name why) = Build (build.Strict name why)
+build_fault_of build.Limit = Build build.Limit
+build_fault_of build.Memory = Memory
 
 abbrev pub load_fault_of : LoadFault → Fault
 load_fault_of load.FolderFault = FolderFault
@@ -46,6 +54,11 @@ abbrev pub by_walk : {T : Type 0} → Result T WalkFault → Result T Fault
 by_walk (Ok x) = Ok x
 by_walk (Err f) = Err (fault_of f)
 
+-- what is made of inputs, as the run's answer
+abbrev pub by_build : {T : Type 0} → Result T BuildFault → Result T Fault
+by_build (Ok x) = Ok x
+by_build (Err f) = Err (build_fault_of f)
+
 -- a fault that no definition gives: a call of the outside failed, or memory was refused
 abbrev pub IsOutside : Fault → Type 0
 IsOutside (Usage n) = ⊥
@@ -58,6 +71,7 @@ IsOutside (TooDeep name) = ⊥
 IsOutside (Limit what value) = ⊥
 IsOutside (SourceBand name band) = ⊥
 IsOutside (Plan fault) = ⊥
+IsOutside (Build fault) = ⊥
 IsOutside (SameName name) = ⊥
 IsOutside (BadPoint line) = ⊥
 IsOutside (Changed name was now) = ⊥
@@ -78,6 +92,7 @@ IsLate (TooDeep name) = ⊥
 IsLate (Limit what value) = Unit {0}
 IsLate (SourceBand name band) = ⊥
 IsLate (Plan fault) = Unit {0}
+IsLate (Build fault) = ⊥
 IsLate (SameName name) = ⊥
 IsLate (BadPoint line) = Unit {0}
 IsLate (Changed name was now) = Unit {0}
@@ -98,6 +113,7 @@ IsOfReading (TooDeep name) = ⊥
 IsOfReading (Limit what value) = ⊥
 IsOfReading (SourceBand name band) = ⊥
 IsOfReading (Plan fault) = ⊥
+IsOfReading (Build fault) = ⊥
 IsOfReading (SameName name) = ⊥
 IsOfReading (BadPoint line) = ⊥
 IsOfReading (Changed name was now) = Unit {0}
@@ -118,6 +134,7 @@ fault_status (TooDeep name) = 1
 fault_status (Limit what value) = 1
 fault_status (SourceBand name band) = 1
 fault_status (Plan fault) = 1
+fault_status (Build fault) = 1
 fault_status (SameName name) = 1
 fault_status (BadPoint line) = 1
 fault_status (Changed name was now) = 2
@@ -130,9 +147,10 @@ abbrev pub status_of : Option Fault → ℕ
 status_of None = 0
 status_of (Some fault) = fault_status fault
 
--- a file that is malformed is so by a fault of its own, and not by want of memory
-abbrev pub OwnsFault : Option Fault → Type 0
-OwnsFault fault = (name : List ℕ) (b : Bad) → fault ≡ Some (Malformed name b) → IsOwnFault b
+-- a file that is malformed is so by a fault of its own, and what is made of inputs is refused by one, not for want of memory
+pub record OwnsFault (fault : Option Fault) : Type 0 where
+  pub malformed : (name : List ℕ) (b : Bad) → fault ≡ Some (Malformed name b) → IsOwnFault b
+  pub build : fault ≡ Some (Build build.Memory) → ⊥
 
 -- the counts of a folder and an output don't fall, and each has risen where its fault is answered
 pub record HasCauses {T : Type 0} (folder folder_now out out_now : ℕ) (result : Result T Fault) : Type 0 where

@@ -1,8 +1,9 @@
 -- What a run does, a step at a time, and how far it goes.
-use Rattle.std.specs.Prelude.{ℕ, ◌≡◌, ◌⊎◌, List, [], ◌∷◌, ◌++◌, take, drop, Option, Some, None, Result, Ok, Err}
+use Rattle.std.specs.Prelude.{ℕ, ◌≡◌, ◌≤◌, ◌⊎◌, Bool, true, false, List, [], ◌∷◌, ◌++◌, take, drop, Option, Some, None, Result, Ok, Err}
 use Rattle.std.specs.FinMap.{insert}
 use Rattle.outside.specs.Outside.{Files}
-use Rattle.outside.specs.Streams.{Gets}
+use Rattle.outside.specs.Causes.{Rose}
+use Rattle.outside.specs.Streams.{Gets, GetsPart}
 use Rattle.error_lines.specs.declared.faults.Fault.{Fault}
 use Rattle.error_lines.specs.Faults.{IsOutside}
 
@@ -84,3 +85,16 @@ publishes (file ∷ files) = Publishes file.0 file.1 ∷ publishes files
 abbrev pub Goes : Done → Files → Result (Unit {0}) Fault → Option Files → Option (List ℕ) → Option (List ℕ) → Type 0
 Goes r m (Ok done) names before after = (r.fault ≡ None) × AreDone r.steps m names before after
 Goes r m (Err fault) names before after = ((r.fault ≡ Some fault) × AreDone r.steps m names before after) ⊎ (IsOutside fault × ((part : List Step) × IsFirstPart part r.steps × AreDone part m names before after))
+
+-- The warnings among these steps were put on the error stream: whole where it hasn't failed, and else a first part of
+-- them, where its count of faults rose. The count doesn't fall.
+pub record AreWarned (steps : List Step) (failed : Bool) (faults faults_now : ℕ) (before after : Option (List ℕ)) : Type 0 where
+  pub whole : failed ≡ false → Gets (warned steps) before after
+  pub part : GetsPart (warned steps) before after
+  pub rose : failed ≡ true → Rose faults faults_now
+  pub later : faults ≤ faults_now
+
+-- how far a run went, where what it did is such besides
+abbrev pub GoesWarning : Done → Files → Result (Unit {0}) Fault → Option Files → Option (List ℕ) → Option (List ℕ) → (List Step → Type 0) → Type 0
+GoesWarning r m (Ok done) names before after W = (r.fault ≡ None) × AreDone r.steps m names before after × W r.steps
+GoesWarning r m (Err fault) names before after W = ((r.fault ≡ Some fault) × AreDone r.steps m names before after × W r.steps) ⊎ (IsOutside fault × ((part : List Step) × IsFirstPart part r.steps × AreDone part m names before after × W part))

@@ -14,9 +14,13 @@ use Rattle.catalog.specs.declared.faults.LimitKind.{LimitKind}
 use Rattle.catalog.specs.declared.faults.LimitKind.TheVariants as limits
 use Rattle.catalog.specs.declared.faults.Bad.{Bad}
 use Rattle.catalog.specs.declared.faults.Bad.TheVariants as bad
+use Rattle.buildvrt.specs.declared.faults.Reason.{Reason}
+use Rattle.buildvrt.specs.declared.faults.Reason.TheVariants as reason
+use Rattle.buildvrt.specs.declared.faults.BuildFault.{BuildFault}
+use Rattle.buildvrt.specs.declared.faults.BuildFault.TheVariants as build
 use Rattle.lists_and_answers.specs.Texts.{text}
 use Rattle.error_lines.specs.declared.faults.Fault.{Fault}
-use Rattle.error_lines.specs.declared.faults.Fault.TheVariants.{Usage, Absent, NotRecognized, Malformed, Short, Cycle, TooDeep, Limit, SourceBand, Plan, SameName, BadPoint, Changed, FolderFault, InputFault, OutFault, Memory}
+use Rattle.error_lines.specs.declared.faults.Fault.TheVariants.{Usage, Absent, NotRecognized, Malformed, Short, Cycle, TooDeep, Limit, SourceBand, Plan, Build, SameName, BadPoint, Changed, FolderFault, InputFault, OutFault, Memory}
 
 -- the place of a fault, where it has one
 abbrev pub place_text : Option ℕ → List ℕ
@@ -65,6 +69,28 @@ plan_line plan.Outside = codes "ERROR 5: window outside the raster\n"
 plan_line plan.BandCount = codes "ERROR 6: format takes one band\n"
 plan_line plan.Unfit = codes "ERROR 6: raster doesn't fit the format\n"
 
+-- why an input is skipped
+abbrev pub reason_word : Reason → List ℕ
+reason_word reason.Geotransform = codes "geotransform"
+reason_word reason.Srs = codes "srs"
+reason_word reason.Bands = codes "bands"
+reason_word reason.BandType = codes "type"
+
+-- what is told of an input that is skipped
+abbrev pub skipped_line : List ℕ → List ℕ → Reason → List ℕ
+skipped_line head name why = text (head ∷ name ∷ codes ": skipped (" ∷ reason_word why ∷ codes ")\n" ∷ [])
+
+-- the warning that tells it
+abbrev pub warning_line : List ℕ → Reason → List ℕ
+warning_line name why = skipped_line (codes "Warning 1: ") name why
+
+-- the line of a mosaic that can't be made
+abbrev pub build_line : BuildFault → List ℕ
+build_line build.Nothing = codes "ERROR 1: no input fits\n"
+build_line (build.Strict name why) = skipped_line (codes "ERROR 1: ") name why
+build_line build.Limit = codes "ERROR 6: mosaic too large\n"
+build_line build.Memory = codes "ERROR 2: out of memory\n"
+
 -- the line that tells a fault
 abbrev pub error_line : Fault → List ℕ
 error_line (Usage word) = text (codes "ERROR 1: word " ∷ decimal word ∷ codes " doesn't fit\n" ∷ [])
@@ -77,6 +103,7 @@ error_line (TooDeep name) = text (codes "ERROR 1: " ∷ name ∷ codes ": nested
 error_line (Limit what value) = text (codes "ERROR 6: limit of " ∷ limit_word what ∷ codes " passed (" ∷ decimal value ∷ codes ")\n" ∷ [])
 error_line (SourceBand name band) = text (codes "ERROR 5: " ∷ name ∷ codes ": no band " ∷ decimal band ∷ codes "\n" ∷ [])
 error_line (Plan fault) = plan_line fault
+error_line (Build fault) = build_line fault
 error_line (SameName name) = text (codes "ERROR 1: " ∷ name ∷ codes ": output is an input\n" ∷ [])
 error_line (BadPoint line) = text (codes "ERROR 5: input line " ∷ decimal line ∷ codes " is no point\n" ∷ [])
 error_line (Changed name was now) = text (codes "ERROR 3: " ∷ name ∷ codes ": length changed from " ∷ decimal was ∷ codes " to " ∷ length_text now ∷ codes "\n" ∷ [])

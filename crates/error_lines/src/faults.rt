@@ -1,9 +1,10 @@
 // The answers of a run other than success.
 ghost use Rattle.std.specs.Prelude.{◌≡◌};
-ghost use Rattle.error_lines.specs.Faults.{fault_of, load_fault_of, report_fault_of, target_fault_of};
+ghost use Rattle.error_lines.specs.Faults.{fault_of, build_fault_of, load_fault_of, report_fault_of, target_fault_of};
 ghost use Rattle.error_lines.specs.declared.faults.Fault.TheVariants as fault;
 
 use band_blocks::LoadFault;
+use buildvrt::BuildFault;
 use catalog::{Bad, LimitKind, WalkFault};
 use geotransform::PlanFault;
 use info_report::ReportFault;
@@ -57,6 +58,8 @@ pub enum Fault {
     },
     /// The dataset can't give what is asked of it.
     Plan(PlanFault),
+    /// There is no mosaic of the inputs. It is never want of memory, which is a fault of its own.
+    Build(BuildFault),
     /// The output of this name is a file that is read.
     SameName {
         name: Name,
@@ -97,6 +100,21 @@ impl From<WalkFault> for Fault {
             WalkFault::SourceBand { name, band } => Fault::SourceBand { name, band },
             WalkFault::FolderFault => Fault::FolderFault,
             WalkFault::Memory => Fault::Memory,
+        }
+    }
+}
+
+impl From<BuildFault> for Fault {
+    ghost from_gives = { λ b f. f ≡ build_fault_of b };
+
+    fn from(fault: BuildFault) -> Self {
+        match fault {
+            BuildFault::Nothing => Fault::Build(BuildFault::Nothing),
+            BuildFault::Strict { name, reason } => {
+                Fault::Build(BuildFault::Strict { name, reason })
+            }
+            BuildFault::Limit => Fault::Build(BuildFault::Limit),
+            BuildFault::Memory => Fault::Memory,
         }
     }
 }

@@ -1,5 +1,5 @@
 // How a run ends: its status, and the line of its fault.
-ghost use Rattle.std.specs.Prelude.{◌≡◌, ◌≤◌};
+ghost use Rattle.std.specs.Prelude.{◌≡◌, ◌≤◌, true, false};
 ghost use Rattle.outside.specs.Causes.{Rose};
 ghost use Rattle.outside.specs.Streams.{Gets, GetsPart};
 ghost use Rattle.error_lines.specs.Faults.{status_of};
@@ -25,6 +25,7 @@ fn status(fault: &Option<Fault>) -> u8
             | Fault::Limit { .. }
             | Fault::SourceBand { .. }
             | Fault::Plan(_)
+            | Fault::Build(_)
             | Fault::SameName { .. }
             | Fault::BadPoint { .. },
         ) => 1,
@@ -44,15 +45,19 @@ fn say<E: Sink>(err: &mut E, fault: &Option<Fault>)
     }
 }
 
-/// Tells how a run ended: puts the line of its fault, where there is one. A failing `err` changes nothing else.
-pub fn tell<E: Sink>(err: &mut E, fault: Option<Fault>) -> Outcome
+/// Tells how a run ended: puts the line of its fault, where there is one, on an `err` that hasn't failed yet. A failing
+/// `err` changes nothing else.
+pub fn tell<E: Sink>(err: &mut E, failed: bool, fault: Option<Fault>) -> Outcome
     ensures fault { result.fault ≡ fault }
     ensures status { result.status ≡ status_of fault }
-    ensures whole { (Rose (E.faults err.old) (E.faults err.new) → ⊥) → Gets (line_of fault) (E.got err.old) (E.got err.new) }
-    ensures part { GetsPart (line_of fault) (E.got err.old) (E.got err.new) }
+    ensures whole { failed ≡ false → (Rose (E.faults err.old) (E.faults err.new) → ⊥) → Gets (line_of fault) (E.got err.old) (E.got err.new) }
+    ensures part { failed ≡ false → GetsPart (line_of fault) (E.got err.old) (E.got err.new) }
+    ensures untouched { failed ≡ true → err.new ≡ err.old }
     ensures later { E.faults err.old ≤ E.faults err.new }
 {
-    say(err, &fault);
+    if !failed {
+        say(err, &fault);
+    }
     let status = status(&fault);
     Outcome { status, fault }
 }

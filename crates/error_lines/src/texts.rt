@@ -3,10 +3,12 @@ ghost use Rattle.std.specs.Prelude.{◌≡◌, ◌++◌, [], ◌∷◌, codes, d
 ghost use Rattle.outside.specs.Streams.{Gets, GetsPart};
 ghost use Rattle.outside.specs.Causes.{FailsWith};
 ghost use Rattle.lists_and_answers.specs.Texts.{text};
-ghost use Rattle.error_lines.specs.Texts.{form_line, cell_line_of, bad_line, limit_word, plan_line, error_line};
+ghost use Rattle.buildvrt.specs.declared.faults.BuildFault.TheVariants as build;
+ghost use Rattle.error_lines.specs.Texts.{form_line, cell_line_of, bad_line, limit_word, plan_line, reason_word, build_line, error_line};
 
 use crate::Fault;
 use ascii_grid::GridFault;
+use buildvrt::{BuildFault, Reason};
 use catalog::{Bad, LimitKind};
 use dted_records::DtedFault;
 use geotransform::PlanFault;
@@ -275,6 +277,42 @@ fn put_plan<S: Sink>(sink: &mut S, fault: PlanFault) -> Result<(), Failed>
     }
 }
 
+/// The word for the reason why an input is skipped.
+pub fn reason_word(reason: Reason) -> &'static [u8]
+    ensures { result.now ≡ reason_word reason }
+{
+    match reason {
+        Reason::Geotransform => b"geotransform",
+        Reason::Srs => b"srs",
+        Reason::Bands => b"bands",
+        Reason::BandType => b"type",
+    }
+}
+
+// The line of an input that would be skipped where none may be.
+fn put_strict<S: Sink>(sink: &mut S, name: &Name, reason: Reason) -> Result<(), Failed>
+    ensures ok { OnOk result (Gets (build_line (build.Strict name.now reason)) (S.got sink.old) (S.got sink.new)) }
+    ensures err { OnErr result (GetsPart (build_line (build.Strict name.now reason)) (S.got sink.old) (S.got sink.new)) }
+    ensures cause { FailsWith (S.faults sink.old) (S.faults sink.new) result }
+{
+    let word = reason_word(reason);
+    let name = name.as_str().as_bytes();
+    put_all(sink, &[b"ERROR 1: ", name, b": skipped (", word, b")\n"])
+}
+
+fn put_build<S: Sink>(sink: &mut S, fault: &BuildFault) -> Result<(), Failed>
+    ensures ok { OnOk result (Gets (build_line fault.now) (S.got sink.old) (S.got sink.new)) }
+    ensures err { OnErr result (GetsPart (build_line fault.now) (S.got sink.old) (S.got sink.new)) }
+    ensures cause { FailsWith (S.faults sink.old) (S.faults sink.new) result }
+{
+    match fault {
+        BuildFault::Nothing => sink.put(b"ERROR 1: no input fits\n"),
+        BuildFault::Strict { name, reason } => put_strict(sink, name, *reason),
+        BuildFault::Limit => sink.put(b"ERROR 6: mosaic too large\n"),
+        BuildFault::Memory => sink.put(b"ERROR 2: out of memory\n"),
+    }
+}
+
 /// Puts the line that tells a fault. It takes no memory, so that want of memory can be told too.
 pub fn put_fault<S: Sink>(err: &mut S, fault: &Fault) -> Result<(), Failed>
     ensures ok { OnOk result (Gets (error_line fault.now) (S.got err.old) (S.got err.new)) }
@@ -297,6 +335,7 @@ pub fn put_fault<S: Sink>(err: &mut S, fault: &Fault) -> Result<(), Failed>
         Fault::Limit { what, value } => put_limit(err, *what, *value),
         Fault::SourceBand { name, band } => put_lacking(err, name, *band),
         Fault::Plan(fault) => put_plan(err, *fault),
+        Fault::Build(fault) => put_build(err, fault),
         Fault::SameName { name } => put_name(err, b"ERROR 1: ", name, b": output is an input\n"),
         Fault::BadPoint { line } => put_number(
             err,

@@ -101,3 +101,9 @@ returns-in-InputFault-clause-ok g c = rw c.in-InputFault.is c.put-in-InputFault.
 
 pub returns-in-InputFault-clause-err : goal.returns-in-InputFault-clause-err
 returns-in-InputFault-clause-err g c = rw c.in-InputFault.is c.put-in-InputFault.ensures.err
+
+pub returns-in-Build-clause-ok : goal.returns-in-Build-clause-ok
+returns-in-Build-clause-ok g c = rw c.in-Build.is c.put_build.ensures.ok
+
+pub returns-in-Build-clause-err : goal.returns-in-Build-clause-err
+returns-in-Build-clause-err g c = rw c.in-Build.is c.put_build.ensures.err
