@@ -1,5 +1,5 @@
 // What the words of a command line ask for.
-use crate::numbers::{BandNumber, BlockCount, SynthSide};
+use crate::numbers::{BandNumber, BlockCount};
 use buildvrt::BuildOptions;
 use input_points::Position;
 use lists_and_answers::Items;
@@ -39,10 +39,6 @@ pub enum Job {
         list: Option<Name>,
         options: BuildOptions,
         quiet: bool,
-    },
-    /// Tiles of this side, mosaics of them, and a translation.
-    Synth {
-        n: SynthSide,
     },
 }
 
