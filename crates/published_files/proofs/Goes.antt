@@ -1,12 +1,18 @@
 -- How far the publishing of one text goes.
-use Rattle.std.proofs.Common.{◌≡◌, subst, refl, sym, inl, inr, ℕ, List, [], ◌∷◌, Result, Ok, Err, Option, Some}
+use Rattle.std.proofs.Common.{◌≡◌, ap, subst, refl, sym, inl, inr, ℕ, List, [], ◌∷◌, Result, Ok, Err, Option, Some}
 use Rattle.std.specs.FinMap.{insert}
+use Rattle.std.specs.Result.{IsErr, IsErrAnd}
 use Rattle.outside.specs.Outside.{Files}
 use Rattle.outside.proofs.Sinks.{gets-none}
 use Rattle.error_lines.specs.declared.faults.Fault.{Fault}
 use Rattle.error_lines.specs.Faults.{IsOutside}
 use Rattle.error_lines.specs.Steps.{Publishes, all_done, Goes}
 use Rattle.published_files.specs.Documents.{IsOfFolder}
+
+-- what a refused call hands on
+pub err_is : {U E : Type 0} (r : Result U E) (f : E) → IsErr r × IsErrAnd r (λ e. e ≡ f) → r ≡ Err f
+err_is (Ok x) f h = absurd h.1
+err_is (Err e) f h = ap Err h.1
 
 outside_of : (f : Fault) → IsOfFolder f → IsOutside f
 outside_of f (inl is) = subst IsOutside (sym is) tt
