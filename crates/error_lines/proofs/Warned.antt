@@ -1,7 +1,9 @@
 -- What the error stream gets of steps that are done one after another.
-use Rattle.std.proofs.Common.{◌≡◌, ◌∙◌, refl, sym, ap, subst, ℕ, ◌+◌, ◌≤◌, min, List, [], ◌∷◌, ◌++◌, Option, Bool, true, false, append_assoc, arith}
+use Rattle.std.proofs.Common.{◌≡◌, ◌∙◌, refl, sym, ap, subst, ℕ, ◌+◌, ◌≤◌, min, List, [], ◌∷◌, ◌++◌, Option, Bool, true, false, Result, Ok, Err, append_assoc, arith}
 use Rattle.std.proofs.lemmas.List.{append-nil}
-use Rattle.outside.specs.Causes.{Rose}
+use Rattle.std.specs.Prelude.{is_err, OnOk, OnErr}
+use Rattle.outside.specs.Causes.{Rose, FailsWith}
+use Rattle.outside.specs.declared.folder.Failed.{Failed}
 use Rattle.outside.specs.Streams.{Gets, GetsPart}
 use Rattle.outside.proofs.Sinks.{gets-none, gets-then, gets-then-part, part-first, gets-whole}
 use Rattle.error_lines.specs.Steps.{Step, Prints, Warns, Publishes, AreWarned, warned}
@@ -53,4 +55,36 @@ warned_next steps line true failed_now first faults now start old new w a = reco
   part = subst (λ (t : List ℕ). GetsPart t start new) (sym (warned_last steps line)) (part-first (warned steps) line start new (subst (λ (o : Option (List ℕ)). GetsPart (warned steps) start o) (sym (a.same refl)) w.part));
   rose = λ is. rose_first first faults now (w.rose refl) a.later;
   later = omega (arith, w.later, a.later);
+}
+
+-- the call that puts it, on a stream that hasn't failed
+pub adds_put : (r : Result (Unit {0}) Failed) (line : List ℕ) (failed failed_now : Bool) (faults now : ℕ) (old new : Option (List ℕ)) → failed ≡ false → failed_now ≡ is_err r → OnOk r (Gets line old new) → OnErr r (GetsPart line old new) → FailsWith faults now r → Adds line failed failed_now faults now old new
+adds_put r line true failed_now faults now old new calm is ok err cause = absurd cc
+adds_put (Ok x) line false failed_now faults now old new calm is ok err cause = record {
+  whole = λ on. ok;
+  part = λ on. gets-whole line old new ok;
+  same = λ on. let no : ⊥ = cc in absurd no;
+  stays = λ on. let no : ⊥ = cc in absurd no;
+  rose = λ on off. let no : ⊥ = cc in absurd no;
+  later = cause.later;
+}
+adds_put (Err f) line false failed_now faults now old new calm is ok err cause = record {
+  whole = λ on. let no : ⊥ = cc in absurd no;
+  part = λ on. err;
+  same = λ on. let no : ⊥ = cc in absurd no;
+  stays = λ on. let no : ⊥ = cc in absurd no;
+  rose = λ on off. cause.failed;
+  later = cause.later;
+}
+
+-- none on one that has
+pub adds_nothing : (line : List ℕ) (failed : Bool) (faults : ℕ) (got : Option (List ℕ)) → failed ≡ true → Adds line failed failed faults faults got got
+adds_nothing line false faults got is = absurd cc
+adds_nothing line true faults got is = record {
+  whole = λ on. let no : ⊥ = cc in absurd no;
+  part = λ on. let no : ⊥ = cc in absurd no;
+  same = λ on. refl;
+  stays = λ on. refl;
+  rose = λ on off. let no : ⊥ = cc in absurd no;
+  later = omega arith;
 }

@@ -289,15 +289,20 @@ pub fn reason_word(reason: Reason) -> &'static [u8]
     }
 }
 
-// The line of an input that would be skipped where none may be.
-fn put_strict<S: Sink>(sink: &mut S, name: &Name, reason: Reason) -> Result<(), Failed>
-    ensures ok { OnOk result (Gets (build_line (build.Strict name.now reason)) (S.got sink.old) (S.got sink.new)) }
-    ensures err { OnErr result (GetsPart (build_line (build.Strict name.now reason)) (S.got sink.old) (S.got sink.new)) }
+// What is told of an input that is skipped, from the line's head and the word for the reason.
+pub fn put_skipped<S: Sink>(
+    sink: &mut S,
+    head: &[u8],
+    name: &Name,
+    word: &[u8],
+) -> Result<(), Failed>
+    ensures ok { OnOk result (Gets (text (head.now ∷ name.now ∷ codes ": skipped (" ∷ word.now ∷ codes ")\n" ∷ [])) (S.got sink.old) (S.got sink.new)) }
+    ensures err { OnErr result (GetsPart (text (head.now ∷ name.now ∷ codes ": skipped (" ∷ word.now ∷ codes ")\n" ∷ [])) (S.got sink.old) (S.got sink.new)) }
     ensures cause { FailsWith (S.faults sink.old) (S.faults sink.new) result }
 {
-    let word = reason_word(reason);
-    let name = name.as_str().as_bytes();
-    put_all(sink, &[b"ERROR 1: ", name, b": skipped (", word, b")\n"])
+    let before: &[u8] = b": skipped (";
+    let after: &[u8] = b")\n";
+    put_all(sink, &[head, name.as_str().as_bytes(), before, word, after])
 }
 
 fn put_build<S: Sink>(sink: &mut S, fault: &BuildFault) -> Result<(), Failed>
@@ -307,7 +312,9 @@ fn put_build<S: Sink>(sink: &mut S, fault: &BuildFault) -> Result<(), Failed>
 {
     match fault {
         BuildFault::Nothing => sink.put(b"ERROR 1: no input fits\n"),
-        BuildFault::Strict { name, reason } => put_strict(sink, name, *reason),
+        BuildFault::Strict { name, reason } => {
+            put_skipped(sink, b"ERROR 1: ", name, reason_word(*reason))
+        },
         BuildFault::Limit => sink.put(b"ERROR 6: mosaic too large\n"),
         BuildFault::Memory => sink.put(b"ERROR 2: out of memory\n"),
     }
