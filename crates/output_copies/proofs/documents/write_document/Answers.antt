@@ -29,6 +29,12 @@ returns-in_err-put_progress-clause-goes g c = λ m d told at.
     (goes_stop (unless_quiet q progress) file m f names (g.O.Sink.got c.args.out.now) (g.O.Sink.got c.put_progress.new.out)
     (spoken_stops q progress f m names (g.O.Sink.got c.args.out.now) (g.O.Sink.got c.put_progress.new.out) told (ends.never m told) c.in_err-put_progress.ensures.err))
 
+pub returns-in_err-put_progress-clause-ends : goal.returns-in_err-put_progress-clause-ends
+returns-in_err-put_progress-clause-ends g c =
+    let f = c.in_err-put_progress.field-0.0 in
+    ends_so {T = Unit {0}} _ _ _ _ _ f c.from_residual-in_err-put_progress.result (err_is c.from_residual-in_err-put_progress.result f c.from_residual-in_err-put_progress.ensures)
+    (c.in_err-put_progress.ensures.ends (g.F.Folder.names c.args.folder.now) (g.F.Folder.faults c.args.folder.now))
+
 pub returns-clause-goes : goal.returns-clause-goes
 returns-clause-goes g c = λ m d told at.
     let q = c.args.writing.quiet in
