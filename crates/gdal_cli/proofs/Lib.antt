@@ -8,6 +8,7 @@ pub mod Judging
 pub mod Lacking
 pub mod Lines
 pub mod Listed
+pub mod MosaicEnds
 pub mod Named
 pub mod Outcomes
 pub mod Pieces

@@ -62,14 +62,6 @@ printing_goes r texts result m names before after steps is ends = by result ends
     by (Err f) (inl h) = inl (h.0, all h.1)
     by (Err f) (inr h) = inr (h.0, some h.1)
 
--- the same of another way to say the run
-pub same_goes : (r q : Done) (result : Result (Unit {0}) Fault) (m : Files) (names : Option Files) (before after : Option (List ℕ)) → Ends r result before after → ((texts : List (List ℕ)) × (r.steps ≡ prints texts)) → r ≡ q → names ≡ Some m → Goes q m result names before after
-same_goes r q result m names before after ends printing same is = subst (λ (x : Done). Goes x m result names before after) same (printing_goes r printing.0 result m names before after printing.1 is ends)
-
--- and of a run whose steps were done
-pub goes_as : (r q : Done) (result : Result (Unit {0}) Fault) (m : Files) (names : Option Files) (before after : Option (List ℕ)) → Goes r m result names before after → r ≡ q → Goes q m result names before after
-goes_as r q result m names before after goes same = subst (λ (x : Done). Goes x m result names before after) same goes
-
 -- where the status is 0 or 1, the answer is the definition's
 pub answered : (r : Done) (result : Result (Unit {0}) Fault) (m : Files) (names : Option Files) (before after : Option (List ℕ)) → status_of (ended result) ≤ 1 → Goes r m result names before after → Answers r m (ended result) names before after
 answered r (Ok done) m names before after low h = record { fault_is = sym h.0; done = h.1 }

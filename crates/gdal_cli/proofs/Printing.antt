@@ -15,7 +15,7 @@ use Rattle.error_lines.specs.Faults.{by_walk}
 use Rattle.gdal_cli.specs.declared.asked.Asked.{Asked}
 use Rattle.gdal_cli.specs.Location.{answers, asked_in, line_text, point_text}
 use Rattle.error_lines.specs.Steps.{Done, prints, publishes, warned}
-use Rattle.error_lines.proofs.Silent.{both_silent, prints_silent, publishes_silent}
+use Rattle.error_lines.proofs.Silent.{both_silent, publishes_silent}
 use Rattle.geotransform.specs.declared.faults.PlanFault.{PlanFault}
 use Rattle.translate_plan.specs.Options.{Options}
 use Rattle.translate_plan.specs.Plan.{Planned, plan_of}
@@ -33,7 +33,6 @@ pub answers_print : (tell : ℤ → ℤ → List ℕ) (point : Option (ℤ × �
 answers_print tell (Some p) lines = (tell p.0 p.1 ∷ [], refl)
 answers_print tell None lines = (map (λ (e : Entry). line_text tell e.kind) lines, refl)
 
--- translations don't warn
 quiet_silent : (quiet : Bool) (text : List ℕ) → warned (unless_quiet quiet text) ≡ []
 quiet_silent true text = refl
 quiet_silent false text = refl
@@ -77,16 +76,7 @@ module _ (m : Files) (lines : List Entry) where
     unfolding location_judged
     location_prints verify name = walk_prints name (walked m verify [] name)
 
-  printing_silent : (d : Done) → AllPrint d → warned d.steps ≡ []
-  printing_silent d printing = rw printing.1 (prints_silent printing.0)
-
-  -- reports, answers and translations don't warn
-  pub info_silent : (verify : Bool) (name : List ℕ) → warned (carried_out (info_judged m verify name) m lines).steps ≡ []
-  info_silent verify name = printing_silent (carried_out (info_judged m verify name) m lines) (info_prints verify name)
-
-  pub location_silent : (point : Option (ℤ × ℤ)) (bands : List ℕ) (form : Form) (geoloc verify : Bool) (name : List ℕ) → warned (carried_out (location_judged m verify name point bands form geoloc) m lines).steps ≡ []
-  location_silent point bands form geoloc verify name = printing_silent (carried_out (location_judged m verify name point bands form geoloc) m lines) (location_prints point bands form geoloc verify name)
-
+  -- a translation doesn't warn
   module _ (options : Options) (quiet : Bool) where
     freed_silent : (d : Dataset) (p : Planned) (r : Result (Unit {0}) Fault) → warned (carried_out (r >>= (λ free. Ok (Translates d p options.out quiet))) m lines).steps ≡ []
     freed_silent d p (Ok free) = translation_silent quiet m d p options.out

@@ -3,12 +3,13 @@ use Rattle.std.proofs.Common.{◌≡◌, ◌∙◌, ap, refl, true, ℕ, Bool, L
 use Rattle.outside.specs.Names.{extension_of, is_raw}
 use Rattle.outside.specs.declared.name.Ext.{Ext}
 use Rattle.outside.specs.declared.name.Ext.TheVariants as ext
+use Rattle.buildvrt.specs.Options as buildvrt
 use Rattle.translate_plan.specs.Options.{Options}
 use Rattle.translate_plan.specs.declared.options.Driver.{Driver}
 use Rattle.translate_plan.specs.declared.options.Driver.TheVariants as driver
 use Rattle.write_back.specs.Plans.{driver_of}
 use Rattle.gdal_cli.specs.Published.{IsNamed}
-use Rattle.command_words.specs.declared.command.Job.TheVariants.{Translate}
+use Rattle.command_words.specs.declared.command.Job.TheVariants.{Translate, Build}
 use Rattle.gdal_cli.specs.Run.{names_published}
 
 -- what raw data are written under is a name of raw data
@@ -31,3 +32,7 @@ raw_named o named is = raw_ext (extension_of o.out) (named ∙ ap (λ (d : Drive
 -- a translation publishes a name
 pub publishes_some : (src : List ℕ) (o : Options) (quiet : Bool) → names_published (Translate src o quiet) ≡ [] → ⊥
 publishes_some src o quiet none = cc
+
+-- so does the making of a mosaic
+pub mosaic_published : (inputs : List (List ℕ)) (list : Option (List ℕ)) (o : buildvrt.Options) (quiet : Bool) → names_published (Build inputs list o quiet) ≡ [] → ⊥
+mosaic_published inputs list o quiet none = cc

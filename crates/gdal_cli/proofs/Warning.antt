@@ -6,12 +6,14 @@ use Rattle.outside.specs.Streams.{Gets, GetsPart}
 use Rattle.outside.proofs.Sinks.{gets-then, gets-then-part, part-first}
 use Rattle.error_lines.specs.declared.faults.Fault.{Fault}
 use Rattle.error_lines.specs.Faults.{IsOutside, status_of}
-use Rattle.error_lines.specs.Steps.{Step, Done, cut, warned, AreDone, AreWarned, Goes, GoesWarning, IsFirstPart}
+use Rattle.error_lines.specs.Steps.{Step, Done, cut, prints, warned, AreDone, AreWarned, Goes, GoesWarning, IsFirstPart}
 use Rattle.error_lines.specs.Texts.{line_of}
+use Rattle.error_lines.proofs.Silent.{goes_with, prints_silent}
 use Rattle.error_lines.proofs.Warned.{none_warned}
-use Rattle.gdal_cli.specs.Run.{ended, AreTold, IsRefusal, MayWarn, TellsFault}
+use Rattle.mosaic_builds.specs.Steps.{warns}
+use Rattle.gdal_cli.specs.Run.{ended, AreTold, Ends, MayWarn, TellsFault}
 use Rattle.gdal_cli.proofs.Cuts.{cut_silent, cut_whole}
-use Rattle.gdal_cli.proofs.Outcomes.{nothing_done, outside_status}
+use Rattle.gdal_cli.proofs.Outcomes.{nothing_done, outside_status, printing_goes}
 
 -- how far a run went, whatever was warned of
 pub goes_of : (r : Done) (m : Files) (result : Result (Unit {0}) Fault) (names : Option Files) (before after : Option (List ℕ)) (W : List Step → Type 0) → GoesWarning r m result names before after W → Goes r m result names before after
@@ -56,8 +58,21 @@ told_behind steps fault true first mid last start old new w whole part same late
 pub silent_steps : (failed : Bool) (faults : ℕ) (got : Option (List ℕ)) → failed ≡ false → (part : List Step) → warned part ≡ [] → AreWarned part failed faults faults got got
 silent_steps failed faults got fresh part none = subst (λ (b : Bool). AreWarned part b faults faults got got) (sym fresh) (none_warned part faults got none)
 
-pub silent_may : (warns : Bool) (fault : Option Fault) (failed : Bool) (faults : ℕ) (got : Option (List ℕ)) → failed ≡ false → MayWarn warns fault failed faults faults got got
-silent_may warns fault failed faults got fresh = record {
+-- a run without warnings
+module _ (r q : Done) (m : Files) (result : Result (Unit {0}) Fault) (names : Option Files) (before after : Option (List ℕ)) (failed : Bool) (faults : ℕ) (got : Option (List ℕ)) (fresh : failed ≡ false) where
+  pub silent_as : Goes r m result names before after → warned r.steps ≡ [] → r ≡ q → GoesWarning q m result names before after (λ steps. AreWarned steps failed faults faults got got)
+  silent_as goes none same =
+      warning_as r q m result names before after (λ steps. AreWarned steps failed faults faults got got)
+      (goes_with (λ steps. AreWarned steps failed faults faults got got) r m result names before after (silent_steps failed faults got fresh) none goes) same
+
+  -- one that prints
+  pub printing_as : Ends r result before after → ((texts : List (List ℕ)) × (r.steps ≡ prints texts)) → r ≡ q → names ≡ Some m → GoesWarning q m result names before after (λ steps. AreWarned steps failed faults faults got got)
+  printing_as ends printing same is =
+      silent_as (printing_goes r printing.0 result m names before after printing.1 is ends)
+      (ap warned printing.1 ∙ prints_silent printing.0) same
+
+pub silent_may : (able : Bool) (fault : Option Fault) (failed : Bool) (faults : ℕ) (got : Option (List ℕ)) → failed ≡ false → MayWarn able fault failed faults faults got got
+silent_may able fault failed faults got fresh = record {
   warnings = [];
   told = silent_steps failed faults got fresh [] refl;
   none = λ is. refl;
@@ -65,9 +80,9 @@ silent_may warns fault failed faults got fresh = record {
 }
 
 -- the line of the fault behind them
-pub fault_behind : (warns failed : Bool) (fault : Option Fault) (first mid last : ℕ) (start old new : Option (List ℕ)) → MayWarn warns fault failed first mid start old
+pub fault_behind : (able failed : Bool) (fault : Option Fault) (first mid last : ℕ) (start old new : Option (List ℕ)) → MayWarn able fault failed first mid start old
     → (failed ≡ false → (Rose mid last → ⊥) → Gets (line_of fault) old new) → (failed ≡ false → GetsPart (line_of fault) old new) → (failed ≡ true → new ≡ old) → mid ≤ last
-    → TellsFault warns fault first last start new
-fault_behind warns failed fault first mid last start old new may whole part same later =
-    let told = told_behind may.warnings fault failed first mid last start old new may.told whole part same later in
+    → TellsFault able fault first last start new
+fault_behind able failed fault first mid last start old new may whole part same later =
+    let told = told_behind (warns may.warnings) fault failed first mid last start old new may.told whole part same later in
     record { warnings = may.warnings; whole = told.whole; part = told.part; none = may.none; refused = may.refused }

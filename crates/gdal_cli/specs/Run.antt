@@ -1,5 +1,5 @@
 -- What is promised of a run of the program.
-use Rattle.std.specs.Prelude.{ℕ, ◌≡◌, ◌⊎◌, Bool, true, false, List, [], ◌++◌, Contains, Option, Some, None, Result, Ok, Err}
+use Rattle.std.specs.Prelude.{ℕ, ◌≡◌, ◌⊎◌, Bool, true, false, List, [], ◌∷◌, ◌++◌, Contains, Option, Some, None, Result, Ok, Err}
 use Rattle.outside.specs.Outside.{Files}
 use Rattle.outside.specs.Causes.{Rose}
 use Rattle.outside.specs.Streams.{Gets, GetsPart}
@@ -14,6 +14,7 @@ use Rattle.command_words.specs.declared.command.Job.{Job}
 use Rattle.command_words.specs.declared.command.Job.TheVariants.{Info, Locate, Translate, Build}
 use Rattle.command_words.specs.declared.spoken.WordFault.{WordFault}
 use Rattle.command_words.specs.declared.spoken.WordFault.TheVariants as word
+use Rattle.mosaic_builds.specs.Steps.{warns}
 use Rattle.gdal_cli.specs.Published.{names_written}
 use Rattle.error_lines.specs.declared.faults.Fault.{Fault}
 use Rattle.error_lines.specs.declared.faults.Fault.TheVariants as fault
@@ -121,6 +122,15 @@ pub record RefusesKind (alone : Bool) (name : List ℕ) (result : Result (Unit {
   pub file : (k : Kind) (n : List ℕ) → kind_in name ≡ Ok k → (k ≡ kinds.Vrt → ⊥) → result ≡ Err (NotRecognized n) → ⊥
   pub no_usage : (n : ℕ) → result ≡ Err (Usage n) → ⊥
 
+-- The same of a job: where many names are read, none that tells a kind is refused so.
+pub record RefusesOnly (result : Result (Unit {0}) Fault) : Type 0 where
+  pub only : (n : List ℕ) → result ≡ Err (NotRecognized n) → kind_in n ≡ Err (walk.NotRecognized n)
+  pub no_usage : (n : ℕ) → result ≡ Err (Usage n) → ⊥
+
+abbrev pub RefusesIn : Bool → Option (List ℕ) → Result (Unit {0}) Fault → Type 0
+RefusesIn alone None result = RefusesOnly result
+RefusesIn alone (Some name) result = RefusesKind alone name result
+
 -- words that are no command are refused with their word, or for want of memory, and nothing else is
 pub record RefusesWords (words : Result Command WordFault) (fault : Option Fault) : Type 0 where
   pub always : (n : ℕ) → words ≡ Err (word.Usage n) → (fault ≡ Some (Usage n)) ⊎ (fault ≡ Some Memory)
@@ -151,16 +161,16 @@ pub record AreTold (steps : List Step) (fault : Option Fault) (faults faults_aft
 
 -- Over every folder, the error stream gets warnings and the line of the fault, or where it fails a first part of them.
 -- Only words that ask for a mosaic may warn, and a run that is refused never does.
-pub record TellsFault (warns : Bool) (fault : Option Fault) (faults faults_after : ℕ) (before after : Option (List ℕ)) : Type 0 where
-  pub warnings : List Step
-  pub whole : (Rose faults faults_after → ⊥) → Gets (warned warnings ++ line_of fault) before after
-  pub part : GetsPart (warned warnings ++ line_of fault) before after
-  pub none : warns ≡ false → warnings ≡ []
+pub record TellsFault (may : Bool) (fault : Option Fault) (faults faults_after : ℕ) (before after : Option (List ℕ)) : Type 0 where
+  pub warnings : List (List ℕ)
+  pub whole : (Rose faults faults_after → ⊥) → Gets (warned (warns warnings) ++ line_of fault) before after
+  pub part : GetsPart (warned (warns warnings) ++ line_of fault) before after
+  pub none : may ≡ false → warnings ≡ []
   pub refused : IsRefusal fault → warnings ≡ []
 
 -- the warnings that a job put on the error stream, which may have failed meanwhile
-pub record MayWarn (warns : Bool) (fault : Option Fault) (failed : Bool) (faults faults_now : ℕ) (before after : Option (List ℕ)) : Type 0 where
-  pub warnings : List Step
-  pub told : AreWarned warnings failed faults faults_now before after
-  pub none : warns ≡ false → warnings ≡ []
+pub record MayWarn (may : Bool) (fault : Option Fault) (failed : Bool) (faults faults_now : ℕ) (before after : Option (List ℕ)) : Type 0 where
+  pub warnings : List (List ℕ)
+  pub told : AreWarned (warns warnings) failed faults faults_now before after
+  pub none : may ≡ false → warnings ≡ []
   pub refused : IsRefusal fault → warnings ≡ []

@@ -14,7 +14,8 @@ use Rattle.translate_plan.specs.Options.{Options}
 use Rattle.buildvrt.specs.Options as buildvrt
 use Rattle.translate_plan.specs.Plan.{Planned, plan_of}
 use Rattle.output_copies.specs.Steps.{translation_steps}
-use Rattle.mosaic_builds.specs.Built.{Built, built_in, mosaic_steps}
+use Rattle.mosaic_builds.specs.Built.{Built, built_in}
+use Rattle.mosaic_builds.specs.Steps.{mosaic_steps}
 use Rattle.published_files.specs.Names.{unless_read}
 use Rattle.error_lines.specs.declared.faults.Fault.{Fault}
 use Rattle.error_lines.specs.Faults.{by_walk}
