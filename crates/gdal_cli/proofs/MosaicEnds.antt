@@ -1,12 +1,9 @@
 -- How the making of a mosaic ends.
-use Rattle.std.proofs.Common.{◌≡◌, ap, refl, sym, subst, ◌<◌, ℕ, Bool, List, [], ◌∷◌, Result, Ok, Err, Option, Some, Contains, arith}
+use Rattle.std.proofs.Common.{◌≡◌, refl, sym, subst, ℕ, Bool, List, [], ◌∷◌, Result, Ok, Err, Option, Contains, arith}
 use Rattle.std.specs.Prelude.{IfErr}
 use Rattle.std.proofs.lemmas.List.Elements.{Contains-get_or}
 use Rattle.lists_and_answers.specs.Answers.{◌>>=◌}
 use Rattle.outside.specs.Outside.{Files}
-use Rattle.catalog.specs.Heads.{kind_in, IsOwnFault}
-use Rattle.catalog.specs.declared.faults.Bad.{Bad}
-use Rattle.catalog.specs.declared.faults.WalkFault.TheVariants as walk
 use Rattle.buildvrt.specs.Options.{Options}
 use Rattle.buildvrt.specs.declared.faults.BuildFault.TheVariants as build
 use Rattle.input_points.specs.declared.entry.Entry.{Entry}
@@ -18,7 +15,7 @@ use Rattle.mosaic_builds.specs.Built.{Built, built_in}
 use Rattle.mosaic_builds.specs.Ends as mosaics
 use Rattle.mosaic_builds.specs.Steps.{mosaic_done}
 use Rattle.gdal_cli.specs.Run.{ended, IsRefusal, MayEnd, RefusesOnly}
-use Rattle.gdal_cli.specs.Work.{Work, Builds, build_judged, carried_out}
+use Rattle.gdal_cli.specs.Work.{Builds, build_judged, carried_out}
 use Rattle.gdal_cli.proofs.Changed.{no_change}
 use Rattle.gdal_cli.proofs.Datasets.{refused_so}
 

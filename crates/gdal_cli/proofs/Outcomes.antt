@@ -1,5 +1,5 @@
 -- How a run answers, by how its job ended.
-use Rattle.std.proofs.Common.{◌≡◌, ◌∙◌, ap, sym, subst, ◌⊎◌, inl, inr, ◌≤◌, ◌++◌, ℕ, List, [], length, refl, arith, Result, Ok, Err, Option, Some}
+use Rattle.std.proofs.Common.{◌≡◌, ◌∙◌, ap, sym, subst, ◌⊎◌, inl, inr, ◌≤◌, ℕ, List, length, refl, arith, Result, Ok, Err, Option, Some}
 use Rattle.outside.specs.Outside.{Files}
 use Rattle.outside.specs.Streams.{Gets, GetsPart}
 use Rattle.outside.specs.Causes.{HasCause, Rose}

@@ -1,5 +1,5 @@
 -- What the error stream gets of a run.
-use Rattle.std.proofs.Common.{◌≡◌, ◌∙◌, ap, sym, subst, refl, ◌⊎◌, inl, inr, ◌≤◌, ◌++◌, ℕ, Bool, true, false, List, [], length, arith, Result, Ok, Err, Option, Some}
+use Rattle.std.proofs.Common.{◌≡◌, ◌∙◌, ap, sym, subst, refl, inl, inr, ◌≤◌, ℕ, Bool, true, false, List, [], length, arith, Result, Ok, Err, Option, Some}
 use Rattle.outside.specs.Outside.{Files}
 use Rattle.outside.specs.Causes.{Rose}
 use Rattle.outside.specs.Streams.{Gets, GetsPart}

@@ -1,5 +1,5 @@
 // Mosaics, from the words' options to the document.
-ghost use Rattle.std.specs.Prelude.{◌≡◌, ℕ, List, IfErr, Err, None, Some, true, false};
+ghost use Rattle.std.specs.Prelude.{◌≡◌, List, IfErr, Err, Some, true, false};
 ghost use Rattle.outside.specs.Outside.{Files};
 ghost use Rattle.input_points.specs.declared.entry.Entry.{Entry};
 ghost use Rattle.error_lines.specs.Faults.{HasCauses, HasChanged, OwnsFault};

@@ -1,5 +1,5 @@
 -- How the parts of a translation end.
-use Rattle.std.proofs.Common.{◌≡◌, ◌∙◌, ap, refl, ◌≤◌, ◌⊎◌, inl, inr, subst, sym, ℕ, List, Result, Ok, Err, Option, Some, arith}
+use Rattle.std.proofs.Common.{◌≡◌, ◌∙◌, ap, refl, ◌≤◌, inl, inr, subst, sym, ℕ, List, Result, Ok, Err, Option, Some, arith}
 use Rattle.std.specs.Prelude.{IfErr}
 use Rattle.std.specs.Result.{IsErr, IsErrAnd}
 use Rattle.outside.specs.Causes.{HasCause, Rose}

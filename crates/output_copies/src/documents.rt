@@ -1,5 +1,5 @@
 // Documents of mosaics that translations publish.
-ghost use Rattle.std.specs.Prelude.{◌≡◌, ◌++◌, ◌∷◌, [], ℕ, List, Option, IfErr, IfOk, Some, slice_get};
+ghost use Rattle.std.specs.Prelude.{◌≡◌, ◌++◌, ◌∷◌, [], IfErr, IfOk, Some, slice_get};
 ghost use Rattle.outside.specs.Outside.{Files};
 ghost use Rattle.vrt_profile.specs.Spelled.{spelled};
 ghost use Rattle.catalog.specs.Drivers.{Dataset};

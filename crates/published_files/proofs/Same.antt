@@ -1,5 +1,5 @@
 -- Which name was refused.
-use Rattle.std.proofs.Common.{◌≡◌, ap, refl, ◌⊎◌, inl, inr, true, false, ℕ, Bool, List, [], ◌∷◌, Result, Ok, Err, cond, Contains, arith}
+use Rattle.std.proofs.Common.{◌≡◌, ap, ◌⊎◌, inl, inr, true, false, ℕ, Bool, List, [], ◌∷◌, Result, Ok, Err, cond, Contains, arith}
 use Rattle.std.proofs.lemmas.List.Elements.{Contains-get_or, Contains-append_right}
 use Rattle.lists_and_answers.specs.Answers.{◌>>=◌}
 use Rattle.catalog.specs.Drivers.{Dataset}

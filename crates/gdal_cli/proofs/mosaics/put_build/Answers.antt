@@ -1,4 +1,4 @@
-use Rattle.std.proofs.Common.{◌≡◌, List}
+use Rattle.std.proofs.Common.{List}
 use Rattle.error_lines.specs.Steps.{Step, AreWarned}
 use Rattle.gdal_cli.proofs.MosaicEnds.{build_done, build_may, build_owns, build_reads_no_input, build_refuses, build_unchanged, refusal_so}
 use Rattle.gdal_cli.proofs.Warning.{warning_as}

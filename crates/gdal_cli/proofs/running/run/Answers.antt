@@ -1,6 +1,5 @@
 use Rattle.std.proofs.Common.{◌≡◌, ◌∙◌, ◌⊎◌, ◌≤◌, ap, map, string_bytes, sym, subst, ℕ, Option, Some}
 use Rattle.std.specs.Prelude.{IfOk, IfSome}
-use Rattle.input_points.specs.Entries.{entries}
 use Rattle.error_lines.specs.declared.faults.Fault.{Fault}
 use Rattle.error_lines.specs.declared.faults.Fault.TheVariants.{InputFault, Memory}
 use Rattle.error_lines.specs.Faults.{status_of}

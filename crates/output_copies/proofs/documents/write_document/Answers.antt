@@ -1,4 +1,4 @@
-use Rattle.std.proofs.Common.{◌≡◌, refl, subst, sym, List, [], ◌∷◌, Some}
+use Rattle.std.proofs.Common.{refl, subst, sym, [], ◌∷◌, Some}
 use Rattle.vrt_profile.specs.Spelled.{spelled}
 use Rattle.vrt_profile.specs.Values.{DocumentValue}
 use Rattle.translate_plan.specs.Documents.{document_by}
