@@ -7,17 +7,19 @@ use Rattle.geotransform.specs.Decimal.{parts_of, ticks_of, whole_of, is_decimal}
 use Rattle.geotransform.specs.declared.types.PixelType.TheVariants.{UInt16}
 use Rattle.geotransform.specs.Types.{type_named}
 use Rattle.esri_hdr.specs.declared.parts.Layout.TheVariants.{Bip}
-use Rattle.catalog.specs.declared.nodata.NodataWord.TheVariants.{Number}
+use Rattle.catalog.specs.declared.nodata.NodataWord.TheVariants.{Number, Remove}
 use Rattle.location_report.specs.declared.report.Form.TheVariants.{FilesOnly}
 use Rattle.translate_plan.specs.declared.options.Driver.TheVariants.{EHdr}
 use Rattle.translate_plan.specs.declared.options.View.TheVariants.{Pixels}
 use Rattle.translate_plan.specs.declared.options.OutSize.TheVariants.{Count, Percent}
-use Rattle.command_words.specs.declared.command.Job.TheVariants.{Info, Locate, Translate}
+use Rattle.buildvrt.specs.declared.options.Resolution.TheVariants.{User}
+use Rattle.command_words.specs.declared.command.Job.TheVariants.{Info, Locate, Translate, Build}
 use Rattle.command_words.specs.declared.spoken.WordFault.TheVariants.{Usage}
 use Rattle.command_words.specs.Options.{shared_option_of, own_option_of}
-use Rattle.command_words.specs.Values.{format_of, layout_of, nodata_of}
-use Rattle.command_words.specs.Uses.{config_said, window_said, places_said, outsize_said, band_said, blocks_said, format_said, nodata_said, kind_said, creation_said, placed_said, spoken_of, spoken_in}
-use Rattle.command_words.specs.Jobs.{written_of, asked_of, info_job, locate_job, translate_job}
+use Rattle.command_words.specs.Values.{format_of, layout_of, nodata_of, resolution_named}
+use Rattle.command_words.specs.Said.{config_said, window_said, places_said, outsize_said, band_said, blocks_said, format_said, nodata_said, kind_said, creation_said, resolution_said, pixel_size_said, extent_said, source_nodata_said, mosaic_nodata_said, list_said}
+use Rattle.command_words.specs.Uses.{placed_said, spoken_of, spoken_in}
+use Rattle.command_words.specs.Jobs.{written_of, asked_of, asked_mosaic, info_job, locate_job, translate_job, build_job}
 use Rattle.command_words.specs.Words.{command_of, words_of}
 
 -- the last use of an option counts, all bands do, and options stand anywhere
@@ -60,7 +62,7 @@ other_format : words_of (codes "gdal_translate" ∷ codes "a.bil" ∷ codes "b.a
 unfolding words_of command_of spoken_in spoken_of translate_job asked_of written_of extension_of ending_of last_part kind_of shared_option_of own_option_of format_said format_of placed_said normal
 other_format = refl
 
-no_format : words_of (codes "gdal_translate" ∷ codes "a.bil" ∷ codes "b.vrt" ∷ []) ≡ Err (Usage 2)
+no_format : words_of (codes "gdal_translate" ∷ codes "a.bil" ∷ codes "b.tif" ∷ []) ≡ Err (Usage 2)
 unfolding words_of command_of spoken_in spoken_of translate_job asked_of written_of extension_of ending_of last_part kind_of shared_option_of own_option_of placed_said normal
 no_format = refl
 
@@ -78,3 +80,23 @@ no_layout = refl
 half_a_point : words_of (codes "gdallocationinfo" ∷ codes "a.bil" ∷ codes "-1.5" ∷ []) ≡ Err (Usage 3)
 unfolding words_of command_of spoken_in spoken_of locate_job shared_option_of own_option_of placed_said normal ticks_of parts_of is_decimal
 half_a_point = refl
+
+-- a mosaic of inputs and of those that a list names; options stand anywhere
+built : words_of (codes "gdalbuildvrt" ∷ codes "-te" ∷ codes "0" ∷ codes "-1" ∷ codes "2" ∷ codes "1" ∷ codes "out.vrt" ∷ codes "-separate" ∷ codes "a.bil" ∷ codes "-tr" ∷ codes "1" ∷ codes "0.5" ∷ codes "-srcnodata" ∷ codes "none" ∷ codes "./b.bil" ∷ codes "-vrtnodata" ∷ codes "-7" ∷ codes "-input_file_list" ∷ codes "l.txt" ∷ codes "-strict" ∷ codes "-q" ∷ codes "-overwrite" ∷ [])
+    ≡ Ok (record {
+      job = Build (codes "a.bil" ∷ codes "b.bil" ∷ []) (Some (codes "l.txt")) (record { out = codes "out.vrt"; bands = []; resolution = User (pos 180000000000000000) (pos 90000000000000000); extent = Some (record { xmin = pos 0; ymin = neg_ℤ (pos 180000000000000000); xmax = pos 360000000000000000; ymax = pos 180000000000000000 }); src_nodata = Remove; vrt_nodata = Number (neg_ℤ (pos 7)); separate = true; strict = true }) true;
+      verify = false;
+      blocks = 64;
+    })
+unfolding words_of command_of spoken_in spoken_of build_job asked_mosaic written_of extension_of ending_of last_part kind_of shared_option_of own_option_of pixel_size_said extent_said source_nodata_said mosaic_nodata_said list_said placed_said nodata_of normal ticks_of whole_of parts_of
+built = refl
+
+-- the greatest column isn't beyond the least, which is named before the early end
+no_columns : words_of (codes "gdalbuildvrt" ∷ codes "out.vrt" ∷ codes "-te" ∷ codes "0" ∷ codes "0" ∷ codes "-1" ∷ []) ≡ Err (Usage 5)
+unfolding words_of spoken_in shared_option_of own_option_of extent_said placed_said normal ticks_of parts_of
+no_columns = refl
+
+-- a given size goes together with the user's resolution alone, and of each option the last use counts
+size_beside_word : words_of (codes "gdalbuildvrt" ∷ codes "-tr" ∷ codes "1" ∷ codes "1" ∷ codes "out.vrt" ∷ codes "-resolution" ∷ codes "user" ∷ codes "a.bil" ∷ codes "-resolution" ∷ codes "lowest" ∷ []) ≡ Err (Usage 8)
+unfolding words_of command_of spoken_in spoken_of build_job asked_mosaic written_of extension_of ending_of last_part kind_of shared_option_of own_option_of resolution_said pixel_size_said resolution_named placed_said normal ticks_of parts_of
+size_beside_word = refl

@@ -1,9 +1,8 @@
--- Numbers of a list, and answers that a definition gives.
-use Rattle.std.proofs.Common.{◌≡◌, ◌∙◌, ap, sym, inr, ℕ, ◌+◌, ◌<◌, ◌≤◌, List, [], ◌∷◌, ◌++◌, length, take, get_or, Result, Ok, Err}
+-- Numbers of a list.
+use Rattle.std.proofs.Common.{◌≡◌, ◌∙◌, ap, sym, ℕ, ◌+◌, ◌<◌, ◌≤◌, List, [], ◌∷◌, ◌++◌, length, take, get_or}
 use Rattle.std.specs.Prelude.{All}
 use Rattle.std.proofs.lemmas.List.{take_more}
 use Rattle.std.proofs.lemmas.List.Elements.{All-nil, All-cons, All-append}
-use Rattle.lists_and_answers.specs.Answers.{Gives}
 
 abbrev pub IsBand : ℕ → Type 0
 IsBand band = (0 < band) × (band ≤ 256)
@@ -14,8 +13,3 @@ numbers_more bands numbers i n d less is one same all = (
   ap (λ (xs : List ℕ). xs ++ n ∷ []) same ∙ ap (λ (k : ℕ). take i bands ++ k ∷ []) is ∙ sym (take_more bands i d less),
   All-append IsBand numbers (n ∷ []) all (All-cons IsBand n [] one (All-nil IsBand)),
 )
-
--- an answer that is the definition's
-pub exactly : {E X : Type 0} (IsFree : E → Type 0) (r d : Result X E) → r ≡ d → Gives IsFree (λ x. x) r d
-exactly IsFree (Ok x) d is = sym is
-exactly IsFree (Err e) d is = inr (sym is)

@@ -4,15 +4,16 @@ use Rattle.std.proofs.lemmas.List.{drop_more}
 use Rattle.lists_and_answers.specs.Answers.{◌>>=◌, Gives}
 use Rattle.command_words.specs.declared.options.Tool.{Tool}
 use Rattle.command_words.specs.declared.options.OptionWord.{OptionWord}
+use Rattle.command_words.specs.declared.spoken.MosaicSaid.TheVariants as mosaic
 use Rattle.command_words.specs.declared.spoken.Said.{Said}
 use Rattle.command_words.specs.declared.spoken.Said.TheVariants as said
 use Rattle.command_words.specs.declared.spoken.Spoken.{Spoken}
 use Rattle.command_words.specs.declared.spoken.Spot.{Spot}
 use Rattle.command_words.specs.declared.spoken.WordFault.{WordFault}
 use Rattle.command_words.specs.Options.{option_of, value_count}
-use Rattle.command_words.specs.Uses.{Use, cut, taken_by, option_said, said_by, behind_use, judged, with_said, spoken_of, spoken_in}
+use Rattle.command_words.specs.Said.{option_said}
+use Rattle.command_words.specs.Uses.{Use, cut, taken_by, said_by, behind_use, judged, with_said, spoken_of, spoken_in}
 use Rattle.command_words.specs.Words.{IsMemory}
-use Rattle.command_words.proofs.Listed.{exactly}
 
 -- one use more
 pub spoken_more : (at : ℕ) (s : Said) (uses : List (ℕ × Said)) → with_said at s (spoken_of uses) ≡ spoken_of ((at, s) ∷ uses)
@@ -34,20 +35,30 @@ spoken_more at (said.Interleave layout) uses = refl
 spoken_more at said.Quiet uses = refl
 spoken_more at said.Inside uses = refl
 spoken_more at said.Touching uses = refl
+spoken_more at (said.Mosaic (mosaic.Resolution word)) uses = refl
+spoken_more at (said.Mosaic (mosaic.PixelSize size)) uses = refl
+spoken_more at (said.Mosaic (mosaic.Extent extent)) uses = refl
+spoken_more at (said.Mosaic (mosaic.SourceNodata word)) uses = refl
+spoken_more at (said.Mosaic (mosaic.Nodata word)) uses = refl
+spoken_more at (said.Mosaic mosaic.Separate) uses = refl
+spoken_more at (said.Mosaic mosaic.Strict) uses = refl
+spoken_more at (said.List name) uses = refl
 spoken_more at (said.Source name) uses = refl
 spoken_more at (said.Output name) uses = refl
+spoken_more at (said.Input name) uses = refl
 spoken_more at (said.X x) uses = refl
 spoken_more at (said.Y y) uses = refl
+spoken_more at (said.Tile n) uses = refl
 
 -- the use that a word begins
 abbrev pub use_at : Tool → ℕ → List ℕ → List (List ℕ) → Use
 use_at tool at word behind = record { at = at; word = word; option = option_of tool word; values = take (taken_by (option_of tool word)) behind }
 
 -- an option, and its values among the words behind it
-pub option_used : (tool : Tool) (spot : Spot) (before : ℕ) (word : List ℕ) (behind values : List (List ℕ)) (o : OptionWord) (r : Result Said WordFault) → option_of tool word ≡ Some o → values ≡ take (value_count o) behind → r ≡ option_said o spot values → Gives IsMemory (λ s. s) r (said_by (option_of tool word) tool spot.count before (use_at tool spot.at word behind))
+pub option_used : (tool : Tool) (spot : Spot) (before : ℕ) (word : List ℕ) (behind values : List (List ℕ)) (o : OptionWord) (r : Result Said WordFault) → option_of tool word ≡ Some o → values ≡ take (value_count o) behind → Gives IsMemory (λ s. s) r (option_said o spot values) → Gives IsMemory (λ s. s) r (said_by (option_of tool word) tool spot.count before (use_at tool spot.at word behind))
 option_used tool spot before word behind values o r named few is =
-    let told : r ≡ option_said o spot (take (value_count o) behind) = is ∙ ap (λ (vs : List (List ℕ)). option_said o spot vs) few in
-    subst (λ (p : Option OptionWord). Gives IsMemory (λ s. s) r (said_by p tool spot.count before (record { at = spot.at; word = word; option = p; values = take (taken_by p) behind }))) (sym named) (exactly IsMemory r _ told)
+    let told : Gives IsMemory (λ s. s) r (option_said o spot (take (value_count o) behind)) = subst (λ (vs : List (List ℕ)). Gives IsMemory (λ s. s) r (option_said o spot vs)) few is in
+    subst (λ (p : Option OptionWord). Gives IsMemory (λ s. s) r (said_by p tool spot.count before (record { at = spot.at; word = word; option = p; values = take (taken_by p) behind }))) (sym named) told
 
 -- the word in a place of a list stands before those behind it
 pub next_word : {X : Type 0} (f : X → List ℕ) (words : List X) (i : ℕ) (word d : X) → i < length words → word ≡ get_or words i d → map f (drop i words) ≡ f word ∷ map f (drop (i + 1) words)

@@ -1,5 +1,5 @@
 -- The work that words ask for: what is missing, and what doesn't go together.
-use Rattle.std.specs.Prelude.{ℕ, ℤ, max, Bool, true, false, List, Option, Some, None, option_and_then, Result, Ok, Err, ok_or, if◌then◌else◌}
+use Rattle.std.specs.Prelude.{ℕ, ℤ, max, Bool, true, false, List, [], ◌∷◌, Option, Some, None, option_and_then, Result, Ok, Err, ok_or, if◌then◌else◌}
 use Rattle.lists_and_answers.specs.Answers.{◌>>=◌}
 use Rattle.outside.specs.Names.{extension_of}
 use Rattle.outside.specs.declared.name.Ext.{Ext}
@@ -12,14 +12,21 @@ use Rattle.translate_plan.specs.declared.options.Driver.TheVariants as driver
 use Rattle.translate_plan.specs.declared.options.View.{View}
 use Rattle.translate_plan.specs.declared.options.View.TheVariants.{Whole}
 use Rattle.translate_plan.specs.Options.{Options}
+use Rattle.buildvrt.specs.declared.options.Resolution.{Resolution}
+use Rattle.buildvrt.specs.declared.options.Resolution.TheVariants.{Highest, Lowest, Average}
+use Rattle.buildvrt.specs.Options.{Options as MosaicOptions}
 use Rattle.command_words.specs.declared.command.Job.{Job}
 use Rattle.command_words.specs.declared.command.Job.TheVariants as job
 use Rattle.command_words.specs.declared.options.Tool.{Tool}
-use Rattle.command_words.specs.declared.options.Tool.TheVariants.{Info, Locate, Translate}
+use Rattle.command_words.specs.declared.options.Tool.TheVariants.{Info, Locate, Translate, Build}
 use Rattle.command_words.specs.declared.jobs.Asked.{Asked}
+use Rattle.command_words.specs.declared.jobs.AskedMosaic.{AskedMosaic}
 use Rattle.command_words.specs.declared.jobs.Written.{Written}
+use Rattle.command_words.specs.declared.spoken.MosaicWanted.{MosaicWanted}
 use Rattle.command_words.specs.declared.spoken.OutFormat.{OutFormat}
-use Rattle.command_words.specs.declared.spoken.OutFormat.TheVariants.{EHdr, Dted, SrtmHgt, AaiGrid}
+use Rattle.command_words.specs.declared.spoken.OutFormat.TheVariants.{EHdr, Dted, SrtmHgt, AaiGrid, Vrt}
+use Rattle.command_words.specs.declared.spoken.ResolutionWord.{ResolutionWord}
+use Rattle.command_words.specs.declared.spoken.ResolutionWord.TheVariants as word
 use Rattle.command_words.specs.declared.spoken.Spoken.{Spoken}
 use Rattle.command_words.specs.declared.spoken.Wanted.{Wanted}
 use Rattle.command_words.specs.declared.spoken.WordFault.{WordFault}
@@ -39,7 +46,7 @@ form_of (Some values) None = Ok ValuesOnly
 form_of None (Some files) = Ok FilesOnly
 form_of (Some values) (Some files) = Err (Usage (max values files))
 
--- how an extension is written: the format, its driver, and the layout of raw data; mosaics aren't written
+-- how an extension is written: the format, its driver, and the layout of raw data
 abbrev pub raw_in : Layout → Option Written
 raw_in layout = Some (record { format = EHdr; driver = driver.EHdr; layout = layout })
 
@@ -56,13 +63,14 @@ written_as ext.Dt2 = cell_at 2
 written_as ext.Hgt = Some (record { format = SrtmHgt; driver = driver.SrtmHgt; layout = Bil })
 written_as ext.Asc = Some (record { format = AaiGrid; driver = driver.AaiGrid; layout = Bil })
 written_as ext.Grd = Some (record { format = AaiGrid; driver = driver.AaiGrid; layout = Bil })
-written_as ext.Vrt = None
+written_as ext.Vrt = Some (record { format = Vrt; driver = driver.Vrt; layout = Bil })
 
 abbrev pub is_same_format : OutFormat → OutFormat → Bool
 is_same_format EHdr EHdr = true
 is_same_format Dted Dted = true
 is_same_format SrtmHgt SrtmHgt = true
 is_same_format AaiGrid AaiGrid = true
+is_same_format Vrt Vrt = true
 is_same_format format other = false
 
 -- an output of the format that is asked for, where one is
@@ -125,10 +133,69 @@ translate_job count s = do
   name ← ok_or s.source (Usage count)
   output ← ok_or s.output (Usage count)
   asked ← asked_of s.wanted output.0 output.1
-  Ok (job.Translate name (options_of s.wanted output.1 s.bands asked) s.wanted.quiet)
+  Ok (job.Translate name (options_of s.wanted output.1 s.bands asked) s.quiet)
+
+-- the inputs that stand among the words; a mosaic needs one, or a list of them
+abbrev pub inputs_of : ℕ → List (List ℕ) → Option (List ℕ) → Result (List (List ℕ)) WordFault
+inputs_of count [] None = Err (Usage count)
+inputs_of count [] (Some list) = Ok []
+inputs_of count (name ∷ names) list = Ok (name ∷ names)
+
+-- whether each input gives a band of its own; chosen bands don't go together with that, and what stands later is refused
+abbrev pub separate_of : Option ℕ → Option ℕ → Result Bool WordFault
+separate_of None band = Ok false
+separate_of (Some separate) None = Ok true
+separate_of (Some separate) (Some band) = Err (Usage (max separate band))
+
+-- the resolution that a word names, where no size of pixels is given
+abbrev pub named_resolution : ℕ → ResolutionWord → Result Resolution WordFault
+named_resolution count word.Highest = Ok Highest
+named_resolution count word.Lowest = Ok Lowest
+named_resolution count word.Average = Ok Average
+named_resolution count word.User = Err (Usage count)
+
+-- a given size beside a word; only that of the user goes together with it, and of the others what stands later is refused
+abbrev pub given_resolution : ℕ × ResolutionWord → ℕ × Resolution → Result Resolution WordFault
+given_resolution (at, word.User) given = Ok given.1
+given_resolution (at, other) given = Err (Usage (max at given.0))
+
+-- the resolution of a mosaic: that of the word, or the given size
+abbrev pub resolution_of : ℕ → Option (ℕ × ResolutionWord) → Option (ℕ × Resolution) → Result Resolution WordFault
+resolution_of count None None = Ok Average
+resolution_of count None (Some given) = Ok given.1
+resolution_of count (Some named) None = named_resolution count named.1
+resolution_of count (Some named) (Some given) = given_resolution named given
+
+-- how the mosaic of this name, which is the word of this number of so many, is to be
+unfoldable pub asked_mosaic : ℕ → MosaicWanted → Option ℕ → ℕ → List ℕ → Result AskedMosaic WordFault
+asked_mosaic count wanted band_at at name = do
+  written ← ok_or (written_of (Some Vrt) name) (Usage at)
+  separate ← separate_of wanted.separate band_at
+  resolution ← resolution_of count wanted.resolution wanted.pixel_size
+  Ok (record { separate = separate; resolution = resolution })
+
+abbrev pub mosaic_options : MosaicWanted → List ℕ → List ℕ → AskedMosaic → MosaicOptions
+mosaic_options wanted name bands a = record {
+  out = name;
+  bands = bands;
+  resolution = a.resolution;
+  extent = wanted.extent;
+  src_nodata = wanted.src_nodata;
+  vrt_nodata = wanted.vrt_nodata;
+  separate = a.separate;
+  strict = wanted.strict;
+}
+
+unfoldable pub build_job : ℕ → Spoken → Result Job WordFault
+build_job count s = do
+  output ← ok_or s.output (Usage count)
+  inputs ← inputs_of count s.inputs s.list
+  asked ← asked_mosaic count s.mosaic s.band_at output.0 output.1
+  Ok (job.Build inputs s.list (mosaic_options s.mosaic output.1 s.bands asked) s.quiet)
 
 -- the work that the words ask for, where none of them is missing, of which there are so many
 abbrev pub job_of : Tool → ℕ → Spoken → Result Job WordFault
 job_of Info count s = info_job count s
 job_of Locate count s = locate_job count s
 job_of Translate count s = translate_job count s
+job_of Build count s = build_job count s

@@ -1,5 +1,6 @@
 pub mod Jobs
 pub mod Options
+pub mod Said
 pub mod Uses
 pub mod Values
 pub mod Words

@@ -1,13 +1,13 @@
 -- The commands and their options.
 use Rattle.std.specs.Prelude.{ℕ, List, [], ◌∷◌, codes, bytes_eq, Option, Some, None, if◌then◌else◌}
 use Rattle.command_words.specs.declared.options.Tool.{Tool}
-use Rattle.command_words.specs.declared.options.Tool.TheVariants.{Info, Locate, Translate}
+use Rattle.command_words.specs.declared.options.Tool.TheVariants.{Info, Locate, Translate, Build}
 use Rattle.command_words.specs.declared.options.OptionWord.{OptionWord}
 use Rattle.command_words.specs.declared.options.OptionWord.TheVariants as option
 
 -- the command that a word names
 abbrev pub tool_of : List ℕ → Option Tool
-tool_of word = if bytes_eq word (codes "gdalinfo") then Some Info else if bytes_eq word (codes "gdallocationinfo") then Some Locate else if bytes_eq word (codes "gdal_translate") then Some Translate else None
+tool_of word = if bytes_eq word (codes "gdalinfo") then Some Info else if bytes_eq word (codes "gdallocationinfo") then Some Locate else if bytes_eq word (codes "gdal_translate") then Some Translate else if bytes_eq word (codes "gdalbuildvrt") then Some Build else None
 
 -- the options of all commands
 abbrev pub shared_options : List (List ℕ × OptionWord)
@@ -38,6 +38,21 @@ translate_options = (codes "-of", option.Format)
     ∷ (codes "-eco", option.Touching)
     ∷ []
 
+-- those of gdalbuildvrt alone
+abbrev pub build_options : List (List ℕ × OptionWord)
+build_options = (codes "-b", option.Band)
+    ∷ (codes "-q", option.Quiet)
+    ∷ (codes "-resolution", option.Resolution)
+    ∷ (codes "-tr", option.PixelSize)
+    ∷ (codes "-te", option.Extent)
+    ∷ (codes "-srcnodata", option.SourceNodata)
+    ∷ (codes "-vrtnodata", option.MosaicNodata)
+    ∷ (codes "-separate", option.Separate)
+    ∷ (codes "-strict", option.Strict)
+    ∷ (codes "-overwrite", option.Overwrite)
+    ∷ (codes "-input_file_list", option.InputList)
+    ∷ []
+
 -- the option that a table has for a word
 abbrev pub option_in : List (List ℕ × OptionWord) → List ℕ → Option OptionWord
 option_in [] word = None
@@ -48,6 +63,7 @@ unfoldable pub own_option_of : Tool → List ℕ → Option OptionWord
 own_option_of Info word = None
 own_option_of Locate word = option_in locate_options word
 own_option_of Translate word = option_in translate_options word
+own_option_of Build word = option_in build_options word
 
 abbrev pub either_option : Option OptionWord → Option OptionWord → Option OptionWord
 either_option (Some option) own = Some option
@@ -78,3 +94,12 @@ value_count option.Creation = 1
 value_count option.Quiet = 0
 value_count option.Inside = 0
 value_count option.Touching = 0
+value_count option.Resolution = 1
+value_count option.PixelSize = 2
+value_count option.Extent = 4
+value_count option.SourceNodata = 1
+value_count option.MosaicNodata = 1
+value_count option.Separate = 0
+value_count option.Strict = 0
+value_count option.Overwrite = 0
+value_count option.InputList = 1

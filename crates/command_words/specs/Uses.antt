@@ -1,30 +1,33 @@
 -- The uses of options and positional words, and what they say.
-use Rattle.std.specs.Prelude.{ℕ, ℤ, ◌+◌, ◌++◌, ◌==◌, not, ◌||◌, Bool, true, false, List, [], ◌∷◌, take, codes, bytes_eq, slice_get, Option, Some, None, is_some, option_map, Result, Ok, Err, ok_or, zero, suc, if◌then◌else◌}
+use Rattle.std.specs.Prelude.{ℕ, ℤ, ◌+◌, ◌++◌, ◌==◌, not, ◌||◌, Bool, true, false, List, [], ◌∷◌, take, Option, Some, None, is_some, option_map, Result, Ok, Err, ok_or, zero, suc, if◌then◌else◌}
 use Rattle.std.specs.Option.{unwrap_or}
 use Rattle.lists_and_answers.specs.Answers.{◌>>=◌}
 use Rattle.geotransform.specs.Decimal.{is_decimal, ticks_of}
-use Rattle.geotransform.specs.Types.{type_named}
 use Rattle.geotransform.specs.declared.types.PixelType.{PixelType}
 use Rattle.esri_hdr.specs.declared.parts.Layout.{Layout}
 use Rattle.catalog.specs.declared.nodata.NodataWord.{NodataWord}
 use Rattle.catalog.specs.declared.nodata.NodataWord.TheVariants as nodata
 use Rattle.translate_plan.specs.declared.options.View.{View}
-use Rattle.translate_plan.specs.declared.options.View.TheVariants as view
 use Rattle.translate_plan.specs.declared.options.OutSize.{OutSize}
+use Rattle.buildvrt.specs.declared.options.Resolution.{Resolution}
+use Rattle.buildvrt.specs.declared.options.Extent.{Extent}
 use Rattle.command_words.specs.declared.options.Tool.{Tool}
-use Rattle.command_words.specs.declared.options.Tool.TheVariants.{Info, Locate, Translate}
+use Rattle.command_words.specs.declared.options.Tool.TheVariants.{Info, Locate, Translate, Build}
 use Rattle.command_words.specs.declared.options.OptionWord.{OptionWord}
-use Rattle.command_words.specs.declared.options.OptionWord.TheVariants as option
+use Rattle.command_words.specs.declared.spoken.MosaicSaid.{MosaicSaid}
+use Rattle.command_words.specs.declared.spoken.MosaicSaid.TheVariants as mosaic
+use Rattle.command_words.specs.declared.spoken.MosaicWanted.{MosaicWanted}
 use Rattle.command_words.specs.declared.spoken.OutFormat.{OutFormat}
+use Rattle.command_words.specs.declared.spoken.ResolutionWord.{ResolutionWord}
 use Rattle.command_words.specs.declared.spoken.Said.{Said}
 use Rattle.command_words.specs.declared.spoken.Said.TheVariants as said
-use Rattle.command_words.specs.declared.spoken.Spot.{Spot}
 use Rattle.command_words.specs.declared.spoken.Spoken.{Spoken}
 use Rattle.command_words.specs.declared.spoken.Wanted.{Wanted}
 use Rattle.command_words.specs.declared.spoken.WordFault.{WordFault}
 use Rattle.command_words.specs.declared.spoken.WordFault.TheVariants.{Usage}
 use Rattle.command_words.specs.Options.{option_of, value_count}
-use Rattle.command_words.specs.Values.{begins_with_dash, band_of, blocks_of, integer_of, side_of, name_of, is_no, format_of, layout_of, nodata_of}
+use Rattle.command_words.specs.Said.{option_said}
+use Rattle.command_words.specs.Values.{begins_with_dash, name_of}
 
 -- a word that isn't the value of an option: its number, the option that it is, if it is one, and its values, which may end early
 pub record Use : Type 0 where
@@ -44,113 +47,26 @@ cut tool at taken [] = []
 cut tool at zero (word ∷ words) = record { at = at; word = word; option = option_of tool word; values = take (taken_by (option_of tool word)) words } ∷ cut tool (at + 1) (taken_by (option_of tool word)) words
 cut tool at (suc taken) (word ∷ words) = cut tool (at + 1) taken words
 
--- a value, counted from 0, by how it is read; one that is refused is named, and where the values end early the number of all words is
-abbrev pub value_said : {T : Type 0} → (List ℕ → Option T) → Spot → List (List ℕ) → ℕ → Result T WordFault
-value_said read spot values i = do
-  word ← ok_or (slice_get values i) (Usage spot.count)
-  ok_or (read word) (Usage (spot.at + 1 + i))
-
--- any text
-abbrev pub any_text : List ℕ → Option (List ℕ)
-any_text word = Some word
-
--- what a setting says: only that of DTED_VERIFY_CHECKSUM has an effect
-abbrev pub setting_said : List ℕ → List ℕ → Said
-setting_said key value = if bytes_eq key (codes "DTED_VERIFY_CHECKSUM") then said.Verification (not (is_no value)) else said.Setting
-
-unfoldable pub config_said : Spot → List (List ℕ) → Result Said WordFault
-config_said spot values = do
-  key ← value_said any_text spot values 0
-  value ← value_said any_text spot values 1
-  Ok (setting_said key value)
-
-unfoldable pub window_said : Spot → List (List ℕ) → Result Said WordFault
-window_said spot values = do
-  x ← value_said integer_of spot values 0
-  y ← value_said integer_of spot values 1
-  w ← value_said integer_of spot values 2
-  h ← value_said integer_of spot values 3
-  Ok (said.Window (view.Pixels x y w h))
-
-unfoldable pub places_said : Spot → List (List ℕ) → Result Said WordFault
-places_said spot values = do
-  ulx ← value_said ticks_of spot values 0
-  uly ← value_said ticks_of spot values 1
-  lrx ← value_said ticks_of spot values 2
-  lry ← value_said ticks_of spot values 3
-  Ok (said.Places (view.Places ulx uly lrx lry))
-
-unfoldable pub outsize_said : Spot → List (List ℕ) → Result Said WordFault
-outsize_said spot values = do
-  w ← value_said side_of spot values 0
-  h ← value_said side_of spot values 1
-  Ok (said.OutSize w h)
-
-unfoldable pub band_said : Spot → List (List ℕ) → Result Said WordFault
-band_said spot values = do
-  band ← value_said band_of spot values 0
-  Ok (said.Band band)
-
-unfoldable pub blocks_said : Spot → List (List ℕ) → Result Said WordFault
-blocks_said spot values = do
-  blocks ← value_said blocks_of spot values 0
-  Ok (said.Blocks blocks)
-
-unfoldable pub format_said : Spot → List (List ℕ) → Result Said WordFault
-format_said spot values = do
-  format ← value_said format_of spot values 0
-  Ok (said.Format format)
-
-unfoldable pub nodata_said : Spot → List (List ℕ) → Result Said WordFault
-nodata_said spot values = do
-  word ← value_said nodata_of spot values 0
-  Ok (said.Nodata word)
-
-unfoldable pub kind_said : Spot → List (List ℕ) → Result Said WordFault
-kind_said spot values = do
-  kind ← value_said (type_named true) spot values 0
-  Ok (said.Kind kind)
-
-unfoldable pub creation_said : Spot → List (List ℕ) → Result Said WordFault
-creation_said spot values = do
-  layout ← value_said layout_of spot values 0
-  Ok (said.Interleave layout)
-
--- what an option says by its values
-abbrev pub option_said : OptionWord → Spot → List (List ℕ) → Result Said WordFault
-option_said option.Config spot values = config_said spot values
-option_said option.Blocks spot values = blocks_said spot values
-option_said option.Band spot values = band_said spot values
-option_said option.ValuesOnly spot values = Ok said.ValuesOnly
-option_said option.FilesOnly spot values = Ok said.FilesOnly
-option_said option.Geoloc spot values = Ok said.Geoloc
-option_said option.Format spot values = format_said spot values
-option_said option.Window spot values = window_said spot values
-option_said option.Places spot values = places_said spot values
-option_said option.OutSize spot values = outsize_said spot values
-option_said option.Nodata spot values = nodata_said spot values
-option_said option.Kind spot values = kind_said spot values
-option_said option.Creation spot values = creation_said spot values
-option_said option.Quiet spot values = Ok said.Quiet
-option_said option.Inside spot values = Ok said.Inside
-option_said option.Touching spot values = Ok said.Touching
-
 -- whether a word that begins with a dash may stand without an option
 abbrev pub may_be_negative : Tool → List ℕ → Bool
 may_be_negative Info word = false
 may_be_negative Locate word = is_decimal word
 may_be_negative Translate word = false
+may_be_negative Build word = false
 
 -- whether a word that is no option is positional
 abbrev pub is_positional : Tool → List ℕ → Bool
 is_positional tool word = not (begins_with_dash word) || may_be_negative tool word
 
--- a positional word as the name of a dataset, as that of an output, and as a number of a point
+-- a positional word as the name of a dataset, as that of an output, as one of many inputs, and as a number of a point
 abbrev pub source_said : List ℕ → Option Said
 source_said word = option_map (λ name. said.Source name) (name_of word)
 
 abbrev pub output_said : List ℕ → Option Said
 output_said word = option_map (λ name. said.Output name) (name_of word)
+
+abbrev pub input_said : List ℕ → Option Said
+input_said word = option_map (λ name. said.Input name) (name_of word)
 
 abbrev pub x_said : List ℕ → Option Said
 x_said word = option_map (λ x. said.X x) (ticks_of word)
@@ -163,6 +79,7 @@ abbrev pub placed : Tool → ℕ → List ℕ → Option Said
 placed Info before word = if before == 0 then source_said word else None
 placed Locate before word = if before == 0 then source_said word else if before == 1 then x_said word else if before == 2 then y_said word else None
 placed Translate before word = if before == 0 then source_said word else if before == 1 then output_said word else None
+placed Build before word = if before == 0 then output_said word else input_said word
 
 -- what a positional word behind so many others says
 unfoldable pub placed_said : Tool → ℕ → ℕ → List ℕ → Result Said WordFault
@@ -199,6 +116,10 @@ verification at other = None
 abbrev pub block_count : ℕ → Said → Option ℕ
 block_count at (said.Blocks blocks) = Some blocks
 block_count at other = None
+
+abbrev pub band_place : ℕ → Said → Option ℕ
+band_place at (said.Band band) = Some at
+band_place at other = None
 
 abbrev pub values_only : ℕ → Said → Option ℕ
 values_only at said.ValuesOnly = Some at
@@ -252,6 +173,38 @@ abbrev pub touching : ℕ → Said → Option ℕ
 touching at said.Touching = Some at
 touching at other = None
 
+abbrev pub resolution : ℕ → Said → Option (ℕ × ResolutionWord)
+resolution at (said.Mosaic (mosaic.Resolution word)) = Some (at, word)
+resolution at other = None
+
+abbrev pub pixel_size : ℕ → Said → Option (ℕ × Resolution)
+pixel_size at (said.Mosaic (mosaic.PixelSize size)) = Some (at, size)
+pixel_size at other = None
+
+abbrev pub extent : ℕ → Said → Option Extent
+extent at (said.Mosaic (mosaic.Extent e)) = Some e
+extent at other = None
+
+abbrev pub source_nodata : ℕ → Said → Option NodataWord
+source_nodata at (said.Mosaic (mosaic.SourceNodata n)) = Some n
+source_nodata at other = None
+
+abbrev pub mosaic_nodata : ℕ → Said → Option NodataWord
+mosaic_nodata at (said.Mosaic (mosaic.Nodata n)) = Some n
+mosaic_nodata at other = None
+
+abbrev pub separate : ℕ → Said → Option ℕ
+separate at (said.Mosaic mosaic.Separate) = Some at
+separate at other = None
+
+abbrev pub strict : ℕ → Said → Option ℕ
+strict at (said.Mosaic mosaic.Strict) = Some at
+strict at other = None
+
+abbrev pub list : ℕ → Said → Option (List ℕ)
+list at (said.List name) = Some name
+list at other = None
+
 abbrev pub source : ℕ → Said → Option (List ℕ)
 source at (said.Source name) = Some name
 source at other = None
@@ -268,6 +221,10 @@ abbrev pub y_place : ℕ → Said → Option ℤ
 y_place at (said.Y y) = Some y
 y_place at other = None
 
+abbrev pub tile : ℕ → Said → Option ℕ
+tile at (said.Tile n) = Some n
+tile at other = None
+
 -- all bands, in the order in which they are said
 abbrev pub with_band : List ℕ → Said → List ℕ
 with_band bands (said.Band band) = bands ++ band ∷ []
@@ -276,6 +233,15 @@ with_band bands other = bands
 abbrev pub bands_said : List (ℕ × Said) → List ℕ
 bands_said [] = []
 bands_said (u ∷ us) = with_band (bands_said us) u.1
+
+-- all inputs, in the order in which they are said
+abbrev pub with_input : List (List ℕ) → Said → List (List ℕ)
+with_input inputs (said.Input name) = inputs ++ name ∷ []
+with_input inputs other = inputs
+
+abbrev pub inputs_said : List (ℕ × Said) → List (List ℕ)
+inputs_said [] = []
+inputs_said (u ∷ us) = with_input (inputs_said us) u.1
 
 -- what they want of a translation: the last of each option
 abbrev pub wanted_of : List (ℕ × Said) → Wanted
@@ -287,9 +253,20 @@ wanted_of uses = record {
   nodata = unwrap_or (last nodata_word uses) nodata.Absent;
   kind = last kind uses;
   interleave = last interleave uses;
-  quiet = is_some (last quiet uses);
   inside = is_some (last inside uses);
   touching = is_some (last touching uses);
+}
+
+-- the same of a mosaic
+abbrev pub mosaic_of : List (ℕ × Said) → MosaicWanted
+mosaic_of uses = record {
+  resolution = last resolution uses;
+  pixel_size = last pixel_size uses;
+  extent = last extent uses;
+  src_nodata = unwrap_or (last source_nodata uses) nodata.Absent;
+  vrt_nodata = unwrap_or (last mosaic_nodata uses) nodata.Absent;
+  separate = last separate uses;
+  strict = is_some (last strict uses);
 }
 
 -- what uses say in all: the last of each option, all bands, and the positional words
@@ -298,22 +275,38 @@ spoken_of uses = record {
   verify = unwrap_or (last verification uses) false;
   blocks = unwrap_or (last block_count uses) 64;
   bands = bands_said uses;
+  band_at = last band_place uses;
   values_only = last values_only uses;
   files_only = last files_only uses;
   geoloc = is_some (last geoloc uses);
+  quiet = is_some (last quiet uses);
   wanted = wanted_of uses;
+  mosaic = mosaic_of uses;
+  list = last list uses;
+  inputs = inputs_said uses;
   source = last source uses;
   output = last output uses;
   x = last x_place uses;
   y = last y_place uses;
+  tile = last tile uses;
 }
+
+-- what is wanted of a mosaic with one use more
+abbrev pub with_mosaic : ℕ → MosaicSaid → MosaicWanted → MosaicWanted
+with_mosaic at (mosaic.Resolution word) m = record m { resolution = Some (at, word) }
+with_mosaic at (mosaic.PixelSize size) m = record m { pixel_size = Some (at, size) }
+with_mosaic at (mosaic.Extent e) m = record m { extent = Some e }
+with_mosaic at (mosaic.SourceNodata word) m = record m { src_nodata = word }
+with_mosaic at (mosaic.Nodata word) m = record m { vrt_nodata = word }
+with_mosaic at mosaic.Separate m = record m { separate = Some at }
+with_mosaic at mosaic.Strict m = record m { strict = true }
 
 -- what is said in all with one use more
 abbrev pub with_said : ℕ → Said → Spoken → Spoken
 with_said at said.Setting s = s
 with_said at (said.Verification on) s = record s { verify = on }
 with_said at (said.Blocks blocks) s = record s { blocks = blocks }
-with_said at (said.Band band) s = record s { bands = s.bands ++ band ∷ [] }
+with_said at (said.Band band) s = record s { bands = s.bands ++ band ∷ []; band_at = Some at }
 with_said at said.ValuesOnly s = record s { values_only = Some at }
 with_said at said.FilesOnly s = record s { files_only = Some at }
 with_said at said.Geoloc s = record s { geoloc = true }
@@ -324,13 +317,17 @@ with_said at (said.OutSize w h) s = record s { wanted = record s.wanted { outsiz
 with_said at (said.Nodata word) s = record s { wanted = record s.wanted { nodata = word } }
 with_said at (said.Kind kind) s = record s { wanted = record s.wanted { kind = Some kind } }
 with_said at (said.Interleave layout) s = record s { wanted = record s.wanted { interleave = Some (at, layout) } }
-with_said at said.Quiet s = record s { wanted = record s.wanted { quiet = true } }
+with_said at said.Quiet s = record s { quiet = true }
 with_said at said.Inside s = record s { wanted = record s.wanted { inside = true } }
 with_said at said.Touching s = record s { wanted = record s.wanted { touching = true } }
+with_said at (said.Mosaic wish) s = record s { mosaic = with_mosaic at wish s.mosaic }
+with_said at (said.List name) s = record s { list = Some name }
 with_said at (said.Source name) s = record s { source = Some name }
 with_said at (said.Output name) s = record s { output = Some (at, name) }
+with_said at (said.Input name) s = record s { inputs = s.inputs ++ name ∷ [] }
 with_said at (said.X x) s = record s { x = Some x }
 with_said at (said.Y y) s = record s { y = Some y }
+with_said at (said.Tile n) s = record s { tile = Some n }
 
 -- the same of the words behind the first, of all words so many
 unfoldable pub spoken_in : Tool → ℕ → List (List ℕ) → Result Spoken WordFault

@@ -1,6 +1,6 @@
 -- The values of options.
-use Rattle.std.specs.Prelude.{ℕ, ℤ, pos, neg_ℤ, ◌-◌, ◌==◌, ◌&&◌, ◌||◌, ◌^◌, Bool, false, nat_le, List, [], ◌∷◌, length, take, drop, codes, bytes_eq, Option, Some, None, option_map, option_and_then, if◌then◌else◌, int_le}
-use Rattle.geotransform.specs.Decimal.{number_of, whole_of}
+use Rattle.std.specs.Prelude.{ℕ, ℤ, pos, neg_ℤ, ◌-◌, ◌==◌, ◌&&◌, ◌||◌, ◌^◌, Bool, false, nat_le, List, [], ◌∷◌, length, take, drop, codes, bytes_eq, Option, Some, None, option_map, option_and_then, if◌then◌else◌, int_le, int_lt}
+use Rattle.geotransform.specs.Decimal.{number_of, whole_of, ticks_of}
 use Rattle.outside.specs.Names.{same_letters}
 use Rattle.outside.specs.Paths.{normal}
 use Rattle.esri_hdr.specs.declared.parts.Layout.{Layout}
@@ -10,7 +10,9 @@ use Rattle.catalog.specs.declared.nodata.NodataWord.TheVariants as nodata
 use Rattle.translate_plan.specs.declared.options.OutSize.{OutSize}
 use Rattle.translate_plan.specs.declared.options.OutSize.TheVariants as sizes
 use Rattle.command_words.specs.declared.spoken.OutFormat.{OutFormat}
-use Rattle.command_words.specs.declared.spoken.OutFormat.TheVariants.{EHdr, Dted, SrtmHgt, AaiGrid}
+use Rattle.command_words.specs.declared.spoken.OutFormat.TheVariants.{EHdr, Dted, SrtmHgt, AaiGrid, Vrt}
+use Rattle.command_words.specs.declared.spoken.ResolutionWord.{ResolutionWord}
+use Rattle.command_words.specs.declared.spoken.ResolutionWord.TheVariants.{Highest, Lowest, Average, User}
 
 abbrev pub begins_with_dash : List ℕ → Bool
 begins_with_dash [] = false
@@ -30,6 +32,10 @@ band_of word = number_within 256 (short_of word)
 
 abbrev pub blocks_of : List ℕ → Option ℕ
 blocks_of word = number_within 65536 (short_of word)
+
+-- the side of a tile that synth makes
+abbrev pub tile_side_of : List ℕ → Option ℕ
+tile_side_of word = number_within 4096 (short_of word)
 
 -- one to nine digits, with a minus or without
 abbrev pub integer_of : List ℕ → Option ℤ
@@ -56,7 +62,7 @@ is_no word = same_letters word (codes "NO") || (same_letters word (codes "FALSE"
 
 -- the format that -of names
 unfoldable pub format_of : List ℕ → Option OutFormat
-format_of word = if same_letters word (codes "EHdr") then Some EHdr else if same_letters word (codes "DTED") then Some Dted else if same_letters word (codes "SRTMHGT") then Some SrtmHgt else if same_letters word (codes "AAIGrid") then Some AaiGrid else None
+format_of word = if same_letters word (codes "EHdr") then Some EHdr else if same_letters word (codes "DTED") then Some Dted else if same_letters word (codes "SRTMHGT") then Some SrtmHgt else if same_letters word (codes "AAIGrid") then Some AaiGrid else if same_letters word (codes "VRT") then Some Vrt else None
 
 -- the layout that -co asks for
 unfoldable pub layout_of : List ℕ → Option Layout
@@ -72,3 +78,14 @@ wide_number n = if is_wide n then Some (nodata.Number n) else None
 -- no NODATA, or a whole number
 unfoldable pub nodata_of : List ℕ → Option NodataWord
 nodata_of word = if same_letters word (codes "none") then Some nodata.Remove else option_and_then wide_number (whole_of word)
+
+-- the resolution that -resolution names, with case
+unfoldable pub resolution_named : List ℕ → Option ResolutionWord
+resolution_named word = if bytes_eq word (codes "highest") then Some Highest else if bytes_eq word (codes "lowest") then Some Lowest else if bytes_eq word (codes "average") then Some Average else if bytes_eq word (codes "user") then Some User else None
+
+-- a number above another, and the ticks of a decimal text where they are above so many
+abbrev pub above : ℤ → ℤ → Option ℤ
+above least n = if int_lt least n then Some n else None
+
+abbrev pub beyond : ℤ → List ℕ → Option ℤ
+beyond least word = option_and_then (above least) (ticks_of word)

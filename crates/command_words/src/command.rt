@@ -1,9 +1,10 @@
 // What the words of a command line ask for.
 use crate::numbers::{BandNumber, BlockCount};
+use buildvrt::BuildOptions;
 use input_points::Position;
 use lists_and_answers::Items;
 use location_report::Form;
-use outside::Name;
+use outside::{Name, Names};
 use translate_plan::TranslateOptions;
 
 /// Numbers of bands, in the order in which the words give them.
@@ -29,6 +30,14 @@ pub enum Job {
     Translate {
         src: Name,
         options: TranslateOptions,
+        quiet: bool,
+    },
+    /// A mosaic of inputs: those of the words, then those that the lines of `list` name, where one is given. There
+    /// is an input among the words, or a list. `quiet` says that nothing is told of the work.
+    Build {
+        inputs: Names,
+        list: Option<Name>,
+        options: BuildOptions,
         quiet: bool,
     },
 }

@@ -2,17 +2,20 @@
 ghost use Rattle.std.specs.Prelude.{◌≡◌, ◌<◌, ◌≤◌, All, IfSome, IfOk, IfErr};
 ghost use Rattle.lists_and_answers.specs.Answers.{Gives};
 ghost use Rattle.translate_plan.specs.Options.{IsDriver, IsView, IsOutSize};
-ghost use Rattle.command_words.specs.Jobs.{point_of, form_of, raw_in, cell_at, written_as, is_same_format, of_format, written_of, view_of, layout_in, asked_of, info_job, locate_job, translate_job, job_of};
+ghost use Rattle.buildvrt.specs.Options.{IsResolution, IsExtent, IsWord};
+ghost use Rattle.command_words.specs.Jobs.{point_of, form_of, raw_in, cell_at, written_as, is_same_format, of_format, written_of, view_of, layout_in, asked_of, info_job, locate_job, translate_job, inputs_of, separate_of, named_resolution, given_resolution, resolution_of, asked_mosaic, build_job, job_of};
 ghost use Rattle.command_words.specs.Words.{IsMemory};
 
 use crate::command::Job;
-use crate::numbers::{AskedView, BandNumber, Side};
+use crate::numbers::{AskedExtent, AskedNodata, AskedResolution, AskedView, BandNumber, Side};
 use crate::options::Tool;
-use crate::spoken::{OutFormat, Spoken, Wanted, WordFault};
+use crate::spoken::{MosaicWanted, OutFormat, ResolutionWord, Spoken, Wanted, WordFault};
+use buildvrt::{BuildOptions, Extent, Resolution};
+use catalog::NodataWord;
 use esri_hdr::Layout;
 use input_points::Position;
 use location_report::Form;
-use outside::{Ext, Name};
+use outside::{Ext, Name, Names};
 use std::alloc::Global;
 use translate_plan::{Driver, Numbers, OutSize, TranslateOptions, View};
 
@@ -109,7 +112,7 @@ fn cell_at(level: u32) -> Option<Written>
     })
 }
 
-// How a file of a kind is written; mosaics aren't.
+// How a file of a kind is written.
 fn written_as(ext: Ext) -> Option<Written>
     ensures value { result ≡ written_as ext }
     ensures kept { IfSome result (λ w. IsDriver w.driver) }
@@ -131,7 +134,11 @@ fn written_as(ext: Ext) -> Option<Written>
             driver: Driver::AaiGrid,
             layout: Layout::Bil,
         }),
-        Ext::Vrt => None,
+        Ext::Vrt => Some(Written {
+            format: OutFormat::Vrt,
+            driver: Driver::Vrt,
+            layout: Layout::Bil,
+        }),
     }
 }
 
@@ -142,7 +149,8 @@ fn is_same_format(format: OutFormat, other: OutFormat) -> bool
         (OutFormat::EHdr, OutFormat::EHdr)
         | (OutFormat::Dted, OutFormat::Dted)
         | (OutFormat::SrtmHgt, OutFormat::SrtmHgt)
-        | (OutFormat::AaiGrid, OutFormat::AaiGrid) => true,
+        | (OutFormat::AaiGrid, OutFormat::AaiGrid)
+        | (OutFormat::Vrt, OutFormat::Vrt) => true,
         _ => false,
     }
 }
@@ -262,6 +270,7 @@ fn translate_job(alloc: Global, count: u64, said: Spoken) -> Result<Job, WordFau
 {
     let Spoken {
         bands,
+        quiet,
         wanted,
         source,
         output,
@@ -286,7 +295,162 @@ fn translate_job(alloc: Global, count: u64, said: Spoken) -> Result<Job, WordFau
     Ok(Job::Translate {
         src,
         options,
-        quiet: wanted.quiet,
+        quiet,
+    })
+}
+
+// The inputs that stand among the words; a mosaic needs one, or a list of them.
+fn inputs_of(count: u64, inputs: Names, list: &Option<Name>) -> Result<Names, WordFault>
+    ensures { result ≡ inputs_of count inputs list.now }
+{
+    if inputs.is_empty() && list.is_none() {
+        Err(WordFault::Usage { word: count })
+    } else {
+        Ok(inputs)
+    }
+}
+
+fn separate_of(separate: Option<u64>, band: Option<u64>) -> Result<bool, WordFault>
+    ensures { result ≡ separate_of separate band }
+{
+    match (separate, band) {
+        (None, _) => Ok(false),
+        (Some(_), None) => Ok(true),
+        (Some(separate), Some(band)) => Err(WordFault::Usage {
+            word: separate.max(band),
+        }),
+    }
+}
+
+fn named_resolution(count: u64, word: ResolutionWord) -> Result<Resolution, WordFault>
+    ensures value { result ≡ named_resolution count word }
+    ensures kept { IfOk result IsResolution }
+{
+    match word {
+        ResolutionWord::Highest => Ok(Resolution::Highest),
+        ResolutionWord::Lowest => Ok(Resolution::Lowest),
+        ResolutionWord::Average => Ok(Resolution::Average),
+        ResolutionWord::User => Err(WordFault::Usage { word: count }),
+    }
+}
+
+fn given_resolution(
+    named: (u64, ResolutionWord),
+    given: (u64, AskedResolution),
+) -> Result<Resolution, WordFault>
+    ensures value { result ≡ given_resolution named given }
+    ensures kept { IfOk result IsResolution }
+{
+    match named.1 {
+        ResolutionWord::User => Ok(given.1.get()),
+        ResolutionWord::Highest | ResolutionWord::Lowest | ResolutionWord::Average => {
+            Err(WordFault::Usage {
+                word: named.0.max(given.0),
+            })
+        }
+    }
+}
+
+// The resolution of a mosaic, by its word and the given size of pixels.
+fn resolution_of(
+    count: u64,
+    named: Option<(u64, ResolutionWord)>,
+    given: Option<(u64, AskedResolution)>,
+) -> Result<Resolution, WordFault>
+    ensures value { result ≡ resolution_of count named given }
+    ensures kept { IfOk result IsResolution }
+{
+    match (named, given) {
+        (None, None) => Ok(Resolution::Average),
+        (None, Some((_, size))) => Ok(size.get()),
+        (Some((_, word)), None) => named_resolution(count, word),
+        (Some(named), Some(given)) => given_resolution(named, given),
+    }
+}
+
+/// Whether each input gives a band of its own, and the resolution of a mosaic.
+#[derive(Clone, Copy)]
+pub struct AskedMosaic {
+    pub separate: bool,
+    pub resolution: Resolution,
+}
+
+// How the mosaic of this name, which is the word of this number, is to be: what doesn't go together is refused.
+#[tactic(auto, unfolding(crate::specs::Jobs::asked_mosaic))]
+fn asked_mosaic(
+    count: u64,
+    wanted: MosaicWanted,
+    band_at: Option<u64>,
+    at: u64,
+    name: &Name,
+) -> Result<AskedMosaic, WordFault>
+    ensures value { result ≡ asked_mosaic count wanted band_at at name.now }
+    ensures kept { IfOk result (λ a. IsResolution a.resolution) }
+{
+    let Some(_) = written_of(Some(OutFormat::Vrt), name) else {
+        return Err(WordFault::Usage { word: at });
+    };
+    let separate = separate_of(wanted.separate, band_at)?;
+    let resolution = resolution_of(count, wanted.resolution, wanted.pixel_size)?;
+    Ok(AskedMosaic {
+        separate,
+        resolution,
+    })
+}
+
+// The extent that is asked for.
+fn extent_of(extent: Option<AskedExtent>) -> Option<Extent>
+    ensures value { result ≡ extent }
+    ensures kept { IfSome result IsExtent }
+{
+    match extent {
+        None => None,
+        Some(extent) => Some(extent.get()),
+    }
+}
+
+// The NODATA that is asked for.
+fn nodata_of(nodata: AskedNodata) -> NodataWord
+    ensures value { result ≡ nodata }
+    ensures kept { IsWord result }
+{
+    nodata.get()
+}
+
+#[tactic(auto, unfolding(crate::specs::Jobs::build_job))]
+fn build_job(alloc: Global, count: u64, said: Spoken) -> Result<Job, WordFault>
+    ensures { Gives IsMemory (λ job. job) result (build_job count said) }
+{
+    let Spoken {
+        bands,
+        band_at,
+        quiet,
+        mosaic,
+        list,
+        inputs,
+        output,
+        ..
+    } = said;
+    let Some((at, out)) = output else {
+        return Err(WordFault::Usage { word: count });
+    };
+    let inputs = inputs_of(count, inputs, &list)?;
+    let asked = asked_mosaic(count, mosaic, band_at, at, &out)?;
+    let options = BuildOptions {
+        out,
+        bands: numbers_of(alloc, bands.as_slice())?,
+        resolution: asked.resolution,
+        extent: extent_of(mosaic.extent),
+        src_nodata: nodata_of(mosaic.src_nodata),
+        vrt_nodata: nodata_of(mosaic.vrt_nodata),
+        separate: asked.separate,
+        strict: mosaic.strict,
+    };
+    Ok(Job::Build {
+        inputs,
+        list,
+        options,
+        quiet,
     })
 }
 
@@ -298,5 +462,6 @@ pub fn job_of(alloc: Global, tool: Tool, count: u64, said: Spoken) -> Result<Job
         Tool::Info => info_job(count, said),
         Tool::Locate => locate_job(count, said),
         Tool::Translate => translate_job(alloc, count, said),
+        Tool::Build => build_job(alloc, count, said),
     }
 }

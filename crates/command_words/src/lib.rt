@@ -5,12 +5,13 @@ mod command;
 mod jobs;
 mod numbers;
 mod options;
+mod said;
 mod spoken;
 mod uses;
 mod values;
 mod words;
 
 pub use command::{BandNumbers, Command, Job};
-pub use numbers::{BandNumber, BlockCount};
+pub use numbers::{BandNumber, BlockCount, SynthSide};
 pub use spoken::WordFault;
 pub use words::read_words;

@@ -1,7 +1,9 @@
 // Numbers and other values that keep the ranges of words.
 ghost use Rattle.std.specs.Prelude.{◌≡◌, ◌≤◌, ◌&&◌, nat_le, if◌then◌else◌, Some, None};
 ghost use Rattle.translate_plan.specs.Options.{IsView, IsOutSize, IsWord};
+ghost use Rattle.buildvrt.specs.Options.{IsResolution, IsExtent};
 
+use buildvrt::{Extent, Resolution};
 use catalog::NodataWord;
 use std::marker::Model;
 use translate_plan::{OutSize, View};
@@ -93,6 +95,46 @@ impl BlockCount {
         ensures value { result ≡ self }
         ensures some { 1 ≤ result }
         ensures few { result ≤ 65536 }
+    {
+        self.number
+    }
+}
+
+/// The side of the tiles that `synth` makes, from 1 to 4,096.
+#[derive(Clone, Copy)]
+pub struct SynthSide {
+    number: u32,
+}
+
+impl Model for SynthSide {
+    ghost use Rattle.std.specs.Prelude.{ℕ, ◌≤◌};
+
+    ghost Value = { ℕ };
+
+    ghost view = { λ b. b.number };
+
+    ghost invariant = { λ b. (1 ≤ b.number) × (b.number ≤ 4096) };
+
+    ghost inverse = { λ n. record { number = n } };
+}
+
+impl SynthSide {
+    /// The number where it is from 1 to 4,096, else none.
+    pub fn new(number: u32) -> Option<SynthSide>
+        ensures exact { result ≡ (if nat_le 1 number && nat_le number 4096 then Some number else None) }
+    {
+        if number >= 1 && number <= 4096 {
+            Some(SynthSide { number })
+        } else {
+            None
+        }
+    }
+
+    /// The number.
+    pub fn get(self) -> u32
+        ensures value { result ≡ self }
+        ensures some { 1 ≤ result }
+        ensures few { result ≤ 4096 }
     {
         self.number
     }
@@ -206,5 +248,79 @@ impl AskedNodata {
         ensures kept { IsWord result }
     {
         self.word
+    }
+}
+
+/// A resolution with sizes as words give them.
+#[derive(Clone, Copy)]
+pub struct AskedResolution {
+    resolution: Resolution,
+}
+
+impl Model for AskedResolution {
+    ghost use Rattle.buildvrt.specs.declared.options.Resolution.{Resolution};
+    ghost use Rattle.buildvrt.specs.Options.{IsResolution};
+
+    ghost Value = { Resolution };
+
+    ghost view = { λ v. v.resolution };
+
+    ghost invariant = { λ v. IsResolution v.resolution };
+
+    ghost inverse = { λ v. record { resolution = v } };
+}
+
+impl AskedResolution {
+    /// This resolution.
+    pub fn of(resolution: Resolution) -> AskedResolution
+        requires { IsResolution resolution }
+        ensures { result ≡ resolution }
+    {
+        AskedResolution { resolution }
+    }
+
+    /// What was asked for.
+    pub fn get(self) -> Resolution
+        ensures value { result ≡ self }
+        ensures kept { IsResolution result }
+    {
+        self.resolution
+    }
+}
+
+/// An extent with places as words give them.
+#[derive(Clone, Copy)]
+pub struct AskedExtent {
+    extent: Extent,
+}
+
+impl Model for AskedExtent {
+    ghost use Rattle.buildvrt.specs.declared.options.Extent.{Extent};
+    ghost use Rattle.buildvrt.specs.Options.{IsExtent};
+
+    ghost Value = { Extent };
+
+    ghost view = { λ v. v.extent };
+
+    ghost invariant = { λ v. IsExtent v.extent };
+
+    ghost inverse = { λ v. record { extent = v } };
+}
+
+impl AskedExtent {
+    /// This extent.
+    pub fn of(extent: Extent) -> AskedExtent
+        requires { IsExtent extent }
+        ensures { result ≡ extent }
+    {
+        AskedExtent { extent }
+    }
+
+    /// What was asked for.
+    pub fn get(self) -> Extent
+        ensures value { result ≡ self }
+        ensures kept { IsExtent result }
+    {
+        self.extent
     }
 }

@@ -1,6 +1,6 @@
 // The commands and their options.
 ghost use Rattle.std.specs.Prelude.{◌≡◌, ◌≤◌};
-ghost use Rattle.command_words.specs.Options.{tool_of, shared_option_of, own_option_of, option_of, option_in, locate_options, translate_options, value_count};
+ghost use Rattle.command_words.specs.Options.{tool_of, shared_option_of, own_option_of, option_of, option_in, locate_options, translate_options, build_options, value_count};
 
 /// The command that the first word names.
 #[derive(Clone, Copy, Debug, PartialEq, Eq)]
@@ -8,6 +8,7 @@ pub enum Tool {
     Info,
     Locate,
     Translate,
+    Build,
 }
 
 /// An option's name.
@@ -36,6 +37,20 @@ pub enum OptionWord {
     Inside,
     /// `-eco`: the window has to touch the raster.
     Touching,
+    Resolution,
+    /// `-tr`
+    PixelSize,
+    /// `-te`
+    Extent,
+    /// `-srcnodata`
+    SourceNodata,
+    /// `-vrtnodata`
+    MosaicNodata,
+    Separate,
+    Strict,
+    Overwrite,
+    /// `-input_file_list`
+    InputList,
 }
 
 /// The command that a word names.
@@ -46,6 +61,7 @@ pub fn tool_of(word: &str) -> Option<Tool>
         _ if word == "gdalinfo" => Some(Tool::Info),
         _ if word == "gdallocationinfo" => Some(Tool::Locate),
         _ if word == "gdal_translate" => Some(Tool::Translate),
+        _ if word == "gdalbuildvrt" => Some(Tool::Build),
         _ => None,
     }
 }
@@ -92,6 +108,25 @@ fn translate_option_of(word: &str) -> Option<OptionWord>
     }
 }
 
+fn build_option_of(word: &str) -> Option<OptionWord>
+    ensures { result ≡ option_in build_options word.now }
+{
+    match word {
+        _ if word == "-b" => Some(OptionWord::Band),
+        _ if word == "-q" => Some(OptionWord::Quiet),
+        _ if word == "-resolution" => Some(OptionWord::Resolution),
+        _ if word == "-tr" => Some(OptionWord::PixelSize),
+        _ if word == "-te" => Some(OptionWord::Extent),
+        _ if word == "-srcnodata" => Some(OptionWord::SourceNodata),
+        _ if word == "-vrtnodata" => Some(OptionWord::MosaicNodata),
+        _ if word == "-separate" => Some(OptionWord::Separate),
+        _ if word == "-strict" => Some(OptionWord::Strict),
+        _ if word == "-overwrite" => Some(OptionWord::Overwrite),
+        _ if word == "-input_file_list" => Some(OptionWord::InputList),
+        _ => None,
+    }
+}
+
 #[tactic(auto, unfolding(crate::specs::Options::own_option_of))]
 fn own_option_of(tool: Tool, word: &str) -> Option<OptionWord>
     ensures { result ≡ own_option_of tool word.now }
@@ -100,6 +135,7 @@ fn own_option_of(tool: Tool, word: &str) -> Option<OptionWord>
         Tool::Info => None,
         Tool::Locate => locate_option_of(word),
         Tool::Translate => translate_option_of(word),
+        Tool::Build => build_option_of(word),
     }
 }
 
@@ -124,14 +160,21 @@ pub fn value_count(option: OptionWord) -> usize
         | OptionWord::Geoloc
         | OptionWord::Quiet
         | OptionWord::Inside
-        | OptionWord::Touching => 0,
+        | OptionWord::Touching
+        | OptionWord::Separate
+        | OptionWord::Strict
+        | OptionWord::Overwrite => 0,
         OptionWord::Blocks
         | OptionWord::Band
         | OptionWord::Format
         | OptionWord::Nodata
         | OptionWord::Kind
-        | OptionWord::Creation => 1,
-        OptionWord::Config | OptionWord::OutSize => 2,
-        OptionWord::Window | OptionWord::Places => 4,
+        | OptionWord::Creation
+        | OptionWord::Resolution
+        | OptionWord::SourceNodata
+        | OptionWord::MosaicNodata
+        | OptionWord::InputList => 1,
+        OptionWord::Config | OptionWord::OutSize | OptionWord::PixelSize => 2,
+        OptionWord::Window | OptionWord::Places | OptionWord::Extent => 4,
     }
 }

@@ -3,11 +3,13 @@ ghost use Rattle.std.specs.Prelude.{◌≡◌};
 ghost use Rattle.command_words.specs.declared.spoken.WordFault.TheVariants as word_fault;
 
 use crate::command::BandNumbers;
-use crate::numbers::{AskedNodata, AskedView, BandNumber, BlockCount, Side};
+use crate::numbers::{
+    AskedExtent, AskedNodata, AskedResolution, AskedView, BandNumber, BlockCount, Side, SynthSide,
+};
 use esri_hdr::Layout;
 use geotransform::PixelType;
 use input_points::Position;
-use outside::Name;
+use outside::{Name, Names};
 use std::alloc::AllocError;
 
 /// A format that an output may be asked to have.
@@ -17,6 +19,17 @@ pub enum OutFormat {
     Dted,
     SrtmHgt,
     AaiGrid,
+    Vrt,
+}
+
+/// What `-resolution` names.
+#[derive(Clone, Copy, Debug, PartialEq, Eq)]
+pub enum ResolutionWord {
+    Highest,
+    Lowest,
+    Average,
+    /// The sizes of a pixel that `-tr` gives.
+    User,
 }
 
 /// Where a word stands: its number, and how many words there are.
@@ -24,6 +37,20 @@ pub enum OutFormat {
 pub struct Spot {
     pub at: u64,
     pub count: u64,
+}
+
+/// What one option of gdalbuildvrt alone says by its values.
+#[derive(Clone, Copy)]
+pub enum MosaicSaid {
+    Resolution(ResolutionWord),
+    PixelSize(AskedResolution),
+    Extent(AskedExtent),
+    /// The NODATA of the inputs.
+    SourceNodata(AskedNodata),
+    /// The NODATA of the mosaic.
+    Nodata(AskedNodata),
+    Separate,
+    Strict,
 }
 
 /// What one option says by its values, or one positional word.
@@ -48,10 +75,15 @@ pub enum Said {
     Quiet,
     Inside,
     Touching,
+    Mosaic(MosaicSaid),
+    /// The file whose lines name inputs.
+    List(Name),
     Source(Name),
     Output(Name),
+    Input(Name),
     X(Position),
     Y(Position),
+    Tile(SynthSide),
 }
 
 /// What is wanted of a translation: the last of each option, some with the number of its word.
@@ -64,9 +96,20 @@ pub struct Wanted {
     pub nodata: AskedNodata,
     pub kind: Option<PixelType>,
     pub interleave: Option<(u64, Layout)>,
-    pub quiet: bool,
     pub inside: bool,
     pub touching: bool,
+}
+
+/// What is wanted of a mosaic: the last of each option, some with the number of its word.
+#[derive(Clone, Copy)]
+pub struct MosaicWanted {
+    pub resolution: Option<(u64, ResolutionWord)>,
+    pub pixel_size: Option<(u64, AskedResolution)>,
+    pub extent: Option<AskedExtent>,
+    pub src_nodata: AskedNodata,
+    pub vrt_nodata: AskedNodata,
+    pub separate: Option<u64>,
+    pub strict: bool,
 }
 
 /// What all words behind the first say: the last of each option, some with the number of its word.
@@ -75,14 +118,21 @@ pub struct Spoken {
     pub verify: bool,
     pub blocks: BlockCount,
     pub bands: BandNumbers,
+    /// The number of the word that chose the last band.
+    pub band_at: Option<u64>,
     pub values_only: Option<u64>,
     pub files_only: Option<u64>,
     pub geoloc: bool,
+    pub quiet: bool,
     pub wanted: Wanted,
+    pub mosaic: MosaicWanted,
+    pub list: Option<Name>,
+    pub inputs: Names,
     pub source: Option<Name>,
     pub output: Option<(u64, Name)>,
     pub x: Option<Position>,
     pub y: Option<Position>,
+    pub tile: Option<SynthSide>,
 }
 
 /// Why words are no command.

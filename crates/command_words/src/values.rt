@@ -1,17 +1,18 @@
 // The values of options, and the names of positional words.
-ghost use Rattle.std.specs.Prelude.{◌≡◌, ◌<◌, ◌^◌, IfSome, ok_or, map, string_bytes, option_map};
+ghost use Rattle.std.specs.Prelude.{◌≡◌, ◌<◌, ◌<ℤ◌, ◌^◌, IfSome, ok_or, map, string_bytes, option_map};
 ghost use Rattle.lists_and_answers.specs.Answers.{Gives};
 ghost use Rattle.geotransform.specs.Decimal.{IsRead};
 ghost use Rattle.outside.specs.Names.{same_letters};
 ghost use Rattle.translate_plan.specs.Options.{IsWhole};
-ghost use Rattle.command_words.specs.Values.{begins_with_dash, short_of, band_of, blocks_of, integer_of, side_of, name_of, is_no, format_of, layout_of, nodata_of, wide_number, is_wide};
+ghost use Rattle.command_words.specs.Values.{begins_with_dash, short_of, band_of, blocks_of, integer_of, side_of, name_of, is_no, format_of, layout_of, nodata_of, wide_number, is_wide, tile_side_of, resolution_named, beyond};
 ghost use Rattle.command_words.specs.Words.{IsMemory};
 
-use crate::numbers::{AskedNodata, BandNumber, BlockCount, Side};
-use crate::spoken::{OutFormat, WordFault};
+use crate::numbers::{AskedNodata, BandNumber, BlockCount, Side, SynthSide};
+use crate::spoken::{OutFormat, ResolutionWord, WordFault};
 use catalog::NodataWord;
 use esri_hdr::Layout;
 use geotransform::{read_number, read_whole};
+use input_points::Position;
 use outside::{Name, NameFault};
 use std::alloc::Global;
 use translate_plan::OutSize;
@@ -51,6 +52,13 @@ pub fn blocks_of(word: &[u8]) -> Option<BlockCount>
     ensures { result ≡ blocks_of word.now }
 {
     BlockCount::new(short_of(word)?)
+}
+
+/// The side of a tile, from 1 to 4,096.
+pub fn tile_side_of(word: &[u8]) -> Option<SynthSide>
+    ensures { result ≡ tile_side_of word.now }
+{
+    SynthSide::new(short_of(word)?)
 }
 
 /// One to nine digits, with a minus or without.
@@ -111,6 +119,7 @@ pub fn format_of(word: &str) -> Option<OutFormat>
         _ if same_letters(word, "DTED") => Some(OutFormat::Dted),
         _ if same_letters(word, "SRTMHGT") => Some(OutFormat::SrtmHgt),
         _ if same_letters(word, "AAIGrid") => Some(OutFormat::AaiGrid),
+        _ if same_letters(word, "VRT") => Some(OutFormat::Vrt),
         _ => None,
     }
 }
@@ -148,6 +157,33 @@ pub fn nodata_of(word: &str) -> Option<AskedNodata>
         return Some(AskedNodata::of(NodataWord::Remove));
     }
     wide_number(read_whole(word.as_bytes())?)
+}
+
+/// The resolution that `-resolution` names.
+#[tactic(auto, unfolding(crate::specs::Values::resolution_named))]
+pub fn resolution_named(word: &str) -> Option<ResolutionWord>
+    ensures { result ≡ resolution_named word.now }
+{
+    match word {
+        _ if word == "highest" => Some(ResolutionWord::Highest),
+        _ if word == "lowest" => Some(ResolutionWord::Lowest),
+        _ if word == "average" => Some(ResolutionWord::Average),
+        _ if word == "user" => Some(ResolutionWord::User),
+        _ => None,
+    }
+}
+
+/// The number of a decimal text, where it is above so many ticks.
+pub fn beyond(least: i128, word: &[u8]) -> Option<Position>
+    ensures value { result ≡ beyond least word.now }
+    ensures kept { IfSome result (λ n. least <ℤ n) }
+{
+    let number = Position::read(word)?;
+    if number.get().get() > least {
+        Some(number)
+    } else {
+        None
+    }
 }
 
 /// The name that a word of this number is.

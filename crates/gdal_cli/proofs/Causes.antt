@@ -11,7 +11,7 @@ use Rattle.info_report.specs.declared.report.ReportFault.{ReportFault}
 use Rattle.info_report.specs.declared.report.ReportFault.TheVariants as report
 use Rattle.location_report.specs.declared.report.Form.{Form}
 use Rattle.error_lines.specs.declared.faults.Fault.{Fault}
-use Rattle.error_lines.specs.declared.faults.Fault.TheVariants.{Usage, Absent, NotRecognized, Malformed, Short, Cycle, TooDeep, Limit, SourceBand, Plan, SameName, BadPoint, Changed, FolderFault, InputFault, OutFault, Memory}
+use Rattle.error_lines.specs.declared.faults.Fault.TheVariants.{Usage, Absent, NotRecognized, Malformed, Short, Cycle, TooDeep, Limit, SourceBand, Plan, Build, SameName, BadPoint, Changed, FolderFault, InputFault, OutFault, Memory}
 use Rattle.error_lines.specs.Faults.{fault_of, report_fault_of, IsOutside, HasNoCause, IsOfReading}
 use Rattle.gdal_cli.specs.declared.asked.Asked.{Asked}
 use Rattle.command_words.specs.declared.command.Command.{Command}
@@ -21,8 +21,9 @@ use Rattle.command_words.specs.declared.spoken.WordFault.{WordFault}
 use Rattle.command_words.specs.declared.spoken.WordFault.TheVariants as word
 use Rattle.gdal_cli.specs.Faults.{IsOfLines, word_fault_of}
 use Rattle.gdal_cli.specs.Location.{asked_in}
-use Rattle.gdal_cli.specs.Published.{names_written, unless_read}
-use Rattle.gdal_cli.proofs.Unread.{same_name}
+use Rattle.published_files.specs.Names.{unless_read}
+use Rattle.published_files.proofs.Same.{same_name}
+use Rattle.gdal_cli.specs.Published.{names_written}
 use Rattle.translate_plan.specs.Options.{Options}
 use Rattle.gdal_cli.specs.Run.{MayEnd, IsRefusal, ended, reads_input, reads_pixels}
 use Rattle.command_words.specs.Words.{IsMemory}
@@ -62,6 +63,7 @@ outside_may job (TooDeep name) out other = absurd out
 outside_may job (Limit what value) out other = absurd out
 outside_may job (SourceBand name band) out other = absurd out
 outside_may job (Plan fault) out other = absurd out
+outside_may job (Build why) out other = absurd out
 outside_may job (SameName name) out other = absurd out
 outside_may job (BadPoint line) out other = absurd out
 outside_may job (Changed name was now) out other = absurd out
@@ -89,6 +91,7 @@ reading_may job (TooDeep name) pixels h = absurd h
 reading_may job (Limit what value) pixels h = absurd h
 reading_may job (SourceBand name band) pixels h = absurd h
 reading_may job (Plan fault) pixels h = absurd h
+reading_may job (Build why) pixels h = absurd h
 reading_may job (SameName name) pixels h = absurd h
 reading_may job (BadPoint line) pixels h = absurd h
 reading_may job (Changed name was now) pixels h = pixels
@@ -108,6 +111,7 @@ lines_may job (TooDeep name) pixels input h = absurd h
 lines_may job (Limit what value) pixels input h = tt
 lines_may job (SourceBand name band) pixels input h = absurd h
 lines_may job (Plan fault) pixels input h = absurd h
+lines_may job (Build why) pixels input h = absurd h
 lines_may job (SameName name) pixels input h = absurd h
 lines_may job (BadPoint line) pixels input h = input
 lines_may job (Changed name was now) pixels input h = pixels
@@ -133,6 +137,7 @@ reading_line (TooDeep name) h = h
 reading_line (Limit what value) h = absurd h
 reading_line (SourceBand name band) h = h
 reading_line (Plan fault) h = h
+reading_line (Build why) h = h
 reading_line (SameName name) h = h
 reading_line (BadPoint line) h = tt
 reading_line (Changed name was now) h = tt
@@ -157,6 +162,7 @@ line_refuses (TooDeep name) h refusal = h
 line_refuses (Limit what value) h refusal = refusal.no_limit value (ap (λ (w : LimitKind). Some (Limit w value)) h)
 line_refuses (SourceBand name band) h refusal = h
 line_refuses (Plan fault) h refusal = h
+line_refuses (Build why) h refusal = h
 line_refuses (SameName name) h refusal = h
 line_refuses (BadPoint line) h refusal = refusal.no_line line refl
 line_refuses (Changed name was now) h refusal = absurd (omega (arith, refusal.refused))

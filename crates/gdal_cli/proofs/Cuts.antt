@@ -18,32 +18,11 @@ pub prints_published : (texts : List (List ℕ)) → published (prints texts) �
 prints_published [] = refl
 prints_published (text ∷ texts) = prints_published texts
 
-pub prints_warned : (texts : List (List ℕ)) → warned (prints texts) ≡ []
-prints_warned [] = refl
-prints_warned (text ∷ texts) = prints_warned texts
-
 cut_published : (n k : ℕ) (texts : List (List ℕ)) → published (cut n k (prints texts)) ≡ []
 cut_published zero k [] = refl
 cut_published zero k (text ∷ texts) = refl
 cut_published (suc n) k [] = refl
 cut_published (suc n) k (text ∷ texts) = cut_published n k texts
-
--- a first part of no warnings
-append_none : (a b : List ℕ) → a ++ b ≡ [] → (a ≡ []) × (b ≡ [])
-append_none [] b is = (refl, is)
-append_none (x ∷ a) b is = let no : ⊥ = cc in absurd no
-
-pub cut_warned : (n k : ℕ) (steps : List Step) → warned steps ≡ [] → warned (cut n k steps) ≡ []
-cut_warned zero k [] is = refl
-cut_warned zero k (Prints text ∷ steps) is = refl
-cut_warned zero k (Warns line ∷ steps) is = refl
-cut_warned zero k (Publishes name bytes ∷ steps) is = refl
-cut_warned (suc n) k [] is = refl
-cut_warned (suc n) k (Prints text ∷ steps) is = cut_warned n k steps is
-cut_warned (suc n) k (Warns line ∷ steps) is =
-    let both = append_none line (warned steps) is in
-    ap (λ (l : List ℕ). l ++ warned (cut n k steps)) both.0 ∙ cut_warned n k steps both.1
-cut_warned (suc n) k (Publishes name bytes ∷ steps) is = cut_warned n k steps is
 
 -- nothing is begun
 pub cut_none : (steps : List Step) → (printed (cut 0 0 steps) ≡ []) × (published (cut 0 0 steps) ≡ [])
@@ -51,6 +30,12 @@ cut_none [] = (refl, refl)
 cut_none (Prints text ∷ steps) = (refl, refl)
 cut_none (Warns line ∷ steps) = (refl, refl)
 cut_none (Publishes name bytes ∷ steps) = (refl, refl)
+
+pub cut_silent : (steps : List Step) → warned (cut 0 0 steps) ≡ []
+cut_silent [] = refl
+cut_silent (Prints text ∷ steps) = refl
+cut_silent (Warns line ∷ steps) = refl
+cut_silent (Publishes name bytes ∷ steps) = refl
 
 abbrev Cuts : ℕ → List (List ℕ) → Type 0
 Cuts j texts = (n : ℕ) × (k : ℕ) × (take j (printed (prints texts)) ≡ printed (cut n k (prints texts)))

@@ -1,5 +1,5 @@
 -- Commands whose dataset's name tells no kind which they read.
-use Rattle.std.proofs.Common.{◌≡◌, ap, subst, sym, ◌⊎◌, inl, inr, ℕ, false, not, List, Result, Ok, Err, Some}
+use Rattle.std.proofs.Common.{◌≡◌, ap, refl, subst, sym, ◌⊎◌, inl, inr, ℕ, true, false, not, List, Result, Ok, Err, Option, Some, None}
 use Rattle.catalog.specs.declared.faults.WalkFault.{WalkFault}
 use Rattle.catalog.specs.declared.faults.WalkFault.TheVariants as walk
 use Rattle.catalog.specs.Walk.{WalksUnknown}
@@ -9,7 +9,7 @@ use Rattle.command_words.specs.declared.command.Command.{Command}
 use Rattle.command_words.specs.declared.spoken.WordFault.{WordFault}
 use Rattle.error_lines.specs.declared.faults.Fault.{Fault}
 use Rattle.error_lines.specs.declared.faults.Fault.TheVariants.{NotRecognized, Usage, Memory}
-use Rattle.gdal_cli.specs.Run.{ended, name_read, reads_sources, RefusesKind, RefusesDataset}
+use Rattle.gdal_cli.specs.Run.{ended, name_read, reads_sources, RefusesIn, RefusesKind, RefusesDataset}
 
 -- a call that ended with a fault was refused so
 pub refused_so : (result : Result (Unit {0}) Fault) (f : Fault) → ended result ≡ Some f → result ≡ Err f
@@ -21,14 +21,36 @@ ends_so result f (inl is) = inl (ap ended is)
 ends_so result f (inr is) = inr (ap ended is)
 
 -- a command that the words are refuses as its job does
-pub dataset_refused : (words : Result Command WordFault) (command : Command) (result : Result (Unit {0}) Fault) → words ≡ Ok command → RefusesKind (not (reads_sources command.job)) (name_read command.job) result → RefusesDataset words (ended result)
-dataset_refused words command result is unknown =
-    let one : (c : Command) → words ≡ Ok c → command ≡ c = λ c same. cc in
-    record {
-      always = λ c n same kind. ends_so result (NotRecognized n) (unknown.always (walk.NotRecognized n) (subst (λ (d : Command). kind_in (name_read d.job) ≡ Err (walk.NotRecognized n)) (sym (one c same)) kind));
-      only = λ n so. (command, is, unknown.only n (refused_so result (NotRecognized n) so));
-      own = λ c n same alone so. subst (λ (d : Command). kind_in (name_read d.job) ≡ Err (walk.NotRecognized n)) (one c same) (unknown.own (ap not (subst (λ (d : Command). reads_sources d.job ≡ false) (sym (one c same)) alone)) n (refused_so result (NotRecognized n) so));
-      file = λ c k n same kind other so. unknown.file k n (subst (λ (d : Command). kind_in (name_read d.job) ≡ Ok k) (sym (one c same)) kind) other (refused_so result (NotRecognized n) so);
+pub dataset_refused : (words : Result Command WordFault) (command : Command) (result : Result (Unit {0}) Fault) → words ≡ Ok command → RefusesIn (not (reads_sources command.job)) (name_read command.job) result → RefusesDataset words (ended result)
+dataset_refused words command result is unknown = by (name_read command.job) refl unknown
+  where
+    one : (c : Command) → words ≡ Ok c → command ≡ c
+    one c so = cc
+
+    read : (c : Command) (o : Option (List ℕ)) → words ≡ Ok c → name_read command.job ≡ o → name_read c.job ≡ o
+    read c o so at = subst (λ (d : Command). name_read d.job ≡ o) (one c so) at
+
+    none : (c : Command) (name : List ℕ) → words ≡ Ok c → name_read command.job ≡ None → name_read c.job ≡ Some name → ⊥
+    none c name so at named = let other = read c None so at in cc
+
+    same : (c : Command) (name other : List ℕ) → words ≡ Ok c → name_read command.job ≡ Some name → name_read c.job ≡ Some other → other ≡ name
+    same c name other so at named = let first = read c (Some name) so at in cc
+
+    alone : (c : Command) → words ≡ Ok c → reads_sources c.job ≡ false → not (reads_sources command.job) ≡ true
+    alone c so lone = ap not (subst (λ (d : Command). reads_sources d.job ≡ false) (sym (one c so)) lone)
+
+    by : (o : Option (List ℕ)) → name_read command.job ≡ o → RefusesIn (not (reads_sources command.job)) o result → RefusesDataset words (ended result)
+    by None at h = record {
+      always = λ c name n so named kind. absurd (none c name so at named);
+      only = λ n so. (command, is, h.only n (refused_so result (NotRecognized n) so));
+      own = λ c name n so named lone told. absurd (none c name so at named);
+      file = λ c name k n so named kind other told. none c name so at named;
+    }
+    by (Some name) at h = record {
+      always = λ c other n so named kind. ends_so result (NotRecognized n) (h.always (walk.NotRecognized n) (subst (λ (x : List ℕ). kind_in x ≡ Err (walk.NotRecognized n)) (same c name other so at named) kind));
+      only = λ n so. (command, is, h.only n (refused_so result (NotRecognized n) so));
+      own = λ c other n so named lone told. subst (λ (x : List ℕ). kind_in x ≡ Err (walk.NotRecognized n)) (sym (same c name other so at named)) (h.own (alone c so lone) n (refused_so result (NotRecognized n) told));
+      file = λ c other k n so named kind unlike told. h.file k n (subst (λ (x : List ℕ). kind_in x ≡ Ok k) (same c name other so at named) kind) unlike (refused_so result (NotRecognized n) told);
     }
 
 -- a walk that was refused refuses a name of no kind as the walk does

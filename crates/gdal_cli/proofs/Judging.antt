@@ -1,5 +1,5 @@
 -- Words that are judged.
-use Rattle.std.proofs.Common.{◌≡◌, ◌∙◌, ap, sym, subst, refl, ◌⊎◌, inl, inr, ℕ, ℤ, Bool, true, false, List, Result, Ok, Err, Option, Some, None}
+use Rattle.std.proofs.Common.{◌≡◌, ◌∙◌, ap, sym, subst, refl, ◌⊎◌, inl, inr, ℕ, ℤ, Bool, true, false, List, [], Result, Ok, Err, Option, Some, None}
 use Rattle.lists_and_answers.specs.Answers.{◌>>=◌}
 use Rattle.outside.specs.Outside.{Files}
 use Rattle.outside.proofs.Sinks.{gets-none}
@@ -15,10 +15,10 @@ use Rattle.command_words.specs.declared.spoken.WordFault.{WordFault}
 use Rattle.command_words.specs.declared.spoken.WordFault.TheVariants.{Usage, Memory}
 use Rattle.gdal_cli.specs.Faults.{by_words, word_fault_of}
 use Rattle.gdal_cli.specs.Run.{reads_input}
-use Rattle.error_lines.specs.Steps.{Goes}
+use Rattle.error_lines.specs.Steps.{Step, GoesWarning, warned}
 use Rattle.command_words.specs.Words.{words_of, IsMemory}
 use Rattle.gdal_cli.specs.Work.{Work, judged, judged_by, carried_out, run_over, run_of}
-use Rattle.gdal_cli.proofs.Outcomes.{goes_nowhere}
+use Rattle.gdal_cli.proofs.Warning.{nowhere_warned}
 
 -- a command is judged as the words that say it
 pub command_judged : (words : List (List ℕ)) (command : Command) (m : Files) → words_of words ≡ Ok command → judged words m ≡ judged_by command.job command.verify m
@@ -30,16 +30,16 @@ unfolding judged
 words_judged words f m is = ap (λ (e : Result Command WordFault). by_words e >>= (λ (c : Command). judged_by c.job c.verify m)) is
 
 -- words that are no command do nothing
-pub words_go : (words : List (List ℕ)) (f : WordFault) (m : Files) (lines : List Entry) (names : Option Files) (old : Option (List ℕ)) → names ≡ Some m → IsMemory f ⊎ (words_of words ≡ Err f) → Goes (run_over words m lines) m (Err (word_fault_of f)) names old old
-words_go words Memory m lines names old is (inl free) = goes_nowhere (run_over words m lines) m _ names old is tt
-words_go words (Usage n) m lines names old is (inl free) = absurd free
-words_go words f m lines names old is (inr refused) =
-    subst (λ (d : Result Work Fault). Goes (carried_out d m lines) m (Err (word_fault_of f)) names old old) (sym (words_judged words f m refused))
-    (inl (refl, record { printed = gets-none old; published = is }))
+pub words_go : (words : List (List ℕ)) (f : WordFault) (m : Files) (lines : List Entry) (names : Option Files) (old : Option (List ℕ)) (W : List Step → Type 0) → names ≡ Some m → ((part : List Step) → warned part ≡ [] → W part) → IsMemory f ⊎ (words_of words ≡ Err f) → GoesWarning (run_over words m lines) m (Err (word_fault_of f)) names old old W
+words_go words Memory m lines names old W is silent (inl free) = nowhere_warned (run_over words m lines) m _ names old W is tt silent
+words_go words (Usage n) m lines names old W is silent (inl free) = absurd free
+words_go words f m lines names old W is silent (inr refused) =
+    subst (λ (d : Result Work Fault). GoesWarning (carried_out d m lines) m (Err (word_fault_of f)) names old old W) (sym (words_judged words f m refused))
+    (inl (refl, record { printed = gets-none old; published = is }, silent [] refl))
 
 -- a command goes as the words that say it
-pub command_goes : (words : List (List ℕ)) (command : Command) (m : Files) (lines : List Entry) (result : Result (Unit {0}) Fault) (names : Option Files) (before after : Option (List ℕ)) → words_of words ≡ Ok command → Goes (carried_out (judged_by command.job command.verify m) m lines) m result names before after → Goes (run_over words m lines) m result names before after
-command_goes words command m lines result names before after is = subst (λ (d : Result Work Fault). Goes (carried_out d m lines) m result names before after) (sym (command_judged words command m is))
+pub command_goes : (words : List (List ℕ)) (command : Command) (m : Files) (lines : List Entry) (result : Result (Unit {0}) Fault) (names : Option Files) (before after : Option (List ℕ)) (W : List Step → Type 0) → words_of words ≡ Ok command → GoesWarning (carried_out (judged_by command.job command.verify m) m lines) m result names before after W → GoesWarning (run_over words m lines) m result names before after W
+command_goes words command m lines result names before after W is = subst (λ (d : Result Work Fault). GoesWarning (carried_out d m lines) m result names before after W) (sym (command_judged words command m is))
 
 -- a job of points without a point takes them from the input
 pub locate_reads : (job : Job) (name : List ℕ) (point : Option (ℤ × ℤ)) (bands : List ℕ) (form : Form) (geoloc : Bool) → job ≡ Locate name point bands form geoloc → is_some point ≡ false → reads_input job ≡ true

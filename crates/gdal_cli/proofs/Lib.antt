@@ -8,6 +8,7 @@ pub mod Judging
 pub mod Lacking
 pub mod Lines
 pub mod Listed
+pub mod MosaicEnds
 pub mod Named
 pub mod Outcomes
 pub mod Pieces
@@ -17,3 +18,4 @@ pub mod Reached
 pub mod Told
 pub mod Translated
 pub mod Unread
+pub mod Warning

@@ -1,17 +1,16 @@
 -- The extension of an output's name is one of its driver, as the words have it.
 use Rattle.std.proofs.Common.{◌≡◌, subst, refl, true, false, ℕ, Bool, List, [], ◌∷◌, length, Ok, Option, Some, None, option_map, option_and_then, cond}
-use Rattle.std.specs.Prelude.{◌≢◌, ok_or}
+use Rattle.std.specs.Prelude.{ok_or}
 use Rattle.outside.specs.Names.{extension_of}
 use Rattle.outside.specs.declared.name.Ext.{Ext}
 use Rattle.outside.specs.declared.name.Ext.TheVariants as ext
 use Rattle.translate_plan.specs.declared.options.Driver.{Driver}
-use Rattle.translate_plan.specs.declared.options.Driver.TheVariants as driver
 use Rattle.write_back.specs.Plans.{driver_of}
 use Rattle.command_words.specs.declared.command.Command.{Command}
 use Rattle.command_words.specs.declared.command.Job.{Job}
 use Rattle.command_words.specs.declared.command.Job.TheVariants as job
 use Rattle.command_words.specs.declared.options.Tool.{Tool}
-use Rattle.command_words.specs.declared.options.Tool.TheVariants.{Info, Locate, Translate}
+use Rattle.command_words.specs.declared.options.Tool.TheVariants.{Info, Locate, Translate, Build}
 use Rattle.command_words.specs.declared.jobs.Asked.{Asked}
 use Rattle.command_words.specs.declared.jobs.Written.{Written}
 use Rattle.command_words.specs.declared.spoken.OutFormat.{OutFormat}
@@ -19,7 +18,7 @@ use Rattle.command_words.specs.declared.spoken.Spoken.{Spoken}
 use Rattle.command_words.specs.declared.spoken.Wanted.{Wanted}
 use Rattle.command_words.specs.declared.spoken.WordFault.{WordFault}
 use Rattle.command_words.specs.declared.spoken.WordFault.TheVariants.{Usage}
-use Rattle.command_words.specs.Jobs.{point_of, form_of, is_same_format, of_format, written_as, written_of, view_of, layout_in, asked_of, options_of, info_job, locate_job, translate_job, job_of}
+use Rattle.command_words.specs.Jobs.{point_of, form_of, is_same_format, of_format, written_as, written_of, view_of, layout_in, asked_of, options_of, info_job, locate_job, translate_job, inputs_of, asked_mosaic, mosaic_options, build_job, job_of}
 use Rattle.command_words.specs.Options.{tool_of}
 use Rattle.command_words.specs.Uses.{spoken_in}
 use Rattle.command_words.specs.Words.{command_of, words_of}
@@ -36,24 +35,23 @@ kept None v w is = cc
 kept (Some format) v w is = kept_if (is_same_format format v.format) v w is
 
 -- the driver of what is written of an extension
-record Fits (e : Option Ext) (d : Driver) : Type 0 where
-  extension : option_map driver_of e ≡ Some d
-  files : d ≢ driver.Vrt
+abbrev Fits : Option Ext → Driver → Type 0
+Fits e d = option_map driver_of e ≡ Some d
 
 fits_as : (e : Ext) (v : Written) (w : Written) → Fits (Some e) v.driver → v ≡ w → Fits (Some e) w.driver
 fits_as e v w fits same = subst (λ (x : Written). Fits (Some e) x.driver) same fits
 
 fits_ext : (format : Option OutFormat) (e : Ext) (w : Written) → option_and_then (λ v. of_format format v) (written_as e) ≡ Some w → Fits (Some e) w.driver
-fits_ext format ext.Bil w is = fits_as ext.Bil _ w (record { extension = refl; files = λ no. cc }) (kept format _ w is)
-fits_ext format ext.Bip w is = fits_as ext.Bip _ w (record { extension = refl; files = λ no. cc }) (kept format _ w is)
-fits_ext format ext.Bsq w is = fits_as ext.Bsq _ w (record { extension = refl; files = λ no. cc }) (kept format _ w is)
-fits_ext format ext.Dt0 w is = fits_as ext.Dt0 _ w (record { extension = refl; files = λ no. cc }) (kept format _ w is)
-fits_ext format ext.Dt1 w is = fits_as ext.Dt1 _ w (record { extension = refl; files = λ no. cc }) (kept format _ w is)
-fits_ext format ext.Dt2 w is = fits_as ext.Dt2 _ w (record { extension = refl; files = λ no. cc }) (kept format _ w is)
-fits_ext format ext.Hgt w is = fits_as ext.Hgt _ w (record { extension = refl; files = λ no. cc }) (kept format _ w is)
-fits_ext format ext.Asc w is = fits_as ext.Asc _ w (record { extension = refl; files = λ no. cc }) (kept format _ w is)
-fits_ext format ext.Grd w is = fits_as ext.Grd _ w (record { extension = refl; files = λ no. cc }) (kept format _ w is)
-fits_ext format ext.Vrt w is = let no : ⊥ = cc in absurd no
+fits_ext format ext.Bil w is = fits_as ext.Bil _ w refl (kept format _ w is)
+fits_ext format ext.Bip w is = fits_as ext.Bip _ w refl (kept format _ w is)
+fits_ext format ext.Bsq w is = fits_as ext.Bsq _ w refl (kept format _ w is)
+fits_ext format ext.Dt0 w is = fits_as ext.Dt0 _ w refl (kept format _ w is)
+fits_ext format ext.Dt1 w is = fits_as ext.Dt1 _ w refl (kept format _ w is)
+fits_ext format ext.Dt2 w is = fits_as ext.Dt2 _ w refl (kept format _ w is)
+fits_ext format ext.Hgt w is = fits_as ext.Hgt _ w refl (kept format _ w is)
+fits_ext format ext.Asc w is = fits_as ext.Asc _ w refl (kept format _ w is)
+fits_ext format ext.Grd w is = fits_as ext.Grd _ w refl (kept format _ w is)
+fits_ext format ext.Vrt w is = fits_as ext.Vrt _ w refl (kept format _ w is)
 
 fits_of : (format : Option OutFormat) (e : Option Ext) (w : Written) → option_and_then (λ v. of_format format v) (option_and_then written_as e) ≡ Some w → Fits e w.driver
 fits_of format None w is = let no : ⊥ = cc in absurd no
@@ -73,7 +71,7 @@ fits_asked wanted at name a is =
     subst (λ (x : Asked). Fits (extension_of name) x.written.driver) (ok_same {E = WordFault} _ a _ refl layout.rest) fits
 
 named_options : (wanted : Wanted) (name bands : List ℕ) (a : Asked) → Fits (extension_of name) a.written.driver → IsNamed (options_of wanted name bands a)
-named_options wanted name bands a fits = record { extension = fits.extension; files = fits.files }
+named_options wanted name bands a fits = fits
 
 named_translate : (count : ℕ) (s : Spoken) (j : Job) → translate_job count s ≡ Ok j → IsNamedJob j
 unfolding translate_job
@@ -98,10 +96,19 @@ named_locate count s j is =
     let form = bind_is (form_of s.values_only s.files_only) _ j point.rest in
     subst IsNamedJob (ok_same {E = WordFault} (job.Locate name.value point.value s.bands form.value s.geoloc) j _ refl form.rest) tt
 
+named_build : (count : ℕ) (s : Spoken) (j : Job) → build_job count s ≡ Ok j → IsNamedJob j
+unfolding build_job
+named_build count s j is =
+    let output = bind_is (ok_or s.output (Usage count)) _ j is in
+    let inputs = bind_is (inputs_of count s.inputs s.list) _ j output.rest in
+    let asked = bind_is (asked_mosaic count s.mosaic s.band_at output.value.0 output.value.1) _ j inputs.rest in
+    subst IsNamedJob (ok_same {E = WordFault} (job.Build inputs.value s.list (mosaic_options s.mosaic output.value.1 s.bands asked.value) s.quiet) j _ refl asked.rest) tt
+
 named_job : (tool : Tool) (count : ℕ) (s : Spoken) (j : Job) → job_of tool count s ≡ Ok j → IsNamedJob j
 named_job Info count s j is = named_info count s j is
 named_job Locate count s j is = named_locate count s j is
 named_job Translate count s j is = named_translate count s j is
+named_job Build count s j is = named_build count s j is
 
 named_command : (tool : Tool) (count : ℕ) (s : Spoken) (c : Command) → command_of tool count s ≡ Ok c → IsNamedJob c.job
 unfolding command_of

@@ -5,15 +5,14 @@ use Rattle.outside.specs.Streams.{Gets, GetsPart}
 use Rattle.outside.specs.Causes.{HasCause, Rose}
 use Rattle.outside.proofs.Sinks.{gets-none}
 use Rattle.error_lines.specs.declared.faults.Fault.{Fault}
-use Rattle.error_lines.specs.declared.faults.Fault.TheVariants.{Usage, Absent, NotRecognized, Malformed, Short, Cycle, TooDeep, Limit, SourceBand, Plan, SameName, BadPoint, Changed, FolderFault, InputFault, OutFault, Memory}
+use Rattle.error_lines.specs.declared.faults.Fault.TheVariants.{Usage, Absent, NotRecognized, Malformed, Short, Cycle, TooDeep, Limit, SourceBand, Plan, Build, SameName, BadPoint, Changed, FolderFault, InputFault, OutFault, Memory}
 use Rattle.error_lines.specs.Faults.{IsOutside, HasCauses, fault_status, status_of}
-use Rattle.error_lines.specs.Texts.{line_of}
-use Rattle.gdal_cli.specs.Run.{ended, Ends, Answers, AreTold}
-use Rattle.error_lines.specs.Steps.{Step, Done, prints, printed, warned, applied, cut, IsFirstPart, AreDone, Goes}
-use Rattle.gdal_cli.proofs.Cuts.{cut_none, cut_warned, cut_whole, prints_cut, prints_done}
+use Rattle.gdal_cli.specs.Run.{ended, Ends, Answers}
+use Rattle.error_lines.specs.Steps.{Step, Done, prints, printed, applied, cut, IsFirstPart, AreDone, Goes}
+use Rattle.gdal_cli.proofs.Cuts.{cut_none, cut_whole, prints_cut, prints_done}
 
 -- a fault of the outside ends a run with status 2 or 3
-outside_status : (f : Fault) → IsOutside f → 2 ≤ fault_status f
+pub outside_status : (f : Fault) → IsOutside f → 2 ≤ fault_status f
 outside_status (Usage n) out = absurd out
 outside_status (Absent name) out = absurd out
 outside_status (NotRecognized name) out = absurd out
@@ -24,6 +23,7 @@ outside_status (TooDeep name) out = absurd out
 outside_status (Limit what value) out = absurd out
 outside_status (SourceBand name band) out = absurd out
 outside_status (Plan fault) out = absurd out
+outside_status (Build why) out = absurd out
 outside_status (SameName name) out = absurd out
 outside_status (BadPoint line) out = absurd out
 outside_status (Changed name was now) out = absurd out
@@ -62,14 +62,6 @@ printing_goes r texts result m names before after steps is ends = by result ends
     by (Err f) (inl h) = inl (h.0, all h.1)
     by (Err f) (inr h) = inr (h.0, some h.1)
 
--- the same of another way to say the run
-pub same_goes : (r q : Done) (result : Result (Unit {0}) Fault) (m : Files) (names : Option Files) (before after : Option (List ℕ)) → Ends r result before after → ((texts : List (List ℕ)) × (r.steps ≡ prints texts)) → r ≡ q → names ≡ Some m → Goes q m result names before after
-same_goes r q result m names before after ends printing same is = subst (λ (x : Done). Goes x m result names before after) same (printing_goes r printing.0 result m names before after printing.1 is ends)
-
--- and of a run whose steps were done
-pub goes_as : (r q : Done) (result : Result (Unit {0}) Fault) (m : Files) (names : Option Files) (before after : Option (List ℕ)) → Goes r m result names before after → r ≡ q → Goes q m result names before after
-goes_as r q result m names before after goes same = subst (λ (x : Done). Goes x m result names before after) same goes
-
 -- where the status is 0 or 1, the answer is the definition's
 pub answered : (r : Done) (result : Result (Unit {0}) Fault) (m : Files) (names : Option Files) (before after : Option (List ℕ)) → status_of (ended result) ≤ 1 → Goes r m result names before after → Answers r m (ended result) names before after
 answered r (Ok done) m names before after low h = record { fault_is = sym h.0; done = h.1 }
@@ -81,17 +73,6 @@ pub ended_early : (r : Done) (result : Result (Unit {0}) Fault) (m : Files) (nam
 ended_early r (Ok done) m names before after high h = absurd (omega arith)
 ended_early r (Err f) m names before after high (inl h) = (r.steps, (length r.steps, 0, sym (cut_whole 0 r.steps)), h.1)
 ended_early r (Err f) m names before after high (inr h) = h.1
-
--- a first part of steps that don't warn doesn't
-pub part_warned : (part steps : List Step) → IsFirstPart part steps → warned steps ≡ [] → warned part ≡ []
-part_warned part steps first none = ap warned first.2 ∙ cut_warned first.0 first.1 steps none
-
--- what the error stream gets of steps that don't warn
-pub told_line : (steps : List Step) (fault : Option Fault) (faults faults_after : ℕ) (before after : Option (List ℕ)) → warned steps ≡ [] → ((Rose faults faults_after → ⊥) → Gets (line_of fault) before after) → GetsPart (line_of fault) before after → AreTold steps fault faults faults_after before after
-told_line steps fault faults faults_after before after none whole part = record {
-  whole = λ calm. subst (λ (w : List ℕ). Gets (w ++ line_of fault) before after) (sym none) (whole calm);
-  part = subst (λ (w : List ℕ). GetsPart (w ++ line_of fault) before after) (sym none) part;
-}
 
 -- a fault of the outside where no count rose is want of memory
 only_memory : (f : Fault) (folder folder_now input input_now out out_now : ℕ) → IsOutside f → HasCauses {T = Unit {0}} folder folder_now out out_now (Err f) → HasCause {T = Unit {0}} InputFault input input_now (Err f) → (Rose folder folder_now → ⊥) → (Rose input input_now → ⊥) → (Rose out out_now → ⊥) → f ≡ Memory
@@ -105,6 +86,7 @@ only_memory (TooDeep name) a b c d e g out causes cause calm full still = absurd
 only_memory (Limit what value) a b c d e g out causes cause calm full still = absurd out
 only_memory (SourceBand name band) a b c d e g out causes cause calm full still = absurd out
 only_memory (Plan fault) a b c d e g out causes cause calm full still = absurd out
+only_memory (Build why) a b c d e g out causes cause calm full still = absurd out
 only_memory (SameName name) a b c d e g out causes cause calm full still = absurd out
 only_memory (BadPoint line) a b c d e g out causes cause calm full still = absurd out
 only_memory (Changed name was now) a b c d e g out causes cause calm full still = absurd out

@@ -14,12 +14,16 @@ use Rattle.error_lines.specs.declared.faults.Fault.{Fault}
 use Rattle.error_lines.specs.Faults.{by_walk}
 use Rattle.gdal_cli.specs.declared.asked.Asked.{Asked}
 use Rattle.gdal_cli.specs.Location.{answers, asked_in, line_text, point_text}
-use Rattle.error_lines.specs.Steps.{Step, Prints, Warns, Publishes, Done, prints, publishes, warned}
-use Rattle.translate_plan.specs.Plan.{Planned}
-use Rattle.write_back.specs.Plans.{output_of}
-use Rattle.output_copies.specs.Steps.{translation_steps, unless_quiet, size_line, progress, progress_end, files_by, raster_of}
-use Rattle.gdal_cli.specs.Work.{Work, Reports, Tells, Translates, info_judged, location_judged, carried_out}
-use Rattle.gdal_cli.proofs.Cuts.{prints_warned}
+use Rattle.error_lines.specs.Steps.{Done, prints, publishes, warned}
+use Rattle.error_lines.proofs.Silent.{both_silent, publishes_silent}
+use Rattle.geotransform.specs.declared.faults.PlanFault.{PlanFault}
+use Rattle.translate_plan.specs.Options.{Options}
+use Rattle.translate_plan.specs.Plan.{Planned, plan_of}
+use Rattle.output_copies.specs.Steps.{translation_steps, unless_quiet, size_line, progress, progress_end, written}
+use Rattle.published_files.specs.Names.{unless_read}
+use Rattle.gdal_cli.specs.Faults.{by_plan}
+use Rattle.gdal_cli.specs.Published.{names_written}
+use Rattle.gdal_cli.specs.Work.{Reports, Tells, Translates, info_judged, location_judged, translate_judged, carried_out}
 
 abbrev pub AllPrint : Done → Type 0
 AllPrint d = (texts : List (List ℕ)) × (d.steps ≡ prints texts)
@@ -29,32 +33,20 @@ pub answers_print : (tell : ℤ → ℤ → List ℕ) (point : Option (ℤ × �
 answers_print tell (Some p) lines = (tell p.0 p.1 ∷ [], refl)
 answers_print tell None lines = (map (λ (e : Entry). line_text tell e.kind) lines, refl)
 
--- steps that don't warn
-both_warned : (a b : List Step) → warned a ≡ [] → warned b ≡ [] → warned (a ++ b) ≡ []
-both_warned [] b none rest = rest
-both_warned (Prints text ∷ a) b none rest = both_warned a b none rest
-both_warned (Warns [] ∷ a) b none rest = both_warned a b none rest
-both_warned (Warns (c ∷ line) ∷ a) b none rest = let no : ⊥ = cc in absurd no
-both_warned (Publishes name bytes ∷ a) b none rest = both_warned a b none rest
+quiet_silent : (quiet : Bool) (text : List ℕ) → warned (unless_quiet quiet text) ≡ []
+quiet_silent true text = refl
+quiet_silent false text = refl
 
-quiet_warned : (quiet : Bool) (text : List ℕ) → warned (unless_quiet quiet text) ≡ []
-quiet_warned true text = refl
-quiet_warned false text = refl
-
-files_warned : (files : List (List ℕ × List ℕ)) → warned (publishes files) ≡ []
-files_warned [] = refl
-files_warned (file ∷ files) = files_warned files
-
-translation_warned : (quiet : Bool) (m : Files) (d : Dataset) (p : Planned) (name : List ℕ) → warned (translation_steps quiet m d p name) ≡ []
+translation_silent : (quiet : Bool) (m : Files) (d : Dataset) (p : Planned) (name : List ℕ) → warned (translation_steps quiet m d p name) ≡ []
 unfolding translation_steps
-translation_warned quiet m d p name =
+translation_silent quiet m d p name =
     let size = unless_quiet quiet (size_line d.head.size) in
     let begin = unless_quiet quiet progress in
-    let files = files_by (output_of p) name (raster_of m d p) in
+    let files = written m d p name in
     let end = unless_quiet quiet progress_end in
-    both_warned size (begin ++ (publishes files ++ end)) (quiet_warned quiet (size_line d.head.size))
-    (both_warned begin (publishes files ++ end) (quiet_warned quiet progress)
-    (both_warned (publishes files) end (files_warned files) (quiet_warned quiet progress_end)))
+    both_silent size (begin ++ (publishes files ++ end)) (quiet_silent quiet (size_line d.head.size))
+    (both_silent begin (publishes files ++ end) (quiet_silent quiet progress)
+    (both_silent (publishes files) end (publishes_silent files) (quiet_silent quiet progress_end)))
 
 module _ (m : Files) (lines : List Entry) where
   headed : (r : Result DatasetHead WalkFault) → AllPrint (carried_out (by_walk r >>= (λ head. Ok (Reports head))) m lines)
@@ -84,12 +76,24 @@ module _ (m : Files) (lines : List Entry) where
     unfolding location_judged
     location_prints verify name = walk_prints name (walked m verify [] name)
 
-  -- no work warns
-  pub none_warned : (d : Result Work Fault) → warned (carried_out d m lines).steps ≡ []
-  none_warned (Ok (Reports head)) = refl
-  none_warned (Ok (Tells cat d asked point)) = of (answers_print (point_text m cat d asked) point lines)
-    where
-      of : AllPrint (answers (point_text m cat d asked) point lines) → warned (answers (point_text m cat d asked) point lines).steps ≡ []
-      of printing = rw printing.1 (prints_warned printing.0)
-  none_warned (Ok (Translates d p name quiet)) = translation_warned quiet m d p name
-  none_warned (Err f) = refl
+  -- a translation doesn't warn
+  module _ (options : Options) (quiet : Bool) where
+    freed_silent : (d : Dataset) (p : Planned) (r : Result (Unit {0}) Fault) → warned (carried_out (r >>= (λ free. Ok (Translates d p options.out quiet))) m lines).steps ≡ []
+    freed_silent d p (Ok free) = translation_silent quiet m d p options.out
+    freed_silent d p (Err f) = refl
+
+    planned_silent : (cat : List Dataset) (d : Dataset) (r : Result Planned PlanFault) → warned (carried_out (by_plan r >>= (λ p. unless_read cat (names_written options) >>= (λ free. Ok (Translates d p options.out quiet)))) m lines).steps ≡ []
+    planned_silent cat d (Ok p) = freed_silent d p (unless_read cat (names_written options))
+    planned_silent cat d (Err f) = refl
+
+    read_silent : (cat : List Dataset) (r : Result Dataset WalkFault) → warned (carried_out (by_walk r >>= (λ d. by_plan (plan_of options d.head) >>= (λ p. unless_read cat (names_written options) >>= (λ free. Ok (Translates d p options.out quiet))))) m lines).steps ≡ []
+    read_silent cat (Ok d) = planned_silent cat d (plan_of options d.head)
+    read_silent cat (Err f) = refl
+
+    walk_silent : (src : List ℕ) (r : Result (List Dataset) WalkFault) → warned (carried_out (by_walk r >>= (λ cat. by_walk (dataset_in m false src) >>= (λ d. by_plan (plan_of options d.head) >>= (λ p. unless_read cat (names_written options) >>= (λ free. Ok (Translates d p options.out quiet)))))) m lines).steps ≡ []
+    walk_silent src (Ok cat) = read_silent cat (dataset_in m false src)
+    walk_silent src (Err f) = refl
+
+    pub translate_silent : (verify : Bool) (src : List ℕ) → warned (carried_out (translate_judged m verify src options quiet) m lines).steps ≡ []
+    unfolding translate_judged
+    translate_silent verify src = walk_silent src (walked m verify [] src)

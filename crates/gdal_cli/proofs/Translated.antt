@@ -24,7 +24,8 @@ use Rattle.error_lines.specs.Faults.{fault_of, by_walk, IsOutside}
 use Rattle.error_lines.specs.Steps.{Done, all_done, Goes}
 use Rattle.output_copies.specs.Steps.{translation_steps}
 use Rattle.gdal_cli.specs.Faults.{by_plan}
-use Rattle.gdal_cli.specs.Published.{names_written, unless_read}
+use Rattle.published_files.specs.Names.{unless_read}
+use Rattle.gdal_cli.specs.Published.{names_written}
 use Rattle.gdal_cli.specs.Work.{Work, Translates, translate_judged, carried_out}
 use Rattle.gdal_cli.proofs.Bound.{bind_is, ok_same}
 use Rattle.gdal_cli.proofs.Ended.{walk_fails}

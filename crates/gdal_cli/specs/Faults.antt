@@ -5,7 +5,7 @@ use Rattle.catalog.specs.declared.faults.LimitKind.TheVariants.{Points}
 use Rattle.command_words.specs.declared.spoken.WordFault.{WordFault}
 use Rattle.command_words.specs.declared.spoken.WordFault.TheVariants as word
 use Rattle.error_lines.specs.declared.faults.Fault.{Fault}
-use Rattle.error_lines.specs.declared.faults.Fault.TheVariants.{Usage, Absent, NotRecognized, Malformed, Short, Cycle, TooDeep, Limit, SourceBand, Plan, SameName, BadPoint, Changed, FolderFault, InputFault, OutFault, Memory}
+use Rattle.error_lines.specs.declared.faults.Fault.TheVariants.{Usage, Absent, NotRecognized, Malformed, Short, Cycle, TooDeep, Limit, SourceBand, Plan, Build, SameName, BadPoint, Changed, FolderFault, InputFault, OutFault, Memory}
 
 abbrev pub word_fault_of : WordFault → Fault
 word_fault_of (word.Usage n) = Usage n
@@ -33,6 +33,7 @@ IsOfLines (TooDeep name) = ⊥
 IsOfLines (Limit what value) = what ≡ Points
 IsOfLines (SourceBand name band) = ⊥
 IsOfLines (Plan fault) = ⊥
+IsOfLines (Build fault) = ⊥
 IsOfLines (SameName name) = ⊥
 IsOfLines (BadPoint line) = Unit {0}
 IsOfLines (Changed name was now) = Unit {0}

@@ -1,5 +1,5 @@
 -- What is promised of a run of the program.
-use Rattle.std.specs.Prelude.{ℕ, ◌≡◌, ◌⊎◌, Bool, true, false, List, [], ◌++◌, Contains, Option, Some, None, Result, Ok, Err}
+use Rattle.std.specs.Prelude.{ℕ, ◌≡◌, ◌⊎◌, Bool, true, false, List, [], ◌∷◌, ◌++◌, Contains, Option, Some, None, Result, Ok, Err}
 use Rattle.outside.specs.Outside.{Files}
 use Rattle.outside.specs.Causes.{Rose}
 use Rattle.outside.specs.Streams.{Gets, GetsPart}
@@ -11,39 +11,52 @@ use Rattle.catalog.specs.declared.faults.WalkFault.{WalkFault}
 use Rattle.catalog.specs.declared.faults.WalkFault.TheVariants as walk
 use Rattle.command_words.specs.declared.command.Command.{Command}
 use Rattle.command_words.specs.declared.command.Job.{Job}
-use Rattle.command_words.specs.declared.command.Job.TheVariants.{Info, Locate, Translate}
+use Rattle.command_words.specs.declared.command.Job.TheVariants.{Info, Locate, Translate, Build}
 use Rattle.command_words.specs.declared.spoken.WordFault.{WordFault}
 use Rattle.command_words.specs.declared.spoken.WordFault.TheVariants as word
+use Rattle.mosaic_builds.specs.Steps.{warns}
 use Rattle.gdal_cli.specs.Published.{names_written}
 use Rattle.error_lines.specs.declared.faults.Fault.{Fault}
+use Rattle.error_lines.specs.declared.faults.Fault.TheVariants as fault
 use Rattle.error_lines.specs.declared.faults.Fault.TheVariants.{Usage, Absent, NotRecognized, Malformed, Short, Cycle, TooDeep, Limit, SourceBand, Plan, SameName, BadPoint, Changed, FolderFault, InputFault, OutFault, Memory}
 use Rattle.error_lines.specs.Faults.{fault_of, IsOutside, status_of}
 use Rattle.error_lines.specs.Texts.{line_of}
-use Rattle.error_lines.specs.Steps.{Step, Done, printed, warned, AreDone}
+use Rattle.error_lines.specs.Steps.{Step, Done, printed, warned, AreDone, AreWarned}
 
--- the name of the dataset that a job reads first
-abbrev pub name_read : Job → List ℕ
-name_read (Info name) = name
-name_read (Locate name point bands form geoloc) = name
-name_read (Translate src options quiet) = src
+-- the name of the one dataset that a job begins with; a mosaic is made of many
+abbrev pub name_read : Job → Option (List ℕ)
+name_read (Info name) = Some name
+name_read (Locate name point bands form geoloc) = Some name
+name_read (Translate src options quiet) = Some src
+name_read (Build inputs list options quiet) = None
 
 -- the names that a job publishes, in order
 abbrev pub names_published : Job → List (List ℕ)
 names_published (Info name) = []
 names_published (Locate name point bands form geoloc) = []
 names_published (Translate src options quiet) = names_written options
+names_published (Build inputs list options quiet) = options.out ∷ []
 
 -- whether a job goes to what the sources of a mosaic name
 abbrev pub reads_sources : Job → Bool
 reads_sources (Info name) = false
 reads_sources (Locate name point bands form geoloc) = true
 reads_sources (Translate src options quiet) = true
+reads_sources (Build inputs list options quiet) = true
 
 -- whether a job reads pixels
 abbrev pub reads_pixels : Job → Bool
 reads_pixels (Info name) = false
 reads_pixels (Locate name point bands form geoloc) = true
 reads_pixels (Translate src options quiet) = true
+reads_pixels (Build inputs list options quiet) = false
+
+-- whether a job makes a mosaic of its inputs, and warns of those that are skipped
+abbrev pub makes_mosaic : Job → Bool
+makes_mosaic (Info name) = false
+makes_mosaic (Locate name point bands form geoloc) = false
+makes_mosaic (Translate src options quiet) = false
+makes_mosaic (Build inputs list options quiet) = true
 
 -- whether a job takes its points from the input
 abbrev pub reads_input : Job → Bool
@@ -51,18 +64,24 @@ reads_input (Info name) = false
 reads_input (Locate name None bands form geoloc) = true
 reads_input (Locate name (Some point) bands form geoloc) = false
 reads_input (Translate src options quiet) = false
+reads_input (Build inputs list options quiet) = false
 
 -- the same of words; those that are no command do nothing
 abbrev pub words_read_input : Result Command WordFault → Bool
 words_read_input (Ok command) = reads_input command.job
 words_read_input (Err fault) = false
 
+abbrev pub words_warn : Result Command WordFault → Bool
+words_warn (Ok command) = makes_mosaic command.job
+words_warn (Err fault) = false
+
 abbrev pub words_published : Result Command WordFault → List (List ℕ)
 words_published (Ok command) = names_published command.job
 words_published (Err fault) = []
 
 -- The faults that a job may end with over every folder. The name of SameName is one that the job publishes; what is
--- asked of a dataset, and files that changed, come where pixels are read, and faults of the input where it is read.
+-- asked of a dataset, and files that changed, come where pixels are read, what is wrong with inputs together where a
+-- mosaic is made of them, and faults of the input where it is read.
 abbrev pub MayEnd : Job → Fault → Type 0
 MayEnd job (Usage n) = ⊥
 MayEnd job (Absent name) = Unit {0}
@@ -74,6 +93,7 @@ MayEnd job (TooDeep name) = Unit {0}
 MayEnd job (Limit what value) = Unit {0}
 MayEnd job (SourceBand name band) = Unit {0}
 MayEnd job (Plan fault) = reads_pixels job ≡ true
+MayEnd job (fault.Build why) = makes_mosaic job ≡ true
 MayEnd job (SameName name) = Contains (names_published job) name
 MayEnd job (BadPoint line) = reads_input job ≡ true
 MayEnd job (Changed name was now) = reads_pixels job ≡ true
@@ -102,6 +122,15 @@ pub record RefusesKind (alone : Bool) (name : List ℕ) (result : Result (Unit {
   pub file : (k : Kind) (n : List ℕ) → kind_in name ≡ Ok k → (k ≡ kinds.Vrt → ⊥) → result ≡ Err (NotRecognized n) → ⊥
   pub no_usage : (n : ℕ) → result ≡ Err (Usage n) → ⊥
 
+-- The same of a job: where many names are read, none that tells a kind is refused so.
+pub record RefusesOnly (result : Result (Unit {0}) Fault) : Type 0 where
+  pub only : (n : List ℕ) → result ≡ Err (NotRecognized n) → kind_in n ≡ Err (walk.NotRecognized n)
+  pub no_usage : (n : ℕ) → result ≡ Err (Usage n) → ⊥
+
+abbrev pub RefusesIn : Bool → Option (List ℕ) → Result (Unit {0}) Fault → Type 0
+RefusesIn alone None result = RefusesOnly result
+RefusesIn alone (Some name) result = RefusesKind alone name result
+
 -- words that are no command are refused with their word, or for want of memory, and nothing else is
 pub record RefusesWords (words : Result Command WordFault) (fault : Option Fault) : Type 0 where
   pub always : (n : ℕ) → words ≡ Err (word.Usage n) → (fault ≡ Some (Usage n)) ⊎ (fault ≡ Some Memory)
@@ -110,10 +139,10 @@ pub record RefusesWords (words : Result Command WordFault) (fault : Option Fault
 -- A command whose dataset's name tells no kind is refused with it, or for want of memory. No name that tells a kind is
 -- refused so, and another name than the dataset's only where a walk goes from it, a mosaic, through its sources.
 pub record RefusesDataset (words : Result Command WordFault) (fault : Option Fault) : Type 0 where
-  pub always : (c : Command) (n : List ℕ) → words ≡ Ok c → kind_in (name_read c.job) ≡ Err (walk.NotRecognized n) → (fault ≡ Some (NotRecognized n)) ⊎ (fault ≡ Some Memory)
+  pub always : (c : Command) (name n : List ℕ) → words ≡ Ok c → name_read c.job ≡ Some name → kind_in name ≡ Err (walk.NotRecognized n) → (fault ≡ Some (NotRecognized n)) ⊎ (fault ≡ Some Memory)
   pub only : (n : List ℕ) → fault ≡ Some (NotRecognized n) → (c : Command) × (words ≡ Ok c) × (kind_in n ≡ Err (walk.NotRecognized n))
-  pub own : (c : Command) (n : List ℕ) → words ≡ Ok c → reads_sources c.job ≡ false → fault ≡ Some (NotRecognized n) → kind_in (name_read c.job) ≡ Err (walk.NotRecognized n)
-  pub file : (c : Command) (k : Kind) (n : List ℕ) → words ≡ Ok c → kind_in (name_read c.job) ≡ Ok k → (k ≡ kinds.Vrt → ⊥) → fault ≡ Some (NotRecognized n) → ⊥
+  pub own : (c : Command) (name n : List ℕ) → words ≡ Ok c → name_read c.job ≡ Some name → reads_sources c.job ≡ false → fault ≡ Some (NotRecognized n) → kind_in name ≡ Err (walk.NotRecognized n)
+  pub file : (c : Command) (name : List ℕ) (k : Kind) (n : List ℕ) → words ≡ Ok c → name_read c.job ≡ Some name → kind_in name ≡ Ok k → (k ≡ kinds.Vrt → ⊥) → fault ≡ Some (NotRecognized n) → ⊥
 
 -- how far the texts of a run were put: all of them, or a first part before a fault of the outside
 abbrev pub Ends : Done → Result (Unit {0}) Fault → Option (List ℕ) → Option (List ℕ) → Type 0
@@ -129,3 +158,19 @@ pub record Answers (r : Done) (m : Files) (fault : Option Fault) (names : Option
 pub record AreTold (steps : List Step) (fault : Option Fault) (faults faults_after : ℕ) (before after : Option (List ℕ)) : Type 0 where
   pub whole : (Rose faults faults_after → ⊥) → Gets (warned steps ++ line_of fault) before after
   pub part : GetsPart (warned steps ++ line_of fault) before after
+
+-- Over every folder, the error stream gets warnings and the line of the fault, or where it fails a first part of them.
+-- Only words that ask for a mosaic may warn, and a run that is refused never does.
+pub record TellsFault (may : Bool) (fault : Option Fault) (faults faults_after : ℕ) (before after : Option (List ℕ)) : Type 0 where
+  pub warnings : List (List ℕ)
+  pub whole : (Rose faults faults_after → ⊥) → Gets (warned (warns warnings) ++ line_of fault) before after
+  pub part : GetsPart (warned (warns warnings) ++ line_of fault) before after
+  pub none : may ≡ false → warnings ≡ []
+  pub refused : IsRefusal fault → warnings ≡ []
+
+-- the warnings that a job put on the error stream, which may have failed meanwhile
+pub record MayWarn (may : Bool) (fault : Option Fault) (failed : Bool) (faults faults_now : ℕ) (before after : Option (List ℕ)) : Type 0 where
+  pub warnings : List (List ℕ)
+  pub told : AreWarned (warns warnings) failed faults faults_now before after
+  pub none : may ≡ false → warnings ≡ []
+  pub refused : IsRefusal fault → warnings ≡ []

@@ -13,12 +13,13 @@ ghost use Rattle.gdal_cli.specs.Input.{StopsBehind};
 ghost use Rattle.gdal_cli.specs.Location.{answers, point_text};
 ghost use Rattle.gdal_cli.specs.Pixels.{AreBands};
 ghost use Rattle.gdal_cli.specs.Published.{IsNamedJob};
-ghost use Rattle.gdal_cli.specs.Run.{Ends, MayEnd, IsRefusal, name_read, names_published, reads_sources, reads_input, ended, RefusesKind};
-ghost use Rattle.error_lines.specs.Steps.{Goes};
+ghost use Rattle.gdal_cli.specs.Run.{Ends, MayEnd, MayWarn, IsRefusal, name_read, names_published, makes_mosaic, reads_sources, reads_input, ended, RefusesIn, RefusesKind};
+ghost use Rattle.error_lines.specs.Steps.{AreWarned, GoesWarning};
 ghost use Rattle.gdal_cli.specs.Work.{info_judged, location_judged, judged_by, carried_out};
 
 use crate::asked::asked_in;
 use crate::input::answer_input;
+use crate::mosaics::put_build;
 use crate::points::put_point;
 use crate::reader::{PointReader, Question};
 use crate::translating::{Way, put_translation};
@@ -28,6 +29,7 @@ use error_lines::Fault;
 use info_report::write_info;
 use input_points::Position;
 use location_report::Form;
+use mosaic_builds::Building;
 use outside::{Folder, Input, Name, Sink};
 use std::alloc::Global;
 use std::marker::Brand;
@@ -154,29 +156,34 @@ fn put_location<F: Folder, I: Input, O: Sink>(
 }
 
 /// Does a job: judges the files that it names, and then puts its texts and publishes its files. The extension of an
-/// output's name is one of its driver.
+/// output's name is one of its driver. Inputs that a mosaic skips are warned of on `err`; where that fails, `failed` is
+/// set, and nothing more is put there.
 ///
 /// Each refusal comes where the files are judged, before anything is put, but for BadPoint and the limit of points, which
 /// come at their line of the input. FolderFault, InputFault and OutFault come only where the count of the folder, of the
 /// input and of the output rose, Changed only over a folder that doesn't tell its names, Memory freely.
-pub fn put_job<F: Folder, I: Input, O: Sink>(
+pub fn put_job<F: Folder, I: Input, O: Sink, E: Sink>(
     alloc: Global,
     folder: &mut F,
     input: &mut I,
     out: &mut O,
+    err: &mut E,
+    failed: &mut bool,
     command: Command,
 ) -> Result<(), Fault>
     requires named { IsNamedJob command.job }
-    ensures told { (m : Files) → F.names folder.old ≡ Some m → (i : List ℕ) → (reads_input command.job ≡ true → I.left input.old ≡ Some i) → Goes (carried_out (judged_by command.job command.verify m) m (entries i)) m result (F.names folder.new) (O.got out.old) (O.got out.new) }
+    requires fresh { failed.old ≡ false }
+    ensures told { (m : Files) → F.names folder.old ≡ Some m → (i : List ℕ) → (reads_input command.job ≡ true → I.left input.old ≡ Some i) → GoesWarning (carried_out (judged_by command.job command.verify m) m (entries i)) m result (F.names folder.new) (O.got out.old) (O.got out.new) (λ steps. AreWarned steps failed.new (E.faults err.old) (E.faults err.new) (E.got err.old) (E.got err.new)) }
     ensures stopped { result ≡ Err Fault.InputFault → (m : Files) → F.names folder.old ≡ Some m → (i : List ℕ) → I.left input.old ≡ Some i → StopsBehind (carried_out (judged_by command.job command.verify m) m) i (I.left input.new) (O.got out.old) (O.got out.new) }
     ensures refused { IsRefusal (ended result) → (out.new ≡ out.old) × (input.new ≡ input.old) × (F.names folder.new ≡ F.names folder.old) }
+    ensures warned { MayWarn (makes_mosaic command.job) (ended result) failed.new (E.faults err.old) (E.faults err.new) (E.got err.old) (E.got err.new) }
     ensures only_read { names_published command.job ≡ [] → OnlyRead F.Folder folder.old folder.new }
     ensures may_end { IfErr result (MayEnd command.job) }
     ensures read { OnOk result (reads_input command.job ≡ true → (i : List ℕ) → I.left input.old ≡ Some i → I.left input.new ≡ Some []) }
     ensures untouched { reads_input command.job ≡ false → input.new ≡ input.old }
     ensures cause { HasCauses (F.faults folder.old) (F.faults folder.new) (O.faults out.old) (O.faults out.new) result }
     ensures input_cause { HasCause Fault.InputFault (I.faults input.old) (I.faults input.new) result }
-    ensures unknown { RefusesKind (not (reads_sources command.job)) (name_read command.job) result }
+    ensures unknown { RefusesIn (not (reads_sources command.job)) (name_read command.job) result }
     ensures changed { HasChanged (F.names folder.old) (ended result) }
     ensures own { OwnsFault (ended result) }
 {
@@ -211,6 +218,20 @@ pub fn put_job<F: Folder, I: Input, O: Sink>(
                 quiet,
             };
             put_translation(alloc, folder, out, &src, &options, way)
+        }
+        Job::Build {
+            inputs,
+            list,
+            options,
+            quiet,
+        } => {
+            let building = Building {
+                list: &list,
+                options: &options,
+                verify,
+                quiet,
+            };
+            put_build(alloc, folder, out, err, failed, inputs, building)
         }
     }
 }

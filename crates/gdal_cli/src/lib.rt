@@ -6,6 +6,7 @@ mod faults;
 mod input;
 mod jobs;
 mod laws;
+mod mosaics;
 mod places;
 mod points;
 mod published;

@@ -3,13 +3,11 @@ ghost use Rattle.std.specs.Prelude.{◌≡◌, ◌≤◌, ◌⊎◌, ℕ, List, 
 ghost use Rattle.outside.specs.Outside.{Files};
 ghost use Rattle.outside.specs.Causes.{HasCause, Rose};
 ghost use Rattle.outside.specs.Reading.{OnlyRead};
-ghost use Rattle.outside.specs.Streams.{Gets, GetsPart};
 ghost use Rattle.input_points.specs.Entries.{entries};
 ghost use Rattle.error_lines.specs.Faults.{HasCauses, HasChanged, OwnsFault, status_of};
-ghost use Rattle.error_lines.specs.Texts.{line_of};
 ghost use Rattle.gdal_cli.specs.Input.{StopsBehind};
-ghost use Rattle.gdal_cli.specs.Run.{Answers, AreTold, MayEnd, IsRefusal, RefusesWords, RefusesDataset, words_read_input, words_published, ended};
-ghost use Rattle.error_lines.specs.Steps.{Step, IsFirstPart, AreDone, Goes};
+ghost use Rattle.gdal_cli.specs.Run.{Answers, AreTold, MayEnd, MayWarn, IsRefusal, RefusesWords, RefusesDataset, TellsFault, words_read_input, words_published, words_warn, ended};
+ghost use Rattle.error_lines.specs.Steps.{Step, IsFirstPart, AreDone, AreWarned, GoesWarning};
 ghost use Rattle.command_words.specs.Words.{words_of};
 ghost use Rattle.gdal_cli.specs.Work.{run_of, run_over};
 
@@ -22,16 +20,20 @@ use std::alloc::Global;
 use std::thread::Threads;
 
 // Reads the words, and does what they ask for.
-fn perform<F: Folder, I: Input, O: Sink>(
+fn perform<F: Folder, I: Input, O: Sink, E: Sink>(
     alloc: Global,
     words: &[String],
     folder: &mut F,
     input: &mut I,
     out: &mut O,
+    err: &mut E,
+    failed: &mut bool,
 ) -> Result<(), Fault>
-    ensures told { (m : Files) → F.names folder.old ≡ Some m → (i : List ℕ) → (words_read_input (words_of (map string_bytes words.now)) ≡ true → I.left input.old ≡ Some i) → Goes (run_over (map string_bytes words.now) m (entries i)) m result (F.names folder.new) (O.got out.old) (O.got out.new) }
+    requires fresh { failed.old ≡ false }
+    ensures told { (m : Files) → F.names folder.old ≡ Some m → (i : List ℕ) → (words_read_input (words_of (map string_bytes words.now)) ≡ true → I.left input.old ≡ Some i) → GoesWarning (run_over (map string_bytes words.now) m (entries i)) m result (F.names folder.new) (O.got out.old) (O.got out.new) (λ steps. AreWarned steps failed.new (E.faults err.old) (E.faults err.new) (E.got err.old) (E.got err.new)) }
     ensures stopped { result ≡ Err Fault.InputFault → (m : Files) → F.names folder.old ≡ Some m → (i : List ℕ) → I.left input.old ≡ Some i → StopsBehind (run_over (map string_bytes words.now) m) i (I.left input.new) (O.got out.old) (O.got out.new) }
     ensures refused { IsRefusal (ended result) → (out.new ≡ out.old) × (input.new ≡ input.old) × (F.names folder.new ≡ F.names folder.old) }
+    ensures warned { MayWarn (words_warn (words_of (map string_bytes words.now))) (ended result) failed.new (E.faults err.old) (E.faults err.new) (E.got err.old) (E.got err.new) }
     ensures only_read { words_published (words_of (map string_bytes words.now)) ≡ [] → OnlyRead F.Folder folder.old folder.new }
     ensures may_end { IfOk (words_of (map string_bytes words.now)) (λ command. IfErr result (MayEnd command.job)) }
     ensures read { OnOk result (words_read_input (words_of (map string_bytes words.now)) ≡ true → (i : List ℕ) → I.left input.old ≡ Some i → I.left input.new ≡ Some []) }
@@ -44,7 +46,7 @@ fn perform<F: Folder, I: Input, O: Sink>(
     ensures own { OwnsFault (ended result) }
 {
     match read_words(alloc, words) {
-        Ok(command) => put_job(alloc, folder, input, out, command),
+        Ok(command) => put_job(alloc, folder, input, out, err, failed, command),
         Err(fault) => Err(word_fault_of(fault)),
     }
 }
@@ -57,7 +59,7 @@ fn ended(end: Result<(), Fault>) -> Option<Fault>
 
 /// Does all that the program does: reads the words behind the program's name, does what they ask
 /// for over the files of the folder and the lines of the input, prints on `out`, publishes files in
-/// the folder, and tells a fault on `err`. It answers for every list of words.
+/// the folder, and tells warnings and a fault on `err`. It answers for every list of words.
 pub fn run<R: Threads + Sync, F: Folder, I: Input, O: Sink, E: Sink>(
     _rt: &R,
     alloc: Global,
@@ -120,14 +122,15 @@ pub fn run<R: Threads + Sync, F: Folder, I: Input, O: Sink, E: Sink>(
         → (Rose (F.faults folder.old) (F.faults folder.new) → ⊥) → (Rose (I.faults input.old) (I.faults input.new) → ⊥) → (Rose (O.faults out.old) (O.faults out.new) → ⊥)
         → (result.fault ≡ (run_of (map string_bytes words.now) m i).fault) ⊎ (result.fault ≡ Some Fault.Memory) }
 
-    // Over every folder, the error stream gets the line of the fault, or a first part where it fails.
-    ensures fault_told { (Rose (E.faults err.old) (E.faults err.new) → ⊥) → Gets (line_of result.fault) (E.got err.old) (E.got err.new) }
-    ensures fault_part { GetsPart (line_of result.fault) (E.got err.old) (E.got err.new) }
+    // Over every folder, the error stream gets warnings and the line of the fault, or a first part where it fails. Only the
+    // making of a mosaic warns, and what is refused doesn't.
+    ensures fault_told { TellsFault (words_warn (words_of (map string_bytes words.now))) result.fault (E.faults err.old) (E.faults err.new) (E.got err.old) (E.got err.new) }
 
     // Where the status is 0 or 1, it gets the warnings of all steps before that line, or a first part where it fails.
     ensures errors { result.status ≤ 1 → (m : Files) → F.names folder.old ≡ Some m → (i : List ℕ) → (words_read_input (words_of (map string_bytes words.now)) ≡ true → I.left input.old ≡ Some i)
         → AreTold (run_of (map string_bytes words.now) m i).steps result.fault (E.faults err.old) (E.faults err.new) (E.got err.old) (E.got err.new) }
 {
-    let fault = ended(perform(alloc, words, folder, input, out));
-    tell(err, fault)
+    let mut failed = false;
+    let fault = ended(perform(alloc, words, folder, input, out, err, &mut failed));
+    tell(err, failed, fault)
 }

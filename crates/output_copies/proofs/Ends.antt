@@ -1,5 +1,6 @@
 -- How the parts of a translation end.
-use Rattle.std.proofs.Common.{◌≡◌, ◌∙◌, ap, refl, ◌≤◌, subst, sym, ℕ, List, Result, Ok, Err, Option, Some, arith}
+use Rattle.std.proofs.Common.{◌≡◌, ◌∙◌, ap, refl, ◌≤◌, ◌⊎◌, inl, inr, subst, sym, ℕ, List, Result, Ok, Err, Option, Some, arith}
+use Rattle.std.specs.Prelude.{IfErr}
 use Rattle.std.specs.Result.{IsErr, IsErrAnd}
 use Rattle.outside.specs.Causes.{HasCause, Rose}
 use Rattle.outside.specs.Outside.{Files}
@@ -13,6 +14,7 @@ use Rattle.write_back.specs.declared.fault.TargetFault.TheVariants as target
 use Rattle.error_lines.specs.declared.faults.Fault.{Fault}
 use Rattle.error_lines.specs.declared.faults.Fault.TheVariants.{Changed, FolderFault, OutFault, Memory}
 use Rattle.error_lines.specs.Faults.{load_fault_of, target_fault_of, IsOutside}
+use Rattle.published_files.specs.Documents.{IsOfFolder}
 use Rattle.output_copies.specs.Copying.{MayEnd}
 
 -- a fault as an answer
@@ -141,3 +143,12 @@ ends_so {T = T} {U = U} told f g o p fault r is ends = subst (λ (e : Result U F
   where
     over : (a b : Fault) → failed U a ≡ failed U b → failed T a ≡ failed T b
     over a b e = cc
+
+-- what the publishing of a document ends with
+pub ends_published : {T : Type 0} (told : Option Files) (f g : ℕ) (r : Result T Fault) → IfErr r IsOfFolder → HasCause {T = T} FolderFault f g r → MayEnd told f g 0 0 r
+ends_published told f g (Ok v) of cause = ends_ok v told f g 0 0 cause.later (omega arith)
+ends_published {T = T} told f g (Err e) of cause = by e of cause
+  where
+    by : (e : Fault) → IsOfFolder e → HasCause {T = T} FolderFault f g (Err e) → MayEnd {T = T} told f g 0 0 (Err e)
+    by e (inl is) cause = subst (λ (x : Fault). HasCause {T = T} FolderFault f g (Err x) → MayEnd {T = T} told f g 0 0 (Err x)) (sym is) (λ at. ends_folder told f g 0 0 at.later (omega arith) (at.failed refl)) cause
+    by e (inr is) cause = subst (λ (x : Fault). MayEnd {T = T} told f g 0 0 (Err x)) (sym is) (ends_memory told f g 0 0 cause.later (omega arith))

@@ -4,3 +4,4 @@ pub mod Ends
 pub mod Goes
 pub mod Told
 pub mod Whole
+pub mod Written

@@ -1,7 +1,8 @@
-// Outputs of translations: copied strip by strip from a lane into a target, and published.
+// Outputs of translations: copied strip by strip from a lane into a target, or made as a document, and published.
 #![tactic(auto)]
 
 mod copying;
+mod documents;
 mod output;
 mod progress;
 mod texts;

@@ -12,9 +12,10 @@ ghost use Rattle.strip_copies.specs.Heights.{lines_copied};
 ghost use Rattle.error_lines.specs.Faults.{Differs, HasCauses, IsOfReading};
 ghost use Rattle.error_lines.specs.Steps.{all_done, publishes, Goes};
 ghost use Rattle.output_copies.specs.Copying.{IsFilled, MayEnd};
-ghost use Rattle.output_copies.specs.Steps.{files_by, progress, raster_of, translation_steps, unless_quiet};
+ghost use Rattle.output_copies.specs.Steps.{files_by, progress, raster_of, translation_steps, unless_quiet, written};
 
 use crate::copying::{Copier, area, copy_all};
+use crate::documents::write_document;
 use crate::texts::{put_end, put_size};
 use error_lines::Fault;
 use geotransform::Sample;
@@ -22,6 +23,7 @@ use outside::{Folder, Name, Sink, Steps};
 use std::marker::Brand;
 use std::sync::ledger::{Blank, Ledger};
 use strip_copies::{StripReader, Translation, strip_height};
+use translate_plan::Driver;
 use write_back::Target;
 
 /// How an output is written: under which name, with how many blocks held at a time by what is read and by what is
@@ -134,9 +136,39 @@ fn write_files<F: Folder, O: Sink, L: Ledger, W: Ledger>(
     }
 }
 
+// Writes what the driver of an output's plan makes of it.
+fn write_planned<F: Folder, O: Sink>(
+    translation: &Translation,
+    folder: &mut F,
+    out: &mut O,
+    writing: Writing,
+) -> Result<(), Fault>
+    requires translation { IsTranslation translation.now.cat translation.now.id translation.now.plan }
+    requires walked { WhereTold F.Folder folder.old (λ m. IsWalked m translation.now.cat) }
+    requires some { 1 ≤ writing.blocks }
+    requires few { writing.blocks ≤ 65536 }
+    requires extension { IsNamedFor translation.now.plan writing.name.now }
+    ensures goes { (m : Files) (d : Dataset) → F.names folder.old ≡ Some m → slice_get translation.now.cat translation.now.id ≡ Some d → Goes (all_done (unless_quiet writing.entry.quiet progress ++ publishes (written m d translation.now.plan writing.entry.name.now))) m result (F.names folder.new) (O.got out.old) (O.got out.new) }
+    ensures ends { MayEnd (F.names folder.old) (F.faults folder.old) (F.faults folder.new) (O.faults out.old) (O.faults out.new) result }
+{
+    translation.plan.rules();
+    if let Driver::Vrt = translation.plan.driver {
+        return write_document(translation, folder, out, writing);
+    }
+    write_files::<F, O, Brand, Brand>(
+        translation,
+        folder,
+        out,
+        writing,
+        Blank::new(1),
+        Blank::new(1),
+    )
+}
+
 /// Does a translation: tells the size of the source, copies the pixels of the output strip by strip, telling how far
-/// it is, publishes the files of the output, each whole, its data first, and tells that it is done. The name's
-/// extension is one of the plan's driver, which writes samples, and 1 to 65,536 blocks are held at a time.
+/// it is, publishes the files of the output, each whole, its data first, and tells that it is done. Of a mosaic no pixel
+/// is copied, and its document is published. The name's extension is one of the plan's driver, and 1 to 65,536 blocks
+/// are held at a time.
 ///
 /// FolderFault and OutFault come only where the count of the folder and of the output rose, Changed only where a file
 /// was opened again and had another length than the walk found, or was absent, and Memory freely. All names but those
@@ -151,7 +183,6 @@ pub fn write_output<F: Folder, O: Sink>(
     requires walked { WhereTold F.Folder folder.old (λ m. IsWalked m translation.now.cat) }
     requires some { 1 ≤ writing.blocks }
     requires few { writing.blocks ≤ 65536 }
-    requires files { translation.now.plan.driver ≢ Vrt }
     requires extension { IsNamedFor translation.now.plan writing.name.now }
     // over a folder that tells its files: all the steps are done, or where the outside failed the first of them
     ensures told { WhereTold F.Folder folder.old (λ m. (d : Dataset) → slice_get translation.now.cat translation.now.id ≡ Some d → Goes (all_done (translation_steps writing.entry.quiet m d translation.now.plan writing.entry.name.now)) m result (F.names folder.new) (O.got out.old) (O.got out.new)) }
@@ -160,13 +191,6 @@ pub fn write_output<F: Folder, O: Sink>(
     ensures cause { HasCauses (F.faults folder.old) (F.faults folder.new) (O.faults out.old) (O.faults out.new) result }
 {
     put_size(translation, out, writing.quiet)?;
-    write_files::<F, O, Brand, Brand>(
-        translation,
-        folder,
-        out,
-        writing,
-        Blank::new(1),
-        Blank::new(1),
-    )?;
+    write_planned(translation, folder, out, writing)?;
     put_end(out, writing.quiet)
 }

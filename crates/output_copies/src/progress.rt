@@ -1,7 +1,7 @@
 // What is told while the lines of an output are written.
-ghost use Rattle.std.specs.Prelude.{◌≡◌, ◌<◌, ◌≤◌, ℕ, List, Option, IfOk, length, take};
+ghost use Rattle.std.specs.Prelude.{◌≡◌, ◌<◌, ◌≤◌, ℕ, List, Option, IfOk, OnErr, OnOk, length, take};
 ghost use Rattle.outside.specs.Outside.{Files};
-ghost use Rattle.outside.specs.Streams.{Gets};
+ghost use Rattle.outside.specs.Streams.{Gets, GetsPart};
 ghost use Rattle.output_copies.specs.Copying.{spoken, MayEnd, Tells};
 ghost use Rattle.output_copies.specs.Steps.{progress};
 
@@ -50,4 +50,13 @@ pub fn tell<O: Sink>(out: &mut O, quiet: bool, told: usize, share: Share) -> Res
     let part = &text[told..next];
     put_text(out, quiet, &[part])?;
     Ok(next)
+}
+
+/// Tells all that is told while an output is written, but for a quiet translation.
+pub fn put_progress<O: Sink>(out: &mut O, quiet: bool) -> Result<(), Fault>
+    ensures ok { OnOk result (Gets (spoken quiet progress) (O.got out.old) (O.got out.new)) }
+    ensures err { OnErr result (GetsPart (spoken quiet progress) (O.got out.old) (O.got out.new)) }
+    ensures ends { (names : Option Files) (faults : ℕ) → MayEnd names faults faults (O.faults out.old) (O.faults out.new) result }
+{
+    put_text(out, quiet, &[progress_text()])
 }

@@ -1,18 +1,20 @@
-use Rattle.std.proofs.Common.{rules, ◌∙◌, ap, refl, subst, sym}
+use Rattle.std.proofs.Common.{rules, ◌∙◌, ap, refl, subst, sym, List}
 use Rattle.input_points.specs.Entries.{entries}
 use Rattle.command_words.specs.declared.command.Job.{Job}
 use Rattle.gdal_cli.specs.Published.{IsNamedJob}
-use Rattle.gdal_cli.specs.Run.{names_published}
+use Rattle.error_lines.specs.Steps.{Step, AreWarned}
+use Rattle.gdal_cli.specs.Run.{ended, makes_mosaic, names_published}
 use Rattle.gdal_cli.specs.Work.{judged_by, carried_out}
 use Rattle.gdal_cli.proofs.Ended.{stops_same}
-use Rattle.gdal_cli.proofs.Outcomes.{goes_as, same_goes}
-use Rattle.gdal_cli.proofs.Printing.{info_prints, location_prints}
-use Rattle.gdal_cli.proofs.Unread.{publishes_some}
+use Rattle.gdal_cli.proofs.Printing.{info_prints, location_prints, translate_silent}
+use Rattle.gdal_cli.proofs.Unread.{mosaic_published, publishes_some}
+use Rattle.gdal_cli.proofs.Warning.{printing_as, silent_as, silent_may, warning_as}
 use Rattle.gdal_cli.proofs.jobs.put_job.Goals as goal
 
 pub returns-in-Info-clause-told : goal.returns-in-Info-clause-told
 returns-in-Info-clause-told g c = λ m is i fed.
-    same_goes _ (carried_out (judged_by c.args.command.job c.args.command.verify m) m (entries i)) c.put_info.result m _ _ _ (c.put_info.ensures.told m is (entries i)) (info_prints m (entries i) _ _) (rw c.in-Info.is (search rules)) (c.put_info.ensures.names ∙ is)
+    printing_as _ (carried_out (judged_by c.args.command.job c.args.command.verify m) m (entries i)) m c.put_info.result (g.F.Folder.names c.put_info.new.folder) (g.O.Sink.got c.args.out.now) (g.O.Sink.got c.put_info.new.out) c.args.failed.now (g.E.Sink.faults c.args.err.now) (g.E.Sink.got c.args.err.now) c.requires.fresh
+    (c.put_info.ensures.told m is (entries i)) (info_prints m (entries i) _ _) (rw c.in-Info.is (search rules)) (c.put_info.ensures.names ∙ is)
 
 pub returns-in-Info-clause-refused : goal.returns-in-Info-clause-refused
 returns-in-Info-clause-refused g c = λ refusal. (c.put_info.ensures.refused refusal, refl, c.put_info.ensures.names)
@@ -22,7 +24,8 @@ returns-in-Info-clause-only_read g c = λ none. record { names = c.put_info.ensu
 
 pub returns-in-Locate-clause-told : goal.returns-in-Locate-clause-told
 returns-in-Locate-clause-told g c = λ m is i fed.
-    same_goes _ (carried_out (judged_by c.args.command.job c.args.command.verify m) m (entries i)) c.put_location.result m _ _ _ (c.put_location.ensures.told m is i (search rules)) (location_prints m (entries i) _ _ _ _ _ _) (rw c.in-Locate.is (search rules)) (c.put_location.ensures.names ∙ is)
+    printing_as _ (carried_out (judged_by c.args.command.job c.args.command.verify m) m (entries i)) m c.put_location.result (g.F.Folder.names c.put_location.new.folder) (g.O.Sink.got c.args.out.now) (g.O.Sink.got c.put_location.new.out) c.args.failed.now (g.E.Sink.faults c.args.err.now) (g.E.Sink.got c.args.err.now) c.requires.fresh
+    (c.put_location.ensures.told m is i (search rules)) (location_prints m (entries i) _ _ _ _ _ _) (rw c.in-Locate.is (search rules)) (c.put_location.ensures.names ∙ is)
 
 pub returns-in-Locate-clause-stopped : goal.returns-in-Locate-clause-stopped
 returns-in-Locate-clause-stopped g c = λ so m is i left.
@@ -41,7 +44,8 @@ put_translation-requires-clause-named g c κs within = rw c.in-Translate.is (sub
 
 pub returns-in-Translate-clause-told : goal.returns-in-Translate-clause-told
 returns-in-Translate-clause-told g c = λ m is i fed.
-    goes_as _ (carried_out (judged_by c.args.command.job c.args.command.verify m) m (entries i)) c.put_translation.result m _ _ _ (c.put_translation.ensures.told m is (entries i)) (rw c.in-Translate.is (search rules))
+    silent_as _ (carried_out (judged_by c.args.command.job c.args.command.verify m) m (entries i)) m c.put_translation.result (g.F.Folder.names c.put_translation.new.folder) (g.O.Sink.got c.args.out.now) (g.O.Sink.got c.put_translation.new.out) c.args.failed.now (g.E.Sink.faults c.args.err.now) (g.E.Sink.got c.args.err.now) c.requires.fresh
+    (c.put_translation.ensures.told m is (entries i)) (translate_silent m (entries i) _ _ _ _) (rw c.in-Translate.is (search rules))
 
 pub returns-in-Translate-clause-stopped : goal.returns-in-Translate-clause-stopped
 returns-in-Translate-clause-stopped g c = λ so. absurd (c.put_translation.ensures.not_input so)
@@ -51,3 +55,42 @@ returns-in-Translate-clause-refused g c = λ refusal. let still = c.put_translat
 
 pub returns-in-Translate-clause-only_read : goal.returns-in-Translate-clause-only_read
 returns-in-Translate-clause-only_read g c = λ none. absurd (publishes_some c.in-Translate.src c.in-Translate.options c.in-Translate.quiet (sym (ap (λ (j : Job). names_published j) c.in-Translate.is) ∙ none))
+
+pub returns-in-Info-clause-warned : goal.returns-in-Info-clause-warned
+returns-in-Info-clause-warned g c = silent_may (makes_mosaic c.args.command.job) (ended c.put_info.result) c.args.failed.now (g.E.Sink.faults c.args.err.now) (g.E.Sink.got c.args.err.now) c.requires.fresh
+
+pub returns-in-Info-clause-unknown : goal.returns-in-Info-clause-unknown
+returns-in-Info-clause-unknown g c = rw c.in-Info.is (rw c.in-Info.is at c.put_info.ensures.unknown)
+
+pub returns-in-Locate-clause-warned : goal.returns-in-Locate-clause-warned
+returns-in-Locate-clause-warned g c = silent_may (makes_mosaic c.args.command.job) (ended c.put_location.result) c.args.failed.now (g.E.Sink.faults c.args.err.now) (g.E.Sink.got c.args.err.now) c.requires.fresh
+
+pub returns-in-Locate-clause-unknown : goal.returns-in-Locate-clause-unknown
+returns-in-Locate-clause-unknown g c = rw c.in-Locate.is (rw c.in-Locate.is at c.put_location.ensures.unknown)
+
+pub returns-in-Translate-clause-warned : goal.returns-in-Translate-clause-warned
+returns-in-Translate-clause-warned g c = silent_may (makes_mosaic c.args.command.job) (ended c.put_translation.result) c.args.failed.now (g.E.Sink.faults c.args.err.now) (g.E.Sink.got c.args.err.now) c.requires.fresh
+
+pub returns-in-Translate-clause-unknown : goal.returns-in-Translate-clause-unknown
+returns-in-Translate-clause-unknown g c = rw c.in-Translate.is (rw c.in-Translate.is at c.put_translation.ensures.unknown)
+
+pub returns-in-Build-clause-told : goal.returns-in-Build-clause-told
+returns-in-Build-clause-told g c = λ m is i fed.
+    warning_as _ (carried_out (judged_by c.args.command.job c.args.command.verify m) m (entries i)) m c.put_build.result (g.F.Folder.names c.put_build.new.folder) (g.O.Sink.got c.args.out.now) (g.O.Sink.got c.put_build.new.out)
+    (λ (steps : List Step). AreWarned steps c.put_build.new.failed (g.E.Sink.faults c.args.err.now) (g.E.Sink.faults c.put_build.new.err) (g.E.Sink.got c.args.err.now) (g.E.Sink.got c.put_build.new.err))
+    (c.put_build.ensures.told m is (entries i)) (rw c.in-Build.is (search rules))
+
+pub returns-in-Build-clause-stopped : goal.returns-in-Build-clause-stopped
+returns-in-Build-clause-stopped g c = λ so. absurd (c.put_build.ensures.not_input so)
+
+pub returns-in-Build-clause-refused : goal.returns-in-Build-clause-refused
+returns-in-Build-clause-refused g c = λ refusal. let still = c.put_build.ensures.refused refusal in (still.0, refl, still.1)
+
+pub returns-in-Build-clause-warned : goal.returns-in-Build-clause-warned
+returns-in-Build-clause-warned g c = rw c.in-Build.is c.put_build.ensures.warned
+
+pub returns-in-Build-clause-unknown : goal.returns-in-Build-clause-unknown
+returns-in-Build-clause-unknown g c = rw c.in-Build.is c.put_build.ensures.unknown
+
+pub returns-in-Build-clause-only_read : goal.returns-in-Build-clause-only_read
+returns-in-Build-clause-only_read g c = λ none. absurd (mosaic_published c.in-Build.inputs c.in-Build.list c.in-Build.options c.in-Build.quiet (sym (ap (λ (j : Job). names_published j) c.in-Build.is) ∙ none))

@@ -1,11 +1,11 @@
-use Rattle.std.proofs.Common.{◌∙◌, ap, sym, subst, map, string_bytes, Result, Err}
+use Rattle.std.proofs.Common.{◌∙◌, ap, sym, subst, map, string_bytes, List, Result, Err}
 use Rattle.std.specs.Prelude.{IfOk, IfErr}
 use Rattle.input_points.specs.Entries.{entries}
 use Rattle.error_lines.specs.declared.faults.Fault.{Fault}
 use Rattle.command_words.specs.declared.command.Command.{Command}
 use Rattle.command_words.specs.declared.spoken.WordFault.{WordFault}
-use Rattle.gdal_cli.specs.Run.{MayEnd, words_read_input}
-use Rattle.error_lines.specs.Steps.{Goes}
+use Rattle.gdal_cli.specs.Run.{MayEnd, MayWarn, ended, words_read_input, words_warn}
+use Rattle.error_lines.specs.Steps.{Step, AreWarned, GoesWarning}
 use Rattle.command_words.specs.Words.{words_of}
 use Rattle.gdal_cli.specs.Work.{Work, judged_by, carried_out, run_over}
 use Rattle.gdal_cli.proofs.Causes.{words_may}
@@ -13,6 +13,7 @@ use Rattle.gdal_cli.proofs.Datasets.{dataset_refused}
 use Rattle.gdal_cli.proofs.Ended.{stops_same}
 use Rattle.gdal_cli.proofs.Judging.{command_judged, command_goes, words_go}
 use Rattle.gdal_cli.proofs.Named.{named_words}
+use Rattle.gdal_cli.proofs.Warning.{silent_may, silent_steps}
 use Rattle.gdal_cli.proofs.running.perform.Goals as goal
 
 abbrev failed : Fault → Result (Unit {0}) Fault
@@ -25,9 +26,13 @@ pub returns-in-Err-clause-told : goal.returns-in-Err-clause-told
 returns-in-Err-clause-told g c = λ m told i fed.
     let words = map string_bytes c.args.words.now in
     let f = c.in-Err.fault in
-    subst (λ (e : Fault). Goes (run_over words m (entries i)) m (failed e) (g.F.Folder.names c.args.folder.now) (g.O.Sink.got c.args.out.now) (g.O.Sink.got c.args.out.now))
+    let W : List Step → Type 0 = λ (steps : List Step). AreWarned steps c.args.failed.now (g.E.Sink.faults c.args.err.now) (g.E.Sink.faults c.args.err.now) (g.E.Sink.got c.args.err.now) (g.E.Sink.got c.args.err.now) in
+    subst (λ (e : Fault). GoesWarning (run_over words m (entries i)) m (failed e) (g.F.Folder.names c.args.folder.now) (g.O.Sink.got c.args.out.now) (g.O.Sink.got c.args.out.now) W)
     (sym c.word_fault_of.ensures)
-    (words_go words f m (entries i) (g.F.Folder.names c.args.folder.now) (g.O.Sink.got c.args.out.now) told c.in-Err.ensures.gives)
+    (words_go words f m (entries i) (g.F.Folder.names c.args.folder.now) (g.O.Sink.got c.args.out.now) W told (silent_steps c.args.failed.now (g.E.Sink.faults c.args.err.now) (g.E.Sink.got c.args.err.now) c.requires.fresh) c.in-Err.ensures.gives)
+
+pub returns-in-Err-clause-warned : goal.returns-in-Err-clause-warned
+returns-in-Err-clause-warned g c = silent_may (words_warn (words_of (map string_bytes c.args.words.now))) _ c.args.failed.now (g.E.Sink.faults c.args.err.now) (g.E.Sink.got c.args.err.now) c.requires.fresh
 
 pub returns-in-Err-clause-may_end : goal.returns-in-Err-clause-may_end
 returns-in-Err-clause-may_end g c =
@@ -40,7 +45,8 @@ pub returns-in-Ok-clause-told : goal.returns-in-Ok-clause-told
 returns-in-Ok-clause-told g c = λ m told i fed.
     let words = map string_bytes c.args.words.now in
     let command = c.in-Ok.command in
-    command_goes words command m (entries i) c.put_job.result _ _ _ c.in-Ok.ensures.gives
+    command_goes words command m (entries i) c.put_job.result (g.F.Folder.names c.put_job.new.folder) (g.O.Sink.got c.args.out.now) (g.O.Sink.got c.put_job.new.out)
+    (λ (steps : List Step). AreWarned steps c.put_job.new.failed (g.E.Sink.faults c.args.err.now) (g.E.Sink.faults c.put_job.new.err) (g.E.Sink.got c.args.err.now) (g.E.Sink.got c.put_job.new.err)) c.in-Ok.ensures.gives
     (c.put_job.ensures.told m told i (λ reads. fed (ap (λ (d : Result Command WordFault). words_read_input d) c.in-Ok.ensures.gives ∙ reads)))
 
 pub returns-in-Ok-clause-stopped : goal.returns-in-Ok-clause-stopped
@@ -57,3 +63,7 @@ returns-in-Ok-clause-may_end g c =
 
 pub returns-in-Ok-clause-unknown : goal.returns-in-Ok-clause-unknown
 returns-in-Ok-clause-unknown g c = dataset_refused _ c.in-Ok.command c.put_job.result c.in-Ok.ensures.gives c.put_job.ensures.unknown
+
+pub returns-in-Ok-clause-warned : goal.returns-in-Ok-clause-warned
+returns-in-Ok-clause-warned g c =
+    subst (λ (d : Result Command WordFault). MayWarn (words_warn d) (ended c.put_job.result) c.put_job.new.failed (g.E.Sink.faults c.args.err.now) (g.E.Sink.faults c.put_job.new.err) (g.E.Sink.got c.args.err.now) (g.E.Sink.got c.put_job.new.err)) (sym c.in-Ok.ensures.gives) c.put_job.ensures.warned

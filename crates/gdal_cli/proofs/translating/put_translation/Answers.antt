@@ -87,16 +87,11 @@ write_output-requires-clause-translation g c κs within =
       sources = sources_known c.args.options.now d.dataset.head c.in_ok-plan.plan options (ap (plan_of c.args.options.now) (sym head) ∙ sym c.plan.ensures.plan ∙ plan);
     }
 
-pub write_output-requires-clause-files : goal.write_output-requires-clause-files
-write_output-requires-clause-files g c κs within = λ none.
-    let plan = plan_is c.plan.result c.in_ok-plan.plan (sym c.in_ok-plan.ensures) in
-    c.requires.named.files (sym (planned_driver c.args.options.now c.head.result.now c.in_ok-plan.plan (sym c.plan.ensures.plan ∙ plan)) ∙ none)
-
 pub write_output-requires-clause-extension : goal.write_output-requires-clause-extension
 write_output-requires-clause-extension g c κs within =
     let plan = plan_is c.plan.result c.in_ok-plan.plan (sym c.in_ok-plan.ensures) in
     ap (λ (o : Options). option_map driver_of (extension_of o.out)) c.options.view_is
-    ∙ c.requires.named.extension
+    ∙ c.requires.named
     ∙ ap Some (sym (planned_driver c.args.options.now c.head.result.now c.in_ok-plan.plan (sym c.plan.ensures.plan ∙ plan)))
 
 pub returns-clause-told : goal.returns-clause-told

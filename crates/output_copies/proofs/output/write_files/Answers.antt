@@ -6,23 +6,23 @@ use Rattle.output_copies.specs.Copying.{MayEnd}
 use Rattle.output_copies.specs.Steps.{files_by, progress, raster_of, unless_quiet}
 use Rattle.output_copies.proofs.Ends.{ends_after, ends_beside, ends_so, ends_target, err_is, outside_memory, outside_target}
 use Rattle.output_copies.proofs.Goes.{goes_refused, goes_stop, goes_then, spoken_done, spoken_stops}
-use Rattle.output_copies.proofs.Whole.{middle}
+use Rattle.output_copies.proofs.Written.{samples_steps}
 use Rattle.output_copies.proofs.output.write_files.Goals as goal
 
 pub returns-in_err-copier-clause-goes : goal.returns-in_err-copier-clause-goes
 returns-in_err-copier-clause-goes g c = λ m d told at.
-    goes_refused (middle c.args.writing.quiet m d c.args.translation.now.plan c.args.writing.name.now) m c.from_residual.result c.in_err-copier.field-0.0 (g.F.Folder.names c.args.folder.now) (g.O.Sink.got c.args.out.now)
+    goes_refused (samples_steps c.args.writing.quiet m d c.args.translation.now.plan c.args.writing.name.now) m c.from_residual.result c.in_err-copier.field-0.0 (g.F.Folder.names c.args.folder.now) (g.O.Sink.got c.args.out.now)
     (err_is c.from_residual.result c.in_err-copier.field-0.0 c.from_residual.ensures) told (outside_memory c.in_err-copier.field-0.0 c.in_err-copier.ensures.memory)
 
 pub returns-in_err-samples-clause-goes : goal.returns-in_err-samples-clause-goes
 returns-in_err-samples-clause-goes g c = λ m d told at.
-    goes_refused (middle c.args.writing.quiet m d c.args.translation.now.plan c.args.writing.name.now) m c.from_residual-in_err-samples.result c.in_err-samples.field-0.0 (g.F.Folder.names c.args.folder.now) (g.O.Sink.got c.args.out.now)
+    goes_refused (samples_steps c.args.writing.quiet m d c.args.translation.now.plan c.args.writing.name.now) m c.from_residual-in_err-samples.result c.in_err-samples.field-0.0 (g.F.Folder.names c.args.folder.now) (g.O.Sink.got c.args.out.now)
     (err_is c.from_residual-in_err-samples.result c.in_err-samples.field-0.0 c.from_residual-in_err-samples.ensures) told (outside_memory c.in_err-samples.field-0.0 c.in_err-samples.ensures.memory)
 
 pub returns-in_err-target-clause-goes : goal.returns-in_err-target-clause-goes
 returns-in_err-target-clause-goes g c = λ m d told at.
     let t = c.in_err-target.field-0.0 in
-    goes_refused (middle c.args.writing.quiet m d c.args.translation.now.plan c.args.writing.name.now) m c.from_residual-in_err-target.result (target_fault_of t) (g.F.Folder.names c.create.new.folder) (g.O.Sink.got c.args.out.now)
+    goes_refused (samples_steps c.args.writing.quiet m d c.args.translation.now.plan c.args.writing.name.now) m c.from_residual-in_err-target.result (target_fault_of t) (g.F.Folder.names c.create.new.folder) (g.O.Sink.got c.args.out.now)
     (err_is c.from_residual-in_err-target.result (target_fault_of t) c.from_residual-in_err-target.ensures) (c.create.ensures.names ∙ told) (outside_target t (target_fault_of t) refl)
 
 pub returns-in_err-target-clause-ends : goal.returns-in_err-target-clause-ends

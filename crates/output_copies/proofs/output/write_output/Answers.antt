@@ -14,20 +14,20 @@ returns-in_err-put_size-clause-told g c = λ m told d at.
     (size_stops c.args.writing.quiet m d c.args.translation.now.plan c.args.writing.name.now f (g.F.Folder.names c.args.folder.now) (g.O.Sink.got c.args.out.now) (g.O.Sink.got c.put_size.new.out) told
     ((c.in_err-put_size.ensures.ends (g.F.Folder.names c.args.folder.now) 0).never m told) (c.in_err-put_size.ensures.err d at))
 
-pub returns-in_err-write_files-clause-told : goal.returns-in_err-write_files-clause-told
-returns-in_err-write_files-clause-told g c = λ m told d at.
-    let f = c.in_err-write_files.field-0.0 in
-    let goes = c.in_err-write_files.ensures.goes m d told at in
-    subst (λ (r : Result (Unit {0}) Fault). Goes (all_done (translation_steps c.args.writing.quiet m d c.args.translation.now.plan c.args.writing.name.now)) m r (g.F.Folder.names c.write_files.new.folder) (g.O.Sink.got c.args.out.now) (g.O.Sink.got c.write_files.new.out))
-    (sym (err_is c.from_residual-in_err-write_files.result c.in_err-write_files.field-0.0 c.from_residual-in_err-write_files.ensures))
-    (files_stop c.args.writing.quiet m d c.args.translation.now.plan c.args.writing.name.now f (g.F.Folder.names c.write_files.new.folder) (g.O.Sink.got c.args.out.now) (g.O.Sink.got c.put_size.new.out) (g.O.Sink.got c.write_files.new.out)
+pub returns-in_err-write_planned-clause-told : goal.returns-in_err-write_planned-clause-told
+returns-in_err-write_planned-clause-told g c = λ m told d at.
+    let f = c.in_err-write_planned.field-0.0 in
+    let goes = c.in_err-write_planned.ensures.goes m d told at in
+    subst (λ (r : Result (Unit {0}) Fault). Goes (all_done (translation_steps c.args.writing.quiet m d c.args.translation.now.plan c.args.writing.name.now)) m r (g.F.Folder.names c.write_planned.new.folder) (g.O.Sink.got c.args.out.now) (g.O.Sink.got c.write_planned.new.out))
+    (sym (err_is c.from_residual-in_err-write_planned.result c.in_err-write_planned.field-0.0 c.from_residual-in_err-write_planned.ensures))
+    (files_stop c.args.writing.quiet m d c.args.translation.now.plan c.args.writing.name.now f (g.F.Folder.names c.write_planned.new.folder) (g.O.Sink.got c.args.out.now) (g.O.Sink.got c.put_size.new.out) (g.O.Sink.got c.write_planned.new.out)
     (c.in_ok-put_size.ensures.ok d at) goes)
 
 pub returns-clause-told : goal.returns-clause-told
 returns-clause-told g c = λ m told d at.
-    let goes = c.in_ok-write_files.ensures.goes m d told at in
+    let goes = c.in_ok-write_planned.ensures.goes m d told at in
     let ends = c.put_end.ensures.ends (g.F.Folder.names c.args.folder.now) 0 in
-    end_goes c.args.writing.quiet m d c.args.translation.now.plan c.args.writing.name.now c.put_end.result (g.F.Folder.names c.write_files.new.folder) (g.O.Sink.got c.args.out.now) (g.O.Sink.got c.put_size.new.out) (g.O.Sink.got c.write_files.new.out) (g.O.Sink.got c.put_end.new.out)
+    end_goes c.args.writing.quiet m d c.args.translation.now.plan c.args.writing.name.now c.put_end.result (g.F.Folder.names c.write_planned.new.folder) (g.O.Sink.got c.args.out.now) (g.O.Sink.got c.put_size.new.out) (g.O.Sink.got c.write_planned.new.out) (g.O.Sink.got c.put_end.new.out)
     (c.in_ok-put_size.ensures.ok d at) goes c.put_end.ensures.ok c.put_end.ensures.err (ends.never m told)
 
 pub returns-in_err-put_size-clause-faults : goal.returns-in_err-put_size-clause-faults
@@ -48,30 +48,30 @@ returns-in_err-put_size-clause-cause g c =
     let ends = ends_so {T = Unit {0}} _ _ _ _ _ f c.from_residual.result (err_is c.from_residual.result f c.from_residual.ensures) (c.in_err-put_size.ensures.ends (g.F.Folder.names c.args.folder.now) (g.F.Folder.faults c.args.folder.now)) in
     ends.cause
 
-pub returns-in_err-write_files-clause-cause : goal.returns-in_err-write_files-clause-cause
-returns-in_err-write_files-clause-cause g c =
+pub returns-in_err-write_planned-clause-cause : goal.returns-in_err-write_planned-clause-cause
+returns-in_err-write_planned-clause-cause g c =
     let told = g.F.Folder.names c.args.folder.now in
-    let f = c.in_err-write_files.field-0.0 in
-    let r = c.from_residual-in_err-write_files.result in
+    let f = c.in_err-write_planned.field-0.0 in
+    let r = c.from_residual-in_err-write_planned.result in
     let first = c.in_ok-put_size.ensures.ends told (g.F.Folder.faults c.args.folder.now) in
-    let ends = ends_so {T = Unit {0}} _ _ _ _ _ f r (err_is r f c.from_residual-in_err-write_files.ensures)
-    (ends_after told told (g.F.Folder.faults c.args.folder.now) (g.F.Folder.faults c.args.folder.now) (g.F.Folder.faults c.write_files.new.folder) (g.O.Sink.faults c.args.out.now) (g.O.Sink.faults c.put_size.new.out) (g.O.Sink.faults c.write_files.new.out) (Err f) refl (omega arith) first.cause.out_later c.in_err-write_files.ensures.ends) in
+    let ends = ends_so {T = Unit {0}} _ _ _ _ _ f r (err_is r f c.from_residual-in_err-write_planned.ensures)
+    (ends_after told told (g.F.Folder.faults c.args.folder.now) (g.F.Folder.faults c.args.folder.now) (g.F.Folder.faults c.write_planned.new.folder) (g.O.Sink.faults c.args.out.now) (g.O.Sink.faults c.put_size.new.out) (g.O.Sink.faults c.write_planned.new.out) (Err f) refl (omega arith) first.cause.out_later c.in_err-write_planned.ensures.ends) in
     ends.cause
 
 pub returns-clause-faults : goal.returns-clause-faults
-returns-clause-faults g c = (c.put_end.ensures.ends (g.F.Folder.names c.args.folder.now) (g.F.Folder.faults c.write_files.new.folder)).reading
+returns-clause-faults g c = (c.put_end.ensures.ends (g.F.Folder.names c.args.folder.now) (g.F.Folder.faults c.write_planned.new.folder)).reading
 
 pub returns-clause-differs : goal.returns-clause-differs
-returns-clause-differs g c = (c.put_end.ensures.ends (g.F.Folder.names c.args.folder.now) (g.F.Folder.faults c.write_files.new.folder)).differs
+returns-clause-differs g c = (c.put_end.ensures.ends (g.F.Folder.names c.args.folder.now) (g.F.Folder.faults c.write_planned.new.folder)).differs
 
 pub returns-clause-cause : goal.returns-clause-cause
 returns-clause-cause g c =
     let told = g.F.Folder.names c.args.folder.now in
     let first = c.in_ok-put_size.ensures.ends told (g.F.Folder.faults c.args.folder.now) in
-    let second = c.in_ok-write_files.ensures.ends in
+    let second = c.in_ok-write_planned.ensures.ends in
     let folder_later = second.cause.folder_later in
     let out_first = first.cause.out_later in
     let out_second = second.cause.out_later in
-    let ends = ends_after told told (g.F.Folder.faults c.args.folder.now) (g.F.Folder.faults c.write_files.new.folder) (g.F.Folder.faults c.write_files.new.folder) (g.O.Sink.faults c.args.out.now) (g.O.Sink.faults c.write_files.new.out) (g.O.Sink.faults c.put_end.new.out) c.put_end.result refl
-    folder_later (omega arith) (c.put_end.ensures.ends told (g.F.Folder.faults c.write_files.new.folder)) in
+    let ends = ends_after told told (g.F.Folder.faults c.args.folder.now) (g.F.Folder.faults c.write_planned.new.folder) (g.F.Folder.faults c.write_planned.new.folder) (g.O.Sink.faults c.args.out.now) (g.O.Sink.faults c.write_planned.new.out) (g.O.Sink.faults c.put_end.new.out) c.put_end.result refl
+    folder_later (omega arith) (c.put_end.ensures.ends told (g.F.Folder.faults c.write_planned.new.folder)) in
     ends.cause

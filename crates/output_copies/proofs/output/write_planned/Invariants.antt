@@ -1,4 +1,4 @@
-use Rattle.output_copies.proofs.output.write_output.Given as goal
+use Rattle.output_copies.proofs.output.write_planned.Given as goal
 
 abbrev pub ghosts-write_files-L-Ledger : goal.ghosts-write_files-L-Ledger
 ghosts-write_files-L-Ledger g a = record { name = a.loads.name; parts = a.loads.parts }

@@ -1,8 +1,8 @@
 use Rattle.std.proofs.Common.{◌≡◌, ◌<◌, ℕ, Some, false}
 use Rattle.std.specs.Prelude.{slice_get}
 use Rattle.catalog.specs.Drivers.{Dataset}
-use Rattle.gdal_cli.specs.Published.{is_own}
-use Rattle.gdal_cli.proofs.published.is_read.Given as goal
+use Rattle.published_files.specs.Names.{is_own}
+use Rattle.published_files.proofs.names.is_read.Given as goal
 
 -- none has it so far
 abbrev pub invariant-loop-id : goal.invariant-loop-id

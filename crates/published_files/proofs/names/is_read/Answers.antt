@@ -1,8 +1,8 @@
 use Rattle.std.proofs.Common.{◌∙◌, sym, arith}
 use Rattle.catalog.specs.Drivers.{Dataset}
-use Rattle.strip_copies.proofs.Cells.{any_found, any_missed}
-use Rattle.gdal_cli.specs.Published.{is_own}
-use Rattle.gdal_cli.proofs.published.is_read.Goals as goal
+use Rattle.published_files.proofs.Listed.{any_found, any_missed}
+use Rattle.published_files.specs.Names.{is_own}
+use Rattle.published_files.proofs.names.is_read.Goals as goal
 
 pub returns-then-branch : goal.returns-then-branch
 returns-then-branch c = record {

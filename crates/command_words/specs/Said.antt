@@ -1,0 +1,152 @@
+-- What options say by their values.
+use Rattle.std.specs.Prelude.{ℕ, pos, ◌+◌, not, true, List, codes, bytes_eq, slice_get, Option, Some, Result, Ok, ok_or, if◌then◌else◌}
+use Rattle.lists_and_answers.specs.Answers.{◌>>=◌}
+use Rattle.geotransform.specs.Decimal.{ticks_of}
+use Rattle.geotransform.specs.Types.{type_named}
+use Rattle.translate_plan.specs.declared.options.View.TheVariants as view
+use Rattle.buildvrt.specs.declared.options.Resolution.TheVariants.{User}
+use Rattle.command_words.specs.declared.options.OptionWord.{OptionWord}
+use Rattle.command_words.specs.declared.options.OptionWord.TheVariants as option
+use Rattle.command_words.specs.declared.spoken.MosaicSaid.TheVariants as mosaic
+use Rattle.command_words.specs.declared.spoken.Said.{Said}
+use Rattle.command_words.specs.declared.spoken.Said.TheVariants as said
+use Rattle.command_words.specs.declared.spoken.Spot.{Spot}
+use Rattle.command_words.specs.declared.spoken.WordFault.{WordFault}
+use Rattle.command_words.specs.declared.spoken.WordFault.TheVariants.{Usage}
+use Rattle.command_words.specs.Values.{band_of, blocks_of, integer_of, side_of, name_of, is_no, format_of, layout_of, nodata_of, resolution_named, beyond}
+
+-- a value, counted from 0, by how it is read; one that is refused is named, and where the values end early the number of all words is
+abbrev pub value_said : {T : Type 0} → (List ℕ → Option T) → Spot → List (List ℕ) → ℕ → Result T WordFault
+value_said read spot values i = do
+  word ← ok_or (slice_get values i) (Usage spot.count)
+  ok_or (read word) (Usage (spot.at + 1 + i))
+
+-- any text
+abbrev pub any_text : List ℕ → Option (List ℕ)
+any_text word = Some word
+
+-- what a setting says: only that of DTED_VERIFY_CHECKSUM has an effect
+abbrev pub setting_said : List ℕ → List ℕ → Said
+setting_said key value = if bytes_eq key (codes "DTED_VERIFY_CHECKSUM") then said.Verification (not (is_no value)) else said.Setting
+
+unfoldable pub config_said : Spot → List (List ℕ) → Result Said WordFault
+config_said spot values = do
+  key ← value_said any_text spot values 0
+  value ← value_said any_text spot values 1
+  Ok (setting_said key value)
+
+unfoldable pub window_said : Spot → List (List ℕ) → Result Said WordFault
+window_said spot values = do
+  x ← value_said integer_of spot values 0
+  y ← value_said integer_of spot values 1
+  w ← value_said integer_of spot values 2
+  h ← value_said integer_of spot values 3
+  Ok (said.Window (view.Pixels x y w h))
+
+unfoldable pub places_said : Spot → List (List ℕ) → Result Said WordFault
+places_said spot values = do
+  ulx ← value_said ticks_of spot values 0
+  uly ← value_said ticks_of spot values 1
+  lrx ← value_said ticks_of spot values 2
+  lry ← value_said ticks_of spot values 3
+  Ok (said.Places (view.Places ulx uly lrx lry))
+
+unfoldable pub outsize_said : Spot → List (List ℕ) → Result Said WordFault
+outsize_said spot values = do
+  w ← value_said side_of spot values 0
+  h ← value_said side_of spot values 1
+  Ok (said.OutSize w h)
+
+unfoldable pub band_said : Spot → List (List ℕ) → Result Said WordFault
+band_said spot values = do
+  band ← value_said band_of spot values 0
+  Ok (said.Band band)
+
+unfoldable pub blocks_said : Spot → List (List ℕ) → Result Said WordFault
+blocks_said spot values = do
+  blocks ← value_said blocks_of spot values 0
+  Ok (said.Blocks blocks)
+
+unfoldable pub format_said : Spot → List (List ℕ) → Result Said WordFault
+format_said spot values = do
+  format ← value_said format_of spot values 0
+  Ok (said.Format format)
+
+unfoldable pub nodata_said : Spot → List (List ℕ) → Result Said WordFault
+nodata_said spot values = do
+  word ← value_said nodata_of spot values 0
+  Ok (said.Nodata word)
+
+unfoldable pub kind_said : Spot → List (List ℕ) → Result Said WordFault
+kind_said spot values = do
+  kind ← value_said (type_named true) spot values 0
+  Ok (said.Kind kind)
+
+unfoldable pub creation_said : Spot → List (List ℕ) → Result Said WordFault
+creation_said spot values = do
+  layout ← value_said layout_of spot values 0
+  Ok (said.Interleave layout)
+
+unfoldable pub resolution_said : Spot → List (List ℕ) → Result Said WordFault
+resolution_said spot values = do
+  word ← value_said resolution_named spot values 0
+  Ok (said.Mosaic (mosaic.Resolution word))
+
+-- the sizes of a pixel, which are above 0
+unfoldable pub pixel_size_said : Spot → List (List ℕ) → Result Said WordFault
+pixel_size_said spot values = do
+  dx ← value_said (beyond (pos 0)) spot values 0
+  dy ← value_said (beyond (pos 0)) spot values 1
+  Ok (said.Mosaic (mosaic.PixelSize (User dx dy)))
+
+-- the least places, then the greatest ones, each of which is judged by the least one
+unfoldable pub extent_said : Spot → List (List ℕ) → Result Said WordFault
+extent_said spot values = do
+  xmin ← value_said ticks_of spot values 0
+  ymin ← value_said ticks_of spot values 1
+  xmax ← value_said (beyond xmin) spot values 2
+  ymax ← value_said (beyond ymin) spot values 3
+  Ok (said.Mosaic (mosaic.Extent (record { xmin = xmin; ymin = ymin; xmax = xmax; ymax = ymax })))
+
+unfoldable pub source_nodata_said : Spot → List (List ℕ) → Result Said WordFault
+source_nodata_said spot values = do
+  word ← value_said nodata_of spot values 0
+  Ok (said.Mosaic (mosaic.SourceNodata word))
+
+unfoldable pub mosaic_nodata_said : Spot → List (List ℕ) → Result Said WordFault
+mosaic_nodata_said spot values = do
+  word ← value_said nodata_of spot values 0
+  Ok (said.Mosaic (mosaic.Nodata word))
+
+unfoldable pub list_said : Spot → List (List ℕ) → Result Said WordFault
+list_said spot values = do
+  name ← value_said name_of spot values 0
+  Ok (said.List name)
+
+-- what an option says by its values
+abbrev pub option_said : OptionWord → Spot → List (List ℕ) → Result Said WordFault
+option_said option.Config spot values = config_said spot values
+option_said option.Blocks spot values = blocks_said spot values
+option_said option.Band spot values = band_said spot values
+option_said option.ValuesOnly spot values = Ok said.ValuesOnly
+option_said option.FilesOnly spot values = Ok said.FilesOnly
+option_said option.Geoloc spot values = Ok said.Geoloc
+option_said option.Format spot values = format_said spot values
+option_said option.Window spot values = window_said spot values
+option_said option.Places spot values = places_said spot values
+option_said option.OutSize spot values = outsize_said spot values
+option_said option.Nodata spot values = nodata_said spot values
+option_said option.Kind spot values = kind_said spot values
+option_said option.Creation spot values = creation_said spot values
+option_said option.Quiet spot values = Ok said.Quiet
+option_said option.Inside spot values = Ok said.Inside
+option_said option.Touching spot values = Ok said.Touching
+option_said option.Resolution spot values = resolution_said spot values
+option_said option.PixelSize spot values = pixel_size_said spot values
+option_said option.Extent spot values = extent_said spot values
+option_said option.SourceNodata spot values = source_nodata_said spot values
+option_said option.MosaicNodata spot values = mosaic_nodata_said spot values
+option_said option.Separate spot values = Ok (said.Mosaic mosaic.Separate)
+option_said option.Strict spot values = Ok (said.Mosaic mosaic.Strict)
+option_said option.Overwrite spot values = Ok said.Setting
+option_said option.InputList spot values = list_said spot values

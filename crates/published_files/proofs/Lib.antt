@@ -1,0 +1,3 @@
+mod Goes
+mod Listed
+pub mod Same
