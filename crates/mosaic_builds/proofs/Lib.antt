@@ -1,0 +1,7 @@
+pub mod Ended
+mod Examples
+pub mod Going
+pub mod Heads
+pub mod Listed
+pub mod Stages
+pub mod Walked
