@@ -4,8 +4,8 @@ use Rattle.std.specs.Prelude.{IfErr}
 use Rattle.outside.specs.Causes.{HasCause}
 use Rattle.error_lines.specs.declared.faults.Fault.{Fault}
 use Rattle.error_lines.specs.declared.faults.Fault.TheVariants.{Absent, NotRecognized, Malformed, Short, Cycle, TooDeep, Limit, SourceBand, Build, SameName, FolderFault, OutFault, Memory}
-use Rattle.error_lines.specs.Faults.{IsOutside, HasCauses}
-use Rattle.mosaic_builds.specs.Ends.{IsOfNames, IsOfBuilding, IsOfMaking, MayEnd}
+use Rattle.error_lines.specs.Faults.{IsOutside, HasCauses, fault_status}
+use Rattle.mosaic_builds.specs.Ends.{IsOfNames, IsOfBuilding, IsOfMaking, IsOfWriting, MayEnd}
 
 -- a fault of names is one that a mosaic may end with
 pub may_names : (out : List ℕ) (f : Fault) → IsOfNames f → IsOfMaking out f
@@ -63,3 +63,13 @@ making_causes {T} {U} out r f folder now put at h cause = record {
   folder_failed = λ is. let one : f ≡ FolderFault = cc in cause.failed (at ∙ ap Err one);
   out_failed = λ is. let one : f ≡ OutFault = cc in absurd (subst (IsOfMaking out) one h);
 }
+
+-- what writing ends with is no refusal
+no_refusal : (f : Fault) (P : Type 0) → IsOfWriting f → fault_status f ≡ 1 → P
+no_refusal f P (inl is) refusal = let two : fault_status f ≡ 2 = ap fault_status is in absurd (omega arith)
+no_refusal f P (inr (inl is)) refusal = let two : fault_status f ≡ 2 = ap fault_status is in absurd (omega arith)
+no_refusal f P (inr (inr is)) refusal = let three : fault_status f ≡ 3 = ap fault_status is in absurd (omega arith)
+
+pub writing_refuses : (r : Result (Unit {0}) Fault) (P : Type 0) → IfErr r IsOfWriting → IfErr r (λ f. fault_status f ≡ 1 → P)
+writing_refuses (Ok done) P h = tt
+writing_refuses (Err f) P h = no_refusal f P h

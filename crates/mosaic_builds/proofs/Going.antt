@@ -129,7 +129,7 @@ none_done : (quiet : Bool) (name : List ℕ) (d : Result Built Fault) → IsFirs
 none_done quiet name (Ok built) = (0, 0, none_begun quiet name built.document built.warnings)
 none_done quiet name (Err fault) = (0, 0, refl)
 
-unwarned : (failed : Bool) (faults : ℕ) (got : Option (List ℕ)) → failed ≡ false → AreWarned [] failed faults faults got got
+pub unwarned : (failed : Bool) (faults : ℕ) (got : Option (List ℕ)) → failed ≡ false → AreWarned [] failed faults faults got got
 unwarned failed faults got is = subst (λ (b : Bool). AreWarned [] b faults faults got got) (sym is) (none_warned [] faults got refl)
 
 pub refused_goes : (quiet : Bool) (name : List ℕ) (d : Result Built Fault) (m : Files) (fault : Fault) (names : Option Files) (out : Option (List ℕ)) (failed : Bool) (faults : ℕ) (err : Option (List ℕ)) → failed ≡ false → names ≡ Some m → IsOutside fault ⊎ (d ≡ Err fault) → GoesWarning (mosaic_done quiet name d) m (Err fault) names out out (λ s. AreWarned s failed faults faults err err)

@@ -85,6 +85,7 @@ fn put_made<F: Folder, O: Sink, E: Sink>(
 ) -> Result<(), Fault>
     requires made { IsMade made.now }
     ensures told { failed.old ≡ false → (m : Files) → F.names folder.old ≡ Some m → GoesWarning (all_done (mosaic_steps building.entry.quiet building.entry.options.now.out (built_by made.now))) m result (F.names folder.new) (O.got out.old) (O.got out.new) (λ steps. AreWarned steps failed.new (E.faults err.old) (E.faults err.new) (E.got err.old) (E.got err.new)) }
+    ensures warned { failed.old ≡ false → AreWarned (warns (built_by made.now).warnings) failed.new (E.faults err.old) (E.faults err.new) (E.got err.old) (E.got err.new) }
     ensures faults { IfErr result IsOfWriting }
     ensures cause { HasCauses (F.faults folder.old) (F.faults folder.new) (O.faults out.old) (O.faults out.new) result }
 {
@@ -111,6 +112,8 @@ pub fn put_mosaic<F: Folder, O: Sink, E: Sink>(
 ) -> Result<(), Fault>
     // over a folder that tells its files: all the steps are done, or where the outside failed the first of them
     ensures told { failed.old ≡ false → (m : Files) → F.names folder.old ≡ Some m → GoesWarning (mosaic_done building.entry.quiet building.entry.options.now.out (built_in m building.entry.verify inputs building.entry.list.now building.entry.options.now)) m result (F.names folder.new) (O.got out.old) (O.got out.new) (λ steps. AreWarned steps failed.new (E.faults err.old) (E.faults err.new) (E.got err.old) (E.got err.new)) }
+    // over every folder: some warnings were put, none where the mosaic is refused
+    ensures warned { failed.old ≡ false → (lines : List (List ℕ)) × AreWarned (warns lines) failed.new (E.faults err.old) (E.faults err.new) (E.got err.old) (E.got err.new) × IfErr result (λ f. fault_status f ≡ 1 → lines ≡ []) }
     // a refused mosaic has done nothing
     ensures refused { IfErr result (λ f. fault_status f ≡ 1 → (out.new ≡ out.old) × (err.new ≡ err.old) × (failed.new ≡ failed.old) × (F.names folder.new ≡ F.names folder.old)) }
     ensures may_end { IfErr result (MayEnd building.entry.options.now.out) }
