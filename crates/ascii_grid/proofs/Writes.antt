@@ -31,7 +31,7 @@ keeps_more a b c xs e h = written.keeps_then a b c (flat_map more_text xs) e h
 pub more_pushed : (a b c : List ℕ) (xs : List ℤ) (i : ℕ) (x : ℤ) → x ≡ get_or xs i (pos 0) → i < length xs → b ≡ a ++ flat_map more_text (take i xs) → c ≡ b ++ more_text x → c ≡ a ++ flat_map more_text (take (i + 1) xs)
 more_pushed a b c xs i x is less p q =
     let more : flat_map more_text (take (i + 1) xs) ≡ flat_map more_text (take i xs) ++ more_text x =
-        ap (flat_map more_text) (take_more xs i (pos 0) less) ∙ flat_map-append more_text (take i xs) (get_or xs i (pos 0) ∷ []) ∙ ap (λ (y : List ℕ). flat_map more_text (take i xs) ++ y) (append-nil (more_text (get_or xs i (pos 0))) ∙ ap more_text (sym is)) in
+    ap (flat_map more_text) (take_more xs i (pos 0) less) ∙ flat_map-append more_text (take i xs) (get_or xs i (pos 0) ∷ []) ∙ ap (λ (y : List ℕ). flat_map more_text (take i xs) ++ y) (append-nil (more_text (get_or xs i (pos 0))) ∙ ap more_text (sym is)) in
     q ∙ ap (λ (y : List ℕ). y ++ more_text x) p ∙ append_assoc a (flat_map more_text (take i xs)) (more_text x) ∙ ap (λ (y : List ℕ). a ++ y) (sym more)
 
 pub row_added : (a b c d : List ℕ) (x : ℤ) (xs : List ℤ) → b ≡ a ++ signed_decimal x → c ≡ b ++ flat_map more_text xs → d ≡ c ++ 10 ∷ [] → d ≡ a ++ row_text (x ∷ xs)

@@ -1,5 +1,5 @@
 // The window of the source, and the size of the output.
-ghost use Rattle.std.specs.Prelude.{◌≡◌, false, ◌<◌, ◌≤◌, ◌^◌, ◌*◌, ◌/◌, pos, ◌+ℤ◌, ◌≤ℤ◌, IfOk, IfSome, unsigned_abs};
+ghost use Rattle.std.specs.Prelude.{◌≡◌, ◌<◌, ◌≤◌, ◌^◌, ◌*◌, ◌/◌, pos, ◌+ℤ◌, ◌≤ℤ◌, IfOk, IfSome, unsigned_abs};
 ghost use Rattle.geotransform.specs.Places.{rounded_up};
 ghost use Rattle.geotransform.specs.Geo.{IsRaster};
 ghost use Rattle.geotransform.specs.declared.types.Size.{Size};
@@ -56,22 +56,19 @@ pub fn asked_in(view: &View, size: Size, geo: &Option<GeoTransform>) -> Result<A
 }
 
 fn is_empty(w: i128, h: i128) -> bool
-    ensures value { result ≡ is_empty w h }
-    ensures some { result ≡ false → (pos 1 ≤ℤ w) × (pos 1 ≤ℤ h) }
+    ensures { result ≡ is_empty w h }
 {
     w < 1 || h < 1
 }
 
 fn is_large(w: i128, h: i128) -> bool
-    ensures value { result ≡ is_large w h }
-    ensures few { result ≡ false → (w ≤ℤ pos 4194304) × (h ≤ℤ pos 4194304) }
+    ensures { result ≡ is_large w h }
 {
     w > 4_194_304 || h > 4_194_304
 }
 
 fn is_far(x: i128, y: i128) -> bool
-    ensures value { result ≡ is_far x y }
-    ensures near { result ≡ false → (unsigned_abs x ≤ 8388608) × (unsigned_abs y ≤ 8388608) }
+    ensures { result ≡ is_far x y }
 {
     x.unsigned_abs() > 8_388_608 || y.unsigned_abs() > 8_388_608
 }
