@@ -1,6 +1,7 @@
 -- What is written one after the other.
-use Rattle.std.proofs.Common.{◌≡◌, ℕ, ℤ, List, [], ◌∷◌, ◌++◌, length, ap, ◌∙◌, sym, append_assoc, take, subst, Option, Result, Ok, Err}
-use Rattle.std.proofs.lemmas.List.{append-nil}
+use Rattle.std.proofs.Common.{◌≡◌, ℕ, ◌+◌, ◌<◌, ℤ, pos, List, [], ◌∷◌, ◌++◌, length, ap, ◌∙◌, sym, append_assoc, take, get_or, subst, Option, Result, Ok, Err}
+use Rattle.std.proofs.lemmas.List.{append-nil, take_more}
+use Rattle.std.proofs.lemmas.Grind.{flat_map-append}
 use Rattle.std.specs.List.{flat_map}
 use Rattle.std.specs.Fmt.{signed_decimal}
 use Rattle.lists_and_answers.specs.Growth.{KeepsFront}
@@ -25,6 +26,13 @@ keeps_two a b c d e f p q r = written.keeps_append a d (e ++ f) (r ∙ q ∙ ap 
 
 pub keeps_more : (a b c : List ℕ) (xs : List ℤ) → b ≡ a ++ flat_map more_text xs → KeepsFront b c → KeepsFront a c
 keeps_more a b c xs e h = written.keeps_then a b c (flat_map more_text xs) e h
+
+-- one value more behind the first i of them
+pub more_pushed : (a b c : List ℕ) (xs : List ℤ) (i : ℕ) (x : ℤ) → x ≡ get_or xs i (pos 0) → i < length xs → b ≡ a ++ flat_map more_text (take i xs) → c ≡ b ++ more_text x → c ≡ a ++ flat_map more_text (take (i + 1) xs)
+more_pushed a b c xs i x is less p q =
+    let more : flat_map more_text (take (i + 1) xs) ≡ flat_map more_text (take i xs) ++ more_text x =
+    ap (flat_map more_text) (take_more xs i (pos 0) less) ∙ flat_map-append more_text (take i xs) (get_or xs i (pos 0) ∷ []) ∙ ap (λ (y : List ℕ). flat_map more_text (take i xs) ++ y) (append-nil (more_text (get_or xs i (pos 0))) ∙ ap more_text (sym is)) in
+    q ∙ ap (λ (y : List ℕ). y ++ more_text x) p ∙ append_assoc a (flat_map more_text (take i xs)) (more_text x) ∙ ap (λ (y : List ℕ). a ++ y) (sym more)
 
 pub row_added : (a b c d : List ℕ) (x : ℤ) (xs : List ℤ) → b ≡ a ++ signed_decimal x → c ≡ b ++ flat_map more_text xs → d ≡ c ++ 10 ∷ [] → d ≡ a ++ row_text (x ∷ xs)
 row_added a b c d x xs p q r = r ∙ ap (λ (y : List ℕ). y ++ 10 ∷ []) (q ∙ ap (λ (y : List ℕ). y ++ flat_map more_text xs) p) ∙ simp append_assoc

@@ -32,7 +32,6 @@ fn push_more(n: Sample, out: &mut Vec<u8>) -> Result<(), AllocError>
 }
 
 // Appends values, each behind a space.
-#[tactic(auto, using(crate::proofs::Writes::keeps_more))]
 fn push_rest(samples: &[Sample], out: &mut Vec<u8>) -> Result<(), AllocError>
     ensures ok { OnOk result (out.new.items ≡ out.old.items ++ flat_map more_text samples.now) }
     ensures err { OnErr result (KeepsFront out.old.items out.new.items) }
@@ -87,7 +86,6 @@ fn push_count(label: &[u8], n: u32, out: &mut Vec<u8>) -> Result<(), AllocError>
     push_line(label, buffer.format(n).as_bytes(), out)
 }
 
-#[tactic(auto, using(crate::proofs::Writes::line_made, crate::proofs::Writes::keeps_then, crate::proofs::Writes::keeps_two))]
 fn push_ticks(label: &[u8], value: Ticks, out: &mut Vec<u8>) -> Result<(), AllocError>
     ensures ok { OnOk result (Adds out.old.items out.new.items (label.now ++ (short_text value ++ 10 ∷ []))) }
     ensures err { OnErr result (KeepsFront out.old.items out.new.items) }

@@ -36,7 +36,6 @@ fn push_number(key: usize, n: u64, out: &mut Vec<u8>) -> Result<(), AllocError>
     push_text(key, buffer.format(n).as_bytes(), out)
 }
 
-#[tactic(auto, using(crate::proofs::Writes::line_made, crate::proofs::Writes::keeps_push_then, crate::proofs::Writes::keeps_third))]
 fn push_ticks(key: usize, value: Ticks, out: &mut Vec<u8>) -> Result<(), AllocError>
     requires { key < 16 }
     ensures ok { OnOk result (AppendsLines out.old.items out.new.items ((key, short_text value) ∷ [])) }
@@ -73,7 +72,6 @@ fn sign_text(kind: PixelType) -> &'static [u8]
     }
 }
 
-#[tactic(auto, using(crate::proofs::Writes::four_lines, crate::proofs::Writes::lines_then, crate::proofs::Writes::keeps_after))]
 fn push_layout(head: &RawHead, out: &mut Vec<u8>) -> Result<(), AllocError>
     ensures ok { OnOk result (AppendsLines out.old.items out.new.items (layout_fields head.now)) }
     ensures err { OnErr result (KeepsFront out.old.items out.new.items) }
@@ -96,7 +94,6 @@ fn push_samples(head: &RawHead, out: &mut Vec<u8>) -> Result<(), AllocError>
     Ok(())
 }
 
-#[tactic(auto, using(crate::proofs::Writes::keeps_after))]
 fn push_rows(head: &RawHead, out: &mut Vec<u8>) -> Result<(), AllocError>
     ensures ok { OnOk result (AppendsLines out.old.items out.new.items (row_fields head.now)) }
     ensures err { OnErr result (KeepsFront out.old.items out.new.items) }

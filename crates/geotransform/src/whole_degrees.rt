@@ -24,6 +24,15 @@ fn twice_middle(first: Ticks, second: Ticks) -> i128
     first.get() + second.get()
 }
 
+/// The side behind the column, or line, `k`.
+fn behind(k: i64) -> i64
+    requires { unsigned_abs k ≤ 4194304 }
+    ensures value { result ≡ k +ℤ pos 1 }
+    ensures bound { unsigned_abs result ≤ 16777216 }
+{
+    k + 1
+}
+
 /// Twice the centre of column, or line, `k` from `start`: the sum of its two sides.
 pub fn twice_centre(start: Ticks, step: Ticks, k: i64) -> i128
     requires start { IsNear start }
@@ -32,7 +41,7 @@ pub fn twice_centre(start: Ticks, step: Ticks, k: i64) -> i128
     ensures centre { result ≡ twice_centre start step k }
     ensures bound { unsigned_abs result ≤ 2 * 10 ^ 37 }
 {
-    twice_middle(along(start, step, k), along(start, step, k + 1))
+    twice_middle(along(start, step, k), along(start, step, behind(k)))
 }
 
 fn twice_west(geo: &GeoTransform) -> i128

@@ -1,5 +1,5 @@
 // What is told of a place, written to a sink.
-ghost use Rattle.std.specs.Prelude.{◌≡◌, ◌++◌, length, Err, OnOk, OnErr, IfSome};
+ghost use Rattle.std.specs.Prelude.{◌≡◌, ◌++◌, [], length, None, Some, Err, OnOk, OnErr, IfSome};
 ghost use Rattle.std.specs.Option.{option_map};
 ghost use Rattle.lists_and_answers.specs.Growth.{KeepsFront};
 ghost use Rattle.outside.specs.Causes.{HasCause};
@@ -53,8 +53,35 @@ fn push_place(x: i128, y: i128, out: &mut Vec<u8>) -> Result<(), AllocError>
     Ok(())
 }
 
+/// Appends a report on a place off the raster.
+#[tactic(auto, using(crate::proofs::Appended::two, crate::proofs::Appended::keeps_pushed), unfolding(crate::specs::Location::report_text))]
+fn push_off(x: i128, y: i128, out: &mut Vec<u8>) -> Result<(), AllocError>
+    ensures ok { OnOk result (out.new.items ≡ out.old.items ++ report_text x y None []) }
+    ensures err { OnErr result (KeepsFront out.old.items out.new.items) }
+{
+    push_place(x, y, out)?;
+    out.extend_from_slice(b"  Location is off this file! No further details to report.\n")
+}
+
+/// Appends a report on a place of the raster.
+#[tactic(auto, using(crate::proofs::Appended::two, crate::proofs::Appended::keeps_then), unfolding(crate::specs::Location::report_text))]
+fn push_on(
+    x: i128,
+    y: i128,
+    values: &[Sample],
+    bands: &[u32],
+    out: &mut Vec<u8>,
+) -> Result<(), AllocError>
+    requires { length values.now ≡ length bands.now }
+    ensures ok { OnOk result (out.new.items ≡ out.old.items ++ report_text x y (Some values.now) bands.now) }
+    ensures err { OnErr result (KeepsFront out.old.items out.new.items) }
+{
+    push_place(x, y, out)?;
+    push_bands(bands, values, out)
+}
+
 /// Appends a report.
-#[tactic(auto, using(crate::proofs::Appended::two, crate::proofs::Appended::keeps_then, crate::proofs::Appended::keeps_pushed), unfolding(crate::specs::Location::report_text))]
+#[tactic(auto, unfolding(crate::specs::Location::report_text))]
 fn push_report(
     x: i128,
     y: i128,
@@ -66,12 +93,9 @@ fn push_report(
     ensures ok { OnOk result (out.new.items ≡ out.old.items ++ report_text x y (option_map (λ v. v.now) values.entry) bands.now) }
     ensures err { OnErr result (KeepsFront out.old.items out.new.items) }
 {
-    push_place(x, y, out)?;
     match values {
-        Some(values) => push_bands(bands, values, out),
-        None => {
-            out.extend_from_slice(b"  Location is off this file! No further details to report.\n")
-        }
+        Some(values) => push_on(x, y, values, bands, out),
+        None => push_off(x, y, out),
     }
 }
 

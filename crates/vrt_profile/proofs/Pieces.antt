@@ -34,7 +34,7 @@ pub keeps_more_two : (a b c d e f : List ℕ) → b ≡ a ++ e → c ≡ b ++ f 
 keeps_more_two a b c d e f p q h = keeps_then a c d (e ++ f) (two a b c e f p q) h
 
 -- what the first items of a list are written as, and the next one
-pub one_piece_more : (f : ℕ → List ℕ) (xs old before after : List ℕ) (i d : ℕ) → i < length xs → before ≡ old ++ flat_map f (take i xs) → after ≡ before ++ f (get_or xs i d) → after ≡ old ++ flat_map f (take (i + 1) xs)
+pub one_piece_more : {X : Type 0} (f : X → List ℕ) (xs : List X) (old before after : List ℕ) (i : ℕ) (d : X) → i < length xs → before ≡ old ++ flat_map f (take i xs) → after ≡ before ++ f (get_or xs i d) → after ≡ old ++ flat_map f (take (i + 1) xs)
 one_piece_more f xs old before after i d less p q =
     two old before after (flat_map f (take i xs)) (f (get_or xs i d)) p q
     ∙ ap (λ (x : List ℕ). old ++ x) (sym (ap (flat_map f) (take_more xs i d less) ∙ flat_map-append f (take i xs) (get_or xs i d ∷ []) ∙ ap (λ (x : List ℕ). flat_map f (take i xs) ++ x) (append-nil (f (get_or xs i d)))))

@@ -42,7 +42,6 @@ fn push_next_pair(pair: LutPair, out: &mut Vec<u8>) -> Result<(), AllocError>
 }
 
 // The pairs behind the first.
-#[tactic(auto, using(crate::proofs::Pieces::keeps_more))]
 fn push_next_pairs(pairs: &[LutPair], out: &mut Vec<u8>) -> Result<(), AllocError>
     requires near { All IsPair pairs.now }
     ensures ok { OnOk result (out.new.items ≡ out.old.items ++ flat_map next_pair_text pairs.now) }
@@ -172,7 +171,6 @@ fn push_sources(sources: &[Source], out: &mut Vec<u8>) -> Result<(), AllocError>
 }
 
 // The attributes of a band.
-#[tactic(auto, using(crate::proofs::Pieces::pairs_then, crate::proofs::Pieces::keeps_pairs))]
 fn push_band_pairs(kind: PixelType, number: u64, out: &mut Vec<u8>) -> Result<(), AllocError>
     ensures ok { OnOk result (AppendsPairs out.old.items out.new.items (band_pairs number kind)) }
     ensures err { OnErr result (KeepsFront out.old.items out.new.items) }
