@@ -45,7 +45,8 @@ fn reason_word(reason: Reason) -> &'static str {
 
 fn push_reason(name: &str, reason: Reason, out: &mut Vec<u8>) -> Result<(), AllocError> {
     let word = reason_word(reason);
-    push_all(&[name.as_bytes(), b" ", word.as_bytes(), b"\n"], out)
+    push_all(&[name.as_bytes(), b" "], out)?;
+    push_all(&[word.as_bytes(), b"\n"], out)
 }
 
 fn name_of(heads: &[Head], input: u32) -> &str {

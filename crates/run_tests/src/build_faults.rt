@@ -275,12 +275,13 @@ fn a_thousand_skipped_inputs(rt: HostRuntime) -> Result<(), Fail> {
     Ok(())
 }
 
-// A list: so many copies of a text behind another; words; and what is told of it.
+// A list: a text, so many copies of another, and so many empty lines; words; and what is told of it.
 #[derive(Clone, Copy)]
 struct Long {
     front: &'static [u8],
     text: &'static [u8],
     count: usize,
+    lines: usize,
     line: &'static str,
     status: u8,
     told: &'static str,
@@ -295,6 +296,7 @@ static LONG: [Long; 9] = [
         front: b"a.bil\n",
         text: b"./",
         count: 2048,
+        lines: 1,
         line: OF_LIST,
         status: 1,
         told: "ERROR 4: .: not recognized as a supported format\n",
@@ -303,6 +305,7 @@ static LONG: [Long; 9] = [
         front: b"a.bil",
         text: b"x",
         count: 4092,
+        lines: 0,
         line: OF_LIST,
         status: 1,
         told: "ERROR 6: limit of name passed (4097)\n",
@@ -311,6 +314,7 @@ static LONG: [Long; 9] = [
         front: b"none.bil\n",
         text: b"./",
         count: 3000,
+        lines: 0,
         line: OF_LIST,
         status: 1,
         told: "ERROR 6: limit of name passed (6000)\n",
@@ -319,6 +323,7 @@ static LONG: [Long; 9] = [
         front: b"",
         text: b"none.bil\n",
         count: 65_536,
+        lines: 0,
         line: OF_LIST,
         status: 1,
         told: "ERROR 4: none.bil: no such file\n",
@@ -327,6 +332,7 @@ static LONG: [Long; 9] = [
         front: b"",
         text: b"none.bil\n",
         count: 65_537,
+        lines: 0,
         line: OF_LIST,
         status: 1,
         told: "ERROR 6: limit of files passed (65537)\n",
@@ -335,30 +341,34 @@ static LONG: [Long; 9] = [
         front: b"",
         text: b"none.bil\n\r\n",
         count: 65_536,
+        lines: 0,
         line: "gdalbuildvrt -q out.vrt a.bil -input_file_list list.txt",
         status: 1,
         told: "ERROR 6: limit of files passed (65537)\n",
     },
     Long {
-        front: b"a.bil",
-        text: b"\n",
-        count: 67_108_859,
+        front: b"",
+        text: b"a.bil",
+        count: 1,
+        lines: 67_108_859,
         line: OF_LIST,
         status: 0,
         told: "",
     },
     Long {
-        front: b"a.bil",
-        text: b"\n",
-        count: 67_108_860,
+        front: b"",
+        text: b"a.bil",
+        count: 1,
+        lines: 67_108_860,
         line: OF_LIST,
         status: 1,
         told: "ERROR 6: limit of list passed (67108865)\n",
     },
     Long {
         front: b"a.bil\xff",
-        text: b"\n",
-        count: 67_108_860,
+        text: b"",
+        count: 0,
+        lines: 67_108_860,
         line: OF_LIST,
         status: 1,
         told: "ERROR 6: limit of list passed (67108866)\n",
@@ -371,6 +381,7 @@ fn long_text(alloc: Global, long: Long) -> Result<Vec<u8>, AllocError> {
     for _ in 0..long.count {
         out.extend_from_slice(long.text)?;
     }
+    out.extend_from_slice(&vec![in alloc; b'\n'; long.lines]?)?;
     Ok(out)
 }
 
