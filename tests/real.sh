@@ -82,5 +82,72 @@ expect 'the next translation to that name, beside what the killed ones left' 0 '
 holds 'which is whole' cmp -s big.bil killed.bil
 holds 'and leaves no temporary file of its own' test "$(temporaries)" = "$left"
 
+# mosaics
+expect 'a mosaic' 0 '' gdalbuildvrt -q mosaic.vrt hills.bil
+holds 'the mosaic has the pixels of its input' bash -c '"$0" gdal_translate -q mosaic.vrt back.bil && cmp -s hills.bil back.bil' "$program"
+expect 'a mosaic over its input' 1 'ERROR 1: mosaic.vrt: output is an input' gdalbuildvrt -q ./mosaic.vrt mosaic.vrt
+expect 'a mosaic over the source of its input, by a document' 0 '' gdal_translate -q mosaic.vrt outer.vrt
+expect 'which is an input' 1 'ERROR 1: mosaic.vrt: output is an input' gdalbuildvrt -q mosaic.vrt outer.vrt
+for kind in bil hdr; do cp "hills.$kind" "two words.$kind" && cp "hills.$kind" $'two\nlines.'"$kind"; done
+printf 'two words.bil\r\n\r\n./hills.bil' >list.txt
+expect 'a list with a name of two words' 0 '' gdalbuildvrt -q listed.vrt -input_file_list list.txt
+holds 'both of which are sources of both bands' test "$(grep -c -e '>two words.bil<' -e '>hills.bil<' listed.vrt)" = 4
+printf 'two\nlines.bil\n' >lines.txt
+expect 'a list that cannot hold a name of two lines' 1 'ERROR 4: two: not recognized as a supported format' gdalbuildvrt -q lines.vrt -input_file_list lines.txt
+expect 'a name of two lines as a word' 0 '' gdalbuildvrt -q lines.vrt $'two\nlines.bil'
+holds 'which is found again' bash -c '"$0" gdal_translate -q lines.vrt again.bil && cmp -s hills.bil again.bil' "$program"
+printf '7' >placeless.bil
+printf 'NROWS 1\nNCOLS 1\n' >placeless.hdr
+expect 'an input that is skipped' 0 'Warning 1: placeless.bil: skipped (geotransform)' gdalbuildvrt -q skipped.vrt hills.bil placeless.bil
+expect 'the same, strictly' 1 'ERROR 1: placeless.bil: skipped (geotransform)' gdalbuildvrt -q -strict strict.vrt hills.bil placeless.bil
+holds 'which makes nothing' test ! -e strict.vrt
+expect 'a folder in the place of the list' 2 'ERROR 3: a file call failed' gdalbuildvrt -q none.vrt -input_file_list folder.asc
+expect 'a folder that is not there' 2 'ERROR 3: a file call failed' gdalbuildvrt -q none/out.vrt hills.bil
+if [ -w /dev/full ]; then
+    holds 'warnings to a stream that takes nothing' bash -c '"$0" gdalbuildvrt -q unwarned.vrt hills.bil placeless.bil 2>/dev/full && cmp -s unwarned.vrt skipped.vrt' "$program"
+fi
+
+# documents read by GDAL itself, where it is installed
+if [ -x /usr/bin/gdalinfo ]; then
+    expect 'a window of a raster as a document' 0 '' gdal_translate -q -of VRT -srcwin 1 2 5 4 hills.bil window.vrt
+    expect 'the same as a raster' 0 '' gdal_translate -q -srcwin 1 2 5 4 hills.bil window.bil
+    holds 'GDAL reads the document' bash -c '/usr/bin/gdalinfo window.vrt | grep -q "^Size is 5, 4"'
+    holds 'GDAL reads the mosaic' bash -c '/usr/bin/gdalinfo mosaic.vrt >gdal.txt && grep -q "^Size is" gdal.txt'
+    holds 'and finds the same pixels' bash -c 'a=$(/usr/bin/gdallocationinfo -valonly window.vrt 1 0) && b=$("$0" gdallocationinfo -valonly window.bil 1 0) && [ "$a" = "$b" ]' "$program"
+fi
+
+# a long mosaic killed at odd moments: the name holds its old bytes or its new ones
+for number in $(seq 20000); do echo hills.bil; done >many.txt
+expect 'a mosaic of 20,000 inputs' 0 '' gdalbuildvrt -q many.vrt -input_file_list many.txt
+printf 'old' >killed.vrt
+whole=yes
+for delay in 0.001 0.003 0.01 0.02 0.03 0.05 0.08 0.1 0.15 0.2 0.3; do
+    bash -c 'timeout -s KILL "$1" "$2" gdalbuildvrt -q killed.vrt -input_file_list many.txt; true' - "$delay" "$program" >/dev/null 2>&1
+    [ "$(head -c 4 killed.vrt)" = old ] || cmp -s many.vrt killed.vrt || whole=no
+done
+holds 'killed at odd moments, the document is the old one or the new one' test "$whole" = yes
+left=$(temporaries)
+expect 'the next mosaic under that name' 0 '' gdalbuildvrt -q killed.vrt -input_file_list many.txt
+holds 'which is whole' cmp -s many.vrt killed.vrt
+holds 'and leaves no temporary file of its own' test "$(temporaries)" = "$left"
+
+# jobs made from a number
+mkdir few many
+job='Size: 90 x 90
+Values: 6885
+Sum: 4837725
+Least: 0
+Greatest: 1880'
+holds 'a job with one block' test "$(cd few && timeout 60 "$program" synth 45 --blocks 1)" = "$job"
+holds 'the same with 64 blocks' test "$(cd many && timeout 60 "$program" synth --blocks 64 45)" = "$job"
+holds 'which makes the same twelve files' bash -c 'diff -r few many >/dev/null && [ "$(ls few | wc -l)" = 12 ]'
+large='Size: 2000 x 2000
+Values: 3400000
+Sum: 2498300000
+Least: 0
+Greatest: 1999'
+holds 'a large job' test "$(cd many && timeout 300 "$program" synth 1000 --blocks 8192)" = "$large"
+holds 'which leaves nothing else' test "$(find many -mindepth 1 | wc -l)" = 12
+
 echo "tried $tried, failed $failed"
 [ "$failed" -eq 0 ]

@@ -3,7 +3,17 @@
 #![tactic(auto)]
 
 #[cfg(test)]
+mod build_faults;
+#[cfg(test)]
+mod builds;
+#[cfg(test)]
 mod cells;
+#[cfg(test)]
+mod document_faults;
+#[cfg(test)]
+mod documents;
+#[cfg(test)]
+mod ends;
 #[cfg(test)]
 mod fickle;
 #[cfg(test)]
@@ -16,6 +26,8 @@ mod points;
 mod raw;
 #[cfg(test)]
 mod stories;
+#[cfg(test)]
+mod synth;
 #[cfg(test)]
 mod translated_cells;
 #[cfg(test)]

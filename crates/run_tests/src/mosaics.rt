@@ -4,8 +4,8 @@ use std::alloc::Global;
 use std::test::*;
 use std::thread::Threads;
 
-// The document that `gdalbuildvrt` makes of two tiles which lie side by side.
-const WIDE: &[u8] = b"<VRTDataset rasterXSize=\"2401\" rasterYSize=\"1201\">
+/// The document that `gdalbuildvrt` makes of two tiles which lie side by side.
+pub const WIDE: &[u8] = b"<VRTDataset rasterXSize=\"2401\" rasterYSize=\"1201\">
   <GeoTransform>-0.0004166666666667, 0.0008333333333333, 0, 1.0004166666666667, 0, -0.0008333333333333</GeoTransform>
   <VRTRasterBand dataType=\"Int16\" band=\"1\">
     <NoDataValue>-32768</NoDataValue>

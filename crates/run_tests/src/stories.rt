@@ -55,8 +55,8 @@ pub fn says_all<R: Threads + Sync, F: Folder>(
     Ok(true)
 }
 
-// Whether the runs say what is listed over these files, and leave them and those that they make.
-fn goes<R: Threads + Sync>(
+/// Whether the runs say what is listed over these files, and leave them and those that they make.
+pub fn goes<R: Threads + Sync>(
     rt: &R,
     alloc: Global,
     files: &[FileOf<'_>],

@@ -1,7 +1,9 @@
 // Translations of which a call of the outside fails: what is told, what the names hold then, and that no draft is left.
-use crate::stories::{has, has_count};
-use crate::trials::{FOLDER, FileOf, Said, Unmade, WRITING, folder_of, plan, run_into};
-use outside::{Failing, MemFolder, MemSink, Method};
+use crate::ends::{
+    CALM, End, Failures, Output, Work, ended, first_put, first_unmet, published, run_with,
+};
+use crate::trials::{FOLDER, FileOf, Unmade};
+use outside::{Failing, Method};
 use std::alloc::Global;
 use std::test::*;
 use std::thread::Threads;
@@ -22,17 +24,6 @@ static FILES: [FileOf<'static>; 8] = [
     ("out.hdr", b"old header"),
     ("h.asc", b"old grid"),
 ];
-
-// The name of an output, and its bytes before and behind.
-type Output<'a> = (&'a str, &'a [u8], &'a [u8]);
-
-// A translation: the words, what is printed, and the files in the order in which they are published.
-#[derive(Clone, Copy)]
-struct Work<'a> {
-    line: &'a str,
-    text: &'a str,
-    outputs: &'a [Output<'a>],
-}
 
 const FIVE_LINE: &str = "gdal_translate five.bil out.bil";
 
@@ -59,18 +50,21 @@ PIXELTYPE      UNSIGNEDINT
 const FIVE: Work<'static> = Work {
     line: FIVE_LINE,
     text: "Input file size is 5, 1\n0...10...20...30...40...50...60...70...80...90...100 - done.\n",
+    told: "",
     outputs: &FIVE_OUTPUTS,
 };
 
 const QUIET: Work<'static> = Work {
     line: "gdal_translate -q five.bil out.bil",
     text: "",
+    told: "",
     outputs: &FIVE_OUTPUTS,
 };
 
 const TALLER: Work<'static> = Work {
     line: "gdal_translate --blocks 1 tall.bil out.bil",
     text: "Input file size is 10, 100\n0...10...20...30...40...50...60...70...80...90...100 - done.\n",
+    told: "",
     outputs: &[
         ("out.bil", b"old data", &TALL),
         (
@@ -95,6 +89,7 @@ PIXELTYPE      UNSIGNEDINT
 const GRID: Work<'static> = Work {
     line: "gdal_translate g.asc h.asc",
     text: "Input file size is 2, 2\n0...10...20...30...40...50...60...70...80...90...100 - done.\n",
+    told: "",
     outputs: &[(
         "h.asc",
         b"old grid",
@@ -108,112 +103,6 @@ cellsize     2
 ",
     )],
 };
-
-// The calls of the folder, of the output and of the error stream that fail, and how many bytes such a call of a stream
-// takes first.
-#[derive(Clone, Copy)]
-struct Failures<'a> {
-    calls: &'a [Failing],
-    puts: &'a [Failing],
-    tells: &'a [Failing],
-    front: usize,
-}
-
-const CALM: Failures<'static> = Failures {
-    calls: &[],
-    puts: &[],
-    tells: &[],
-    front: 0,
-};
-
-// What a run said, and its folder.
-#[derive(Drop)]
-struct Ran {
-    said: Said,
-    folder: MemFolder,
-}
-
-fn run_with<R: Threads + Sync>(
-    rt: &R,
-    alloc: Global,
-    line: &str,
-    failures: Failures<'_>,
-) -> Result<Ran, Unmade> {
-    let mut folder = folder_of(alloc, &FILES, failures.calls)?;
-    let out = MemSink::in_part(alloc, plan(alloc, failures.puts)?, failures.front);
-    let err = MemSink::in_part(alloc, plan(alloc, failures.tells)?, failures.front);
-    let said = run_into(rt, alloc, &mut folder, line, (out, err))?;
-    Ok(Ran { said, folder })
-}
-
-// Whether the first so many outputs have their new bytes, and the others those from before.
-fn stand(
-    alloc: Global,
-    folder: &MemFolder,
-    outputs: &[Output<'_>],
-    count: usize,
-) -> Result<bool, Unmade> {
-    for (at, (name, before, behind)) in outputs.iter().enumerate() {
-        let bytes = if at < count { behind } else { before };
-        if !has(alloc, folder, name, bytes)? {
-            return Ok(false);
-        }
-    }
-    Ok(true)
-}
-
-// How many outputs were published, where the others are as before and there is no other file and no open draft.
-fn published(
-    alloc: Global,
-    folder: &MemFolder,
-    outputs: &[Output<'_>],
-) -> Result<Option<usize>, Unmade> {
-    if !has_count(folder, FILES.len())? {
-        return Ok(None);
-    }
-    for count in 0..3usize {
-        if stand(alloc, folder, outputs, count)? {
-            return Ok(Some(count));
-        }
-    }
-    Ok(None)
-}
-
-// How a run ended: early by a fault of the outside, or with all that it does.
-#[derive(Clone, Copy, PartialEq, Eq, Debug)]
-enum End {
-    Early(usize),
-    Whole,
-    Wrong,
-}
-
-fn end_of(alloc: Global, work: Work<'_>, fault: &str, ran: &Ran) -> Result<End, Unmade> {
-    let said = &ran.said;
-    let count = published(alloc, &ran.folder, work.outputs)?;
-    Ok(match count {
-        None => End::Wrong,
-        Some(count) => {
-            if said.is(0, work.text, "") && count == work.outputs.len() {
-                End::Whole
-            } else if said.ends_in(2, work.text, fault) {
-                End::Early(count)
-            } else {
-                End::Wrong
-            }
-        }
-    })
-}
-
-fn ended<R: Threads + Sync>(
-    rt: &R,
-    alloc: Global,
-    work: Work<'_>,
-    fault: &str,
-    failures: Failures<'_>,
-) -> Result<End, Unmade> {
-    let ran = run_with(rt, alloc, work.line, failures)?;
-    end_of(alloc, work, fault, &ran)
-}
 
 // The calls that fail, and how the run ends then.
 type Failed<'a> = (Work<'a>, &'a [Failing], End);
@@ -235,7 +124,7 @@ static CALLS: [Failed<'static>; 8] = [
 fn first_other<R: Threads + Sync>(rt: &R, alloc: Global) -> Result<usize, Unmade> {
     for (at, (work, calls, end)) in CALLS.iter().enumerate() {
         let failures = Failures { calls, ..CALM };
-        if ended(rt, alloc, *work, FOLDER, failures)? != *end {
+        if ended(rt, alloc, &FILES, *work, FOLDER, failures)? != *end {
             return Ok(at);
         }
     }
@@ -248,29 +137,13 @@ fn failing_calls_of_a_raster(rt: HostRuntime) -> Result<(), Fail> {
     Ok(())
 }
 
-// The first call of the folder whose failing doesn't end the run early, and how the run ends then.
-fn first_unmet<R: Threads + Sync>(
-    rt: &R,
-    alloc: Global,
-    work: Work<'_>,
-) -> Result<(u64, End), Unmade> {
-    for number in 1..=64u64 {
-        let calls: &[Failing] = &[Failing::Call(number)];
-        let end = ended(rt, alloc, work, FOLDER, Failures { calls, ..CALM })?;
-        if !matches!(end, End::Early(_)) {
-            return Ok((number, end));
-        }
-    }
-    Ok((0, End::Wrong))
-}
-
 // Translations, and how many calls of the folder each makes at least.
 static EACH: [(Work<'static>, u64); 3] = [(FIVE, 9), (QUIET, 9), (GRID, 6)];
 
 // The first of these of which a call's failing isn't met, or how many there are.
 fn first_unmet_of<R: Threads + Sync>(rt: &R, alloc: Global) -> Result<usize, Unmade> {
     for (at, (work, least)) in EACH.iter().enumerate() {
-        let (number, end) = first_unmet(rt, alloc, *work)?;
+        let (number, end) = first_unmet(rt, alloc, &FILES, *work)?;
         if number <= *least || end != End::Whole {
             return Ok(at);
         }
@@ -285,29 +158,6 @@ fn each_failing_call(rt: HostRuntime) -> Result<(), Fail> {
     Ok(())
 }
 
-// The first call of the output whose failing, behind so many bytes, doesn't end the run early, and how the run ends
-// then.
-fn first_put<R: Threads + Sync>(
-    rt: &R,
-    alloc: Global,
-    work: Work<'_>,
-    front: usize,
-) -> Result<(u64, End), Unmade> {
-    for number in 1..=64u64 {
-        let puts: &[Failing] = &[Failing::Call(number)];
-        let failures = Failures {
-            puts,
-            front,
-            ..CALM
-        };
-        let end = ended(rt, alloc, work, WRITING, failures)?;
-        if !matches!(end, End::Early(_)) {
-            return Ok((number, end));
-        }
-    }
-    Ok((0, End::Wrong))
-}
-
 // Translations, how many bytes a failing call of the output takes first, and how many calls each makes at least.
 static PUTS: [(Work<'static>, usize, u64); 5] = [
     (FIVE, 0, 2),
@@ -320,7 +170,7 @@ static PUTS: [(Work<'static>, usize, u64); 5] = [
 // The first of these of which a call's failing isn't met, or how many there are.
 fn first_put_of<R: Threads + Sync>(rt: &R, alloc: Global) -> Result<usize, Unmade> {
     for (at, (work, front, least)) in PUTS.iter().enumerate() {
-        let (number, end) = first_put(rt, alloc, *work, *front)?;
+        let (number, end) = first_put(rt, alloc, &FILES, *work, *front)?;
         if number <= *least || end != End::Whole {
             return Ok(at);
         }
@@ -366,8 +216,8 @@ fn ends_untold<R: Threads + Sync>(
         front,
         ..CALM
     };
-    let ran = run_with(rt, alloc, line, failures)?;
-    let published = published(alloc, &ran.folder, &FIVE_OUTPUTS)?;
+    let ran = run_with(rt, alloc, &FILES, line, failures)?;
+    let published = published(alloc, &ran.folder, FILES.len(), &FIVE_OUTPUTS)?;
     Ok(ran.said.status == status && ran.said.tells_part(fault, front) && published == Some(count))
 }
 

@@ -54,6 +54,21 @@ impl Said {
         self.status == status && out.as_bytes().starts_with(self.out.got()) && self.tells(err)
     }
 
+    // Whether a run ended with this status, printed a first part of this text, and told both of these.
+    pub fn ends_behind(&self, status: u8, out: &str, told: &str, fault: &str) -> bool {
+        let got = self.err.got();
+        self.status == status
+            && out.as_bytes().starts_with(self.out.got())
+            && got.len() == told.len().saturating_add(fault.len())
+            && got.starts_with(told.as_bytes())
+            && got.ends_with(fault.as_bytes())
+    }
+
+    // Whether a run told a first part of this text.
+    pub fn tells_front(&self, err: &str) -> bool {
+        err.as_bytes().starts_with(self.err.got())
+    }
+
     // Whether a run told the first bytes of this text, at most so many.
     pub fn tells_part(&self, err: &str, most: usize) -> bool {
         self.err.got().len() == most.min(err.len()) && err.as_bytes().starts_with(self.err.got())

@@ -1,0 +1,204 @@
+// The documents of mosaics, byte for byte.
+use crate::asking::{Ask, PLAIN, SEPARATE, STRICT};
+use crate::cases::{Case, wrong_case};
+use crate::inputs::folder;
+use outside::{MemFolder, Name};
+use std::alloc::Global;
+use std::test::*;
+
+static DOCUMENTS: [Case; 4] = [
+    Case {
+        what: "separate inputs, the first of which is left out",
+        inputs: "one.vrt fine.vrt",
+        ask: Ask {
+            steps: "1 1",
+            extent: "4 0 6 2",
+            ..SEPARATE
+        },
+        wanted: "<VRTDataset rasterXSize=\"2\" rasterYSize=\"2\">
+  <GeoTransform>4, 1, 0, 2, 0, -1</GeoTransform>
+  <VRTRasterBand dataType=\"Byte\" band=\"1\">
+  </VRTRasterBand>
+  <VRTRasterBand dataType=\"Byte\" band=\"2\">
+    <SimpleSource>
+      <SourceFilename relativeToVRT=\"1\">fine.vrt</SourceFilename>
+      <SourceBand>1</SourceBand>
+      <SrcRect xOff=\"0\" yOff=\"0\" xSize=\"4\" ySize=\"4\"/>
+      <DstRect xOff=\"0\" yOff=\"0\" xSize=\"2\" ySize=\"2\"/>
+    </SimpleSource>
+  </VRTRasterBand>
+</VRTDataset>
+",
+    },
+    Case {
+        what: "a coordinate system, and two chosen bands of one input",
+        inputs: "x_pair.vrt",
+        ask: Ask {
+            bands: &[2, 1, 2],
+            ..PLAIN
+        },
+        wanted: "<VRTDataset rasterXSize=\"2\" rasterYSize=\"1\">
+  <SRS>X&lt;1&gt;</SRS>
+  <GeoTransform>2, 1, 0, 1, 0, -1</GeoTransform>
+  <VRTRasterBand dataType=\"Byte\" band=\"1\">
+    <SimpleSource>
+      <SourceFilename relativeToVRT=\"1\">x_pair.vrt</SourceFilename>
+      <SourceBand>2</SourceBand>
+      <SrcRect xOff=\"0\" yOff=\"0\" xSize=\"2\" ySize=\"1\"/>
+      <DstRect xOff=\"0\" yOff=\"0\" xSize=\"2\" ySize=\"1\"/>
+    </SimpleSource>
+  </VRTRasterBand>
+  <VRTRasterBand dataType=\"Byte\" band=\"2\">
+    <SimpleSource>
+      <SourceFilename relativeToVRT=\"1\">x_pair.vrt</SourceFilename>
+      <SourceBand>1</SourceBand>
+      <SrcRect xOff=\"0\" yOff=\"0\" xSize=\"2\" ySize=\"1\"/>
+      <DstRect xOff=\"0\" yOff=\"0\" xSize=\"2\" ySize=\"1\"/>
+    </SimpleSource>
+  </VRTRasterBand>
+  <VRTRasterBand dataType=\"Byte\" band=\"3\">
+    <SimpleSource>
+      <SourceFilename relativeToVRT=\"1\">x_pair.vrt</SourceFilename>
+      <SourceBand>2</SourceBand>
+      <SrcRect xOff=\"0\" yOff=\"0\" xSize=\"2\" ySize=\"1\"/>
+      <DstRect xOff=\"0\" yOff=\"0\" xSize=\"2\" ySize=\"1\"/>
+    </SimpleSource>
+  </VRTRasterBand>
+</VRTDataset>
+",
+    },
+    Case {
+        what: "inputs beside the document and in other folders",
+        inputs: "d/c.vrt seven.vrt",
+        ask: Ask {
+            out: "d/m.vrt",
+            ..STRICT
+        },
+        wanted: "<VRTDataset rasterXSize=\"4\" rasterYSize=\"1\">
+  <GeoTransform>2, 1, 0, 1, 0, -1</GeoTransform>
+  <VRTRasterBand dataType=\"Byte\" band=\"1\">
+    <SimpleSource>
+      <SourceFilename relativeToVRT=\"1\">c.vrt</SourceFilename>
+      <SourceBand>1</SourceBand>
+      <SrcRect xOff=\"0\" yOff=\"0\" xSize=\"2\" ySize=\"1\"/>
+      <DstRect xOff=\"2\" yOff=\"0\" xSize=\"2\" ySize=\"1\"/>
+    </SimpleSource>
+    <ComplexSource>
+      <SourceFilename relativeToVRT=\"0\">seven.vrt</SourceFilename>
+      <SourceBand>1</SourceBand>
+      <SrcRect xOff=\"0\" yOff=\"0\" xSize=\"2\" ySize=\"1\"/>
+      <DstRect xOff=\"0\" yOff=\"0\" xSize=\"2\" ySize=\"1\"/>
+      <NODATA>7</NODATA>
+    </ComplexSource>
+  </VRTRasterBand>
+</VRTDataset>
+",
+    },
+    Case {
+        what: "a document whose name begins at the root",
+        inputs: "empty.vrt empty.vrt",
+        ask: Ask {
+            out: "/d/m.vrt",
+            ..PLAIN
+        },
+        wanted: "<VRTDataset rasterXSize=\"2\" rasterYSize=\"1\">
+  <SRS></SRS>
+  <GeoTransform>0, 1, 0, 1, 0, -1</GeoTransform>
+  <VRTRasterBand dataType=\"Byte\" band=\"1\">
+    <SimpleSource>
+      <SourceFilename relativeToVRT=\"0\">empty.vrt</SourceFilename>
+      <SourceBand>1</SourceBand>
+      <SrcRect xOff=\"0\" yOff=\"0\" xSize=\"2\" ySize=\"1\"/>
+      <DstRect xOff=\"0\" yOff=\"0\" xSize=\"2\" ySize=\"1\"/>
+    </SimpleSource>
+    <SimpleSource>
+      <SourceFilename relativeToVRT=\"0\">empty.vrt</SourceFilename>
+      <SourceBand>1</SourceBand>
+      <SrcRect xOff=\"0\" yOff=\"0\" xSize=\"2\" ySize=\"1\"/>
+      <DstRect xOff=\"0\" yOff=\"0\" xSize=\"2\" ySize=\"1\"/>
+    </SimpleSource>
+  </VRTRasterBand>
+</VRTDataset>
+",
+    },
+];
+
+fn wrong(alloc: Global) -> Result<Option<&'static str>, Fail> {
+    wrong_case(alloc, &mut folder(alloc)?, &DOCUMENTS, &[])
+}
+
+#[test]
+fn documents(rt: HostRuntime) -> Result<(), Fail> {
+    assert_eq!(rt; wrong(rt.alloc())?, None);
+    Ok(())
+}
+
+// Two tiles that lie side by side, and a raster of two bands.
+static TILES: [Case; 2] = [
+    Case {
+        what: "two tiles, and a raster that is skipped",
+        inputs: "N00E000.hgt N00E001.hgt two.bil",
+        ask: Ask {
+            out: "out.vrt",
+            ..PLAIN
+        },
+        wanted: "two.bil bands
+<VRTDataset rasterXSize=\"2401\" rasterYSize=\"1201\">
+  <GeoTransform>-0.0004166666666667, 0.0008333333333333, 0, 1.0004166666666667, 0, -0.0008333333333333</GeoTransform>
+  <VRTRasterBand dataType=\"Int16\" band=\"1\">
+    <NoDataValue>-32768</NoDataValue>
+    <ComplexSource>
+      <SourceFilename relativeToVRT=\"1\">N00E000.hgt</SourceFilename>
+      <SourceBand>1</SourceBand>
+      <SrcRect xOff=\"0\" yOff=\"0\" xSize=\"1201\" ySize=\"1201\"/>
+      <DstRect xOff=\"0\" yOff=\"0\" xSize=\"1201\" ySize=\"1201\"/>
+      <NODATA>-32768</NODATA>
+    </ComplexSource>
+    <ComplexSource>
+      <SourceFilename relativeToVRT=\"1\">N00E001.hgt</SourceFilename>
+      <SourceBand>1</SourceBand>
+      <SrcRect xOff=\"0\" yOff=\"0\" xSize=\"1201\" ySize=\"1201\"/>
+      <DstRect xOff=\"1200\" yOff=\"0\" xSize=\"1201\" ySize=\"1201\"/>
+      <NODATA>-32768</NODATA>
+    </ComplexSource>
+  </VRTRasterBand>
+</VRTDataset>
+",
+    },
+    Case {
+        what: "strictly",
+        inputs: "N00E000.hgt N00E001.hgt two.bil",
+        ask: STRICT,
+        wanted: "strictly two.bil bands\n",
+    },
+];
+
+fn put_tiles(alloc: Global, folder: &mut MemFolder) -> Result<(), Fail> {
+    let bytes = vec![in alloc; 0u8; 2_884_802]?;
+    folder.put(&Name::read(alloc, "N00E000.hgt")?, &bytes)?;
+    folder.put(&Name::read(alloc, "N00E001.hgt")?, &bytes)?;
+    Ok(())
+}
+
+// The raster has a place: its header says so.
+fn put_raster(alloc: Global, folder: &mut MemFolder) -> Result<(), Fail> {
+    folder.put(&Name::read(alloc, "two.bil")?, b"12")?;
+    folder.put(
+        &Name::read(alloc, "two.hdr")?,
+        b"NROWS 1\nNCOLS 1\nNBANDS 2\nULXMAP 0\nULYMAP 0\n",
+    )?;
+    Ok(())
+}
+
+fn wrong_tile(alloc: Global) -> Result<Option<&'static str>, Fail> {
+    let mut folder = folder(alloc)?;
+    put_tiles(alloc, &mut folder)?;
+    put_raster(alloc, &mut folder)?;
+    wrong_case(alloc, &mut folder, &TILES, &[])
+}
+
+#[test]
+fn two_tiles(rt: HostRuntime) -> Result<(), Fail> {
+    assert_eq!(rt; wrong_tile(rt.alloc())?, None);
+    Ok(())
+}
