@@ -2,4 +2,5 @@ pub mod Numbers
 pub mod Tables
 pub mod Runs
 pub mod Following
+mod Beside
 mod Computes

@@ -1,10 +1,11 @@
 // Which pixel of its dataset a source takes.
-ghost use Rattle.std.specs.Prelude.{◌≡◌, pos, ◌≤ℤ◌, ◌<ℤ◌, ◌<◌, ◌*◌, ◌^◌, unsigned_abs};
+ghost use Rattle.std.specs.Prelude.{◌≡◌, ℕ, ℤ, pos, ◌+◌, ◌+ℤ◌, ◌≤ℤ◌, ◌<ℤ◌, ◌<◌, ◌≤◌, ◌*◌, ◌^◌, ◌&&◌, None, IsTrue, false, int_le, int_lt, unsigned_abs};
+ghost use Rattle.geotransform.specs.declared.types.Size.{Size};
 ghost use Rattle.vrt_profile.specs.Values.{million};
-ghost use Rattle.vrt_profile.specs.Cover.{part_of, columns_of, lines_of, cover_of};
+ghost use Rattle.vrt_profile.specs.Cover.{centre, part_of, columns_of, lines_of, cover_of};
 
 use crate::axis::Axis;
-use geotransform::Size;
+use geotransform::{Rect, Size};
 use vrt_profile::{MicroRect, Source};
 
 /// A part of an axis, in millionths of a pixel.
@@ -98,4 +99,38 @@ pub fn cover(source: &Source, target: Size, size: Size, x: u32, y: u32) -> Optio
     let column = columns(source, target, size).at(size.w, x)?;
     let line = lines(source, target, size).at(size.h, y)?;
     Some((column, line))
+}
+
+// Whether none of `count` columns from `first` on has its centre in a part of the mosaic; the same for lines.
+fn is_beside(start: i64, length: i64, first: u32, count: u32) -> bool
+    requires start { unsigned_abs start < 2 ^ 52 }
+    requires length { unsigned_abs length < 2 ^ 52 }
+    ensures beside { IsTrue result → (x : ℕ) → first ≤ x → x < first + count → (int_le start (centre x) && int_lt (centre x) (start +ℤ length)) ≡ false }
+{
+    let low = first as i64 * 1_000_000 + 500_000;
+    let high = (first as i64 + count as i64) * 1_000_000 - 500_000;
+    let end = start + length;
+    if high < start {
+        return true;
+    }
+    if end <= low {
+        return true;
+    }
+    false
+}
+
+/// Whether the part of the mosaic that a source is made for lies beside a rectangle of the mosaic: then it
+/// covers no pixel there. This takes no division.
+pub fn misses(source: &Source, rect: Rect) -> bool
+    ensures missed { IsTrue result → (target : Size) → (size : Size) → (x : ℕ) → (y : ℕ) → rect.x ≤ x → x < rect.x + rect.w → rect.y ≤ y → y < rect.y + rect.h → cover_of source.now target size x y ≡ None }
+{
+    match source.dst {
+        None => return false,
+        Some(part) => {
+            if is_beside(part.x, part.w, rect.x, rect.w) {
+                return true;
+            }
+            return is_beside(part.y, part.h, rect.y, rect.h);
+        }
+    }
 }

@@ -11,7 +11,7 @@ pub mod run;
 mod spans;
 
 pub use axis::Axis;
-pub use covering::{columns, cover, lines};
+pub use covering::{columns, cover, lines, misses};
 pub use laws::{columns_rise, last_counts, samples_are_pixels};
 pub use pixel::{keeps_pixels, value};
 pub use run::Run;

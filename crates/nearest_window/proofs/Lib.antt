@@ -1,4 +1,6 @@
+mod Asks
 pub mod Blocks
+pub mod Canvases
 mod Columns
 mod Counting
 mod Covers
@@ -7,8 +9,10 @@ mod Fills
 mod Growth
 mod Keys
 mod Mosaics
+mod Merged
 pub mod Painted
 mod Shown
+mod Sources
 mod Steps
 mod Windows
 mod Naming

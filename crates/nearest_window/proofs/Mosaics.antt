@@ -145,7 +145,7 @@ few_pixels cat key b valid mosaic d at block part block_is less =
     let most : block.w * block.h ≤ 128 * 128 = mul-le-mul wide high in
     omega arith
 
-clamp_given : (kind : PixelType) (o : Option ℤ) (v : ℤ) → clamp kind v ≡ v → clamp kind (unwrap_or o v) ≡ unwrap_or (option_map (clamp kind) o) v
+pub clamp_given : (kind : PixelType) (o : Option ℤ) (v : ℤ) → clamp kind v ≡ v → clamp kind (unwrap_or o v) ≡ unwrap_or (option_map (clamp kind) o) v
 clamp_given kind (Some x) v e = refl
 clamp_given kind None v e = e
 
@@ -164,7 +164,7 @@ zero_kept UInt32 = refl
 zero_kept Int32 = refl
 
 -- the NODATA of a band, or 0, is in the band's range
-nodata_kept : (b : BandValue) → IsBand b → clamp b.kind (unwrap_or b.nodata (pos 0)) ≡ unwrap_or b.nodata (pos 0)
+pub nodata_kept : (b : BandValue) → IsBand b → clamp b.kind (unwrap_or b.nodata (pos 0)) ≡ unwrap_or b.nodata (pos 0)
 nodata_kept b rules = on b.nodata rules.nodata
   where
     on : (o : Option ℤ) → IfSome o (λ n. is_in b.kind n ≡ true) → clamp b.kind (unwrap_or o (pos 0)) ≡ unwrap_or o (pos 0)

@@ -26,7 +26,9 @@ use Rattle.nearest_window.specs.declared.window.Window.{Window}
 use Rattle.nearest_window.specs.Painted.{IsPainted, IsFilled, in_columns}
 use Rattle.nearest_window.specs.Pictures.{from_block}
 use Rattle.nearest_window.specs.Right.{AreBlocks}
-use Rattle.nearest_window.specs.Shown.{IsInBand, IsPartOf, IsTyped, AreTyped, IsWhole}
+use Rattle.mosaic_sources.specs.Pixels.{IsPixel}
+use Rattle.mosaic_sources.proofs.Following.{is_pixel}
+use Rattle.nearest_window.specs.Shown.{IsPictureOf, IsInBand, IsPartOf, IsTyped, AreTyped, IsWhole}
 use Rattle.nearest_window.specs.Taken.{place_at, taken_by}
 use Rattle.nearest_window.proofs.Filled.{filled_by, filled_none, filled_columns, filled_rows, all_of}
 use Rattle.nearest_window.proofs.Keys.{is_block_held}
@@ -119,3 +121,18 @@ window_typed cat window p xs n whole some size typed =
 
 pub no_sample : (P : ℤ → Type 0) (rect : Rect) (xs : List ℤ) → rect.w ≡ 0 → length xs ≡ rect.w * rect.h → All P xs
 no_sample P rect xs none size = all_of P xs (λ k q. let z : rect.w * rect.h ≡ 0 = ap (λ n. n * rect.h) none ∙ (let e : 0 * rect.h ≡ 0 = omega arith in e) in absurd (omega arith))
+
+there : {X : Type 0} (xs : List X) (i : ℕ) → i < length xs → (x : X) × (slice_get xs i ≡ Some x)
+there [] i p = absurd (omega arith)
+there (x ∷ xs) zero p = (x, refl)
+there (x ∷ xs) (suc i) p = there xs i (omega arith)
+
+-- each sample of a picture that is all of its rows is a pixel
+pub pixels_near : (cat : List Dataset) (p : Picture) (xs : List ℤ) (n : ℕ) → IsPictureOf cat p → p.taking ≡ takings.All → p.to ≡ 0 → p.stride ≡ p.width → length xs ≡ n → AreTyped cat p n xs → All IsPixel xs
+pixels_near cat p xs n of all to stride size typed =
+    all_of IsPixel xs
+    (λ k q.
+    let some = of.picture.some in
+    let below = mod_below k p.stride some in
+    let b = there of.dataset.head.bands p.band of.band in
+    is_pixel b.0.kind (get_or xs k (pos 0)) (typed all k (omega arith) (omega arith) (omega arith) of.dataset b.0.kind of.at (ap (λ o. option_map (λ band. band.kind) o) b.1)))

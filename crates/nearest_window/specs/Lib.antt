@@ -1,3 +1,4 @@
+pub mod Canvases
 pub mod Heights
 pub mod Lanes
 pub mod Painted

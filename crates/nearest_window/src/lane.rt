@@ -8,18 +8,22 @@ ghost use Rattle.catalog.specs.Places.{IsWithin};
 ghost use Rattle.band_blocks.specs.Keys.{IsKey};
 ghost use Rattle.band_blocks.specs.Open.{IsUnchanged};
 ghost use Rattle.block_cache.specs.Entries.{pool_view, entry_of, held_at, moved_to_front, admitted, IsPool};
+ghost use Rattle.nearest_window.specs.Canvases.{IsCanvas, IsSourceTaken};
 ghost use Rattle.nearest_window.specs.Lanes.{LaneView, lane_view, held_in, room_of};
 ghost use Rattle.nearest_window.specs.Painted.{IsPainted, in_columns};
 ghost use Rattle.nearest_window.specs.Pictures.{IsPicture, from_block};
 ghost use Rattle.nearest_window.specs.Right.{IsFresh, IsPartBlock, IsReady, IsRight, IsFileKey, IsMosaicKey, Served, TellsChangeIn};
-ghost use Rattle.nearest_window.specs.Shown.{AreTyped, IsAreaOf, IsPictureOf, IsShown, IsTyped, IsBandOf, IsPartOf, IsLonePart, IsSourceShown, IsSourceOf};
+ghost use Rattle.nearest_window.specs.Shown.{AreTyped, IsAreaOf, IsPictureOf, IsShown, IsTyped, IsBandOf, IsPartOf, IsLonePart, IsSourceOf};
 ghost use Rattle.nearest_window.specs.Taken.{place_at};
 
+use crate::asking::{Asked, asked_of};
+use crate::canvas::{Canvas, is_wanted};
 use crate::paint::paint_rows;
 use crate::parts::{Part, small_part};
 use crate::picture::Picture;
 use crate::places::Span;
-use crate::targets::{Area, Around, Numbered, Piece, band_of, block_around, mosaic_rect, seen_in};
+use crate::taking::taking_of;
+use crate::targets::{Area, Around, Numbered, Piece, band_of, block_around, mosaic_rect};
 use band_blocks::{Block, BlockKey, LoadFault, OpenFiles, Steps, load_block};
 use block_cache::Pool;
 use catalog::Catalog;
@@ -38,6 +42,7 @@ pub struct Lane<F: Folder> {
 }
 
 impl<F: Folder> Model for Lane<F> {
+    ghost use Rattle.nearest_window.specs.Canvases.{IsCanvas, IsSourceTaken};
     ghost use Rattle.nearest_window.specs.Lanes.{LaneView, lane_view};
 
     ghost Value = { LaneView F.File };
@@ -161,8 +166,8 @@ impl<F: Folder> Lane<F> {
         }
     }
 
-    // The samples of a rectangle of a mosaic's band, made of the blocks of its sources: each is painted over
-    // those before it.
+    // The samples of a rectangle of a mosaic's band, made of the blocks of its sources: from the last to the
+    // first each is asked for what is still open, until nothing is.
     #[cycle(read)]
     fn fill<L: Ledger>(
         &mut self,
@@ -188,25 +193,25 @@ impl<F: Folder> Lane<F> {
         // This call is made for the proof: it says what holds of every catalog.
         let _count = cat.count();
         band.rules();
-        let nodata = band.nodata.unwrap_or(0);
-        let mut samples = vec![in alloc; nodata; (rect.w * rect.h) as usize]?;
-        for number in 0..band.sources.len() {
+        let mut canvas = Canvas::of(alloc, rect, band.kind);
+        let mut number = band.sources.len();
+        while is_wanted(number, &canvas) {
+            number -= 1;
             let source = band.sources.get(number);
             let numbered = Numbered {
                 key,
                 number: number as u32,
                 source,
             };
-            let out = samples.as_mut_slice();
-            self.paint(alloc, cat, folder, numbered, rect, out, loads)?;
+            self.paint(alloc, cat, folder, numbered, &mut canvas, loads)?;
         }
-        let block = Block::pack_clamped(alloc, band.kind, samples.as_slice())?;
+        let block = canvas.packed(alloc, band.nodata.unwrap_or(0))?;
         // This call is made for the proof: it says what holds of every block.
         let _len = block.len();
         Ok(block)
     }
 
-    // Paints what a source of a mosaic's band gives in a rectangle over its samples.
+    // Takes what a source of a mosaic's band gives where a canvas is open.
     #[cycle(read)]
     fn paint<L: Ledger>(
         &mut self,
@@ -214,28 +219,32 @@ impl<F: Folder> Lane<F> {
         cat: &Catalog,
         folder: &mut F,
         source: Numbered,
-        rect: Rect,
-        samples: &mut [Sample],
+        canvas: &mut Canvas,
         loads: &mut Steps<L>,
     ) -> Result<(), LoadFault>
         requires ready { IsReady F.Folder folder.old cat.now self.old }
         requires source { IsSourceOf cat.now source.key source.number source.source.now }
-        requires within { (d : Dataset) → slice_get cat.now source.key.file ≡ Some d → IsWithin rect d.head.size }
-        requires some { 0 < rect.w }
-        requires rows { length samples.old ≡ rect.w * rect.h }
+        requires within { (d : Dataset) → slice_get cat.now source.key.file ≡ Some d → IsWithin canvas.old.rect d.head.size }
+        requires canvas { IsCanvas canvas.old }
         ensures serves { Served F.Folder cat.now result folder.old self.old loads.old folder.new self.new loads.new }
         ensures cause { HasCause LoadFault.FolderFault (F.faults folder.old) (F.faults folder.new) result }
         ensures changed { IfErr result (TellsChangeIn cat.now) }
         ensures never { WhereTold F.Folder folder.old (λ _. IfErr result IsUnchanged) }
-        ensures painted { (d : Dataset) → slice_get cat.now source.entry.key.file ≡ Some d → OnOk result (IsSourceShown (F.names folder.new) cat.now d source.entry.key.band source.entry.number source.entry.source.now rect samples.old samples.new) }
+        ensures canvas { OnOk result (IsCanvas canvas.new) }
+        ensures taken { (d : Dataset) → slice_get cat.now source.entry.key.file ≡ Some d → OnOk result (IsSourceTaken (F.names folder.new) cat.now d source.entry.key.band source.entry.number source.entry.source.now canvas.old canvas.new) }
     {
-        let Some(picture) = seen_in(alloc, cat, source, rect)? else {
+        let Some(asked) = asked_of(alloc, cat, source, canvas)? else {
             return Ok(());
         };
-        let from = picture.top * picture.stride;
-        let end = (picture.top + picture.height as usize) * picture.stride;
-        let out = &mut samples[from..end];
-        self.paint_picture(alloc, cat, folder, &picture, out, loads)
+        let Asked {
+            picture,
+            part,
+            mut pixels,
+        } = asked;
+        self.paint_picture(alloc, cat, folder, &picture, pixels.as_mut_slice(), loads)?;
+        let taking = taking_of(source.source);
+        canvas.take(alloc, &taking, part, pixels.as_slice())?;
+        Ok(())
     }
 
     // Paints a picture over its rows, one row of blocks after the other.

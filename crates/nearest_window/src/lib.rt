@@ -1,8 +1,11 @@
 // Windows of pixels of files and mosaics, through a pool that evicts.
 #![tactic(auto)]
 
+mod asking;
+mod canvas;
 mod lane;
 mod laws;
+mod merging;
 mod paint;
 mod parts;
 mod picture;

@@ -1,5 +1,7 @@
 use Rattle.std.proofs.Common.{◌≡◌, List, ◌+◌, ◌-◌, ◌*◌, ◌<◌, ◌≤◌, ◌++◌, Some, refl, sym, ap, ◌∙◌, subst, arith, rules, length, take, drop, pos, false, replicate, map, to_z, of_z}
 use Rattle.std.specs.Prelude.{slice_get, unwrap_or}
+use Rattle.std.specs.List.{All}
+use Rattle.mosaic_sources.specs.Pixels.{IsPixel}
 use Rattle.std.proofs.Math.Nat.{mul-le-mul, mul_comm}
 use Rattle.std.proofs.Math.Seq.{take-append_seam}
 use mir.Syntax.{w128}
@@ -13,17 +15,19 @@ use Rattle.catalog.specs.Places.{IsWithin}
 use Rattle.band_blocks.specs.Blocks.{block_view}
 use Rattle.block_cache.specs.Entries.{entry_of}
 use Rattle.nearest_window.specs.Heights.{height_at}
-use Rattle.nearest_window.specs.Right.{IsReady, slack_of}
+use Rattle.nearest_window.specs.Right.{IsReady, slack_of, state_of}
 use Rattle.nearest_window.specs.Painted.{IsPainted, first, in_columns}
 use Rattle.nearest_window.specs.Taken.{place_at}
-use Rattle.nearest_window.specs.Shown.{shown, AreTyped, IsTyped, IsShown, IsSourceOf, IsSourceShown, AreSourcesShown}
+use Rattle.nearest_window.specs.Shown.{shown, AreTyped, IsTyped, IsShown, IsSourceOf}
 use Rattle.nearest_window.proofs.Keys.{held_kept}
-use Rattle.nearest_window.proofs.Steps.{held_blocks, ready_then, serves_moved, serves_trans, serves_keep}
+use Rattle.nearest_window.proofs.Steps.{held_blocks, ready_then, serves_moved, serves_refl, serves_trans, serves_keep}
 use Rattle.nearest_window.proofs.Shown.{held_size, block_shown, rect_shown}
-use Rattle.nearest_window.proofs.Mosaics.{sources_more, source_stands, filled_part, whole_block}
-use Rattle.nearest_window.proofs.Fills.{source_unseen, source_part, columns_more, bands_more, part_length, on_ok}
+use Rattle.nearest_window.specs.Canvases.{AreTaken, IsPackedOf, IsTaken}
+use Rattle.nearest_window.proofs.Mosaics.{source_stands, whole_block}
+use Rattle.nearest_window.proofs.Sources.{none_taken, not_wanted, taken_more, source_taken, source_unasked, all_taken, packed_part}
+use Rattle.nearest_window.proofs.Fills.{columns_more, bands_more, part_length, on_ok}
 use Rattle.nearest_window.proofs.Painted.{painted_whole}
-use Rattle.nearest_window.proofs.Ranges.{block_typed, rect_typed, rows_typed, typed_more}
+use Rattle.nearest_window.proofs.Ranges.{pixels_near, block_typed, rect_typed, rows_typed, typed_more}
 use Rattle.nearest_window.proofs.Blocks.{around_at, in_row, from_row}
 use Rattle.nearest_window.proofs.lane.Lane.+read.Goals as goal
 
@@ -44,70 +48,101 @@ hold-returns-in-Some-clause-serves g t c =
 pub hold-returns-in-Some-clause-held : goal.hold-returns-in-Some-clause-held
 hold-returns-in-Some-clause-held g t c = held_kept c.keep.result c.fill.new.self c.keep.new.self c.args.key (entry_of c.in_ok-block-in-Some.block false) c.keep.ensures.kept
 
+pub fill-loop-key-init : goal.fill-loop-key-init
+fill-loop-key-init g t c =
+    let count : c.len-number.result ≡ length c.args.band.now.sources = c.len-number.ensures.count ∙ ap (λ (b : BandValue). length b.sources) c.band.view_is in
+    record {
+      serves = serves_refl g.F.Folder.file_bytes g.F.Folder.file_len c.args.cat.now (state_of g.F.Folder c.args.folder.now c.args.self.now c.args.loads.now) c.requires.ready.right;
+      canvas = c.of-canvas.ensures.canvas;
+      rect = c.of-canvas.ensures.rect;
+      kind = c.of-canvas.ensures.kind ∙ ap (λ (b : BandValue). b.kind) c.band.view_is;
+      below = omega arith;
+      taken = λ d at. none_taken (g.F.Folder.names c.args.folder.now) c.args.cat.now d c.args.key.band c.args.band.now.sources c.len-number.result c.of-canvas.result (omega arith) c.of-canvas.ensures.open;
+    }
+
+pub fill-get-source-requires : goal.fill-get-source-requires
+fill-get-source-requires g t c =
+    let some : 0 < c.loop-key.number = c.is_wanted.ensures.some c.loop-key-test.true in
+    let low = c.loop-key.invariant.below in
+    let bound : c.loop-key.number - 1 < length c.args.band.now.sources = omega arith in
+    let inner : c.loop-key.number - 1 < length c.band.inside.sources = subst (λ n. c.loop-key.number - 1 < n) (sym (ap (λ (b : BandValue). length b.sources) c.band.view_is)) bound in
+    search (rules, bound, inner)
+
 pub fill-paint-requires : goal.fill-paint-requires
 fill-paint-requires g t c =
     let k = c.requires.key in
-    let right = c.loop-number.invariant.serves.right in
-    let told = c.loop-number.invariant.serves.told in
-    let walked : (m : Files) → g.F.Folder.names c.loop-number.folder ≡ Some m → IsWalked m c.args.cat.now = λ m e. c.requires.ready.walked m (sym told ∙ e) in
-    let item : slice_get c.args.band.now.sources c.loop-number.number ≡ Some c.get-source.result.now = ap (λ (l : List SourceValue). slice_get l c.loop-number.number) (sym (ap (λ (b : BandValue). b.sources) c.band.view_is)) ∙ c.get-source.ensures.item in
-    let source : IsSourceOf c.args.cat.now c.args.key c.loop-number.number c.get-source.result.now = record { dataset = k.dataset; in_range = k.in_range; source = source_stands c.args.cat.now c.args.key c.args.band.now k c.loop-number.number c.get-source.result.now item } in
+    let before = c.loop-key.invariant in
+    let right = before.serves.right in
+    let told = before.serves.told in
+    let walked : (m : Files) → g.F.Folder.names c.loop-key.folder ≡ Some m → IsWalked m c.args.cat.now = λ m e. c.requires.ready.walked m (sym told ∙ e) in
+    let item : slice_get c.args.band.now.sources (c.loop-key.number - 1) ≡ Some c.get-source.result.now = ap (λ (l : List SourceValue). slice_get l (c.loop-key.number - 1)) (sym (ap (λ (b : BandValue). b.sources) c.band.view_is)) ∙ c.get-source.ensures.item in
+    let source : IsSourceOf c.args.cat.now c.args.key (c.loop-key.number - 1) c.get-source.result.now = record { dataset = k.dataset; in_range = k.in_range; source = source_stands c.args.cat.now c.args.key c.args.band.now k (c.loop-key.number - 1) c.get-source.result.now item } in
     let fall : 6 * height_at c.args.cat.now c.args.key.file < t = (let m : 6 * height_at c.args.cat.now c.args.key.file + 1 ≡ t = c.decreases in omega arith) in
-    let within : (d : Dataset) → slice_get c.args.cat.now c.args.key.file ≡ Some d → IsWithin c.args.rect d.head.size = c.requires.within in
-    let inside = c.requires.within k.dataset k.in_range.at in
-    let some : 0 < c.args.rect.w = inside.columns in
-    let size : length c.as_mut_slice-out.result.now ≡ c.args.rect.w * c.args.rect.h = ap length c.as_mut_slice-out.ensures.value ∙ c.loop-number.invariant.size in
-    let ready : IsReady g.F.Folder c.loop-number.folder c.args.cat.now c.loop-number.self = record { right = right; walked = walked } in
-    search (rules, fall, ready, source, within, some, size)
+    let within : (d : Dataset) → slice_get c.args.cat.now c.args.key.file ≡ Some d → IsWithin c.loop-key.canvas.rect d.head.size = λ d at. subst (λ r. IsWithin r d.head.size) (sym before.rect) (c.requires.within d at) in
+    let canvas = before.canvas in
+    let ready : IsReady g.F.Folder c.loop-key.folder c.args.cat.now c.loop-key.self = record { right = right; walked = walked } in
+    search (rules, fall, ready, source, within, canvas)
 
-pub fill-loop-number-preserved : goal.fill-loop-number-preserved
-fill-loop-number-preserved g t c =
-    let before = c.loop-number.invariant in
+pub fill-loop-key-preserved : goal.fill-loop-key-preserved
+fill-loop-key-preserved g t c =
+    let k = c.requires.key in
+    let before = c.loop-key.invariant in
     let o = c.in_ok-paint.ensures in
-    let kept : length c.paint.new.samples ≡ length c.as_mut_slice-out.result.now = c.paint.auto.samples in
-    let l : c.loop-number.samples.len ≡ length c.paint.new.samples = sym (kept ∙ c.as_mut_slice-out.ensures.len) in
-    let whole : take c.loop-number.samples.len (c.paint.new.samples ++ drop (length c.paint.new.samples) c.loop-number.samples.items) ≡ c.paint.new.samples = ap (λ m. take m (c.paint.new.samples ++ drop (length c.paint.new.samples) c.loop-number.samples.items)) l ∙ take-append_seam c.paint.new.samples (drop (length c.paint.new.samples) c.loop-number.samples.items) in
-    let same : c.as_mut_slice-out.result.now ≡ c.loop-number.samples.items = c.as_mut_slice-out.ensures.value in
-    let item : slice_get c.args.band.now.sources c.loop-number.number ≡ Some c.get-source.result.now = ap (λ (l : List SourceValue). slice_get l c.loop-number.number) (sym (ap (λ (b : BandValue). b.sources) c.band.view_is)) ∙ c.get-source.ensures.item in
+    let some : 0 < c.loop-key.number = c.is_wanted.ensures.some c.loop-key-test.true in
+    let same : c.loop-key.number - 1 + 1 ≡ c.loop-key.number = omega arith in
+    let item : slice_get c.args.band.now.sources (c.loop-key.number - 1) ≡ Some c.get-source.result.now = ap (λ (l : List SourceValue). slice_get l (c.loop-key.number - 1)) (sym (ap (λ (b : BandValue). b.sources) c.band.view_is)) ∙ c.get-source.ensures.item in
     record {
       serves = serves_trans g.F.Folder.file_bytes g.F.Folder.file_len c.args.cat.now 0 _ _ _ before.serves o.serves;
-      size = ap length whole ∙ kept ∙ ap length same ∙ before.size;
-      filled = λ d at. sources_more (g.F.Folder.names c.loop-number.folder) (g.F.Folder.names c.paint.new.folder) c.args.cat.now d c.args.key.band c.loop-number.number c.args.band.now.sources c.get-source.result.now c.args.rect _ c.loop-number.samples.items
-          (take c.loop-number.samples.len (c.paint.new.samples ++ drop (length c.paint.new.samples) c.loop-number.samples.items)) o.serves.told item (before.filled d at)
-          (subst (λ xs. IsSourceShown (g.F.Folder.names c.paint.new.folder) c.args.cat.now d c.args.key.band c.loop-number.number c.get-source.result.now c.args.rect c.loop-number.samples.items xs) (sym whole)
-          (subst (λ xs. IsSourceShown (g.F.Folder.names c.paint.new.folder) c.args.cat.now d c.args.key.band c.loop-number.number c.get-source.result.now c.args.rect xs c.paint.new.samples) same (o.painted d at)));
+      canvas = o.canvas;
+      rect = (o.taken k.dataset k.in_range.at).rect ∙ before.rect;
+      kind = (o.taken k.dataset k.in_range.at).kind ∙ before.kind;
+      below = (let low = before.below in omega arith);
+      taken = λ d at. taken_more (g.F.Folder.names c.loop-key.folder) c.args.cat.now d c.args.key.band c.args.band.now.sources (g.F.Folder.names c.paint.new.folder) (c.loop-key.number - 1) c.get-source.result.now c.loop-key.canvas c.paint.new.canvas o.serves.told item
+          (subst (λ n. AreTaken (g.F.Folder.names c.loop-key.folder) c.args.cat.now d c.args.key.band n c.args.band.now.sources c.loop-key.canvas) (sym same) (before.taken d at)) (o.taken d at);
     }
-
-pub fill-pack_clamped-requires : goal.fill-pack_clamped-requires
-fill-pack_clamped-requires g t c =
-    let few = c.requires.few in
-    let size : length c.as_slice.result.now ≡ c.args.rect.w * c.args.rect.h = ap length c.as_slice.ensures.value ∙ c.loop-number.invariant.size in
-    record { few = omega arith }
 
 pub fill-returns-clause-block : goal.fill-returns-clause-block
 fill-returns-clause-block g t c =
     let k = c.requires.key in
-    let before = c.loop-number.invariant in
-    let shown = c.band.view_is in
-    let count : c.len-number-end.result ≡ length c.args.band.now.sources = c.len-number-end.ensures.count ∙ ap (λ (b : BandValue). length b.sources) shown in
-    let test = c.loop-number-test.false in
-    let nodata : to_z w128 (of_z w128 c.unwrap_or-nodata.result) ≡ unwrap_or c.args.band.now.nodata (pos 0) = (let n : to_z w128 (of_z w128 c.unwrap_or-nodata.result) ≡ c.unwrap_or-nodata.result = search rules in n ∙ c.unwrap_or-nodata.ensures ∙ ap (λ (b : BandValue). unwrap_or b.nodata (pos 0)) shown) in
-    filled_part (g.F.Folder.names c.loop-number.folder) c.args.cat.now c.args.key c.args.band.now k c.loop-number.number c.args.rect c.loop-number.samples.items c.in_ok-block.block c.count-count.ensures.valid c.rules.ensures.rules before.size (omega arith)
-    (subst (λ v. AreSourcesShown (g.F.Folder.names c.loop-number.folder) c.args.cat.now k.dataset c.args.key.band c.loop-number.number c.args.band.now.sources c.args.rect (replicate (c.args.rect.w * c.args.rect.h) v) c.loop-number.samples.items) nodata (before.filled k.dataset k.in_range.at))
-    (c.in_ok-block.ensures.samples ∙ ap (λ l. block_view c.band.inside.kind (map (clamp c.band.inside.kind) l)) c.as_slice.ensures.value ∙ ap (λ (b : BandValue). block_view b.kind (map (clamp b.kind) c.loop-number.samples.items)) shown)
-    c.len-len.ensures.valid
+    let before = c.loop-key.invariant in
+    let done = not_wanted c.is_wanted.result _ c.loop-key-test.false c.is_wanted.ensures.done in
+    let nodata : to_z w128 (of_z w128 c.unwrap_or.result) ≡ unwrap_or c.args.band.now.nodata (pos 0) = (let n : to_z w128 (of_z w128 c.unwrap_or.result) ≡ c.unwrap_or.result = search rules in n ∙ c.unwrap_or.ensures ∙ ap (λ (b : BandValue). unwrap_or b.nodata (pos 0)) c.band.view_is) in
+    packed_part (g.F.Folder.names c.loop-key.folder) c.args.cat.now c.args.key c.args.band.now k c.args.rect c.loop-key.canvas c.in_ok-block.block c.count-count.ensures.valid c.rules.ensures.rules (c.requires.within k.dataset k.in_range.at).columns before.rect before.kind
+    (all_taken (g.F.Folder.names c.loop-key.folder) c.args.cat.now k.dataset c.args.key.band c.loop-key.number c.args.band.now.sources c.loop-key.canvas (before.taken k.dataset k.in_range.at) done)
+    (subst (λ v. IsPackedOf c.loop-key.canvas v c.in_ok-block.block) nodata c.in_ok-block.ensures.packed) c.len-len.ensures.valid
 
-pub paint-returns-in_default-clause-painted : goal.paint-returns-in_default-clause-painted
-paint-returns-in_default-clause-painted g t c = λ d at.
-    source_unseen (g.F.Folder.names c.args.folder.now) c.args.cat.now d c.args.source.key.band c.args.source.number c.args.source.source.now c.args.rect c.args.samples.now c.requires.some c.requires.rows (c.in_ok-picture.ensures.none c.in_default.is d at)
+pub paint-paint_picture-requires-clause-rows : goal.paint-paint_picture-requires-clause-rows
+paint-paint_picture-requires-clause-rows g t c κs within =
+    let asked = rw c.in-Some.is at c.in_ok-asked.ensures.asked in
+    ap length c.as_mut_slice.ensures.value ∙ asked.size ∙ mul_comm c.in-Some.asked.part.w c.in-Some.asked.part.h
+    ∙ ap (λ n. n * c.in-Some.asked.part.w) (sym asked.height) ∙ ap (λ n. c.in-Some.asked.picture.height * n) (sym asked.stride)
 
-pub paint-returns-clause-painted : goal.paint-returns-clause-painted
-paint-returns-clause-painted g t c = λ d at.
-    let seen = rw c.in-Some.is at c.in_ok-picture.ensures.seen in
-    on_ok c.paint_picture.result _ _
-    (source_part (g.F.Folder.names c.paint_picture.new.folder) c.args.cat.now d c.args.source.key.band c.args.source.number c.in-Some.picture.file c.args.source.source.now c.args.rect c.in-Some.picture (seen.seen d at) (λ m. seen.pixels m d at) c.requires.some c.args.samples.now c.paint_picture.new.out c.requires.rows
-    (c.in-Some.picture.top * c.in-Some.picture.stride) ((c.in-Some.picture.top + c.in-Some.picture.height) * c.in-Some.picture.stride) refl refl)
-    c.paint_picture.ensures.painted
+pub paint-take-requires-clause-near : goal.paint-take-requires-clause-near
+paint-take-requires-clause-near g t c =
+    let asked = rw c.in-Some.is at c.in_ok-asked.ensures.asked in
+    let kept : length c.paint_picture.new.out ≡ length c.as_mut_slice.result.now = c.paint_picture.auto.out in
+    let whole : take c.in-Some.asked.pixels.len (c.paint_picture.new.out ++ drop (length c.paint_picture.new.out) c.in-Some.asked.pixels.items) ≡ c.paint_picture.new.out =
+    ap (λ m. take m (c.paint_picture.new.out ++ drop (length c.paint_picture.new.out) c.in-Some.asked.pixels.items)) (sym (kept ∙ c.as_mut_slice.ensures.len)) ∙ take-append_seam c.paint_picture.new.out (drop (length c.paint_picture.new.out) c.in-Some.asked.pixels.items) in
+    let size : length c.paint_picture.new.out ≡ c.in-Some.asked.picture.height * c.in-Some.asked.picture.stride =
+    kept ∙ ap length c.as_mut_slice.ensures.value ∙ asked.size ∙ mul_comm c.in-Some.asked.part.w c.in-Some.asked.part.h
+    ∙ ap (λ n. n * c.in-Some.asked.part.w) (sym asked.height) ∙ ap (λ n. c.in-Some.asked.picture.height * n) (sym asked.stride) in
+    subst (All IsPixel) (sym (c.as_slice.ensures.value ∙ whole))
+    (pixels_near c.args.cat.now c.in-Some.asked.picture c.paint_picture.new.out (c.in-Some.asked.picture.height * c.in-Some.asked.picture.stride) asked.picture asked.taking asked.to (asked.stride ∙ sym asked.width) size c.in_ok-paint_picture.ensures.typed)
+
+pub paint-returns-in_default-clause-taken : goal.paint-returns-in_default-clause-taken
+paint-returns-in_default-clause-taken g t c = λ d at.
+    source_unasked (g.F.Folder.names c.args.folder.now) c.args.cat.now d c.args.source.key.band c.args.source.number c.args.source.source.now c.args.canvas.now (c.in_ok-asked.ensures.none c.in_default.is d at)
+
+pub paint-returns-clause-taken : goal.paint-returns-clause-taken
+paint-returns-clause-taken g t c = λ d at.
+    let asked = rw c.in-Some.is at c.in_ok-asked.ensures.asked in
+    let kept : length c.paint_picture.new.out ≡ length c.as_mut_slice.result.now = c.paint_picture.auto.out in
+    let whole : take c.in-Some.asked.pixels.len (c.paint_picture.new.out ++ drop (length c.paint_picture.new.out) c.in-Some.asked.pixels.items) ≡ c.paint_picture.new.out =
+    ap (λ m. take m (c.paint_picture.new.out ++ drop (length c.paint_picture.new.out) c.in-Some.asked.pixels.items)) (sym (kept ∙ c.as_mut_slice.ensures.len)) ∙ take-append_seam c.paint_picture.new.out (drop (length c.paint_picture.new.out) c.in-Some.asked.pixels.items) in
+    source_taken (g.F.Folder.names c.paint_picture.new.folder) c.args.cat.now c.args.source.key c.args.source.number c.args.source.source.now c.args.canvas.now c.in-Some.asked asked d at
+    c.taking_of-taking.result c.taking_of-taking.ensures.values c.as_mut_slice.result.now c.paint_picture.new.out (ap length c.as_mut_slice.ensures.value ∙ asked.size) c.take.new.self
+    c.in_ok-paint_picture.ensures.painted
+    (subst (λ xs. IsTaken c.taking_of-taking.result xs c.in-Some.asked.part c.args.canvas.now c.take.new.self) (c.as_slice.ensures.value ∙ whole) c.in_ok-take.ensures.taken)
 
 pub paint_picture-paint_band-requires-clause-ready : goal.paint_picture-paint_band-requires-clause-ready
 paint_picture-paint_band-requires-clause-ready g t c κs within =
@@ -251,14 +286,3 @@ paint_block-returns-clause-painted g t c =
     let o = c.in_ok-hold.ensures in
     let rows = c.requires.rows in
     block_shown (g.F.Folder.names c.hold.new.folder) c.args.cat.now c.args.picture.now c.args.piece c.requires.piece c.hold.new.self.pool.entries c.args.out.now c.paint_held.new.out (held_blocks g.F.Folder.file_bytes g.F.Folder.file_len c.args.cat.now (g.F.Folder.names c.hold.new.folder) c.hold.new.self.pool c.hold.new.self.files o.serves.right) o.held c.requires.picture.picture.some (omega arith) c.paint_held.ensures.painted
-
-pub paint-slice_bounds-out-end : goal.paint-slice_bounds-out-end
-paint-slice_bounds-out-end g t c =
-    let p = c.in-Some.picture in
-    let rows = rw c.in-Some.is at c.in_ok-picture.ensures.rows in
-    let inside = rows.1 in
-    let big : (c.in-Some.picture.top + c.in-Some.picture.height) * c.args.rect.w ≤ c.args.rect.h * c.args.rect.w = mul-le-mul inside (omega arith) in
-    let stride : (c.in-Some.picture.top + c.in-Some.picture.height) * c.in-Some.picture.stride ≡ (c.in-Some.picture.top + c.in-Some.picture.height) * c.args.rect.w = ap (λ n. (c.in-Some.picture.top + c.in-Some.picture.height) * n) rows.0 in
-    let turned = mul_comm c.args.rect.w c.args.rect.h in
-    let size = c.requires.rows in
-    omega arith

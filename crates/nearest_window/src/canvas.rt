@@ -1,0 +1,144 @@
+// Samples of a rectangle of a mosaic, which are filled from the last source to the first.
+ghost use Rattle.std.specs.Prelude.{◌≡◌, ◌⊎◌, ℕ, ◌+◌, ◌*◌, ◌<◌, ◌≤◌, ◌^◌, None, true, is_some, length, All, IfOk, OnOk, IsTrue};
+ghost use Rattle.mosaic_sources.specs.Pixels.{IsPixel};
+ghost use Rattle.nearest_window.specs.Canvases.{IsCanvas, IsInside, IsPackedOf, IsTaken, stands};
+
+use crate::merging::{Place, close, filled_from, take_rows};
+use crate::taking::{BLANK, Taking};
+use band_blocks::Block;
+use geotransform::{PixelType, Rect, Sample};
+use std::alloc::{AllocError, Global};
+
+/// The samples of a rectangle of a mosaic's band, as far as they are filled.
+#[derive(Drop)]
+pub struct Canvas {
+    pub rect: Rect,
+    /// The type of the band.
+    pub kind: PixelType,
+    /// Row by row, with a mark for each that is open; none while nothing is filled.
+    pub samples: Vec<Sample>,
+    /// So many from the first on are filled.
+    pub filled: usize,
+}
+
+// The number of samples of a rectangle.
+fn count_of(rect: Rect) -> usize
+    requires few { rect.w * rect.h < 2 ^ 32 }
+    ensures count { result ≡ rect.w * rect.h }
+{
+    (rect.w * rect.h) as usize
+}
+
+impl Canvas {
+    /// A canvas on which nothing is filled.
+    pub fn of(alloc: Global, rect: Rect, kind: PixelType) -> Canvas
+        requires some { 0 < rect.w }
+        requires few { rect.w * rect.h < 2 ^ 32 }
+        ensures canvas { IsCanvas result }
+        ensures rect { result.rect ≡ rect }
+        ensures kind { result.kind ≡ kind }
+        ensures open { (k : ℕ) → stands result.samples.items k ≡ None }
+    {
+        Canvas {
+            rect,
+            kind,
+            samples: Vec::new(alloc),
+            filled: 0,
+        }
+    }
+
+    /// Whether nothing is open.
+    pub fn is_filled(&self) -> bool
+        requires canvas { IsCanvas self.now }
+        ensures filled { IsTrue result → (k : ℕ) → k < self.now.rect.w * self.now.rect.h → is_some (stands self.now.samples.items k) ≡ true }
+    {
+        self.filled == count_of(self.rect)
+    }
+
+    // Makes the samples, if there are none, all of them open.
+    fn begin(&mut self, alloc: Global) -> Result<(), AllocError>
+        requires canvas { IsCanvas self.old }
+        ensures rect { self.new.rect ≡ self.old.rect }
+        ensures kind { self.new.kind ≡ self.old.kind }
+        ensures filled { self.new.filled ≡ self.old.filled }
+        ensures size { OnOk result (length self.new.samples.items ≡ self.old.rect.w * self.old.rect.h) }
+        ensures stands { OnOk result ((k : ℕ) → k < self.old.rect.w * self.old.rect.h → stands self.new.samples.items k ≡ stands self.old.samples.items k) }
+    {
+        if self.samples.is_empty() {
+            self.samples = vec![in alloc; BLANK; count_of(self.rect)]?;
+        }
+        Ok(())
+    }
+
+    // Takes pixels of a part where the canvas, which has its samples, is open.
+    fn merge(&mut self, taking: &Taking, part: Rect, pixels: &[Sample])
+        requires canvas { IsCanvas self.old }
+        requires size { length self.old.samples.items ≡ self.old.rect.w * self.old.rect.h }
+        requires part { IsInside self.old.rect part }
+        requires pixels { length pixels.now ≡ part.w * part.h }
+        requires near { All IsPixel pixels.now }
+        ensures canvas { IsCanvas self.new }
+        ensures taken { IsTaken taking.now pixels.now part self.old self.new }
+    {
+        let place = Place {
+            to: (part.x - self.rect.x) as usize,
+            top: (part.y - self.rect.y) as usize,
+            columns: part.w as usize,
+            rows: part.h as usize,
+            stride: self.rect.w as usize,
+        };
+        take_rows(
+            taking,
+            self.kind,
+            pixels,
+            place,
+            self.samples.as_mut_slice(),
+        );
+        self.filled = filled_from(self.samples.as_slice(), self.filled);
+    }
+
+    /// Takes what is made of the pixels of a part where the canvas is open. It is refused where memory is.
+    pub fn take(
+        &mut self,
+        alloc: Global,
+        taking: &Taking,
+        part: Rect,
+        pixels: &[Sample],
+    ) -> Result<(), AllocError>
+        requires canvas { IsCanvas self.old }
+        requires part { IsInside self.old.rect part }
+        requires pixels { length pixels.now ≡ part.w * part.h }
+        requires near { All IsPixel pixels.now }
+        ensures canvas { OnOk result (IsCanvas self.new) }
+        ensures taken { OnOk result (IsTaken taking.now pixels.now part self.old self.new) }
+    {
+        self.begin(alloc)?;
+        self.merge(taking, part, pixels);
+        Ok(())
+    }
+
+    /// The block of the samples, with a value for those that are open. It is refused where memory is.
+    pub fn packed(&mut self, alloc: Global, nodata: Sample) -> Result<Block, AllocError>
+        requires canvas { IsCanvas self.old }
+        ensures packed { IfOk result (λ b. IsPackedOf self.old nodata b) }
+    {
+        self.begin(alloc)?;
+        close(nodata, self.samples.as_mut_slice());
+        Block::pack_clamped(alloc, self.kind, self.samples.as_slice())
+    }
+}
+
+/// Whether the search goes on: so many sources are left, and something is open.
+pub fn is_wanted(left: usize, canvas: &Canvas) -> bool
+    requires canvas { IsCanvas canvas.now }
+    ensures some { IsTrue result → 0 < left }
+    ensures done { IsTrue result ⊎ ((left ≡ 0) ⊎ ((k : ℕ) → k < canvas.now.rect.w * canvas.now.rect.h → is_some (stands canvas.now.samples.items k) ≡ true)) }
+{
+    if left == 0 {
+        return false;
+    }
+    if canvas.is_filled() {
+        return false;
+    }
+    true
+}

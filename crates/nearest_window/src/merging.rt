@@ -1,0 +1,80 @@
+// Taking pixels where samples are open.
+ghost use Rattle.std.specs.Prelude.{◌≡◌, ℕ, ◌+◌, ◌*◌, ◌<◌, ◌≤◌, ◌^◌, length, All, true, is_some, unwrap_or, pos, slice_index_or};
+ghost use Rattle.mosaic_sources.specs.Pixels.{IsPixel};
+ghost use Rattle.nearest_window.specs.Canvases.{IsMerged, IsUnder, filled_with};
+
+use crate::taking::{BLANK, Taking};
+use geotransform::{PixelType, Sample};
+
+/// Where a part lies in rows of `stride` samples: so many rows from `top` on, in each so many columns from
+/// `to` on.
+#[derive(Clone, Copy)]
+pub struct Place {
+    pub to: usize,
+    pub top: usize,
+    pub columns: usize,
+    pub rows: usize,
+    pub stride: usize,
+}
+
+// Takes the pixels from `base` on where the samples are open.
+fn take_each(taking: &Taking, kind: PixelType, pixels: &[Sample], base: usize, out: &mut [Sample])
+    requires pixels { base + length out.old ≤ length pixels.now }
+    requires near { All IsPixel pixels.now }
+    ensures taken { IsUnder taking.now kind pixels.now base out.old out.new }
+{
+    for at in 0..out.len() {
+        out[at] = taking.under(kind, out[at], pixels[base + at]);
+    }
+}
+
+/// Takes the pixels of a part where the samples are open.
+pub fn take_rows(
+    taking: &Taking,
+    kind: PixelType,
+    pixels: &[Sample],
+    place: Place,
+    out: &mut [Sample],
+)
+    requires inside { place.to + place.columns ≤ place.stride }
+    requires few { place.top + place.rows < 2 ^ 32 }
+    requires low { (place.top + place.rows) * place.stride ≤ length out.old }
+    requires pixels { length pixels.now ≡ place.columns * place.rows }
+    requires near { All IsPixel pixels.now }
+    ensures taken { IsMerged taking.now kind pixels.now place place.rows out.old out.new }
+{
+    for row in 0..place.rows {
+        let from = (place.top + row) * place.stride + place.to;
+        let part = &mut out[from..from + place.columns];
+        take_each(taking, kind, pixels, row * place.columns, part);
+    }
+}
+
+/// How many samples are filled from the first on, of which so many are known to be.
+pub fn filled_from(samples: &[Sample], known: usize) -> usize
+    requires known { known ≤ length samples.now }
+    ensures more { known ≤ result }
+    ensures within { result ≤ length samples.now }
+    ensures filled { (k : ℕ) → known ≤ k → k < result → is_some (filled_with (slice_index_or samples.now k (pos 0))) ≡ true }
+{
+    let mut filled = known;
+    while filled < samples.len() {
+        if samples[filled] == BLANK {
+            return filled;
+        }
+        filled += 1;
+    }
+    filled
+}
+
+/// Puts a value where samples are open.
+pub fn close(value: Sample, samples: &mut [Sample])
+    ensures size { length samples.new ≡ length samples.old }
+    ensures closed { (k : ℕ) → k < length samples.old → slice_index_or samples.new k (pos 0) ≡ unwrap_or (filled_with (slice_index_or samples.old k (pos 0))) value }
+{
+    for at in 0..samples.len() {
+        if samples[at] == BLANK {
+            samples[at] = value;
+        }
+    }
+}
