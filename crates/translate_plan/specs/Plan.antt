@@ -45,15 +45,6 @@ fits_in o bands size geo = if fits o bands size geo then Ok tt else Err Unfit
 abbrev pub planned_by : Options → DatasetHead → Window → Size → Option Transform → Planned
 planned_by o h v size geo = record { driver = o.driver; layout = o.layout; bands = out_bands o h; size = size; x = v.x; y = v.y; window = v.size; geo = geo }
 
--- what is planned of a window and a size, or the first refusal
-abbrev pub planned_in : Options → DatasetHead → Window → Size → Result Planned PlanFault
-planned_in o h v size = do
-  few ← count_in o.driver (count_of o.bands (length h.bands))
-  geo ← geo_in o.driver h.geo v size
-  place ← place_in o.driver geo
-  held ← fits_in o (asked_bands o h) size geo
-  Ok (planned_by o h v size geo)
-
 -- what is planned, or the first refusal
 unfoldable pub plan_of : Options → DatasetHead → Result Planned PlanFault
 plan_of o h = do
@@ -62,7 +53,11 @@ plan_of o h = do
   v ← window_in asked
   inside ← inside_in o.epo o.eco v h.size
   size ← size_in (sides_of o.outsize v.size)
-  planned_in o h v size
+  few ← count_in o.driver (count_of o.bands (length h.bands))
+  geo ← geo_in o.driver h.geo v size
+  place ← place_in o.driver geo
+  held ← fits_in o (asked_bands o h) size geo
+  Ok (planned_by o h v size geo)
 
 -- a band has a NODATA of its type
 abbrev pub IsOutBand : OutBand → Type 0
