@@ -101,6 +101,14 @@ printf 'NROWS 1\nNCOLS 1\n' >placeless.hdr
 expect 'an input that is skipped' 0 'Warning 1: placeless.bil: skipped (geotransform)' gdalbuildvrt -q skipped.vrt hills.bil placeless.bil
 expect 'the same, strictly' 1 'ERROR 1: placeless.bil: skipped (geotransform)' gdalbuildvrt -q -strict strict.vrt hills.bil placeless.bil
 holds 'which makes nothing' test ! -e strict.vrt
+(echo hills.bil && head -c 67108854 /dev/zero | tr '\0' '\n') >longest.txt
+expect 'a list of the greatest length' 0 '' gdalbuildvrt -q longest.vrt -input_file_list longest.txt
+echo >>longest.txt
+expect 'a list that is longer' 1 'ERROR 6: limit of list passed (67108865)' gdalbuildvrt -q longer.vrt -input_file_list longest.txt
+rm longest.txt
+for number in $(seq 65536); do echo hills.bil; done >most.txt
+expect 'as many inputs as there may be' 0 '' gdalbuildvrt -q -b 1 most.vrt -input_file_list most.txt
+expect 'one more' 1 'ERROR 6: limit of files passed (65537)' gdalbuildvrt -q -b 1 more.vrt hills.bil -input_file_list most.txt
 expect 'a folder in the place of the list' 2 'ERROR 3: a file call failed' gdalbuildvrt -q none.vrt -input_file_list folder.asc
 expect 'a folder that is not there' 2 'ERROR 3: a file call failed' gdalbuildvrt -q none/out.vrt hills.bil
 if [ -w /dev/full ]; then

@@ -297,27 +297,73 @@ fn builds(rt: HostRuntime) -> Result<(), Fail> {
 }
 
 // Quiet builds of the same document.
-static SAME: [&str; 13] = [
-    "gdalbuildvrt -q out.vrt a.bil b.bil",
-    "gdalbuildvrt -q -input_file_list lf.txt out.vrt",
-    "gdalbuildvrt -q out.vrt -input_file_list crlf.txt",
-    "gdalbuildvrt -q out.vrt -input_file_list bare.txt",
-    "gdalbuildvrt -q out.vrt -input_file_list b.txt a.bil",
-    "gdalbuildvrt -q -input_file_list none.txt out.vrt -input_file_list d/e.txt",
-    "gdalbuildvrt out.vrt a.bil x/../b.bil -q",
-    "gdalbuildvrt -strict -q out.vrt ./a.bil b.bil",
-    "gdalbuildvrt -overwrite -q -b 1 out.vrt a.bil b.bil",
-    "gdalbuildvrt -q -tr 1 1 -resolution user out.vrt a.bil b.bil",
-    "gdalbuildvrt -q -te 0 0 4 1 -resolution highest out.vrt a.bil b.bil",
-    "gdalbuildvrt -q -resolution lowest -srcnodata NONE -vrtnodata none out.vrt a.bil b.bil",
-    "gdalbuildvrt -b 1 --blocks 1 -q out.vrt a.bil b.bil -resolution highest -resolution average",
+static SAME: [Row<'static>; 13] = [
+    ("gdalbuildvrt -q out.vrt a.bil b.bil", 0, "", ""),
+    ("gdalbuildvrt -q -input_file_list lf.txt out.vrt", 0, "", ""),
+    (
+        "gdalbuildvrt -q out.vrt -input_file_list crlf.txt",
+        0,
+        "",
+        "",
+    ),
+    (
+        "gdalbuildvrt -q out.vrt -input_file_list bare.txt",
+        0,
+        "",
+        "",
+    ),
+    (
+        "gdalbuildvrt -q out.vrt -input_file_list b.txt a.bil",
+        0,
+        "",
+        "",
+    ),
+    (
+        "gdalbuildvrt -q -input_file_list none.txt out.vrt -input_file_list d/e.txt",
+        0,
+        "",
+        "",
+    ),
+    ("gdalbuildvrt out.vrt a.bil x/../b.bil -q", 0, "", ""),
+    ("gdalbuildvrt -strict -q out.vrt ./a.bil b.bil", 0, "", ""),
+    (
+        "gdalbuildvrt -overwrite -q -b 1 out.vrt a.bil b.bil",
+        0,
+        "",
+        "",
+    ),
+    (
+        "gdalbuildvrt -q -tr 1 1 -resolution user out.vrt a.bil b.bil",
+        0,
+        "",
+        "",
+    ),
+    (
+        "gdalbuildvrt -q -te 0 0 4 1 -resolution highest out.vrt a.bil b.bil",
+        0,
+        "",
+        "",
+    ),
+    (
+        "gdalbuildvrt -q -resolution lowest -srcnodata NONE -vrtnodata none out.vrt a.bil b.bil",
+        0,
+        "",
+        "",
+    ),
+    (
+        "gdalbuildvrt -b 1 --blocks 1 -q out.vrt a.bil b.bil -resolution highest -resolution average",
+        0,
+        "",
+        "",
+    ),
 ];
 
-// The first of these lines that makes anything else, or how many lines there are.
+static MADE: [FileOf<'static>; 1] = [("out.vrt", BOTH)];
+
+// The first of these builds that makes anything else, or how many there are.
 fn first_unlike<R: Threads + Sync>(rt: &R, alloc: Global) -> Result<usize, Unmade> {
-    let made: &[FileOf<'_>] = &[("out.vrt", BOTH)];
-    for (at, line) in SAME.iter().enumerate() {
-        if !goes(rt, alloc, &FILES, &[(*line, 0, "", "")], made)? {
+    for (at, row) in SAME.iter().enumerate() {
+        if !goes(rt, alloc, &FILES, &[*row], &MADE)? {
             return Ok(at);
         }
     }
