@@ -1,7 +1,6 @@
 -- Taking pixels where samples are open.
-use Rattle.std.proofs.Common.{◌≡◌, ℕ, ℤ, zero, suc, pos, ◌+◌, ◌-◌, ◌*◌, ◌<◌, ◌≤◌, ◌≤ℤ◌, ◌<ℤ◌, List, [], ◌∷◌, take, drop, replicate, length, get_or, Option, Some, None, Bool, true, false, cond, refl, sym, ap, ◌∙◌, subst, arith, inl, inr, length-drop}
-use Rattle.std.specs.Prelude.{is_some, option_map, slice_set, slice_index_or}
-use Rattle.std.specs.List.{All}
+use Rattle.std.proofs.Common.{◌≡◌, ℕ, ℤ, zero, suc, pos, ◌+◌, ◌-◌, ◌*◌, ◌<◌, ◌≤◌, ◌<ℤ◌, List, [], ◌∷◌, drop, replicate, length, get_or, Option, Some, None, Bool, true, false, cond, refl, sym, ap, ◌∙◌, subst, arith, inl, inr, length-drop}
+use Rattle.std.specs.Prelude.{option_map, slice_set}
 use Rattle.std.specs.Option.{option_or, unwrap_or}
 use Rattle.std.specs.Ordering.{int_eq}
 use Rattle.std.proofs.Math.Nat.{mul-le-mul}
@@ -17,7 +16,7 @@ use Rattle.mosaic_sources.specs.Pixels.{IsPixel}
 use Rattle.mosaic_sources.proofs.Following.{is_pixel}
 use Rattle.nearest_window.specs.declared.merging.Place.{Place}
 use Rattle.nearest_window.specs.declared.taking.Taking.{Taking}
-use Rattle.nearest_window.specs.Canvases.{blank, filled_with, stands, IsSame, IsUnder, IsAt, IsMerged}
+use Rattle.nearest_window.specs.Canvases.{blank, filled_with, stands, IsSame, IsUnder, IsMerged}
 use Rattle.nearest_window.specs.Painted.{IsPainted, placed}
 use Rattle.nearest_window.specs.Taken.{taken_by}
 use Rattle.nearest_window.proofs.Painted.{painted_part, placed_in, placed_before, placed_after}

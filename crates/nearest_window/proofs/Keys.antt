@@ -16,7 +16,6 @@ use Rattle.block_cache.specs.Entries.{moved_to_front, admitted, held_at, pool_vi
 use Rattle.std.proofs.Common.{Result, Ok, Err, OnOk}
 use Rattle.std.specs.Prelude.{IsSome}
 use Rattle.std.proofs.lemmas.Bool.Decides.{nat_tests}
-use Rattle.block_cache.specs.Entries.{PoolView}
 use Rattle.band_blocks.specs.Contents.{IsBlock}
 use Rattle.nearest_window.specs.Lanes.{LaneView, lane_view}
 use Rattle.nearest_window.specs.Right.{AreBlocks}

@@ -1,11 +1,10 @@
 -- How a canvas fills from the last source of a band to the first.
-use Rattle.std.proofs.Common.{◌≡◌, ◌⊎◌, ℕ, ℤ, zero, suc, pos, ◌+◌, ◌-◌, ◌*◌, ◌/◌, ◌%◌, ◌^◌, ◌<◌, ◌≤◌, List, [], ◌∷◌, drop, map, length, get_or, Option, Some, None, Bool, true, false, refl, sym, ap, ◌∙◌, subst, arith, inl, inr}
-use Rattle.std.specs.Prelude.{is_some, option_map, slice_get, slice_index_or, IsTrue}
-use Rattle.std.specs.List.{All}
+use Rattle.std.proofs.Common.{◌≡◌, ◌⊎◌, ℕ, ℤ, zero, suc, pos, ◌+◌, ◌-◌, ◌*◌, ◌/◌, ◌%◌, ◌<◌, ◌≤◌, List, [], ◌∷◌, drop, map, length, get_or, Option, Some, None, Bool, true, false, refl, sym, ap, ◌∙◌, subst, arith, inl, inr}
+use Rattle.std.specs.Prelude.{is_some, option_map, slice_get, IsTrue}
 use Rattle.std.specs.Option.{option_or, unwrap_or}
-use Rattle.std.proofs.Math.Nat.{mul-le-mul, mul_comm}
+use Rattle.std.proofs.Math.Nat.{mul_comm}
 use Rattle.std.proofs.lemmas.Bool.{cases_lt}
-use Rattle.std.proofs.lemmas.Nat.{div-mul-add, mod-mul-add, div-add-mod', mod_below, div_below, mul-add-lt}
+use Rattle.std.proofs.lemmas.Nat.{div-add-mod', mod_below, div_below, mul-add-lt}
 use Rattle.std.proofs.lemmas.List.{length-map, get_or-map}
 use Rattle.geotransform.specs.Types.{clamp}
 use Rattle.geotransform.specs.declared.types.PixelType.{PixelType}
@@ -13,25 +12,23 @@ use Rattle.geotransform.specs.declared.types.Rect.{Rect}
 use Rattle.geotransform.specs.declared.types.Size.{Size}
 use Rattle.outside.specs.Outside.{Files}
 use Rattle.vrt_profile.specs.Values.{SourceValue, BandValue, IsBand}
-use Rattle.vrt_profile.specs.Cover.{axis_at, columns_of, lines_of, cover_of}
-use Rattle.vrt_profile.specs.Value.{value_of, given_of, last_given, mosaic_pixel}
+use Rattle.vrt_profile.specs.Cover.{axis_at, columns_of, lines_of}
+use Rattle.vrt_profile.specs.Value.{value_of, given_of, last_given}
 use Rattle.catalog.specs.Drivers.{Dataset}
 use Rattle.catalog.specs.Pixels.{pixel_of, target_size, target_pixel}
-use Rattle.catalog.specs.Places.{row_by_row, IsWithin}
+use Rattle.catalog.specs.Places.{row_by_row}
 use Rattle.catalog.specs.Walk.{IsCatalog}
 use Rattle.band_blocks.specs.declared.key.BlockKey.{BlockKey}
-use Rattle.band_blocks.specs.Blocks.{BlockView, block_view, IsPacked}
+use Rattle.band_blocks.specs.Blocks.{BlockView, IsPacked}
 use Rattle.nearest_window.specs.declared.asking.Asked.{Asked}
 use Rattle.nearest_window.specs.declared.canvas.Canvas.{Canvas}
-use Rattle.nearest_window.specs.declared.picture.Picture.{Picture}
 use Rattle.nearest_window.specs.declared.taking.Taking.{Taking}
-use Rattle.nearest_window.specs.declared.taking.Taking.TheVariants as takings
-use Rattle.nearest_window.specs.Canvases.{stands, stands_at, IsSame, IsCanvas, IsIn, IsInside, IsTaken, IsUnasked, IsAsked, IsSourceTaken, AreTaken, IsPackedOf}
+use Rattle.nearest_window.specs.Canvases.{stands, stands_at, IsSame, IsIn, IsTaken, IsUnasked, IsAsked, IsSourceTaken, AreTaken, IsPackedOf}
 use Rattle.nearest_window.specs.Painted.{IsPainted, in_columns}
 use Rattle.nearest_window.specs.Right.{IsPartBlock, IsMosaicKey}
 use Rattle.nearest_window.specs.Shown.{shown, IsShown}
 use Rattle.nearest_window.specs.Taken.{place_at, taken_by}
-use Rattle.nearest_window.proofs.Canvases.{same_under, in_itself}
+use Rattle.nearest_window.proofs.Canvases.{same_under}
 use Rattle.nearest_window.proofs.Covers.{seen_there, nothing_given, pixel_given}
 use Rattle.nearest_window.proofs.Mosaics.{band_told, pixels_are, nodata_kept, clamp_given}
 use Rattle.nearest_window.proofs.Painted.{in_columns_at, placed_in}

@@ -1,5 +1,5 @@
 // Samples of a rectangle of a mosaic, which are filled from the last source to the first.
-ghost use Rattle.std.specs.Prelude.{◌≡◌, ◌⊎◌, ℕ, ◌+◌, ◌*◌, ◌<◌, ◌≤◌, ◌^◌, None, true, is_some, length, All, IfOk, OnOk, IsTrue};
+ghost use Rattle.std.specs.Prelude.{◌≡◌, ◌⊎◌, ℕ, ◌+◌, ◌*◌, ◌<◌, ◌≤◌, ◌^◌, List, [], None, true, is_some, length, All, IfOk, OnOk, IsTrue};
 ghost use Rattle.mosaic_sources.specs.Pixels.{IsPixel};
 ghost use Rattle.nearest_window.specs.Canvases.{IsCanvas, IsInside, IsPackedOf, IsTaken, stands};
 
@@ -97,23 +97,62 @@ impl Canvas {
         self.filled = filled_from(self.samples.as_slice(), self.filled);
     }
 
+    // Whether nothing is filled, and the pixels of the part are, as they are, all samples.
+    fn takes_all(&self, taking: &Taking, part: Rect) -> bool
+        ensures none { IsTrue result → self.now.samples.items ≡ [] }
+        ensures wide { IsTrue result → part.w ≡ self.now.rect.w }
+        ensures high { IsTrue result → part.h ≡ self.now.rect.h }
+        ensures plain { IsTrue result → taking.now ≡ Taking.All }
+    {
+        if !self.samples.is_empty() {
+            return false;
+        }
+        if part.w != self.rect.w {
+            return false;
+        }
+        if part.h != self.rect.h {
+            return false;
+        }
+        match taking {
+            Taking::All => return true,
+            Taking::Except(_) => return false,
+            Taking::By(_) => return false,
+        }
+    }
+
+    // Makes pixels the samples, where there were none.
+    fn fill_by(&mut self, pixels: Vec<Sample>)
+        requires none { self.old.samples.items ≡ [] }
+        ensures rect { self.new.rect ≡ self.old.rect }
+        ensures kind { self.new.kind ≡ self.old.kind }
+        ensures samples { self.new.samples.items ≡ pixels.items }
+        ensures filled { self.new.filled ≡ length pixels.items }
+    {
+        self.filled = pixels.len();
+        self.samples = pixels;
+    }
+
     /// Takes what is made of the pixels of a part where the canvas is open. It is refused where memory is.
     pub fn take(
         &mut self,
         alloc: Global,
         taking: &Taking,
         part: Rect,
-        pixels: &[Sample],
+        pixels: Vec<Sample>,
     ) -> Result<(), AllocError>
         requires canvas { IsCanvas self.old }
         requires part { IsInside self.old.rect part }
-        requires pixels { length pixels.now ≡ part.w * part.h }
-        requires near { All IsPixel pixels.now }
+        requires pixels { length pixels.items ≡ part.w * part.h }
+        requires near { All IsPixel pixels.items }
         ensures canvas { OnOk result (IsCanvas self.new) }
-        ensures taken { OnOk result (IsTaken taking.now pixels.now part self.old self.new) }
+        ensures taken { OnOk result (IsTaken taking.now pixels.items part self.old self.new) }
     {
+        if self.takes_all(taking, part) {
+            self.fill_by(pixels);
+            return Ok(());
+        }
         self.begin(alloc)?;
-        self.merge(taking, part, pixels);
+        self.merge(taking, part, pixels.as_slice());
         Ok(())
     }
 

@@ -243,7 +243,7 @@ impl<F: Folder> Lane<F> {
         } = asked;
         self.paint_picture(alloc, cat, folder, &picture, pixels.as_mut_slice(), loads)?;
         let taking = taking_of(source.source);
-        canvas.take(alloc, &taking, part, pixels.as_slice())?;
+        canvas.take(alloc, &taking, part, pixels)?;
         Ok(())
     }
 

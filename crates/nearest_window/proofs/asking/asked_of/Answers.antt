@@ -1,4 +1,4 @@
-use Rattle.std.proofs.Common.{rules, arith, refl, sym, ap, ◌∙◌, ◌≡◌, ◌+◌, ◌*◌, ◌<◌, ◌≤◌, length}
+use Rattle.std.proofs.Common.{rules, arith, refl, ◌≡◌, ◌*◌, ◌≤◌, length}
 use Rattle.std.proofs.lemmas.Grind.{common_steps}
 use Rattle.std.proofs.Math.Nat.{mul-le-mul}
 use Rattle.nearest_window.proofs.Asks.{unseen_unasked, ends_below, asked_is}

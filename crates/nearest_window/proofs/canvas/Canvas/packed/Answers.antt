@@ -1,4 +1,4 @@
-use Rattle.std.proofs.Common.{rules, ◌≡◌, ◌∙◌, ◌++◌, ℕ, List, ℤ, sym, ap, subst, pos, take, drop, map, length, to_z, of_z}
+use Rattle.std.proofs.Common.{rules, ◌≡◌, ◌∙◌, ◌++◌, ℕ, List, ℤ, sym, ap, subst, take, drop, map, length, to_z, of_z}
 use mir.Syntax.{w128}
 use Rattle.std.proofs.Math.Seq.{take-append_seam}
 use Rattle.geotransform.specs.Types.{clamp}

@@ -1,4 +1,4 @@
-use Rattle.std.proofs.Common.{◌≡◌, List, ◌+◌, ◌-◌, ◌*◌, ◌<◌, ◌≤◌, ◌++◌, Some, refl, sym, ap, ◌∙◌, subst, arith, rules, length, take, drop, pos, false, replicate, map, to_z, of_z}
+use Rattle.std.proofs.Common.{◌≡◌, List, ◌+◌, ◌-◌, ◌*◌, ◌<◌, ◌≤◌, ◌++◌, Some, refl, sym, ap, ◌∙◌, subst, arith, rules, length, take, drop, pos, false, to_z, of_z}
 use Rattle.std.specs.Prelude.{slice_get, unwrap_or}
 use Rattle.std.specs.List.{All}
 use Rattle.mosaic_sources.specs.Pixels.{IsPixel}
@@ -6,13 +6,11 @@ use Rattle.std.proofs.Math.Nat.{mul-le-mul, mul_comm}
 use Rattle.std.proofs.Math.Seq.{take-append_seam}
 use mir.Syntax.{w128}
 use borrow.Rule.Slice.PartMut.{put_mid}
-use Rattle.geotransform.specs.Types.{clamp}
 use Rattle.outside.specs.Outside.{Files}
 use Rattle.vrt_profile.specs.Values.{BandValue, SourceValue}
 use Rattle.catalog.specs.Drivers.{Dataset}
 use Rattle.catalog.specs.Walk.{IsWalked}
 use Rattle.catalog.specs.Places.{IsWithin}
-use Rattle.band_blocks.specs.Blocks.{block_view}
 use Rattle.block_cache.specs.Entries.{entry_of}
 use Rattle.nearest_window.specs.Heights.{height_at}
 use Rattle.nearest_window.specs.Right.{IsReady, slack_of, state_of}
@@ -25,7 +23,7 @@ use Rattle.nearest_window.proofs.Shown.{held_size, block_shown, rect_shown}
 use Rattle.nearest_window.specs.Canvases.{AreTaken, IsPackedOf, IsTaken}
 use Rattle.nearest_window.proofs.Mosaics.{source_stands, whole_block}
 use Rattle.nearest_window.proofs.Sources.{none_taken, not_wanted, taken_more, source_taken, source_unasked, all_taken, packed_part}
-use Rattle.nearest_window.proofs.Fills.{columns_more, bands_more, part_length, on_ok}
+use Rattle.nearest_window.proofs.Fills.{columns_more, bands_more, part_length}
 use Rattle.nearest_window.proofs.Painted.{painted_whole}
 use Rattle.nearest_window.proofs.Ranges.{pixels_near, block_typed, rect_typed, rows_typed, typed_more}
 use Rattle.nearest_window.proofs.Blocks.{around_at, in_row, from_row}
@@ -126,7 +124,7 @@ paint-take-requires-clause-near g t c =
     let size : length c.paint_picture.new.out ≡ c.in-Some.asked.picture.height * c.in-Some.asked.picture.stride =
     kept ∙ ap length c.as_mut_slice.ensures.value ∙ asked.size ∙ mul_comm c.in-Some.asked.part.w c.in-Some.asked.part.h
     ∙ ap (λ n. n * c.in-Some.asked.part.w) (sym asked.height) ∙ ap (λ n. c.in-Some.asked.picture.height * n) (sym asked.stride) in
-    subst (All IsPixel) (sym (c.as_slice.ensures.value ∙ whole))
+    subst (All IsPixel) (sym whole)
     (pixels_near c.args.cat.now c.in-Some.asked.picture c.paint_picture.new.out (c.in-Some.asked.picture.height * c.in-Some.asked.picture.stride) asked.picture asked.taking asked.to (asked.stride ∙ sym asked.width) size c.in_ok-paint_picture.ensures.typed)
 
 pub paint-returns-in_default-clause-taken : goal.paint-returns-in_default-clause-taken
@@ -142,7 +140,7 @@ paint-returns-clause-taken g t c = λ d at.
     source_taken (g.F.Folder.names c.paint_picture.new.folder) c.args.cat.now c.args.source.key c.args.source.number c.args.source.source.now c.args.canvas.now c.in-Some.asked asked d at
     c.taking_of-taking.result c.taking_of-taking.ensures.values c.as_mut_slice.result.now c.paint_picture.new.out (ap length c.as_mut_slice.ensures.value ∙ asked.size) c.take.new.self
     c.in_ok-paint_picture.ensures.painted
-    (subst (λ xs. IsTaken c.taking_of-taking.result xs c.in-Some.asked.part c.args.canvas.now c.take.new.self) (c.as_slice.ensures.value ∙ whole) c.in_ok-take.ensures.taken)
+    (subst (λ xs. IsTaken c.taking_of-taking.result xs c.in-Some.asked.part c.args.canvas.now c.take.new.self) whole c.in_ok-take.ensures.taken)
 
 pub paint_picture-paint_band-requires-clause-ready : goal.paint_picture-paint_band-requires-clause-ready
 paint_picture-paint_band-requires-clause-ready g t c κs within =
