@@ -139,23 +139,5 @@ expect 'the next mosaic under that name' 0 '' gdalbuildvrt -q killed.vrt -input_
 holds 'which is whole' cmp -s many.vrt killed.vrt
 holds 'and leaves no temporary file of its own' test "$(temporaries)" = "$left"
 
-# jobs made from a number
-mkdir few many
-job='Size: 90 x 90
-Values: 6885
-Sum: 4837725
-Least: 0
-Greatest: 1880'
-holds 'a job with one block' test "$(cd few && timeout 60 "$program" synth 45 --blocks 1)" = "$job"
-holds 'the same with 64 blocks' test "$(cd many && timeout 60 "$program" synth --blocks 64 45)" = "$job"
-holds 'which makes the same twelve files' bash -c 'diff -r few many >/dev/null && [ "$(ls few | wc -l)" = 12 ]'
-large='Size: 2000 x 2000
-Values: 3400000
-Sum: 2498300000
-Least: 0
-Greatest: 1999'
-holds 'a large job' test "$(cd many && timeout 300 "$program" synth 1000 --blocks 8192)" = "$large"
-holds 'which leaves nothing else' test "$(find many -mindepth 1 | wc -l)" = 12
-
 echo "tried $tried, failed $failed"
 [ "$failed" -eq 0 ]
