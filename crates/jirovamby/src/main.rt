@@ -44,8 +44,8 @@ fn main(rt: HostRuntime) -> ExitCode {
                 &mut err,
             )
         }
-        (Ok(_), Err(_)) => tell(&mut err, Some(Fault::Memory)),
-        (Err(fault), _) => tell(&mut err, Some(fault)),
+        (Ok(_), Err(_)) => tell(&mut err, false, Some(Fault::Memory)),
+        (Err(fault), _) => tell(&mut err, false, Some(fault)),
     };
     ExitCode::from(outcome.status)
 }
