@@ -176,20 +176,21 @@ static UNTOLD: [Untold<'static>; 4] = [
     ),
 ];
 
-// Whether a build ends so whose error stream fails at this call, behind so many bytes of it.
+// A call of the error stream that fails, its number, and how many bytes it takes first.
+type Telling<'a> = (&'a [Failing], u64, usize);
+
+// Whether a build ends so whose error stream fails so.
 fn ends_untold<R: Threads + Sync>(
     rt: &R,
     alloc: Global,
-    (line, calls, status, told, count): Untold<'_>,
-    call: u64,
-    front: usize,
+    (line, calls, status, told, count): Untold<'static>,
+    (tells, call, front): Telling<'static>,
 ) -> Result<bool, Unmade> {
-    let tells: &[Failing] = &[Failing::Call(call)];
-    let failures = Failures {
+    let failures: Failures<'static> = Failures {
         calls,
+        puts: &[],
         tells,
         front,
-        ..CALM
     };
     let ran = run_with(rt, alloc, &FILES, line, failures)?;
     let published = published(alloc, &ran.folder, FILES.len(), LISTED.outputs)?;
@@ -202,24 +203,30 @@ fn ends_untold<R: Threads + Sync>(
 fn first_untold<R: Threads + Sync>(
     rt: &R,
     alloc: Global,
-    call: u64,
-    front: usize,
+    telling: Telling<'static>,
 ) -> Result<usize, Unmade> {
     for (at, untold) in UNTOLD.iter().enumerate() {
-        if !ends_untold(rt, alloc, *untold, call, front)? {
+        if !ends_untold(rt, alloc, *untold, telling)? {
             return Ok(at);
         }
     }
     Ok(UNTOLD.len())
 }
 
-// Calls of the error stream that fail, and how many bytes they take first.
-static TELLS: [(u64, usize); 6] = [(1, 0), (1, 5), (2, 0), (2, 5), (3, 0), (3, 11)];
+// Calls of the error stream that fail.
+static TELLS: [Telling<'static>; 6] = [
+    (&[Failing::Call(1)], 1, 0),
+    (&[Failing::Call(1)], 1, 5),
+    (&[Failing::Call(2)], 2, 0),
+    (&[Failing::Call(2)], 2, 5),
+    (&[Failing::Call(3)], 3, 0),
+    (&[Failing::Call(3)], 3, 11),
+];
 
 // The first of these calls whose failing changes anything else, or how many there are.
 fn first_told<R: Threads + Sync>(rt: &R, alloc: Global) -> Result<usize, Unmade> {
-    for (at, (call, front)) in TELLS.iter().enumerate() {
-        if first_untold(rt, alloc, *call, *front)? < UNTOLD.len() {
+    for (at, telling) in TELLS.iter().enumerate() {
+        if first_untold(rt, alloc, *telling)? < UNTOLD.len() {
             return Ok(at);
         }
     }
