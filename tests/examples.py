@@ -1,0 +1,137 @@
+#!/usr/bin/env python3
+"""Tries the examples of README.md and docs/COMMANDS.md with the built program, and examples/tiles.sh, outside the gate:
+tests/examples.py PROGRAM
+
+An indented block that begins with a command is run. Where the text behind it says 'prints' or 'print', the next block is
+what has to come on standard output and standard error; where a text says that a file is something, the next block is what
+it holds. Of the tables of options each example is run, and has to end with status 0. Each line of the result names what
+was tried; the last line counts what failed, and the status is 0 where nothing did."""
+import os
+import re
+import shutil
+import subprocess
+import sys
+import tempfile
+
+TOP = os.path.dirname(os.path.dirname(os.path.realpath(__file__)))
+COMMANDS = ("gdalinfo", "gdal_translate", "gdalbuildvrt", "gdallocationinfo")
+TRIED, FAILED = [], []
+
+
+def holds(what, is_so, why=""):
+    TRIED.append(what)
+    if not is_so:
+        FAILED.append(what)
+    print(f"{'as it is to be' if is_so else 'FAILED'}: {what}{'' if is_so else f': {why}'}")
+
+
+def run(line):
+    how = {"stdout": subprocess.PIPE, "stderr": subprocess.STDOUT, "stdin": subprocess.DEVNULL}
+    ran = subprocess.run(["bash", "-c", line], timeout=60, **how)
+    return ran.returncode, ran.stdout.decode(errors="replace")
+
+
+def blocks(page):
+    """Returns the page as its texts and its indented blocks in turn, each with whether it is a block."""
+    found = []
+    with open(f"{TOP}/{page}") as it:
+        for line in it.read().split("\n"):
+            is_block = line.startswith("    ")
+            if line or is_block:
+                text = line[4:] if is_block else line
+                if found and found[-1][0] == is_block:
+                    found[-1][1].append(text)
+                else:
+                    found.append((is_block, [text]))
+    return found
+
+
+def try_blocks(page):
+    came = ""
+    parts = blocks(page)
+    for at, (is_block, lines) in enumerate(parts):
+        before = parts[at - 1][1][-1] if at else ""
+        text = "\n".join(lines)
+        file = re.search(r"`(\S+)` is$", before)
+        if not is_block:
+            continue
+        if lines[0].startswith(("printf ", *COMMANDS)) and not re.search(r"[A-Z]{4}", lines[0]):
+            came = run(text)[1]
+        elif re.search(r"\bprints?\b[^.]*$", before) and came:
+            holds(f"what is printed there: {lines[0]}", came == text + "\n", came)
+            came = ""
+        elif file:
+            with open(file[1]) as it:
+                holds(f"what {file[1]} holds", it.read() == text + "\n")
+
+
+def try_tables(page):
+    with open(f"{TOP}/{page}") as it:
+        for line in re.findall(r"^\| `-[^|]*\| `(gdal[^`]*)` \|", it.read(), re.M):
+            status, said = run(line)
+            holds(line, status == 0, said)
+
+
+def make_cell():
+    """Makes a level 1 cell of zeros, and a list of inputs."""
+    with open("cell.bil", "wb") as it:
+        it.write(bytes(2 * 1201 * 1201))
+    with open("cell.hdr", "w") as it:
+        it.write("NROWS 1201\nNCOLS 1201\nNBITS 16\nPIXELTYPE SIGNEDINT\nULXMAP 10\nULYMAP 48\n")
+        it.write("XDIM 0.000833333333333333\nYDIM 0.000833333333333333\n")
+    holds("a cell", run("gdal_translate -q cell.bil n47.dt1") == (0, ""))
+    with open("list.txt", "w") as it:
+        it.write("west.bil\neast.bil\n")
+
+
+def try_tiles():
+    script = f"{TOP}/examples/tiles.sh"
+    with open("large.bil", "wb") as it:
+        it.write(bytes(at * 31 % 251 for at in range(2 * 300 * 200)))
+    with open("large.hdr", "w") as it:
+        it.write("BYTEORDER I\nNROWS 200\nNCOLS 300\nNBITS 16\nPIXELTYPE SIGNEDINT\nULXMAP 0.5\nULYMAP 9.5\n")
+    said = run(f"{script} run large.bil tiles all.vrt 128 3")
+    holds("windows that are written beside each other", said == (0, ""), said)
+    run("gdal_translate -q all.vrt whole.bil")
+    holds("their mosaic has the pixels of the raster", run("cmp large.bil whole.bil")[0] == 0)
+    holds("there is a window for each line", len(run(f"{script} windows large.bil 128")[1].split("\n")) == 7)
+    os.remove("tiles/128_128.hdr")
+    os.remove("tiles/128_128.bil")
+    with open("tiles/0_0.bil", "wb") as it:
+        it.write(bytes(2 * 128 * 128))
+    run(f"{script} run large.bil tiles all.vrt 128 3")
+    holds("a window that is lacking is made again", run("gdallocationinfo -valonly all.vrt 130 130")
+          == run("gdallocationinfo -valonly large.bil 130 130"))
+    holds("one that is whole is left", run("gdallocationinfo -valonly all.vrt 1 0") == (0, "0\n"))
+    said = run(f"{script} run large.bil others others.vrt 128 3 -b 2")
+    holds("a window that fails leaves no mosaic", said[0] != 0 and not os.path.exists("others.vrt"), said)
+
+
+def main(program):
+    room = tempfile.mkdtemp()
+    try:
+        os.chdir(room)
+        os.mkdir("bin")
+        for name in COMMANDS:
+            with open(f"bin/{name}", "w") as it:
+                it.write(f'#!/bin/sh\nexec "{program}" {name} "$@"\n')
+            os.chmod(f"bin/{name}", 0o755)
+        os.environ["PATH"] = f"{room}/bin:{os.environ['PATH']}"
+        shutil.copytree(f"{TOP}/sample", "sample")
+        make_cell()
+        try_blocks("README.md")
+        try_blocks("docs/COMMANDS.md")
+        try_tables("docs/COMMANDS.md")
+        try_tiles()
+    finally:
+        os.chdir("/")
+        shutil.rmtree(room)
+    print(f"tried {len(TRIED)}, failed {len(FAILED)}")
+    return 1 if FAILED else 0
+
+
+if __name__ == "__main__":
+    if len(sys.argv) != 2 or not os.access(sys.argv[1], os.X_OK):
+        print("tests/examples.py PROGRAM: the built program", file=sys.stderr)
+        sys.exit(2)
+    sys.exit(main(os.path.realpath(sys.argv[1])))
