@@ -4,7 +4,8 @@ tests/examples.py PROGRAM
 
 An indented block that begins with a command is run. Where the text behind it says 'prints' or 'print', the next block is
 what has to come on standard output and standard error; where a text says that a file is something, the next block is what
-it holds. Of the tables of options each example is run, and has to end with status 0. Each line of the result names what
+it holds. Of the tables of options each example is run, and has to end with status 0; and of what they say is refused, each kind is
+tried once, with the line that tells it. Each line of the result names what
 was tried; the last line counts what failed, and the status is 0 where nothing did."""
 import os
 import re
@@ -16,6 +17,63 @@ import tempfile
 TOP = os.path.dirname(os.path.dirname(os.path.realpath(__file__)))
 COMMANDS = ("gdalinfo", "gdal_translate", "gdalbuildvrt", "gdallocationinfo")
 TRIED, FAILED = [], []
+
+# what docs/COMMANDS.md says is refused, with the line that tells it
+WORD = "ERROR 1: word {} doesn't fit"
+REFUSALS = (
+    ("gdalinfo --blocks 0 sample/hills.bil", WORD.format(2)),
+    ("gdalinfo --blocks 65537 sample/hills.bil", WORD.format(2)),
+    ("gdalinfo --blocks 1e3 sample/hills.bil", WORD.format(2)),
+    ("gdalinfo n47.dt1 --config DTED_VERIFY_CHECKSUM", WORD.format(4)),
+    ("gdalinfo", WORD.format(1)),
+    ("gdalinfo -stats sample/hills.bil", WORD.format(1)),
+    ("gdalinfo sample/hills.bil twice", WORD.format(2)),
+    ("gdallocationinfo -b 257 sample/hills.bil 0 0", WORD.format(2)),
+    ("gdallocationinfo -b 3 sample/hills.bil 0 0", "ERROR 5: no band 3"),
+    ("gdallocationinfo -valonly -lifonly sample/hills.bil 0 0", WORD.format(2)),
+    ("gdallocationinfo -geoloc placeless.bil 0 0", "ERROR 1: no geotransform"),
+    ("gdallocationinfo sample/hills.bil 2", WORD.format(3)),
+    ("gdallocationinfo sample/hills.bil 2 y", WORD.format(3)),
+    ("gdallocationinfo sample/hills.bil 2 0 0", WORD.format(4)),
+    ("gdal_translate -of GTiff sample/hills.bil no.bil", WORD.format(2)),
+    ("gdal_translate -of VRT sample/hills.bil no.asc", WORD.format(4)),
+    ("gdal_translate -b mask sample/hills.bil no.bil", WORD.format(2)),
+    ("gdal_translate -b 3 sample/hills.bil no.bil", "ERROR 5: no band 3"),
+    ("gdal_translate sample/hills.bil no.asc", "ERROR 6: format takes one band"),
+    ("gdal_translate -srcwin 0 0 1.5 1 sample/hills.bil no.bil", WORD.format(4)),
+    ("gdal_translate -srcwin 0 0 0 1 sample/hills.bil no.bil", "ERROR 5: empty window"),
+    ("gdal_translate -srcwin 0 0 4194305 1 sample/hills.bil no.bil", "ERROR 6: output too large"),
+    ("gdal_translate -projwin 11 47 10 48 sample/hills.bil no.bil", "ERROR 5: empty window"),
+    ("gdal_translate -projwin 0 1 1 0 placeless.bil no.bil", "ERROR 1: no geotransform"),
+    ("gdal_translate -srcwin 0 0 1 1 -projwin 10 47.5 11 47 sample/hills.bil no.bil", WORD.format(6)),
+    ("gdal_translate -outsize 5.5 1 sample/hills.bil no.bil", WORD.format(2)),
+    ("gdal_translate -outsize 0 0 sample/hills.bil no.bil", "ERROR 5: empty window"),
+    ("gdal_translate -outsize 10% 10% sample/hills.bil no.bil", "ERROR 5: empty window"),
+    ("gdal_translate -ot Float32 sample/hills.bil no.bil", WORD.format(2)),
+    ("gdal_translate -b 1 -ot UInt32 sample/hills.bil no.asc", "ERROR 6: raster doesn't fit the format"),
+    ("gdal_translate -ot Byte n47.dt1 no.dt1", "ERROR 6: raster doesn't fit the format"),
+    ("gdal_translate -a_nodata 1.5 sample/hills.bil no.bil", WORD.format(2)),
+    ("gdal_translate -a_nodata 70000 sample/hills.bil no.bil", "ERROR 6: raster doesn't fit the format"),
+    ("gdal_translate -a_nodata none n47.dt1 no.dt1", "ERROR 6: raster doesn't fit the format"),
+    ("gdal_translate -co COMPRESS=LZW sample/hills.bil no.bil", WORD.format(2)),
+    ("gdal_translate -b 1 -co INTERLEAVE=BSQ sample/hills.bil no.asc", WORD.format(4)),
+    ("gdal_translate -epo -srcwin 3 0 2 2 sample/hills.bil no.bil", "ERROR 5: window outside the raster"),
+    ("gdal_translate -eco -srcwin 4 0 2 2 sample/hills.bil no.bil", "ERROR 5: window outside the raster"),
+    ("gdal_translate -r nearest sample/hills.bil no.bil", WORD.format(1)),
+    ("gdalbuildvrt no.vrt -input_file_list none.txt", "ERROR 4: none.txt: no such file"),
+    ("gdalbuildvrt no.vrt -input_file_list latin.txt", "ERROR 4: latin.txt: malformed list (1)"),
+    ("gdalbuildvrt no.vrt -input_file_list empty.txt", "ERROR 1: no input fits"),
+    ("gdalbuildvrt -resolution Highest no.vrt west.bil", WORD.format(2)),
+    ("gdalbuildvrt -resolution user no.vrt west.bil", WORD.format(5)),
+    ("gdalbuildvrt -tr 0 1 no.vrt west.bil", WORD.format(2)),
+    ("gdalbuildvrt -tr 1 1 -resolution highest no.vrt west.bil", WORD.format(4)),
+    ("gdalbuildvrt -te 11 46 10 47 no.vrt west.bil", WORD.format(4)),
+    ("gdalbuildvrt -te 10 47 11 46 no.vrt west.bil", WORD.format(5)),
+    ("gdalbuildvrt -b 1 -separate no.vrt west.bil", WORD.format(3)),
+    ("gdalbuildvrt -srcnodata '0 0' no.vrt west.bil", WORD.format(2)),
+    ("gdalbuildvrt -q -strict no.vrt west.bil grid.asc", "ERROR 1: grid.asc: skipped (bands)"),
+    ("gdalbuildvrt no.vrt none.bil", "ERROR 4: none.bil: no such file"),
+)
 
 
 def holds(what, is_so, why=""):
@@ -72,8 +130,14 @@ def try_tables(page):
             holds(line, status == 0, said)
 
 
-def make_cell():
-    """Makes a level 1 cell of zeros, and a list of inputs."""
+def try_refusals():
+    for line, wanted in REFUSALS:
+        status, said = run(line)
+        holds(f"refused: {line}", status == 1 and said.split("\n")[-2:-1] == [wanted], said)
+
+
+def make_files():
+    """Makes a level 1 cell of zeros, a raster without a place, and lists of inputs."""
     with open("cell.bil", "wb") as it:
         it.write(bytes(2 * 1201 * 1201))
     with open("cell.hdr", "w") as it:
@@ -82,6 +146,13 @@ def make_cell():
     holds("a cell", run("gdal_translate -q cell.bil n47.dt1") == (0, ""))
     with open("list.txt", "w") as it:
         it.write("west.bil\neast.bil\n")
+    with open("latin.txt", "wb") as it:
+        it.write(b"\xe4.bil\n")
+    open("empty.txt", "w").close()
+    with open("placeless.bil", "w") as it:
+        it.write("7")
+    with open("placeless.hdr", "w") as it:
+        it.write("NROWS 1\nNCOLS 1\n")
 
 
 def try_tiles():
@@ -118,10 +189,11 @@ def main(program):
             os.chmod(f"bin/{name}", 0o755)
         os.environ["PATH"] = f"{room}/bin:{os.environ['PATH']}"
         shutil.copytree(f"{TOP}/sample", "sample")
-        make_cell()
+        make_files()
         try_blocks("README.md")
         try_blocks("docs/COMMANDS.md")
         try_tables("docs/COMMANDS.md")
+        try_refusals()
         try_tiles()
     finally:
         os.chdir("/")
