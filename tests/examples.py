@@ -56,7 +56,7 @@ REFUSALS = (
     ("gdal_translate -a_nodata 70000 sample/hills.bil no.bil", "ERROR 6: raster doesn't fit the format"),
     ("gdal_translate -a_nodata none n47.dt1 no.dt1", "ERROR 6: raster doesn't fit the format"),
     ("gdal_translate -co COMPRESS=LZW sample/hills.bil no.bil", WORD.format(2)),
-    ("gdal_translate -b 1 -co INTERLEAVE=BSQ sample/hills.bil no.asc", WORD.format(4)),
+    ("gdal_translate -b 1 -co INTERLEAVE=BSQ sample/hills.bil no.asc", WORD.format(3)),
     ("gdal_translate -epo -srcwin 3 0 2 2 sample/hills.bil no.bil", "ERROR 5: window outside the raster"),
     ("gdal_translate -eco -srcwin 4 0 2 2 sample/hills.bil no.bil", "ERROR 5: window outside the raster"),
     ("gdal_translate -r nearest sample/hills.bil no.bil", WORD.format(1)),
