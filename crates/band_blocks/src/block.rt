@@ -1,14 +1,22 @@
 // A block of samples.
-ghost use Rattle.std.specs.Prelude.{◌≡◌, ◌≤◌, ◌<◌, ◌+◌, ◌^◌, ℕ, length, map, replicate, pos, true, IfOk, get_or, slice_index_or, slice_set};
-ghost use Rattle.std.specs.List.{range_with_len};
+ghost use Rattle.std.specs.Prelude.{◌≡◌, ◌≤◌, ◌<◌, ◌+◌, ◌*◌, ◌^◌, ℕ, List, length, map, replicate, pos, true, IfOk, get_or, slice_index_or, slice_set};
+ghost use Rattle.std.specs.List.{range_with_len, All};
 ghost use Rattle.geotransform.specs.Types.{is_in, clamp};
+ghost use Rattle.geotransform.specs.declared.types.PixelType.TheVariants.{Int16};
 ghost use Rattle.interleaved_raw.specs.Raw.{run_of as sample_of, bytes_at, sample_bytes, Holds, IsBetween};
+ghost use Rattle.lists_and_answers.specs.Places.{StandsAt};
+ghost use Rattle.dted_records.specs.Places.{record_len, record_of};
+ghost use Rattle.dted_records.specs.Records.{column_of, elevation_in};
+ghost use Rattle.dted_records.specs.Written.{IsElevation, record_bytes};
+ghost use Rattle.hgt_tiles.specs.Samples.{row_bytes, row_of, line_of};
 ghost use Rattle.band_blocks.specs.Views.{cells_view};
 ghost use Rattle.band_blocks.specs.Blocks.{block_view, IsPacked, AreIn, written, run_of};
 
 use crate::cell::{
     Cell, clamp_cells, copy_cells, decode_cells, encode_cells, set_cell, write_cells,
 };
+use crate::int16::{decode_elevations, decode_items, encode_elevations, encode_items};
+use dted_records::DtedHead;
 use esri_hdr::RawHead;
 use geotransform::{PixelType, Sample};
 use std::alloc::{AllocError, Global};
@@ -244,6 +252,64 @@ impl Block {
             Cells::Ints16(cells) => return encode_cells(head, &cells[at..end], bytes),
             Cells::UInts32(cells) => return encode_cells(head, &cells[at..end], bytes),
             Cells::Ints32(cells) => return encode_cells(head, &cells[at..end], bytes),
+        }
+    }
+
+    /// Reads the elevations of a record of a cell, from north to south, as many as the block has samples.
+    pub fn decode_record(&mut self, head: &DtedHead, bytes: &[u8])
+        requires kind { self.old.kind ≡ Int16 }
+        requires len { length bytes.now ≡ record_len head.now }
+        requires points { length self.old.samples ≡ head.now.points }
+        ensures samples { self.new ≡ block_view Int16 (map (elevation_in head.now bytes.now) (range_with_len 0 head.now.points)) }
+        ensures count { length self.new.samples ≡ head.now.points }
+        // bytes that stand in a file at a line's place are that column of the file
+        ensures file { (file : List ℕ) (x : ℕ) → StandsAt file bytes.now (record_of head.now x) → self.new.samples ≡ column_of head.now file x }
+    {
+        match &mut self.cells {
+            Cells::Ints16(cells) => return decode_elevations(head, bytes, cells),
+            _ => return,
+        }
+    }
+
+    /// Reads the samples of a tile, two bytes each, as many as the block has.
+    pub fn decode_items(&mut self, bytes: &[u8])
+        requires kind { self.old.kind ≡ Int16 }
+        requires two { length bytes.now ≡ 2 * length self.old.samples }
+        ensures samples { self.new ≡ block_view Int16 (row_of bytes.now (length self.old.samples)) }
+        ensures count { length self.new.samples ≡ length self.old.samples }
+        // bytes that stand in a file are the samples of their line from there on
+        ensures file { (file : List ℕ) (side x y : ℕ) → StandsAt file bytes.now (2 * (y * side + x)) → self.new.samples ≡ line_of side file x y (length self.old.samples) }
+    {
+        match &mut self.cells {
+            Cells::Ints16(cells) => return decode_items(bytes, cells),
+            _ => return,
+        }
+    }
+
+    /// Writes the samples as those of a tile, two bytes each.
+    pub fn encode_items(&self, bytes: &mut [u8])
+        requires kind { self.now.kind ≡ Int16 }
+        requires two { length bytes.old ≡ 2 * length self.now.samples }
+        ensures bytes { bytes.new ≡ row_bytes self.now.samples }
+    {
+        match &self.cells {
+            Cells::Ints16(cells) => return encode_items(cells, bytes),
+            _ => return,
+        }
+    }
+
+    /// Writes the samples, which run from north to south, as the record of a line of a cell.
+    pub fn encode_record(&self, line: u32, bytes: &mut [u8])
+        requires kind { self.now.kind ≡ Int16 }
+        requires line { line < 9999 }
+        requires few { length self.now.samples ≤ 9999 }
+        requires len { length bytes.old ≡ 12 + 2 * length self.now.samples }
+        requires range { All IsElevation self.now.samples }
+        ensures bytes { bytes.new ≡ record_bytes line self.now.samples }
+    {
+        match &self.cells {
+            Cells::Ints16(cells) => return encode_elevations(line, cells, bytes),
+            _ => return,
         }
     }
 }

@@ -32,8 +32,7 @@ pub record IsCell (c : Cell) (bytes : List ℕ) : Type 0 where
   pub whole : (x : ℕ) → x < c.head.lines → IsBegun c.head bytes x → part (record_of c.head x) (record_len c.head) bytes ≡ record_bytes x (column_of c.head bytes x)
   pub zeros : (x y : ℕ) → x < c.head.lines → y < c.head.points → (IsBegun c.head bytes x → ⊥) → dted_at c.head bytes x y ≡ pos 0
 
--- room for the elevations of a record, and its bytes, and the bytes in front of the records
-pub record FitsCell (h : Head) (front samples bytes : ℕ) : Type 0 where
+-- room for the bytes of a record, and the bytes in front of the records
+pub record FitsCell (h : Head) (front bytes : ℕ) : Type 0 where
   pub front_fits : front ≡ record_of h 0
-  pub samples_fit : samples ≡ h.points
   pub bytes_fit : bytes ≡ record_len h

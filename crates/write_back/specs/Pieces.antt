@@ -14,12 +14,11 @@ span_of h = (h.size.w - 1) * stride_of h + sample_len h.kind
 abbrev pub line_calls : Head → ℕ
 line_calls h = span_of h / 32768 + 2
 
--- room for pieces of so many samples of a line, and their bytes
-pub record FitsHead (h : Head) (step samples bytes : ℕ) : Type 0 where
+-- room for the bytes of pieces of so many samples of a line
+pub record FitsHead (h : Head) (step bytes : ℕ) : Type 0 where
   pub some : 0 < step
   pub within : step ≤ h.size.w
   pub few : steps_over step h.size.w ≤ line_calls h
-  pub samples_fit : samples ≡ step
   pub bytes_fit : bytes ≡ (step - 1) * stride_of h + sample_len h.kind
 
 -- bytes that stand in a draft from a place on, where anything else stands between the samples of a line
@@ -44,8 +43,7 @@ pub record IsRunWritten (h : Head) (band y x n : ℕ) (line : List ℤ) (old new
   pub here : (u : ℕ) → x ≤ u → u < x + n → raw_at h new band u y ≡ get_or line u (pos 0)
   pub others : (k u v : ℕ) → IsPlace h k u v → (IsInRun band y x n k u v → ⊥) → raw_at h new k u v ≡ raw_at h old k u v
 
--- room for the samples of a line of a tile, and their bytes
-pub record FitsSide (side samples bytes : ℕ) : Type 0 where
+-- room for the bytes of a line of a tile
+pub record FitsSide (side bytes : ℕ) : Type 0 where
   pub is : IsSide side
-  pub samples_fit : samples ≡ side
   pub bytes_fit : bytes ≡ 2 * side

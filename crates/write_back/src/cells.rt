@@ -15,8 +15,8 @@ ghost use Rattle.write_back.specs.Pieces.{AreBytes};
 use crate::TargetFault;
 use crate::pieces::put_bytes;
 use band_blocks::Block;
-use dted_records::{DtedHead, decode_record, encode_record};
-use geotransform::{PixelType, Sample};
+use dted_records::DtedHead;
+use geotransform::PixelType;
 use outside::Folder;
 use std::alloc::{AllocError, Global};
 use std::marker::Model;
@@ -27,7 +27,6 @@ use std::marker::Model;
 pub(crate) struct ColumnWriter {
     head: DtedHead,
     front: Vec<u8>,
-    samples: Vec<Sample>,
     bytes: Vec<u8>,
 }
 
@@ -39,7 +38,7 @@ impl Model for ColumnWriter {
 
     ghost view = { λ w. record { head = w.head; front = vec_items w.front } };
 
-    ghost invariant = { λ w. FitsCell w.head (vec_len w.front) (vec_len w.samples) (vec_len w.bytes) };
+    ghost invariant = { λ w. FitsCell w.head (vec_len w.front) (vec_len w.bytes) };
 }
 
 impl ColumnWriter {
@@ -52,12 +51,10 @@ impl ColumnWriter {
         requires front { vec_len front ≡ record_of head.now 0 }
         ensures cell { IfOk result (λ writer. writer ≡ cell_of head.now (vec_items front)) }
     {
-        let samples = vec![in alloc; 0i128; head.points as usize]?;
         let bytes = vec![in alloc; 0u8; head.record_len()]?;
         Ok(ColumnWriter {
             head: *head,
             front,
-            samples,
             bytes,
         })
     }
@@ -81,6 +78,7 @@ impl ColumnWriter {
     ) -> Result<(), TargetFault>
         requires column { x < self.old.head.lines }
         requires long { F.draft_len draft.old ≡ needed_of self.old.head }
+        requires kind { block.now.kind ≡ Int16 }
         requires range { All (λ n. is_elevation n ≡ true) block.now.samples }
         requires room { length block.now.samples ≡ self.old.head.points }
         ensures cell { self.new ≡ self.old }
@@ -94,9 +92,8 @@ impl ColumnWriter {
         ensures cause { HasCause TargetFault.FolderFault (F.faults folder.old) (F.faults folder.new) result }
     {
         let head = self.head;
-        let samples = self.samples.as_mut_slice();
         let bytes = self.bytes.as_mut_slice();
-        put_record(folder, draft, &head, x, block, samples, bytes)
+        put_record(folder, draft, &head, x, block, bytes)
     }
 
     // Reads a column from the draft. Where its record wasn't begun its elevations are 0, and one byte alone is read.
@@ -123,36 +120,37 @@ impl ColumnWriter {
         ensures cause { HasCause TargetFault.FolderFault (F.faults folder.old) (F.faults folder.new) result }
     {
         let head = self.head;
-        let samples = self.samples.as_mut_slice();
         let bytes = self.bytes.as_mut_slice();
-        get_record(alloc, folder, draft, &head, x, samples, bytes)
+        get_record(alloc, folder, draft, &head, x, bytes)
     }
 }
 
-// Reads the elevations of a record from north to south.
-fn decode_column(head: &DtedHead, bytes: &[u8], out: &mut [Sample])
+// Reads the elevations of a record, from north to south, into their column.
+fn decode_column(head: &DtedHead, bytes: &[u8], block: &mut Block)
     requires len { length bytes.now ≡ record_len head.now }
-    requires points { length out.old ≡ head.now.points }
-    ensures file { (file : List ℕ) (x : ℕ) → StandsAt file bytes.now (record_of head.now x) → out.new ≡ column_of head.now file x }
-    ensures range { All (λ n. is_elevation n ≡ true) out.new }
+    requires kind { block.old.kind ≡ Int16 }
+    requires points { length block.old.samples ≡ head.now.points }
+    ensures file { (file : List ℕ) (x : ℕ) → StandsAt file bytes.now (record_of head.now x) → block.new.samples ≡ column_of head.now file x }
+    ensures kind { block.new.kind ≡ Int16 }
+    ensures count { length block.new.samples ≡ head.now.points }
+    ensures range { All (λ n. is_elevation n ≡ true) block.new.samples }
 {
-    decode_record(head, bytes, out);
+    block.decode_record(head, bytes);
 }
 
-// Puts a column into a draft as a record, through room for its elevations and bytes.
+// Puts a column into a draft as a record, through room for its bytes.
 fn put_record<F: Folder>(
     folder: &mut F,
     draft: &mut F::Draft,
     head: &DtedHead,
     x: u32,
     block: &Block,
-    samples: &mut [Sample],
     bytes: &mut [u8],
 ) -> Result<(), TargetFault>
     requires column { x < head.now.lines }
-    requires samples { length samples.old ≡ head.now.points }
     requires bytes { length bytes.old ≡ record_len head.now }
     requires long { F.draft_len draft.old ≡ needed_of head.now }
+    requires kind { block.now.kind ≡ Int16 }
     requires range { All (λ n. is_elevation n ≡ true) block.now.samples }
     requires room { length block.now.samples ≡ head.now.points }
     ensures told { OnOk result (Written (record_of head.now x) (record_bytes x block.now.samples) (F.draft_bytes draft.old) (F.draft_bytes draft.new)) }
@@ -165,23 +163,20 @@ fn put_record<F: Folder>(
     ensures cause { HasCause TargetFault.FolderFault (F.faults folder.old) (F.faults folder.new) result }
 {
     let _lines = head.lines;
-    block.copy_run(0, samples);
-    encode_record(x, samples, bytes);
+    block.encode_record(x, bytes);
     put_bytes(folder, draft, head.record_at(x), bytes)
 }
 
-// Reads a column, through room for its elevations and bytes.
+// Reads a column, through room for its bytes.
 fn get_record<F: Folder>(
     alloc: Global,
     folder: &mut F,
     draft: &mut F::Draft,
     head: &DtedHead,
     x: u32,
-    samples: &mut [Sample],
     bytes: &mut [u8],
 ) -> Result<Block, TargetFault>
     requires column { x < head.now.lines }
-    requires samples { length samples.old ≡ head.now.points }
     requires bytes { length bytes.old ≡ record_len head.now }
     requires long { F.draft_len draft.old ≡ needed_of head.now }
     ensures told { (b : List ℕ) → F.draft_bytes draft.old ≡ Some b → length b ≡ needed_of head.now → ((y : ℕ) → y < head.now.points → (IsBegun head.now b x → ⊥) → dted_at head.now b x y ≡ pos 0) → IfOk result (λ block. block.samples ≡ column_of head.now b x) }
@@ -200,12 +195,11 @@ fn get_record<F: Folder>(
     let at = head.record_at(x);
     let mut first = [0u8; 1];
     folder.draft_read(draft, at, &mut first)?;
+    let mut block = Block::new(alloc, PixelType::Int16, points)?;
     if first[0] != 170 {
-        let block = Block::new(alloc, PixelType::Int16, points)?;
         return Ok(block);
     }
     folder.draft_read(draft, at, bytes)?;
-    decode_column(head, bytes, samples);
-    let block = Block::pack(alloc, PixelType::Int16, samples)?;
+    decode_column(head, bytes, &mut block);
     Ok(block)
 }

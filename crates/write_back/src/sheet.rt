@@ -1,5 +1,6 @@
 // The data of an output: blocks through a pool, or lines of text one behind the other.
 ghost use Rattle.std.specs.Prelude.{◌≡◌, ◌<◌, ◌≤◌, ◌+◌, ◌*◌, length, true, OnOk};
+ghost use Rattle.std.specs.List.{list_all};
 ghost use Rattle.outside.specs.Causes.{HasCause};
 ghost use Rattle.write_back.specs.View.{bands_of, columns_of, is_writable, rows_of, AreWritable, Finishes, IsNext, IsSoundOn, IsRightOn, Keeps, Puts};
 ghost use Rattle.write_back.specs.Files.{HasBytes};
@@ -71,14 +72,16 @@ impl<F: Folder> Sheet<F> {
     // Whether each of these samples can be written.
     #[tactic(auto, using(crate::proofs::Sheets::all_writable))]
     pub(crate) fn holds(&self, samples: &[Sample]) -> bool
-        ensures { result ≡ true → AreWritable self.now.output samples.now }
+        ensures each { result ≡ list_all (is_writable self.now.output) samples.now }
+        ensures writable { result ≡ true → AreWritable self.now.output samples.now }
     {
         samples.iter().all(|n| self.takes(*n))
     }
 
     // Whether a window of this rectangle may come next.
     pub(crate) fn is_next(&self, rect: Rect) -> bool
-        ensures { result ≡ true → IsNext self.now.output self.now.lines rect }
+        ensures next { result ≡ true → IsNext self.now.output self.now.lines rect }
+        ensures no_other { IsNext self.now.output self.now.lines rect → result ≡ true }
     {
         match &self.kind {
             Kind::Blocks(_) => true,

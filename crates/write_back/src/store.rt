@@ -24,6 +24,14 @@ pub(crate) struct Store<F: Folder> {
     pub(crate) draft: F::Draft,
 }
 
+/// Where samples are put: a band, a place in a block of it, and the block. All count from 0.
+#[derive(Clone, Copy)]
+struct Spot {
+    band: u32,
+    x: u32,
+    y: u32,
+}
+
 // Gathers a column of samples that stand row by row.
 fn gather(samples: &[Sample], width: usize, x: usize, height: usize, out: &mut [Sample])
     requires within { x < width }
@@ -137,33 +145,31 @@ impl<F: Folder> Store<F> {
         &mut self,
         alloc: Global,
         folder: &mut F,
-        band: u32,
-        x: u32,
-        y: u32,
+        spot: Spot,
         samples: &[Sample],
         writes: &mut Steps<L>,
     ) -> Result<(), TargetFault>
         requires sound { IsSound self.old.writer self.old.pool }
         requires long { F.draft_len self.old.draft ≡ needed_of self.old.writer }
-        requires band { band < (cut_of self.old.writer).bands }
-        requires line { y < (cut_of self.old.writer).blocks }
-        requires columns { x + length samples.now ≤ (cut_of self.old.writer).spots }
+        requires band { spot.band < (cut_of self.old.writer).bands }
+        requires line { spot.y < (cut_of self.old.writer).blocks }
+        requires columns { spot.x + length samples.now ≤ (cut_of self.old.writer).spots }
         requires range { AreHeld self.old.writer samples.now }
         ensures head { self.new.writer ≡ self.old.writer }
         ensures serves { Serves self.old.writer 1 0 (store_state (F.names folder.old) self.old.pool (F.draft_bytes self.old.draft) (F.draft_len self.old.draft) (F.draft_name self.old.draft) (F.faults folder.old) (F.read_calls folder.old) (F.write_calls folder.old) writes.old) (store_state (F.names folder.new) self.new.pool (F.draft_bytes self.new.draft) (F.draft_len self.new.draft) (F.draft_name self.new.draft) (F.faults folder.new) (F.read_calls folder.new) (F.write_calls folder.new) writes.new) }
-        ensures changed { OnOk result (Changes self.old.writer (IsOverlaid (IsSpot self.old.writer) band (line_rect x y (length samples.now)) samples.now) (store_state (F.names folder.old) self.old.pool (F.draft_bytes self.old.draft) (F.draft_len self.old.draft) (F.draft_name self.old.draft) (F.faults folder.old) (F.read_calls folder.old) (F.write_calls folder.old) writes.old) (store_state (F.names folder.new) self.new.pool (F.draft_bytes self.new.draft) (F.draft_len self.new.draft) (F.draft_name self.new.draft) (F.faults folder.new) (F.read_calls folder.new) (F.write_calls folder.new) writes.new)) }
-        ensures dirty { OnOk result (HoldsDirty self.new.pool.entries (line_key band y)) }
+        ensures changed { OnOk result (Changes self.old.writer (IsOverlaid (IsSpot self.old.writer) spot.band (line_rect spot.x spot.y (length samples.now)) samples.now) (store_state (F.names folder.old) self.old.pool (F.draft_bytes self.old.draft) (F.draft_len self.old.draft) (F.draft_name self.old.draft) (F.faults folder.old) (F.read_calls folder.old) (F.write_calls folder.old) writes.old) (store_state (F.names folder.new) self.new.pool (F.draft_bytes self.new.draft) (F.draft_len self.new.draft) (F.draft_name self.new.draft) (F.faults folder.new) (F.read_calls folder.new) (F.write_calls folder.new) writes.new)) }
+        ensures dirty { OnOk result (HoldsDirty self.new.pool.entries (line_key spot.band spot.y)) }
         ensures cause { HasCause TargetFault.FolderFault (F.faults folder.old) (F.faults folder.new) result }
     {
         let key = BlockKey {
             file: 0,
-            band,
-            block: y as u64,
+            band: spot.band,
+            block: spot.y as u64,
         };
-        if self.pool.patch(&key, x, samples) {
+        if self.pool.patch(&key, spot.x, samples) {
             return Ok(());
         }
-        let block = self.line_with(alloc, folder, band, x, y, samples)?;
+        let block = self.line_with(alloc, folder, spot.band, spot.x, spot.y, samples)?;
         self.keep(folder, key, block, writes)
     }
 
@@ -195,7 +201,12 @@ impl<F: Folder> Store<F> {
         for row in 0..rect.h {
             let from = row as usize * width;
             let line = &samples[from..from + width];
-            self.put(alloc, folder, band, rect.x, rect.y + row, line, writes)?;
+            let spot = Spot {
+                band,
+                x: rect.x,
+                y: rect.y + row,
+            };
+            self.put(alloc, folder, spot, line, writes)?;
         }
         Ok(())
     }
@@ -229,7 +240,12 @@ impl<F: Folder> Store<F> {
         let line = column.as_mut_slice();
         for x in 0..rect.w {
             gather(samples, rect.w as usize, x as usize, rect.h as usize, line);
-            self.put(alloc, folder, band, rect.y, rect.x + x, line, writes)?;
+            let spot = Spot {
+                band,
+                x: rect.y,
+                y: rect.x + x,
+            };
+            self.put(alloc, folder, spot, line, writes)?;
         }
         Ok(())
     }

@@ -1,5 +1,6 @@
 // An output that is written: its data, and a draft of its header where it has one.
 ghost use Rattle.std.specs.Prelude.{◌≡◌, ◌<◌, ◌≤◌, ◌+◌, ◌*◌, ◌-◌, [], ℕ, ℤ, pos, Bool, length, Some, None, IsTrue, IsSome, OnOk, IfOk, IfErr, IfSome, true, min, Err, Option, vec_len, vec_items};
+ghost use Rattle.std.specs.List.{list_all};
 ghost use Rattle.std.specs.Result.{result_err};
 ghost use Rattle.outside.specs.Causes.{HasCause, Rose};
 ghost use Rattle.outside.specs.Names.{extension_of, is_raw};
@@ -11,7 +12,7 @@ ghost use Rattle.block_cache.specs.Entries.{pool_view};
 ghost use Rattle.write_back.specs.declared.forms.Writer.TheVariants.{Raw, Hgt, Dted};
 ghost use Rattle.write_back.specs.declared.fault.TargetFault.{TargetFault};
 ghost use Rattle.write_back.specs.Columns.{cell_of};
-ghost use Rattle.write_back.specs.View.{Blocks, Rows, all_blocks, bands_of, blocks_in, calls_of, columns_of, lines_after, rows_of, AreWritable, IsNext, IsPooled, IsZero, MeetsAll, Shows};
+ghost use Rattle.write_back.specs.View.{Blocks, Rows, all_blocks, bands_of, blocks_in, calls_of, columns_of, is_writable, lines_after, rows_of, AreWritable, IsNext, IsPooled, IsZero, MeetsAll, Shows};
 ghost use Rattle.write_back.specs.Files.{files_in, IsTarget, IsTight, Publishes};
 
 use crate::cells::ColumnWriter;
@@ -247,14 +248,16 @@ impl<F: Folder> Target<F> {
 
     /// Whether each of these samples can be written.
     pub fn holds(&self, samples: &[Sample]) -> bool
-        ensures { result ≡ true → AreWritable self.now.output samples.now }
+        ensures each { result ≡ list_all (is_writable self.now.output) samples.now }
+        ensures writable { result ≡ true → AreWritable self.now.output samples.now }
     {
         self.sheet.holds(samples)
     }
 
     /// Whether a window of this rectangle may come next: in a grid it is whole lines, the first of which is the next.
     pub fn is_next(&self, rect: Rect) -> bool
-        ensures { result ≡ true → IsNext self.now.output self.now.lines rect }
+        ensures next { result ≡ true → IsNext self.now.output self.now.lines rect }
+        ensures no_other { IsNext self.now.output self.now.lines rect → result ≡ true }
     {
         self.sheet.is_next(rect)
     }

@@ -10,54 +10,54 @@ use Rattle.write_back.proofs.store.Store.put.Goals as goal
 pub patch-requires-clause-range : goal.patch-requires-clause-range
 patch-requires-clause-range g c =
     let h = c.args.self.now.writer in
-    held_range h (line_key c.args.band c.args.y) c.args.samples.now (held_at (line_key c.args.band c.args.y) c.args.self.now.pool.entries) (λ e is. c.requires.sound.lines (line_key c.args.band c.args.y) e is) c.requires.range
+    held_range h (line_key c.args.spot.band c.args.spot.y) c.args.samples.now (held_at (line_key c.args.spot.band c.args.spot.y) c.args.self.now.pool.entries) (λ e is. c.requires.sound.lines (line_key c.args.spot.band c.args.spot.y) e is) c.requires.range
 
 pub returns-then-patch-clause-serves : goal.returns-then-patch-clause-serves
 returns-then-patch-clause-serves g c =
     let h = c.args.self.now.writer in
     let p = c.args.self.now.pool in
-    let key = line_key c.args.band c.args.y in
-    let found = some_of (held_at (line_key c.args.band c.args.y) c.args.self.now.pool.entries) (sym c.patch.ensures.held ∙ c.if-patch.true) in
+    let key = line_key c.args.spot.band c.args.spot.y in
+    let found = some_of (held_at (line_key c.args.spot.band c.args.spot.y) c.args.self.now.pool.entries) (sym c.patch.ensures.held ∙ c.if-patch.true) in
     let held = found.1 in
-    let is : c.patch.new.self ≡ pool_view (patched (line_key c.args.band c.args.y) (patched_block c.args.x c.args.samples.now found.0.block) c.args.self.now.pool.entries) c.args.self.now.pool.capacity = rw held at c.patch.ensures.patched in
-    let line = patched_line h (line_key c.args.band c.args.y) found.0.block c.args.x c.args.samples.now (c.requires.sound.lines (line_key c.args.band c.args.y) found.0 held) c.requires.columns c.requires.range in
-    serves_unwritten h _ p c.patch.new.self _ _ _ _ _ _ _ (patched_sound h p c.patch.new.self (line_key c.args.band c.args.y) found.0 (patched_block c.args.x c.args.samples.now found.0.block) c.requires.sound held is c.patch.ensures.valid line) (ap (λ (r : PoolView). r.capacity) is)
+    let is : c.patch.new.self ≡ pool_view (patched (line_key c.args.spot.band c.args.spot.y) (patched_block c.args.spot.x c.args.samples.now found.0.block) c.args.self.now.pool.entries) c.args.self.now.pool.capacity = rw held at c.patch.ensures.patched in
+    let line = patched_line h (line_key c.args.spot.band c.args.spot.y) found.0.block c.args.spot.x c.args.samples.now (c.requires.sound.lines (line_key c.args.spot.band c.args.spot.y) found.0 held) c.requires.columns c.requires.range in
+    serves_unwritten h _ p c.patch.new.self _ _ _ _ _ _ _ (patched_sound h p c.patch.new.self (line_key c.args.spot.band c.args.spot.y) found.0 (patched_block c.args.spot.x c.args.samples.now found.0.block) c.requires.sound held is c.patch.ensures.valid line) (ap (λ (r : PoolView). r.capacity) is)
 
 pub returns-then-patch-clause-changed : goal.returns-then-patch-clause-changed
 returns-then-patch-clause-changed g c =
     let h = c.args.self.now.writer in
     let p = c.args.self.now.pool in
-    let found = some_of (held_at (line_key c.args.band c.args.y) c.args.self.now.pool.entries) (sym c.patch.ensures.held ∙ c.if-patch.true) in
+    let found = some_of (held_at (line_key c.args.spot.band c.args.spot.y) c.args.self.now.pool.entries) (sym c.patch.ensures.held ∙ c.if-patch.true) in
     let held = found.1 in
-    let is : c.patch.new.self ≡ pool_view (patched (line_key c.args.band c.args.y) (patched_block c.args.x c.args.samples.now found.0.block) c.args.self.now.pool.entries) c.args.self.now.pool.capacity = rw held at c.patch.ensures.patched in
+    let is : c.patch.new.self ≡ pool_view (patched (line_key c.args.spot.band c.args.spot.y) (patched_block c.args.spot.x c.args.samples.now found.0.block) c.args.self.now.pool.entries) c.args.self.now.pool.capacity = rw held at c.patch.ensures.patched in
     record {
       long = refl;
-      told = λ b has. patched_changes h p c.patch.new.self (line_key c.args.band c.args.y) found.0 c.args.x c.args.samples.now b _ c.requires.sound held is c.requires.columns has;
+      told = λ b has. patched_changes h p c.patch.new.self (line_key c.args.spot.band c.args.spot.y) found.0 c.args.spot.x c.args.samples.now b _ c.requires.sound held is c.requires.columns has;
     }
 
 pub returns-clause-changed : goal.returns-clause-changed
 returns-clause-changed g c =
     let h = c.args.self.now.writer in
     let p = c.args.self.now.pool in
-    let key = line_key c.args.band c.args.y in
-    let absent = none_of (held_at (line_key c.args.band c.args.y) c.args.self.now.pool.entries) (sym c.patch.ensures.held ∙ c.if-patch.false) in
+    let key = line_key c.args.spot.band c.args.spot.y in
+    let absent = none_of (held_at (line_key c.args.spot.band c.args.spot.y) c.args.self.now.pool.entries) (sym c.patch.ensures.held ∙ c.if-patch.false) in
     let same : c.patch.new.self ≡ p = c.patch.ensures.absent absent in
     let w = c.line_with.ensures in
     on_ok c.keep.result _ _ (λ set.
     let before = store_state (g.F.Folder.names c.args.folder.now) c.args.self.now.pool (g.F.Folder.draft_bytes c.args.self.now.draft) (g.F.Folder.draft_len c.args.self.now.draft) (g.F.Folder.draft_name c.args.self.now.draft) (g.F.Folder.faults c.args.folder.now) (g.F.Folder.read_calls c.args.folder.now) (g.F.Folder.write_calls c.args.folder.now) c.args.writes.now in
-    let from = changes_from h (IsLineSet h (line_key c.args.band c.args.y) c.in_ok-block.block.samples) before _ _ (w.pool ∙ same) w.bytes w.len (set_as _ _ (line_key c.args.band c.args.y) c.in_ok-block.block.samples _ _ w.head set) in
+    let from = changes_from h (IsLineSet h (line_key c.args.spot.band c.args.spot.y) c.in_ok-block.block.samples) before _ _ (w.pool ∙ same) w.bytes w.len (set_as _ _ (line_key c.args.spot.band c.args.spot.y) c.in_ok-block.block.samples _ _ w.head set) in
     record {
       long = from.long;
       told = λ b has. (
           let now = from.told b has in
-          (now.0, now.1, set_changes h p c.keep.new.self.pool (line_key c.args.band c.args.y) c.args.x c.args.samples.now c.in_ok-block.block.samples b now.0 refl absent c.requires.columns (c.in_ok-block.ensures.told b has.is has.long has.formed) now.2, now.3)
+          (now.0, now.1, set_changes h p c.keep.new.self.pool (line_key c.args.spot.band c.args.spot.y) c.args.spot.x c.args.samples.now c.in_ok-block.block.samples b now.0 refl absent c.requires.columns (c.in_ok-block.ensures.told b has.is has.long has.formed) now.2, now.3)
           );
     }) c.keep.ensures.changed
 
 pub returns-then-patch-clause-dirty : goal.returns-then-patch-clause-dirty
 returns-then-patch-clause-dirty g c =
     let p = c.args.self.now.pool in
-    let found = some_of (held_at (line_key c.args.band c.args.y) c.args.self.now.pool.entries) (sym c.patch.ensures.held ∙ c.if-patch.true) in
+    let found = some_of (held_at (line_key c.args.spot.band c.args.spot.y) c.args.self.now.pool.entries) (sym c.patch.ensures.held ∙ c.if-patch.true) in
     let held = found.1 in
-    let is : c.patch.new.self ≡ pool_view (patched (line_key c.args.band c.args.y) (patched_block c.args.x c.args.samples.now found.0.block) c.args.self.now.pool.entries) c.args.self.now.pool.capacity = rw held at c.patch.ensures.patched in
-    dirty_patched p c.patch.new.self (line_key c.args.band c.args.y) found.0 (patched_block c.args.x c.args.samples.now found.0.block) c.requires.sound.valid held is
+    let is : c.patch.new.self ≡ pool_view (patched (line_key c.args.spot.band c.args.spot.y) (patched_block c.args.spot.x c.args.samples.now found.0.block) c.args.self.now.pool.entries) c.args.self.now.pool.capacity = rw held at c.patch.ensures.patched in
+    dirty_patched p c.patch.new.self (line_key c.args.spot.band c.args.spot.y) found.0 (patched_block c.args.spot.x c.args.samples.now found.0.block) c.requires.sound.valid held is

@@ -1,0 +1,173 @@
+// The elevations of records and the samples of tiles, read straight into cells of 16 bits and written from them.
+ghost use Rattle.std.specs.Prelude.{◌≡◌, ◌<◌, ◌≤◌, ◌+◌, ◌*◌, length, map, true};
+ghost use Rattle.std.specs.List.{range_with_len, All};
+ghost use Rattle.byteorder.specs.Endian.{big_bytes};
+ghost use Rattle.geotransform.specs.Types.{is_in};
+ghost use Rattle.geotransform.specs.declared.types.PixelType.TheVariants.{Int16};
+ghost use Rattle.dted_records.specs.Places.{record_len};
+ghost use Rattle.dted_records.specs.Records.{elevation, elevation_in, two_at};
+ghost use Rattle.dted_records.specs.Written.{IsElevation, bits_of, elevation_bytes, front_bytes, points_bytes, record_bytes, summed_bytes};
+ghost use Rattle.hgt_tiles.specs.Samples.{item_of, row_bytes, row_of, sample_bytes};
+ghost use Rattle.band_blocks.specs.Blocks.{AreIn};
+
+use byteorder::{BigEndian, ByteOrder};
+use dted_records::{DtedHead, record_sum};
+
+// The elevation that 16 bits give by sign and magnitude.
+fn elevation(bits: u16) -> i16
+    ensures value { result ≡ elevation bits }
+    ensures within { is_in Int16 result ≡ true }
+{
+    if bits < 32_768 {
+        bits as i16
+    } else {
+        -((bits - 32_768) as i16)
+    }
+}
+
+// The number of the two bytes at a place.
+fn two_at(bytes: &[u8], at: usize) -> u16
+    requires { at + 2 ≤ length bytes.now }
+    ensures { result ≡ two_at bytes.now at }
+{
+    BigEndian::read_u16(&bytes[at..at + 2])
+}
+
+// The elevation for line `y` of pixels, of which the first is the record's last point.
+fn elevation_at(head: &DtedHead, bytes: &[u8], y: usize) -> i16
+    requires len { length bytes.now ≡ record_len head.now }
+    requires line { y < head.now.points }
+    ensures value { result ≡ elevation_in head.now bytes.now y }
+    ensures within { is_in Int16 result ≡ true }
+{
+    let point = head.points as usize - 1 - y;
+    elevation(two_at(bytes, 8 + 2 * point))
+}
+
+// Reads the elevations of a record, from north to south, into as many cells.
+pub(crate) fn decode_elevations(head: &DtedHead, bytes: &[u8], cells: &mut [i16])
+    requires len { length bytes.now ≡ record_len head.now }
+    requires points { length cells.old ≡ head.now.points }
+    ensures samples { cells.new ≡ map (elevation_in head.now bytes.now) (range_with_len 0 head.now.points) }
+    ensures range { AreIn Int16 cells.new }
+{
+    for y in 0..cells.len() {
+        cells[y] = elevation_at(head, bytes, y);
+    }
+}
+
+// The sample of a tile at a place of its bytes.
+fn item_at(bytes: &[u8], i: usize) -> i16
+    requires { i * 2 + 2 ≤ length bytes.now }
+    ensures value { result ≡ item_of bytes.now i }
+    ensures within { is_in Int16 result ≡ true }
+{
+    let at = i * 2;
+    BigEndian::read_i16(&bytes[at..at + 2])
+}
+
+// Reads the samples of a tile, two bytes each, into as many cells.
+pub(crate) fn decode_items(bytes: &[u8], cells: &mut [i16])
+    requires two { length bytes.now ≡ 2 * length cells.old }
+    ensures samples { cells.new ≡ row_of bytes.now (length cells.old) }
+    ensures range { AreIn Int16 cells.new }
+{
+    for i in 0..cells.len() {
+        cells[i] = item_at(bytes, i);
+    }
+}
+
+// Writes a sample of a tile over two bytes.
+fn write_item(n: i16, bytes: &mut [u8])
+    requires len { length bytes.old ≡ 2 }
+    ensures { bytes.new ≡ sample_bytes n }
+{
+    BigEndian::write_i16(bytes, n);
+}
+
+// Writes the samples of a tile, two bytes each.
+pub(crate) fn encode_items(cells: &[i16], out: &mut [u8])
+    requires two { length out.old ≡ 2 * length cells.now }
+    ensures bytes { out.new ≡ row_bytes cells.now }
+{
+    for i in 0..cells.len() {
+        let at = i * 2;
+        write_item(cells[i], &mut out[at..at + 2]);
+    }
+}
+
+// The 16 bits that write an elevation by sign and magnitude.
+fn bits_of(v: i16) -> u16
+    requires { IsElevation v }
+    ensures { result ≡ bits_of v }
+{
+    if v >= 0 {
+        v as u16
+    } else {
+        32_768 + v.unsigned_abs()
+    }
+}
+
+// Writes an elevation over two bytes.
+fn write_elevation(v: i16, bytes: &mut [u8])
+    requires range { IsElevation v }
+    requires len { length bytes.old ≡ 2 }
+    ensures { bytes.new ≡ elevation_bytes v }
+{
+    BigEndian::write_u16(bytes, bits_of(v));
+}
+
+// Writes elevations, which run from north to south, as points, which run from south to north.
+fn encode_points(cells: &[i16], out: &mut [u8])
+    requires len { length out.old ≡ 2 * length cells.now }
+    requires range { All IsElevation cells.now }
+    ensures { out.new ≡ points_bytes cells.now }
+{
+    for i in 0..cells.len() {
+        let at = i * 2;
+        write_elevation(cells[cells.len() - 1 - i], &mut out[at..at + 2]);
+    }
+}
+
+// What stands before the points of a line.
+fn front_bytes(line: u32) -> [u8; 8]
+    requires { line < 9999 }
+    ensures { result ≡ front_bytes line }
+{
+    let high = (line / 256 % 256) as u8;
+    let low = (line % 256) as u8;
+    [170, (line / 65_536 % 256) as u8, high, low, high, low, 0, 0]
+}
+
+// Writes all of a record but its sum.
+fn write_summed(line: u32, cells: &[i16], out: &mut [u8])
+    requires line { line < 9999 }
+    requires len { length out.old ≡ 8 + 2 * length cells.now }
+    requires range { All IsElevation cells.now }
+    ensures { out.new ≡ summed_bytes line cells.now }
+{
+    let (front, points) = out.split_at_mut(8);
+    front.copy_from_slice(&front_bytes(line));
+    encode_points(cells, points);
+}
+
+// Writes the sum of some bytes over four bytes.
+fn write_sum(total: u32, bytes: &mut [u8])
+    requires { length bytes.old ≡ 4 }
+    ensures { bytes.new ≡ big_bytes 4 total }
+{
+    BigEndian::write_u32(bytes, total);
+}
+
+// Writes the record of a line whose elevations run from north to south.
+pub(crate) fn encode_elevations(line: u32, cells: &[i16], out: &mut [u8])
+    requires line { line < 9999 }
+    requires few { length cells.now ≤ 9999 }
+    requires len { length out.old ≡ 12 + 2 * length cells.now }
+    requires range { All IsElevation cells.now }
+    ensures bytes { out.new ≡ record_bytes line cells.now }
+{
+    let (front, last) = out.split_at_mut(8 + 2 * cells.len());
+    write_summed(line, cells, front);
+    write_sum(record_sum(front), last);
+}
