@@ -24,9 +24,11 @@ block_stays told cat more key block valid is = record {
   content = λ m e. is.content m e ∙ sym (more_block m cat more key.file key.band key.block is.dataset valid is.in_range.at);
 }
 
-pub right_stays : {File : Type 0} (bytes : File → Option (List ℕ)) (len : File → ℕ) (told : Option Files) (cat more : List Dataset) (pool : PoolView) (files : List (ℕ × File)) → IsCatalog cat → IsRight bytes len told cat pool files → IsRight bytes len told (cat ++ more) pool files
-right_stays bytes len told cat more pool files valid right = record {
+pub right_stays : {File : Type 0} (bytes : File → Option (List ℕ)) (len : File → ℕ) (told : Option Files) (cat more : List Dataset) (pool : PoolView) (files : List (ℕ × File)) (made : PoolView) → IsCatalog cat → IsRight bytes len told cat pool files made → IsRight bytes len told (cat ++ more) pool files made
+right_stays bytes len told cat more pool files made valid right = record {
   valid = right.valid;
   blocks = λ key entry held. block_stays told cat more key entry.block valid (right.blocks key entry held);
   good = λ n f kept. let g = right.good n f kept in record { dataset = g.dataset; at = still_there cat more n g.dataset g.at; is_file = g.is_file; length = g.length; content = g.content };
+  made_valid = right.made_valid;
+  remembered = λ key entry held. block_stays told cat more key entry.block valid (right.remembered key entry held);
 }

@@ -1,8 +1,8 @@
 -- Keys that are the same, and the entries of a pool after a change.
 use Rattle.std.proofs.Common.{◌≡◌, ℕ, ◌+◌, ◌-◌, ◌≤◌, ◌<◌, List, [], ◌∷◌, Option, Some, None, Bool, true, false, refl, sym, subst, inl, inr, length, take, arith}
-use Rattle.std.specs.Prelude.{◌&&◌}
+use Rattle.std.specs.Prelude.{◌&&◌, ⊤, is_some}
 use Rattle.std.specs.Map.{lookup_entry, remove_entry}
-use Rattle.std.specs.Option.{option_map_or}
+use Rattle.std.specs.Option.{option_map_or, option_or}
 use Rattle.std.proofs.lemmas.Bool.{eqb-true}
 use Rattle.std.proofs.lemmas.List.{length-take}
 use Rattle.lru.specs.LruCache.{lru_cache}
@@ -14,10 +14,10 @@ use Rattle.outside.specs.Outside.{Files}
 use Rattle.block_cache.specs.declared.pool.Entry.{Entry}
 use Rattle.block_cache.specs.Entries.{moved_to_front, admitted, held_at, pool_view}
 use Rattle.std.proofs.Common.{Result, Ok, Err, OnOk}
-use Rattle.std.specs.Prelude.{IsSome}
+use Rattle.std.specs.Option.{IsSomeAnd}
 use Rattle.std.proofs.lemmas.Bool.Decides.{nat_tests}
 use Rattle.band_blocks.specs.Contents.{IsBlock}
-use Rattle.nearest_window.specs.Lanes.{LaneView, lane_view}
+use Rattle.nearest_window.specs.Lanes.{IsHeldWith, IsKept, LaneView, lane_view}
 use Rattle.nearest_window.specs.Right.{AreBlocks}
 
 both_true : (a b : Bool) → (a && b) ≡ true → (a ≡ true) × (b ≡ true)
@@ -113,6 +113,56 @@ held_admitted cap k e es = on es (lookup_entry (same_key k) es) refl
     on es None h = rw (same_key_refl k) refl
     on es (Some old) h = rw (found es old h) refl
 
-pub held_kept : {T E File : Type 0} (r : Result T E) (p q : LaneView File) (k : BlockKey) (e : Entry) → OnOk r (q ≡ lane_view (pool_view (admitted p.pool.capacity k e p.pool.entries) p.pool.capacity) p.files) → OnOk r (IsSome (held_at k q.pool.entries))
-held_kept (Ok x) p q k e kept = subst (λ z. IsSome (held_at k z.pool.entries)) (sym kept) (subst IsSome (sym (held_admitted p.pool.capacity k e p.pool.entries)) refl)
-held_kept (Err x) p q k e kept = tt
+-- a block that one of two pools holds is found
+pub found_first : (k : BlockKey) (ps ms : List (BlockKey × Entry)) → is_some (held_at k ps) ≡ true → IsSomeAnd (option_or (held_at k ps) (held_at k ms)) (λ _. ⊤)
+found_first k ps ms h = on (held_at k ps) h
+  where
+    on : (o : Option Entry) → is_some o ≡ true → IsSomeAnd (option_or o (held_at k ms)) (λ _. ⊤)
+    on None h = cc
+    on (Some e) h = tt
+
+pub found_second : (k : BlockKey) (ps ms : List (BlockKey × Entry)) → is_some (held_at k ms) ≡ true → IsSomeAnd (option_or (held_at k ps) (held_at k ms)) (λ _. ⊤)
+found_second k ps ms h = on (held_at k ps) (held_at k ms) h
+  where
+    on : (o p : Option Entry) → is_some p ≡ true → IsSomeAnd (option_or o p) (λ _. ⊤)
+    on None None h = cc
+    on None (Some e) h = tt
+    on (Some e) p h = tt
+
+-- where the first of two pools holds a block, that is found, and else that of the second
+pub found_there : (k : BlockKey) (ps ms : List (BlockKey × Entry)) (P : Entry → Type 0) → is_some (held_at k ps) ≡ true → IsSomeAnd (option_or (held_at k ps) (held_at k ms)) P → IsSomeAnd (held_at k ps) P
+found_there k ps ms P h = on (held_at k ps) h
+  where
+    on : (o : Option Entry) → is_some o ≡ true → IsSomeAnd (option_or o (held_at k ms)) P → IsSomeAnd o P
+    on None h found = cc
+    on (Some e) h found = found
+
+pub found_beside : (k : BlockKey) (ps ms : List (BlockKey × Entry)) (P : Entry → Type 0) → is_some (held_at k ps) ≡ false → IsSomeAnd (option_or (held_at k ps) (held_at k ms)) P → IsSomeAnd (held_at k ms) P
+found_beside k ps ms P h = on (held_at k ps) h
+  where
+    on : (o : Option Entry) → is_some o ≡ false → IsSomeAnd (option_or o (held_at k ms)) P → IsSomeAnd (held_at k ms) P
+    on None h found = found
+    on (Some e) h found = cc
+
+pub not_held : (k : BlockKey) (es : List (BlockKey × Entry)) → is_some (held_at k es) ≡ false → held_at k es ≡ None
+not_held k es h = on (held_at k es) h
+  where
+    on : (o : Option Entry) → is_some o ≡ false → o ≡ None
+    on None h = refl
+    on (Some e) h = cc
+
+held_some : (k : BlockKey) (es : List (BlockKey × Entry)) (e : Entry) → held_at k es ≡ Some e → is_some (held_at k es) ≡ true
+held_some k es e h = subst (λ o. is_some o ≡ true) (sym h) refl
+
+-- what was kept in the pool or beside it is held
+pub held_made : {T E File : Type 0} (r : Result T E) (p q : LaneView File) (k : BlockKey) (e : Entry) → OnOk r (IsKept k e p q) → OnOk r (IsHeldWith k q (λ _. ⊤))
+held_made (Ok x) p q k e kept = elim kept [
+  | inl u ↦ subst (λ z. IsHeldWith k z (λ _. ⊤)) (sym u) (found_first k (admitted p.pool.capacity k e p.pool.entries) p.made.entries (held_some k (admitted p.pool.capacity k e p.pool.entries) e (held_admitted p.pool.capacity k e p.pool.entries)))
+  | inr u ↦ subst (λ z. IsHeldWith k z (λ _. ⊤)) (sym u) (found_second k p.pool.entries (admitted p.made.capacity k e p.made.entries) (held_some k (admitted p.made.capacity k e p.made.entries) e (held_admitted p.made.capacity k e p.made.entries)))
+]
+held_made (Err x) p q k e kept = tt
+
+-- the same of the pool alone
+pub held_kept : {T E File : Type 0} (r : Result T E) (p q : LaneView File) (k : BlockKey) (e : Entry) → OnOk r (q ≡ lane_view (pool_view (admitted p.pool.capacity k e p.pool.entries) p.pool.capacity) p.files p.made) → OnOk r (IsHeldWith k q (λ _. ⊤))
+held_kept {T} {E} (Ok x) p q k e kept = held_made {T = T} {E = E} (Ok x) p q k e (inl kept)
+held_kept {T} {E} (Err x) p q k e kept = tt

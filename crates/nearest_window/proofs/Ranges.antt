@@ -18,13 +18,14 @@ use Rattle.band_blocks.specs.Contents.{IsOfBand}
 use Rattle.band_blocks.specs.Keys.{IsKeyOf}
 use Rattle.block_cache.specs.declared.pool.Entry.{Entry}
 use Rattle.block_cache.specs.Entries.{held_at}
-use Rattle.std.specs.Prelude.{IsSome, IfSome}
+use Rattle.std.specs.Option.{IsSomeAnd}
 use Rattle.nearest_window.specs.declared.picture.Picture.{Picture}
 use Rattle.nearest_window.specs.declared.targets.Piece.{Piece}
 use Rattle.nearest_window.specs.declared.taking.Taking.TheVariants as takings
 use Rattle.nearest_window.specs.declared.window.Window.{Window}
 use Rattle.nearest_window.specs.Painted.{IsPainted, IsFilled, in_columns}
 use Rattle.nearest_window.specs.Pictures.{from_block}
+use Rattle.nearest_window.specs.Lanes.{IsUsed, LaneView}
 use Rattle.nearest_window.specs.Right.{AreBlocks}
 use Rattle.mosaic_sources.specs.Pixels.{IsPixel}
 use Rattle.mosaic_sources.proofs.Following.{is_pixel}
@@ -75,22 +76,30 @@ rect_typed cat p piece rect d b old new file_is band_is key_of shape painted all
     painted
 
 module _ (told : Option Files) (cat : List Dataset) (p : Picture) (piece : Piece) (part : IsPartOf cat p piece) where
-  -- what is painted from a held block
-  pub block_typed : (es : List (BlockKey × Entry)) (old new : List ℤ) → AreBlocks told cat es → IsSome (held_at piece.key es)
-      → IfSome (held_at piece.key es) (λ e. IsPainted (in_columns p.stride (p.to + piece.area.column) (p.to + piece.area.column + piece.area.columns) (from_block e.block piece.rect p piece.area.column piece.area.line)) old new)
+  block_typed : (es : List (BlockKey × Entry)) (old new : List ℤ) → AreBlocks told cat es
+      → IsSomeAnd (held_at piece.key es) (λ e. IsPainted (in_columns p.stride (p.to + piece.area.column) (p.to + piece.area.column + piece.area.columns) (from_block e.block piece.rect p piece.area.column piece.area.line)) old new)
       → IsTyped cat p piece.area.column piece.area.columns old new
-  block_typed es old new all some painted = on (held_at piece.key es) refl some painted
+  block_typed es old new all painted = on (held_at piece.key es) refl painted
     where
-      on : (o : Option Entry) → held_at piece.key es ≡ o → IsSome o
-          → IfSome o (λ e. IsPainted (in_columns p.stride (p.to + piece.area.column) (p.to + piece.area.column + piece.area.columns) (from_block e.block piece.rect p piece.area.column piece.area.line)) old new)
+      on : (o : Option Entry) → held_at piece.key es ≡ o
+          → IsSomeAnd o (λ e. IsPainted (in_columns p.stride (p.to + piece.area.column) (p.to + piece.area.column + piece.area.columns) (from_block e.block piece.rect p piece.area.column piece.area.line)) old new)
           → IsTyped cat p piece.area.column piece.area.columns old new
-      on None h s q = cc
-      on (Some entry) h s q =
+      on None h q = absurd q
+      on (Some entry) h q =
           let block = is_block_held told cat piece.key entry es h all in
           let same : block.dataset ≡ part.dataset = some_same block.dataset part.dataset (sym block.in_range.at ∙ part.in_range.at) in
           let place : piece.rect ≡ block_rect_of block.dataset.head piece.key.block = part.rect_is ∙ ap (λ (d : Dataset). block_rect_of d.head piece.key.block) (sym same) in
           let shape : IsOfBand block.dataset piece.key.band piece.rect entry.block = subst (λ r. IsOfBand block.dataset piece.key.band r entry.block) (sym place) block.shape in
           rect_typed cat p piece piece.rect block.dataset entry.block old new part.file part.band block.in_range shape q
+
+  -- what is painted from a block that is held, in the pool or beside it
+  pub used_typed : {File : Type 0} (lane lane' : LaneView File) (old new : List ℤ) → AreBlocks told cat lane.pool.entries → AreBlocks told cat lane.made.entries
+      → IsUsed piece.key (λ e. IsPainted (in_columns p.stride (p.to + piece.area.column) (p.to + piece.area.column + piece.area.columns) (from_block e.block piece.rect p piece.area.column piece.area.line)) old new) lane lane'
+      → IsTyped cat p piece.area.column piece.area.columns old new
+  used_typed lane lane' old new pool made used = elim used [
+    | inl u ↦ block_typed lane.pool.entries old new pool u.0
+    | inr u ↦ block_typed lane.made.entries old new made u.0
+  ]
 
 -- no column is painted
 pub typed_begin : (cat : List Dataset) (p : Picture) (xs : List ℤ) → IsTyped cat p 0 0 xs xs

@@ -1,7 +1,7 @@
 -- What a held block shows.
 use Rattle.std.proofs.Common.{◌≡◌, ℕ, ◌+◌, ◌-◌, ◌*◌, ◌/◌, ◌%◌, ◌≤◌, ◌<◌, List, Option, Some, None, refl, sym, ap, ◌∙◌, inl, inr, length, arith, ℤ, pos, get_or}
-use Rattle.std.specs.Prelude.{IsSome, IfSome}
-use Rattle.std.specs.Option.{IsSomeAnd}
+use Rattle.std.specs.Prelude.{⊤}
+use Rattle.std.specs.Option.{IsSomeAnd, option_or}
 use Rattle.std.proofs.lemmas.Bool.{cases_lt}
 use Rattle.std.proofs.lemmas.Nat.{div-mul-add, mod-mul-add, div_below, mul-add-lt}
 use Rattle.std.proofs.lemmas.List.FromFn.{get_or-map-range_with_len, length-map-range_with_len, fill_by_all}
@@ -20,6 +20,7 @@ use Rattle.nearest_window.specs.declared.targets.Piece.{Piece}
 use Rattle.nearest_window.specs.Painted.{IsPainted, placed, in_columns}
 use Rattle.nearest_window.specs.Pictures.{from_block}
 use Rattle.band_blocks.specs.Contents.{IsBlock}
+use Rattle.nearest_window.specs.Lanes.{IsHeldWith, IsUsed, LaneView}
 use Rattle.nearest_window.specs.Right.{AreBlocks}
 use Rattle.nearest_window.specs.Shown.{IsPartOf, IsShown, shown}
 use Rattle.nearest_window.specs.Taken.{place_at, taken_by}
@@ -106,26 +107,36 @@ module _ (told : Option Files) (cat : List Dataset) (p : Picture) (piece : Piece
   size_of_block : (b : BlockView) → IsBlock told cat key b → length b.samples ≡ rect.w * rect.h
   size_of_block b h = h.shape.count ∙ ap (λ (d : Dataset). (block_rect_of d.head key.block).w * (block_rect_of d.head key.block).h) (same_dataset b h) ∙ sym (ap (λ (r : Rect). r.w * r.h) part.rect_is)
 
-  -- a held block has the rectangle's size
-  pub held_size : (es : List (BlockKey × Entry)) → AreBlocks told cat es → IsSome (held_at key es) → IsSomeAnd (held_at key es) (λ e. length e.block.samples ≡ rect.w * rect.h)
-  held_size es all some = on (held_at key es) refl some
+  -- a block that is held, in the pool or beside it, has the rectangle's size
+  pub held_sized : {File : Type 0} (lane : LaneView File) → AreBlocks told cat lane.pool.entries → AreBlocks told cat lane.made.entries → IsHeldWith key lane (λ _. ⊤) → IsHeldWith key lane (λ e. length e.block.samples ≡ rect.w * rect.h)
+  held_sized lane pool made held = on (held_at key lane.pool.entries) (held_at key lane.made.entries) refl refl held
     where
-      on : (o : Option Entry) → held_at key es ≡ o → IsSome o → IsSomeAnd o (λ e. length e.block.samples ≡ rect.w * rect.h)
-      on None h s = cc
-      on (Some e) h s = size_of_block e.block (is_block_held told cat key e es h all)
+      on : (o p : Option Entry) → held_at key lane.pool.entries ≡ o → held_at key lane.made.entries ≡ p → IsSomeAnd (option_or o p) (λ _. ⊤) → IsSomeAnd (option_or o p) (λ e. length e.block.samples ≡ rect.w * rect.h)
+      on None None g h s = absurd s
+      on None (Some e) g h s = size_of_block e.block (is_block_held told cat key e lane.made.entries h made)
+      on (Some e) p g h s = size_of_block e.block (is_block_held told cat key e lane.pool.entries g pool)
 
   pixels_are : (m : Files) → block_pixels m cat key.file key.band key.block ≡ row_by_row (pixel_of m cat key.file key.band) rect
   pixels_are m = ap (block_by m cat key.file key.band key.block) part.in_range.at ∙ ap (row_by_row (pixel_of m cat key.file key.band)) (sym part.rect_is)
 
-  pub block_shown : (es : List (BlockKey × Entry)) (old new : List ℤ) → AreBlocks told cat es → IsSome (held_at key es) → 0 < p.stride → length old ≤ lines * p.stride
-      → IfSome (held_at key es) (λ e. IsPainted (in_columns p.stride (p.to + column) (p.to + column + columns) (from_block e.block rect p column line)) old new)
+  block_shown : (es : List (BlockKey × Entry)) (old new : List ℤ) → AreBlocks told cat es → 0 < p.stride → length old ≤ lines * p.stride
+      → IsSomeAnd (held_at key es) (λ e. IsPainted (in_columns p.stride (p.to + column) (p.to + column + columns) (from_block e.block rect p column line)) old new)
       → IsShown told cat p column columns line old new
-  block_shown es old new all some grid size painted m e = on (held_at key es) refl some painted
+  block_shown es old new all grid size painted m e = on (held_at key es) refl painted
     where
-      on : (o : Option Entry) → held_at key es ≡ o → IsSome o
-          → IfSome o (λ e. IsPainted (in_columns p.stride (p.to + column) (p.to + column + columns) (from_block e.block rect p column line)) old new)
+      on : (o : Option Entry) → held_at key es ≡ o
+          → IsSomeAnd o (λ e. IsPainted (in_columns p.stride (p.to + column) (p.to + column + columns) (from_block e.block rect p column line)) old new)
           → IsPainted (in_columns p.stride (p.to + column) (p.to + column + columns) (shown m cat p column line)) old new
-      on None h s q = cc
-      on (Some entry) h s q =
+      on None h q = absurd q
+      on (Some entry) h q =
           let block = is_block_held told cat key entry es h all in
           rect_shown m cat key.file key.band rect p column columns line lines entry.block old new part.file part.band part.across part.down (block.content m e ∙ pixels_are m) grid size q
+
+  -- what is painted from a block that is held, in the pool or beside it
+  pub used_shown : {File : Type 0} (lane lane' : LaneView File) (old new : List ℤ) → AreBlocks told cat lane.pool.entries → AreBlocks told cat lane.made.entries → 0 < p.stride → length old ≤ lines * p.stride
+      → IsUsed key (λ e. IsPainted (in_columns p.stride (p.to + column) (p.to + column + columns) (from_block e.block rect p column line)) old new) lane lane'
+      → IsShown told cat p column columns line old new
+  used_shown lane lane' old new pool made grid size used = elim used [
+    | inl u ↦ block_shown lane.pool.entries old new pool grid size u.0
+    | inr u ↦ block_shown lane.made.entries old new made grid size u.0
+  ]

@@ -1,5 +1,5 @@
 -- How the service of a lane goes on from call to call.
-use Rattle.std.proofs.Common.{◌≡◌, ℕ, ◌+◌, ◌*◌, ◌≤◌, List, Option, None, refl, sym, ◌∙◌, subst, arith, Result, Ok, Err, OnOk, OnErr}
+use Rattle.std.proofs.Common.{◌≡◌, inl, inr, ℕ, ◌+◌, ◌*◌, ◌≤◌, List, Option, None, refl, sym, ◌∙◌, subst, arith, Result, Ok, Err, OnOk, OnErr}
 use Rattle.outside.specs.Outside.{Files}
 use Rattle.catalog.specs.Drivers.{Dataset}
 use Rattle.catalog.specs.Blocks.{all_blocks}
@@ -10,17 +10,13 @@ use Rattle.band_blocks.specs.Open.{AreGood}
 use Rattle.block_cache.specs.declared.pool.Entry.{Entry}
 use Rattle.block_cache.specs.Entries.{PoolView, moved_to_front, admitted, held_at, IsPool, pool_view}
 use Rattle.nearest_window.specs.Right.{AreBlocks, IsReady, IsRight, LaneState, lane_state, Serves, slack_of, state_of}
-use Rattle.nearest_window.specs.Lanes.{LaneView, lane_view}
+use Rattle.nearest_window.specs.Lanes.{IsKept, IsUsed, LaneView, lane_view}
 use Rattle.outside.specs.declared.folder.Folder.{Ghosts}
 use Rattle.nearest_window.proofs.Keys.{length_moved, are_blocks_moved, are_blocks_admitted, length_admitted, length_admitted_new}
 use Rattle.nearest_window.proofs.Counting.{room_for_one}
 
 module _ {File : Type 0} (bytes : File → Option (List ℕ)) (len : File → ℕ) (cat : List Dataset) where
-  -- the held blocks of a right lane
-  pub held_blocks : (told : Option Files) (pool : PoolView) (files : List (ℕ × File)) → IsRight bytes len told cat pool files → AreBlocks told cat pool.entries
-  held_blocks told pool files right = right.blocks
-
-  pub serves_refl : (s : LaneState File) → IsRight bytes len s.told cat s.pool s.files → Serves bytes len cat 0 s s
+  pub serves_refl : (s : LaneState File) → IsRight bytes len s.told cat s.pool s.files s.made → Serves bytes len cat 0 s s
   serves_refl s r = record { right = r; told = refl; writes = refl; capacity = refl; faults = omega arith; loads = omega arith; reads = omega arith; held = omega arith; bound = λ _. omega arith }
 
   pub serves_trans : (k : ℕ) (s t u : LaneState File) → Serves bytes len cat 0 s t → Serves bytes len cat k t u → Serves bytes len cat k s u
@@ -49,10 +45,10 @@ module _ {File : Type 0} (bytes : File → Option (List ℕ)) (len : File → �
     bound = λ h. let p = a.bound h in omega arith;
   }
 
-  pub serves_moved : (told : Option Files) (p : PoolView) (fs : List (ℕ × File)) (f r w l : ℕ) (k : BlockKey) → IsRight bytes len told cat p fs → IsPool (pool_view (moved_to_front k p.entries) p.capacity)
-      → Serves bytes len cat 0 (lane_state told p fs f r w l) (lane_state told (pool_view (moved_to_front k p.entries) p.capacity) fs f r w l)
-  serves_moved told p fs f r w l k right valid = let e = length_moved k p.entries in record {
-    right = record { valid = valid; blocks = are_blocks_moved told cat k p.entries right.blocks; good = right.good };
+  pub serves_moved : (told : Option Files) (p : PoolView) (fs : List (ℕ × File)) (b : PoolView) (f r w l : ℕ) (k : BlockKey) → IsRight bytes len told cat p fs b → IsPool (pool_view (moved_to_front k p.entries) p.capacity)
+      → Serves bytes len cat 0 (lane_state told p fs b f r w l) (lane_state told (pool_view (moved_to_front k p.entries) p.capacity) fs b f r w l)
+  serves_moved told p fs b f r w l k right valid = let e = length_moved k p.entries in record {
+    right = record { valid = valid; blocks = are_blocks_moved told cat k p.entries right.blocks; good = right.good; made_valid = right.made_valid; remembered = right.remembered };
     told = refl;
     writes = refl;
     capacity = refl;
@@ -63,10 +59,10 @@ module _ {File : Type 0} (bytes : File → Option (List ℕ)) (len : File → �
     bound = λ _. omega arith;
   }
 
-  serves_admitted : (told : Option Files) (p : PoolView) (fs : List (ℕ × File)) (f r w l : ℕ) (k : BlockKey) (e : Entry) → IsRight bytes len told cat p fs → IsBlock told cat k e.block → IsPool (pool_view (admitted p.capacity k e p.entries) p.capacity)
-      → Serves bytes len cat 0 (lane_state told p fs f r w l) (lane_state told (pool_view (admitted p.capacity k e p.entries) p.capacity) fs f r w l)
-  serves_admitted told p fs f r w l k e right new valid = let more = length_admitted p.capacity k e p.entries right.valid.within right.valid.some in record {
-    right = record { valid = valid; blocks = are_blocks_admitted told cat p.capacity k e p.entries new right.blocks; good = right.good };
+  serves_admitted : (told : Option Files) (p : PoolView) (fs : List (ℕ × File)) (b : PoolView) (f r w l : ℕ) (k : BlockKey) (e : Entry) → IsRight bytes len told cat p fs b → IsBlock told cat k e.block → IsPool (pool_view (admitted p.capacity k e p.entries) p.capacity)
+      → Serves bytes len cat 0 (lane_state told p fs b f r w l) (lane_state told (pool_view (admitted p.capacity k e p.entries) p.capacity) fs b f r w l)
+  serves_admitted told p fs b f r w l k e right new valid = let more = length_admitted p.capacity k e p.entries right.valid.within right.valid.some in record {
+    right = record { valid = valid; blocks = are_blocks_admitted told cat p.capacity k e p.entries new right.blocks; good = right.good; made_valid = right.made_valid; remembered = right.remembered };
     told = refl;
     writes = refl;
     capacity = refl;
@@ -77,16 +73,52 @@ module _ {File : Type 0} (bytes : File → Option (List ℕ)) (len : File → �
     bound = λ _. omega arith;
   }
 
-  -- a block is kept, or memory was refused
-  pub serves_keep : {T E : Type 0} (r : Result T E) (told : Option Files) (p q : LaneView File) (f n w l : ℕ) (k : BlockKey) (e : Entry) → IsRight bytes len told cat p.pool p.files → IsBlock told cat k e.block
-      → OnOk r (q ≡ lane_view (pool_view (admitted p.pool.capacity k e p.pool.entries) p.pool.capacity) p.files) → OnErr r (q ≡ p) → IsPool q.pool
-      → Serves bytes len cat (slack_of r) (lane_state told p.pool p.files f n w l) (lane_state told q.pool q.files f n w l)
-  serves_keep (Ok v) told p q f n w l k e right new kept refused valid =
-      subst (λ (q : LaneView File). Serves bytes len cat 0 (lane_state told p.pool p.files f n w l) (lane_state told q.pool q.files f n w l)) (sym kept)
-      (serves_admitted told p.pool p.files f n w l k e right new (subst (λ (q : LaneView File). IsPool q.pool) kept valid))
-  serves_keep (Err d) told p q f n w l k e right new kept refused valid =
-      subst (λ (q : LaneView File). Serves bytes len cat 1 (lane_state told p.pool p.files f n w l) (lane_state told q.pool q.files f n w l)) (sym refused)
-      (serves_slack (lane_state told p.pool p.files f n w l) (lane_state told p.pool p.files f n w l) (serves_refl (lane_state told p.pool p.files f n w l) right))
+  -- what is remembered changes, and the pool doesn't
+  serves_beside : (told : Option Files) (p : PoolView) (fs : List (ℕ × File)) (b b' : PoolView) (f r w l : ℕ) → IsRight bytes len told cat p fs b → IsPool b' → AreBlocks told cat b'.entries
+      → Serves bytes len cat 0 (lane_state told p fs b f r w l) (lane_state told p fs b' f r w l)
+  serves_beside told p fs b b' f r w l right valid blocks = record {
+    right = record { valid = right.valid; blocks = right.blocks; good = right.good; made_valid = valid; remembered = blocks };
+    told = refl;
+    writes = refl;
+    capacity = refl;
+    faults = omega arith;
+    loads = omega arith;
+    reads = omega arith;
+    held = omega arith;
+    bound = λ _. omega arith;
+  }
+
+  -- a block is used, in the pool or beside it
+  pub serves_used : (told : Option Files) (p q : LaneView File) (f n w l : ℕ) (k : BlockKey) (P : Entry → Type 0) → IsRight bytes len told cat p.pool p.files p.made → IsUsed k P p q → IsPool q.pool → IsPool q.made
+      → Serves bytes len cat 0 (lane_state told p.pool p.files p.made f n w l) (lane_state told q.pool q.files q.made f n w l)
+  serves_used told p q f n w l k P right used valid made_valid = elim used [
+    | inl u ↦
+        subst (λ (q : LaneView File). Serves bytes len cat 0 (lane_state told p.pool p.files p.made f n w l) (lane_state told q.pool q.files q.made f n w l)) (sym u.1)
+        (serves_moved told p.pool p.files p.made f n w l k right (subst (λ (q : LaneView File). IsPool q.pool) u.1 valid))
+    | inr u ↦
+        subst (λ (q : LaneView File). Serves bytes len cat 0 (lane_state told p.pool p.files p.made f n w l) (lane_state told q.pool q.files q.made f n w l)) (sym u.1)
+        (serves_beside told p.pool p.files p.made (pool_view (moved_to_front k p.made.entries) p.made.capacity) f n w l right (subst (λ (q : LaneView File). IsPool q.made) u.1 made_valid) (are_blocks_moved told cat k p.made.entries right.remembered))
+  ]
+
+  serves_kept : (told : Option Files) (p q : LaneView File) (f n w l : ℕ) (k : BlockKey) (e : Entry) → IsRight bytes len told cat p.pool p.files p.made → IsBlock told cat k e.block → IsKept k e p q → IsPool q.pool → IsPool q.made
+      → Serves bytes len cat 0 (lane_state told p.pool p.files p.made f n w l) (lane_state told q.pool q.files q.made f n w l)
+  serves_kept told p q f n w l k e right new kept valid made_valid = elim kept [
+    | inl u ↦
+        subst (λ (q : LaneView File). Serves bytes len cat 0 (lane_state told p.pool p.files p.made f n w l) (lane_state told q.pool q.files q.made f n w l)) (sym u)
+        (serves_admitted told p.pool p.files p.made f n w l k e right new (subst (λ (q : LaneView File). IsPool q.pool) u valid))
+    | inr u ↦
+        subst (λ (q : LaneView File). Serves bytes len cat 0 (lane_state told p.pool p.files p.made f n w l) (lane_state told q.pool q.files q.made f n w l)) (sym u)
+        (serves_beside told p.pool p.files p.made (pool_view (admitted p.made.capacity k e p.made.entries) p.made.capacity) f n w l right (subst (λ (q : LaneView File). IsPool q.made) u made_valid) (are_blocks_admitted told cat p.made.capacity k e p.made.entries new right.remembered))
+  ]
+
+  -- a block of a mosaic is kept, or memory was refused
+  pub serves_keep : {T E : Type 0} (r : Result T E) (told : Option Files) (p q : LaneView File) (f n w l : ℕ) (k : BlockKey) (e : Entry) → IsRight bytes len told cat p.pool p.files p.made → IsBlock told cat k e.block
+      → OnOk r (IsKept k e p q) → OnErr r (q ≡ p) → IsPool q.pool → IsPool q.made
+      → Serves bytes len cat (slack_of r) (lane_state told p.pool p.files p.made f n w l) (lane_state told q.pool q.files q.made f n w l)
+  serves_keep (Ok v) told p q f n w l k e right new kept refused valid made_valid = serves_kept told p q f n w l k e right new kept valid made_valid
+  serves_keep (Err d) told p q f n w l k e right new kept refused valid made_valid =
+      subst (λ (q : LaneView File). Serves bytes len cat 1 (lane_state told p.pool p.files p.made f n w l) (lane_state told q.pool q.files q.made f n w l)) (sym refused)
+      (serves_slack (lane_state told p.pool p.files p.made f n w l) (lane_state told p.pool p.files p.made f n w l) (serves_refl (lane_state told p.pool p.files p.made f n w l) right))
 
   are_blocks_told : (told told' : Option Files) (es : List (BlockKey × Entry)) → told' ≡ told → AreBlocks told cat es → AreBlocks told' cat es
   are_blocks_told told told' es e h = subst (λ t. AreBlocks t cat es) (sym e) h
@@ -95,10 +127,10 @@ module _ {File : Type 0} (bytes : File → Option (List ℕ)) (len : File → �
   one_load n n' l h = let e : most_calls cat * (l + 1) ≡ most_calls cat * l + most_calls cat = grind arith in omega arith
 
   -- a load was refused
-  pub serves_refused : (told told' : Option Files) (p : PoolView) (fs fs' : List (ℕ × File)) (f f' n n' w w' l : ℕ) → IsRight bytes len told cat p fs → told' ≡ told → w' ≡ w → AreGood bytes len told' cat fs' → f ≤ f' → n' ≤ n + most_calls cat
-      → Serves bytes len cat 1 (lane_state told p fs f n w l) (lane_state told' p fs' f' n' w' (l + 1))
-  serves_refused told told' p fs fs' f f' n n' w w' l right same unwritten good faults reads = record {
-    right = record { valid = right.valid; blocks = are_blocks_told told told' p.entries same right.blocks; good = good };
+  pub serves_refused : (told told' : Option Files) (p : PoolView) (fs fs' : List (ℕ × File)) (b : PoolView) (f f' n n' w w' l : ℕ) → IsRight bytes len told cat p fs b → told' ≡ told → w' ≡ w → AreGood bytes len told' cat fs' → f ≤ f' → n' ≤ n + most_calls cat
+      → Serves bytes len cat 1 (lane_state told p fs b f n w l) (lane_state told' p fs' b f' n' w' (l + 1))
+  serves_refused told told' p fs fs' b f f' n n' w w' l right same unwritten good faults reads = record {
+    right = record { valid = right.valid; blocks = are_blocks_told told told' p.entries same right.blocks; good = good; made_valid = right.made_valid; remembered = are_blocks_told told told' b.entries same right.remembered };
     told = same;
     writes = unwritten;
     capacity = refl;
@@ -110,14 +142,14 @@ module _ {File : Type 0} (bytes : File → Option (List ℕ)) (len : File → �
   }
 
   -- a file's block was loaded, and then kept, or memory was refused
-  pub serves_load : {T E : Type 0} (r : Result T E) (told told' : Option Files) (p : PoolView) (fs fs' : List (ℕ × File)) (q : LaneView File) (f f' n n' w w' l : ℕ) (k : BlockKey) (d : Dataset) (e : Entry)
-      → IsRight bytes len told cat p fs → IsKeyOf cat k d → held_at k p.entries ≡ None
+  pub serves_load : {T E : Type 0} (r : Result T E) (told told' : Option Files) (p : PoolView) (fs fs' : List (ℕ × File)) (b : PoolView) (q : LaneView File) (f f' n n' w w' l : ℕ) (k : BlockKey) (d : Dataset) (e : Entry)
+      → IsRight bytes len told cat p fs b → IsKeyOf cat k d → held_at k p.entries ≡ None
       → told' ≡ told → w' ≡ w → AreGood bytes len told' cat fs' → f ≤ f' → n' ≤ n + most_calls cat → IsBlock told' cat k e.block
-      → OnOk r (q ≡ lane_view (pool_view (admitted p.capacity k e p.entries) p.capacity) fs') → OnErr r (q ≡ lane_view p fs') → IsPool q.pool
-      → Serves bytes len cat (slack_of r) (lane_state told p fs f n w l) (lane_state told' q.pool q.files f' n' w' (l + 1))
-  serves_load (Ok v) told told' p fs fs' q f f' n n' w w' l k d e right key absent same unwritten good faults reads new kept refused valid =
-      subst (λ (q : LaneView File). Serves bytes len cat 0 (lane_state told p fs f n w l) (lane_state told' q.pool q.files f' n' w' (l + 1))) (sym kept) (record {
-        right = record { valid = subst (λ (q : LaneView File). IsPool q.pool) kept valid; blocks = are_blocks_admitted told' cat p.capacity k e p.entries new (are_blocks_told told told' p.entries same right.blocks); good = good };
+      → OnOk r (q ≡ lane_view (pool_view (admitted p.capacity k e p.entries) p.capacity) fs' b) → OnErr r (q ≡ lane_view p fs' b) → IsPool q.pool
+      → Serves bytes len cat (slack_of r) (lane_state told p fs b f n w l) (lane_state told' q.pool q.files q.made f' n' w' (l + 1))
+  serves_load (Ok v) told told' p fs fs' b q f f' n n' w w' l k d e right key absent same unwritten good faults reads new kept refused valid =
+      subst (λ (q : LaneView File). Serves bytes len cat 0 (lane_state told p fs b f n w l) (lane_state told' q.pool q.files q.made f' n' w' (l + 1))) (sym kept) (record {
+        right = record { valid = subst (λ (q : LaneView File). IsPool q.pool) kept valid; blocks = are_blocks_admitted told' cat p.capacity k e p.entries new (are_blocks_told told told' p.entries same right.blocks); good = good; made_valid = right.made_valid; remembered = are_blocks_told told told' b.entries same right.remembered };
         told = same;
         writes = unwritten;
         capacity = refl;
@@ -127,8 +159,8 @@ module _ {File : Type 0} (bytes : File → Option (List ℕ)) (len : File → �
         held = length_admitted p.capacity k e p.entries right.valid.within right.valid.some;
         bound = λ h. let room = room_for_one told cat k d p right.valid right.blocks key absent in let m = length_admitted_new p.capacity k e p.entries absent (omega arith) in omega arith;
       })
-  serves_load (Err d') told told' p fs fs' q f f' n n' w w' l k d e right key absent same unwritten good faults reads new kept refused valid =
-      subst (λ (q : LaneView File). Serves bytes len cat 1 (lane_state told p fs f n w l) (lane_state told' q.pool q.files f' n' w' (l + 1))) (sym refused) (serves_refused told told' p fs fs' f f' n n' w w' l right same unwritten good faults reads)
+  serves_load (Err d') told told' p fs fs' b q f f' n n' w w' l k d e right key absent same unwritten good faults reads new kept refused valid =
+      subst (λ (q : LaneView File). Serves bytes len cat 1 (lane_state told p fs b f n w l) (lane_state told' q.pool q.files q.made f' n' w' (l + 1))) (sym refused) (serves_refused told told' p fs fs' b f f' n n' w w' l right same unwritten good faults reads)
 
 -- a lane that was ready is ready after what served
 pub ready_then : {F File Draft : Type 0} (calls : Ghosts F File Draft) (cat : List Dataset) (slack : ℕ) (folder folder' : F) (lane lane' : LaneView File) (loads loads' : ℕ) → IsReady calls folder cat lane

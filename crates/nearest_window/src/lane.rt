@@ -1,5 +1,5 @@
 // A lane: a pool of blocks and open files, through which windows of pixels are read.
-ghost use Rattle.std.specs.Prelude.{◌≡◌, ℕ, ◌+◌, ◌*◌, ◌^◌, ◌<◌, ◌≤◌, List, [], Some, None, length, IfErr, IfOk, OnOk, OnErr, IfSome, IsSome, is_some, false, slice_get};
+ghost use Rattle.std.specs.Prelude.{◌≡◌, ⊤, ℕ, ◌+◌, ◌*◌, ◌^◌, ◌<◌, ◌≤◌, List, [], Some, None, length, IfErr, IfOk, OnOk, OnErr, IfSome, IsSome, is_some, false, true, slice_get};
 ghost use Rattle.std.specs.Option.{IsSomeAnd};
 ghost use Rattle.outside.specs.Causes.{HasCause};
 ghost use Rattle.outside.specs.Reading.{WhereTold};
@@ -9,7 +9,7 @@ ghost use Rattle.band_blocks.specs.Keys.{IsKey};
 ghost use Rattle.band_blocks.specs.Open.{IsUnchanged};
 ghost use Rattle.block_cache.specs.Entries.{pool_view, entry_of, held_at, moved_to_front, admitted, IsPool};
 ghost use Rattle.nearest_window.specs.Canvases.{IsCanvas, IsSourceTaken};
-ghost use Rattle.nearest_window.specs.Lanes.{LaneView, lane_view, held_in, room_of};
+ghost use Rattle.nearest_window.specs.Lanes.{IsHeldWith, IsKept, IsUsed, LaneView, lane_view, held_in, room_of};
 ghost use Rattle.nearest_window.specs.Painted.{IsPainted, in_columns};
 ghost use Rattle.nearest_window.specs.Pictures.{IsPicture, from_block};
 ghost use Rattle.nearest_window.specs.Right.{IsFresh, IsPartBlock, IsReady, IsRight, IsFileKey, IsMosaicKey, Served, TellsChangeIn};
@@ -19,7 +19,7 @@ ghost use Rattle.nearest_window.specs.Taken.{place_at};
 use crate::asking::{Asked, asked_of};
 use crate::canvas::{Canvas, is_wanted};
 use crate::paint::paint_rows;
-use crate::parts::{Part, small_part};
+use crate::parts::{Part, cost_of, part_of};
 use crate::picture::Picture;
 use crate::places::Span;
 use crate::taking::taking_of;
@@ -34,11 +34,43 @@ use std::marker::Model;
 use std::sync::ledger::Ledger;
 use vrt_profile::VrtBand;
 
+// At most so many blocks of mosaics are remembered beside a full pool.
+const MOST_MADE: u32 = 1024;
+
+// So many pixels a window may fill before it makes blocks in place of parts, besides eight times its own.
+const ALONE: u64 = 131_072;
+
+const TIMES_ITS_OWN: u64 = 8;
+
 /// A pool of blocks and a list of open files, through which pixels of files and of mosaics are read.
 #[derive(Drop)]
 pub struct Lane<F: Folder> {
     pool: Pool,
     files: OpenFiles<F>,
+    // Blocks of mosaics that were made while the pool was full.
+    made: Pool,
+    // So many pixels may still be filled in this call before blocks are made in place of parts.
+    left: u64,
+}
+
+// Paints a piece of a picture over the rows of `out`, from the block of a pool that has its pixels.
+fn paint_from(pool: &mut Pool, picture: &Picture, piece: Piece, out: &mut [Sample])
+    requires held { IsSomeAnd (held_at piece.key pool.old.entries) (λ e. length e.block.samples ≡ piece.rect.w * piece.rect.h) }
+    requires picture { IsPicture picture.now }
+    requires area { IsAreaOf picture.now piece.area }
+    requires rows { length out.old ≡ piece.area.lines * picture.now.stride }
+    requires across { (k : ℕ) → piece.area.column ≤ k → k < piece.area.column + piece.area.columns → (piece.rect.x ≤ place_at picture.now.columns k) × (place_at picture.now.columns k < piece.rect.x + piece.rect.w) }
+    requires down { (k : ℕ) → piece.area.line ≤ k → k < piece.area.line + piece.area.lines → (piece.rect.y ≤ place_at picture.now.lines k) × (place_at picture.now.lines k < piece.rect.y + piece.rect.h) }
+    ensures entries { pool.new ≡ pool_view (moved_to_front piece.key pool.old.entries) pool.old.capacity }
+    ensures valid { IsPool pool.new }
+    ensures painted { IsSomeAnd (held_at piece.key pool.old.entries) (λ e. IsPainted (in_columns picture.now.stride (picture.now.to + piece.area.column) (picture.now.to + piece.area.column + piece.area.columns) (from_block e.block piece.rect picture.now piece.area.column piece.area.line)) out.old out.new) }
+{
+    let Some(block) = pool.find(&piece.key) else {
+        unreachable!();
+    };
+    paint_rows(block, piece.rect, picture, piece.area, out);
+    // This call is made for the proof: it says what holds of every pool.
+    let _held = pool.held();
 }
 
 impl<F: Folder> Model for Lane<F> {
@@ -47,7 +79,7 @@ impl<F: Folder> Model for Lane<F> {
 
     ghost Value = { LaneView F.File };
 
-    ghost view = { λ l. lane_view l.pool l.files };
+    ghost view = { λ l. lane_view l.pool l.files l.made };
 }
 
 impl<F: Folder> Lane<F> {
@@ -55,15 +87,22 @@ impl<F: Folder> Lane<F> {
     pub fn new(alloc: Global, capacity: u32) -> Result<Lane<F>, AllocError>
         requires some { 1 ≤ capacity }
         requires few { capacity ≤ 65536 }
-        ensures empty { IfOk result (λ lane. lane ≡ lane_view (pool_view [] capacity) []) }
-        ensures right { IfOk result (λ lane. (told : _) (cat : List Dataset) → IsRight F.file_bytes F.file_len told cat lane.pool lane.files) }
+        ensures empty { IfOk result (λ lane. lane ≡ lane_view (pool_view [] capacity) [] (pool_view [] 1024)) }
+        ensures right { IfOk result (λ lane. (told : _) (cat : List Dataset) → IsRight F.file_bytes F.file_len told cat lane.pool lane.files lane.made) }
         ensures fresh { IfOk result (λ lane. IsFresh F.Folder lane) }
     {
         let pool = Pool::new(alloc, capacity)?;
+        let made = Pool::new(alloc, MOST_MADE)?;
         let files = OpenFiles::new(alloc)?;
-        // This call is made for the proof: it says what holds of every pool.
+        // These calls are made for the proof: they say what holds of every pool.
         let _held = pool.held();
-        Ok(Lane { pool, files })
+        let _made = made.held();
+        Ok(Lane {
+            pool,
+            files,
+            made,
+            left: 0,
+        })
     }
 
     /// The number of blocks that are held.
@@ -73,16 +112,41 @@ impl<F: Folder> Lane<F> {
         self.pool.held()
     }
 
-    // Whether a block is held.
-    fn holds(&self, key: &BlockKey) -> bool
-        ensures held { result ≡ is_some (held_at key.now self.now.pool.entries) }
+    // Begins a call that gives so many pixels.
+    fn begin(&mut self, pixels: usize)
+        ensures same { self.new ≡ self.old }
     {
-        self.pool.holds(key)
+        let more = (pixels as u64).saturating_mul(TIMES_ITS_OWN);
+        self.left = more.saturating_add(ALONE);
+    }
+
+    // Counts the pixels of a rectangle that is filled.
+    fn spend(&mut self, rect: Rect)
+        ensures same { self.new ≡ self.old }
+    {
+        self.left = self.left.saturating_sub(cost_of(rect));
+    }
+
+    // Whether the pool is full.
+    fn is_full(&self) -> bool {
+        self.held() >= self.pool.capacity()
+    }
+
+    // Whether a block is held, in the pool or beside it.
+    #[tactic(auto, using(crate::proofs::Keys::found_first, crate::proofs::Keys::found_second, crate::proofs::Keys::not_held))]
+    fn holds(&self, key: &BlockKey) -> bool
+        ensures absent { result ≡ false → held_at key.now self.now.pool.entries ≡ None }
+        ensures held { result ≡ true → IsHeldWith key.now self.now (λ _. ⊤) }
+    {
+        if self.pool.holds(key) {
+            return true;
+        }
+        self.made.holds(key)
     }
 
     // Keeps a block in the pool.
     fn keep(&mut self, key: BlockKey, block: Block) -> Result<(), LoadFault>
-        ensures kept { OnOk result (self.new ≡ lane_view (pool_view (admitted (room_of self.old) key (entry_of block false) self.old.pool.entries) (room_of self.old)) self.old.files) }
+        ensures kept { OnOk result (self.new ≡ lane_view (pool_view (admitted (room_of self.old) key (entry_of block false) self.old.pool.entries) (room_of self.old)) self.old.files self.old.made) }
         ensures refused { OnErr result (self.new ≡ self.old) }
         ensures memory { IfErr result (λ e. e ≡ LoadFault.Memory) }
         ensures valid { IsPool self.new.pool }
@@ -93,24 +157,57 @@ impl<F: Folder> Lane<F> {
         }
     }
 
-    // Paints a piece of a picture over the rows of `out`, from the held block that has its pixels.
+    // Keeps a block of a mosaic beside the pool.
+    fn remember(&mut self, key: BlockKey, block: Block) -> Result<(), LoadFault>
+        ensures kept { OnOk result (self.new ≡ lane_view self.old.pool self.old.files (pool_view (admitted self.old.made.capacity key (entry_of block false) self.old.made.entries) self.old.made.capacity)) }
+        ensures refused { OnErr result (self.new ≡ self.old) }
+        ensures memory { IfErr result (λ e. e ≡ LoadFault.Memory) }
+        ensures valid { IsPool self.new.made }
+    {
+        match self.made.admit(key, block, false) {
+            Ok(_) => return Ok(()),
+            Err(_) => return Err(LoadFault::Memory),
+        }
+    }
+
+    // Keeps a block of a mosaic: in the pool while that isn't full, else beside it, so that it pushes no block
+    // of a file out.
+    fn keep_made(&mut self, key: BlockKey, block: Block) -> Result<(), LoadFault>
+        requires valid { IsPool self.old.pool }
+        requires made_valid { IsPool self.old.made }
+        ensures kept { OnOk result (IsKept key (entry_of block false) self.old self.new) }
+        ensures refused { OnErr result (self.new ≡ self.old) }
+        ensures memory { IfErr result (λ e. e ≡ LoadFault.Memory) }
+        ensures valid { IsPool self.new.pool }
+        ensures made_valid { IsPool self.new.made }
+    {
+        if self.is_full() {
+            return self.remember(key, block);
+        }
+        self.keep(key, block)
+    }
+
+    // Paints a piece of a picture over the rows of `out`, from the block that has its pixels, which is held in the
+    // pool or beside it.
+    #[tactic(auto, using(crate::proofs::Keys::found_there, crate::proofs::Keys::found_beside))]
     fn paint_held(&mut self, picture: &Picture, piece: Piece, out: &mut [Sample])
-        requires held { IsSomeAnd (held_at piece.key self.old.pool.entries) (λ e. length e.block.samples ≡ piece.rect.w * piece.rect.h) }
+        requires held { IsHeldWith piece.key self.old (λ e. length e.block.samples ≡ piece.rect.w * piece.rect.h) }
         requires picture { IsPicture picture.now }
         requires area { IsAreaOf picture.now piece.area }
         requires rows { length out.old ≡ piece.area.lines * picture.now.stride }
         requires across { (k : ℕ) → piece.area.column ≤ k → k < piece.area.column + piece.area.columns → (piece.rect.x ≤ place_at picture.now.columns k) × (place_at picture.now.columns k < piece.rect.x + piece.rect.w) }
         requires down { (k : ℕ) → piece.area.line ≤ k → k < piece.area.line + piece.area.lines → (piece.rect.y ≤ place_at picture.now.lines k) × (place_at picture.now.lines k < piece.rect.y + piece.rect.h) }
-        ensures entries { self.new ≡ lane_view (pool_view (moved_to_front piece.key self.old.pool.entries) (room_of self.old)) self.old.files }
+        ensures used { IsUsed piece.key (λ e. IsPainted (in_columns picture.now.stride (picture.now.to + piece.area.column) (picture.now.to + piece.area.column + piece.area.columns) (from_block e.block piece.rect picture.now piece.area.column piece.area.line)) out.old out.new) self.old self.new }
         ensures valid { IsPool self.new.pool }
-        ensures painted { IfSome (held_at piece.key self.old.pool.entries) (λ e. IsPainted (in_columns picture.now.stride (picture.now.to + piece.area.column) (picture.now.to + piece.area.column + piece.area.columns) (from_block e.block piece.rect picture.now piece.area.column piece.area.line)) out.old out.new) }
+        ensures made_valid { IsPool self.new.made }
     {
-        let Some(block) = self.pool.find(&piece.key) else {
-            unreachable!();
-        };
-        paint_rows(block, piece.rect, picture, piece.area, out);
-        // This call is made for the proof: it says what holds of every pool.
+        // These calls are made for the proof: they say what holds of every pool.
         let _held = self.pool.held();
+        let _made = self.made.held();
+        if self.pool.holds(&piece.key) {
+            return paint_from(&mut self.pool, picture, piece, out);
+        }
+        paint_from(&mut self.made, picture, piece, out)
     }
 
     // Loads a block of a file that isn't held, and keeps it.
@@ -129,7 +226,7 @@ impl<F: Folder> Lane<F> {
         ensures cause { HasCause LoadFault.FolderFault (F.faults folder.old) (F.faults folder.new) result }
         ensures changed { IfErr result (TellsChangeIn cat.now) }
         ensures never { WhereTold F.Folder folder.old (λ _. IfErr result IsUnchanged) }
-        ensures held { OnOk result (IsSome (held_at key self.new.pool.entries)) }
+        ensures held { OnOk result (IsHeldWith key self.new (λ _. ⊤)) }
     {
         let block = load_block(alloc, cat, folder, &mut self.files, key, loads)?;
         self.keep(key, block)
@@ -151,7 +248,7 @@ impl<F: Folder> Lane<F> {
         ensures cause { HasCause LoadFault.FolderFault (F.faults folder.old) (F.faults folder.new) result }
         ensures changed { IfErr result (TellsChangeIn cat.now) }
         ensures never { WhereTold F.Folder folder.old (λ _. IfErr result IsUnchanged) }
-        ensures held { OnOk result (IsSome (held_at key self.new.pool.entries)) }
+        ensures held { OnOk result (IsHeldWith key self.new (λ _. ⊤)) }
     {
         if self.holds(&key) {
             return Ok(());
@@ -161,7 +258,7 @@ impl<F: Folder> Lane<F> {
             Some(band) => {
                 let rect = mosaic_rect(cat, key);
                 let block = self.fill(alloc, cat, folder, key, band, rect, loads)?;
-                return self.keep(key, block);
+                return self.keep_made(key, block);
             }
         }
     }
@@ -193,6 +290,7 @@ impl<F: Folder> Lane<F> {
         // This call is made for the proof: it says what holds of every catalog.
         let _count = cat.count();
         band.rules();
+        self.spend(rect);
         let mut canvas = Canvas::of(alloc, rect, band.kind);
         let mut number = band.sources.len();
         while is_wanted(number, &canvas) {
@@ -249,7 +347,7 @@ impl<F: Folder> Lane<F> {
 
     // Paints a picture over its rows, one row of blocks after the other.
     #[cycle(read)]
-    pub(crate) fn paint_picture<L: Ledger>(
+    fn paint_picture<L: Ledger>(
         &mut self,
         alloc: Global,
         cat: &Catalog,
@@ -330,18 +428,18 @@ impl<F: Folder> Lane<F> {
         Ok(())
     }
 
-    // The part of a block that is painted without the block: a small one of a mosaic, where the pool doesn't
-    // hold the block and has no room for it.
+    // The part of a block that is painted without the block: that of a mosaic, where no block is held and the pool
+    // has no room for it, as long as the call may paint pixels so.
     fn lone_part<'a>(&self, cat: &'a Catalog, picture: &Picture, piece: Piece) -> Option<Part<'a>>
         requires picture { IsPictureOf cat.now picture.now }
         requires piece { IsPartOf cat.now picture.now piece }
         requires area { IsAreaOf picture.now piece.area }
         ensures part { IfSome result (λ p. IsLonePart cat.now picture.now piece p.band.now p.rect) }
     {
-        if self.pool.held() < self.pool.capacity() || self.pool.holds(&piece.key) {
+        if self.left == 0 || !self.is_full() || self.holds(&piece.key) {
             return None;
         }
-        small_part(cat, picture, piece)
+        part_of(cat, picture, piece)
     }
 
     // Paints a piece of a picture.
@@ -377,5 +475,29 @@ impl<F: Folder> Lane<F> {
         self.hold(alloc, cat, folder, piece.key, loads)?;
         self.paint_held(picture, piece, out);
         Ok(())
+    }
+
+    // Paints the picture of a window, as `paint_picture`, in a new count of pixels.
+    pub(crate) fn paint_window<L: Ledger>(
+        &mut self,
+        alloc: Global,
+        cat: &Catalog,
+        folder: &mut F,
+        picture: &Picture,
+        out: &mut [Sample],
+        loads: &mut Steps<L>,
+    ) -> Result<(), LoadFault>
+        requires ready { IsReady F.Folder folder.old cat.now self.old }
+        requires picture { IsPictureOf cat.now picture.now }
+        requires rows { length out.old ≡ picture.now.height * picture.now.stride }
+        ensures serves { Served F.Folder cat.now result folder.old self.old loads.old folder.new self.new loads.new }
+        ensures cause { HasCause LoadFault.FolderFault (F.faults folder.old) (F.faults folder.new) result }
+        ensures changed { IfErr result (TellsChangeIn cat.now) }
+        ensures never { WhereTold F.Folder folder.old (λ _. IfErr result IsUnchanged) }
+        ensures painted { OnOk result (IsShown (F.names folder.new) cat.now picture.now 0 picture.now.width 0 out.old out.new) }
+        ensures typed { OnOk result (AreTyped cat.now picture.now (picture.now.height * picture.now.stride) out.new) }
+    {
+        self.begin(out.len());
+        self.paint_picture(alloc, cat, folder, picture, out, loads)
     }
 }

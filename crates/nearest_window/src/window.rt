@@ -101,6 +101,6 @@ impl<F: Folder> Lane<F> {
             return Ok(());
         }
         let picture = window_of(cat, window);
-        self.paint_picture(alloc, cat, folder, &picture, out, loads)
+        self.paint_window(alloc, cat, folder, &picture, out, loads)
     }
 }

@@ -13,19 +13,20 @@ use Rattle.catalog.specs.Walk.{IsWalked}
 use Rattle.catalog.specs.Places.{IsWithin}
 use Rattle.block_cache.specs.Entries.{entry_of}
 use Rattle.nearest_window.specs.Heights.{height_at}
-use Rattle.nearest_window.specs.Right.{IsReady, slack_of, state_of}
+use Rattle.nearest_window.specs.Right.{IsReady, Serves, slack_of, state_of}
 use Rattle.nearest_window.specs.Painted.{IsPainted, first, in_columns}
+use Rattle.nearest_window.specs.Pictures.{from_block}
 use Rattle.nearest_window.specs.Taken.{place_at}
 use Rattle.nearest_window.specs.Shown.{shown, AreTyped, IsTyped, IsShown, IsSourceOf}
-use Rattle.nearest_window.proofs.Keys.{held_kept}
-use Rattle.nearest_window.proofs.Steps.{held_blocks, ready_then, serves_moved, serves_refl, serves_trans, serves_keep}
-use Rattle.nearest_window.proofs.Shown.{held_size, block_shown, rect_shown}
+use Rattle.nearest_window.proofs.Keys.{held_made}
+use Rattle.nearest_window.proofs.Steps.{ready_then, serves_refl, serves_trans, serves_keep, serves_used}
+use Rattle.nearest_window.proofs.Shown.{held_sized, rect_shown, used_shown}
 use Rattle.nearest_window.specs.Canvases.{AreTaken, IsPackedOf, IsTaken}
 use Rattle.nearest_window.proofs.Mosaics.{source_stands, whole_block}
 use Rattle.nearest_window.proofs.Sources.{none_taken, not_wanted, taken_more, source_taken, source_unasked, all_taken, packed_part}
 use Rattle.nearest_window.proofs.Fills.{columns_more, bands_more, part_length}
 use Rattle.nearest_window.proofs.Painted.{painted_whole}
-use Rattle.nearest_window.proofs.Ranges.{pixels_near, block_typed, rect_typed, rows_typed, typed_more}
+use Rattle.nearest_window.proofs.Ranges.{pixels_near, rect_typed, used_typed, rows_typed, typed_more}
 use Rattle.nearest_window.proofs.Blocks.{around_at, in_row, from_row}
 use Rattle.nearest_window.proofs.lane.Lane.+read.Goals as goal
 
@@ -40,17 +41,18 @@ pub hold-returns-in-Some-clause-serves : goal.hold-returns-in-Some-clause-serves
 hold-returns-in-Some-clause-serves g t c =
     let filled = c.in_ok-block-in-Some.ensures.serves in
     let whole = whole_block (g.F.Folder.names c.fill.new.folder) c.args.cat.now c.args.key c.mosaic_rect-rect.result c.in_ok-block-in-Some.block c.mosaic_rect-rect.ensures.rect c.in_ok-block-in-Some.ensures.block in
-    let kept = serves_keep g.F.Folder.file_bytes g.F.Folder.file_len c.args.cat.now c.keep.result (g.F.Folder.names c.fill.new.folder) c.fill.new.self c.keep.new.self (g.F.Folder.faults c.fill.new.folder) (g.F.Folder.read_calls c.fill.new.folder) (g.F.Folder.write_calls c.fill.new.folder) c.fill.new.loads c.args.key (entry_of c.in_ok-block-in-Some.block false) filled.right whole c.keep.ensures.kept c.keep.ensures.refused c.keep.ensures.valid in
-    serves_trans g.F.Folder.file_bytes g.F.Folder.file_len c.args.cat.now (slack_of c.keep.result) _ _ _ filled kept
+    let kept = serves_keep g.F.Folder.file_bytes g.F.Folder.file_len c.args.cat.now c.keep_made.result (g.F.Folder.names c.fill.new.folder) c.fill.new.self c.keep_made.new.self (g.F.Folder.faults c.fill.new.folder) (g.F.Folder.read_calls c.fill.new.folder) (g.F.Folder.write_calls c.fill.new.folder) c.fill.new.loads c.args.key (entry_of c.in_ok-block-in-Some.block false) filled.right whole c.keep_made.ensures.kept c.keep_made.ensures.refused c.keep_made.ensures.valid c.keep_made.ensures.made_valid in
+    serves_trans g.F.Folder.file_bytes g.F.Folder.file_len c.args.cat.now (slack_of c.keep_made.result) _ _ _ filled kept
 
 pub hold-returns-in-Some-clause-held : goal.hold-returns-in-Some-clause-held
-hold-returns-in-Some-clause-held g t c = held_kept c.keep.result c.fill.new.self c.keep.new.self c.args.key (entry_of c.in_ok-block-in-Some.block false) c.keep.ensures.kept
+hold-returns-in-Some-clause-held g t c = held_made c.keep_made.result c.fill.new.self c.keep_made.new.self c.args.key (entry_of c.in_ok-block-in-Some.block false) c.keep_made.ensures.kept
 
 pub fill-loop-key-init : goal.fill-loop-key-init
 fill-loop-key-init g t c =
     let count : c.len-number.result ≡ length c.args.band.now.sources = c.len-number.ensures.count ∙ ap (λ (b : BandValue). length b.sources) c.band.view_is in
     record {
-      serves = serves_refl g.F.Folder.file_bytes g.F.Folder.file_len c.args.cat.now (state_of g.F.Folder c.args.folder.now c.args.self.now c.args.loads.now) c.requires.ready.right;
+      serves = subst (λ lane. Serves g.F.Folder.file_bytes g.F.Folder.file_len c.args.cat.now 0 (state_of g.F.Folder c.args.folder.now c.args.self.now c.args.loads.now) (state_of g.F.Folder c.args.folder.now lane c.args.loads.now)) (sym c.spend.ensures.same)
+          (serves_refl g.F.Folder.file_bytes g.F.Folder.file_len c.args.cat.now (state_of g.F.Folder c.args.folder.now c.args.self.now c.args.loads.now) c.requires.ready.right);
       canvas = c.of-canvas.ensures.canvas;
       rect = c.of-canvas.ensures.rect;
       kind = c.of-canvas.ensures.kind ∙ ap (λ (b : BandValue). b.kind) c.band.view_is;
@@ -266,21 +268,23 @@ paint_block-returns-in-Some-clause-typed g t c =
 pub paint_block-returns-clause-typed : goal.paint_block-returns-clause-typed
 paint_block-returns-clause-typed g t c =
     let o = c.in_ok-hold.ensures in
-    block_typed (g.F.Folder.names c.hold.new.folder) c.args.cat.now c.args.picture.now c.args.piece c.requires.piece c.hold.new.self.pool.entries c.args.out.now c.paint_held.new.out o.serves.right.blocks o.held c.paint_held.ensures.painted
+    used_typed (g.F.Folder.names c.hold.new.folder) c.args.cat.now c.args.picture.now c.args.piece c.requires.piece c.hold.new.self c.paint_held.new.self c.args.out.now c.paint_held.new.out o.serves.right.blocks o.serves.right.remembered c.paint_held.ensures.used
 
 pub paint_block-paint_held-requires-clause-held : goal.paint_block-paint_held-requires-clause-held
 paint_block-paint_held-requires-clause-held g t c κs within =
     let o = c.in_ok-hold.ensures in
-    held_size (g.F.Folder.names c.hold.new.folder) c.args.cat.now c.args.picture.now c.args.piece c.requires.piece c.hold.new.self.pool.entries (held_blocks g.F.Folder.file_bytes g.F.Folder.file_len c.args.cat.now (g.F.Folder.names c.hold.new.folder) c.hold.new.self.pool c.hold.new.self.files o.serves.right) o.held
+    held_sized (g.F.Folder.names c.hold.new.folder) c.args.cat.now c.args.picture.now c.args.piece c.requires.piece c.hold.new.self o.serves.right.blocks o.serves.right.remembered o.held
 
 pub paint_block-returns-clause-serves : goal.paint_block-returns-clause-serves
 paint_block-returns-clause-serves g t c =
     let o = c.in_ok-hold.ensures in
     serves_trans g.F.Folder.file_bytes g.F.Folder.file_len c.args.cat.now 0 _ _ _ o.serves
-    (rw c.paint_held.ensures.entries (serves_moved g.F.Folder.file_bytes g.F.Folder.file_len c.args.cat.now (g.F.Folder.names c.hold.new.folder) c.hold.new.self.pool c.hold.new.self.files (g.F.Folder.faults c.hold.new.folder) (g.F.Folder.read_calls c.hold.new.folder) (g.F.Folder.write_calls c.hold.new.folder) c.hold.new.loads c.args.piece.key o.serves.right (rw c.paint_held.ensures.entries at c.paint_held.ensures.valid)))
+    (serves_used g.F.Folder.file_bytes g.F.Folder.file_len c.args.cat.now (g.F.Folder.names c.hold.new.folder) c.hold.new.self c.paint_held.new.self (g.F.Folder.faults c.hold.new.folder) (g.F.Folder.read_calls c.hold.new.folder) (g.F.Folder.write_calls c.hold.new.folder) c.hold.new.loads c.args.piece.key
+    (λ e. IsPainted (in_columns c.args.picture.now.stride (c.args.picture.now.to + c.args.piece.area.column) (c.args.picture.now.to + c.args.piece.area.column + c.args.piece.area.columns) (from_block e.block c.args.piece.rect c.args.picture.now c.args.piece.area.column c.args.piece.area.line)) c.args.out.now c.paint_held.new.out)
+    o.serves.right c.paint_held.ensures.used c.paint_held.ensures.valid c.paint_held.ensures.made_valid)
 
 pub paint_block-returns-clause-painted : goal.paint_block-returns-clause-painted
 paint_block-returns-clause-painted g t c =
     let o = c.in_ok-hold.ensures in
     let rows = c.requires.rows in
-    block_shown (g.F.Folder.names c.hold.new.folder) c.args.cat.now c.args.picture.now c.args.piece c.requires.piece c.hold.new.self.pool.entries c.args.out.now c.paint_held.new.out (held_blocks g.F.Folder.file_bytes g.F.Folder.file_len c.args.cat.now (g.F.Folder.names c.hold.new.folder) c.hold.new.self.pool c.hold.new.self.files o.serves.right) o.held c.requires.picture.picture.some (omega arith) c.paint_held.ensures.painted
+    used_shown (g.F.Folder.names c.hold.new.folder) c.args.cat.now c.args.picture.now c.args.piece c.requires.piece c.hold.new.self c.paint_held.new.self c.args.out.now c.paint_held.new.out o.serves.right.blocks o.serves.right.remembered c.requires.picture.picture.some (omega arith) c.paint_held.ensures.used

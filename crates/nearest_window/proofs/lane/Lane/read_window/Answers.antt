@@ -21,14 +21,14 @@ pub returns-clause-pixels : goal.returns-clause-pixels
 returns-clause-pixels g c = λ m e.
     let zero = c.if-window-eq0.false in
     let some : 0 < c.args.window.rect.w = omega arith in
-    on_ok c.paint_picture.result _ _
-    (λ shown. window_shown m c.args.cat.now c.args.window c.window_of-picture.result c.window_of-picture.ensures.whole some c.args.out.now c.paint_picture.new.out c.requires.size (shown m (c.paint_picture.ensures.serves.told ∙ e)))
-    c.paint_picture.ensures.painted
+    on_ok c.paint_window.result _ _
+    (λ shown. window_shown m c.args.cat.now c.args.window c.window_of-picture.result c.window_of-picture.ensures.whole some c.args.out.now c.paint_window.new.out c.requires.size (shown m (c.paint_window.ensures.serves.told ∙ e)))
+    c.paint_window.ensures.painted
 
 pub returns-clause-named : goal.returns-clause-named
 returns-clause-named g c = λ m e d at.
-    on_ok c.paint_picture.result _ _
-    (named_window m c.args.cat.now c.args.window d c.paint_picture.new.out c.window_of-picture.ensures.valid (c.requires.ready.walked m e) at)
+    on_ok c.paint_window.result _ _
+    (named_window m c.args.cat.now c.args.window d c.paint_window.new.out c.window_of-picture.ensures.valid (c.requires.ready.walked m e) at)
     (returns-clause-pixels g c m e)
 
 pub returns-clause-typed : goal.returns-clause-typed
@@ -40,16 +40,16 @@ returns-clause-typed g c =
     let turned : rect.w * rect.h ≡ rect.h * rect.w = grind arith in
     let rows : length c.args.out.now ≡ c.window_of-picture.result.height * c.window_of-picture.result.stride =
     c.requires.size ∙ turned ∙ ap (λ (n : ℕ). n * rect.w) (sym whole.height) ∙ ap (λ (n : ℕ). c.window_of-picture.result.height * n) (sym whole.stride) in
-    on_ok c.paint_picture.result _ _
-    (window_typed c.args.cat.now c.args.window c.window_of-picture.result c.paint_picture.new.out (c.window_of-picture.result.height * c.window_of-picture.result.stride) whole some
-    (c.paint_picture.auto.out ∙ rows))
-    c.paint_picture.ensures.typed
+    on_ok c.paint_window.result _ _
+    (window_typed c.args.cat.now c.args.window c.window_of-picture.result c.paint_window.new.out (c.window_of-picture.result.height * c.window_of-picture.result.stride) whole some
+    (c.paint_window.auto.out ∙ rows))
+    c.paint_window.ensures.typed
 
 pub returns-clause-ready : goal.returns-clause-ready
 returns-clause-ready g c =
-    ready_then g.F.Folder c.args.cat.now (slack_of c.paint_picture.result) c.args.folder.now c.paint_picture.new.folder c.args.self.now c.paint_picture.new.self c.args.loads.now c.paint_picture.new.loads c.requires.ready c.paint_picture.ensures.serves
+    ready_then g.F.Folder c.args.cat.now (slack_of c.paint_window.result) c.args.folder.now c.paint_window.new.folder c.args.self.now c.paint_window.new.self c.args.loads.now c.paint_window.new.loads c.requires.ready c.paint_window.ensures.serves
 
 pub returns-clause-only_read : goal.returns-clause-only_read
 returns-clause-only_read g c =
-    let s = c.paint_picture.ensures.serves in
+    let s = c.paint_window.ensures.serves in
     record { names = s.told; writes = s.writes; faults = s.faults }
