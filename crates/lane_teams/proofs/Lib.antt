@@ -1,0 +1,4 @@
+mod Examples
+mod Halving
+mod Refusals
+mod Windows
