@@ -1,0 +1,6 @@
+// The files of tiles, published one after another.
+#![tactic(auto)]
+
+mod publishing;
+
+pub use publishing::publish_tiles;

@@ -1,0 +1,3 @@
+pub mod Outer
+pub mod Tally
+pub mod Tiles
