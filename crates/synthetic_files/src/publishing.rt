@@ -7,7 +7,7 @@ ghost use Rattle.outside.specs.declared.folder.WriteFault.TheVariants as write_f
 ghost use Rattle.esri_hdr.specs.Text.{hdr_text};
 ghost use Rattle.error_lines.specs.Steps.{Goes, all_done, publishes};
 ghost use Rattle.published_files.specs.Documents.{IsOfFolder};
-ghost use Rattle.synthetic_rasters.specs.Tiles.{tile_data, tile_head, tile_name, tile_files, tiles_files};
+ghost use Rattle.synthetic_rasters.specs.Tiles.{tile_data, tiles_files};
 ghost use Rattle.synthetic_files.specs.Publishing.{ArePublished};
 
 use error_lines::Fault;

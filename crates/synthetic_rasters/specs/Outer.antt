@@ -1,22 +1,13 @@
--- The outer mosaic, which shows a mosaic of the tiles and a part of it once more; and the names of what is made of tiles.
-use Rattle.std.specs.Prelude.{ℕ, ℤ, pos, neg_ℤ, ◌*ℤ◌, ◌*◌, List, [], ◌∷◌, codes, Some, None}
+-- The outer mosaic, which shows a mosaic of the tiles, and a part of it once more.
+use Rattle.std.specs.Prelude.{ℕ, ℤ, pos, neg_ℤ, ◌*◌, List, [], ◌∷◌, Some, None}
 use Rattle.geotransform.specs.Geo.{Transform}
 use Rattle.geotransform.specs.Print.{unit}
 use Rattle.geotransform.specs.declared.types.PixelType.TheVariants.{Int16}
 use Rattle.vrt_profile.specs.Values.{Rectangle, SourceValue, DocumentValue, trillion}
 use Rattle.vrt_profile.specs.Resolve.{related}
 use Rattle.vrt_profile.specs.Built.{pixels_at, plain_source}
+use Rattle.synthetic_rasters.specs.Names.{inner_name, outer_name}
 use Rattle.synthetic_rasters.specs.Tiles.{nodata}
-
--- the names of the mosaic of the tiles, of the outer mosaic, and of the output that is made of it
-abbrev pub inner_name : List ℕ
-inner_name = codes "synth_inner.vrt"
-
-abbrev pub outer_name : List ℕ
-outer_name = codes "synth_outer.vrt"
-
-abbrev pub output_name : List ℕ
-output_name = codes "synth_out.bil"
 
 -- a source that adds so much to each pixel, and is the same otherwise
 abbrev pub adding : ℕ → SourceValue → SourceValue

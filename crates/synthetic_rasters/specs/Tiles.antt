@@ -1,7 +1,6 @@
 -- Tiles of samples that a formula gives: four rasters, two beside two, and the files that hold them.
-use Rattle.std.specs.Prelude.{ℕ, ℤ, pos, neg_ℤ, ◌*ℤ◌, ◌+◌, ◌*◌, ◌/◌, ◌%◌, ◌==◌, ◌≤◌, List, [], ◌∷◌, ◌++◌, map, flat_map, codes, Some, if◌then◌else◌}
+use Rattle.std.specs.Prelude.{ℕ, ℤ, pos, neg_ℤ, ◌*ℤ◌, ◌+◌, ◌*◌, ◌/◌, ◌%◌, ◌==◌, ◌≤◌, List, [], ◌∷◌, flat_map, Some, if◌then◌else◌}
 use Rattle.std.specs.List.{range_with_len}
-use Rattle.std.specs.Fmt.{decimal}
 use Rattle.outside.specs.Names.{header_of}
 use Rattle.geotransform.specs.Print.{unit}
 use Rattle.geotransform.specs.Geo.{Transform}
@@ -10,6 +9,7 @@ use Rattle.esri_hdr.specs.declared.parts.Layout.TheVariants.{Bil}
 use Rattle.esri_hdr.specs.Head.{Head, raw_geo_of, plain_head}
 use Rattle.esri_hdr.specs.Text.{hdr_text}
 use Rattle.interleaved_raw.specs.Raw.{sample_bytes}
+use Rattle.synthetic_rasters.specs.Names.{tile_name}
 
 -- the side of a tile, in pixels
 pub record IsSide (n : ℕ) : Type 0 where
@@ -39,13 +39,6 @@ line_bytes n t y = flat_map (λ x. sample_bytes (tile_head n t) (tile_sample t x
 
 unfoldable pub tile_data : ℕ → ℕ → List ℕ
 tile_data n t = flat_map (line_bytes n t) (range_with_len 0 n)
-
--- the names of the tiles
-abbrev pub tile_name : ℕ → List ℕ
-tile_name t = codes "synth_t" ++ decimal t ++ codes ".bil"
-
-abbrev pub tile_names : List (List ℕ)
-tile_names = map tile_name (range_with_len 0 4)
 
 -- the names and the bytes of a tile's files: its data, then its header
 abbrev pub tile_files : ℕ → ℕ → List (List ℕ × List ℕ)

@@ -2,8 +2,7 @@
 ghost use Rattle.std.specs.Prelude.{◌≡◌, ◌<◌, ◌≤◌, length, IsTrue, IfOk};
 ghost use Rattle.outside.specs.Names.{extension_of, is_raw};
 ghost use Rattle.outside.specs.Paths.{normal};
-ghost use Rattle.synthetic_rasters.specs.Tiles.{tile_name, tile_names};
-ghost use Rattle.synthetic_rasters.specs.Outer.{inner_name, outer_name, output_name};
+ghost use Rattle.synthetic_rasters.specs.Names.{tile_name, tile_names, inner_name, outer_name, output_name};
 
 use outside::{Name, Names};
 use std::alloc::{AllocError, Global};
