@@ -1,11 +1,10 @@
 -- The names of what is made.
-use Rattle.std.specs.Prelude.{ℕ, List, ◌++◌, map, codes}
+use Rattle.std.specs.Prelude.{ℕ, ◌+◌, List, ◌∷◌, ◌++◌, map, codes}
 use Rattle.std.specs.List.{range_with_len}
-use Rattle.std.specs.Fmt.{decimal}
 
--- the names of the tiles
+-- the names of the tiles, each with its number from 0 to 3 (48 is the code of 0)
 abbrev pub tile_name : ℕ → List ℕ
-tile_name t = codes "synth_t" ++ decimal t ++ codes ".bil"
+tile_name t = codes "synth_t" ++ (48 + t) ∷ codes ".bil"
 
 abbrev pub tile_names : List (List ℕ)
 tile_names = map tile_name (range_with_len 0 4)

@@ -1,9 +1,9 @@
 -- The outer mosaic, which shows a mosaic of the tiles, and a part of it once more.
-use Rattle.std.specs.Prelude.{ℕ, ℤ, pos, neg_ℤ, ◌*◌, List, [], ◌∷◌, Some, None}
+use Rattle.std.specs.Prelude.{ℕ, pos, neg_ℤ, ◌*◌, List, [], ◌∷◌, Some, None}
 use Rattle.geotransform.specs.Geo.{Transform}
 use Rattle.geotransform.specs.Print.{unit}
 use Rattle.geotransform.specs.declared.types.PixelType.TheVariants.{Int16}
-use Rattle.vrt_profile.specs.Values.{Rectangle, SourceValue, DocumentValue, trillion}
+use Rattle.vrt_profile.specs.Values.{Rectangle, SourceValue, BandValue, DocumentValue, trillion}
 use Rattle.vrt_profile.specs.Resolve.{related}
 use Rattle.vrt_profile.specs.Built.{pixels_at, plain_source}
 use Rattle.synthetic_rasters.specs.Names.{inner_name, outer_name}
@@ -28,11 +28,10 @@ outer_sources n = inner_source (2 * n) (pixels_at (pos 0) (pos 0) (pos (2 * n)) 
 abbrev pub outer_place : Transform
 outer_place = record { ox = pos 0; oy = pos 0; dx = pos unit; dy = neg_ℤ (pos unit) }
 
+-- its one band
+abbrev pub outer_bands : ℕ → List BandValue
+outer_bands n = record { kind = Int16; nodata = Some nodata; sources = outer_sources n } ∷ []
+
 -- the outer mosaic: the size, the place, the type and the NODATA are those of the inner one
 unfoldable pub outer_document : ℕ → DocumentValue
-outer_document n = record {
-  size = record { w = 2 * n; h = 2 * n };
-  srs = None;
-  geo = Some outer_place;
-  bands = record { kind = Int16; nodata = Some nodata; sources = outer_sources n } ∷ [];
-}
+outer_document n = record { size = record { w = 2 * n; h = 2 * n }; srs = None; geo = Some outer_place; bands = outer_bands n }

@@ -1,17 +1,15 @@
 // The outer mosaic.
-ghost use Rattle.std.specs.Prelude.{◌≡◌, ℤ, pos, neg_ℤ, ◌*◌, ◌≤◌, ◌<◌, ◌∷◌, [], Some, IfOk, OnOk};
+ghost use Rattle.std.specs.Prelude.{◌≡◌, ℤ, pos, neg_ℤ, ◌*◌, ◌≤◌, ◌<◌, true, IfOk};
 ghost use Rattle.geotransform.specs.Print.{unit};
 ghost use Rattle.vrt_profile.specs.Built.{pixels_at};
-ghost use Rattle.synthetic_rasters.specs.Outer.{adding, inner_source, outer_sources, outer_place, outer_document};
+ghost use Rattle.synthetic_rasters.specs.Outer.{adding, inner_source, outer_sources, outer_bands, outer_place, outer_document};
 ghost use Rattle.synthetic_rasters.specs.Tiles.{nodata};
 
 use crate::names::{inner_name, outer_name};
 use crate::side::TileSide;
 use geotransform::{GeoTransform, PixelType, Size, Ticks};
 use std::alloc::{AllocError, Global};
-use vrt_profile::{
-    BandList, Document, MicroRect, Source, SourceList, pixel_rect, plain_source,
-};
+use vrt_profile::{BandList, Document, MicroRect, Source, SourceList, pixel_rect, plain_source};
 
 // The square of this side at the same column and line.
 fn square(at: u32, side: u32) -> MicroRect
@@ -58,6 +56,18 @@ fn outer_sources(alloc: Global, side: u32) -> Result<SourceList, AllocError>
     Ok(sources)
 }
 
+// The one band of the outer mosaic.
+fn outer_bands(alloc: Global, side: u32) -> Result<BandList, AllocError>
+    requires some { 0 < side }
+    requires few { side ≤ 4096 }
+    ensures bands { IfOk result (λ l. l ≡ outer_bands side) }
+{
+    let sources = outer_sources(alloc, side)?;
+    let mut bands = BandList::new(alloc);
+    bands.push(sources.into_band(PixelType::Int16, Some(-1)))?;
+    Ok(bands)
+}
+
 // The place of a mosaic of the tiles.
 fn outer_place() -> GeoTransform
     ensures place { result ≡ outer_place }
@@ -72,13 +82,12 @@ fn outer_place() -> GeoTransform
 
 /// The document of the outer mosaic of tiles with this side: the mosaic of the tiles whole, and over its lower right
 /// quarter the upper left one with 1000 added. Only memory is refused.
+#[tactic(auto, unfolding(crate::specs::Outer::outer_document))]
 pub fn outer_document(alloc: Global, side: TileSide) -> Result<Document, AllocError>
     ensures document { IfOk result (λ d. d ≡ outer_document side) }
 {
     let side = side.get();
-    let sources = outer_sources(alloc, side)?;
-    let mut bands = BandList::new(alloc);
-    bands.push(sources.into_band(PixelType::Int16, Some(-1)))?;
+    let bands = outer_bands(alloc, side)?;
     let size = Size {
         w: 2 * side,
         h: 2 * side,

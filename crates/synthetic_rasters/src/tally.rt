@@ -1,7 +1,9 @@
 // What is told of the samples of a raster.
-ghost use Rattle.std.specs.Prelude.{◌≡◌, ℤ, ◌+◌, ◌<◌, ◌≤◌, ◌^◌, ◌++◌, List, [], IfOk, unsigned_abs};
+ghost use Rattle.std.specs.Prelude.{◌≡◌, ℤ, false, ◌+ℤ◌, ◌*◌, ◌+◌, ◌<◌, ◌≤◌, ◌^◌, ◌++◌, List, [], ◌∷◌, length, IfOk, unsigned_abs};
 ghost use Rattle.std.specs.List.{All};
-ghost use Rattle.synthetic_rasters.specs.Tally.{Totals, tally_of, tally_text, most_pixels};
+ghost use Rattle.std.specs.Ordering.{int_eq};
+ghost use Rattle.synthetic_rasters.specs.Tiles.{nodata};
+ghost use Rattle.synthetic_rasters.specs.Tally.{least_of, greatest_of, tally_of, tally_text, most_pixels};
 
 use geotransform::{Sample, Size};
 use itoa::Buffer;
@@ -29,8 +31,42 @@ impl Model for Tally {
     ghost invariant = { λ t. IsTally (record { count = t.count; sum = t.sum; least = t.least; greatest = t.greatest }) };
 }
 
+// The sum of values and of one more.
+fn sum_with(count: u64, sum: i128, value: Sample) -> i128
+    requires sum { unsigned_abs sum ≤ 2 ^ 32 * count }
+    requires few { count < most_pixels }
+    requires near { unsigned_abs value < 2 ^ 32 }
+    ensures sum { result ≡ sum +ℤ value }
+    ensures near { unsigned_abs result ≤ 2 ^ 32 * (count + 1) }
+{
+    sum + value
+}
+
+// The least of so many values and of one more.
+fn least_with(count: u64, least: Sample, value: Sample) -> Sample
+    ensures least { (values : List ℤ) → count ≡ length values → least ≡ least_of values → result ≡ least_of (values ++ value ∷ []) }
+{
+    if count == 0 || value < least {
+        value
+    } else {
+        least
+    }
+}
+
+// The greatest of so many values and of one more.
+fn greatest_with(count: u64, greatest: Sample, value: Sample) -> Sample
+    ensures greatest { (values : List ℤ) → count ≡ length values → greatest ≡ greatest_of values → result ≡ greatest_of (values ++ value ∷ []) }
+{
+    if count == 0 || greatest <= value {
+        value
+    } else {
+        greatest
+    }
+}
+
 impl Tally {
     /// Of no samples.
+    #[tactic(auto, unfolding(crate::specs::Tally::tally_of))]
     pub fn new() -> Tally
         ensures none { result ≡ tally_of [] }
     {
@@ -42,6 +78,20 @@ impl Tally {
         }
     }
 
+    // One value more, which isn't NODATA.
+    fn add_value(&mut self, value: Sample)
+        requires value { int_eq value nodata ≡ false }
+        requires near { unsigned_abs value < 2 ^ 32 }
+        requires few { self.old.count < most_pixels }
+        ensures added { (seen : List ℤ) → self.old ≡ tally_of seen → self.new ≡ tally_of (seen ++ value ∷ []) }
+        ensures count { self.new.count ≡ self.old.count + 1 }
+    {
+        self.least = least_with(self.count, self.least, value);
+        self.greatest = greatest_with(self.count, self.greatest, value);
+        self.sum = sum_with(self.count, self.sum, value);
+        self.count += 1;
+    }
+
     // One sample more.
     fn add_one(&mut self, sample: Sample)
         requires near { unsigned_abs sample < 2 ^ 32 }
@@ -49,17 +99,9 @@ impl Tally {
         ensures added { (seen : List ℤ) → self.old ≡ tally_of seen → self.new ≡ tally_of (seen ++ sample ∷ []) }
         ensures count { self.new.count ≤ self.old.count + 1 }
     {
-        if sample == -1 {
-            return;
+        if sample != -1 {
+            self.add_value(sample);
         }
-        if self.count == 0 || sample < self.least {
-            self.least = sample;
-        }
-        if self.count == 0 || self.greatest <= sample {
-            self.greatest = sample;
-        }
-        self.count += 1;
-        self.sum += sample;
     }
 
     /// These samples more, none of which is farther from 0 than a band's samples can be. All are at most as many as the
@@ -77,6 +119,7 @@ impl Tally {
 }
 
 /// The five lines on a raster of this size. Only memory is refused.
+#[tactic(auto, unfolding(crate::specs::Tally::tally_text))]
 pub fn tally_text(alloc: Global, size: Size, tally: &Tally) -> Result<Vec<u8>, AllocError>
     ensures text { IfOk result (λ text. text.items ≡ tally_text size tally.now) }
 {
@@ -89,7 +132,21 @@ pub fn tally_text(alloc: Global, size: Size, tally: &Tally) -> Result<Vec<u8>, A
     let sum = sum.format(tally.sum).as_bytes();
     let least = least.format(tally.least).as_bytes();
     let greatest = greatest.format(tally.greatest).as_bytes();
-    push_all(&[b"Size: ", w, b" x ", h, b"\nValues: ", count, b"\nSum: ", sum], &mut out)?;
-    push_all(&[b"\nLeast: ", least, b"\nGreatest: ", greatest, b"\n"], &mut out)?;
+    let parts: [&[u8]; 13] = [
+        b"Size: ",
+        w,
+        b" x ",
+        h,
+        b"\nValues: ",
+        count,
+        b"\nSum: ",
+        sum,
+        b"\nLeast: ",
+        least,
+        b"\nGreatest: ",
+        greatest,
+        b"\n",
+    ];
+    push_all(&parts, &mut out)?;
     Ok(out)
 }

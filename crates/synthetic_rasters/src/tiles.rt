@@ -1,6 +1,6 @@
 // Tiles: their heads, and their lines.
-ghost use Rattle.std.specs.Prelude.{◌≡◌, ℤ, pos, neg_ℤ, ◌*ℤ◌, ◌+◌, ◌*◌, ◌/◌, ◌%◌, ◌<◌, ◌≤◌, ◌^◌, map, length, true, IfOk, OnOk, Some};
-ghost use Rattle.std.specs.List.{range_with_len, flat_map, All};
+ghost use Rattle.std.specs.Prelude.{◌≡◌, ℤ, pos, neg_ℤ, ◌*ℤ◌, ◌+◌, ◌*◌, ◌/◌, ◌%◌, ◌<◌, ◌≤◌, ◌^◌, map, length, true, unsigned_abs, IfOk, OnOk, Some};
+ghost use Rattle.std.specs.List.{range_with_len, All};
 ghost use Rattle.geotransform.specs.Print.{unit};
 ghost use Rattle.geotransform.specs.Types.{is_in};
 ghost use Rattle.geotransform.specs.declared.types.PixelType.TheVariants.{Int16};
@@ -76,6 +76,21 @@ fn fill_samples(tile: u32, line: u32, samples: &mut [Sample])
     }
 }
 
+// Fills the bytes of a line of a tile, through room for its samples.
+#[tactic(auto, using(crate::proofs::Lines::line_holds))]
+fn fill_line(side: TileSide, tile: u32, line: u32, samples: &mut [Sample], bytes: &mut [u8])
+    requires tile { tile < 4 }
+    requires line { line < side }
+    requires samples { length samples.old ≡ side }
+    requires bytes { length bytes.old ≡ 2 * side }
+    ensures bytes { bytes.new ≡ line_bytes side tile line }
+{
+    let _side = side.get();
+    let head = tile_head(side, tile);
+    fill_samples(tile, line, samples);
+    encode_run(&head, samples, bytes);
+}
+
 /// Room for a line of a tile, which is made once and filled again and again.
 #[derive(Drop)]
 pub struct TileLine {
@@ -117,9 +132,9 @@ impl TileLine {
         ensures side { self.new.side ≡ self.old.side }
         ensures bytes { self.new.bytes ≡ line_bytes self.old.side tile line }
     {
-        let head = tile_head(self.side, tile);
-        fill_samples(tile, line, self.samples.as_mut_slice());
-        encode_run(&head, self.samples.as_slice(), self.bytes.as_mut_slice());
+        let samples = self.samples.as_mut_slice();
+        let bytes = self.bytes.as_mut_slice();
+        fill_line(self.side, tile, line, samples, bytes);
     }
 
     /// The bytes of the line.
