@@ -1,10 +1,13 @@
 -- What the definitions say of tiles of two by two pixels, and of a tally.
-use Rattle.std.proofs.Common.{◌≡◌, refl, [], ◌∷◌, ◌++◌, pos, neg_ℤ}
+use Rattle.std.proofs.Common.{◌≡◌, refl, [], ◌∷◌, ◌++◌, pos, neg_ℤ, true, Some, None}
 use Rattle.std.specs.Prelude.{codes}
 use Rattle.std.specs.Fmt.{decimal}
-use Rattle.outside.specs.Names.{header_of, ending_of, last_part}
+use Rattle.geotransform.specs.declared.types.PixelType.TheVariants.{Int16}
+use Rattle.esri_hdr.specs.Head.{geotransform_of}
+use Rattle.outside.specs.Names.{header_of, ending_of, last_part, folder_part}
 use Rattle.synthetic_rasters.specs.Names.{tile_name}
-use Rattle.synthetic_rasters.specs.Tiles.{tile_data, nodata}
+use Rattle.synthetic_rasters.specs.Outer.{outer_document}
+use Rattle.synthetic_rasters.specs.Tiles.{tile_data, tile_head, nodata}
 use Rattle.synthetic_rasters.specs.Tally.{tally_of, tally_text}
 
 -- the samples 0 and 7, and below them 13 and 20
@@ -20,6 +23,28 @@ last_tile = refl
 header_name : header_of (tile_name 2) ≡ codes "synth_t2.hdr"
 unfolding header_of ending_of last_part
 header_name = refl
+
+-- the last tile lies below and beside the first, which lies at the origin
+first_place : geotransform_of (tile_head 2 0) ≡ Some (record { ox = pos 0; oy = pos 0; dx = pos 180000000000000000; dy = neg_ℤ (pos 180000000000000000) })
+first_place = refl
+
+last_place : geotransform_of (tile_head 2 3) ≡ Some (record { ox = pos 360000000000000000; oy = neg_ℤ (pos 360000000000000000); dx = pos 180000000000000000; dy = neg_ℤ (pos 180000000000000000) })
+last_place = refl
+
+-- the sources of the outer mosaic of tiles of one pixel: the whole, and a pixel moved right and down, with 1000 added
+outer_of_one : (outer_document 1).bands ≡ record {
+  kind = Int16;
+  nodata = Some (neg_ℤ (pos 1));
+  sources = record { complex = true; relative = true; file = codes "synth_inner.vrt"; band = 1; src = Some (record { x = pos 0; y = pos 0; w = pos 2000000; h = pos 2000000 }); dst = Some (record { x = pos 0; y = pos 0; w = pos 2000000; h = pos 2000000 }); nodata = Some (neg_ℤ (pos 1)); offset = pos 0; ratio = pos 1000000000000; lut = None }
+      ∷ record { complex = true; relative = true; file = codes "synth_inner.vrt"; band = 1; src = Some (record { x = pos 0; y = pos 0; w = pos 1000000; h = pos 1000000 }); dst = Some (record { x = pos 1000000; y = pos 1000000; w = pos 1000000; h = pos 1000000 }); nodata = Some (neg_ℤ (pos 1)); offset = pos 1000000000000000; ratio = pos 1000000000000; lut = None }
+      ∷ [];
+} ∷ []
+unfolding outer_document folder_part
+outer_of_one = refl
+
+outer_size : (outer_document 45).size ≡ record { w = 90; h = 90 }
+unfolding outer_document
+outer_size = refl
 
 -- NODATA isn't counted
 three_values : tally_of (pos 5 ∷ nodata ∷ neg_ℤ (pos 3) ∷ pos 20 ∷ []) ≡ record { count = 3; sum = pos 22; least = neg_ℤ (pos 3); greatest = pos 20 }
