@@ -1,9 +1,7 @@
 // The outer mosaic.
-ghost use Rattle.std.specs.Prelude.{◌≡◌, ℤ, pos, neg_ℤ, ◌*◌, ◌≤◌, ◌<◌, true, IfOk};
-ghost use Rattle.geotransform.specs.Print.{unit};
+ghost use Rattle.std.specs.Prelude.{◌≡◌, pos, ◌*◌, ◌≤◌, ◌<◌, true, IfOk};
 ghost use Rattle.vrt_profile.specs.Built.{pixels_at};
 ghost use Rattle.synthetic_rasters.specs.Outer.{adding, inner_source, outer_sources, outer_bands, outer_place, outer_document};
-ghost use Rattle.synthetic_rasters.specs.Tiles.{nodata};
 
 use crate::names::{inner_name, outer_name};
 use crate::side::TileSide;

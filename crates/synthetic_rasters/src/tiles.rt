@@ -1,10 +1,9 @@
 // Tiles: their heads, and their lines.
-ghost use Rattle.std.specs.Prelude.{◌≡◌, ℤ, pos, neg_ℤ, ◌*ℤ◌, ◌+◌, ◌*◌, ◌/◌, ◌%◌, ◌<◌, ◌≤◌, ◌^◌, map, length, true, unsigned_abs, IfOk, OnOk, Some};
+ghost use Rattle.std.specs.Prelude.{◌≡◌, ℤ, pos, ◌*ℤ◌, ◌+◌, ◌*◌, ◌/◌, ◌%◌, ◌<◌, ◌≤◌, map, length, true, unsigned_abs, IfOk, Some};
 ghost use Rattle.std.specs.List.{range_with_len, All};
 ghost use Rattle.geotransform.specs.Print.{unit};
 ghost use Rattle.geotransform.specs.Types.{is_in};
 ghost use Rattle.geotransform.specs.declared.types.PixelType.TheVariants.{Int16};
-ghost use Rattle.interleaved_raw.specs.Raw.{sample_bytes};
 ghost use Rattle.synthetic_rasters.specs.Tiles.{IsSide, tile_sample, tile_place, tile_head, line_bytes};
 
 use crate::side::TileSide;
