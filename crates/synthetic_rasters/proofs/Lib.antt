@@ -1,0 +1,4 @@
+mod Examples
+pub mod Lines
+pub mod Named
+pub mod Tallied

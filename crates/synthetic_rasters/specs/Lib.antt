@@ -1,0 +1,4 @@
+pub mod Names
+pub mod Outer
+pub mod Tally
+pub mod Tiles
