@@ -1,4 +1,0 @@
-mod Examples
-mod Halving
-mod Refusals
-mod Windows
