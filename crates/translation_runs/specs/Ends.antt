@@ -1,5 +1,5 @@
 -- How a translation may end over every folder.
-use Rattle.std.specs.Prelude.{ℕ, ◌≡◌, ◌⊎◌, Contains, List, Result, Ok, Err}
+use Rattle.std.specs.Prelude.{ℕ, ◌≡◌, ◌⊎◌, Contains, List, Option, Some, None, Result, Ok, Err}
 use Rattle.catalog.specs.Heads.{kind_in, IsOwnFault}
 use Rattle.catalog.specs.declared.kind.Kind.{Kind}
 use Rattle.catalog.specs.declared.kind.Kind.TheVariants as kinds
@@ -32,6 +32,11 @@ MayEnd o FolderFault = Unit {0}
 MayEnd o InputFault = ⊥
 MayEnd o OutFault = Unit {0}
 MayEnd o Memory = Unit {0}
+
+-- the fault that a call ended with, if there is one
+abbrev pub ended : Result (Unit {0}) Fault → Option Fault
+ended (Ok done) = None
+ended (Err fault) = Some fault
 
 -- A name that tells no kind is refused so, or for want of memory; where it tells another kind than a mosaic's, no name is
 -- refused so.
