@@ -44,7 +44,7 @@ fn window_of<'a>(cat: &Catalog, window: Window) -> Picture<'a>
     let _count = cat.count();
     let rect = window.rect;
     Picture {
-        file: window.dataset,
+        dataset: window.dataset,
         band: window.band,
         taking: Taking::All,
         width: rect.w,
