@@ -3,3 +3,4 @@ pub mod Contents
 pub mod Keys
 pub mod Open
 pub mod Views
+pub mod Spread

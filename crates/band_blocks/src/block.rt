@@ -11,9 +11,10 @@ ghost use Rattle.dted_records.specs.Written.{IsElevation, record_bytes};
 ghost use Rattle.hgt_tiles.specs.Samples.{row_bytes, row_of, line_of};
 ghost use Rattle.band_blocks.specs.Views.{cells_view};
 ghost use Rattle.band_blocks.specs.Blocks.{block_view, IsPacked, AreIn, written, run_of};
+ghost use Rattle.band_blocks.specs.Spread.{IsSpread};
 
 use crate::cell::{
-    Cell, clamp_cells, copy_cells, decode_cells, encode_cells, set_cell, write_cells,
+    Cell, clamp_cells, copy_cells, decode_cells, encode_cells, set_cell, spread_cells, write_cells,
 };
 use crate::int16::{decode_elevations, decode_items, encode_elevations, encode_items};
 use dted_records::DtedHead;
@@ -194,6 +195,25 @@ impl Block {
             Cells::Ints16(cells) => copy_cells(&cells[at..end], out),
             Cells::UInts32(cells) => copy_cells(&cells[at..end], out),
             Cells::Ints32(cells) => copy_cells(&cells[at..end], out),
+        }
+    }
+
+    /// Copies so many samples, from the place `at` on, to places of `out` that stand `stride` apart, the
+    /// first of them to `start`. All other places of `out` stay.
+    pub fn copy_spread(&self, at: u32, count: u32, out: &mut [Sample], start: usize, stride: usize)
+        requires within { at + count ≤ length self.now.samples }
+        requires some { 0 < stride }
+        requires room { (i : ℕ) → i < count → start + i * stride < length out.old }
+        ensures spread { IsSpread self.now.samples at count start stride out.old out.new }
+    {
+        let at = at as usize;
+        let count = count as usize;
+        match &self.cells {
+            Cells::Bytes(cells) => return spread_cells(cells, at, count, out, start, stride),
+            Cells::UInts16(cells) => return spread_cells(cells, at, count, out, start, stride),
+            Cells::Ints16(cells) => return spread_cells(cells, at, count, out, start, stride),
+            Cells::UInts32(cells) => return spread_cells(cells, at, count, out, start, stride),
+            Cells::Ints32(cells) => return spread_cells(cells, at, count, out, start, stride),
         }
     }
 

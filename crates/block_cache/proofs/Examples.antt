@@ -7,7 +7,7 @@ use Rattle.block_cache.specs.declared.pool.Entry.{Entry}
 use Rattle.block_cache.specs.Entries.{entry_of, held_at, moved_to_front, admitted, dropped, patched_block, last_dirty, left_by}
 
 abbrev key : ℕ → BlockKey
-key n = record { file = 0; band = 0; block = n }
+key n = record { dataset = 0; band = 0; block = n }
 
 abbrev first : Entry
 first = entry_of (block_view Byte (pos 7 ∷ pos 8 ∷ pos 9 ∷ [])) true

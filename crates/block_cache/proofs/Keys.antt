@@ -6,14 +6,14 @@ use Rattle.band_blocks.specs.declared.key.BlockKey.{BlockKey}
 use Rattle.band_blocks.specs.Keys.{same_key}
 
 abbrev key_of : ℕ → ℕ → ℕ → BlockKey
-key_of f g i = record { file = f; band = g; block = i }
+key_of f g i = record { dataset = f; band = g; block = i }
 
-parts_same : (a b : BlockKey) → a.file ≡ b.file → a.band ≡ b.band → a.block ≡ b.block → a ≡ b
-parts_same a b p q r = ap (λ f. key_of f a.band a.block) p ∙ ap (λ g. key_of b.file g a.block) q ∙ ap (key_of b.file b.band) r
+parts_same : (a b : BlockKey) → a.dataset ≡ b.dataset → a.band ≡ b.band → a.block ≡ b.block → a ≡ b
+parts_same a b p q r = ap (λ f. key_of f a.band a.block) p ∙ ap (λ g. key_of b.dataset g a.block) q ∙ ap (key_of b.dataset b.band) r
 
 pub key_is : (a b : BlockKey) → same_key a b ≡ true → a ≡ b
 key_is a b h =
-    let f : a.file ≡ b.file = grind (arith, nat_tests) in
+    let f : a.dataset ≡ b.dataset = grind (arith, nat_tests) in
     let g : a.band ≡ b.band = grind (arith, nat_tests) in
     let i : a.block ≡ b.block = grind (arith, nat_tests) in
     parts_same a b f g i

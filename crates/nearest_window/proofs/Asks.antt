@@ -36,9 +36,9 @@ ends_below cat id d rect valid at within =
     (omega arith, omega arith)
 
 module _ (cat : List Dataset) (key : BlockKey) (number : ℕ) (s : SourceValue) (c : Canvas) (p q : Picture) (a : Asked) (of : IsSourceOf cat key number s) (seen : IsSeenBy cat key number s c.rect p) (known : IsPictureOf cat p)
-    (falls : height_at cat p.file < height_at cat key.file) (file : q.file ≡ p.file) (band : q.band ≡ p.band) (taking : q.taking ≡ All) (width : q.width ≡ p.width) (columns : q.columns ≡ p.columns) (height : q.height ≡ p.height) (lines : q.lines ≡ p.lines)
+    (falls : height_at cat p.dataset < height_at cat key.dataset) (dataset : q.dataset ≡ p.dataset) (band : q.band ≡ p.band) (taking : q.taking ≡ All) (width : q.width ≡ p.width) (columns : q.columns ≡ p.columns) (height : q.height ≡ p.height) (lines : q.lines ≡ p.lines)
     (to : q.to ≡ 0) (stride : q.stride ≡ p.width) (picture : a.picture ≡ q) (left : a.part.x ≡ c.rect.x + p.to) (top : a.part.y ≡ c.rect.y + p.top) (wide : a.part.w ≡ p.width) (high : a.part.h ≡ p.height) (room : length a.pixels.items ≡ a.part.w * a.part.h) where
-  cut : (d : Dataset) → slice_get cat key.file ≡ Some d → (x y : ℕ) → IsIn c.rect x y → (IsIn a.part x y → ⊥) → cover_of s d.head.size (target_size cat d key.band number) x y ≡ None
+  cut : (d : Dataset) → slice_get cat key.dataset ≡ Some d → (x y : ℕ) → IsIn c.rect x y → (IsIn a.part x y → ⊥) → cover_of s d.head.size (target_size cat d key.band number) x y ≡ None
   cut d at x y there out =
       let part = seen.seen d at in
       let l = there.left in let r = there.right in let t = there.top in let b = there.bottom in
@@ -67,7 +67,7 @@ module _ (cat : List Dataset) (key : BlockKey) (number : ℕ) (s : SourceValue) 
         picture = record { columns = subst (λ n. IsLongAs q.columns n) (sym width) (subst (λ cs. IsLongAs cs p.width) (sym columns) f.columns); lines = subst (λ n. IsLongAs q.lines n) (sym height) (subst (λ cs. IsLongAs cs p.height) (sym lines) f.lines); some = omega arith; inside = omega arith };
         some = omega arith;
         dataset = known.dataset;
-        at = subst (λ n. slice_get cat n ≡ Some known.dataset) (sym file) known.at;
+        at = subst (λ n. slice_get cat n ≡ Some known.dataset) (sym dataset) known.at;
         band = subst (λ n. n < length known.dataset.head.bands) (sym band) known.band;
         columns = λ k l. subst (λ cs. place_at cs k < known.dataset.head.size.w) (sym columns) (known.columns k (omega arith));
         lines = λ k l. subst (λ cs. place_at cs k < known.dataset.head.size.h) (sym lines) (known.lines k (omega arith));
@@ -82,7 +82,7 @@ module _ (cat : List Dataset) (key : BlockKey) (number : ℕ) (s : SourceValue) 
       let i = here.across.inside in let j = here.down.inside in let positive = here.across.some in
       record {
         picture = alone;
-        falls = subst (λ n. height_at cat n < height_at cat key.file) (sym (ap (λ (p : Picture). p.file) picture ∙ file)) falls;
+        falls = subst (λ n. height_at cat n < height_at cat key.dataset) (sym (ap (λ (p : Picture). p.dataset) picture ∙ dataset)) falls;
         inside = record { left = omega arith; right = omega arith; top = omega arith; bottom = omega arith; some = omega arith };
         width = ap (λ (p : Picture). p.width) picture ∙ width ∙ sym wide;
         height = ap (λ (p : Picture). p.height) picture ∙ height ∙ sym high;
@@ -90,7 +90,7 @@ module _ (cat : List Dataset) (key : BlockKey) (number : ℕ) (s : SourceValue) 
         stride = ap (λ (p : Picture). p.stride) picture ∙ stride ∙ sym wide;
         taking = ap (λ (p : Picture). p.taking) picture ∙ taking;
         size = room;
-        pixels = λ m d at x y. seen.pixels m d at x y ∙ ap (λ n. pixel_of m cat n p.band x y) (sym (ap (λ (p : Picture). p.file) picture ∙ file)) ∙ ap (λ n. pixel_of m cat a.picture.file n x y) (sym (ap (λ (p : Picture). p.band) picture ∙ band));
+        pixels = λ m d at x y. seen.pixels m d at x y ∙ ap (λ n. pixel_of m cat n p.band x y) (sym (ap (λ (p : Picture). p.dataset) picture ∙ dataset)) ∙ ap (λ n. pixel_of m cat a.picture.dataset n x y) (sym (ap (λ (p : Picture). p.band) picture ∙ band));
         across = λ d at k l. ap (λ n. axis_at (columns_of s d.head.size (target_size cat d key.band number)) (target_size cat d key.band number).w (n + k)) left ∙ (seen.seen d at).across.there k (omega arith) ∙ ap (λ cs. Some (place_at cs k)) (sym (ap (λ (p : Picture). p.columns) picture ∙ columns));
         down = λ d at k l. ap (λ n. axis_at (lines_of s d.head.size (target_size cat d key.band number)) (target_size cat d key.band number).h (n + k)) top ∙ (seen.seen d at).down.there k (omega arith) ∙ ap (λ cs. Some (place_at cs k)) (sym (ap (λ (p : Picture). p.lines) picture ∙ lines));
         outside = λ d at x y there out. inr (cut d at x y there out);

@@ -19,9 +19,9 @@ still_there (c ∷ cat) more (suc id) d at = still_there cat more id d at
 block_stays : (told : Option Files) (cat more : List Dataset) (key : BlockKey) (block : BlockView) → IsCatalog cat → IsBlock told cat key block → IsBlock told (cat ++ more) key block
 block_stays told cat more key block valid is = record {
   dataset = is.dataset;
-  in_range = record { at = still_there cat more key.file is.dataset is.in_range.at; band = is.in_range.band; block = is.in_range.block };
+  in_range = record { at = still_there cat more key.dataset is.dataset is.in_range.at; band = is.in_range.band; block = is.in_range.block };
   shape = is.shape;
-  content = λ m e. is.content m e ∙ sym (more_block m cat more key.file key.band key.block is.dataset valid is.in_range.at);
+  content = λ m e. is.content m e ∙ sym (more_block m cat more key.dataset key.band key.block is.dataset valid is.in_range.at);
 }
 
 pub right_stays : {File : Type 0} (bytes : File → Option (List ℕ)) (len : File → ℕ) (told : Option Files) (cat more : List Dataset) (pool : PoolView) (files : List (ℕ × File)) (made : PoolView) → IsCatalog cat → IsRight bytes len told cat pool files made → IsRight bytes len told (cat ++ more) pool files made

@@ -27,8 +27,8 @@ both_true false b h = absurd (cc)
 pub same_key_true : (a b : BlockKey) → same_key a b ≡ true → a ≡ b
 same_key_true a b h =
     let p = both_true _ _ h in let q = both_true _ _ p.1 in
-    let f = eqb-true a.file b.file p.0 in let g = eqb-true a.band b.band q.0 in let k = eqb-true a.block b.block q.1 in
-    λ i. record { file = f i; band = g i; block = k i }
+    let f = eqb-true a.dataset b.dataset p.0 in let g = eqb-true a.band b.band q.0 in let k = eqb-true a.block b.block q.1 in
+    λ i. record { dataset = f i; band = g i; block = k i }
 
 pub length_moved : (k : BlockKey) (es : List (BlockKey × Entry)) → length (moved_to_front k es) ≡ length es
 length_moved k es = on es (lookup_entry (same_key k) es) refl

@@ -17,3 +17,4 @@ mod Steps
 mod Windows
 mod Naming
 mod Ranges
+mod Spread

@@ -80,12 +80,12 @@ module _ (cat : List Dataset) (valid : IsCatalog cat) (id : ℕ) (d : Dataset) (
   pixels_are m band x y b e = mosaic_is_of_its_targets m cat id band x y d doc b valid at is e ∙ ap (λ s. mosaic_pixel b s (target_size cat d band) (target_pixel m cat d band) x y) (sym size_told)
 
 -- a rectangle that has no more pixels than a block of a mosaic
-pub few_pixels : (cat : List Dataset) (key : BlockKey) (b : BandValue) → IsCatalog cat → IsMosaicKey cat key b → (d : Dataset) → slice_get cat key.file ≡ Some d → (block part : Rect) → block ≡ block_rect_of d.head key.block → part.w * part.h ≤ block.w * block.h → part.w * part.h < 2 ^ 32
+pub few_pixels : (cat : List Dataset) (key : BlockKey) (b : BandValue) → IsCatalog cat → IsMosaicKey cat key b → (d : Dataset) → slice_get cat key.dataset ≡ Some d → (block part : Rect) → block ≡ block_rect_of d.head key.block → part.w * part.h ≤ block.w * block.h → part.w * part.h < 2 ^ 32
 few_pixels cat key b valid mosaic d at block part block_is less =
     let there = mosaic.in_range.at in
     let same : mosaic.dataset ≡ d = cc in
-    let columns = narrow cat valid key.file mosaic.dataset there mosaic.document mosaic.content key.block in
-    let lines = low cat valid key.file mosaic.dataset there mosaic.document mosaic.content key.block in
+    let columns = narrow cat valid key.dataset mosaic.dataset there mosaic.document mosaic.content key.block in
+    let lines = low cat valid key.dataset mosaic.dataset there mosaic.document mosaic.content key.block in
     let w : block.w ≡ (block_rect_of mosaic.dataset.head key.block).w = ap (λ (r : Rect). r.w) block_is ∙ sym (ap (λ (d : Dataset). (block_rect_of d.head key.block).w) same) in
     let h : block.h ≡ (block_rect_of mosaic.dataset.head key.block).h = ap (λ (r : Rect). r.h) block_is ∙ sym (ap (λ (d : Dataset). (block_rect_of d.head key.block).h) same) in
     let wide : block.w ≤ 128 = omega arith in
@@ -113,7 +113,7 @@ nodata_kept b rules = on b.nodata rules.nodata
     on None h = zero_kept b.kind
 
 -- the samples of a block's rectangle are the block
-pub whole_block : (told : Option Files) (cat : List Dataset) (key : BlockKey) (rect : Rect) (block : BlockView) → ((d : Dataset) → slice_get cat key.file ≡ Some d → rect ≡ block_rect_of d.head key.block)
+pub whole_block : (told : Option Files) (cat : List Dataset) (key : BlockKey) (rect : Rect) (block : BlockView) → ((d : Dataset) → slice_get cat key.dataset ≡ Some d → rect ≡ block_rect_of d.head key.block)
     → IsPartBlock told cat key rect block → IsBlock told cat key block
 whole_block told cat key rect block rect_is part =
     let same = rect_is part.dataset part.in_range.at in
@@ -121,7 +121,7 @@ whole_block told cat key rect block rect_is part =
       dataset = part.dataset;
       in_range = part.in_range;
       shape = record { kind = part.shape.kind; count = part.shape.count ∙ ap (λ (r : Rect). r.w * r.h) same; range = part.shape.range };
-      content = λ m e. part.content m e ∙ ap (row_by_row (pixel_of m cat key.file key.band)) same ∙ sym (ap (block_by m cat key.file key.band key.block) part.in_range.at);
+      content = λ m e. part.content m e ∙ ap (row_by_row (pixel_of m cat key.dataset key.band)) same ∙ sym (ap (block_by m cat key.dataset key.band key.block) part.in_range.at);
     }
 
 abbrev sources_in : BandValue → ℕ

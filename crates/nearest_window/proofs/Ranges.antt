@@ -56,22 +56,22 @@ sample_in b i range = elim (cases_lt i (length b.samples)) [
 some_same : {X : Type 0} (a b : X) → Some a ≡ Some b → a ≡ b
 some_same a b is = cc
 
-in_band : (cat : List Dataset) (key : BlockKey) (d : Dataset) (rect : Rect) (b : BlockView) (id band i : ℕ) → id ≡ key.file → band ≡ key.band → IsKeyOf cat key d → IsOfBand d key.band rect b → IsInBand cat id band (get_or b.samples i (pos 0))
-in_band cat key d rect b id band i file_is band_is key_of shape e kind at is =
-    let same : e ≡ d = some_same e d (sym at ∙ ap (slice_get cat) file_is ∙ key_of.at) in
+in_band : (cat : List Dataset) (key : BlockKey) (d : Dataset) (rect : Rect) (b : BlockView) (id band i : ℕ) → id ≡ key.dataset → band ≡ key.band → IsKeyOf cat key d → IsOfBand d key.band rect b → IsInBand cat id band (get_or b.samples i (pos 0))
+in_band cat key d rect b id band i dataset_is band_is key_of shape e kind at is =
+    let same : e ≡ d = some_same e d (sym at ∙ ap (slice_get cat) dataset_is ∙ key_of.at) in
     let here : kind ≡ b.kind = some_same kind b.kind (sym is ∙ ap (λ (d : Dataset). option_map (λ band. band.kind) (slice_get d.head.bands band)) same ∙ ap (λ n. option_map (λ band. band.kind) (slice_get d.head.bands n)) band_is ∙ shape.kind) in
     subst (λ k. is_in k (get_or b.samples i (pos 0)) ≡ true) (sym here) (sample_in b i shape.range)
 
 -- what is painted from samples of its band
-pub rect_typed : (cat : List Dataset) (p : Picture) (piece : Piece) (rect : Rect) (d : Dataset) (b : BlockView) (old new : List ℤ) → p.file ≡ piece.key.file → p.band ≡ piece.key.band → IsKeyOf cat piece.key d → IsOfBand d piece.key.band rect b
+pub rect_typed : (cat : List Dataset) (p : Picture) (piece : Piece) (rect : Rect) (d : Dataset) (b : BlockView) (old new : List ℤ) → p.dataset ≡ piece.key.dataset → p.band ≡ piece.key.band → IsKeyOf cat piece.key d → IsOfBand d piece.key.band rect b
     → IsPainted (in_columns p.stride (p.to + piece.area.column) (p.to + piece.area.column + piece.area.columns) (from_block b rect p piece.area.column piece.area.line)) old new → IsTyped cat p piece.area.column piece.area.columns old new
-rect_typed cat p piece rect d b old new file_is band_is key_of shape painted all =
-    filled_by (IsInBand cat p.file p.band) p.stride (p.to + piece.area.column) (p.to + piece.area.column + piece.area.columns) (from_block b rect p piece.area.column piece.area.line) old new
+rect_typed cat p piece rect d b old new dataset_is band_is key_of shape painted all =
+    filled_by (IsInBand cat p.dataset p.band) p.stride (p.to + piece.area.column) (p.to + piece.area.column + piece.area.columns) (from_block b rect p piece.area.column piece.area.line) old new
     (λ c r.
     let i : ℕ = (place_at p.lines (piece.area.line + r) - rect.y) * rect.w + (place_at p.columns (piece.area.column + c) - rect.x) in (
       get_or b.samples ((place_at p.lines (piece.area.line + r) - rect.y) * rect.w + (place_at p.columns (piece.area.column + c) - rect.x)) (pos 0),
       ap (λ t. taken_by t (get_or b.samples ((place_at p.lines (piece.area.line + r) - rect.y) * rect.w + (place_at p.columns (piece.area.column + c) - rect.x)) (pos 0))) all,
-      in_band cat piece.key d rect b p.file p.band ((place_at p.lines (piece.area.line + r) - rect.y) * rect.w + (place_at p.columns (piece.area.column + c) - rect.x)) file_is band_is key_of shape,
+      in_band cat piece.key d rect b p.dataset p.band ((place_at p.lines (piece.area.line + r) - rect.y) * rect.w + (place_at p.columns (piece.area.column + c) - rect.x)) dataset_is band_is key_of shape,
     ))
     painted
 
@@ -90,7 +90,7 @@ module _ (told : Option Files) (cat : List Dataset) (p : Picture) (piece : Piece
           let same : block.dataset ≡ part.dataset = some_same block.dataset part.dataset (sym block.in_range.at ∙ part.in_range.at) in
           let place : piece.rect ≡ block_rect_of block.dataset.head piece.key.block = part.rect_is ∙ ap (λ (d : Dataset). block_rect_of d.head piece.key.block) (sym same) in
           let shape : IsOfBand block.dataset piece.key.band piece.rect entry.block = subst (λ r. IsOfBand block.dataset piece.key.band r entry.block) (sym place) block.shape in
-          rect_typed cat p piece piece.rect block.dataset entry.block old new part.file part.band block.in_range shape q
+          rect_typed cat p piece piece.rect block.dataset entry.block old new part.dataset_is part.band block.in_range shape q
 
   -- what is painted from a block that is held, in the pool or beside it
   pub used_typed : {File : Type 0} (lane lane' : LaneView File) (old new : List ℤ) → AreBlocks told cat lane.pool.entries → AreBlocks told cat lane.made.entries
@@ -103,29 +103,29 @@ module _ (told : Option Files) (cat : List Dataset) (p : Picture) (piece : Piece
 
 -- no column is painted
 pub typed_begin : (cat : List Dataset) (p : Picture) (xs : List ℤ) → IsTyped cat p 0 0 xs xs
-typed_begin cat p xs all = subst (λ z. IsFilled (IsInBand cat p.file p.band) p.stride (p.to + 0) z xs xs) (let z : p.to + 0 ≡ p.to + 0 + 0 = omega arith in z) (filled_none (IsInBand cat p.file p.band) p.stride (p.to + 0) xs)
+typed_begin cat p xs all = subst (λ z. IsFilled (IsInBand cat p.dataset p.band) p.stride (p.to + 0) z xs xs) (let z : p.to + 0 ≡ p.to + 0 + 0 = omega arith in z) (filled_none (IsInBand cat p.dataset p.band) p.stride (p.to + 0) xs)
 
 -- some columns more
 pub typed_more : (cat : List Dataset) (p : Picture) (m n : ℕ) (old mid new : List ℤ) → IsTyped cat p 0 m old mid → IsTyped cat p m n mid new → IsTyped cat p 0 (m + n) old new
 typed_more cat p m n old mid new before here all =
-    subst (λ z. IsFilled (IsInBand cat p.file p.band) p.stride (p.to + 0) z old new) (let z : p.to + m + n ≡ p.to + 0 + (m + n) = omega arith in z)
-    (filled_columns (IsInBand cat p.file p.band) p.stride (p.to + 0) (p.to + m) (p.to + m + n) old mid new (omega arith) (omega arith)
-    (subst (λ z. IsFilled (IsInBand cat p.file p.band) p.stride (p.to + 0) z old mid) (let z : p.to + 0 + m ≡ p.to + m = omega arith in z) (before all)) (here all))
+    subst (λ z. IsFilled (IsInBand cat p.dataset p.band) p.stride (p.to + 0) z old new) (let z : p.to + m + n ≡ p.to + 0 + (m + n) = omega arith in z)
+    (filled_columns (IsInBand cat p.dataset p.band) p.stride (p.to + 0) (p.to + m) (p.to + m + n) old mid new (omega arith) (omega arith)
+    (subst (λ z. IsFilled (IsInBand cat p.dataset p.band) p.stride (p.to + 0) z old mid) (let z : p.to + 0 + m ≡ p.to + m = omega arith in z) (before all)) (here all))
 
 -- a row of blocks more
 pub rows_typed : (cat : List Dataset) (p : Picture) (r n a b : ℕ) (mid ys : List ℤ) → a ≡ r * p.stride → b ≡ (r + n) * p.stride → 0 < p.stride → (r + n) * p.stride ≤ length mid → length (mid_of a (b - a) mid) ≡ n * p.stride
     → AreTyped cat p (r * p.stride) mid → IsTyped cat p 0 p.width (mid_of a (b - a) mid) ys → AreTyped cat p ((r + n) * p.stride) (put_mid a (b - a) mid ys)
 rows_typed cat p r n a b mid ys ae be some fits size before here all =
     let f = here all in
-    filled_rows (IsInBand cat p.file p.band) p.stride (p.to + 0) (p.to + 0 + p.width) r n a b mid ys some ae be fits (f.size ∙ size) (before all) (λ k s. f.inside k (subst (λ m. k < m) (sym size) s))
+    filled_rows (IsInBand cat p.dataset p.band) p.stride (p.to + 0) (p.to + 0 + p.width) r n a b mid ys some ae be fits (f.size ∙ size) (before all) (λ k s. f.inside k (subst (λ m. k < m) (sym size) s))
 
 -- each sample of a whole window
 pub window_typed : (cat : List Dataset) (window : Window) (p : Picture) (xs : List ℤ) (n : ℕ) → IsWhole window p → 0 < window.rect.w → length xs ≡ n → AreTyped cat p n xs → All (IsInBand cat window.dataset window.band) xs
 window_typed cat window p xs n whole some size typed =
     let stride = whole.stride in let to = whole.to in let width = whole.width in
-    subst (λ id. All (IsInBand cat id window.band) xs) whole.file_is
-    (subst (λ band. All (IsInBand cat p.file band) xs) whole.band_is
-    (all_of (IsInBand cat p.file p.band) xs
+    subst (λ id. All (IsInBand cat id window.band) xs) whole.dataset_is
+    (subst (λ band. All (IsInBand cat p.dataset band) xs) whole.band_is
+    (all_of (IsInBand cat p.dataset p.band) xs
     (λ k q. let below = mod_below k p.stride (omega arith) in typed whole.taking k (omega arith) (omega arith) (omega arith))))
 
 pub no_sample : (P : ℤ → Type 0) (rect : Rect) (xs : List ℤ) → rect.w ≡ 0 → length xs ≡ rect.w * rect.h → All P xs

@@ -65,22 +65,22 @@ place_in_rect f rect x y left right top bottom =
     ∙ ap (f x) (let e : rect.y + (y - rect.y) ≡ y = omega arith in e)
 
 -- what a picture takes from the samples of a rectangle in which it lies
-pub rect_shown : (m : Files) (cat : List Dataset) (file band : ℕ) (rect : Rect) (p : Picture) (column columns line lines : ℕ) (block : BlockView) (old new : List ℤ) → p.file ≡ file → p.band ≡ band
+pub rect_shown : (m : Files) (cat : List Dataset) (id band : ℕ) (rect : Rect) (p : Picture) (column columns line lines : ℕ) (block : BlockView) (old new : List ℤ) → p.dataset ≡ id → p.band ≡ band
     → ((k : ℕ) → column ≤ k → k < column + columns → (rect.x ≤ place_at p.columns k) × (place_at p.columns k < rect.x + rect.w))
     → ((k : ℕ) → line ≤ k → k < line + lines → (rect.y ≤ place_at p.lines k) × (place_at p.lines k < rect.y + rect.h))
-    → block.samples ≡ row_by_row (pixel_of m cat file band) rect → 0 < p.stride → length old ≤ lines * p.stride
+    → block.samples ≡ row_by_row (pixel_of m cat id band) rect → 0 < p.stride → length old ≤ lines * p.stride
     → IsPainted (in_columns p.stride (p.to + column) (p.to + column + columns) (from_block block rect p column line)) old new
     → IsPainted (in_columns p.stride (p.to + column) (p.to + column + columns) (shown m cat p column line)) old new
-rect_shown m cat file band rect p column columns line lines block old new file_is band_is across down content grid size =
+rect_shown m cat id band rect p column columns line lines block old new dataset_is band_is across down content grid size =
     columns_same p.stride (p.to + column) columns lines (from_block block rect p column line) (shown m cat p column line) old new grid size
     (λ c r i j.
     let a = across (column + c) (omega arith) (omega arith) in
     let b = down (line + r) (omega arith) (omega arith) in
     ap (taken_by p.taking)
     (ap (λ l. get_or l ((place_at p.lines (line + r) - rect.y) * rect.w + (place_at p.columns (column + c) - rect.x)) (pos 0)) content
-    ∙ place_in_rect (pixel_of m cat file band) rect (place_at p.columns (column + c)) (place_at p.lines (line + r)) a.0 a.1 b.0 b.1
-    ∙ ap (λ n. pixel_of m cat n band (place_at p.columns (column + c)) (place_at p.lines (line + r))) (sym file_is)
-    ∙ ap (λ n. pixel_of m cat p.file n (place_at p.columns (column + c)) (place_at p.lines (line + r))) (sym band_is)))
+    ∙ place_in_rect (pixel_of m cat id band) rect (place_at p.columns (column + c)) (place_at p.lines (line + r)) a.0 a.1 b.0 b.1
+    ∙ ap (λ n. pixel_of m cat n band (place_at p.columns (column + c)) (place_at p.lines (line + r))) (sym dataset_is)
+    ∙ ap (λ n. pixel_of m cat p.dataset n (place_at p.columns (column + c)) (place_at p.lines (line + r))) (sym band_is)))
 
 module _ (told : Option Files) (cat : List Dataset) (p : Picture) (piece : Piece) (part : IsPartOf cat p piece) where
   abbrev key : BlockKey
@@ -116,8 +116,8 @@ module _ (told : Option Files) (cat : List Dataset) (p : Picture) (piece : Piece
       on None (Some e) g h s = size_of_block e.block (is_block_held told cat key e lane.made.entries h made)
       on (Some e) p g h s = size_of_block e.block (is_block_held told cat key e lane.pool.entries g pool)
 
-  pixels_are : (m : Files) → block_pixels m cat key.file key.band key.block ≡ row_by_row (pixel_of m cat key.file key.band) rect
-  pixels_are m = ap (block_by m cat key.file key.band key.block) part.in_range.at ∙ ap (row_by_row (pixel_of m cat key.file key.band)) (sym part.rect_is)
+  pixels_are : (m : Files) → block_pixels m cat key.dataset key.band key.block ≡ row_by_row (pixel_of m cat key.dataset key.band) rect
+  pixels_are m = ap (block_by m cat key.dataset key.band key.block) part.in_range.at ∙ ap (row_by_row (pixel_of m cat key.dataset key.band)) (sym part.rect_is)
 
   block_shown : (es : List (BlockKey × Entry)) (old new : List ℤ) → AreBlocks told cat es → 0 < p.stride → length old ≤ lines * p.stride
       → IsSomeAnd (held_at key es) (λ e. IsPainted (in_columns p.stride (p.to + column) (p.to + column + columns) (from_block e.block rect p column line)) old new)
@@ -130,7 +130,7 @@ module _ (told : Option Files) (cat : List Dataset) (p : Picture) (piece : Piece
       on None h q = absurd q
       on (Some entry) h q =
           let block = is_block_held told cat key entry es h all in
-          rect_shown m cat key.file key.band rect p column columns line lines entry.block old new part.file part.band part.across part.down (block.content m e ∙ pixels_are m) grid size q
+          rect_shown m cat key.dataset key.band rect p column columns line lines entry.block old new part.dataset_is part.band part.across part.down (block.content m e ∙ pixels_are m) grid size q
 
   -- what is painted from a block that is held, in the pool or beside it
   pub used_shown : {File : Type 0} (lane lane' : LaneView File) (old new : List ℤ) → AreBlocks told cat lane.pool.entries → AreBlocks told cat lane.made.entries → 0 < p.stride → length old ≤ lines * p.stride

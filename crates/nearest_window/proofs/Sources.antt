@@ -119,13 +119,13 @@ not_wanted b P is h = elim h [
 
 -- what a source gives is what is made of the pixels that it was asked for
 
-module _ (told : Option Files) (cat : List Dataset) (key : BlockKey) (number : ℕ) (s : SourceValue) (c : Canvas) (a : Asked) (asked : IsAsked cat key number s c a) (d : Dataset) (at : slice_get cat key.file ≡ Some d)
+module _ (told : Option Files) (cat : List Dataset) (key : BlockKey) (number : ℕ) (s : SourceValue) (c : Canvas) (a : Asked) (asked : IsAsked cat key number s c a) (d : Dataset) (at : slice_get cat key.dataset ≡ Some d)
     (taking : Taking) (makes : (pixel : ℤ) → taken_by taking pixel ≡ value_of s pixel) (zeros pixels : List ℤ) (size : length zeros ≡ a.part.w * a.part.h) where
   abbrev target : Size
   target = target_size cat d key.band number
 
   pixel_there : (m : Files) → IsPainted (in_columns a.picture.stride (a.picture.to + 0) (a.picture.to + 0 + a.picture.width) (shown m cat a.picture 0 0)) zeros pixels → (i j : ℕ) → i < a.part.w → j < a.part.h
-      → get_or pixels (j * a.part.w + i) (pos 0) ≡ pixel_of m cat a.picture.file a.picture.band (place_at a.picture.columns i) (place_at a.picture.lines j)
+      → get_or pixels (j * a.part.w + i) (pos 0) ≡ pixel_of m cat a.picture.dataset a.picture.band (place_at a.picture.columns i) (place_at a.picture.lines j)
   pixel_there m h i j p q =
       let to = asked.to in let width = asked.width in let stride = asked.stride in
       let below : i < a.picture.stride = omega arith in
@@ -137,11 +137,11 @@ module _ (told : Option Files) (cat : List Dataset) (key : BlockKey) (number : �
       ∙ ap (λ o. unwrap_or o (get_or zeros (j * a.picture.stride + i) (pos 0)))
       (in_columns_at a.picture.stride (a.picture.to + 0) (a.picture.to + 0 + a.picture.width) (shown m cat a.picture 0 0) j i below
       ∙ placed_in (a.picture.to + 0) (a.picture.to + 0 + a.picture.width) (λ c. shown m cat a.picture 0 0 c j) i (omega arith) (omega arith)
-      ∙ ap (λ t. taken_by t (pixel_of m cat a.picture.file a.picture.band (place_at a.picture.columns (0 + (i - (a.picture.to + 0)))) (place_at a.picture.lines (0 + j)))) asked.taking
-      ∙ ap (λ n. Some (pixel_of m cat a.picture.file a.picture.band (place_at a.picture.columns n) (place_at a.picture.lines (0 + j)))) column
-      ∙ ap (λ n. Some (pixel_of m cat a.picture.file a.picture.band (place_at a.picture.columns i) (place_at a.picture.lines n))) line)
+      ∙ ap (λ t. taken_by t (pixel_of m cat a.picture.dataset a.picture.band (place_at a.picture.columns (0 + (i - (a.picture.to + 0)))) (place_at a.picture.lines (0 + j)))) asked.taking
+      ∙ ap (λ n. Some (pixel_of m cat a.picture.dataset a.picture.band (place_at a.picture.columns n) (place_at a.picture.lines (0 + j)))) column
+      ∙ ap (λ n. Some (pixel_of m cat a.picture.dataset a.picture.band (place_at a.picture.columns i) (place_at a.picture.lines n))) line)
 
-  given_there : (m : Files) (x y : ℕ) → IsIn a.part x y → given_of s d.head.size target (target_pixel m cat d key.band number) x y ≡ value_of s (pixel_of m cat a.picture.file a.picture.band (place_at a.picture.columns (x - a.part.x)) (place_at a.picture.lines (y - a.part.y)))
+  given_there : (m : Files) (x y : ℕ) → IsIn a.part x y → given_of s d.head.size target (target_pixel m cat d key.band number) x y ≡ value_of s (pixel_of m cat a.picture.dataset a.picture.band (place_at a.picture.columns (x - a.part.x)) (place_at a.picture.lines (y - a.part.y)))
   given_there m x y p =
       let l = p.left in let r = p.right in let t = p.top in let b = p.bottom in
       let across : a.part.x + (x - a.part.x) ≡ x = omega arith in
@@ -185,7 +185,7 @@ module _ (told : Option Files) (cat : List Dataset) (key : BlockKey) (number : �
           taken.inside x y p
           ∙ ap (λ o. option_map (clamp c.kind) (option_or (stands_at c x y) o))
           (ap (taken_by taking) (pixel_there m (painted m e) (x - a.part.x) (y - a.part.y) (omega arith) (omega arith))
-          ∙ makes (pixel_of m cat a.picture.file a.picture.band (place_at a.picture.columns (x - a.part.x)) (place_at a.picture.lines (y - a.part.y)))
+          ∙ makes (pixel_of m cat a.picture.dataset a.picture.band (place_at a.picture.columns (x - a.part.x)) (place_at a.picture.lines (y - a.part.y)))
           ∙ sym (given_there m x y p))
       | inr p ↦ ap (option_map (clamp c.kind)) (taken.outside x y there p ∙ elim (asked.outside d at x y there p) [
         | inl q ↦ sym (or_filled (stands_at c x y) (given_of s d.head.size target (target_pixel m cat d key.band number) x y) q)
@@ -224,7 +224,7 @@ packed_part told cat key b mosaic rect c block valid rules some same_rect same_k
   dataset = mosaic.dataset;
   in_range = mosaic.in_range;
   shape = record {
-    kind = band_told cat valid key.file mosaic.dataset mosaic.in_range.at mosaic.document mosaic.content key.band b mosaic.band_at ∙ ap (λ t. Some t) (sym same_kind) ∙ ap (λ (v : BlockView). Some v.kind) (sym packed.packed);
+    kind = band_told cat valid key.dataset mosaic.dataset mosaic.in_range.at mosaic.document mosaic.content key.band b mosaic.band_at ∙ ap (λ t. Some t) (sym same_kind) ∙ ap (λ (v : BlockView). Some v.kind) (sym packed.packed);
     count = whole;
     range = fits.range;
   };
@@ -243,9 +243,9 @@ packed_part told cat key b mosaic rect c block valid rules some same_rect same_k
     kept : clamp c.kind (unwrap_or b.nodata (pos 0)) ≡ unwrap_or b.nodata (pos 0)
     kept = ap (λ t. clamp t (unwrap_or b.nodata (pos 0))) same_kind ∙ nodata_kept b rules
 
-    content : (m : Files) → told ≡ Some m → block.samples ≡ row_by_row (pixel_of m cat key.file key.band) rect
+    content : (m : Files) → told ≡ Some m → block.samples ≡ row_by_row (pixel_of m cat key.dataset key.band) rect
     content m e =
-        filled_row_by_row (pixel_of m cat key.file key.band) rect block.samples (pos 0) whole
+        filled_row_by_row (pixel_of m cat key.dataset key.band) rect block.samples (pos 0) whole
         (λ k p.
         let q : k < length packed.samples = subst (λ n. k < n) (sym size) p in
         let column = mod_below k rect.w some in
@@ -259,4 +259,4 @@ packed_part told cat key b mosaic rect c block valid rules some same_rect same_k
         ∙ ap (clamp c.kind) (packed.each k (subst (λ (r : Rect). k < r.w * r.h) (sym same_rect) p) ∙ ap (λ n. unwrap_or (stands c.samples.items n) (unwrap_or b.nodata (pos 0))) (sym back))
         ∙ same_value c.kind _ _ (unwrap_or b.nodata (pos 0)) kept there
         ∙ ap (λ t. unwrap_or (option_map (clamp t) (last_given b.sources 0 mosaic.dataset.head.size (target_size cat mosaic.dataset key.band) (target_pixel m cat mosaic.dataset key.band) (rect.x + k % rect.w) (rect.y + k / rect.w))) (unwrap_or b.nodata (pos 0))) same_kind
-        ∙ sym (pixels_are cat valid key.file mosaic.dataset mosaic.in_range.at mosaic.document mosaic.content m key.band (rect.x + k % rect.w) (rect.y + k / rect.w) b mosaic.band_at))
+        ∙ sym (pixels_are cat valid key.dataset mosaic.dataset mosaic.in_range.at mosaic.document mosaic.content m key.band (rect.x + k % rect.w) (rect.y + k / rect.w) b mosaic.band_at))

@@ -107,7 +107,7 @@ IsUnasked s mosaic size c = (x y : ℕ) → IsIn c.rect x y → (is_some (stands
 -- source covers; beside the part something stands, or the source covers nothing
 pub record IsAsked (cat : List Dataset) (key : BlockKey) (number : ℕ) (s : SourceValue) (c : Canvas) (a : Asked) : Type 0 where
   pub picture : IsPictureOf cat a.picture
-  pub falls : height_at cat a.picture.file < height_at cat key.file
+  pub falls : height_at cat a.picture.dataset < height_at cat key.dataset
   pub inside : IsInside c.rect a.part
   pub width : a.picture.width ≡ a.part.w
   pub height : a.picture.height ≡ a.part.h
@@ -115,10 +115,10 @@ pub record IsAsked (cat : List Dataset) (key : BlockKey) (number : ℕ) (s : Sou
   pub stride : a.picture.stride ≡ a.part.w
   pub taking : a.picture.taking ≡ All
   pub size : length a.pixels.items ≡ a.part.w * a.part.h
-  pub pixels : (m : Files) (d : Dataset) → slice_get cat key.file ≡ Some d → (x y : ℕ) → target_pixel m cat d key.band number x y ≡ pixel_of m cat a.picture.file a.picture.band x y
-  pub across : (d : Dataset) → slice_get cat key.file ≡ Some d → (k : ℕ) → k < a.part.w → axis_at (columns_of s d.head.size (target_size cat d key.band number)) (target_size cat d key.band number).w (a.part.x + k) ≡ Some (place_at a.picture.columns k)
-  pub down : (d : Dataset) → slice_get cat key.file ≡ Some d → (k : ℕ) → k < a.part.h → axis_at (lines_of s d.head.size (target_size cat d key.band number)) (target_size cat d key.band number).h (a.part.y + k) ≡ Some (place_at a.picture.lines k)
-  pub outside : (d : Dataset) → slice_get cat key.file ≡ Some d → (x y : ℕ) → IsIn c.rect x y → (IsIn a.part x y → ⊥) → (is_some (stands_at c x y) ≡ true) ⊎ (cover_of s d.head.size (target_size cat d key.band number) x y ≡ None)
+  pub pixels : (m : Files) (d : Dataset) → slice_get cat key.dataset ≡ Some d → (x y : ℕ) → target_pixel m cat d key.band number x y ≡ pixel_of m cat a.picture.dataset a.picture.band x y
+  pub across : (d : Dataset) → slice_get cat key.dataset ≡ Some d → (k : ℕ) → k < a.part.w → axis_at (columns_of s d.head.size (target_size cat d key.band number)) (target_size cat d key.band number).w (a.part.x + k) ≡ Some (place_at a.picture.columns k)
+  pub down : (d : Dataset) → slice_get cat key.dataset ≡ Some d → (k : ℕ) → k < a.part.h → axis_at (lines_of s d.head.size (target_size cat d key.band number)) (target_size cat d key.band number).h (a.part.y + k) ≡ Some (place_at a.picture.lines k)
+  pub outside : (d : Dataset) → slice_get cat key.dataset ≡ Some d → (x y : ℕ) → IsIn c.rect x y → (IsIn a.part x y → ⊥) → (is_some (stands_at c x y) ≡ true) ⊎ (cover_of s d.head.size (target_size cat d key.band number) x y ≡ None)
 
 -- what a source of a dataset's band gives stands where the canvas was open
 pub record IsSourceTaken (told : Option Files) (cat : List Dataset) (d : Dataset) (band number : ℕ) (s : SourceValue) (old new : Canvas) : Type 0 where

@@ -27,7 +27,7 @@ pub record IsPartBlock (told : Option Files) (cat : List Dataset) (key : BlockKe
   pub dataset : Dataset
   pub in_range : IsKeyOf cat key dataset
   pub shape : IsOfBand dataset key.band rect block
-  pub content : (m : Files) → told ≡ Some m → block.samples ≡ row_by_row (pixel_of m cat key.file key.band) rect
+  pub content : (m : Files) → told ≡ Some m → block.samples ≡ row_by_row (pixel_of m cat key.dataset key.band) rect
 
 -- each held block is that of its key
 abbrev pub AreBlocks : Option Files → List Dataset → List (BlockKey × Entry) → Type 0

@@ -25,7 +25,7 @@ pub struct Asked<'a> {
 
 // The pixels of a picture as they are, beside the rows that it would be painted over.
 fn picture_alone<'a>(picture: Picture<'a>) -> Picture<'a>
-    ensures file { result.file ≡ picture.entry.file }
+    ensures dataset { result.dataset ≡ picture.entry.dataset }
     ensures band { result.band ≡ picture.entry.band }
     ensures taking { result.taking ≡ Taking.All }
     ensures width { result.width ≡ picture.entry.width }
@@ -54,9 +54,9 @@ pub fn asked_of<'a>(
     canvas: &Canvas,
 ) -> Result<Option<Asked<'a>>, AllocError>
     requires source { IsSourceOf cat.now source.key source.number source.source.now }
-    requires within { (d : Dataset) → slice_get cat.now source.key.file ≡ Some d → IsWithin canvas.now.rect d.head.size }
+    requires within { (d : Dataset) → slice_get cat.now source.key.dataset ≡ Some d → IsWithin canvas.now.rect d.head.size }
     requires canvas { IsCanvas canvas.now }
-    ensures none { IfOk result (λ o. o ≡ None → (d : Dataset) → slice_get cat.now source.entry.key.file ≡ Some d → IsUnasked source.entry.source.now d.head.size (target_size cat.now d source.entry.key.band source.entry.number) canvas.now) }
+    ensures none { IfOk result (λ o. o ≡ None → (d : Dataset) → slice_get cat.now source.entry.key.dataset ≡ Some d → IsUnasked source.entry.source.now d.head.size (target_size cat.now d source.entry.key.band source.entry.number) canvas.now) }
     ensures asked { IfOk result (λ o. IfSome o (IsAsked cat.now source.entry.key source.entry.number source.entry.source.now canvas.now)) }
 {
     // This call is made for the proof: it says what holds of every catalog.

@@ -279,7 +279,7 @@ impl<F: Folder> Lane<F> {
         requires ready { IsReady F.Folder folder.old cat.now self.old }
         requires key { IsMosaicKey cat.now key band.now }
         requires sources { length band.now.sources < 2 ^ 32 }
-        requires within { (d : Dataset) → slice_get cat.now key.file ≡ Some d → IsWithin rect d.head.size }
+        requires within { (d : Dataset) → slice_get cat.now key.dataset ≡ Some d → IsWithin rect d.head.size }
         requires few { rect.w * rect.h < 2 ^ 32 }
         ensures serves { Served F.Folder cat.now result folder.old self.old loads.old folder.new self.new loads.new }
         ensures cause { HasCause LoadFault.FolderFault (F.faults folder.old) (F.faults folder.new) result }
@@ -322,14 +322,14 @@ impl<F: Folder> Lane<F> {
     ) -> Result<(), LoadFault>
         requires ready { IsReady F.Folder folder.old cat.now self.old }
         requires source { IsSourceOf cat.now source.key source.number source.source.now }
-        requires within { (d : Dataset) → slice_get cat.now source.key.file ≡ Some d → IsWithin canvas.old.rect d.head.size }
+        requires within { (d : Dataset) → slice_get cat.now source.key.dataset ≡ Some d → IsWithin canvas.old.rect d.head.size }
         requires canvas { IsCanvas canvas.old }
         ensures serves { Served F.Folder cat.now result folder.old self.old loads.old folder.new self.new loads.new }
         ensures cause { HasCause LoadFault.FolderFault (F.faults folder.old) (F.faults folder.new) result }
         ensures changed { IfErr result (TellsChangeIn cat.now) }
         ensures never { WhereTold F.Folder folder.old (λ _. IfErr result IsUnchanged) }
         ensures canvas { OnOk result (IsCanvas canvas.new) }
-        ensures taken { (d : Dataset) → slice_get cat.now source.entry.key.file ≡ Some d → OnOk result (IsSourceTaken (F.names folder.new) cat.now d source.entry.key.band source.entry.number source.entry.source.now canvas.old canvas.new) }
+        ensures taken { (d : Dataset) → slice_get cat.now source.entry.key.dataset ≡ Some d → OnOk result (IsSourceTaken (F.names folder.new) cat.now d source.entry.key.band source.entry.number source.entry.source.now canvas.old canvas.new) }
     {
         let Some(asked) = asked_of(alloc, cat, source, canvas)? else {
             return Ok(());

@@ -44,7 +44,7 @@ fn window_of<'a>(cat: &Catalog, window: Window) -> Picture<'a>
     let _count = cat.count();
     let rect = window.rect;
     Picture {
-        file: window.dataset,
+        dataset: window.dataset,
         band: window.band,
         taking: Taking::All,
         width: rect.w,
@@ -63,7 +63,9 @@ impl<F: Folder> Lane<F> {
     ///
     /// Each block of a file that isn't held is loaded, which ticks `loads` once. A block of a mosaic is
     /// made of the blocks of its sources, through every nesting, and takes memory for its samples until it
-    /// is whole. Where the pool is full, a small part of such a block is made without the block.
+    /// is whole. Where the pool is full, any part of such a block is made without the block, until the call
+    /// has filled 131,072 pixels and eight times its own; from then on whole blocks are made, and up to
+    /// 1,024 of them are kept beside the pool.
     ///
     /// FolderFault comes only where the folder's count rose, Memory freely. Changed comes only where a
     /// file was opened again and had another length than the walk found, or was absent: never over a

@@ -77,7 +77,7 @@ fn load_counted<F: Folder, L: Ledger>(
     blank: Blank,
 ) -> Loaded
     requires key { IsKey cat.now key }
-    requires file { (d : Dataset) → slice_get cat.now key.file ≡ Some d → IsSome (driver_of d.content) }
+    requires file { (d : Dataset) → slice_get cat.now key.dataset ≡ Some d → IsSome (driver_of d.content) }
     requires good { AreGood F.file_bytes F.file_len (F.names folder.old) cat.now files.old }
     requires name { blank.name ≡ L.name }
     requires parts { blank.parts ≡ L.parts }
@@ -116,7 +116,7 @@ fn load_at<F: Folder>(
         return Loaded::NoPixel;
     }
     let key = BlockKey {
-        file: id,
+        dataset: id,
         band,
         block: block_at(head, band, x, y),
     };

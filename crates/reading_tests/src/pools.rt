@@ -59,7 +59,7 @@ const THREE: [Step; 12] = [
 
 fn key(number: u64) -> BlockKey {
     BlockKey {
-        file: 3,
+        dataset: 3,
         band: 1,
         block: number,
     }

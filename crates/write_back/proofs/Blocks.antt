@@ -34,7 +34,7 @@ pub place_of : (h : Head) (k u v : ℕ) → IsSpot (Raw h) k u v → IsPlace h k
 place_of h k u v spot = record { band = spot.band; column = spot.spot; line = spot.block }
 
 -- a whole line that was written is a block that was written
-pub raw_written : (h : Head) (key : BlockKey) (line : List ℤ) (b c : List ℕ) → key.file ≡ 0 → IsRunWritten h key.band key.block 0 h.size.w line b c → IsBlockWritten (Raw h) key line b c
+pub raw_written : (h : Head) (key : BlockKey) (line : List ℤ) (b c : List ℕ) → key.dataset ≡ 0 → IsRunWritten h key.band key.block 0 h.size.w line b c → IsBlockWritten (Raw h) key line b c
 raw_written h key line b c file put = record {
   len = put.len;
   formed = put.small;
@@ -68,11 +68,11 @@ bytes_len [] = refl
 bytes_len (n ∷ ns) = let a = length-append (sample_bytes n) (row_bytes ns) in let b = sample_bytes_len n in let c = bytes_len ns in omega arith
 
 -- blocks of one band that differ are of other numbers
-pub other_block : (key : BlockKey) (k v : ℕ) → key.file ≡ 0 → key.band < 1 → k < 1 → (line_key k v ≡ key → ⊥) → v ≡ key.block → ⊥
+pub other_block : (key : BlockKey) (k v : ℕ) → key.dataset ≡ 0 → key.band < 1 → k < 1 → (line_key k v ≡ key → ⊥) → v ≡ key.block → ⊥
 other_block key k v file band one other same = other (ap (λ n. line_key n v) (let e : k ≡ key.band = omega arith in e) ∙ ap (λ n. line_key key.band n) same ∙ line_is key file)
 
 -- the line of a tile that was written
-module _ (side : ℕ) (key : BlockKey) (samples : List ℤ) (b : List ℕ) (file : key.file ≡ 0) (band : key.band < 1) (line : key.block < side) (count : length samples ≡ side) (range : All (λ n. is_in Int16 n ≡ true) samples)
+module _ (side : ℕ) (key : BlockKey) (samples : List ℤ) (b : List ℕ) (file : key.dataset ≡ 0) (band : key.band < 1) (line : key.block < side) (count : length samples ≡ side) (range : All (λ n. is_in Int16 n ≡ true) samples)
     (small : AreBytes (row_bytes samples)) (long : length b ≡ 2 * (side * side)) where
   more : (v y : ℕ) → v < y → v * side + side ≤ y * side
   more v y less = let big : suc v * side ≤ y * side = mul-le-mul_right side less in let e : suc v * side ≡ v * side + side = grind arith in omega arith
@@ -123,7 +123,7 @@ module _ {E : Type 0} (side : ℕ) (key : BlockKey) (block : BlockView) (old new
   tile_done : (r : Result (Unit {0}) E) → IsLine (Hgt side) key block → OnOk r (Written (2 * (key.block * side)) (row_bytes block.samples) old new)
       → OnOk r ((b : List ℕ) → old ≡ Some b → length b ≡ needed_of (Hgt side) → (c : List ℕ) × (new ≡ Some c) × IsBlockWritten (Hgt side) key block.samples b c)
   tile_done (Err e) line put = put
-  tile_done (Ok x) line put = λ b told long. (put_at (2 * (key.block * side)) (row_bytes block.samples) b, put b told, tile_written side key block.samples b line.file line.band line.line line.count line.range small long)
+  tile_done (Ok x) line put = λ b told long. (put_at (2 * (key.block * side)) (row_bytes block.samples) b, put b told, tile_written side key block.samples b line.dataset_is line.band line.line line.count line.range small long)
 
   pub tile_block : (w : Writer) (r : Result (Unit {0}) E) → w ≡ Hgt side → IsLine w key block → OnOk r (Written (2 * (key.block * side)) (row_bytes block.samples) old new)
       → OnOk r ((b : List ℕ) → old ≡ Some b → length b ≡ needed_of w → (c : List ℕ) × (new ≡ Some c) × IsBlockWritten w key block.samples b c)

@@ -35,7 +35,7 @@ record_before h v x less =
     omega arith
 
 -- the record of a column that was written
-module _ (c : Cell) (key : BlockKey) (samples : List ℤ) (b : List ℕ) (file : key.file ≡ 0) (band : key.band < 1) (line : key.block < c.head.lines) (count : length samples ≡ c.head.points) (range : All (λ n. is_elevation n ≡ true) samples)
+module _ (c : Cell) (key : BlockKey) (samples : List ℤ) (b : List ℕ) (file : key.dataset ≡ 0) (band : key.band < 1) (line : key.block < c.head.lines) (count : length samples ≡ c.head.points) (range : All (λ n. is_elevation n ≡ true) samples)
     (small : AreBytes (record_bytes key.block samples)) (long : length b ≡ places.needed_of c.head) where
   size : length (record_bytes key.block samples) ≡ record_len c.head
   size = record_size key.block samples ∙ ap (λ n. 12 + 2 * n) count
@@ -135,7 +135,7 @@ module _ {E : Type 0} (c : Cell) (key : BlockKey) (block : BlockView) (old new :
   cell_done : (r : Result (Unit {0}) E) → IsLine (Dted c) key block → OnOk r (Written (record_of c.head key.block) (record_bytes key.block block.samples) old new)
       → OnOk r ((b : List ℕ) → old ≡ Some b → length b ≡ needed_of (Dted c) → (d : List ℕ) × (new ≡ Some d) × IsBlockWritten (Dted c) key block.samples b d)
   cell_done (Err e) line put = put
-  cell_done (Ok x) line put = λ b told long. (put_at (record_of c.head key.block) (record_bytes key.block block.samples) b, put b told, cell_written c key block.samples b line.file line.band line.line line.count line.range small long)
+  cell_done (Ok x) line put = λ b told long. (put_at (record_of c.head key.block) (record_bytes key.block block.samples) b, put b told, cell_written c key block.samples b line.dataset_is line.band line.line line.count line.range small long)
 
   pub cell_block : (w : Writer) (r : Result (Unit {0}) E) → w ≡ Dted c → IsLine w key block → OnOk r (Written (record_of c.head key.block) (record_bytes key.block block.samples) old new)
       → OnOk r ((b : List ℕ) → old ≡ Some b → length b ≡ needed_of w → (d : List ℕ) × (new ≡ Some d) × IsBlockWritten w key block.samples b d)

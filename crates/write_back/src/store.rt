@@ -162,7 +162,7 @@ impl<F: Folder> Store<F> {
         ensures cause { HasCause TargetFault.FolderFault (F.faults folder.old) (F.faults folder.new) result }
     {
         let key = BlockKey {
-            file: 0,
+            dataset: 0,
             band: spot.band,
             block: spot.y as u64,
         };

@@ -10,7 +10,7 @@ returns-in_default-clause-none c = λ e d at. unseen_unasked c.args.source.sourc
 pub overflow_add-part : goal.overflow_add-part
 overflow_add-part c =
     let of = c.requires.source in
-    let ends = ends_below c.args.cat.now c.args.source.key.file of.dataset c.args.canvas.now.rect c.count-count.ensures.valid of.in_range.at (c.requires.within of.dataset of.in_range.at) in
+    let ends = ends_below c.args.cat.now c.args.source.key.dataset of.dataset c.args.canvas.now.rect c.count-count.ensures.valid of.in_range.at (c.requires.within of.dataset of.in_range.at) in
     let seen = rw c.in-Some.is at c.in_ok-picture.ensures.seen in
     let here = seen.seen of.dataset of.in_range.at in
     let i = here.across.inside in
@@ -20,7 +20,7 @@ overflow_add-part c =
 pub overflow_add-part-2 : goal.overflow_add-part-2
 overflow_add-part-2 c =
     let of = c.requires.source in
-    let ends = ends_below c.args.cat.now c.args.source.key.file of.dataset c.args.canvas.now.rect c.count-count.ensures.valid of.in_range.at (c.requires.within of.dataset of.in_range.at) in
+    let ends = ends_below c.args.cat.now c.args.source.key.dataset of.dataset c.args.canvas.now.rect c.count-count.ensures.valid of.in_range.at (c.requires.within of.dataset of.in_range.at) in
     let seen = rw c.in-Some.is at c.in_ok-picture.ensures.seen in
     let here = seen.seen of.dataset of.in_range.at in
     let i = here.down.inside in
@@ -46,4 +46,4 @@ returns-clause-asked c =
     let o = c.picture_alone.ensures in
     let room : length c.in_ok-pixels.pixels.items ≡ c.in-Some.picture.width * c.in-Some.picture.height = first_of (search rules, grind (arith, common_steps)) in
     asked_is c.args.cat.now c.args.source.key c.args.source.number c.args.source.source.now c.args.canvas.now c.in-Some.picture c.picture_alone.result _ c.requires.source seen known falls
-    o.file o.band o.taking o.width o.columns o.height o.lines o.to o.stride refl refl refl refl refl room
+    o.dataset o.band o.taking o.width o.columns o.height o.lines o.to o.stride refl refl refl refl refl room

@@ -77,8 +77,8 @@ fill-paint-requires g t c =
     let walked : (m : Files) → g.F.Folder.names c.loop-key.folder ≡ Some m → IsWalked m c.args.cat.now = λ m e. c.requires.ready.walked m (sym told ∙ e) in
     let item : slice_get c.args.band.now.sources (c.loop-key.number - 1) ≡ Some c.get-source.result.now = ap (λ (l : List SourceValue). slice_get l (c.loop-key.number - 1)) (sym (ap (λ (b : BandValue). b.sources) c.band.view_is)) ∙ c.get-source.ensures.item in
     let source : IsSourceOf c.args.cat.now c.args.key (c.loop-key.number - 1) c.get-source.result.now = record { dataset = k.dataset; in_range = k.in_range; source = source_stands c.args.cat.now c.args.key c.args.band.now k (c.loop-key.number - 1) c.get-source.result.now item } in
-    let fall : 6 * height_at c.args.cat.now c.args.key.file < t = (let m : 6 * height_at c.args.cat.now c.args.key.file + 1 ≡ t = c.decreases in omega arith) in
-    let within : (d : Dataset) → slice_get c.args.cat.now c.args.key.file ≡ Some d → IsWithin c.loop-key.canvas.rect d.head.size = λ d at. subst (λ r. IsWithin r d.head.size) (sym before.rect) (c.requires.within d at) in
+    let fall : 6 * height_at c.args.cat.now c.args.key.dataset < t = (let m : 6 * height_at c.args.cat.now c.args.key.dataset + 1 ≡ t = c.decreases in omega arith) in
+    let within : (d : Dataset) → slice_get c.args.cat.now c.args.key.dataset ≡ Some d → IsWithin c.loop-key.canvas.rect d.head.size = λ d at. subst (λ r. IsWithin r d.head.size) (sym before.rect) (c.requires.within d at) in
     let canvas = before.canvas in
     let ready : IsReady g.F.Folder c.loop-key.folder c.args.cat.now c.loop-key.self = record { right = right; walked = walked } in
     search (rules, fall, ready, source, within, canvas)
@@ -214,7 +214,7 @@ paint_band-paint_block-requires-clause-piece g t c κs within =
       dataset = around.dataset;
       in_range = around.in_range;
       rect_is = around.rect_is;
-      file = around.file;
+      dataset_is = around.dataset_is;
       band = around.band;
       across = λ k low high. (c.run_end-end.ensures.low k low (omega arith), c.run_end-end.ensures.edge k low (omega arith));
       down = λ k low high. from_row c.args.cat.now c.args.picture.now c.loop-column.column c.args.lines.first c.block_around.result.key c.block_around.result.rect around (place_at c.args.picture.now.lines k)
@@ -257,13 +257,13 @@ paint_block-returns-in-Some-clause-painted g t c = λ m e.
     let part = rw c.in-Some.is at c.lone_part.ensures.part in
     let made = c.in_ok-block.ensures.block in
     let rows = c.requires.rows in
-    rect_shown m c.args.cat.now c.args.piece.key.file c.args.piece.key.band c.in-Some.part.rect c.args.picture.now c.args.piece.area.column c.args.piece.area.columns c.args.piece.area.line c.args.piece.area.lines c.in_ok-block.block c.args.out.now c.paint_rows.new.out part.file part.band_is part.across part.down (made.content m e) c.requires.picture.picture.some (omega arith) c.paint_rows.ensures.painted
+    rect_shown m c.args.cat.now c.args.piece.key.dataset c.args.piece.key.band c.in-Some.part.rect c.args.picture.now c.args.piece.area.column c.args.piece.area.columns c.args.piece.area.line c.args.piece.area.lines c.in_ok-block.block c.args.out.now c.paint_rows.new.out part.dataset_is part.band_is part.across part.down (made.content m e) c.requires.picture.picture.some (omega arith) c.paint_rows.ensures.painted
 
 pub paint_block-returns-in-Some-clause-typed : goal.paint_block-returns-in-Some-clause-typed
 paint_block-returns-in-Some-clause-typed g t c =
     let part = rw c.in-Some.is at c.lone_part.ensures.part in
     let made = c.in_ok-block.ensures.block in
-    rect_typed c.args.cat.now c.args.picture.now c.args.piece c.in-Some.part.rect made.dataset c.in_ok-block.block c.args.out.now c.paint_rows.new.out part.file part.band_is made.in_range made.shape c.paint_rows.ensures.painted
+    rect_typed c.args.cat.now c.args.picture.now c.args.piece c.in-Some.part.rect made.dataset c.in_ok-block.block c.args.out.now c.paint_rows.new.out part.dataset_is part.band_is made.in_range made.shape c.paint_rows.ensures.painted
 
 pub paint_block-returns-clause-typed : goal.paint_block-returns-clause-typed
 paint_block-returns-clause-typed g t c =

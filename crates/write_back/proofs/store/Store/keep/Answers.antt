@@ -21,7 +21,7 @@ returns-in-Ok-None-clause-changed g c =
     let none : None ≡ dropped p.capacity c.args.key p.entries = rw c.in-Ok-None.field-0-is at o.dropped in
     record {
       long = refl;
-      told = λ b has. admitted_changes h p c.admit.new.self c.args.key (entry_of c.args.block true) b b _ c.requires.sound o.entries o.valid c.requires.line.file refl has.kept has.long has.formed (settled_none h p.capacity c.args.key p.entries b (sym none)) has.is;
+      told = λ b has. admitted_changes h p c.admit.new.self c.args.key (entry_of c.args.block true) b b _ c.requires.sound o.entries o.valid c.requires.line.dataset_is refl has.kept has.long has.formed (settled_none h p.capacity c.args.key p.entries b (sym none)) has.is;
     }
 
 pub returns-then-not-last-clause-serves : goal.returns-then-not-last-clause-serves
@@ -39,7 +39,7 @@ returns-then-not-last-clause-changed g c =
     let clean : c.in-Ok-Some.last.dirty ≡ false = not_true c.in-Ok-Some.last.dirty c.if-not-last.true in
     record {
       long = refl;
-      told = λ b has. admitted_changes h p c.admit.new.self c.args.key (entry_of c.args.block true) b b _ c.requires.sound o.entries o.valid c.requires.line.file refl has.kept has.long has.formed (settled_clean h p.capacity c.args.key p.entries b (entry_dropped c.in-Ok-Some.last) (sym out) clean) has.is;
+      told = λ b has. admitted_changes h p c.admit.new.self c.args.key (entry_of c.args.block true) b b _ c.requires.sound o.entries o.valid c.requires.line.dataset_is refl has.kept has.long has.formed (settled_clean h p.capacity c.args.key p.entries b (entry_dropped c.in-Ok-Some.last) (sym out) clean) has.is;
     }
 
 pub write-requires-clause-line : goal.write-requires-clause-line
@@ -59,7 +59,7 @@ returns-in-Ok-Some-clause-serves g c =
     let out : Some (entry_dropped c.in-Ok-Some.last) ≡ dropped p.capacity c.args.key p.entries = rw c.in-Ok-Some.field-0-is at o.dropped in
     let q : c.write.new.self.pool ≡ c.admit.new.self = w.pool in
     let sound = admitted_sound h p c.admit.new.self c.args.key (entry_of c.args.block true) c.requires.sound o.entries o.valid c.requires.line in
-    serves_written h _ _ p c.write.new.self.pool _ _ _ _ _ _ _ _ _ _ _ _ _ _ c.args.key (entry_dropped c.in-Ok-Some.last) c.requires.sound (rw q sound) (ap (λ (r : PoolView). r.capacity) (q ∙ o.entries)) c.requires.line.file c.requires.line.band c.requires.line.line c.requires.absent (sym out) w.names w.name w.reads w.cause.later w.calls w.one
+    serves_written h _ _ p c.write.new.self.pool _ _ _ _ _ _ _ _ _ _ _ _ _ _ c.args.key (entry_dropped c.in-Ok-Some.last) c.requires.sound (rw q sound) (ap (λ (r : PoolView). r.capacity) (q ∙ o.entries)) c.requires.line.dataset_is c.requires.line.band c.requires.line.line c.requires.absent (sym out) w.names w.name w.reads w.cause.later w.calls w.one
 
 pub returns-in-Ok-Some-clause-changed : goal.returns-in-Ok-Some-clause-changed
 returns-in-Ok-Some-clause-changed g c =
@@ -76,8 +76,8 @@ returns-in-Ok-Some-clause-changed g c =
       long = len;
       told = λ b has. (
           let now = written b has.is has.long in
-          admitted_changes h p c.write.new.self.pool c.args.key (entry_of c.args.block true) b now.0 _ c.requires.sound (q ∙ o.entries) (rw q o.valid) c.requires.line.file refl has.kept has.long has.formed
-          (settled_dirty h p.capacity c.args.key p.entries b now.0 (entry_dropped c.in-Ok-Some.last) (sym out) dirty line.file now.2) now.1
+          admitted_changes h p c.write.new.self.pool c.args.key (entry_of c.args.block true) b now.0 _ c.requires.sound (q ∙ o.entries) (rw q o.valid) c.requires.line.dataset_is refl has.kept has.long has.formed
+          (settled_dirty h p.capacity c.args.key p.entries b now.0 (entry_dropped c.in-Ok-Some.last) (sym out) dirty line.dataset_is now.2) now.1
           );
     }) w.written w.len
 
