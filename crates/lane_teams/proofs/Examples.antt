@@ -1,0 +1,23 @@
+-- Windows cut among lanes.
+use Rattle.std.proofs.Common.{◌≡◌, refl, [], ◌∷◌, Ok, Err}
+use Rattle.band_blocks.specs.declared.load.LoadFault.TheVariants.{FolderFault, Memory}
+use Rattle.lane_teams.specs.Parts.{lines_before, part_of}
+use Rattle.lane_teams.specs.Turns.{first_refusal}
+
+-- ten lines among three lanes: three, three and four
+second_begins : lines_before 10 3 1 ≡ 3
+second_begins = refl
+
+third_begins : lines_before 10 3 2 ≡ 6
+third_begins = refl
+
+-- the second of them, of a window that begins in line 5
+second_part : part_of (record { dataset = 1; band = 2; rect = record { x = 4; y = 5; w = 7; h = 10 } }) 3 1 2 ≡ record { dataset = 1; band = 2; rect = record { x = 4; y = 8; w = 7; h = 3 } }
+second_part = refl
+
+-- two lanes refused, and the first of them is told
+first_told : first_refusal (Ok tt ∷ Err Memory ∷ Err FolderFault ∷ []) ≡ Err Memory
+first_told = refl
+
+none_told : first_refusal (Ok tt ∷ Ok tt ∷ []) ≡ Ok tt
+none_told = refl

@@ -1,0 +1,5 @@
+mod Examples
+mod Halving
+pub mod Lanes
+mod Refusals
+mod Windows

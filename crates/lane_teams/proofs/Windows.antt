@@ -1,0 +1,149 @@
+-- Windows that are cut among lanes: the lines of two halves make up the whole.
+use Rattle.std.proofs.Common.{◌≡◌, ◌∙◌, refl, sym, ap, subst, ◌+◌, ◌-◌, ◌*◌, ◌/◌, ◌%◌, ◌<◌, ◌≤◌, zero, suc, ℕ, ℤ, pos, List, ◌++◌, length, length-append, get_or, Option, Some, Ok, Err, arith, inl, inr}
+use Rattle.std.specs.Prelude.{slice_get, Result, OnOk}
+use Rattle.std.specs.List.{All}
+use Rattle.std.proofs.lemmas.Bool.{cases_lt}
+use Rattle.std.proofs.lemmas.Nat.{div-mul-add, mod-mul-add, div-add-mod', mod_below, le-div, mul-le}
+use Rattle.std.proofs.lemmas.List.{get_or_append_left, get_or-append_right}
+use Rattle.std.proofs.lemmas.List.Elements.{All-append}
+use Rattle.geotransform.specs.declared.types.Rect.{Rect}
+use Rattle.outside.specs.Outside.{Files}
+use Rattle.catalog.specs.Drivers.{Dataset}
+use Rattle.catalog.specs.Pixels.{pixel_of, pixel_of_name}
+use Rattle.catalog.specs.Places.{row_by_row}
+use Rattle.band_blocks.proofs.Corners.{length-row_by_row, get_or-row_by_row, filled-row_by_row}
+use Rattle.band_blocks.specs.declared.load.LoadFault.{LoadFault}
+use Rattle.nearest_window.specs.declared.window.Window.{Window}
+use Rattle.nearest_window.specs.Shown.{IsInBand, IsWindow}
+use Rattle.lane_teams.specs.Parts.{lines_before, lines_of, part_of, AreOfWindow}
+
+pub before_rises : (lines n a b : ℕ) → 0 < n → a ≤ b → lines_before lines n a ≤ lines_before lines n b
+before_rises lines n a b some order =
+    let product : a * lines ≤ b * lines = mul-le a lines b lines order (omega arith) in
+    let whole = div-add-mod' (a * lines) n in
+    le-div (a * lines / n) (b * lines) n some (omega arith)
+
+before_first : (lines n : ℕ) → 0 < n → lines_before lines n 0 ≡ 0
+before_first lines n some = let e : 0 * lines ≡ 0 * n + 0 = omega arith in ap (λ k. k / n) e ∙ div-mul-add 0 n 0 some
+
+before_end : (lines n : ℕ) → 0 < n → lines_before lines n n ≡ lines
+before_end lines n some = let e : n * lines ≡ lines * n + 0 = grind arith in ap (λ k. k / n) e ∙ div-mul-add lines n 0 some
+
+pub before_below : (lines n k : ℕ) → 0 < n → k ≤ n → lines_before lines n k ≤ lines
+before_below lines n k some order = let e = before_end lines n some in let r = before_rises lines n k n some order in omega arith
+
+abbrev rect_at : ℕ → ℕ → ℕ → ℕ → Rect
+rect_at x y w h = record { x = x; y = y; w = w; h = h }
+
+some_columns : (w n k : ℕ) → k < w * n → 0 < w
+some_columns zero n k h = absurd (let e : 0 * n ≡ 0 = omega arith in omega arith)
+some_columns (suc w) n k h = omega arith
+
+-- two rectangles, one below the other
+rows_joined : (f : ℕ → ℕ → ℤ) (x y w a b : ℕ) → row_by_row f (rect_at x y w a) ++ row_by_row f (rect_at x (y + a) w b) ≡ row_by_row f (rect_at x y w (a + b))
+rows_joined f x y w a b = filled-row_by_row f (rect_at x y w (a + b)) (top ++ bottom) (pos 0) size each
+  where
+    top : List ℤ
+    top = row_by_row f (rect_at x y w a)
+
+    bottom : List ℤ
+    bottom = row_by_row f (rect_at x (y + a) w b)
+
+    size_top : length top ≡ w * a
+    size_top = length-row_by_row f (rect_at x y w a)
+
+    sum : w * (a + b) ≡ w * a + w * b
+    sum = grind arith
+
+    size : length (top ++ bottom) ≡ w * (a + b)
+    size = let s = length-append top bottom in let t = size_top in let u = length-row_by_row f (rect_at x (y + a) w b) in let v = sum in omega arith
+
+    below : (k : ℕ) → w * a ≤ k → k < w * (a + b) → f (x + (k - w * a) % w) (y + a + (k - w * a) / w) ≡ f (x + k % w) (y + k / w)
+    below k low high =
+        let some = some_columns w (a + b) k high in
+        let j : ℕ = k - w * a in
+        let rest = mod_below j w some in
+        let split = div-add-mod' j w in
+        let spread : (a + j / w) * w ≡ w * a + j / w * w = grind arith in
+        let whole : (a + j / w) * w + j % w ≡ k = omega arith in
+        let row : a + j / w ≡ k / w = sym (div-mul-add (a + j / w) w (j % w) rest) ∙ ap (λ n. n / w) whole in
+        let column : j % w ≡ k % w = sym (mod-mul-add (a + j / w) w (j % w) rest) ∙ ap (λ n. n % w) whole in
+        let line : y + a + j / w ≡ y + k / w = omega arith in
+        ap (λ n. f (x + n) (y + a + j / w)) column ∙ ap (λ n. f (x + k % w) n) line
+
+    each : (k : ℕ) → k < w * (a + b) → get_or (top ++ bottom) k (pos 0) ≡ f (x + k % w) (y + k / w)
+    each k high = elim (cases_lt k (w * a)) [
+      | inl low ↦ get_or_append_left top bottom (pos 0) k (let t = size_top in omega arith) ∙ get_or-row_by_row f (rect_at x y w a) k (pos 0) low
+      | inr low ↦ get_or-append_right top bottom (w * a) k (pos 0) size_top low ∙ get_or-row_by_row f (rect_at x (y + a) w b) (k - w * a) (pos 0) (let s = sum in omega arith) ∙ below k low high
+    ]
+
+-- the lines of two halves
+lines_joined : (f : ℕ → ℕ → ℤ) (rect : Rect) (n a m b : ℕ) → 0 < n → a ≤ m → m ≤ b → row_by_row f (lines_of rect n a m) ++ row_by_row f (lines_of rect n m b) ≡ row_by_row f (lines_of rect n a b)
+lines_joined f rect n a m b some up on =
+    let p = before_rises rect.h n a m some up in
+    let q = before_rises rect.h n m b some on in
+    let line : rect.y + lines_before rect.h n m ≡ rect.y + lines_before rect.h n a + (lines_before rect.h n m - lines_before rect.h n a) = omega arith in
+    let all : (lines_before rect.h n m - lines_before rect.h n a) + (lines_before rect.h n b - lines_before rect.h n m) ≡ lines_before rect.h n b - lines_before rect.h n a = omega arith in
+    ap (λ y. row_by_row f (lines_of rect n a m) ++ row_by_row f (rect_at rect.x y rect.w (lines_before rect.h n b - lines_before rect.h n m))) line
+    ∙ rows_joined f rect.x (rect.y + lines_before rect.h n a) rect.w (lines_before rect.h n m - lines_before rect.h n a) (lines_before rect.h n b - lines_before rect.h n m)
+    ∙ ap (λ h. row_by_row f (rect_at rect.x (rect.y + lines_before rect.h n a) rect.w h)) all
+
+-- the samples of two parts are those of both
+pub both_shown : (told : Option Files) (cat : List Dataset) (window : Window) (n a m b : ℕ) (p q : List ℤ) → 0 < n → a ≤ m → m ≤ b
+    → AreOfWindow told cat (part_of window n a m) p → AreOfWindow told cat (part_of window n m b) q → AreOfWindow told cat (part_of window n a b) (p ++ q)
+both_shown told cat window n a m b p q some up on front back = record {
+  pixels = λ f e.
+      ap (λ xs. xs ++ q) (front.pixels f e)
+      ∙ ap (λ xs. row_by_row (pixel_of f cat window.dataset window.band) (lines_of window.rect n a m) ++ xs) (back.pixels f e)
+      ∙ lines_joined (pixel_of f cat window.dataset window.band) window.rect n a m b some up on;
+  named = λ f d e at.
+      ap (λ xs. xs ++ q) (front.named f d e at)
+      ∙ ap (λ xs. row_by_row (pixel_of_name f d.head.name window.band) (lines_of window.rect n a m) ++ xs) (back.named f d e at)
+      ∙ lines_joined (pixel_of_name f d.head.name window.band) window.rect n a m b some up on;
+  typed = All-append (IsInBand cat window.dataset window.band) p q front.typed back.typed;
+}
+
+-- the lines of all lanes
+whole_lines : (rect : Rect) (n : ℕ) → 0 < n → lines_of rect n 0 n ≡ rect
+whole_lines rect n some =
+    let s = before_first rect.h n some in
+    let e = before_end rect.h n some in
+    let top : rect.y + lines_before rect.h n 0 ≡ rect.y = omega arith in
+    let high : lines_before rect.h n n - lines_before rect.h n 0 ≡ rect.h = omega arith in
+    ap (λ y. rect_at rect.x y rect.w (lines_before rect.h n n - lines_before rect.h n 0)) top ∙ ap (rect_at rect.x rect.y rect.w) high
+
+pub whole_window : (window : Window) (n : ℕ) → 0 < n → part_of window n 0 n ≡ window
+whole_window window n some = ap (λ (rect : Rect). with_rect window rect) (whole_lines window.rect n some)
+  where
+    with_rect : Window → Rect → Window
+    with_rect window rect = record { dataset = window.dataset; band = window.band; rect = rect }
+
+-- lines of a window are a window
+pub window_part : (cat : List Dataset) (window : Window) (n a b : ℕ) → 0 < n → a ≤ b → b ≤ n → IsWindow cat window → IsWindow cat (part_of window n a b)
+window_part cat window n a b some order within w = record {
+  dataset = w.dataset;
+  at = w.at;
+  has_band = w.has_band;
+  across = w.across;
+  down = let p = before_rises window.rect.h n a b some order in let q = before_below window.rect.h n b some within in let d = w.down in omega arith;
+}
+
+-- the samples of two halves
+pub sizes : (rect : Rect) (n a m b : ℕ) → 0 < n → a ≤ m → m ≤ b → rect.w * (lines_of rect n a b).h ≡ rect.w * (lines_of rect n a m).h + rect.w * (lines_of rect n m b).h
+sizes rect n a m b some up on =
+    let p = before_rises rect.h n a m some up in
+    let q = before_rises rect.h n m b some on in
+    let all : lines_before rect.h n b - lines_before rect.h n a ≡ (lines_before rect.h n m - lines_before rect.h n a) + (lines_before rect.h n b - lines_before rect.h n m) = omega arith in
+    ap (λ h. rect.w * h) all ∙ spread rect.w (lines_before rect.h n m - lines_before rect.h n a) (lines_before rect.h n b - lines_before rect.h n m)
+  where
+    spread : (w a b : ℕ) → w * (a + b) ≡ w * a + w * b
+    spread w a b = grind arith
+
+-- what a read window is, by what the call says of its answer
+pub shown_of : (r : Result (Unit {0}) LoadFault) (told : Option Files) (cat : List Dataset) (window : Window) (out : List ℤ)
+    → ((m : Files) → told ≡ Some m → OnOk r (out ≡ row_by_row (pixel_of m cat window.dataset window.band) window.rect))
+    → ((m : Files) → told ≡ Some m → (d : Dataset) → slice_get cat window.dataset ≡ Some d → OnOk r (out ≡ row_by_row (pixel_of_name m d.head.name window.band) window.rect))
+    → OnOk r (All (IsInBand cat window.dataset window.band) out)
+    → OnOk r (AreOfWindow told cat window out)
+shown_of (Ok x) told cat window out pixels named typed = record { pixels = pixels; named = λ m d e at. named m e d at; typed = typed }
+shown_of (Err e) told cat window out pixels named typed = tt

@@ -1,0 +1,4 @@
+use Rattle.lane_teams.proofs.single.read_alone.Given as goal
+
+abbrev pub ghosts-read_counted : goal.ghosts-read_counted
+ghosts-read_counted g a = record { name = a.blank.name; parts = a.blank.parts }

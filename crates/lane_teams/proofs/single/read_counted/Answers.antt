@@ -1,0 +1,7 @@
+use Rattle.lane_teams.proofs.Windows.{shown_of}
+use Rattle.lane_teams.proofs.single.read_counted.Goals as goal
+
+pub returns-clause-shown : goal.returns-clause-shown
+returns-clause-shown g c =
+    let o = c.read_window.ensures in
+    shown_of c.read_window.result (g.F.Folder.names c.args.folder.now) c.args.cat.now c.args.window c.read_window.new.out o.pixels o.named o.typed

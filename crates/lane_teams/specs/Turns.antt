@@ -1,0 +1,72 @@
+-- Lanes that read beside each other, each through a view of the folder.
+use Rattle.std.specs.Prelude.{◌≡◌, ℕ, ℤ, ◌+◌, ◌*◌, ◌<◌, ◌≤◌, List, [], ◌∷◌, length, Option, Some, Result, Ok, Err, IfErr}
+use Rattle.std.specs.List.{All}
+use Rattle.outside.specs.Outside.{Files}
+use Rattle.outside.specs.declared.folder.Folder.{Ghosts}
+use Rattle.catalog.specs.Drivers.{Dataset}
+use Rattle.catalog.specs.Walk.{IsWalked}
+use Rattle.band_blocks.specs.declared.load.LoadFault.{LoadFault}
+use Rattle.band_blocks.specs.declared.load.LoadFault.TheVariants.{FolderFault}
+use Rattle.band_blocks.specs.Open.{IsUnchanged}
+use Rattle.nearest_window.specs.Lanes.{LaneView}
+use Rattle.nearest_window.specs.Right.{IsRight, TellsChangeIn}
+use Rattle.nearest_window.specs.Shown.{IsWindow}
+use Rattle.lane_teams.specs.declared.cutting.Job.{Job}
+use Rattle.lane_teams.specs.declared.turns.Turn.{Turn}
+use Rattle.lane_teams.specs.Parts.{part_of, AreOfWindow}
+
+-- only reads were made, some of them through views: the files are as before, no write was counted, and the count of faults
+-- isn't lower
+pub record OnlyReadByViews {F File Draft : Type 0} (calls : Ghosts F File Draft) (before after : F) : Type 0 where
+  pub names : calls.names after ≡ calls.names before
+  pub writes : calls.write_calls after ≤ calls.write_calls before
+  pub faults : calls.faults before ≤ calls.faults after
+
+-- the first of two answers that is a refusal
+abbrev pub first_of : Result (Unit {0}) LoadFault → Result (Unit {0}) LoadFault → Result (Unit {0}) LoadFault
+first_of (Ok x) later = later
+first_of (Err e) later = Err e
+
+-- the first refusal, if there is one
+abbrev pub first_refusal : List (Result (Unit {0}) LoadFault) → Result (Unit {0}) LoadFault
+first_refusal [] = Ok tt
+first_refusal (answer ∷ rest) = first_of answer (first_refusal rest)
+
+-- What a view of a folder is, and what its lane has answered: the view has the folder's files, and wrote nothing. A
+-- refusal has its cause in the view's count of faults.
+pub record IsTurn (told : Option Files) (cat : List Dataset) (names : Option Files) (faults writes : ℕ) (answer : Result (Unit {0}) LoadFault) : Type 0 where
+  pub same : names ≡ told
+  pub unwritten : writes ≡ 0
+  pub failed : answer ≡ Err FolderFault → 1 ≤ faults
+  pub changed : IfErr answer (TellsChangeIn cat)
+  pub never : (m : Files) → told ≡ Some m → IfErr answer IsUnchanged
+
+-- the lane didn't refuse
+abbrev pub IsDone : {F File Draft : Type 0} → Turn F File Draft → Type 0
+IsDone t = t.answer ≡ Ok tt
+
+module _ {F File Draft : Type 0} (calls : Ghosts F File Draft) (told : Option Files) (cat : List Dataset) where
+  abbrev pub IsRightLane : LaneView File → Type 0
+  IsRightLane lane = IsRight calls.file_bytes calls.file_len told cat lane.pool lane.files lane.made
+
+  abbrev pub IsTurnOf : Turn F File Draft → Type 0
+  IsTurnOf t = IsTurn told cat (calls.names t.view) (calls.faults t.view) (calls.write_calls t.view) t.answer
+
+  -- lanes from one on may read their lines into `out`, each with a view of its own
+  pub record AreReady (job : Job) (first : ℕ) (lanes : List (LaneView File)) (turns : List (Turn F File Draft)) (out : List ℤ) : Type 0 where
+    pub some : 0 < length lanes
+    pub pairs : length turns ≡ length lanes
+    pub few : first + length lanes ≤ job.count
+    pub walked : (m : Files) → told ≡ Some m → IsWalked m cat
+    pub window : IsWindow cat job.window
+    pub size : length out ≡ job.window.rect.w * (part_of job.window job.count first (first + length lanes)).rect.h
+    pub right : All IsRightLane lanes
+    pub turns_are : All IsTurnOf turns
+
+  -- n lanes from one on have read, and are right; where none refused, `out` has the samples of their lines
+  pub record HaveRead (job : Job) (first n : ℕ) (lanes : List (LaneView File)) (turns : List (Turn F File Draft)) (out : List ℤ) : Type 0 where
+    pub lanes_count : length lanes ≡ n
+    pub turns_count : length turns ≡ n
+    pub right : All IsRightLane lanes
+    pub turns_are : All IsTurnOf turns
+    pub shown : All IsDone turns → AreOfWindow told cat (part_of job.window job.count first (first + n)) out

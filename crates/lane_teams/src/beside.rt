@@ -1,0 +1,209 @@
+// Lanes that read their parts of a window beside each other, by halves of halves.
+ghost use Rattle.std.specs.Prelude.{◌≡◌, ◌≤◌, ◌*◌, ◌<◌, length, OnOk, IfErr};
+ghost use Rattle.std.specs.List.{All};
+ghost use Rattle.std.specs.Thread.{IsSend, IsSync};
+ghost use Rattle.outside.specs.Causes.{HasCause};
+ghost use Rattle.outside.specs.Reading.{WhereTold};
+ghost use Rattle.band_blocks.specs.Open.{IsUnchanged};
+ghost use Rattle.nearest_window.specs.Right.{IsReady, TellsChangeIn};
+ghost use Rattle.nearest_window.specs.Shown.{IsWindow};
+ghost use Rattle.lane_teams.specs.Parts.{AreOfWindow};
+ghost use Rattle.lane_teams.specs.Turns.{AreReady, HaveRead, OnlyReadByViews};
+
+use crate::cutting::{Job, part_of};
+use crate::pair::both;
+use crate::scene::Scene;
+use crate::single::read_one;
+use crate::turns::{Turn, collect, turns_of};
+use band_blocks::LoadFault;
+use catalog::Catalog;
+use geotransform::Sample;
+use nearest_window::Lane;
+use outside::Folder;
+use std::thread::Threads;
+
+// Lanes with their views and the lines that they read.
+#[derive(Drop)]
+struct Half<'a, F: Folder> {
+    lanes: &'a mut [Lane<F>],
+    turns: &'a mut [Turn<F>],
+    out: &'a mut [Sample],
+}
+
+// The first lane of each of two halves, neither of which has more than `most` lanes.
+#[derive(Clone, Copy)]
+struct Halves {
+    first: usize,
+    middle: usize,
+    most: usize,
+}
+
+// The lanes of a half, from one on, read their parts, beside each other.
+#[cycle(lanes)]
+fn read_half<R: Threads + Sync, F: Folder, S: Scene>(
+    rt: &R,
+    cat: &Catalog,
+    job: &Job,
+    first: usize,
+    half: &mut Half<F>,
+)
+    requires ready { AreReady F.Folder S.told cat.now job.now first half.old.lanes.now half.old.turns.now half.old.out.now }
+    ensures lanes { half.new.lanes.ghost_name ≡ half.old.lanes.ghost_name }
+    ensures turns { half.new.turns.ghost_name ≡ half.old.turns.ghost_name }
+    ensures out { half.new.out.ghost_name ≡ half.old.out.ghost_name }
+    ensures read { HaveRead F.Folder S.told cat.now job.now first (length half.old.lanes.now) half.new.lanes.now half.new.turns.now half.new.out.now }
+{
+    let lanes = &mut *half.lanes;
+    let turns = &mut *half.turns;
+    let out = &mut *half.out;
+    read_all::<R, F, S>(rt, cat, job, first, lanes, turns, out);
+}
+
+// Both halves read, beside each other where a thread can be started.
+#[cycle(lanes)]
+fn read_both<'a, R: Threads + Sync, F: Folder, S: Scene>(
+    rt: &R,
+    cat: &Catalog,
+    job: &Job,
+    halves: Halves,
+    front: &mut Half<'a, F>,
+    back: &mut Half<'a, F>,
+)
+    requires front { AreReady F.Folder S.told cat.now job.now halves.first front.old.lanes.now front.old.turns.now front.old.out.now }
+    requires front_few { length front.old.lanes.now ≤ halves.most }
+    requires back { AreReady F.Folder S.told cat.now job.now halves.middle back.old.lanes.now back.old.turns.now back.old.out.now }
+    requires back_few { length back.old.lanes.now ≤ halves.most }
+    ensures front_lanes { front.new.lanes.ghost_name ≡ front.old.lanes.ghost_name }
+    ensures front_turns { front.new.turns.ghost_name ≡ front.old.turns.ghost_name }
+    ensures front_out { front.new.out.ghost_name ≡ front.old.out.ghost_name }
+    ensures front_read { HaveRead F.Folder S.told cat.now job.now halves.first (length front.old.lanes.now) front.new.lanes.now front.new.turns.now front.new.out.now }
+    ensures back_lanes { back.new.lanes.ghost_name ≡ back.old.lanes.ghost_name }
+    ensures back_turns { back.new.turns.ghost_name ≡ back.old.turns.ghost_name }
+    ensures back_out { back.new.out.ghost_name ≡ back.old.out.ghost_name }
+    ensures back_read { HaveRead F.Folder S.told cat.now job.now halves.middle (length back.old.lanes.now) back.new.lanes.now back.new.turns.now back.new.out.now }
+{
+    let most = halves.most;
+    let read = |at: usize, half: &mut Half<F>|
+        requires { IsSync R.row × IsSend S.row × IsSync S.row × IsSend F.row × IsSend F.File.row × IsSend F.Draft.row × (length half.old.lanes.now ≤ most) × AreReady F.Folder S.told cat.now job.now at half.old.lanes.now half.old.turns.now half.old.out.now }
+        ensures { (half.new.lanes.ghost_name ≡ half.old.lanes.ghost_name) × (half.new.turns.ghost_name ≡ half.old.turns.ghost_name) × (half.new.out.ghost_name ≡ half.old.out.ghost_name) × HaveRead F.Folder S.told cat.entry.now job.entry.now at (length half.old.lanes.now) half.new.lanes.now half.new.turns.now half.new.out.now }
+    {
+        // The clauses name it.
+        let _most = most;
+        read_half::<R, F, S>(rt, cat, job, at, half);
+    };
+    both(rt, &read, halves.first, front, halves.middle, back);
+}
+
+// Both parts read, beside each other where a thread can be started.
+#[cycle(lanes)]
+fn read_pair<'x, R: Threads + Sync, F: Folder, S: Scene>(
+    rt: &R,
+    cat: &Catalog,
+    job: &Job,
+    halves: Halves,
+    a: &'x mut [Lane<F>],
+    t: &'x mut [Turn<F>],
+    p: &'x mut [Sample],
+    b: &'x mut [Lane<F>],
+    u: &'x mut [Turn<F>],
+    q: &'x mut [Sample],
+)
+    requires front { AreReady F.Folder S.told cat.now job.now halves.first a.old t.old p.old }
+    requires front_few { length a.old ≤ halves.most }
+    requires back { AreReady F.Folder S.told cat.now job.now halves.middle b.old u.old q.old }
+    requires back_few { length b.old ≤ halves.most }
+    ensures front { HaveRead F.Folder S.told cat.now job.now halves.first (length a.old) a.new t.new p.new }
+    ensures back { HaveRead F.Folder S.told cat.now job.now halves.middle (length b.old) b.new u.new q.new }
+{
+    let mut front = Half {
+        lanes: a,
+        turns: t,
+        out: p,
+    };
+    let mut back = Half {
+        lanes: b,
+        turns: u,
+        out: q,
+    };
+    read_both::<R, F, S>(rt, cat, job, halves, &mut front, &mut back);
+}
+
+// The lanes from one on read their parts, beside each other.
+#[cycle(lanes)]
+fn read_all<'x, R: Threads + Sync, F: Folder, S: Scene>(
+    rt: &R,
+    cat: &Catalog,
+    job: &Job,
+    first: usize,
+    lanes: &'x mut [Lane<F>],
+    turns: &'x mut [Turn<F>],
+    out: &'x mut [Sample],
+)
+    requires ready { AreReady F.Folder S.told cat.now job.now first lanes.old turns.old out.old }
+    ensures read { HaveRead F.Folder S.told cat.now job.now first (length lanes.old) lanes.new turns.new out.new }
+{
+    let count = lanes.len();
+    if count == 1 {
+        read_one::<F, S>(cat, job, first, lanes, turns, out);
+        return;
+    }
+    // This call is made for the proof: it says what holds of every catalog.
+    let _count = cat.count();
+    let low = count / 2;
+    let halves = Halves {
+        first,
+        middle: first + low,
+        most: count - low,
+    };
+    let rect = part_of(job, first, halves.middle).rect;
+    let size = rect.w as usize * rect.h as usize;
+    let (a, b) = lanes.split_at_mut(low);
+    let (t, u) = turns.split_at_mut(low);
+    let (p, q) = out.split_at_mut(size);
+    read_pair::<R, F, S>(rt, cat, job, halves, a, t, p, b, u, q);
+}
+
+// The same, for lanes of a folder.
+fn read_views<R: Threads + Sync, F: Folder, S: Scene>(
+    rt: &R,
+    cat: &Catalog,
+    folder: &F,
+    job: &Job,
+    lanes: &mut [Lane<F>],
+    turns: &mut [Turn<F>],
+    out: &mut [Sample],
+)
+    requires told { S.told ≡ F.names folder.now }
+    requires ready { AreReady F.Folder (F.names folder.now) cat.now job.now 0 lanes.old turns.old out.old }
+    ensures read { HaveRead F.Folder (F.names folder.now) cat.now job.now 0 (length lanes.old) lanes.new turns.new out.new }
+{
+    let _ = folder;
+    read_all::<R, F, S>(rt, cat, job, 0, lanes, turns, out);
+}
+
+/// Lanes read a window beside each other, each through a view of its own.
+pub fn read_beside<R: Threads + Sync, F: Folder, S: Scene>(
+    rt: &R,
+    cat: &Catalog,
+    folder: &mut F,
+    job: &Job,
+    lanes: &mut [Lane<F>],
+    out: &mut [Sample],
+) -> Result<(), LoadFault>
+    requires told { S.told ≡ F.names folder.old }
+    requires some { 0 < length lanes.old }
+    requires count { job.now.count ≡ length lanes.old }
+    requires ready { All (IsReady F.Folder folder.old cat.now) lanes.old }
+    requires window { IsWindow cat.now job.now.window }
+    requires size { length out.old ≡ job.now.window.rect.w * job.now.window.rect.h }
+    ensures shown { OnOk result (AreOfWindow (F.names folder.old) cat.now job.now.window out.new) }
+    ensures ready { All (IsReady F.Folder folder.new cat.now) lanes.new }
+    ensures only_read { OnlyReadByViews F.Folder folder.old folder.new }
+    ensures cause { HasCause LoadFault.FolderFault (F.faults folder.old) (F.faults folder.new) result }
+    ensures changed { IfErr result (TellsChangeIn cat.now) }
+    ensures never { WhereTold F.Folder folder.old (λ _. IfErr result IsUnchanged) }
+{
+    let mut turns = turns_of(job.alloc, cat, folder, lanes.len())?;
+    read_views::<R, F, S>(rt, cat, folder, job, lanes, turns.as_mut_slice(), out);
+    collect(cat, folder, turns)
+}

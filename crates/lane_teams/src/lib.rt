@@ -1,0 +1,14 @@
+// Teams of lanes, which read the parts of a window beside each other.
+#![tactic(auto)]
+
+mod beside;
+mod cutting;
+mod pair;
+mod scene;
+mod single;
+mod team;
+mod turns;
+mod workers;
+
+pub use team::Team;
+pub use workers::WorkerCount;

@@ -1,0 +1,125 @@
+// Teams of lanes.
+ghost use Rattle.std.specs.Prelude.{◌≡◌, ◌+◌, ◌-◌, ◌*◌, ◌<◌, ◌≤◌, [], ◌∷◌, Some, length, slice_get, OnOk, IfOk, IfErr};
+ghost use Rattle.std.specs.List.{All};
+ghost use Rattle.outside.specs.Causes.{HasCause};
+ghost use Rattle.outside.specs.Reading.{WhereTold};
+ghost use Rattle.catalog.specs.Blocks.{all_blocks};
+ghost use Rattle.catalog.specs.Drivers.{Dataset};
+ghost use Rattle.catalog.specs.Pixels.{pixel_of, pixel_of_name};
+ghost use Rattle.catalog.specs.Places.{row_by_row};
+ghost use Rattle.band_blocks.specs.Contents.{most_calls};
+ghost use Rattle.band_blocks.specs.Open.{IsUnchanged};
+ghost use Rattle.nearest_window.specs.Lanes.{held_in, room_of};
+ghost use Rattle.nearest_window.specs.Right.{IsFresh, IsReady, slack_of, TellsChangeIn};
+ghost use Rattle.nearest_window.specs.Shown.{IsInBand, IsWindow};
+ghost use Rattle.lane_teams.specs.Parts.{AreOfWindow};
+ghost use Rattle.lane_teams.specs.Turns.{OnlyReadByViews};
+
+use crate::beside::read_beside;
+use crate::cutting::Job;
+use band_blocks::{LoadFault, Steps};
+use catalog::Catalog;
+use geotransform::Sample;
+use nearest_window::{Lane, Window};
+use outside::Folder;
+use std::alloc::{AllocError, Global};
+use std::marker::Brand;
+use std::sync::ledger::{Blank, Ledger};
+use std::thread::Threads;
+
+/// Lanes that read beside each other, and the count of the loads of the first where it reads alone.
+#[derive(Drop)]
+pub struct Team<F: Folder, L: Ledger> {
+    pub lanes: Vec<Lane<F>>,
+    pub loads: Steps<L>,
+}
+
+// So many lanes.
+fn lanes_of<F: Folder>(alloc: Global, count: u32, capacity: u32) -> Result<Vec<Lane<F>>, AllocError>
+    requires some { 1 ≤ capacity }
+    requires few { capacity ≤ 65536 }
+    ensures count { IfOk result (λ lanes. length lanes.items ≡ count) }
+    ensures fresh { IfOk result (λ lanes. All (IsFresh F.Folder) lanes.items) }
+{
+    let mut lanes = Vec::with_capacity(alloc, count as usize)?;
+    for _at in 0..count {
+        let lane = Lane::new(alloc, capacity)?;
+        lanes.push(lane)?;
+    }
+    Ok(lanes)
+}
+
+impl<F: Folder, L: Ledger> Team<F, L> {
+    /// A team of so many lanes, each with an empty pool of 1 to 65,536 blocks and no open file. It is refused where
+    /// memory is.
+    pub fn new(
+        alloc: Global,
+        count: u32,
+        capacity: u32,
+        blank: Blank,
+    ) -> Result<Team<F, L>, AllocError>
+        requires some { 1 ≤ capacity }
+        requires few { capacity ≤ 65536 }
+        requires name { blank.name ≡ L.name }
+        requires parts { blank.parts ≡ L.parts }
+        requires shares { 0 < blank.parts }
+        ensures count { IfOk result (λ team. length team.lanes.items ≡ count) }
+        ensures fresh { IfOk result (λ team. All (IsFresh F.Folder) team.lanes.items) }
+        ensures none { IfOk result (λ team. team.loads ≡ 0) }
+    {
+        let loads = Steps::open(blank);
+        let lanes = lanes_of(alloc, count, capacity)?;
+        Ok(Team { lanes, loads })
+    }
+
+    /// Fills `out` with the pixels of a window, row by row, as `Lane::read_window` does, by all lanes beside each other:
+    /// of n lanes the lane k reads the lines from floor(k*h/n) up to floor((k+1)*h/n) of the window's h, through a view
+    /// of the folder, into its part of `out`. Where no thread can be started, a lane's part is read in the thread that
+    /// would have started it. A window of fewer lines than lanes is read by the first lane, and so is one of a team of
+    /// one, through the folder itself. Each lane is ready for the catalog and the folder.
+    ///
+    /// A refusal is that of the first lane that refused, in their order, and its causes are those of
+    /// `Lane::read_window`. All views are ended, and all lanes ready, after every answer. `loads` counts the loads of a
+    /// lane that reads through the folder; those of several lanes aren't counted.
+    pub fn read_window<R: Threads + Sync>(
+        &mut self,
+        rt: &R,
+        alloc: Global,
+        cat: &Catalog,
+        folder: &mut F,
+        window: Window,
+        out: &mut [Sample],
+    ) -> Result<(), LoadFault>
+        requires some { 0 < length self.old.lanes.items }
+        requires ready { All (IsReady F.Folder folder.old cat.now) self.old.lanes.items }
+        requires window { IsWindow cat.now window }
+        requires size { length out.old ≡ window.rect.w * window.rect.h }
+        ensures pixels { WhereTold F.Folder folder.old (λ m. OnOk result (out.new ≡ row_by_row (pixel_of m cat.now window.dataset window.band) window.rect)) }
+        // the pixels that the dataset's name has by itself
+        ensures named { WhereTold F.Folder folder.old (λ m. (d : Dataset) → slice_get cat.now window.dataset ≡ Some d → OnOk result (out.new ≡ row_by_row (pixel_of_name m d.head.name window.band) window.rect)) }
+        // each sample is in the band's type, whatever the folder tells
+        ensures typed { OnOk result (All (IsInBand cat.now window.dataset window.band) out.new) }
+        ensures ready { All (IsReady F.Folder folder.new cat.now) self.new.lanes.items }
+        ensures count { length self.new.lanes.items ≡ length self.old.lanes.items }
+        // of one lane with room for all blocks, each load makes one more block held, but for the last of a refused call
+        ensures loads { (old : _) (new : _) → self.old.lanes.items ≡ old ∷ [] → self.new.lanes.items ≡ new ∷ [] → all_blocks cat.now ≤ room_of old → self.new.loads ≤ self.old.loads + (held_in new - held_in old) + slack_of result }
+        ensures reads { length self.old.lanes.items ≡ 1 → F.read_calls folder.new ≤ F.read_calls folder.old + most_calls cat.now * (self.new.loads - self.old.loads) }
+        ensures counted { self.old.loads ≤ self.new.loads }
+        ensures only_read { OnlyReadByViews F.Folder folder.old folder.new }
+        ensures cause { HasCause LoadFault.FolderFault (F.faults folder.old) (F.faults folder.new) result }
+        ensures changed { IfErr result (TellsChangeIn cat.now) }
+        ensures never { WhereTold F.Folder folder.old (λ _. IfErr result IsUnchanged) }
+    {
+        let lanes = self.lanes.as_mut_slice();
+        let count = lanes.len();
+        if count == 1 || (window.rect.h as usize) < count {
+            return lanes[0].read_window(alloc, cat, folder, window, out, &mut self.loads);
+        }
+        let job = Job {
+            alloc,
+            window,
+            count,
+        };
+        read_beside::<R, F, Brand>(rt, cat, folder, &job, lanes, out)
+    }
+}
