@@ -13,13 +13,13 @@ use Rattle.translate_plan.specs.declared.options.Driver.TheVariants.{EHdr}
 use Rattle.translate_plan.specs.declared.options.View.TheVariants.{Pixels}
 use Rattle.translate_plan.specs.declared.options.OutSize.TheVariants.{Count, Percent}
 use Rattle.buildvrt.specs.declared.options.Resolution.TheVariants.{User}
-use Rattle.command_words.specs.declared.command.Job.TheVariants.{Info, Locate, Translate, Build}
+use Rattle.command_words.specs.declared.command.Job.TheVariants.{Info, Locate, Translate, Build, Synth}
 use Rattle.command_words.specs.declared.spoken.WordFault.TheVariants.{Usage}
 use Rattle.command_words.specs.Options.{shared_option_of, own_option_of}
 use Rattle.command_words.specs.Values.{format_of, layout_of, nodata_of, resolution_named}
 use Rattle.command_words.specs.Said.{config_said, window_said, places_said, outsize_said, band_said, blocks_said, format_said, nodata_said, kind_said, creation_said, resolution_said, pixel_size_said, extent_said, source_nodata_said, mosaic_nodata_said, list_said}
 use Rattle.command_words.specs.Uses.{placed_said, spoken_of, spoken_in}
-use Rattle.command_words.specs.Jobs.{written_of, asked_of, asked_mosaic, info_job, locate_job, translate_job, build_job}
+use Rattle.command_words.specs.Jobs.{written_of, asked_of, asked_mosaic, info_job, locate_job, translate_job, build_job, synth_job}
 use Rattle.command_words.specs.Words.{command_of, words_of}
 
 -- the last use of an option counts, all bands do, and options stand anywhere
@@ -100,3 +100,38 @@ no_columns = refl
 size_beside_word : words_of (codes "gdalbuildvrt" ∷ codes "-tr" ∷ codes "1" ∷ codes "1" ∷ codes "out.vrt" ∷ codes "-resolution" ∷ codes "user" ∷ codes "a.bil" ∷ codes "-resolution" ∷ codes "lowest" ∷ []) ≡ Err (Usage 8)
 unfolding words_of command_of spoken_in spoken_of build_job asked_mosaic written_of extension_of ending_of last_part kind_of shared_option_of own_option_of resolution_said pixel_size_said resolution_named placed_said normal ticks_of parts_of
 size_beside_word = refl
+
+-- the side of the tiles, alone, beside a count of blocks and beside a setting that has no effect; the greatest one
+made : words_of (codes "synth" ∷ codes "45" ∷ []) ≡ Ok (record { job = Synth 45; verify = false; blocks = 64 })
+unfolding words_of command_of spoken_in spoken_of synth_job shared_option_of own_option_of placed_said
+made = refl
+
+made_by_one_block : words_of (codes "synth" ∷ codes "45" ∷ codes "--blocks" ∷ codes "1" ∷ []) ≡ Ok (record { job = Synth 45; verify = false; blocks = 1 })
+unfolding words_of command_of spoken_in spoken_of synth_job shared_option_of own_option_of blocks_said placed_said
+made_by_one_block = refl
+
+greatest_side : words_of (codes "synth" ∷ codes "--config" ∷ codes "A" ∷ codes "B" ∷ codes "4096" ∷ []) ≡ Ok (record { job = Synth 4096; verify = false; blocks = 64 })
+unfolding words_of command_of spoken_in spoken_of synth_job shared_option_of own_option_of config_said placed_said
+greatest_side = refl
+
+-- sides out of range are named
+no_side : words_of (codes "synth" ∷ codes "0" ∷ []) ≡ Err (Usage 1)
+unfolding words_of spoken_in shared_option_of own_option_of placed_said
+no_side = refl
+
+side_too_great : words_of (codes "synth" ∷ codes "4097" ∷ []) ≡ Err (Usage 1)
+unfolding words_of spoken_in shared_option_of own_option_of placed_said
+side_too_great = refl
+
+-- a side that is missing, one too many, and an option that synth doesn't have
+missing_side : words_of (codes "synth" ∷ []) ≡ Err (Usage 1)
+unfolding words_of command_of spoken_in spoken_of synth_job
+missing_side = refl
+
+two_sides : words_of (codes "synth" ∷ codes "4" ∷ codes "5" ∷ []) ≡ Err (Usage 2)
+unfolding words_of spoken_in shared_option_of own_option_of placed_said
+two_sides = refl
+
+option_of_others : words_of (codes "synth" ∷ codes "-q" ∷ codes "4" ∷ []) ≡ Err (Usage 1)
+unfolding words_of spoken_in shared_option_of own_option_of placed_said
+option_of_others = refl

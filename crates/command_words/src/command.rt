@@ -5,6 +5,7 @@ use input_points::Position;
 use lists_and_answers::Items;
 use location_report::Form;
 use outside::{Name, Names};
+use synthetic_rasters::TileSide;
 use translate_plan::TranslateOptions;
 
 /// Numbers of bands, in the order in which the words give them.
@@ -39,6 +40,11 @@ pub enum Job {
         list: Option<Name>,
         options: BuildOptions,
         quiet: bool,
+    },
+    /// Rasters made from a number, mosaics of them and a copy, with what is told of it. `side` is the side of a tile
+    /// in pixels.
+    Synth {
+        side: TileSide,
     },
 }
 

@@ -9,6 +9,7 @@ pub enum Tool {
     Locate,
     Translate,
     Build,
+    Synth,
 }
 
 /// An option's name.
@@ -62,6 +63,7 @@ pub fn tool_of(word: &str) -> Option<Tool>
         _ if word == "gdallocationinfo" => Some(Tool::Locate),
         _ if word == "gdal_translate" => Some(Tool::Translate),
         _ if word == "gdalbuildvrt" => Some(Tool::Build),
+        _ if word == "synth" => Some(Tool::Synth),
         _ => None,
     }
 }
@@ -132,7 +134,7 @@ fn own_option_of(tool: Tool, word: &str) -> Option<OptionWord>
     ensures { result ≡ own_option_of tool word.now }
 {
     match tool {
-        Tool::Info => None,
+        Tool::Info | Tool::Synth => None,
         Tool::Locate => locate_option_of(word),
         Tool::Translate => translate_option_of(word),
         Tool::Build => build_option_of(word),

@@ -7,7 +7,7 @@ ghost use Rattle.translate_plan.specs.Options.{IsWhole};
 ghost use Rattle.command_words.specs.Values.{begins_with_dash, short_of, band_of, blocks_of, integer_of, side_of, name_of, is_no, format_of, layout_of, nodata_of, wide_number, is_wide, tile_side_of, resolution_named, beyond};
 ghost use Rattle.command_words.specs.Words.{IsMemory};
 
-use crate::numbers::{AskedNodata, BandNumber, BlockCount, Side, SynthSide};
+use crate::numbers::{AskedNodata, BandNumber, BlockCount, Side};
 use crate::spoken::{OutFormat, ResolutionWord, WordFault};
 use catalog::NodataWord;
 use esri_hdr::Layout;
@@ -15,6 +15,7 @@ use geotransform::{read_number, read_whole};
 use input_points::Position;
 use outside::{Name, NameFault};
 use std::alloc::Global;
+use synthetic_rasters::TileSide;
 use translate_plan::OutSize;
 
 /// Whether a word begins with a dash.
@@ -55,10 +56,10 @@ pub fn blocks_of(word: &[u8]) -> Option<BlockCount>
 }
 
 /// The side of a tile, from 1 to 4,096.
-pub fn tile_side_of(word: &[u8]) -> Option<SynthSide>
+pub fn tile_side_of(word: &[u8]) -> Option<TileSide>
     ensures { result ≡ tile_side_of word.now }
 {
-    SynthSide::new(short_of(word)?)
+    TileSide::new(short_of(word)?)
 }
 
 /// One to nine digits, with a minus or without.
