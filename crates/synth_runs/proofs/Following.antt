@@ -20,7 +20,7 @@ behind a r m n (Err f) names before mid after first (inl h) = inl (h.0, (goes_th
 behind a r m n (Err f) names before mid after first (inr h) = stopped (goes_then a r.steps m n (Err f) names before mid after first (inr h))
   where
     stopped : Goes (all_done (a ++ r.steps)) m (Err f) names before after → Goes (record { steps = a ++ r.steps; fault = r.fault }) m (Err f) names before after
-    stopped (inl no) = absurd cc
+    stopped (inl failed) = absurd cc
     stopped (inr at) = inr at
 
 -- where the first run went to its end, both go as far as the second
@@ -38,7 +38,7 @@ stopped_at first (Some e) r m f names before after is (inr h) = inr h
 stopped_at first None r m f names before after is h = more (goes_stop first.steps r.steps m f names before after (steps_alone first m (Err f) names before after is h))
   where
     more : Goes (all_done (first.steps ++ r.steps)) m (Err f) names before after → Goes (record { steps = first.steps ++ r.steps; fault = r.fault }) m (Err f) names before after
-    more (inl no) = absurd cc
+    more (inl failed) = absurd cc
     more (inr at) = inr at
 
 pub then_stops : (m : Files) (first : Done) (next : Files → Done) (f : Fault) (names : Option Files) (before after : Option (List ℕ)) → Goes first m (Err f) names before after → Goes (then_run m first next) m (Err f) names before after
