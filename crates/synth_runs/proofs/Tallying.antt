@@ -2,13 +2,11 @@
 use Rattle.std.proofs.Common.{◌≡◌, ◌∙◌, ap, sym, subst, refl, inl, inr, arith, ℕ, ℤ, pos, negsuc, ◌+◌, ◌-◌, ◌*◌, ◌/◌, ◌%◌, ◌^◌, ◌<◌, ◌≤◌, true, List, [], ◌∷◌, ◌++◌, length, length-append, get_or, Option, Some}
 use Rattle.std.specs.Prelude.{slice_get, unsigned_abs, option_map}
 use Rattle.std.specs.List.{All}
-use Rattle.std.proofs.Math.Nat.{mul-le-mul}
 use Rattle.std.proofs.lemmas.Bool.{cases_lt}
 use Rattle.std.proofs.lemmas.Bool.Decides.{nat_tests}
 use Rattle.std.proofs.lemmas.Int.{ints}
 use Rattle.std.proofs.lemmas.List.{get_or_append_left, get_or-append_right}
 use Rattle.std.proofs.lemmas.Nat.{div-mul-add, mod-mul-add, div-add-mod', mod_below}
-use Rattle.geotransform.specs.Geo.{IsRaster}
 use Rattle.geotransform.specs.Types.{is_in}
 use Rattle.geotransform.specs.declared.types.PixelType.{PixelType}
 use Rattle.geotransform.specs.declared.types.PixelType.TheVariants.{Byte, UInt16, Int16, UInt32, Int32}
@@ -21,7 +19,7 @@ use Rattle.catalog.specs.Pixels.{pixel_of_name}
 use Rattle.catalog.specs.Places.{row_by_row}
 use Rattle.nearest_window.specs.Shown.{IsInBand}
 use Rattle.strip_copies.specs.Copies.{lines_rect}
-use Rattle.synthetic_rasters.specs.Tally.{Totals, most_pixels, tally_of, tally_text}
+use Rattle.synthetic_rasters.specs.Tally.{Totals, tally_of, tally_text}
 use Rattle.synthetic_rasters.proofs.Tallied.{count_few}
 use Rattle.synth_runs.specs.Runs.{samples_of}
 use Rattle.synth_runs.specs.Tallied.{lines_of, AreTallied, IsCopied}
@@ -140,12 +138,6 @@ all_lines m d size is =
     ∙ ap (λ (s : Size). row_by_row f (record { x = 0; y = 0; w = s.w; h = s.h })) (sym is)
 
 -- lines behind those that were tallied
-pub few_pixels : (size : Size) (count first end long : ℕ) → IsRaster size → count ≤ size.w * first → first ≤ end → end ≤ size.h → long ≡ size.w * (end - first) → count + long ≤ most_pixels
-few_pixels size count first end long raster few low high is =
-    let both = both_sizes size.w first end low in
-    let most : size.w * end ≤ 4194304 * 4194304 = mul-le-mul raster.columns (let lines = raster.lines in omega (arith, high, lines)) in
-    omega (arith, both, most, few, is)
-
 pub tallied_more : (told now : Option Files) (cat : List Dataset) (id : ℕ) (size : Size) (first end : ℕ) (old new : Totals) (samples : List ℤ)
     → now ≡ told → 0 < size.w → first ≤ end → length samples ≡ size.w * (end - first)
     → ((m : Files) → told ≡ Some m → (d : Dataset) → slice_get cat id ≡ Some d → samples ≡ lines_of m d.head.name size first end)

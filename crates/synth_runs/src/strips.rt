@@ -46,14 +46,14 @@ fn area(columns: u32, lines: u32) -> usize
     columns as usize * lines as usize
 }
 
-// How many lines are read at a time: as many as have 1,048,576 samples, and at least one.
+// How many lines are read at a time: as many as have 1,048,576 samples, and at least one, or all that there are.
 fn lines_at_once(size: Size) -> u32
     requires raster { IsRaster size }
     ensures some { 1 ≤ result }
     ensures bound { size.w * result ≤ 4194304 }
 {
     let lines = 1_048_576 / size.w;
-    if lines == 0 { 1 } else { lines }
+    if lines == 0 { 1 } else { lines.min(size.h) }
 }
 
 // The window of lines.

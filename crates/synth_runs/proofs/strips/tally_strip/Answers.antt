@@ -1,6 +1,6 @@
 use Rattle.std.proofs.Common.{◌≡◌, ◌∙◌, ◌*◌, ◌-◌, length, take, arith}
 use Rattle.std.proofs.lemmas.List.{length-take-le}
-use Rattle.synth_runs.proofs.Tallying.{few_pixels, tallied_more}
+use Rattle.synth_runs.proofs.Tallying.{tallied_more}
 use Rattle.synth_runs.proofs.strips.tally_strip.Goals as goal
 
 pub returns-in-Ok-clause-tallied : goal.returns-in-Ok-clause-tallied

@@ -1,10 +1,12 @@
 use Rattle.std.proofs.Common.{◌≡◌, sym, subst}
 use Rattle.std.proofs.lemmas.Option.{slice_get_within}
+use Rattle.catalog.specs.Dataset.{DatasetHead}
 use Rattle.catalog.proofs.Found.{found}
 use Rattle.error_lines.specs.declared.faults.Fault.{Fault}
 use Rattle.mosaic_builds.specs.Ends.{IsOfMaking}
 use Rattle.mosaic_builds.proofs.Walked.{may_walk}
 use Rattle.synthetic_rasters.specs.Names.{output_name}
+use Rattle.synth_runs.specs.Tallied.{IsCopied}
 use Rattle.synth_runs.proofs.Reaching.{copied_is, copied_refused, is_copied}
 use Rattle.synth_runs.proofs.telling.open_copied.Goals as goal
 
@@ -14,7 +16,9 @@ head-requires g c =
     record { known = slice_get_within c.open_all.new.cat c.in-Ok.id d.dataset d.at }
 
 pub returns-in-Ok-clause-copied : goal.returns-in-Ok-clause-copied
-returns-in-Ok-clause-copied g c = is_copied c.open_all.new.cat c.in_ok-name.name c.in-Ok.id c.head.result.now c.in-Ok.ensures.valid c.in-Ok.ensures.number c.head.ensures.head
+returns-in-Ok-clause-copied g c =
+    subst (λ (h : DatasetHead). IsCopied c.open_all.new.cat c.in-Ok.id h.size) (sym c.behind-cat.view_is)
+    (is_copied c.open_all.new.cat c.in_ok-name.name c.in-Ok.id c.head.result.now c.in-Ok.ensures.valid c.in-Ok.ensures.number c.head.ensures.head)
 
 pub returns-in-Ok-clause-dataset : goal.returns-in-Ok-clause-dataset
 returns-in-Ok-clause-dataset g c = λ m told d at.
