@@ -22,8 +22,9 @@ use Rattle.command_words.specs.Jobs.{point_of, form_of, is_same_format, of_forma
 use Rattle.command_words.specs.Options.{tool_of}
 use Rattle.command_words.specs.Uses.{spoken_in}
 use Rattle.command_words.specs.Words.{command_of, words_of}
-use Rattle.gdal_cli.specs.Published.{IsNamed, IsNamedJob}
-use Rattle.gdal_cli.proofs.Bound.{bind_is, ok_same, some_of}
+use Rattle.translation_runs.specs.Published.{IsNamed}
+use Rattle.gdal_cli.specs.Published.{IsNamedJob}
+use Rattle.translation_runs.proofs.Bound.{bind_is, ok_same, some_of}
 
 -- what is written is written so in every format that is asked for
 kept_if : (same : Bool) (v w : Written) → cond same (Some v) None ≡ Some w → v ≡ w

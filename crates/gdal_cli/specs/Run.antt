@@ -15,13 +15,13 @@ use Rattle.command_words.specs.declared.command.Job.TheVariants.{Info, Locate, T
 use Rattle.command_words.specs.declared.spoken.WordFault.{WordFault}
 use Rattle.command_words.specs.declared.spoken.WordFault.TheVariants as word
 use Rattle.mosaic_builds.specs.Steps.{warns}
-use Rattle.gdal_cli.specs.Published.{names_written}
 use Rattle.error_lines.specs.declared.faults.Fault.{Fault}
 use Rattle.error_lines.specs.declared.faults.Fault.TheVariants as fault
 use Rattle.error_lines.specs.declared.faults.Fault.TheVariants.{Usage, Absent, NotRecognized, Malformed, Short, Cycle, TooDeep, Limit, SourceBand, Plan, SameName, BadPoint, Changed, FolderFault, InputFault, OutFault, Memory}
 use Rattle.error_lines.specs.Faults.{fault_of, IsOutside, status_of}
 use Rattle.error_lines.specs.Texts.{line_of}
 use Rattle.error_lines.specs.Steps.{Step, Done, printed, warned, AreDone, AreWarned}
+use Rattle.translation_runs.specs.Published.{names_written}
 
 -- the name of the one dataset that a job begins with; a mosaic is made of many
 abbrev pub name_read : Job → Option (List ℕ)
@@ -107,11 +107,6 @@ pub record IsRefusal (fault : Option Fault) : Type 0 where
   pub refused : status_of fault ≡ 1
   pub no_line : (n : ℕ) → fault ≡ Some (BadPoint n) → ⊥
   pub no_limit : (n : ℕ) → fault ≡ Some (Limit limits.Points n) → ⊥
-
--- the fault that a call ended with, if there is one
-abbrev pub ended : Result (Unit {0}) Fault → Option Fault
-ended (Ok done) = None
-ended (Err fault) = Some fault
 
 -- A name that tells no kind is refused so, or for want of memory; no other name is refused so that tells a kind, and
 -- where `alone` holds no other name at all. Words are not looked at again.

@@ -12,21 +12,20 @@ use Rattle.input_points.specs.Entries.{entries}
 use Rattle.location_report.specs.declared.report.Form.{Form}
 use Rattle.translate_plan.specs.Options.{Options}
 use Rattle.buildvrt.specs.Options as buildvrt
-use Rattle.translate_plan.specs.Plan.{Planned, plan_of}
+use Rattle.translate_plan.specs.Plan.{Planned}
 use Rattle.output_copies.specs.Steps.{translation_steps}
 use Rattle.mosaic_builds.specs.Built.{Built, built_in}
 use Rattle.mosaic_builds.specs.Steps.{mosaic_steps}
-use Rattle.published_files.specs.Names.{unless_read}
 use Rattle.error_lines.specs.declared.faults.Fault.{Fault}
 use Rattle.error_lines.specs.Faults.{by_walk}
 use Rattle.gdal_cli.specs.declared.asked.Asked.{Asked}
 use Rattle.command_words.specs.declared.command.Job.{Job}
 use Rattle.command_words.specs.declared.command.Job.TheVariants.{Info, Locate, Translate, Build}
-use Rattle.gdal_cli.specs.Faults.{by_plan, by_words}
+use Rattle.gdal_cli.specs.Faults.{by_words}
 use Rattle.gdal_cli.specs.Location.{asked_in, answers, point_text}
-use Rattle.gdal_cli.specs.Published.{names_written}
 use Rattle.error_lines.specs.Steps.{Done, all_done, refused, prints}
 use Rattle.command_words.specs.Words.{words_of}
+use Rattle.translation_runs.specs.Judged.{translation_judged}
 
 -- Work whose files are judged: the report of a dataset, what is asked of a dataset of a catalog, in one point or in the
 -- points of the input, the output of a dataset by a plan, or what is made of the inputs of a mosaic. The last two stand
@@ -50,14 +49,11 @@ location_judged m verify name point bands form geoloc = do
   asked ← asked_in form bands geoloc d.head
   Ok (Tells cat d asked point)
 
--- the dataset is walked, its output is planned, and then none of the names that are published is read
+-- a translation is judged, and then its output has its name
 unfoldable pub translate_judged : Files → Bool → List ℕ → Options → Bool → Result Work Fault
 translate_judged m verify name options quiet = do
-  cat ← by_walk (walked m verify [] name)
-  d ← by_walk (dataset_in m false name)
-  plan ← by_plan (plan_of options d.head)
-  free ← unless_read cat (names_written options)
-  Ok (Translates d plan options.out quiet)
+  t ← translation_judged m verify name options
+  Ok (Translates t.dataset t.plan options.out quiet)
 
 -- the inputs are walked, and the mosaic is made of their heads
 unfoldable pub build_judged : Files → Bool → List (List ℕ) → Option (List ℕ) → buildvrt.Options → Bool → Result Work Fault

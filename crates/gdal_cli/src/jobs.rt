@@ -8,12 +8,13 @@ ghost use Rattle.input_points.specs.declared.entry.Entry.{Entry};
 ghost use Rattle.catalog.specs.Drivers.{Dataset};
 ghost use Rattle.catalog.specs.Walk.{IsWalked};
 ghost use Rattle.error_lines.specs.Faults.{HasCauses, HasChanged, OwnsFault, Differs, IsOfReading};
+ghost use Rattle.translation_runs.specs.Ends.{ended};
 ghost use Rattle.gdal_cli.specs.Faults.{IsOfLines};
 ghost use Rattle.gdal_cli.specs.Input.{StopsBehind};
 ghost use Rattle.gdal_cli.specs.Location.{answers, point_text};
 ghost use Rattle.gdal_cli.specs.Pixels.{AreBands};
 ghost use Rattle.gdal_cli.specs.Published.{IsNamedJob};
-ghost use Rattle.gdal_cli.specs.Run.{Ends, MayEnd, MayWarn, IsRefusal, name_read, names_published, makes_mosaic, reads_sources, reads_input, ended, RefusesIn, RefusesKind};
+ghost use Rattle.gdal_cli.specs.Run.{Ends, MayEnd, MayWarn, IsRefusal, name_read, names_published, makes_mosaic, reads_sources, reads_input, RefusesIn, RefusesKind};
 ghost use Rattle.error_lines.specs.Steps.{AreWarned, GoesWarning};
 ghost use Rattle.gdal_cli.specs.Work.{info_judged, location_judged, judged_by, carried_out};
 
@@ -22,7 +23,7 @@ use crate::input::answer_input;
 use crate::mosaics::put_build;
 use crate::points::put_point;
 use crate::reader::{PointReader, Question};
-use crate::translating::{Way, put_translation};
+use crate::translating::put_translated;
 use catalog::{Catalog, head_of, open_all};
 use command_words::{BandNumber, BlockCount, Command, Job};
 use error_lines::Fault;
@@ -34,6 +35,7 @@ use outside::{Folder, Input, Name, Sink};
 use std::alloc::Global;
 use std::marker::Brand;
 use std::sync::ledger::{Blank, Ledger};
+use translation_runs::Way;
 
 // How points of a dataset are asked for.
 #[derive(Clone, Copy)]
@@ -217,7 +219,7 @@ pub fn put_job<F: Folder, I: Input, O: Sink, E: Sink>(
                 blocks,
                 quiet,
             };
-            put_translation(alloc, folder, out, &src, &options, way)
+            put_translated(alloc, folder, out, &src, &options, way)
         }
         Job::Build {
             inputs,

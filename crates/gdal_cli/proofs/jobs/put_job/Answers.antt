@@ -3,10 +3,12 @@ use Rattle.input_points.specs.Entries.{entries}
 use Rattle.command_words.specs.declared.command.Job.{Job}
 use Rattle.gdal_cli.specs.Published.{IsNamedJob}
 use Rattle.error_lines.specs.Steps.{Step, AreWarned}
-use Rattle.gdal_cli.specs.Run.{ended, makes_mosaic, names_published}
+use Rattle.translation_runs.specs.Ends.{ended}
+use Rattle.gdal_cli.specs.Run.{makes_mosaic, names_published}
 use Rattle.gdal_cli.specs.Work.{judged_by, carried_out}
 use Rattle.gdal_cli.proofs.Ended.{stops_same}
-use Rattle.gdal_cli.proofs.Printing.{info_prints, location_prints, translate_silent}
+use Rattle.gdal_cli.proofs.Printing.{info_prints, location_prints}
+use Rattle.gdal_cli.proofs.TranslationEnds.{translate_silent}
 use Rattle.gdal_cli.proofs.Unread.{mosaic_published, publishes_some}
 use Rattle.gdal_cli.proofs.Warning.{printing_as, silent_as, silent_may, warning_as}
 use Rattle.gdal_cli.proofs.jobs.put_job.Goals as goal
@@ -39,19 +41,19 @@ returns-in-Locate-clause-refused g c = λ refusal. let still = c.put_location.en
 pub returns-in-Locate-clause-only_read : goal.returns-in-Locate-clause-only_read
 returns-in-Locate-clause-only_read g c = λ none. record { names = c.put_location.ensures.names; writes = c.put_location.ensures.writes; faults = c.put_location.ensures.cause.folder_later }
 
-pub put_translation-requires-clause-named : goal.put_translation-requires-clause-named
-put_translation-requires-clause-named g c κs within = rw c.in-Translate.is (subst IsNamedJob c.in-Translate.is c.requires.named)
+pub put_translated-requires-clause-named : goal.put_translated-requires-clause-named
+put_translated-requires-clause-named g c κs within = rw c.in-Translate.is (subst IsNamedJob c.in-Translate.is c.requires.named)
 
 pub returns-in-Translate-clause-told : goal.returns-in-Translate-clause-told
 returns-in-Translate-clause-told g c = λ m is i fed.
-    silent_as _ (carried_out (judged_by c.args.command.job c.args.command.verify m) m (entries i)) m c.put_translation.result (g.F.Folder.names c.put_translation.new.folder) (g.O.Sink.got c.args.out.now) (g.O.Sink.got c.put_translation.new.out) c.args.failed.now (g.E.Sink.faults c.args.err.now) (g.E.Sink.got c.args.err.now) c.requires.fresh
-    (c.put_translation.ensures.told m is (entries i)) (translate_silent m (entries i) _ _ _ _) (rw c.in-Translate.is (search rules))
+    silent_as _ (carried_out (judged_by c.args.command.job c.args.command.verify m) m (entries i)) m c.put_translated.result (g.F.Folder.names c.put_translated.new.folder) (g.O.Sink.got c.args.out.now) (g.O.Sink.got c.put_translated.new.out) c.args.failed.now (g.E.Sink.faults c.args.err.now) (g.E.Sink.got c.args.err.now) c.requires.fresh
+    (c.put_translated.ensures.told m is (entries i)) (translate_silent m _ _ _ _ (entries i)) (rw c.in-Translate.is (search rules))
 
 pub returns-in-Translate-clause-stopped : goal.returns-in-Translate-clause-stopped
-returns-in-Translate-clause-stopped g c = λ so. absurd (c.put_translation.ensures.not_input so)
+returns-in-Translate-clause-stopped g c = λ so. absurd (c.put_translated.ensures.not_input so)
 
 pub returns-in-Translate-clause-refused : goal.returns-in-Translate-clause-refused
-returns-in-Translate-clause-refused g c = λ refusal. let still = c.put_translation.ensures.refused refusal in (still.0, refl, still.1)
+returns-in-Translate-clause-refused g c = λ refusal. let still = c.put_translated.ensures.refused refusal in (still.0, refl, still.1)
 
 pub returns-in-Translate-clause-only_read : goal.returns-in-Translate-clause-only_read
 returns-in-Translate-clause-only_read g c = λ none. absurd (publishes_some c.in-Translate.src c.in-Translate.options c.in-Translate.quiet (sym (ap (λ (j : Job). names_published j) c.in-Translate.is) ∙ none))
@@ -69,10 +71,10 @@ pub returns-in-Locate-clause-unknown : goal.returns-in-Locate-clause-unknown
 returns-in-Locate-clause-unknown g c = rw c.in-Locate.is (rw c.in-Locate.is at c.put_location.ensures.unknown)
 
 pub returns-in-Translate-clause-warned : goal.returns-in-Translate-clause-warned
-returns-in-Translate-clause-warned g c = silent_may (makes_mosaic c.args.command.job) (ended c.put_translation.result) c.args.failed.now (g.E.Sink.faults c.args.err.now) (g.E.Sink.got c.args.err.now) c.requires.fresh
+returns-in-Translate-clause-warned g c = silent_may (makes_mosaic c.args.command.job) (ended c.put_translated.result) c.args.failed.now (g.E.Sink.faults c.args.err.now) (g.E.Sink.got c.args.err.now) c.requires.fresh
 
 pub returns-in-Translate-clause-unknown : goal.returns-in-Translate-clause-unknown
-returns-in-Translate-clause-unknown g c = rw c.in-Translate.is (rw c.in-Translate.is at c.put_translation.ensures.unknown)
+returns-in-Translate-clause-unknown g c = rw c.in-Translate.is (rw c.in-Translate.is at c.put_translated.ensures.unknown)
 
 pub returns-in-Build-clause-told : goal.returns-in-Build-clause-told
 returns-in-Build-clause-told g c = λ m is i fed.

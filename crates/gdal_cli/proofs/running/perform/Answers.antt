@@ -4,7 +4,8 @@ use Rattle.input_points.specs.Entries.{entries}
 use Rattle.error_lines.specs.declared.faults.Fault.{Fault}
 use Rattle.command_words.specs.declared.command.Command.{Command}
 use Rattle.command_words.specs.declared.spoken.WordFault.{WordFault}
-use Rattle.gdal_cli.specs.Run.{MayEnd, MayWarn, ended, words_read_input, words_warn}
+use Rattle.translation_runs.specs.Ends.{ended}
+use Rattle.gdal_cli.specs.Run.{MayEnd, MayWarn, words_read_input, words_warn}
 use Rattle.error_lines.specs.Steps.{Step, AreWarned, GoesWarning}
 use Rattle.command_words.specs.Words.{words_of}
 use Rattle.gdal_cli.specs.Work.{Work, judged_by, carried_out, run_over}

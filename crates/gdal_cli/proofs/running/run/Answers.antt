@@ -7,7 +7,7 @@ use Rattle.gdal_cli.specs.Run.{Answers, AreTold, MayEnd, MayWarn, IsRefusal, Tel
 use Rattle.command_words.specs.Words.{words_of}
 use Rattle.gdal_cli.specs.Work.{run_of}
 use Rattle.gdal_cli.proofs.Causes.{command_may}
-use Rattle.gdal_cli.proofs.Datasets.{refused_so}
+use Rattle.translation_runs.proofs.Ended.{refused_so}
 use Rattle.gdal_cli.proofs.Outcomes.{answered, completed}
 use Rattle.gdal_cli.proofs.Warning.{early_warned, fault_behind, goes_of, told_behind, whole_warned}
 use Rattle.gdal_cli.proofs.running.run.Goals as goal
