@@ -1,5 +1,5 @@
 -- How the parts of the run end.
-use Rattle.std.proofs.Common.{◌≡◌, ap, sym, subst, refl, inl, inr, arith, ℕ, List, [], ◌∷◌, ◌++◌, Contains, Result, Ok, Err, Option, Some, None}
+use Rattle.std.proofs.Common.{◌≡◌, sym, subst, refl, inl, inr, arith, ℕ, List, [], ◌∷◌, Contains, Result, Ok, Err, Option, Some, None}
 use Rattle.std.specs.Prelude.{IfErr, flat_map}
 use Rattle.std.specs.List.{range_with_len}
 use Rattle.std.proofs.lemmas.List.Elements.{Contains-get_or, Contains-append_right}
@@ -14,7 +14,7 @@ use Rattle.published_files.specs.Documents.{IsOfFolder}
 use Rattle.synthetic_rasters.specs.Names.{tile_name, inner_name, outer_name, output_name}
 use Rattle.translation_runs.specs.Ends as translation
 use Rattle.translation_runs.specs.Ends.{ended}
-use Rattle.translation_runs.specs.Published.{names_written}
+use Rattle.translation_runs.proofs.Ended.{has_changed, no_change}
 use Rattle.synth_runs.specs.Ends.{raster_names, names_made, MayEnd}
 use Rattle.synth_runs.specs.Runs.{output_options}
 
@@ -109,18 +109,8 @@ where_failed P Q (Ok x) more h = tt
 where_failed P Q (Err f) more h = more f h
 
 -- files whose lengths changed
-one_fault : (f g : Fault) → Some f ≡ Some g → f ≡ g
-one_fault f g is = cc
-
 pub unchanged : (names : Option Files) (P : Fault → Type 0) (r : Result (Unit {0}) Fault) → ((name : List ℕ) (was : ℕ) (now : Option ℕ) → P (Changed name was now) → ⊥) → IfErr r P → HasChanged names (ended r)
-unchanged names P (Ok done) never h = record {
-  untold = λ name was now is. let no : ⊥ = cc in absurd no;
-  differs = λ name was now is same. cc;
-}
-unchanged names P (Err f) never h = record {
-  untold = λ name was now is. absurd (never name was now (subst P (one_fault f (Changed name was now) is) h));
-  differs = λ name was now is same. never name was now (subst P (one_fault f (Changed name was now) is) h);
-}
+unchanged names P r never h = no_change names r (λ name was now is. never name was now (subst (λ (e : Result (Unit {0}) Fault). IfErr e P) is h))
 
 pub making_unchanged : (name : List ℕ) (names : Option Files) (r : Result (Unit {0}) Fault) → IfErr r (IsOfMaking name) → HasChanged names (ended r)
 making_unchanged name names r h = unchanged names (IsOfMaking name) r (λ n was now bad. bad) h
@@ -133,12 +123,7 @@ pub folder_unchanged : (names : Option Files) (r : Result (Unit {0}) Fault) → 
 folder_unchanged names r h = unchanged names IsOfFolder r folder_never h
 
 pub ends_changed : (names : Option Files) (f g o p : ℕ) (r : Result (Unit {0}) Fault) → copying.MayEnd names f g o p r → HasChanged names (ended r)
-ends_changed names f g o p (Ok done) ends = unchanged names (λ e. ⊥) (Ok done) (λ name was now bad. bad) tt
-ends_changed None f g o p (Err e) ends = record {
-  untold = λ name was now is. refl;
-  differs = λ name was now is same. ends.differs name was now (ap (λ (x : Fault). Err x) (one_fault e (Changed name was now) is)) same;
-}
-ends_changed (Some m) f g o p (Err e) ends = unchanged (Some m) IsOutside (Err e) (λ name was now bad. bad) (ends.never m refl)
+ends_changed names f g o p r ends = has_changed names r ends.differs (λ m told name was now is. subst (λ (e : Result (Unit {0}) Fault). IfErr e IsOutside) is (ends.never m told))
 
 -- behind a run that went to its end over a folder that tells its files, the folder tells them
 pub told_after : (r : Done) (m : Files) (names : Option Files) (before after : Option (List ℕ)) → Goes r m (Ok tt) names before after → (k : Files) × (names ≡ Some k)

@@ -1,7 +1,6 @@
 -- How far a run goes that is followed by another.
-use Rattle.std.proofs.Common.{◌≡◌, ◌∙◌, ap, sym, subst, refl, inl, inr, ℕ, List, ◌++◌, Result, Ok, Err, Option, Some, None}
+use Rattle.std.proofs.Common.{◌≡◌, ◌∙◌, sym, subst, refl, inl, inr, ℕ, List, ◌++◌, Result, Ok, Err, Option, Some, None}
 use Rattle.outside.specs.Outside.{Files}
-use Rattle.outside.proofs.Sinks.{gets-none}
 use Rattle.error_lines.specs.declared.faults.Fault.{Fault}
 use Rattle.error_lines.specs.Steps.{Step, Done, published, applied, all_done, AreDone, Goes}
 use Rattle.output_copies.proofs.Goes.{goes_then, goes_stop}

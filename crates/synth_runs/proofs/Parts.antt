@@ -8,7 +8,7 @@ use Rattle.vrt_profile.specs.Spelled.{spelled}
 use Rattle.catalog.specs.Drivers.{Dataset}
 use Rattle.error_lines.specs.declared.faults.Fault.{Fault}
 use Rattle.error_lines.specs.Faults.{IsOutside}
-use Rattle.error_lines.specs.Steps.{Step, Publishes, Done, all_done, refused, prints, Goes}
+use Rattle.error_lines.specs.Steps.{Publishes, Done, all_done, refused, prints, Goes}
 use Rattle.mosaic_builds.specs.Built.{Built, built_in}
 use Rattle.output_copies.proofs.Goes as steps
 use Rattle.synthetic_rasters.specs.Names.{tile_names, inner_name}

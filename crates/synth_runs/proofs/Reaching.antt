@@ -1,7 +1,6 @@
 -- The walk to the copy.
-use Rattle.std.proofs.Common.{◌≡◌, ◌∙◌, ◌⊎◌, ap, sym, subst, refl, inl, inr, arith, ℕ, false, List, [], Result, Ok, Err, Option, Some}
+use Rattle.std.proofs.Common.{◌≡◌, ◌∙◌, ◌⊎◌, ap, sym, subst, inl, inr, ℕ, false, List, [], Result, Ok, Err, Some}
 use Rattle.std.specs.Prelude.{slice_get, option_map}
-use Rattle.std.proofs.lemmas.List.Elements.{All-nil}
 use Rattle.lists_and_answers.specs.Answers.{◌>>=◌}
 use Rattle.geotransform.specs.Geo.{IsRaster}
 use Rattle.outside.specs.Outside.{Files}
@@ -11,11 +10,12 @@ use Rattle.catalog.specs.Drivers.{Dataset}
 use Rattle.catalog.specs.Heads.{dataset_in}
 use Rattle.catalog.specs.Walk.{number_of, walked, IsCatalog, IsDataset, IsWalked}
 use Rattle.catalog.specs.declared.faults.WalkFault.{WalkFault}
-use Rattle.catalog.proofs.Found.{found, name_at, of_item, some_is}
+use Rattle.catalog.proofs.Found.{found, name_at, of_item}
 use Rattle.error_lines.specs.declared.faults.Fault.{Fault}
 use Rattle.error_lines.specs.Faults.{fault_of, by_walk, IsOutside}
 use Rattle.mosaic_builds.proofs.Walked.{outside_walk}
 use Rattle.synthetic_rasters.specs.Names.{output_name}
+use Rattle.translation_runs.proofs.Reached.{told_of, walked_read}
 use Rattle.synth_runs.specs.Runs.{copied}
 use Rattle.synth_runs.specs.Tallied.{IsCopied}
 
@@ -23,9 +23,7 @@ use Rattle.synth_runs.specs.Tallied.{IsCopied}
 pub copied_is : (m : Files) (old cat : List Dataset) (name : List ℕ) (id : ℕ) (d : Dataset) → name ≡ output_name → old ≡ [] → walked m false old name ≡ Ok cat → (IsWalked m old → IsWalked m cat) → number_of cat name ≡ Some id → slice_get cat id ≡ Some d → copied m ≡ Ok d
 unfolding copied
 copied_is m old cat name id d named empty walk more number at =
-    let Read = λ (x : Dataset). dataset_in m false x.head.name ≡ Ok x in
-    let all : IsWalked m cat = more (subst (IsWalked m) (sym empty) (All-nil Read)) in
-    let read : dataset_in m false output_name ≡ Ok d = subst (λ (n : List ℕ). dataset_in m false n ≡ Ok d) (name_at cat name id d number at ∙ named) (of_item Read cat id d all at) in
+    let read : dataset_in m false output_name ≡ Ok d = subst (λ (n : List ℕ). dataset_in m false n ≡ Ok d) named (walked_read m old cat name id d empty more at (name_at cat name id d number at)) in
     let whole : walked m false [] output_name ≡ Ok cat = subst (λ (n : List ℕ). walked m false [] n ≡ Ok cat) named (subst (λ (c : List Dataset). walked m false c name ≡ Ok cat) empty walk) in
     ap (λ (e : Result (List Dataset) WalkFault). by_walk e >>= (λ (c : List Dataset). by_walk (dataset_in m false output_name))) whole
     ∙ ap (λ (e : Result Dataset WalkFault). by_walk e) read
@@ -46,7 +44,7 @@ copied_refused m old name w f named empty is h =
 pub is_copied : (cat : List Dataset) (name : List ℕ) (id : ℕ) (head : DatasetHead) → IsCatalog cat → number_of cat name ≡ Some id → option_map (λ (d : Dataset). d.head) (slice_get cat id) ≡ Some head → IsCopied cat id head.size
 is_copied cat name id head valid number told =
     let d = found cat name id number in
-    let same : d.dataset.head ≡ head = some_is (sym (ap (option_map (λ (x : Dataset). x.head)) d.at) ∙ told) in
+    let same : d.dataset.head ≡ head = told_of (λ (x : Dataset). x.head) cat id d.dataset head d.at told in
     let is : IsDataset d.dataset = of_item IsDataset cat id d.dataset valid.each d.at in
     record {
       dataset = d.dataset;

@@ -1,5 +1,5 @@
 // The copy of the outer mosaic.
-ghost use Rattle.std.specs.Prelude.{◌≡◌, ℕ, List, Some, IfOk, IfErr};
+ghost use Rattle.std.specs.Prelude.{◌≡◌, Some, IfOk, IfErr};
 ghost use Rattle.outside.specs.Outside.{Files};
 ghost use Rattle.error_lines.specs.Faults.{HasCauses, HasChanged};
 ghost use Rattle.error_lines.specs.Steps.{Goes};

@@ -1,5 +1,5 @@
 // The run from a number, part by part.
-ghost use Rattle.std.specs.Prelude.{◌≡◌, ℕ, List, IfErr, Some};
+ghost use Rattle.std.specs.Prelude.{◌≡◌, IfErr, Some};
 ghost use Rattle.outside.specs.Outside.{Files};
 ghost use Rattle.error_lines.specs.Faults.{HasCauses, HasChanged};
 ghost use Rattle.error_lines.specs.Steps.{Goes};

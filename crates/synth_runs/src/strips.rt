@@ -1,5 +1,5 @@
 // The samples of a dataset's first band, read line by line through a lane and tallied.
-ghost use Rattle.std.specs.Prelude.{◌≡◌, ◌<◌, ◌≤◌, ◌-◌, ◌*◌, ◌^◌, All, IfErr, IfOk, OnOk, Some, length, slice_get, unsigned_abs};
+ghost use Rattle.std.specs.Prelude.{◌≡◌, ◌<◌, ◌≤◌, ◌-◌, ◌*◌, ◌^◌, All, IfOk, OnOk, Some, length, slice_get, unsigned_abs};
 ghost use Rattle.geotransform.specs.Geo.{IsRaster};
 ghost use Rattle.outside.specs.Reading.{WhereTold};
 ghost use Rattle.catalog.specs.Drivers.{Dataset};

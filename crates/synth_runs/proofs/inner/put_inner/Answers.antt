@@ -1,5 +1,4 @@
-use Rattle.std.proofs.Common.{◌≡◌, ◌∙◌, ap, sym, subst, ℕ, List, [], ◌∷◌, Err}
-use Rattle.std.specs.Prelude.{IfErr}
+use Rattle.std.proofs.Common.{◌∙◌, subst, [], ◌∷◌}
 use Rattle.vrt_profile.specs.Spelled.{spelled}
 use Rattle.buildvrt.specs.Options.{Options}
 use Rattle.error_lines.specs.declared.faults.Fault.TheVariants.{Memory}
@@ -9,7 +8,7 @@ use Rattle.mosaic_builds.specs.Ends.{IsOfMaking}
 use Rattle.output_copies.proofs.Ends.{err_is}
 use Rattle.published_files.specs.Documents.{IsOfFolder}
 use Rattle.synthetic_rasters.specs.Names.{inner_name}
-use Rattle.synth_runs.specs.Runs.{inner_options, inner_run}
+use Rattle.synth_runs.specs.Runs.{inner_run}
 use Rattle.synth_runs.proofs.Ending.{folder_making, where_failed}
 use Rattle.synth_runs.proofs.Parts.{none_goes, inner_refused, inner_made}
 use Rattle.synth_runs.proofs.inner.put_inner.Goals as goal

@@ -3,7 +3,6 @@ use Rattle.vrt_profile.specs.Spelled.{spelled}
 use Rattle.vrt_profile.specs.Values.{DocumentValue}
 use Rattle.error_lines.specs.declared.faults.Fault.TheVariants.{Memory}
 use Rattle.error_lines.specs.Steps.{Publishes, all_done, Goes}
-use Rattle.synthetic_rasters.specs.Names.{outer_name}
 use Rattle.synthetic_rasters.specs.Outer.{outer_document}
 use Rattle.output_copies.proofs.Ends.{err_is}
 use Rattle.synth_runs.specs.Runs.{outer_run}

@@ -1,6 +1,5 @@
-use Rattle.std.proofs.Common.{◌≡◌, ◌≤◌, ◌∙◌, ◌+◌, refl, arith, sym, subst, ℕ, Option, Err}
+use Rattle.std.proofs.Common.{◌≡◌, ◌∙◌, ◌+◌, refl, arith, subst, ℕ, Option}
 use Rattle.outside.specs.Outside.{Files}
-use Rattle.output_copies.proofs.Ends.{ends_after, ends_ok, ends_so}
 use Rattle.synth_runs.specs.Tallied.{AreTallied}
 use Rattle.synth_runs.proofs.Tallying.{none_tallied}
 use Rattle.synth_runs.proofs.strips.tally_lines.Goals as goal

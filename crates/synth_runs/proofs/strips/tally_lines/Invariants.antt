@@ -1,4 +1,4 @@
-use Rattle.std.proofs.Common.{◌≡◌, ◌≤◌, ◌-◌, length}
+use Rattle.std.proofs.Common.{◌≡◌, ◌≤◌, ◌-◌}
 use Rattle.nearest_window.specs.Right.{IsReady}
 use Rattle.synth_runs.specs.Tallied.{AreTallied}
 use Rattle.synth_runs.proofs.strips.tally_lines.Given as goal

@@ -1,8 +1,7 @@
-use Rattle.std.proofs.Common.{◌≡◌, sym, subst}
+use Rattle.std.proofs.Common.{sym, subst}
 use Rattle.std.proofs.lemmas.Option.{slice_get_within}
 use Rattle.catalog.specs.Dataset.{DatasetHead}
 use Rattle.catalog.proofs.Found.{found}
-use Rattle.error_lines.specs.declared.faults.Fault.{Fault}
 use Rattle.mosaic_builds.specs.Ends.{IsOfMaking}
 use Rattle.mosaic_builds.proofs.Walked.{may_walk}
 use Rattle.synthetic_rasters.specs.Names.{output_name}

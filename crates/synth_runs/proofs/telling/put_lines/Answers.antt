@@ -1,4 +1,4 @@
-use Rattle.synth_runs.proofs.Parts.{text_goes, text_stops}
+use Rattle.synth_runs.proofs.Parts.{text_stops}
 use Rattle.error_lines.specs.declared.faults.Fault.TheVariants.{OutFault}
 use Rattle.synth_runs.proofs.telling.put_lines.Goals as goal
 

@@ -1,4 +1,4 @@
-use Rattle.std.proofs.Common.{◌≡◌, ◌∙◌, subst, Option, Err}
+use Rattle.std.proofs.Common.{◌∙◌, subst, Option, Err}
 use Rattle.outside.specs.Outside.{Files}
 use Rattle.error_lines.specs.Faults.{HasChanged, IsOfReading}
 use Rattle.mosaic_builds.proofs.Ended.{making_causes}

@@ -1,4 +1,4 @@
-use Rattle.std.proofs.Common.{◌≡◌, ◌∙◌, refl, arith, subst, ℕ, List, [], ◌∷◌, Ok, Err}
+use Rattle.std.proofs.Common.{◌∙◌, arith, subst, ℕ, List, [], ◌∷◌, Ok, Err}
 use Rattle.error_lines.specs.declared.faults.Fault.TheVariants.{Memory}
 use Rattle.error_lines.specs.Steps.{all_done, prints, Goes}
 use Rattle.output_copies.proofs.Ends.{ends_after, ends_beside, ends_memory, ends_so, err_is}
