@@ -1,5 +1,5 @@
 -- How far translations go.
-use Rattle.std.proofs.Common.{◌≡◌, ◌∙◌, ap, sym, subst, refl, ◌⊎◌, inl, inr, ℕ, Bool, false, List, [], length, Result, Ok, Err, Option, Some, None}
+use Rattle.std.proofs.Common.{◌≡◌, ◌∙◌, ap, sym, subst, refl, ◌⊎◌, inl, inr, ℕ, Bool, false, List, [], ◌∷◌, length, Result, Ok, Err, Option, Some, None}
 use Rattle.std.specs.Prelude.{slice_get, option_map}
 use Rattle.lists_and_answers.specs.Answers.{◌>>=◌}
 use Rattle.outside.specs.Outside.{Files}

@@ -17,6 +17,7 @@ use Rattle.output_copies.specs.Steps.{translation_steps}
 use Rattle.output_copies.proofs.Ends.{err_is}
 use Rattle.translation_runs.specs.Ends.{MayEnd, RefusesName}
 use Rattle.translation_runs.specs.Judged.{translation_run}
+use Rattle.translation_runs.specs.Published.{names_written}
 use Rattle.translation_runs.proofs.Ended.{behind_walk, has_changed, plan_may, plan_recognizes, reading_recognizes, readings_may, readings_refuse, same_may, same_recognizes, walk_may, walk_refuses}
 use Rattle.translation_runs.proofs.Reached.{told_of}
 use Rattle.translation_runs.proofs.Translated.{walked_so, plan_is, planned_so, planned_driver, walk_goes, plan_goes, same_goes, done_goes, goes_unchanged}
@@ -86,7 +87,7 @@ pub returns-in_err-unless_read-clause-unknown : goal.returns-in_err-unless_read-
 returns-in_err-unless_read-clause-unknown g c =
     let f = c.in_err-unless_read.field-0.0 in
     let is = err_is c.from_residual-in_err-unless_read.result f c.from_residual-in_err-unless_read.ensures in
-    behind_walk c.args.src.now c.in_ok-id.id c.from_residual-in_err-unless_read.result c.in_ok-id.ensures.unknown (λ n so. same_recognizes c.open_all.new.cat _ f n c.in_err-unless_read.ensures.gives cc)
+    behind_walk c.args.src.now c.in_ok-id.id c.from_residual-in_err-unless_read.result c.in_ok-id.ensures.unknown (λ n so. same_recognizes c.open_all.new.cat (names_written c.args.options.now) f n c.in_err-unless_read.ensures.gives cc)
 
 pub write_output-requires-clause-translation : goal.write_output-requires-clause-translation
 write_output-requires-clause-translation g c κs within =
