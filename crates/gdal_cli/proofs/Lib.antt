@@ -14,6 +14,7 @@ pub mod Pieces
 pub mod Placed
 pub mod Printing
 pub mod Reached
+pub mod SynthEnds
 pub mod Told
 pub mod TranslationEnds
 pub mod Unread
