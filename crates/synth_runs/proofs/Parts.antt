@@ -2,7 +2,7 @@
 use Rattle.std.proofs.Common.{◌≡◌, ◌⊎◌, sym, subst, refl, inl, inr, ℕ, false, List, [], ◌∷◌, Result, Ok, Err, Option, Some, None}
 use Rattle.outside.specs.Names.{extension_of, ending_of, last_part, kind_of}
 use Rattle.outside.specs.Outside.{Files}
-use Rattle.outside.specs.Streams.{Gets, GetsPart}
+use Rattle.outside.specs.Streams.{GetsPart}
 use Rattle.outside.proofs.Sinks.{gets-none}
 use Rattle.vrt_profile.specs.Spelled.{spelled}
 use Rattle.catalog.specs.Drivers.{Dataset}
@@ -39,10 +39,7 @@ inner_refused m f names old is (inr refused_so) = subst (λ (d : Result Built Fa
 pub inner_made : (m : Files) (built : Built) (r : Result (Unit {0}) Fault) (names : Option Files) (old : Option (List ℕ)) → built_in m false tile_names None inner_options ≡ Ok built → Goes (all_done (Publishes inner_name (spelled built.document) ∷ [])) m r names old old → Goes (inner_run m) m r names old old
 inner_made m built r names old is goes = subst (λ (d : Result Built Fault). Goes (inner_done d) m r names old old) (sym is) goes
 
--- one text is put, or a first part of it
-pub text_goes : (text : List ℕ) (m : Files) (names : Option Files) (before after : Option (List ℕ)) → names ≡ Some m → Gets text before after → Goes (all_done (prints (text ∷ []))) m (Ok tt) names before after
-text_goes text m names before after is got = (refl, steps.spoken_done false text m names before after is got)
-
+-- a first part of one text is put
 pub text_stops : (text : List ℕ) (m : Files) (f : Fault) (names : Option Files) (before after : Option (List ℕ)) → names ≡ Some m → IsOutside f → GetsPart text before after → Goes (all_done (prints (text ∷ []))) m (Err f) names before after
 text_stops text m f names before after is out part = steps.spoken_stops false text f m names before after is out part
 
