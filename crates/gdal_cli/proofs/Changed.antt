@@ -1,6 +1,5 @@
 -- Files whose lengths changed.
 use Rattle.std.proofs.Common.{◌≡◌, subst, ℕ, List, Result, Ok, Err, Option}
-use Rattle.outside.specs.Outside.{Files}
 use Rattle.error_lines.specs.declared.faults.Fault.{Fault}
 use Rattle.error_lines.specs.declared.faults.Fault.TheVariants.{Changed}
 use Rattle.error_lines.specs.Faults.{IsOutside}

@@ -79,7 +79,6 @@ pub readings_refuse : (r : Result (Unit {0}) Fault) (P : Type 0) → IfErr r IsO
 readings_refuse (Ok done) P h = tt
 readings_refuse (Err f) P h = no_refusal f P h
 
-
 -- a folder that is none that tells its names
 untold : (names : Option Files) → ((m : Files) → names ≡ Some m → ⊥) → names ≡ None
 untold None never = refl
