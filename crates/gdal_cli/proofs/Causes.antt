@@ -1,9 +1,8 @@
 -- The faults that the parts of a job end with, as those of the job.
-use Rattle.std.proofs.Common.{◌≡◌, ap, refl, sym, subst, ◌⊎◌, inl, inr, ℕ, ℤ, Bool, true, List, Result, Ok, Err, Option, Some, None, arith}
+use Rattle.std.proofs.Common.{◌≡◌, ap, refl, subst, ◌⊎◌, inl, inr, ℕ, ℤ, Bool, true, List, Result, Ok, Err, Option, Some, None, arith}
 use Rattle.std.specs.Prelude.{IfOk, IfErr, IfSome, is_some}
 use Rattle.geotransform.specs.declared.faults.PlanFault.{PlanFault}
 use Rattle.catalog.specs.Dataset.{DatasetHead}
-use Rattle.catalog.specs.Drivers.{Dataset}
 use Rattle.catalog.specs.declared.faults.LimitKind.{LimitKind}
 use Rattle.catalog.specs.declared.faults.WalkFault.{WalkFault}
 use Rattle.catalog.specs.declared.faults.WalkFault.TheVariants as walk
@@ -16,16 +15,13 @@ use Rattle.error_lines.specs.Faults.{fault_of, report_fault_of, IsOutside, HasNo
 use Rattle.gdal_cli.specs.declared.asked.Asked.{Asked}
 use Rattle.command_words.specs.declared.command.Command.{Command}
 use Rattle.command_words.specs.declared.command.Job.{Job}
-use Rattle.command_words.specs.declared.command.Job.TheVariants.{Locate, Translate}
+use Rattle.command_words.specs.declared.command.Job.TheVariants.{Locate}
 use Rattle.command_words.specs.declared.spoken.WordFault.{WordFault}
 use Rattle.command_words.specs.declared.spoken.WordFault.TheVariants as word
 use Rattle.gdal_cli.specs.Faults.{IsOfLines, word_fault_of}
 use Rattle.gdal_cli.specs.Location.{asked_in}
-use Rattle.published_files.specs.Names.{unless_read}
-use Rattle.published_files.proofs.Same.{same_name}
-use Rattle.gdal_cli.specs.Published.{names_written}
-use Rattle.translate_plan.specs.Options.{Options}
-use Rattle.gdal_cli.specs.Run.{MayEnd, IsRefusal, ended, reads_input, reads_pixels}
+use Rattle.translation_runs.specs.Ends.{ended}
+use Rattle.gdal_cli.specs.Run.{MayEnd, IsRefusal, reads_input, reads_pixels}
 use Rattle.command_words.specs.Words.{IsMemory}
 use Rattle.gdal_cli.proofs.Lacking.{asked_plan}
 
@@ -182,11 +178,6 @@ readings_refuse r h refusal = lines_refuse r (readings_of_lines r h) refusal
 pub readings_may : (job : Job) (r : Result (Unit {0}) Fault) → reads_pixels job ≡ true → IfErr r IsOfReading → IfErr r (MayEnd job)
 readings_may job (Ok done) pixels h = tt
 readings_may job (Err f) pixels h = reading_may job f pixels h
-
--- what a translation is refused for
-pub same_may : (src : List ℕ) (options : Options) (quiet : Bool) (cat : List Dataset) (f : Fault) → (f ≡ Memory) ⊎ (unless_read cat (names_written options) ≡ Err f) → MayEnd (Translate src options quiet) f
-same_may src options quiet cat f (inl is) = subst (MayEnd (Translate src options quiet)) (sym is) tt
-same_may src options quiet cat f (inr is) = let one = same_name cat (names_written options) f is in subst (MayEnd (Translate src options quiet)) (sym one.1) one.2
 
 -- words that are no command
 pub words_may : (d : Result Command WordFault) (f : WordFault) → IsMemory f ⊎ (d ≡ Err f) → IfOk d (λ c. MayEnd c.job (word_fault_of f))

@@ -9,12 +9,9 @@ use Rattle.command_words.specs.declared.command.Command.{Command}
 use Rattle.command_words.specs.declared.spoken.WordFault.{WordFault}
 use Rattle.error_lines.specs.declared.faults.Fault.{Fault}
 use Rattle.error_lines.specs.declared.faults.Fault.TheVariants.{NotRecognized, Usage, Memory}
-use Rattle.gdal_cli.specs.Run.{ended, name_read, reads_sources, RefusesIn, RefusesKind, RefusesDataset}
-
--- a call that ended with a fault was refused so
-pub refused_so : (result : Result (Unit {0}) Fault) (f : Fault) → ended result ≡ Some f → result ≡ Err f
-refused_so (Ok done) f is = let no : ⊥ = cc in absurd no
-refused_so (Err e) f is = let same : e ≡ f = cc in ap Err same
+use Rattle.translation_runs.specs.Ends.{ended}
+use Rattle.translation_runs.proofs.Ended.{refused_so}
+use Rattle.gdal_cli.specs.Run.{name_read, reads_sources, RefusesIn, RefusesKind, RefusesDataset}
 
 ends_so : (result : Result (Unit {0}) Fault) (f : Fault) → (result ≡ Err f) ⊎ (result ≡ Err Memory) → (ended result ≡ Some f) ⊎ (ended result ≡ Some Memory)
 ends_so result f (inl is) = inl (ap ended is)

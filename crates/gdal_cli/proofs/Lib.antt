@@ -1,4 +1,3 @@
-pub mod Bound
 pub mod Causes
 pub mod Changed
 pub mod Cuts
@@ -15,7 +14,8 @@ pub mod Pieces
 pub mod Placed
 pub mod Printing
 pub mod Reached
+pub mod SynthEnds
 pub mod Told
-pub mod Translated
+pub mod TranslationEnds
 pub mod Unread
 pub mod Warning

@@ -14,10 +14,10 @@ use Rattle.error_lines.specs.Faults.{HasChanged, OwnsFault, fault_status}
 use Rattle.mosaic_builds.specs.Built.{Built, built_in}
 use Rattle.mosaic_builds.specs.Ends as mosaics
 use Rattle.mosaic_builds.specs.Steps.{mosaic_done}
-use Rattle.gdal_cli.specs.Run.{ended, IsRefusal, MayEnd, RefusesOnly}
+use Rattle.translation_runs.specs.Ends.{ended}
+use Rattle.gdal_cli.specs.Run.{IsRefusal, MayEnd, RefusesOnly}
 use Rattle.gdal_cli.specs.Work.{Builds, build_judged, carried_out}
-use Rattle.gdal_cli.proofs.Changed.{no_change}
-use Rattle.gdal_cli.proofs.Datasets.{refused_so}
+use Rattle.translation_runs.proofs.Ended.{no_change, refused_so}
 
 -- what is built is done as work is
 done_as : (quiet : Bool) (name : List ℕ) (m : Files) (lines : List Entry) (r : Result Built Fault) → mosaic_done quiet name r ≡ carried_out (r >>= (λ built. Ok (Builds built name quiet))) m lines

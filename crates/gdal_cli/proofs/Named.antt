@@ -10,7 +10,7 @@ use Rattle.command_words.specs.declared.command.Command.{Command}
 use Rattle.command_words.specs.declared.command.Job.{Job}
 use Rattle.command_words.specs.declared.command.Job.TheVariants as job
 use Rattle.command_words.specs.declared.options.Tool.{Tool}
-use Rattle.command_words.specs.declared.options.Tool.TheVariants.{Info, Locate, Translate, Build}
+use Rattle.command_words.specs.declared.options.Tool.TheVariants.{Info, Locate, Translate, Build, Synth}
 use Rattle.command_words.specs.declared.jobs.Asked.{Asked}
 use Rattle.command_words.specs.declared.jobs.Written.{Written}
 use Rattle.command_words.specs.declared.spoken.OutFormat.{OutFormat}
@@ -18,12 +18,13 @@ use Rattle.command_words.specs.declared.spoken.Spoken.{Spoken}
 use Rattle.command_words.specs.declared.spoken.Wanted.{Wanted}
 use Rattle.command_words.specs.declared.spoken.WordFault.{WordFault}
 use Rattle.command_words.specs.declared.spoken.WordFault.TheVariants.{Usage}
-use Rattle.command_words.specs.Jobs.{point_of, form_of, is_same_format, of_format, written_as, written_of, view_of, layout_in, asked_of, options_of, info_job, locate_job, translate_job, inputs_of, asked_mosaic, mosaic_options, build_job, job_of}
+use Rattle.command_words.specs.Jobs.{point_of, form_of, is_same_format, of_format, written_as, written_of, view_of, layout_in, asked_of, options_of, info_job, locate_job, translate_job, inputs_of, asked_mosaic, mosaic_options, build_job, synth_job, job_of}
 use Rattle.command_words.specs.Options.{tool_of}
 use Rattle.command_words.specs.Uses.{spoken_in}
 use Rattle.command_words.specs.Words.{command_of, words_of}
-use Rattle.gdal_cli.specs.Published.{IsNamed, IsNamedJob}
-use Rattle.gdal_cli.proofs.Bound.{bind_is, ok_same, some_of}
+use Rattle.translation_runs.specs.Published.{IsNamed}
+use Rattle.gdal_cli.specs.Published.{IsNamedJob}
+use Rattle.translation_runs.proofs.Bound.{bind_is, ok_same, some_of}
 
 -- what is written is written so in every format that is asked for
 kept_if : (same : Bool) (v w : Written) → cond same (Some v) None ≡ Some w → v ≡ w
@@ -104,11 +105,18 @@ named_build count s j is =
     let asked = bind_is (asked_mosaic count s.mosaic s.band_at output.value.0 output.value.1) _ j inputs.rest in
     subst IsNamedJob (ok_same {E = WordFault} (job.Build inputs.value s.list (mosaic_options s.mosaic output.value.1 s.bands asked.value) s.quiet) j _ refl asked.rest) tt
 
+named_synth : (count : ℕ) (s : Spoken) (j : Job) → synth_job count s ≡ Ok j → IsNamedJob j
+unfolding synth_job
+named_synth count s j is =
+    let side = bind_is (ok_or s.tile (Usage count)) _ j is in
+    subst IsNamedJob (ok_same {E = WordFault} (job.Synth side.value) j _ refl side.rest) tt
+
 named_job : (tool : Tool) (count : ℕ) (s : Spoken) (j : Job) → job_of tool count s ≡ Ok j → IsNamedJob j
 named_job Info count s j is = named_info count s j is
 named_job Locate count s j is = named_locate count s j is
 named_job Translate count s j is = named_translate count s j is
 named_job Build count s j is = named_build count s j is
+named_job Synth count s j is = named_synth count s j is
 
 named_command : (tool : Tool) (count : ℕ) (s : Spoken) (c : Command) → command_of tool count s ≡ Ok c → IsNamedJob c.job
 unfolding command_of

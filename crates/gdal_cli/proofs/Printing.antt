@@ -1,5 +1,5 @@
 -- Runs that print, and do nothing else.
-use Rattle.std.proofs.Common.{◌≡◌, refl, ℕ, ℤ, Bool, true, false, List, [], ◌∷◌, ◌++◌, map, Result, Ok, Err, Option, Some, None}
+use Rattle.std.proofs.Common.{◌≡◌, refl, ℕ, ℤ, Bool, false, List, [], ◌∷◌, map, Result, Ok, Err, Option, Some, None}
 use Rattle.lists_and_answers.specs.Answers.{◌>>=◌}
 use Rattle.outside.specs.Outside.{Files}
 use Rattle.catalog.specs.declared.faults.WalkFault.{WalkFault}
@@ -14,16 +14,8 @@ use Rattle.error_lines.specs.declared.faults.Fault.{Fault}
 use Rattle.error_lines.specs.Faults.{by_walk}
 use Rattle.gdal_cli.specs.declared.asked.Asked.{Asked}
 use Rattle.gdal_cli.specs.Location.{answers, asked_in, line_text, point_text}
-use Rattle.error_lines.specs.Steps.{Done, prints, publishes, warned}
-use Rattle.error_lines.proofs.Silent.{both_silent, publishes_silent}
-use Rattle.geotransform.specs.declared.faults.PlanFault.{PlanFault}
-use Rattle.translate_plan.specs.Options.{Options}
-use Rattle.translate_plan.specs.Plan.{Planned, plan_of}
-use Rattle.output_copies.specs.Steps.{translation_steps, unless_quiet, size_line, progress, progress_end, written}
-use Rattle.published_files.specs.Names.{unless_read}
-use Rattle.gdal_cli.specs.Faults.{by_plan}
-use Rattle.gdal_cli.specs.Published.{names_written}
-use Rattle.gdal_cli.specs.Work.{Reports, Tells, Translates, info_judged, location_judged, translate_judged, carried_out}
+use Rattle.error_lines.specs.Steps.{Done, prints}
+use Rattle.gdal_cli.specs.Work.{Reports, Tells, info_judged, location_judged, carried_out}
 
 abbrev pub AllPrint : Done → Type 0
 AllPrint d = (texts : List (List ℕ)) × (d.steps ≡ prints texts)
@@ -32,21 +24,6 @@ AllPrint d = (texts : List (List ℕ)) × (d.steps ≡ prints texts)
 pub answers_print : (tell : ℤ → ℤ → List ℕ) (point : Option (ℤ × ℤ)) (lines : List Entry) → AllPrint (answers tell point lines)
 answers_print tell (Some p) lines = (tell p.0 p.1 ∷ [], refl)
 answers_print tell None lines = (map (λ (e : Entry). line_text tell e.kind) lines, refl)
-
-quiet_silent : (quiet : Bool) (text : List ℕ) → warned (unless_quiet quiet text) ≡ []
-quiet_silent true text = refl
-quiet_silent false text = refl
-
-translation_silent : (quiet : Bool) (m : Files) (d : Dataset) (p : Planned) (name : List ℕ) → warned (translation_steps quiet m d p name) ≡ []
-unfolding translation_steps
-translation_silent quiet m d p name =
-    let size = unless_quiet quiet (size_line d.head.size) in
-    let begin = unless_quiet quiet progress in
-    let files = written m d p name in
-    let end = unless_quiet quiet progress_end in
-    both_silent size (begin ++ (publishes files ++ end)) (quiet_silent quiet (size_line d.head.size))
-    (both_silent begin (publishes files ++ end) (quiet_silent quiet progress)
-    (both_silent (publishes files) end (publishes_silent files) (quiet_silent quiet progress_end)))
 
 module _ (m : Files) (lines : List Entry) where
   headed : (r : Result DatasetHead WalkFault) → AllPrint (carried_out (by_walk r >>= (λ head. Ok (Reports head))) m lines)
@@ -75,25 +52,3 @@ module _ (m : Files) (lines : List Entry) where
     pub location_prints : (verify : Bool) (name : List ℕ) → AllPrint (carried_out (location_judged m verify name point bands form geoloc) m lines)
     unfolding location_judged
     location_prints verify name = walk_prints name (walked m verify [] name)
-
-  -- a translation doesn't warn
-  module _ (options : Options) (quiet : Bool) where
-    freed_silent : (d : Dataset) (p : Planned) (r : Result (Unit {0}) Fault) → warned (carried_out (r >>= (λ free. Ok (Translates d p options.out quiet))) m lines).steps ≡ []
-    freed_silent d p (Ok free) = translation_silent quiet m d p options.out
-    freed_silent d p (Err f) = refl
-
-    planned_silent : (cat : List Dataset) (d : Dataset) (r : Result Planned PlanFault) → warned (carried_out (by_plan r >>= (λ p. unless_read cat (names_written options) >>= (λ free. Ok (Translates d p options.out quiet)))) m lines).steps ≡ []
-    planned_silent cat d (Ok p) = freed_silent d p (unless_read cat (names_written options))
-    planned_silent cat d (Err f) = refl
-
-    read_silent : (cat : List Dataset) (r : Result Dataset WalkFault) → warned (carried_out (by_walk r >>= (λ d. by_plan (plan_of options d.head) >>= (λ p. unless_read cat (names_written options) >>= (λ free. Ok (Translates d p options.out quiet))))) m lines).steps ≡ []
-    read_silent cat (Ok d) = planned_silent cat d (plan_of options d.head)
-    read_silent cat (Err f) = refl
-
-    walk_silent : (src : List ℕ) (r : Result (List Dataset) WalkFault) → warned (carried_out (by_walk r >>= (λ cat. by_walk (dataset_in m false src) >>= (λ d. by_plan (plan_of options d.head) >>= (λ p. unless_read cat (names_written options) >>= (λ free. Ok (Translates d p options.out quiet)))))) m lines).steps ≡ []
-    walk_silent src (Ok cat) = read_silent cat (dataset_in m false src)
-    walk_silent src (Err f) = refl
-
-    pub translate_silent : (verify : Bool) (src : List ℕ) → warned (carried_out (translate_judged m verify src options quiet) m lines).steps ≡ []
-    unfolding translate_judged
-    translate_silent verify src = walk_silent src (walked m verify [] src)

@@ -1,14 +1,12 @@
 -- Datasets of a catalog by their numbers.
-use Rattle.std.proofs.Common.{◌≡◌, ◌∙◌, ap, sym, subst, ◌⊎◌, inl, inr, ◌<◌, ◌≤◌, ℕ, List, [], false, length, get_or, Ok, Some, None, arith}
+use Rattle.std.proofs.Common.{◌≡◌, ◌∙◌, sym, subst, ◌⊎◌, inl, inr, ◌<◌, ◌≤◌, ℕ, List, length, get_or, Some, None, arith}
 use Rattle.std.specs.Prelude.{slice_get, option_map}
-use Rattle.std.proofs.lemmas.List.Elements.{All-nil}
 use Rattle.std.proofs.lemmas.Option.{slice_get_cases}
-use Rattle.outside.specs.Outside.{Files}
 use Rattle.catalog.specs.Dataset.{DatasetHead}
 use Rattle.catalog.specs.Drivers.{Dataset}
-use Rattle.catalog.specs.Heads.{dataset_in}
-use Rattle.catalog.specs.Walk.{IsDataset, IsCatalog, IsWalked}
+use Rattle.catalog.specs.Walk.{IsDataset, IsCatalog}
 use Rattle.catalog.proofs.Found.{some_is, of_item}
+use Rattle.translation_runs.proofs.Reached.{told_of}
 use Rattle.gdal_cli.specs.Pixels.{AreBands}
 
 -- the dataset of a number
@@ -18,17 +16,6 @@ there cat id less = found (slice_get_cases cat id).1
     found : ((d : Dataset) × (id < length cat) × (slice_get cat id ≡ Some d) × (get_or cat id d ≡ d)) ⊎ ((length cat ≤ id) × (slice_get cat id ≡ None)) → (d : Dataset) × (slice_get cat id ≡ Some d)
     found (inl is) = (is.0, is.2)
     found (inr past) = absurd (omega (arith, past.0))
-
--- what is told of the dataset of a number
-pub told_of : {T : Type 0} (f : Dataset → T) (cat : List Dataset) (id : ℕ) (d : Dataset) (x : T) → slice_get cat id ≡ Some d → option_map f (slice_get cat id) ≡ Some x → f d ≡ x
-told_of f cat id d x at is = some_is (sym (ap (option_map f) at) ∙ is)
-
--- the files say of the name what a walk from no dataset has met under it
-pub walked_read : (m : Files) (old cat : List Dataset) (name : List ℕ) (id : ℕ) (d : Dataset) → old ≡ [] → (IsWalked m old → IsWalked m cat) → slice_get cat id ≡ Some d → d.head.name ≡ name → dataset_in m false name ≡ Ok d
-walked_read m old cat name id d empty more at named =
-    let Read = λ (x : Dataset). dataset_in m false x.head.name ≡ Ok x in
-    let all : IsWalked m cat = more (subst (IsWalked m) (sym empty) (All-nil Read)) in
-    subst (λ (n : List ℕ). dataset_in m false n ≡ Ok d) named (of_item Read cat id d all at)
 
 -- there is one dataset of a number
 pub one_dataset : (cat : List Dataset) (id : ℕ) (d e : Dataset) → slice_get cat id ≡ Some d → slice_get cat id ≡ Some e → d ≡ e

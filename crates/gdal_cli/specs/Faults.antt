@@ -1,6 +1,5 @@
--- Faults of words and of plans as those of a run, and the faults that its parts may end with.
+-- Faults of words as those of a run, and the faults that its parts may end with.
 use Rattle.std.specs.Prelude.{◌≡◌, Result, Ok, Err}
-use Rattle.geotransform.specs.declared.faults.PlanFault.{PlanFault}
 use Rattle.catalog.specs.declared.faults.LimitKind.TheVariants.{Points}
 use Rattle.command_words.specs.declared.spoken.WordFault.{WordFault}
 use Rattle.command_words.specs.declared.spoken.WordFault.TheVariants as word
@@ -15,11 +14,6 @@ word_fault_of word.Memory = Memory
 abbrev pub by_words : {T : Type 0} → Result T WordFault → Result T Fault
 by_words (Ok x) = Ok x
 by_words (Err f) = Err (word_fault_of f)
-
--- what is planned, as the run's answer
-abbrev pub by_plan : {T : Type 0} → Result T PlanFault → Result T Fault
-by_plan (Ok x) = Ok x
-by_plan (Err f) = Err (Plan f)
 
 -- a fault that answering the lines of an input may end with
 abbrev pub IsOfLines : Fault → Type 0

@@ -11,24 +11,26 @@ use Rattle.catalog.specs.declared.faults.WalkFault.{WalkFault}
 use Rattle.catalog.specs.declared.faults.WalkFault.TheVariants as walk
 use Rattle.command_words.specs.declared.command.Command.{Command}
 use Rattle.command_words.specs.declared.command.Job.{Job}
-use Rattle.command_words.specs.declared.command.Job.TheVariants.{Info, Locate, Translate, Build}
+use Rattle.command_words.specs.declared.command.Job.TheVariants.{Info, Locate, Translate, Build, Synth}
 use Rattle.command_words.specs.declared.spoken.WordFault.{WordFault}
 use Rattle.command_words.specs.declared.spoken.WordFault.TheVariants as word
 use Rattle.mosaic_builds.specs.Steps.{warns}
-use Rattle.gdal_cli.specs.Published.{names_written}
 use Rattle.error_lines.specs.declared.faults.Fault.{Fault}
 use Rattle.error_lines.specs.declared.faults.Fault.TheVariants as fault
 use Rattle.error_lines.specs.declared.faults.Fault.TheVariants.{Usage, Absent, NotRecognized, Malformed, Short, Cycle, TooDeep, Limit, SourceBand, Plan, SameName, BadPoint, Changed, FolderFault, InputFault, OutFault, Memory}
 use Rattle.error_lines.specs.Faults.{fault_of, IsOutside, status_of}
 use Rattle.error_lines.specs.Texts.{line_of}
 use Rattle.error_lines.specs.Steps.{Step, Done, printed, warned, AreDone, AreWarned}
+use Rattle.translation_runs.specs.Published.{names_written}
+use Rattle.synth_runs.specs.Ends.{names_made}
 
--- the name of the one dataset that a job begins with; a mosaic is made of many
+-- the name of the one dataset that a job begins with; a mosaic is made of many, and rasters from a number of none
 abbrev pub name_read : Job → Option (List ℕ)
 name_read (Info name) = Some name
 name_read (Locate name point bands form geoloc) = Some name
 name_read (Translate src options quiet) = Some src
 name_read (Build inputs list options quiet) = None
+name_read (Synth side) = None
 
 -- the names that a job publishes, in order
 abbrev pub names_published : Job → List (List ℕ)
@@ -36,6 +38,7 @@ names_published (Info name) = []
 names_published (Locate name point bands form geoloc) = []
 names_published (Translate src options quiet) = names_written options
 names_published (Build inputs list options quiet) = options.out ∷ []
+names_published (Synth side) = names_made
 
 -- whether a job goes to what the sources of a mosaic name
 abbrev pub reads_sources : Job → Bool
@@ -43,6 +46,7 @@ reads_sources (Info name) = false
 reads_sources (Locate name point bands form geoloc) = true
 reads_sources (Translate src options quiet) = true
 reads_sources (Build inputs list options quiet) = true
+reads_sources (Synth side) = true
 
 -- whether a job reads pixels
 abbrev pub reads_pixels : Job → Bool
@@ -50,13 +54,31 @@ reads_pixels (Info name) = false
 reads_pixels (Locate name point bands form geoloc) = true
 reads_pixels (Translate src options quiet) = true
 reads_pixels (Build inputs list options quiet) = false
+reads_pixels (Synth side) = true
 
--- whether a job makes a mosaic of its inputs, and warns of those that are skipped
+-- whether a job makes a mosaic
 abbrev pub makes_mosaic : Job → Bool
 makes_mosaic (Info name) = false
 makes_mosaic (Locate name point bands form geoloc) = false
 makes_mosaic (Translate src options quiet) = false
 makes_mosaic (Build inputs list options quiet) = true
+makes_mosaic (Synth side) = true
+
+-- whether a job warns of the inputs that its mosaic skips
+abbrev pub warns_of_inputs : Job → Bool
+warns_of_inputs (Info name) = false
+warns_of_inputs (Locate name point bands form geoloc) = false
+warns_of_inputs (Translate src options quiet) = false
+warns_of_inputs (Build inputs list options quiet) = true
+warns_of_inputs (Synth side) = false
+
+-- whether a job makes rasters from a number, whose later parts read what the earlier ones published
+abbrev pub makes_rasters : Job → Bool
+makes_rasters (Info name) = false
+makes_rasters (Locate name point bands form geoloc) = false
+makes_rasters (Translate src options quiet) = false
+makes_rasters (Build inputs list options quiet) = false
+makes_rasters (Synth side) = true
 
 -- whether a job takes its points from the input
 abbrev pub reads_input : Job → Bool
@@ -65,6 +87,7 @@ reads_input (Locate name None bands form geoloc) = true
 reads_input (Locate name (Some point) bands form geoloc) = false
 reads_input (Translate src options quiet) = false
 reads_input (Build inputs list options quiet) = false
+reads_input (Synth side) = false
 
 -- the same of words; those that are no command do nothing
 abbrev pub words_read_input : Result Command WordFault → Bool
@@ -72,8 +95,12 @@ words_read_input (Ok command) = reads_input command.job
 words_read_input (Err fault) = false
 
 abbrev pub words_warn : Result Command WordFault → Bool
-words_warn (Ok command) = makes_mosaic command.job
+words_warn (Ok command) = warns_of_inputs command.job
 words_warn (Err fault) = false
+
+abbrev pub words_make_rasters : Result Command WordFault → Bool
+words_make_rasters (Ok command) = makes_rasters command.job
+words_make_rasters (Err fault) = false
 
 abbrev pub words_published : Result Command WordFault → List (List ℕ)
 words_published (Ok command) = names_published command.job
@@ -81,7 +108,7 @@ words_published (Err fault) = []
 
 -- The faults that a job may end with over every folder. The name of SameName is one that the job publishes; what is
 -- asked of a dataset, and files that changed, come where pixels are read, what is wrong with inputs together where a
--- mosaic is made of them, and faults of the input where it is read.
+-- mosaic is made, and faults of the input where it is read.
 abbrev pub MayEnd : Job → Fault → Type 0
 MayEnd job (Usage n) = ⊥
 MayEnd job (Absent name) = Unit {0}
@@ -107,11 +134,6 @@ pub record IsRefusal (fault : Option Fault) : Type 0 where
   pub refused : status_of fault ≡ 1
   pub no_line : (n : ℕ) → fault ≡ Some (BadPoint n) → ⊥
   pub no_limit : (n : ℕ) → fault ≡ Some (Limit limits.Points n) → ⊥
-
--- the fault that a call ended with, if there is one
-abbrev pub ended : Result (Unit {0}) Fault → Option Fault
-ended (Ok done) = None
-ended (Err fault) = Some fault
 
 -- A name that tells no kind is refused so, or for want of memory; no other name is refused so that tells a kind, and
 -- where `alone` holds no other name at all. Words are not looked at again.
@@ -160,7 +182,7 @@ pub record AreTold (steps : List Step) (fault : Option Fault) (faults faults_aft
   pub part : GetsPart (warned steps ++ line_of fault) before after
 
 -- Over every folder, the error stream gets warnings and the line of the fault, or where it fails a first part of them.
--- Only words that ask for a mosaic may warn, and a run that is refused never does.
+-- Only words that ask for a mosaic of inputs may warn, and a run that is refused never does.
 pub record TellsFault (may : Bool) (fault : Option Fault) (faults faults_after : ℕ) (before after : Option (List ℕ)) : Type 0 where
   pub warnings : List (List ℕ)
   pub whole : (Rose faults faults_after → ⊥) → Gets (warned (warns warnings) ++ line_of fault) before after

@@ -12,30 +12,31 @@ use Rattle.input_points.specs.Entries.{entries}
 use Rattle.location_report.specs.declared.report.Form.{Form}
 use Rattle.translate_plan.specs.Options.{Options}
 use Rattle.buildvrt.specs.Options as buildvrt
-use Rattle.translate_plan.specs.Plan.{Planned, plan_of}
+use Rattle.translate_plan.specs.Plan.{Planned}
 use Rattle.output_copies.specs.Steps.{translation_steps}
 use Rattle.mosaic_builds.specs.Built.{Built, built_in}
 use Rattle.mosaic_builds.specs.Steps.{mosaic_steps}
-use Rattle.published_files.specs.Names.{unless_read}
 use Rattle.error_lines.specs.declared.faults.Fault.{Fault}
 use Rattle.error_lines.specs.Faults.{by_walk}
 use Rattle.gdal_cli.specs.declared.asked.Asked.{Asked}
 use Rattle.command_words.specs.declared.command.Job.{Job}
-use Rattle.command_words.specs.declared.command.Job.TheVariants.{Info, Locate, Translate, Build}
-use Rattle.gdal_cli.specs.Faults.{by_plan, by_words}
+use Rattle.command_words.specs.declared.command.Job.TheVariants.{Info, Locate, Translate, Build, Synth}
+use Rattle.gdal_cli.specs.Faults.{by_words}
 use Rattle.gdal_cli.specs.Location.{asked_in, answers, point_text}
-use Rattle.gdal_cli.specs.Published.{names_written}
 use Rattle.error_lines.specs.Steps.{Done, all_done, refused, prints}
 use Rattle.command_words.specs.Words.{words_of}
+use Rattle.translation_runs.specs.Judged.{translation_judged}
+use Rattle.synth_runs.specs.Runs.{synth_run}
 
 -- Work whose files are judged: the report of a dataset, what is asked of a dataset of a catalog, in one point or in the
--- points of the input, the output of a dataset by a plan, or what is made of the inputs of a mosaic. The last two stand
--- under a name, and nothing may be told of the work.
+-- points of the input, the output of a dataset by a plan, or what is made of the inputs of a mosaic. These two stand
+-- under a name, and nothing may be told of the work. Rasters from a number are judged part by part, as they are made.
 pub data Work : Type 0 where
   Reports : DatasetHead → Work
   Tells : List Dataset → Dataset → Asked → Option (ℤ × ℤ) → Work
   Translates : Dataset → Planned → List ℕ → Bool → Work
   Builds : Built → List ℕ → Bool → Work
+  Synthesizes : ℕ → Work
 
 unfoldable pub info_judged : Files → Bool → List ℕ → Result Work Fault
 info_judged m verify name = do
@@ -50,14 +51,11 @@ location_judged m verify name point bands form geoloc = do
   asked ← asked_in form bands geoloc d.head
   Ok (Tells cat d asked point)
 
--- the dataset is walked, its output is planned, and then none of the names that are published is read
+-- a translation is judged, and then its output has its name
 unfoldable pub translate_judged : Files → Bool → List ℕ → Options → Bool → Result Work Fault
 translate_judged m verify name options quiet = do
-  cat ← by_walk (walked m verify [] name)
-  d ← by_walk (dataset_in m false name)
-  plan ← by_plan (plan_of options d.head)
-  free ← unless_read cat (names_written options)
-  Ok (Translates d plan options.out quiet)
+  t ← translation_judged m verify name options
+  Ok (Translates t.dataset t.plan options.out quiet)
 
 -- the inputs are walked, and the mosaic is made of their heads
 unfoldable pub build_judged : Files → Bool → List (List ℕ) → Option (List ℕ) → buildvrt.Options → Bool → Result Work Fault
@@ -70,6 +68,7 @@ judged_by (Info name) verify m = info_judged m verify name
 judged_by (Locate name point bands form geoloc) verify m = location_judged m verify name point bands form geoloc
 judged_by (Translate src options quiet) verify m = translate_judged m verify src options quiet
 judged_by (Build inputs list options quiet) verify m = build_judged m verify inputs list options quiet
+judged_by (Synth side) verify m = Ok (Synthesizes side)
 
 -- The work that these words ask for over these files, or the first refusal. It knows no output, no error stream and no
 -- input.
@@ -84,6 +83,7 @@ done (Reports head) m lines = all_done (prints (info_text head ∷ []))
 done (Tells cat d asked point) m lines = answers (point_text m cat d asked) point lines
 done (Translates d plan name quiet) m lines = all_done (translation_steps quiet m d plan name)
 done (Builds built name quiet) m lines = all_done (mosaic_steps quiet name built)
+done (Synthesizes side) m lines = synth_run side m
 
 -- what is judged is done, and what is refused ends the run
 abbrev pub carried_out : Result Work Fault → Files → List Entry → Done

@@ -8,12 +8,13 @@ ghost use Rattle.input_points.specs.declared.entry.Entry.{Entry};
 ghost use Rattle.catalog.specs.Drivers.{Dataset};
 ghost use Rattle.catalog.specs.Walk.{IsWalked};
 ghost use Rattle.error_lines.specs.Faults.{HasCauses, HasChanged, OwnsFault, Differs, IsOfReading};
+ghost use Rattle.translation_runs.specs.Ends.{ended};
 ghost use Rattle.gdal_cli.specs.Faults.{IsOfLines};
 ghost use Rattle.gdal_cli.specs.Input.{StopsBehind};
 ghost use Rattle.gdal_cli.specs.Location.{answers, point_text};
 ghost use Rattle.gdal_cli.specs.Pixels.{AreBands};
 ghost use Rattle.gdal_cli.specs.Published.{IsNamedJob};
-ghost use Rattle.gdal_cli.specs.Run.{Ends, MayEnd, MayWarn, IsRefusal, name_read, names_published, makes_mosaic, reads_sources, reads_input, ended, RefusesIn, RefusesKind};
+ghost use Rattle.gdal_cli.specs.Run.{Ends, MayEnd, MayWarn, IsRefusal, name_read, names_published, makes_rasters, reads_sources, reads_input, warns_of_inputs, RefusesIn, RefusesKind};
 ghost use Rattle.error_lines.specs.Steps.{AreWarned, GoesWarning};
 ghost use Rattle.gdal_cli.specs.Work.{info_judged, location_judged, judged_by, carried_out};
 
@@ -22,7 +23,7 @@ use crate::input::answer_input;
 use crate::mosaics::put_build;
 use crate::points::put_point;
 use crate::reader::{PointReader, Question};
-use crate::translating::{Way, put_translation};
+use crate::translating::put_translated;
 use catalog::{Catalog, head_of, open_all};
 use command_words::{BandNumber, BlockCount, Command, Job};
 use error_lines::Fault;
@@ -34,6 +35,8 @@ use outside::{Folder, Input, Name, Sink};
 use std::alloc::Global;
 use std::marker::Brand;
 use std::sync::ledger::{Blank, Ledger};
+use synth_runs::put_rasters;
+use translation_runs::Way;
 
 // How points of a dataset are asked for.
 #[derive(Clone, Copy)]
@@ -160,7 +163,7 @@ fn put_location<F: Folder, I: Input, O: Sink>(
 /// set, and nothing more is put there.
 ///
 /// Each refusal comes where the files are judged, before anything is put, but for BadPoint and the limit of points, which
-/// come at their line of the input. FolderFault, InputFault and OutFault come only where the count of the folder, of the
+/// come at their line of the input, and for the run from a number, whose later parts read what the earlier ones published. FolderFault, InputFault and OutFault come only where the count of the folder, of the
 /// input and of the output rose, Changed only over a folder that doesn't tell its names, Memory freely.
 pub fn put_job<F: Folder, I: Input, O: Sink, E: Sink>(
     alloc: Global,
@@ -175,8 +178,8 @@ pub fn put_job<F: Folder, I: Input, O: Sink, E: Sink>(
     requires fresh { failed.old ≡ false }
     ensures told { (m : Files) → F.names folder.old ≡ Some m → (i : List ℕ) → (reads_input command.job ≡ true → I.left input.old ≡ Some i) → GoesWarning (carried_out (judged_by command.job command.verify m) m (entries i)) m result (F.names folder.new) (O.got out.old) (O.got out.new) (λ steps. AreWarned steps failed.new (E.faults err.old) (E.faults err.new) (E.got err.old) (E.got err.new)) }
     ensures stopped { result ≡ Err Fault.InputFault → (m : Files) → F.names folder.old ≡ Some m → (i : List ℕ) → I.left input.old ≡ Some i → StopsBehind (carried_out (judged_by command.job command.verify m) m) i (I.left input.new) (O.got out.old) (O.got out.new) }
-    ensures refused { IsRefusal (ended result) → (out.new ≡ out.old) × (input.new ≡ input.old) × (F.names folder.new ≡ F.names folder.old) }
-    ensures warned { MayWarn (makes_mosaic command.job) (ended result) failed.new (E.faults err.old) (E.faults err.new) (E.got err.old) (E.got err.new) }
+    ensures refused { makes_rasters command.job ≡ false → IsRefusal (ended result) → (out.new ≡ out.old) × (input.new ≡ input.old) × (F.names folder.new ≡ F.names folder.old) }
+    ensures warned { MayWarn (warns_of_inputs command.job) (ended result) failed.new (E.faults err.old) (E.faults err.new) (E.got err.old) (E.got err.new) }
     ensures only_read { names_published command.job ≡ [] → OnlyRead F.Folder folder.old folder.new }
     ensures may_end { IfErr result (MayEnd command.job) }
     ensures read { OnOk result (reads_input command.job ≡ true → (i : List ℕ) → I.left input.old ≡ Some i → I.left input.new ≡ Some []) }
@@ -217,7 +220,7 @@ pub fn put_job<F: Folder, I: Input, O: Sink, E: Sink>(
                 blocks,
                 quiet,
             };
-            put_translation(alloc, folder, out, &src, &options, way)
+            put_translated(alloc, folder, out, &src, &options, way)
         }
         Job::Build {
             inputs,
@@ -233,5 +236,6 @@ pub fn put_job<F: Folder, I: Input, O: Sink, E: Sink>(
             };
             put_build(alloc, folder, out, err, failed, inputs, building)
         }
+        Job::Synth { ref side } => put_rasters(alloc, folder, out, *side, blocks),
     }
 }

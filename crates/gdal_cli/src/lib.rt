@@ -9,7 +9,6 @@ mod laws;
 mod mosaics;
 mod places;
 mod points;
-mod published;
 mod reader;
 mod running;
 mod translating;

@@ -4,7 +4,8 @@ ghost use Rattle.outside.specs.Outside.{Files};
 ghost use Rattle.input_points.specs.declared.entry.Entry.{Entry};
 ghost use Rattle.error_lines.specs.Faults.{HasCauses, HasChanged, OwnsFault};
 ghost use Rattle.error_lines.specs.Steps.{AreWarned, GoesWarning};
-ghost use Rattle.gdal_cli.specs.Run.{MayEnd, MayWarn, IsRefusal, RefusesOnly, ended};
+ghost use Rattle.translation_runs.specs.Ends.{ended};
+ghost use Rattle.gdal_cli.specs.Run.{MayEnd, MayWarn, IsRefusal, RefusesOnly};
 ghost use Rattle.gdal_cli.specs.Work.{carried_out, build_judged};
 
 use command_words::Job;

@@ -5,8 +5,9 @@ ghost use Rattle.outside.specs.Causes.{HasCause, Rose};
 ghost use Rattle.outside.specs.Reading.{OnlyRead};
 ghost use Rattle.input_points.specs.Entries.{entries};
 ghost use Rattle.error_lines.specs.Faults.{HasCauses, HasChanged, OwnsFault, status_of};
+ghost use Rattle.translation_runs.specs.Ends.{ended};
 ghost use Rattle.gdal_cli.specs.Input.{StopsBehind};
-ghost use Rattle.gdal_cli.specs.Run.{Answers, AreTold, MayEnd, MayWarn, IsRefusal, RefusesWords, RefusesDataset, TellsFault, words_read_input, words_published, words_warn, ended};
+ghost use Rattle.gdal_cli.specs.Run.{Answers, AreTold, MayEnd, MayWarn, IsRefusal, RefusesWords, RefusesDataset, TellsFault, words_read_input, words_make_rasters, words_published, words_warn};
 ghost use Rattle.error_lines.specs.Steps.{Step, IsFirstPart, AreDone, AreWarned, GoesWarning};
 ghost use Rattle.command_words.specs.Words.{words_of};
 ghost use Rattle.gdal_cli.specs.Work.{run_of, run_over};
@@ -32,7 +33,7 @@ fn perform<F: Folder, I: Input, O: Sink, E: Sink>(
     requires fresh { failed.old ≡ false }
     ensures told { (m : Files) → F.names folder.old ≡ Some m → (i : List ℕ) → (words_read_input (words_of (map string_bytes words.now)) ≡ true → I.left input.old ≡ Some i) → GoesWarning (run_over (map string_bytes words.now) m (entries i)) m result (F.names folder.new) (O.got out.old) (O.got out.new) (λ steps. AreWarned steps failed.new (E.faults err.old) (E.faults err.new) (E.got err.old) (E.got err.new)) }
     ensures stopped { result ≡ Err Fault.InputFault → (m : Files) → F.names folder.old ≡ Some m → (i : List ℕ) → I.left input.old ≡ Some i → StopsBehind (run_over (map string_bytes words.now) m) i (I.left input.new) (O.got out.old) (O.got out.new) }
-    ensures refused { IsRefusal (ended result) → (out.new ≡ out.old) × (input.new ≡ input.old) × (F.names folder.new ≡ F.names folder.old) }
+    ensures refused { words_make_rasters (words_of (map string_bytes words.now)) ≡ false → IsRefusal (ended result) → (out.new ≡ out.old) × (input.new ≡ input.old) × (F.names folder.new ≡ F.names folder.old) }
     ensures warned { MayWarn (words_warn (words_of (map string_bytes words.now))) (ended result) failed.new (E.faults err.old) (E.faults err.new) (E.got err.old) (E.got err.new) }
     ensures only_read { words_published (words_of (map string_bytes words.now)) ≡ [] → OnlyRead F.Folder folder.old folder.new }
     ensures may_end { IfOk (words_of (map string_bytes words.now)) (λ command. IfErr result (MayEnd command.job)) }
@@ -78,8 +79,9 @@ pub fn run<R: Threads + Sync, F: Folder, I: Input, O: Sink, E: Sink>(
         → (part : List Step) × IsFirstPart part (run_of (map string_bytes words.now) m i).steps × AreDone part m (F.names folder.new) (O.got out.old) (O.got out.new)
         × AreTold part result.fault (E.faults err.old) (E.faults err.new) (E.got err.old) (E.got err.new) }
 
-    // Over every folder, a run that is refused before a line of the input has printed, taken and published nothing.
-    ensures refused { IsRefusal result.fault → (out.new ≡ out.old) × (input.new ≡ input.old) × (F.names folder.new ≡ F.names folder.old) }
+    // Over every folder, a run that is refused before a line of the input has printed, taken and published nothing, but
+    // for the run from a number, whose later parts read what the earlier ones published.
+    ensures refused { words_make_rasters (words_of (map string_bytes words.now)) ≡ false → IsRefusal result.fault → (out.new ≡ out.old) × (input.new ≡ input.old) × (F.names folder.new ≡ F.names folder.old) }
 
     // Over every folder, words that publish nothing only read it.
     ensures only_read { words_published (words_of (map string_bytes words.now)) ≡ [] → OnlyRead F.Folder folder.old folder.new }
@@ -123,7 +125,7 @@ pub fn run<R: Threads + Sync, F: Folder, I: Input, O: Sink, E: Sink>(
         → (result.fault ≡ (run_of (map string_bytes words.now) m i).fault) ⊎ (result.fault ≡ Some Fault.Memory) }
 
     // Over every folder, the error stream gets warnings and the line of the fault, or a first part where it fails. Only the
-    // making of a mosaic warns, and what is refused doesn't.
+    // making of a mosaic of inputs warns, and what is refused doesn't.
     ensures fault_told { TellsFault (words_warn (words_of (map string_bytes words.now))) result.fault (E.faults err.old) (E.faults err.new) (E.got err.old) (E.got err.new) }
 
     // Where the status is 0 or 1, it gets the warnings of all steps before that line, or a first part where it fails.

@@ -1,43 +1,27 @@
-// Translations, from the words' options to the files.
-ghost use Rattle.std.specs.Prelude.{◌≡◌, ℕ, List, IfErr, Err, Some, false};
+// Translations, as jobs of a run.
+ghost use Rattle.std.specs.Prelude.{◌≡◌, List, IfErr, Err, Some, false};
 ghost use Rattle.outside.specs.Outside.{Files};
 ghost use Rattle.input_points.specs.declared.entry.Entry.{Entry};
 ghost use Rattle.error_lines.specs.Faults.{HasCauses, HasChanged, OwnsFault};
 ghost use Rattle.error_lines.specs.Steps.{Goes};
-ghost use Rattle.gdal_cli.specs.Published.{IsNamed};
-ghost use Rattle.gdal_cli.specs.Run.{MayEnd, IsRefusal, RefusesKind, ended};
+ghost use Rattle.translation_runs.specs.Ends.{ended};
+ghost use Rattle.translation_runs.specs.Published.{IsNamed};
+ghost use Rattle.gdal_cli.specs.Run.{MayEnd, IsRefusal, RefusesKind};
 ghost use Rattle.gdal_cli.specs.Work.{carried_out, translate_judged};
 
-use crate::faults::by_plan;
-use crate::published::unless_read;
-use catalog::{Catalog, open_all};
-use command_words::{BlockCount, Job};
+use command_words::Job;
 use error_lines::Fault;
-use output_copies::{Writing, write_output};
 use outside::{Folder, Name, Sink};
 use std::alloc::Global;
-use strip_copies::Translation;
-use translate_plan::{TranslateOptions, plan};
+use translate_plan::TranslateOptions;
+use translation_runs::{Way, put_translation};
 
-/// How a translation is done.
-#[derive(Clone, Copy)]
-pub struct Way {
-    /// Whether the sums of records are to be checked.
-    pub verify: bool,
-    /// How many blocks are held at once.
-    pub blocks: BlockCount,
-    /// Whether nothing is told of the work.
-    pub quiet: bool,
-}
-
-/// Walks from a dataset, plans its output, sees that no name of this is that of a file that is read, and then does the
-/// work. The extension of the output's name is one of its driver.
+/// Does a translation: walks from a dataset, plans its output, sees that no name of this is that of a file that is read,
+/// and then does the work. The extension of the output's name is one of its driver.
 ///
-/// The refusals of the walk come first, then Plan, then SameName with the first such name, all before anything is put or
-/// published. FolderFault and OutFault come only where the count of the folder and of the output rose, Changed only over
-/// a folder that doesn't tell its names, Memory freely.
-#[tactic(auto, unfolding(crate::specs::Work::translate_judged))]
-pub fn put_translation<F: Folder, O: Sink>(
+/// All refusals come before anything is put or published. FolderFault and OutFault come only where the count of the
+/// folder and of the output rose, Changed only over a folder that doesn't tell its names, Memory freely.
+pub fn put_translated<F: Folder, O: Sink>(
     alloc: Global,
     folder: &mut F,
     out: &mut O,
@@ -55,20 +39,5 @@ pub fn put_translation<F: Folder, O: Sink>(
     ensures changed { HasChanged (F.names folder.old) (ended result) }
     ensures own { OwnsFault (ended result) }
 {
-    let mut cat = Catalog::new(alloc);
-    let id = open_all(alloc, &mut cat, folder, src, way.verify)?;
-    let plan = by_plan(plan(options, cat.head(id)))?;
-    unless_read(alloc, &cat, options)?;
-    let translation = Translation {
-        alloc,
-        cat,
-        id,
-        plan,
-    };
-    let writing = Writing {
-        name: &options.out,
-        blocks: way.blocks.get(),
-        quiet: way.quiet,
-    };
-    write_output(&translation, folder, out, writing)
+    put_translation(alloc, folder, out, src, options, way)
 }

@@ -1,6 +1,11 @@
 // The run from a number: rasters, mosaics of them, a copy, and what is told of it.
 #![tactic(auto)]
 
+mod copying;
+mod inner;
+mod outer;
 mod running;
+mod strips;
+mod telling;
 
 pub use running::put_rasters;

@@ -1,17 +1,78 @@
 // The run from a number, part by part.
-ghost use Rattle.std.specs.Prelude.{◌≡◌, ℕ, List, IfErr, Some};
+ghost use Rattle.std.specs.Prelude.{◌≡◌, IfErr, Some};
 ghost use Rattle.outside.specs.Outside.{Files};
 ghost use Rattle.error_lines.specs.Faults.{HasCauses, HasChanged};
 ghost use Rattle.error_lines.specs.Steps.{Goes};
 ghost use Rattle.synth_runs.specs.Ends.{MayEnd};
-ghost use Rattle.synth_runs.specs.Runs.{synth_run};
+ghost use Rattle.synth_runs.specs.Runs.{copy_run, outer_runs, mosaic_runs, synth_run};
 ghost use Rattle.translation_runs.specs.Ends.{ended};
 
+use crate::copying::put_output;
+use crate::inner::put_inner;
+use crate::outer::publish_outer;
+use crate::telling::put_tally;
 use command_words::BlockCount;
 use error_lines::Fault;
 use outside::{Folder, Sink};
 use std::alloc::Global;
+use synthetic_files::publish_tiles;
 use synthetic_rasters::TileSide;
+
+// The copy of the outer mosaic, and what is told of it.
+fn put_copy<F: Folder, O: Sink>(
+    alloc: Global,
+    folder: &mut F,
+    out: &mut O,
+    blocks: BlockCount,
+) -> Result<(), Fault>
+    ensures told { (m : Files) → F.names folder.old ≡ Some m → Goes (copy_run m) m result (F.names folder.new) (O.got out.old) (O.got out.new) }
+    ensures may_end { IfErr result MayEnd }
+    ensures changed { HasChanged (F.names folder.old) (ended result) }
+    ensures cause { HasCauses (F.faults folder.old) (F.faults folder.new) (O.faults out.old) (O.faults out.new) result }
+{
+    match put_output(alloc, folder, out, blocks) {
+        Ok(()) => put_tally(alloc, folder, out, blocks),
+        Err(fault) => Err(fault),
+    }
+}
+
+// The outer mosaic, and what comes behind it.
+fn put_outer<F: Folder, O: Sink>(
+    alloc: Global,
+    folder: &mut F,
+    out: &mut O,
+    side: TileSide,
+    blocks: BlockCount,
+) -> Result<(), Fault>
+    ensures told { (m : Files) → F.names folder.old ≡ Some m → Goes (outer_runs side m) m result (F.names folder.new) (O.got out.old) (O.got out.new) }
+    ensures may_end { IfErr result MayEnd }
+    ensures changed { HasChanged (F.names folder.old) (ended result) }
+    ensures cause { HasCauses (F.faults folder.old) (F.faults folder.new) (O.faults out.old) (O.faults out.new) result }
+{
+    match publish_outer(alloc, folder, side) {
+        Ok(()) => put_copy(alloc, folder, out, blocks),
+        Err(fault) => Err(fault),
+    }
+}
+
+// The mosaic of the tiles, and what comes behind it.
+fn put_mosaics<F: Folder, O: Sink>(
+    alloc: Global,
+    folder: &mut F,
+    out: &mut O,
+    side: TileSide,
+    blocks: BlockCount,
+) -> Result<(), Fault>
+    ensures told { (m : Files) → F.names folder.old ≡ Some m → Goes (mosaic_runs side m) m result (F.names folder.new) (O.got out.old) (O.got out.new) }
+    ensures may_end { IfErr result MayEnd }
+    ensures changed { HasChanged (F.names folder.old) (ended result) }
+    ensures cause { HasCauses (F.faults folder.old) (F.faults folder.new) (O.faults out.old) (O.faults out.new) result }
+{
+    match put_inner(alloc, folder) {
+        Ok(()) => put_outer(alloc, folder, out, side, blocks),
+        Err(fault) => Err(fault),
+    }
+}
 
 /// Publishes the tiles of this side, the mosaic of them, the outer mosaic and its copy, and then puts five lines on the
 /// samples of the copy that aren't NODATA: `Size`, `Values`, `Sum`, `Least` and `Greatest`. What is read is read anew, by
@@ -33,4 +94,8 @@ pub fn put_rasters<F: Folder, O: Sink>(
     ensures changed { HasChanged (F.names folder.old) (ended result) }
     ensures cause { HasCauses (F.faults folder.old) (F.faults folder.new) (O.faults out.old) (O.faults out.new) result }
 {
+    match publish_tiles(alloc, folder, side) {
+        Ok(()) => put_mosaics(alloc, folder, out, side, blocks),
+        Err(fault) => Err(fault),
+    }
 }

@@ -1,6 +1,7 @@
 // Translations, from the words' options to the files: judged, and then done.
 #![tactic(auto)]
 
+mod faults;
 mod published;
 mod translating;
 

@@ -1,5 +1,5 @@
 // Translations, from the words' options to the files.
-ghost use Rattle.std.specs.Prelude.{◌≡◌, ℕ, List, IfErr, Some};
+ghost use Rattle.std.specs.Prelude.{◌≡◌, IfErr, Some};
 ghost use Rattle.outside.specs.Outside.{Files};
 ghost use Rattle.error_lines.specs.Faults.{HasCauses, HasChanged, fault_status};
 ghost use Rattle.error_lines.specs.Steps.{Goes};
@@ -7,6 +7,7 @@ ghost use Rattle.translation_runs.specs.Ends.{MayEnd, RefusesName, ended};
 ghost use Rattle.translation_runs.specs.Judged.{translation_run};
 ghost use Rattle.translation_runs.specs.Published.{IsNamed};
 
+use crate::faults::by_plan;
 use crate::published::unless_read;
 use catalog::{Catalog, open_all};
 use command_words::BlockCount;

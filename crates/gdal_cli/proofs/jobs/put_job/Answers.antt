@@ -3,10 +3,13 @@ use Rattle.input_points.specs.Entries.{entries}
 use Rattle.command_words.specs.declared.command.Job.{Job}
 use Rattle.gdal_cli.specs.Published.{IsNamedJob}
 use Rattle.error_lines.specs.Steps.{Step, AreWarned}
-use Rattle.gdal_cli.specs.Run.{ended, makes_mosaic, names_published}
+use Rattle.translation_runs.specs.Ends.{ended}
+use Rattle.gdal_cli.specs.Run.{makes_rasters, names_published, warns_of_inputs}
 use Rattle.gdal_cli.specs.Work.{judged_by, carried_out}
 use Rattle.gdal_cli.proofs.Ended.{stops_same}
-use Rattle.gdal_cli.proofs.Printing.{info_prints, location_prints, translate_silent}
+use Rattle.gdal_cli.proofs.Printing.{info_prints, location_prints}
+use Rattle.gdal_cli.proofs.TranslationEnds.{translate_silent}
+use Rattle.gdal_cli.proofs.SynthEnds.{no_rasters, synth_made, synth_may, synth_owns, synth_reads_no_input, synth_refuses, synth_silent}
 use Rattle.gdal_cli.proofs.Unread.{mosaic_published, publishes_some}
 use Rattle.gdal_cli.proofs.Warning.{printing_as, silent_as, silent_may, warning_as}
 use Rattle.gdal_cli.proofs.jobs.put_job.Goals as goal
@@ -17,7 +20,7 @@ returns-in-Info-clause-told g c = λ m is i fed.
     (c.put_info.ensures.told m is (entries i)) (info_prints m (entries i) _ _) (rw c.in-Info.is (search rules)) (c.put_info.ensures.names ∙ is)
 
 pub returns-in-Info-clause-refused : goal.returns-in-Info-clause-refused
-returns-in-Info-clause-refused g c = λ refusal. (c.put_info.ensures.refused refusal, refl, c.put_info.ensures.names)
+returns-in-Info-clause-refused g c = λ rasters refusal. (c.put_info.ensures.refused refusal, refl, c.put_info.ensures.names)
 
 pub returns-in-Info-clause-only_read : goal.returns-in-Info-clause-only_read
 returns-in-Info-clause-only_read g c = λ none. record { names = c.put_info.ensures.names; writes = c.put_info.ensures.writes; faults = c.put_info.ensures.cause.folder_later }
@@ -34,45 +37,45 @@ returns-in-Locate-clause-stopped g c = λ so m is i left.
     (λ lines. rw c.in-Locate.is (search rules))
 
 pub returns-in-Locate-clause-refused : goal.returns-in-Locate-clause-refused
-returns-in-Locate-clause-refused g c = λ refusal. let still = c.put_location.ensures.refused refusal in (still.0, still.1, c.put_location.ensures.names)
+returns-in-Locate-clause-refused g c = λ rasters refusal. let still = c.put_location.ensures.refused refusal in (still.0, still.1, c.put_location.ensures.names)
 
 pub returns-in-Locate-clause-only_read : goal.returns-in-Locate-clause-only_read
 returns-in-Locate-clause-only_read g c = λ none. record { names = c.put_location.ensures.names; writes = c.put_location.ensures.writes; faults = c.put_location.ensures.cause.folder_later }
 
-pub put_translation-requires-clause-named : goal.put_translation-requires-clause-named
-put_translation-requires-clause-named g c κs within = rw c.in-Translate.is (subst IsNamedJob c.in-Translate.is c.requires.named)
+pub put_translated-requires-clause-named : goal.put_translated-requires-clause-named
+put_translated-requires-clause-named g c κs within = rw c.in-Translate.is (subst IsNamedJob c.in-Translate.is c.requires.named)
 
 pub returns-in-Translate-clause-told : goal.returns-in-Translate-clause-told
 returns-in-Translate-clause-told g c = λ m is i fed.
-    silent_as _ (carried_out (judged_by c.args.command.job c.args.command.verify m) m (entries i)) m c.put_translation.result (g.F.Folder.names c.put_translation.new.folder) (g.O.Sink.got c.args.out.now) (g.O.Sink.got c.put_translation.new.out) c.args.failed.now (g.E.Sink.faults c.args.err.now) (g.E.Sink.got c.args.err.now) c.requires.fresh
-    (c.put_translation.ensures.told m is (entries i)) (translate_silent m (entries i) _ _ _ _) (rw c.in-Translate.is (search rules))
+    silent_as _ (carried_out (judged_by c.args.command.job c.args.command.verify m) m (entries i)) m c.put_translated.result (g.F.Folder.names c.put_translated.new.folder) (g.O.Sink.got c.args.out.now) (g.O.Sink.got c.put_translated.new.out) c.args.failed.now (g.E.Sink.faults c.args.err.now) (g.E.Sink.got c.args.err.now) c.requires.fresh
+    (c.put_translated.ensures.told m is (entries i)) (translate_silent m _ _ _ _ (entries i)) (rw c.in-Translate.is (search rules))
 
 pub returns-in-Translate-clause-stopped : goal.returns-in-Translate-clause-stopped
-returns-in-Translate-clause-stopped g c = λ so. absurd (c.put_translation.ensures.not_input so)
+returns-in-Translate-clause-stopped g c = λ so. absurd (c.put_translated.ensures.not_input so)
 
 pub returns-in-Translate-clause-refused : goal.returns-in-Translate-clause-refused
-returns-in-Translate-clause-refused g c = λ refusal. let still = c.put_translation.ensures.refused refusal in (still.0, refl, still.1)
+returns-in-Translate-clause-refused g c = λ rasters refusal. let still = c.put_translated.ensures.refused refusal in (still.0, refl, still.1)
 
 pub returns-in-Translate-clause-only_read : goal.returns-in-Translate-clause-only_read
 returns-in-Translate-clause-only_read g c = λ none. absurd (publishes_some c.in-Translate.src c.in-Translate.options c.in-Translate.quiet (sym (ap (λ (j : Job). names_published j) c.in-Translate.is) ∙ none))
 
 pub returns-in-Info-clause-warned : goal.returns-in-Info-clause-warned
-returns-in-Info-clause-warned g c = silent_may (makes_mosaic c.args.command.job) (ended c.put_info.result) c.args.failed.now (g.E.Sink.faults c.args.err.now) (g.E.Sink.got c.args.err.now) c.requires.fresh
+returns-in-Info-clause-warned g c = silent_may (warns_of_inputs c.args.command.job) (ended c.put_info.result) c.args.failed.now (g.E.Sink.faults c.args.err.now) (g.E.Sink.got c.args.err.now) c.requires.fresh
 
 pub returns-in-Info-clause-unknown : goal.returns-in-Info-clause-unknown
 returns-in-Info-clause-unknown g c = rw c.in-Info.is (rw c.in-Info.is at c.put_info.ensures.unknown)
 
 pub returns-in-Locate-clause-warned : goal.returns-in-Locate-clause-warned
-returns-in-Locate-clause-warned g c = silent_may (makes_mosaic c.args.command.job) (ended c.put_location.result) c.args.failed.now (g.E.Sink.faults c.args.err.now) (g.E.Sink.got c.args.err.now) c.requires.fresh
+returns-in-Locate-clause-warned g c = silent_may (warns_of_inputs c.args.command.job) (ended c.put_location.result) c.args.failed.now (g.E.Sink.faults c.args.err.now) (g.E.Sink.got c.args.err.now) c.requires.fresh
 
 pub returns-in-Locate-clause-unknown : goal.returns-in-Locate-clause-unknown
 returns-in-Locate-clause-unknown g c = rw c.in-Locate.is (rw c.in-Locate.is at c.put_location.ensures.unknown)
 
 pub returns-in-Translate-clause-warned : goal.returns-in-Translate-clause-warned
-returns-in-Translate-clause-warned g c = silent_may (makes_mosaic c.args.command.job) (ended c.put_translation.result) c.args.failed.now (g.E.Sink.faults c.args.err.now) (g.E.Sink.got c.args.err.now) c.requires.fresh
+returns-in-Translate-clause-warned g c = silent_may (warns_of_inputs c.args.command.job) (ended c.put_translated.result) c.args.failed.now (g.E.Sink.faults c.args.err.now) (g.E.Sink.got c.args.err.now) c.requires.fresh
 
 pub returns-in-Translate-clause-unknown : goal.returns-in-Translate-clause-unknown
-returns-in-Translate-clause-unknown g c = rw c.in-Translate.is (rw c.in-Translate.is at c.put_translation.ensures.unknown)
+returns-in-Translate-clause-unknown g c = rw c.in-Translate.is (rw c.in-Translate.is at c.put_translated.ensures.unknown)
 
 pub returns-in-Build-clause-told : goal.returns-in-Build-clause-told
 returns-in-Build-clause-told g c = λ m is i fed.
@@ -84,7 +87,7 @@ pub returns-in-Build-clause-stopped : goal.returns-in-Build-clause-stopped
 returns-in-Build-clause-stopped g c = λ so. absurd (c.put_build.ensures.not_input so)
 
 pub returns-in-Build-clause-refused : goal.returns-in-Build-clause-refused
-returns-in-Build-clause-refused g c = λ refusal. let still = c.put_build.ensures.refused refusal in (still.0, refl, still.1)
+returns-in-Build-clause-refused g c = λ rasters refusal. let still = c.put_build.ensures.refused refusal in (still.0, refl, still.1)
 
 pub returns-in-Build-clause-warned : goal.returns-in-Build-clause-warned
 returns-in-Build-clause-warned g c = rw c.in-Build.is c.put_build.ensures.warned
@@ -94,3 +97,29 @@ returns-in-Build-clause-unknown g c = rw c.in-Build.is c.put_build.ensures.unkno
 
 pub returns-in-Build-clause-only_read : goal.returns-in-Build-clause-only_read
 returns-in-Build-clause-only_read g c = λ none. absurd (mosaic_published c.in-Build.inputs c.in-Build.list c.in-Build.options c.in-Build.quiet (sym (ap (λ (j : Job). names_published j) c.in-Build.is) ∙ none))
+
+pub returns-in-Synth-clause-told : goal.returns-in-Synth-clause-told
+returns-in-Synth-clause-told g c = λ m is i fed.
+    silent_as _ (carried_out (judged_by c.args.command.job c.args.command.verify m) m (entries i)) m c.put_rasters.result (g.F.Folder.names c.put_rasters.new.folder) (g.O.Sink.got c.args.out.now) (g.O.Sink.got c.put_rasters.new.out) c.args.failed.now (g.E.Sink.faults c.args.err.now) (g.E.Sink.got c.args.err.now) c.requires.fresh
+    (c.put_rasters.ensures.told m is) (synth_silent _ m) (rw c.in-Synth.is (search rules))
+
+pub returns-in-Synth-clause-stopped : goal.returns-in-Synth-clause-stopped
+returns-in-Synth-clause-stopped g c = λ so. absurd (synth_reads_no_input c.put_rasters.result c.put_rasters.ensures.may_end so)
+
+pub returns-in-Synth-clause-refused : goal.returns-in-Synth-clause-refused
+returns-in-Synth-clause-refused g c = λ rasters. absurd (no_rasters c.in-Synth.side (sym (ap (λ (j : Job). makes_rasters j) c.in-Synth.is) ∙ rasters))
+
+pub returns-in-Synth-clause-warned : goal.returns-in-Synth-clause-warned
+returns-in-Synth-clause-warned g c = silent_may (warns_of_inputs c.args.command.job) (ended c.put_rasters.result) c.args.failed.now (g.E.Sink.faults c.args.err.now) (g.E.Sink.got c.args.err.now) c.requires.fresh
+
+pub returns-in-Synth-clause-only_read : goal.returns-in-Synth-clause-only_read
+returns-in-Synth-clause-only_read g c = λ none. absurd (synth_made c.in-Synth.side (sym (ap (λ (j : Job). names_published j) c.in-Synth.is) ∙ none))
+
+pub returns-in-Synth-clause-may_end : goal.returns-in-Synth-clause-may_end
+returns-in-Synth-clause-may_end g c = rw c.in-Synth.is (synth_may c.in-Synth.side c.put_rasters.result c.put_rasters.ensures.may_end)
+
+pub returns-in-Synth-clause-unknown : goal.returns-in-Synth-clause-unknown
+returns-in-Synth-clause-unknown g c = rw c.in-Synth.is (synth_refuses c.put_rasters.result c.put_rasters.ensures.may_end)
+
+pub returns-in-Synth-clause-own : goal.returns-in-Synth-clause-own
+returns-in-Synth-clause-own g c = synth_owns c.put_rasters.result c.put_rasters.ensures.may_end

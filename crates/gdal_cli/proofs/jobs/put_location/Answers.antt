@@ -11,15 +11,17 @@ use Rattle.error_lines.specs.declared.faults.Fault.TheVariants.{Changed}
 use Rattle.error_lines.specs.Faults.{fault_of, IsOutside, OwnsFault}
 use Rattle.command_words.specs.declared.command.Job.TheVariants.{Locate}
 use Rattle.gdal_cli.specs.Location.{asked_in, answers, point_text}
-use Rattle.gdal_cli.specs.Run.{Ends, MayEnd, RefusesKind, ended}
+use Rattle.translation_runs.specs.Ends.{ended}
+use Rattle.gdal_cli.specs.Run.{Ends, MayEnd, RefusesKind}
 use Rattle.gdal_cli.specs.Work.{Work, location_judged, carried_out}
 use Rattle.gdal_cli.proofs.Causes.{walk_may, asked_may, answers_may, lines_refuse}
-use Rattle.gdal_cli.proofs.Changed.{has_changed, no_change}
+use Rattle.translation_runs.proofs.Ended.{has_changed, no_change}
 use Rattle.gdal_cli.proofs.Datasets.{walk_refuses}
 use Rattle.gdal_cli.proofs.Ended.{err_is, asked_refused, location_told, location_put, stops_same}
 use Rattle.gdal_cli.proofs.Lacking.{asked_unchanged, one_fault}
 use Rattle.error_lines.proofs.Owned.{own_refused}
-use Rattle.gdal_cli.proofs.Reached.{told_of, few_bands, walked_read}
+use Rattle.translation_runs.proofs.Reached.{told_of, walked_read}
+use Rattle.gdal_cli.proofs.Reached.{few_bands}
 use Rattle.gdal_cli.proofs.jobs.put_location.Goals as goal
 
 pub head-requires : goal.head-requires

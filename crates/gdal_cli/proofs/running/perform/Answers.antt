@@ -4,7 +4,8 @@ use Rattle.input_points.specs.Entries.{entries}
 use Rattle.error_lines.specs.declared.faults.Fault.{Fault}
 use Rattle.command_words.specs.declared.command.Command.{Command}
 use Rattle.command_words.specs.declared.spoken.WordFault.{WordFault}
-use Rattle.gdal_cli.specs.Run.{MayEnd, MayWarn, ended, words_read_input, words_warn}
+use Rattle.translation_runs.specs.Ends.{ended}
+use Rattle.gdal_cli.specs.Run.{MayEnd, MayWarn, words_make_rasters, words_read_input, words_warn}
 use Rattle.error_lines.specs.Steps.{Step, AreWarned, GoesWarning}
 use Rattle.command_words.specs.Words.{words_of}
 use Rattle.gdal_cli.specs.Work.{Work, judged_by, carried_out, run_over}
@@ -56,6 +57,9 @@ returns-in-Ok-clause-stopped g c = λ so m told i left.
     stops_same (carried_out (judged_by command.job command.verify m) m) (run_over words m)
     i _ _ _ (c.put_job.ensures.stopped so m told i left)
     (λ lines. ap (λ (d : Result Work Fault). carried_out d m lines) (sym (command_judged words command m c.in-Ok.ensures.gives)))
+
+pub returns-in-Ok-clause-refused : goal.returns-in-Ok-clause-refused
+returns-in-Ok-clause-refused g c = λ rasters. c.put_job.ensures.refused (sym (ap (λ (d : Result Command WordFault). words_make_rasters d) c.in-Ok.ensures.gives) ∙ rasters)
 
 pub returns-in-Ok-clause-may_end : goal.returns-in-Ok-clause-may_end
 returns-in-Ok-clause-may_end g c =

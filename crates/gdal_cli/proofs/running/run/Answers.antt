@@ -7,7 +7,7 @@ use Rattle.gdal_cli.specs.Run.{Answers, AreTold, MayEnd, MayWarn, IsRefusal, Tel
 use Rattle.command_words.specs.Words.{words_of}
 use Rattle.gdal_cli.specs.Work.{run_of}
 use Rattle.gdal_cli.proofs.Causes.{command_may}
-use Rattle.gdal_cli.proofs.Datasets.{refused_so}
+use Rattle.translation_runs.proofs.Ended.{refused_so}
 use Rattle.gdal_cli.proofs.Outcomes.{answered, completed}
 use Rattle.gdal_cli.proofs.Warning.{early_warned, fault_behind, goes_of, told_behind, whole_warned}
 use Rattle.gdal_cli.proofs.running.run.Goals as goal
@@ -32,7 +32,7 @@ returns-clause-early_end g c = λ high m told i fed.
     (early.0, early.1, early.2, subst (λ (f : Option Fault). AreTold early.0 f (g.E.Sink.faults c.args.err.now) (g.E.Sink.faults c.tell.new.err) (g.E.Sink.got c.args.err.now) (g.E.Sink.got c.tell.new.err)) (sym c.tell.ensures.fault) said)
 
 pub returns-clause-refused : goal.returns-clause-refused
-returns-clause-refused g c = λ refusal. c.perform.ensures.refused (subst IsRefusal (c.tell.ensures.fault ∙ c.ended-fault.ensures) refusal)
+returns-clause-refused g c = λ rasters refusal. c.perform.ensures.refused rasters (subst IsRefusal (c.tell.ensures.fault ∙ c.ended-fault.ensures) refusal)
 
 pub returns-clause-may_end : goal.returns-clause-may_end
 returns-clause-may_end g c =

@@ -1,5 +1,5 @@
--- How translations end.
-use Rattle.std.proofs.Common.{◌≡◌, ◌∙◌, ap, sym, subst, refl, ◌⊎◌, inl, inr, ℕ, Bool, false, List, [], length, Result, Ok, Err, Option, Some, None}
+-- How far translations go.
+use Rattle.std.proofs.Common.{◌≡◌, ◌∙◌, ap, sym, subst, refl, ◌⊎◌, inl, inr, ℕ, Bool, false, List, [], ◌∷◌, length, Result, Ok, Err, Option, Some, None}
 use Rattle.std.specs.Prelude.{slice_get, option_map}
 use Rattle.lists_and_answers.specs.Answers.{◌>>=◌}
 use Rattle.outside.specs.Outside.{Files}
@@ -12,25 +12,22 @@ use Rattle.catalog.specs.Heads.{dataset_in}
 use Rattle.catalog.specs.Walk.{walked, number_of, IsWalked}
 use Rattle.catalog.proofs.Found.{found}
 use Rattle.catalog.specs.declared.faults.WalkFault.{WalkFault}
+use Rattle.catalog.specs.declared.faults.WalkFault.TheVariants as walk
 use Rattle.translate_plan.specs.Options.{Options}
 use Rattle.translate_plan.specs.Plan.{Planned, plan_of, fits_in}
 use Rattle.translate_plan.specs.Bands.{all_known, count_of, asked_bands}
 use Rattle.translate_plan.specs.Window.{asked_in, window_in, inside_in, sides_of, size_in}
 use Rattle.translate_plan.specs.Fits.{count_in, geo_in, place_in}
-use Rattle.input_points.specs.declared.entry.Entry.{Entry}
 use Rattle.error_lines.specs.declared.faults.Fault.{Fault}
 use Rattle.error_lines.specs.declared.faults.Fault.TheVariants.{Changed, Memory}
 use Rattle.error_lines.specs.Faults.{fault_of, by_walk, IsOutside}
-use Rattle.error_lines.specs.Steps.{Done, all_done, Goes}
+use Rattle.error_lines.specs.Steps.{Step, Done, Prints, Warns, Publishes, all_done, applied, cut, printed, published, AreDone, Goes}
 use Rattle.output_copies.specs.Steps.{translation_steps}
-use Rattle.gdal_cli.specs.Faults.{by_plan}
 use Rattle.published_files.specs.Names.{unless_read}
-use Rattle.gdal_cli.specs.Published.{names_written}
-use Rattle.gdal_cli.specs.Work.{Work, Translates, translate_judged, carried_out}
-use Rattle.gdal_cli.proofs.Bound.{bind_is, ok_same}
-use Rattle.gdal_cli.proofs.Ended.{walk_fails}
-use Rattle.gdal_cli.proofs.Outcomes.{goes_nowhere}
-use Rattle.gdal_cli.proofs.Reached.{told_of, walked_read}
+use Rattle.translation_runs.specs.Judged.{Judged, by_plan, translation_done, translation_judged, translation_run}
+use Rattle.translation_runs.specs.Published.{names_written}
+use Rattle.translation_runs.proofs.Bound.{bind_is, ok_same}
+use Rattle.translation_runs.proofs.Reached.{told_of, walked_read}
 
 -- what was walked, and the dataset that its name has
 pub record Walked (m : Files) (verify : Bool) (src : List ℕ) (cat : List Dataset) (id : ℕ) (head : DatasetHead) : Type 0 where
@@ -66,10 +63,40 @@ planned_driver o h p found =
     let held = bind_is (fits_in o (asked_bands o h) size.value geo.value) _ p place.rest in
     sym (ap (λ (q : Planned). q.driver) (ok_same {E = PlanFault} _ p _ refl held.rest))
 
--- work that was refused, or that the outside ended so before anything was done
-pub refused_goes : (f : Fault) (d : Result Work Fault) (m : Files) (lines : List Entry) (names : Option Files) (old : Option (List ℕ)) → names ≡ Some m → IsOutside f ⊎ (d ≡ Err f) → Goes (carried_out d m lines) m (Err f) names old old
-refused_goes f d m lines names old is (inl out) = goes_nowhere (carried_out d m lines) m f names old is out
-refused_goes f d m lines names old is (inr refused) = subst (λ (e : Result Work Fault). Goes (carried_out e m lines) m (Err f) names old old) (sym refused) (inl (refl, record { printed = gets-none old; published = is }))
+-- nothing was done
+cut_none : (steps : List Step) → (printed (cut 0 0 steps) ≡ []) × (published (cut 0 0 steps) ≡ [])
+cut_none [] = (refl, refl)
+cut_none (Prints text ∷ steps) = (refl, refl)
+cut_none (Warns line ∷ steps) = (refl, refl)
+cut_none (Publishes name bytes ∷ steps) = (refl, refl)
+
+nothing_done : (steps : List Step) (m : Files) (names : Option Files) (old : Option (List ℕ)) → names ≡ Some m → AreDone (cut 0 0 steps) m names old old
+nothing_done steps m names old is =
+    let none = cut_none steps in
+    record {
+      printed = rw none.0 (gets-none old);
+      published = is ∙ ap (λ (files : List (List ℕ × List ℕ)). Some (applied files m)) (sym none.1);
+    }
+
+-- the outside failed before the first step, or the run was refused
+goes_nowhere : (r : Done) (m : Files) (f : Fault) (names : Option Files) (old : Option (List ℕ)) → names ≡ Some m → IsOutside f → Goes r m (Err f) names old old
+goes_nowhere r m f names old is out = inr (out, (cut 0 0 r.steps, (0, 0, refl), nothing_done r.steps m names old is))
+
+-- a fault of the outside of a walk is one of the run
+outside_walk : (f : WalkFault) → outcomes.IsOutside f → IsOutside (fault_of f)
+outside_walk walk.FolderFault h = tt
+outside_walk walk.Memory h = tt
+outside_walk f h = absurd h
+
+-- what a walk answers ends a translation that goes on from it
+walk_fails : {T : Type 0} (f : WalkFault) (d : Result T WalkFault) (k : T → Result Judged Fault) → outcomes.IsOutside f ⊎ (d ≡ Err f) → IsOutside (fault_of f) ⊎ ((by_walk d >>= k) ≡ Err (fault_of f))
+walk_fails f d k (inl out) = inl (outside_walk f out)
+walk_fails {T} f d k (inr is) = inr (ap (λ (e : Result T WalkFault). by_walk e >>= k) is)
+
+-- a translation that was refused, or that the outside ended so before anything was done
+refused_goes : (f : Fault) (d : Result Judged Fault) (m : Files) (out : List ℕ) (quiet : Bool) (names : Option Files) (old : Option (List ℕ)) → names ≡ Some m → IsOutside f ⊎ (d ≡ Err f) → Goes (translation_done m out quiet d) m (Err f) names old old
+refused_goes f d m out quiet names old is (inl outside) = goes_nowhere (translation_done m out quiet d) m f names old is outside
+refused_goes f d m out quiet names old is (inr refused) = subst (λ (e : Result Judged Fault). Goes (translation_done m out quiet e) m (Err f) names old old) (sym refused) (inl (refl, record { printed = gets-none old; published = is }))
 
 -- what is planned, as the run has it
 pub plan_is : {T : Type 0} (d : Result T PlanFault) (x : T) → by_plan d ≡ Ok x → d ≡ Ok x
@@ -79,31 +106,37 @@ plan_is (Err e) x is = let no : ⊥ = cc in absurd no
 pub planned_so : (o : Options) (head read : DatasetHead) (planned : Result Planned PlanFault) (r : Result Planned Fault) → head ≡ read → planned ≡ plan_of o head → r ≡ by_plan planned → by_plan (plan_of o read) ≡ r
 planned_so o head read planned r headed is so = ap (λ (h : DatasetHead). by_plan (plan_of o h)) (sym headed) ∙ ap (λ (d : Result Planned PlanFault). by_plan d) (sym is) ∙ sym so
 
+abbrev judged : Dataset → Planned → Result Judged Fault
+judged d p = Ok (record { dataset = d; plan = p })
+
 module _ (m : Files) (verify : Bool) (src : List ℕ) (options : Options) (quiet : Bool) where
-  abbrev work : Result Work Fault
-  work = translate_judged m verify src options quiet
+  abbrev work : Result Judged Fault
+  work = translation_judged m verify src options
+
+  abbrev run : Done
+  run = translation_run m verify src options quiet
 
   -- a translation ends with what the walk answers
-  pub walk_goes : (lines : List Entry) (f : WalkFault) (names : Option Files) (old : Option (List ℕ)) → names ≡ Some m → outcomes.IsOutside f ⊎ (walked m verify [] src ≡ Err f) → Goes (carried_out work m lines) m (Err (fault_of f)) names old old
-  unfolding translate_judged
-  walk_goes lines f names old is h = refused_goes (fault_of f) _ m lines names old is (walk_fails f (walked m verify [] src) (λ cat. by_walk (dataset_in m false src) >>= (λ d. by_plan (plan_of options d.head) >>= (λ p. unless_read cat (names_written options) >>= (λ free. Ok (Translates d p options.out quiet))))) h)
+  pub walk_goes : (f : WalkFault) (names : Option Files) (old : Option (List ℕ)) → names ≡ Some m → outcomes.IsOutside f ⊎ (walked m verify [] src ≡ Err f) → Goes run m (Err (fault_of f)) names old old
+  unfolding translation_judged
+  walk_goes f names old is h = refused_goes (fault_of f) _ m options.out quiet names old is (walk_fails f (walked m verify [] src) (λ cat. by_walk (dataset_in m false src) >>= (λ d. by_plan (plan_of options d.head) >>= (λ p. unless_read cat (names_written options) >>= (λ free. judged d p)))) h)
 
   module _ (cat : List Dataset) (d : Dataset) (is : walked m verify [] src ≡ Ok cat) (read : dataset_in m false src ≡ Ok d) where
-    abbrev freed : Planned → Unit {0} → Result Work Fault
-    freed p free = Ok (Translates d p options.out quiet)
+    abbrev freed : Planned → Unit {0} → Result Judged Fault
+    freed p free = judged d p
 
-    abbrev planned : Planned → Result Work Fault
+    abbrev planned : Planned → Result Judged Fault
     planned p = unless_read cat (names_written options) >>= freed p
 
     walked_to : work ≡ (by_plan (plan_of options d.head) >>= planned)
-    unfolding translate_judged
+    unfolding translation_judged
     walked_to =
-        ap (λ (e : Result (List Dataset) WalkFault). by_walk e >>= (λ (c : List Dataset). by_walk (dataset_in m false src) >>= (λ (x : Dataset). by_plan (plan_of options x.head) >>= (λ (p : Planned). unless_read c (names_written options) >>= (λ free. Ok (Translates x p options.out quiet)))))) is
-        ∙ ap (λ (e : Result Dataset WalkFault). by_walk e >>= (λ (x : Dataset). by_plan (plan_of options x.head) >>= (λ (p : Planned). unless_read cat (names_written options) >>= (λ free. Ok (Translates x p options.out quiet))))) read
+        ap (λ (e : Result (List Dataset) WalkFault). by_walk e >>= (λ (c : List Dataset). by_walk (dataset_in m false src) >>= (λ (x : Dataset). by_plan (plan_of options x.head) >>= (λ (p : Planned). unless_read c (names_written options) >>= (λ free. judged x p))))) is
+        ∙ ap (λ (e : Result Dataset WalkFault). by_walk e >>= (λ (x : Dataset). by_plan (plan_of options x.head) >>= (λ (p : Planned). unless_read cat (names_written options) >>= (λ free. judged x p)))) read
 
     -- with the refusal of the plan
-    pub plan_goes : (lines : List Entry) (f : Fault) (names : Option Files) (old : Option (List ℕ)) → names ≡ Some m → by_plan (plan_of options d.head) ≡ Err f → Goes (carried_out work m lines) m (Err f) names old old
-    plan_goes lines f names old told refused = refused_goes f work m lines names old told (inr (walked_to ∙ ap (λ (e : Result Planned Fault). e >>= planned) refused))
+    pub plan_goes : (f : Fault) (names : Option Files) (old : Option (List ℕ)) → names ≡ Some m → by_plan (plan_of options d.head) ≡ Err f → Goes run m (Err f) names old old
+    plan_goes f names old told refused = refused_goes f work m options.out quiet names old told (inr (walked_to ∙ ap (λ (e : Result Planned Fault). e >>= planned) refused))
 
     module _ (p : Planned) (plan : by_plan (plan_of options d.head) ≡ Ok p) where
       planned_to : work ≡ (unless_read cat (names_written options) >>= freed p)
@@ -114,13 +147,13 @@ module _ (m : Files) (verify : Bool) (src : List ℕ) (options : Options) (quiet
       outside_memory f (inr refused) = inr (planned_to ∙ ap (λ (e : Result (Unit {0}) Fault). e >>= freed p) refused)
 
       -- with a name that is read
-      pub same_goes : (lines : List Entry) (f : Fault) (names : Option Files) (old : Option (List ℕ)) → names ≡ Some m → (f ≡ Memory) ⊎ (unless_read cat (names_written options) ≡ Err f) → Goes (carried_out work m lines) m (Err f) names old old
-      same_goes lines f names old told h = refused_goes f work m lines names old told (outside_memory f h)
+      pub same_goes : (f : Fault) (names : Option Files) (old : Option (List ℕ)) → names ≡ Some m → (f ≡ Memory) ⊎ (unless_read cat (names_written options) ≡ Err f) → Goes run m (Err f) names old old
+      same_goes f names old told h = refused_goes f work m options.out quiet names old told (outside_memory f h)
 
       -- or it is done
-      pub done_goes : (lines : List Entry) (result : Result (Unit {0}) Fault) (names : Option Files) (before after : Option (List ℕ)) → unless_read cat (names_written options) ≡ Ok tt → Goes (all_done (translation_steps quiet m d p options.out)) m result names before after → Goes (carried_out work m lines) m result names before after
-      done_goes lines result names before after free goes =
-          subst (λ (e : Result Work Fault). Goes (carried_out e m lines) m result names before after) (sym (planned_to ∙ ap (λ (e : Result (Unit {0}) Fault). e >>= freed p) free)) goes
+      pub done_goes : (result : Result (Unit {0}) Fault) (names : Option Files) (before after : Option (List ℕ)) → unless_read cat (names_written options) ≡ Ok tt → Goes (all_done (translation_steps quiet m d p options.out)) m result names before after → Goes run m result names before after
+      done_goes result names before after free goes =
+          subst (λ (e : Result Judged Fault). Goes (translation_done m options.out quiet e) m result names before after) (sym (planned_to ∙ ap (λ (e : Result (Unit {0}) Fault). e >>= freed p) free)) goes
 
 -- a run that isn't refused ends for no length that changed, where its folder tells its files
 pub goes_unchanged : (d : Done) (m : Files) (result : Result (Unit {0}) Fault) (names : Option Files) (before after : Option (List ℕ)) → d.fault ≡ None → Goes d m result names before after → (name : List ℕ) (was : ℕ) (now : Option ℕ) → result ≡ Err (Changed name was now) → ⊥

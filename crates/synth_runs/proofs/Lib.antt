@@ -1,0 +1,6 @@
+mod Examples
+pub mod Ending
+pub mod Following
+pub mod Parts
+pub mod Reaching
+pub mod Tallying

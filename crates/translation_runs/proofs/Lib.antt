@@ -1,0 +1,6 @@
+pub mod Bound
+pub mod Ended
+pub mod Reached
+pub mod Silent
+pub mod Translated
+pub mod Unread
