@@ -124,6 +124,87 @@ rmdir synth_t2.bil
 expect 'the same without it, with one block' 0 '' synth --blocks 1 45
 holds 'which makes the same files' cmp -s kept.bil synth_t2.bil
 
+# names, devices, streams and folders that don't take what is written
+longest=$(printf 'a%.0s' $(seq 251))
+expect 'a name of 255 bytes' 0 '' gdal_translate -q hills.bil "$longest.bil"
+holds 'which is written' cmp -s hills.bil "$longest.bil"
+expect 'a name of 255 bytes for a mosaic' 0 '' gdalbuildvrt -q "$longest.vrt" hills.bil
+expect 'a name of 256 bytes' 2 'ERROR 3: a file call failed' gdal_translate -q hills.bil "a$longest.bil"
+ln -s /dev/null device.bil
+expect 'a device in the place of the output' 2 'ERROR 3: a file call failed' gdal_translate -q hills.bil device.bil
+holds 'which is there still' test -c device.bil
+expect 'a device in the place of the source' 2 'ERROR 3: a file call failed' gdalinfo device.bil
+yes '1 1' | head -n 200000 >points.txt
+"$program" gdallocationinfo -valonly hills.bil <points.txt 2>err.txt | head -n 1 >out.txt
+holds 'an output that is closed behind its first line' test "${PIPESTATUS[0]} $(cat err.txt)" = '2 ERROR 3: writing the output failed'
+
+# as_other WHAT STATUS ERROR-LINE WORDS..: as expect, run by a user without rights, in a folder of that user's
+as_other() {
+    what=$1 status=$2 line=$3
+    shift 3
+    tried=$((tried + 1))
+    (cd theirs && setpriv --reuid=65534 --regid=65534 --clear-groups "$program" "$@" >out.txt 2>err.txt </dev/null)
+    came=$?
+    if [ "$came" -eq "$status" ] && [ "$(head -n 1 theirs/err.txt)" = "$line" ]; then
+        echo "as it is to be: $what"
+    else
+        failed=$((failed + 1))
+        echo "FAILED: $what: status $came, $(head -n 1 theirs/err.txt)"
+    fi
+}
+if [ "$(id -u)" = 0 ] && chmod 755 "$room" && setpriv --reuid=65534 --regid=65534 --clear-groups test -x "$program" 2>none.txt; then
+    mkdir theirs theirs/closed && cp hills.* theirs && printf 'old' >theirs/kept.bil && printf 'x' >theirs/secret.bil
+    chmod 555 theirs/closed && chmod 444 theirs/kept.bil && chmod 000 theirs/secret.bil
+    touch theirs/out.txt theirs/err.txt && chown 65534 theirs theirs/*.*
+    as_other 'a folder that cannot be written' 2 'ERROR 3: a file call failed' gdal_translate -q hills.bil closed/out.bil
+    holds 'in which nothing is made' test -z "$(ls -A theirs/closed)"
+    as_other 'a file without rights as source' 2 'ERROR 3: a file call failed' gdalinfo secret.bil
+    as_other 'a read-only file in the place of the output' 0 '' gdal_translate -q hills.bil kept.bil
+    holds 'which is replaced whole' cmp -s hills.bil theirs/kept.bil
+fi
+
+# a full disk: old files stand
+mkdir small
+if mount -t tmpfs -o size=64k tmpfs small 2>none.txt; then
+    printf 'old' >small/out.bil
+    expect 'a disk that is full' 2 'ERROR 3: a file call failed' gdal_translate -q big.bil small/out.bil
+    holds 'on which the old file stands' test "$(cat small/out.bil)" = old
+    holds 'and no other' test "$(ls -A small)" = out.bil
+    expect 'the same disk, and less' 0 '' gdal_translate -q hills.bil small/out.bil
+    umount small
+fi
+
+# two runs that write the same name at once: it is whole, and so is its header
+(for number in 1 2 3 4 5 6 7 8; do "$program" gdal_translate -q big.bil both.bil & done; wait)
+holds 'eight runs that write one name' cmp -s big.bil both.bil
+holds 'whose header is whole' cmp -s killed.hdr both.hdr
+
+# changes WHAT STATUS ERROR-LINE OUTPUT COMMAND..: a file that another process changes behind the first point
+changes() {
+    what=$1 status=$2 line=$3 output=$4
+    shift 4
+    cp big.bil changing.bil && cp big.hdr changing.hdr && rm -f asks && mkfifo asks
+    tried=$((tried + 1))
+    timeout 20 "$program" gdallocationinfo -valonly changing.bil <asks >out.txt 2>err.txt &
+    exec 3>asks
+    echo '0 0' >&3
+    for number in $(seq 100); do [ -s out.txt ] && break; sleep 0.05; done
+    "$@"
+    echo '5 1900' >&3
+    exec 3>&-
+    wait $!
+    came=$?
+    if [ "$came" -eq "$status" ] && [ "$(head -n 1 err.txt)" = "$line" ] && [ "$(cat out.txt)" = "$output" ]; then
+        echo "as it is to be: $what"
+    else
+        failed=$((failed + 1))
+        echo "FAILED: $what: status $came, $(head -n 1 err.txt), $(tr '\n' ' ' <out.txt)"
+    fi
+}
+changes 'an open file that shrinks' 2 'ERROR 3: a file call failed' 120 truncate -s 1000 changing.bil
+changes 'an open file that grows' 0 '' $'120\n120' truncate -s 9000000 changing.bil
+changes 'an open file that is taken away' 0 '' $'120\n120' rm changing.bil
+
 # documents read by GDAL itself, where it is installed
 if [ -x /usr/bin/gdalinfo ]; then
     expect 'a window of a raster as a document' 0 '' gdal_translate -q -of VRT -srcwin 1 2 5 4 hills.bil window.vrt
