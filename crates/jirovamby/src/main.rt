@@ -3,9 +3,18 @@
 
 use gdal_cli::{Fault, run, tell};
 use outside::{DiskFolder, StdInput, StdSink};
-use std::alloc::AllocError;
+use std::alloc::{AllocError, Global};
 use std::io::ErrorKind;
 use std::process::{self, ExitCode};
+
+/// How much room is taken and given back at the start, in bytes: less than the 32 MiB past which nothing is learnt of it.
+const LARGE: usize = 25_165_824;
+
+// Takes room and gives it back, untouched. The C library's allocator then keeps what blocks of up to this size give
+// back, in place of returning their pages to the system and asking for them again. Where it is refused, nothing is lost.
+fn keep_pages(alloc: Global) {
+    let _room: Result<Vec<u8>, AllocError> = Vec::with_capacity(alloc, LARGE);
+}
 
 // The words behind the program's name. Words that aren't UTF-8 are no command.
 fn read_words(rt: &HostRuntime) -> Result<Vec<String>, Fault> {
@@ -27,6 +36,7 @@ fn read_words(rt: &HostRuntime) -> Result<Vec<String>, Fault> {
 }
 
 fn main(rt: HostRuntime) -> ExitCode {
+    keep_pages(rt.alloc());
     let mut err = StdSink::new(rt.stderr());
     let system: Result<HostRuntime, AllocError> = rt.clone();
     let outcome = match (read_words(&rt), system) {
