@@ -10,12 +10,13 @@ ghost use Rattle.output_copies.specs.Steps.{progress};
 
 use crate::output::Writing;
 use crate::progress::{Share, tell};
+use crate::workers::lines_by;
 use error_lines::Fault;
 use geotransform::{Rect, Sample};
 use outside::{Folder, Sink, Steps};
 use std::sync::ledger::Ledger;
 use std::thread::Threads;
-use strip_copies::{Lines, StripReader, Translation, read_lines, strip_height};
+use strip_copies::{Lines, StripReader, Translation, read_lines};
 use write_back::Target;
 
 /// What lines are copied with: a reader, room for the lines of a strip of one band, which is made once, and the count of
@@ -137,6 +138,8 @@ pub fn copy_all<R: Threads + Sync, F: Folder, O: Sink, L: Ledger, W: Ledger>(
     requires translation { IsTranslation translation.now.cat translation.now.id translation.now.plan }
     requires ready { AreLanesReady F.Folder folder.old translation.now.cat copier.old.reader.team.lanes.items }
     requires room { IsRoomFor translation.now.cat translation.now.id translation.now.plan copier.old.reader.columns copier.old.reader.samples.items }
+    requires workers_some { 1 ≤ writing.workers }
+    requires workers_few { writing.workers ≤ 16 }
     requires long { translation.now.plan.size.w * lines_copied writing.workers translation.now.cat translation.now.plan ≤ length copier.old.samples.items }
     requires filled { IsFilled (F.names folder.old) translation.now.cat translation.now.id translation.now.plan target.old 0 0 0 }
     ensures filled { OnOk result (IsFilled (F.names folder.new) translation.now.cat translation.now.id translation.now.plan target.new translation.now.plan.size.h translation.now.plan.size.h 0) }
@@ -150,7 +153,7 @@ pub fn copy_all<R: Threads + Sync, F: Folder, O: Sink, L: Ledger, W: Ledger>(
     plan.rules();
     let height = plan.size.h;
     let quiet = writing.quiet;
-    let rows = strip_height(translation, writing.workers);
+    let rows = lines_by(translation, writing.workers);
     let mut told = tell(out, quiet, 0, Share { done: 0, height })?;
     let mut line = 0;
     while line < height {

@@ -17,14 +17,14 @@ ghost use Rattle.output_copies.specs.Steps.{files_by, progress, raster_of, trans
 use crate::copying::{Copier, area, copy_all};
 use crate::documents::write_document;
 use crate::texts::{put_end, put_size};
+use crate::workers::{lines_by, worker_count};
 use error_lines::Fault;
 use geotransform::Sample;
-use lane_teams::WorkerCount;
 use outside::{Folder, Name, Sink, Steps};
 use std::marker::Brand;
 use std::sync::ledger::{Blank, Ledger};
 use std::thread::Threads;
-use strip_copies::{StripReader, Translation, strip_height};
+use strip_copies::{StripReader, Translation};
 use translate_plan::Driver;
 use write_back::Target;
 
@@ -34,17 +34,19 @@ use write_back::Target;
 pub struct Writing<'a> {
     pub name: &'a Name,
     pub blocks: u32,
-    pub workers: WorkerCount,
+    pub workers: u32,
     pub quiet: bool,
 }
 
 // Room for the lines of a strip of one band.
-fn room_for(translation: &Translation, workers: WorkerCount) -> Result<Vec<Sample>, Fault>
+fn room_for(translation: &Translation, workers: u32) -> Result<Vec<Sample>, Fault>
+    requires some { 1 ≤ workers }
+    requires few { workers ≤ 16 }
     ensures long { IfOk result (λ samples. translation.now.plan.size.w * lines_copied workers translation.now.cat translation.now.plan ≤ length samples.items) }
     ensures memory { IfErr result (λ f. f ≡ Fault.Memory) }
 {
     let plan = &translation.plan;
-    let count = area(plan.size.w, strip_height(translation, workers));
+    let count = area(plan.size.w, lines_by(translation, workers));
     let samples = vec![in translation.alloc; 0; count]?;
     Ok(samples)
 }
@@ -59,6 +61,8 @@ fn copier_for<F: Folder, L: Ledger, W: Ledger>(
     requires translation { IsTranslation translation.now.cat translation.now.id translation.now.plan }
     requires some { 1 ≤ writing.blocks }
     requires few { writing.blocks ≤ 65536 }
+    requires workers_some { 1 ≤ writing.workers }
+    requires workers_few { writing.workers ≤ 16 }
     requires loads_name { loads.name ≡ L.name }
     requires loads_parts { loads.parts ≡ L.parts }
     requires loads_shares { 0 < loads.parts }
@@ -71,7 +75,8 @@ fn copier_for<F: Folder, L: Ledger, W: Ledger>(
     ensures memory { IfErr result (λ f. f ≡ Fault.Memory) }
 {
     let samples = room_for(translation, writing.workers)?;
-    let reader = StripReader::new(translation, writing.workers, writing.blocks, loads)?;
+    let workers = worker_count(writing.workers);
+    let reader = StripReader::new(translation, workers, writing.blocks, loads)?;
     let writes = Steps::open(writes);
     Ok(Copier {
         reader,
@@ -112,6 +117,8 @@ fn write_files<R: Threads + Sync, F: Folder, O: Sink, L: Ledger, W: Ledger>(
     requires walked { WhereTold F.Folder folder.old (λ m. IsWalked m translation.now.cat) }
     requires some { 1 ≤ writing.blocks }
     requires few { writing.blocks ≤ 65536 }
+    requires workers_some { 1 ≤ writing.workers }
+    requires workers_few { writing.workers ≤ 16 }
     requires files { translation.now.plan.driver ≢ Vrt }
     requires extension { IsNamedFor translation.now.plan writing.name.now }
     requires loads_name { loads.name ≡ L.name }
@@ -156,6 +163,8 @@ fn write_planned<R: Threads + Sync, F: Folder, O: Sink>(
     requires walked { WhereTold F.Folder folder.old (λ m. IsWalked m translation.now.cat) }
     requires some { 1 ≤ writing.blocks }
     requires few { writing.blocks ≤ 65536 }
+    requires workers_some { 1 ≤ writing.workers }
+    requires workers_few { writing.workers ≤ 16 }
     requires extension { IsNamedFor translation.now.plan writing.name.now }
     ensures goes { (m : Files) (d : Dataset) → F.names folder.old ≡ Some m → slice_get translation.now.cat translation.now.id ≡ Some d → Goes (all_done (unless_quiet writing.entry.quiet progress ++ publishes (written m d translation.now.plan writing.entry.name.now))) m result (F.names folder.new) (O.got out.old) (O.got out.new) }
     ensures ends { MayEnd (F.names folder.old) (F.faults folder.old) (F.faults folder.new) (O.faults out.old) (O.faults out.new) result }
@@ -178,7 +187,7 @@ fn write_planned<R: Threads + Sync, F: Folder, O: Sink>(
 /// Does a translation: tells the size of the source, copies the pixels of the output strip by strip, telling how far
 /// it is, publishes the files of the output, each whole, its data first, and tells that it is done. Of a mosaic no pixel
 /// is copied, and its document is published. The name's extension is one of the plan's driver, and 1 to 65,536 blocks
-/// are held at a time by each worker. What is told and published is the same for every number of blocks and of workers.
+/// are held at a time by each of 1 to 16 workers. What is told and published is the same for every number of blocks and of workers.
 ///
 /// FolderFault and OutFault come only where the count of the folder and of the output rose, Changed only where a file
 /// was opened again and had another length than the walk found, or was absent, and Memory freely. All names but those
@@ -194,6 +203,8 @@ pub fn write_output<R: Threads + Sync, F: Folder, O: Sink>(
     requires walked { WhereTold F.Folder folder.old (λ m. IsWalked m translation.now.cat) }
     requires some { 1 ≤ writing.blocks }
     requires few { writing.blocks ≤ 65536 }
+    requires workers_some { 1 ≤ writing.workers }
+    requires workers_few { writing.workers ≤ 16 }
     requires extension { IsNamedFor translation.now.plan writing.name.now }
     // over a folder that tells its files: all the steps are done, or where the outside failed the first of them
     ensures told { WhereTold F.Folder folder.old (λ m. (d : Dataset) → slice_get translation.now.cat translation.now.id ≡ Some d → Goes (all_done (translation_steps writing.entry.quiet m d translation.now.plan writing.entry.name.now)) m result (F.names folder.new) (O.got out.old) (O.got out.new)) }
