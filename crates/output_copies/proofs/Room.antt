@@ -1,7 +1,10 @@
 -- Room of which a part was lent and came back.
 use Rattle.std.proofs.Common.{◌≡◌, ◌∙◌, ℕ, ℤ, ◌+◌, ◌-◌, ◌*◌, ◌≤◌, List, ◌++◌, ap, sym, arith, length, take, drop, length-append, length-drop}
+use Rattle.std.proofs.Math.Seq.{take-append_seam}
 use Rattle.std.proofs.lemmas.List.{length-take-le}
-use Rattle.lane_teams.proofs.Refusals.{put_back}
+
+put_back : (n : ℕ) (xs ys : List ℤ) → n ≡ length xs → take n (xs ++ drop (length xs) ys) ≡ xs
+put_back n xs ys long = ap (λ k. take k (xs ++ drop (length xs) ys)) long ∙ take-append_seam xs (drop (length xs) ys)
 
 -- it has as many samples as before
 pub room_kept : (n k inside w h : ℕ) (items xs ys : List ℤ) → length xs ≡ n → xs ≡ items → k ≡ inside * h → inside ≡ w → w * h ≤ length items → length ys ≡ length (take k xs)
