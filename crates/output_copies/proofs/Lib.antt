@@ -2,7 +2,6 @@ pub mod Alike
 pub mod Copied
 pub mod Ends
 pub mod Goes
-pub mod Room
 pub mod Told
 pub mod Whole
 pub mod Written

@@ -1,8 +1,7 @@
-use Rattle.std.proofs.Common.{◌≡◌, ◌-◌, ap, arith}
+use Rattle.std.proofs.Common.{◌≡◌, ap, arith}
 use Rattle.lane_teams.proofs.Lanes.{lanes_kept}
 use Rattle.translate_plan.specs.Plan.{Planned}
 use Rattle.output_copies.proofs.Copied.{are_writable, filled_behind, may_come}
-use Rattle.output_copies.proofs.Room.{room_kept}
 use Rattle.output_copies.proofs.copying.copy_band.Goals as goal
 
 pub write_window-requires-clause-across : goal.write_window-requires-clause-across
@@ -37,18 +36,3 @@ returns-in_err-write_window-clause-ready g c = lanes_kept g.F.Folder c.args.tran
 
 pub returns-clause-ready : goal.returns-clause-ready
 returns-clause-ready g c = lanes_kept g.F.Folder c.args.translation.now.cat _ c.read_lines.new.folder c.write_window.new.folder c.write_window.ensures.names c.read_lines.ensures.ready
-
-pub returns-in_err-read_lines-clause-long : goal.returns-in_err-read_lines-clause-long
-returns-in_err-read_lines-clause-long g c =
-    room_kept c.args.copier.now.samples.len c.area.result c.plan.inside.size.w c.args.translation.now.plan.size.w (c.args.lines.end - c.args.lines.first) c.args.copier.now.samples.items c.as_mut_slice-samples.result.now c.read_lines.new.out
-    c.as_mut_slice-samples.ensures.len c.as_mut_slice-samples.ensures.value c.area.ensures.area (ap (λ (p : Planned). p.size.w) c.plan.view_is) c.requires.long c.read_lines.auto.out
-
-pub returns-in_err-write_window-clause-long : goal.returns-in_err-write_window-clause-long
-returns-in_err-write_window-clause-long g c =
-    room_kept c.args.copier.now.samples.len c.area.result c.plan.inside.size.w c.args.translation.now.plan.size.w (c.args.lines.end - c.args.lines.first) c.args.copier.now.samples.items c.as_mut_slice-samples.result.now c.read_lines.new.out
-    c.as_mut_slice-samples.ensures.len c.as_mut_slice-samples.ensures.value c.area.ensures.area (ap (λ (p : Planned). p.size.w) c.plan.view_is) c.requires.long c.read_lines.auto.out
-
-pub returns-clause-long : goal.returns-clause-long
-returns-clause-long g c =
-    room_kept c.args.copier.now.samples.len c.area.result c.plan.inside.size.w c.args.translation.now.plan.size.w (c.args.lines.end - c.args.lines.first) c.args.copier.now.samples.items c.as_mut_slice-samples.result.now c.read_lines.new.out
-    c.as_mut_slice-samples.ensures.len c.as_mut_slice-samples.ensures.value c.area.ensures.area (ap (λ (p : Planned). p.size.w) c.plan.view_is) c.requires.long c.read_lines.auto.out
