@@ -1,4 +1,4 @@
-# Completions of the four commands for bash: source this file.
+# Completions of the five commands for bash: source this file.
 
 _jirovamby() {
     local word=$2 before=$3 options='--config --blocks'
@@ -16,6 +16,7 @@ _jirovamby() {
         gdal_translate) options+=' -of -b -srcwin -projwin -outsize -ot -a_nodata -co -q -epo -eco' ;;
         gdalbuildvrt)
             options+=' -input_file_list -resolution -tr -te -b -separate -srcnodata -vrtnodata -strict -overwrite -q' ;;
+        synth) [[ $word == -* ]] || return ;; # a number
     esac
     if [[ $word == -* ]]; then
         mapfile -t COMPREPLY < <(compgen -W "$options" -- "$word")
@@ -24,4 +25,4 @@ _jirovamby() {
     fi
 }
 
-complete -o filenames -F _jirovamby gdalinfo gdal_translate gdalbuildvrt gdallocationinfo
+complete -o filenames -F _jirovamby gdalinfo gdal_translate gdalbuildvrt gdallocationinfo synth

@@ -15,7 +15,7 @@ import sys
 import tempfile
 
 TOP = os.path.dirname(os.path.dirname(os.path.realpath(__file__)))
-COMMANDS = ("gdalinfo", "gdal_translate", "gdalbuildvrt", "gdallocationinfo")
+COMMANDS = ("gdalinfo", "gdal_translate", "gdalbuildvrt", "gdallocationinfo", "synth")
 TRIED, FAILED = [], []
 
 # what docs/COMMANDS.md says is refused, with the line that tells it
@@ -73,6 +73,11 @@ REFUSALS = (
     ("gdalbuildvrt -srcnodata '0 0' no.vrt west.bil", WORD.format(2)),
     ("gdalbuildvrt -q -strict no.vrt west.bil grid.asc", "ERROR 1: grid.asc: skipped (bands)"),
     ("gdalbuildvrt no.vrt none.bil", "ERROR 4: none.bil: no such file"),
+    ("synth", WORD.format(1)),
+    ("synth 4097", WORD.format(1)),
+    ("synth -q 4", WORD.format(1)),
+    ("synth 4 5", WORD.format(2)),
+    ("synth --blocks 0 45", WORD.format(2)),
 )
 
 
@@ -125,7 +130,7 @@ def try_blocks(page):
 
 def try_tables(page):
     with open(f"{TOP}/{page}") as it:
-        for line in re.findall(r"^\| `-[^|]*\| `(gdal[^`]*)` \|", it.read(), re.M):
+        for line in re.findall(r"^\| `-[^|]*\| `((?:gdal|synth )[^`]*)` \|", it.read(), re.M):
             status, said = run(line)
             holds(line, status == 0, said)
 

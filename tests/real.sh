@@ -115,6 +115,15 @@ if [ -w /dev/full ]; then
     holds 'warnings to a stream that takes nothing' bash -c '"$0" gdalbuildvrt -q unwarned.vrt hills.bil placeless.bil 2>/dev/full && cmp -s unwarned.vrt skipped.vrt' "$program"
 fi
 
+# rasters from a number
+expect 'rasters from a number' 0 '' synth 45
+holds 'whose figures are known' test "$(cat out.txt)" = $'Size: 90 x 90\nValues: 6885\nSum: 4837725\nLeast: 0\nGreatest: 1880'
+mv synth_t2.bil kept.bil && mkdir synth_t2.bil
+expect 'a folder in the place of one of them' 2 'ERROR 3: a file call failed' synth 45
+rmdir synth_t2.bil
+expect 'the same without it, with one block' 0 '' synth --blocks 1 45
+holds 'which makes the same files' cmp -s kept.bil synth_t2.bil
+
 # documents read by GDAL itself, where it is installed
 if [ -x /usr/bin/gdalinfo ]; then
     expect 'a window of a raster as a document' 0 '' gdal_translate -q -of VRT -srcwin 1 2 5 4 hills.bil window.vrt

@@ -18,7 +18,7 @@ use Rattle.buildvrt.specs.Options.{Options as MosaicOptions}
 use Rattle.command_words.specs.declared.command.Job.{Job}
 use Rattle.command_words.specs.declared.command.Job.TheVariants as job
 use Rattle.command_words.specs.declared.options.Tool.{Tool}
-use Rattle.command_words.specs.declared.options.Tool.TheVariants.{Info, Locate, Translate, Build}
+use Rattle.command_words.specs.declared.options.Tool.TheVariants.{Info, Locate, Translate, Build, Synth}
 use Rattle.command_words.specs.declared.jobs.Asked.{Asked}
 use Rattle.command_words.specs.declared.jobs.AskedMosaic.{AskedMosaic}
 use Rattle.command_words.specs.declared.jobs.Written.{Written}
@@ -193,9 +193,15 @@ build_job count s = do
   asked ← asked_mosaic count s.mosaic s.band_at output.0 output.1
   Ok (job.Build inputs s.list (mosaic_options s.mosaic output.1 s.bands asked) s.quiet)
 
+unfoldable pub synth_job : ℕ → Spoken → Result Job WordFault
+synth_job count s = do
+  side ← ok_or s.tile (Usage count)
+  Ok (job.Synth side)
+
 -- the work that the words ask for, where none of them is missing, of which there are so many
 abbrev pub job_of : Tool → ℕ → Spoken → Result Job WordFault
 job_of Info count s = info_job count s
 job_of Locate count s = locate_job count s
 job_of Translate count s = translate_job count s
 job_of Build count s = build_job count s
+job_of Synth count s = synth_job count s

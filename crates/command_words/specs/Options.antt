@@ -1,18 +1,19 @@
 -- The commands and their options.
 use Rattle.std.specs.Prelude.{ℕ, List, [], ◌∷◌, codes, bytes_eq, Option, Some, None, if◌then◌else◌}
 use Rattle.command_words.specs.declared.options.Tool.{Tool}
-use Rattle.command_words.specs.declared.options.Tool.TheVariants.{Info, Locate, Translate, Build}
+use Rattle.command_words.specs.declared.options.Tool.TheVariants.{Info, Locate, Translate, Build, Synth}
 use Rattle.command_words.specs.declared.options.OptionWord.{OptionWord}
 use Rattle.command_words.specs.declared.options.OptionWord.TheVariants as option
 
 -- the command that a word names
 abbrev pub tool_of : List ℕ → Option Tool
-tool_of word = if bytes_eq word (codes "gdalinfo") then Some Info else if bytes_eq word (codes "gdallocationinfo") then Some Locate else if bytes_eq word (codes "gdal_translate") then Some Translate else if bytes_eq word (codes "gdalbuildvrt") then Some Build else None
+tool_of word = if bytes_eq word (codes "gdalinfo") then Some Info else if bytes_eq word (codes "gdallocationinfo") then Some Locate else if bytes_eq word (codes "gdal_translate") then Some Translate else if bytes_eq word (codes "gdalbuildvrt") then Some Build else if bytes_eq word (codes "synth") then Some Synth else None
 
 -- the options of all commands
 abbrev pub shared_options : List (List ℕ × OptionWord)
 shared_options = (codes "--config", option.Config)
     ∷ (codes "--blocks", option.Blocks)
+    ∷ (codes "--workers", option.Workers)
     ∷ []
 
 -- those of gdallocationinfo alone
@@ -64,6 +65,7 @@ own_option_of Info word = None
 own_option_of Locate word = option_in locate_options word
 own_option_of Translate word = option_in translate_options word
 own_option_of Build word = option_in build_options word
+own_option_of Synth word = None
 
 abbrev pub either_option : Option OptionWord → Option OptionWord → Option OptionWord
 either_option (Some option) own = Some option
@@ -80,6 +82,7 @@ option_of tool word = either_option (shared_option_of word) (own_option_of tool 
 abbrev pub value_count : OptionWord → ℕ
 value_count option.Config = 2
 value_count option.Blocks = 1
+value_count option.Workers = 1
 value_count option.Band = 1
 value_count option.ValuesOnly = 0
 value_count option.FilesOnly = 0

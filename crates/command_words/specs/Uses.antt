@@ -12,7 +12,7 @@ use Rattle.translate_plan.specs.declared.options.OutSize.{OutSize}
 use Rattle.buildvrt.specs.declared.options.Resolution.{Resolution}
 use Rattle.buildvrt.specs.declared.options.Extent.{Extent}
 use Rattle.command_words.specs.declared.options.Tool.{Tool}
-use Rattle.command_words.specs.declared.options.Tool.TheVariants.{Info, Locate, Translate, Build}
+use Rattle.command_words.specs.declared.options.Tool.TheVariants.{Info, Locate, Translate, Build, Synth}
 use Rattle.command_words.specs.declared.options.OptionWord.{OptionWord}
 use Rattle.command_words.specs.declared.spoken.MosaicSaid.{MosaicSaid}
 use Rattle.command_words.specs.declared.spoken.MosaicSaid.TheVariants as mosaic
@@ -27,7 +27,7 @@ use Rattle.command_words.specs.declared.spoken.WordFault.{WordFault}
 use Rattle.command_words.specs.declared.spoken.WordFault.TheVariants.{Usage}
 use Rattle.command_words.specs.Options.{option_of, value_count}
 use Rattle.command_words.specs.Said.{option_said}
-use Rattle.command_words.specs.Values.{begins_with_dash, name_of}
+use Rattle.command_words.specs.Values.{begins_with_dash, name_of, tile_side_of}
 
 -- a word that isn't the value of an option: its number, the option that it is, if it is one, and its values, which may end early
 pub record Use : Type 0 where
@@ -53,12 +53,13 @@ may_be_negative Info word = false
 may_be_negative Locate word = is_decimal word
 may_be_negative Translate word = false
 may_be_negative Build word = false
+may_be_negative Synth word = false
 
 -- whether a word that is no option is positional
 abbrev pub is_positional : Tool → List ℕ → Bool
 is_positional tool word = not (begins_with_dash word) || may_be_negative tool word
 
--- a positional word as the name of a dataset, as that of an output, as one of many inputs, and as a number of a point
+-- a positional word as the name of a dataset, as that of an output, as one of many inputs, as a number of a point, and as the side of a tile
 abbrev pub source_said : List ℕ → Option Said
 source_said word = option_map (λ name. said.Source name) (name_of word)
 
@@ -74,12 +75,16 @@ x_said word = option_map (λ x. said.X x) (ticks_of word)
 abbrev pub y_said : List ℕ → Option Said
 y_said word = option_map (λ y. said.Y y) (ticks_of word)
 
+abbrev pub tile_said : List ℕ → Option Said
+tile_said word = option_map (λ n. said.Tile n) (tile_side_of word)
+
 -- a positional word behind so many others, where there is a place for it and it is of the form
 abbrev pub placed : Tool → ℕ → List ℕ → Option Said
 placed Info before word = if before == 0 then source_said word else None
 placed Locate before word = if before == 0 then source_said word else if before == 1 then x_said word else if before == 2 then y_said word else None
 placed Translate before word = if before == 0 then source_said word else if before == 1 then output_said word else None
 placed Build before word = if before == 0 then output_said word else input_said word
+placed Synth before word = if before == 0 then tile_said word else None
 
 -- what a positional word behind so many others says
 unfoldable pub placed_said : Tool → ℕ → ℕ → List ℕ → Result Said WordFault
@@ -116,6 +121,10 @@ verification at other = None
 abbrev pub block_count : ℕ → Said → Option ℕ
 block_count at (said.Blocks blocks) = Some blocks
 block_count at other = None
+
+abbrev pub worker_count : ℕ → Said → Option ℕ
+worker_count at (said.Workers workers) = Some workers
+worker_count at other = None
 
 abbrev pub band_place : ℕ → Said → Option ℕ
 band_place at (said.Band band) = Some at
@@ -274,6 +283,7 @@ unfoldable pub spoken_of : List (ℕ × Said) → Spoken
 spoken_of uses = record {
   verify = unwrap_or (last verification uses) false;
   blocks = unwrap_or (last block_count uses) 64;
+  workers = unwrap_or (last worker_count uses) 1;
   bands = bands_said uses;
   band_at = last band_place uses;
   values_only = last values_only uses;
@@ -306,6 +316,7 @@ abbrev pub with_said : ℕ → Said → Spoken → Spoken
 with_said at said.Setting s = s
 with_said at (said.Verification on) s = record s { verify = on }
 with_said at (said.Blocks blocks) s = record s { blocks = blocks }
+with_said at (said.Workers workers) s = record s { workers = workers }
 with_said at (said.Band band) s = record s { bands = s.bands ++ band ∷ []; band_at = Some at }
 with_said at said.ValuesOnly s = record s { values_only = Some at }
 with_said at said.FilesOnly s = record s { files_only = Some at }

@@ -2,9 +2,11 @@
 use crate::numbers::{BandNumber, BlockCount};
 use buildvrt::BuildOptions;
 use input_points::Position;
+use lane_teams::WorkerCount;
 use lists_and_answers::Items;
 use location_report::Form;
 use outside::{Name, Names};
+use synthetic_rasters::TileSide;
 use translate_plan::TranslateOptions;
 
 /// Numbers of bands, in the order in which the words give them.
@@ -40,6 +42,11 @@ pub enum Job {
         options: BuildOptions,
         quiet: bool,
     },
+    /// Rasters made from a number, mosaics of them and a copy, with what is told of it. `side` is the side of a tile
+    /// in pixels.
+    Synth {
+        side: TileSide,
+    },
 }
 
 /// A command line that fits.
@@ -50,4 +57,6 @@ pub struct Command {
     pub verify: bool,
     /// How many blocks of pixels are held at once. Nothing that is printed depends on it.
     pub blocks: BlockCount,
+    /// How many workers read a translation's lines beside each other. Nothing that is printed depends on it.
+    pub workers: WorkerCount,
 }

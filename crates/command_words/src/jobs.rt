@@ -3,7 +3,7 @@ ghost use Rattle.std.specs.Prelude.{◌≡◌, ◌<◌, ◌≤◌, All, IfSome, 
 ghost use Rattle.lists_and_answers.specs.Answers.{Gives};
 ghost use Rattle.translate_plan.specs.Options.{IsDriver, IsView, IsOutSize};
 ghost use Rattle.buildvrt.specs.Options.{IsResolution, IsExtent, IsWord};
-ghost use Rattle.command_words.specs.Jobs.{point_of, form_of, raw_in, cell_at, written_as, is_same_format, of_format, written_of, view_of, layout_in, asked_of, info_job, locate_job, translate_job, inputs_of, separate_of, named_resolution, given_resolution, resolution_of, asked_mosaic, build_job, job_of};
+ghost use Rattle.command_words.specs.Jobs.{point_of, form_of, raw_in, cell_at, written_as, is_same_format, of_format, written_of, view_of, layout_in, asked_of, info_job, locate_job, translate_job, inputs_of, separate_of, named_resolution, given_resolution, resolution_of, asked_mosaic, build_job, synth_job, job_of};
 ghost use Rattle.command_words.specs.Words.{IsMemory};
 
 use crate::command::Job;
@@ -454,6 +454,17 @@ fn build_job(alloc: Global, count: u64, said: Spoken) -> Result<Job, WordFault>
     })
 }
 
+#[tactic(auto, unfolding(crate::specs::Jobs::synth_job))]
+fn synth_job(count: u64, said: Spoken) -> Result<Job, WordFault>
+    ensures { result ≡ synth_job count said }
+{
+    let Spoken { tile, .. } = said;
+    match tile {
+        Some(side) => Ok(Job::Synth { side }),
+        None => Err(WordFault::Usage { word: count }),
+    }
+}
+
 /// The work that the words ask for, of which there are so many.
 pub fn job_of(alloc: Global, tool: Tool, count: u64, said: Spoken) -> Result<Job, WordFault>
     ensures { Gives IsMemory (λ job. job) result (job_of tool count said) }
@@ -463,5 +474,6 @@ pub fn job_of(alloc: Global, tool: Tool, count: u64, said: Spoken) -> Result<Job
         Tool::Locate => locate_job(count, said),
         Tool::Translate => translate_job(alloc, count, said),
         Tool::Build => build_job(alloc, count, said),
+        Tool::Synth => synth_job(count, said),
     }
 }

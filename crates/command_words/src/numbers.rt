@@ -100,46 +100,6 @@ impl BlockCount {
     }
 }
 
-/// The side of the tiles that `synth` makes, from 1 to 4,096.
-#[derive(Clone, Copy)]
-pub struct SynthSide {
-    number: u32,
-}
-
-impl Model for SynthSide {
-    ghost use Rattle.std.specs.Prelude.{ℕ, ◌≤◌};
-
-    ghost Value = { ℕ };
-
-    ghost view = { λ b. b.number };
-
-    ghost invariant = { λ b. (1 ≤ b.number) × (b.number ≤ 4096) };
-
-    ghost inverse = { λ n. record { number = n } };
-}
-
-impl SynthSide {
-    /// The number where it is from 1 to 4,096, else none.
-    pub fn new(number: u32) -> Option<SynthSide>
-        ensures exact { result ≡ (if nat_le 1 number && nat_le number 4096 then Some number else None) }
-    {
-        if number >= 1 && number <= 4096 {
-            Some(SynthSide { number })
-        } else {
-            None
-        }
-    }
-
-    /// The number.
-    pub fn get(self) -> u32
-        ensures value { result ≡ self }
-        ensures some { 1 ≤ result }
-        ensures few { result ≤ 4096 }
-    {
-        self.number
-    }
-}
-
 /// A window with numbers as words give them.
 #[derive(Clone, Copy)]
 pub struct AskedView {

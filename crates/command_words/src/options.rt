@@ -9,6 +9,7 @@ pub enum Tool {
     Locate,
     Translate,
     Build,
+    Synth,
 }
 
 /// An option's name.
@@ -16,6 +17,7 @@ pub enum Tool {
 pub enum OptionWord {
     Config,
     Blocks,
+    Workers,
     Band,
     ValuesOnly,
     FilesOnly,
@@ -62,6 +64,7 @@ pub fn tool_of(word: &str) -> Option<Tool>
         _ if word == "gdallocationinfo" => Some(Tool::Locate),
         _ if word == "gdal_translate" => Some(Tool::Translate),
         _ if word == "gdalbuildvrt" => Some(Tool::Build),
+        _ if word == "synth" => Some(Tool::Synth),
         _ => None,
     }
 }
@@ -73,6 +76,7 @@ fn shared_option_of(word: &str) -> Option<OptionWord>
     match word {
         _ if word == "--config" => Some(OptionWord::Config),
         _ if word == "--blocks" => Some(OptionWord::Blocks),
+        _ if word == "--workers" => Some(OptionWord::Workers),
         _ => None,
     }
 }
@@ -132,7 +136,7 @@ fn own_option_of(tool: Tool, word: &str) -> Option<OptionWord>
     ensures { result ≡ own_option_of tool word.now }
 {
     match tool {
-        Tool::Info => None,
+        Tool::Info | Tool::Synth => None,
         Tool::Locate => locate_option_of(word),
         Tool::Translate => translate_option_of(word),
         Tool::Build => build_option_of(word),
@@ -165,6 +169,7 @@ pub fn value_count(option: OptionWord) -> usize
         | OptionWord::Strict
         | OptionWord::Overwrite => 0,
         OptionWord::Blocks
+        | OptionWord::Workers
         | OptionWord::Band
         | OptionWord::Format
         | OptionWord::Nodata

@@ -4,13 +4,15 @@ ghost use Rattle.command_words.specs.declared.spoken.WordFault.TheVariants as wo
 
 use crate::command::BandNumbers;
 use crate::numbers::{
-    AskedExtent, AskedNodata, AskedResolution, AskedView, BandNumber, BlockCount, Side, SynthSide,
+    AskedExtent, AskedNodata, AskedResolution, AskedView, BandNumber, BlockCount, Side,
 };
 use esri_hdr::Layout;
 use geotransform::PixelType;
 use input_points::Position;
+use lane_teams::WorkerCount;
 use outside::{Name, Names};
 use std::alloc::AllocError;
+use synthetic_rasters::TileSide;
 
 /// A format that an output may be asked to have.
 #[derive(Clone, Copy, Debug, PartialEq, Eq)]
@@ -61,6 +63,7 @@ pub enum Said {
     /// Whether the sums of records are to be checked.
     Verification(bool),
     Blocks(BlockCount),
+    Workers(WorkerCount),
     Band(BandNumber),
     ValuesOnly,
     FilesOnly,
@@ -83,7 +86,8 @@ pub enum Said {
     Input(Name),
     X(Position),
     Y(Position),
-    Tile(SynthSide),
+    /// The side of a tile.
+    Tile(TileSide),
 }
 
 /// What is wanted of a translation: the last of each option, some with the number of its word.
@@ -117,6 +121,7 @@ pub struct MosaicWanted {
 pub struct Spoken {
     pub verify: bool,
     pub blocks: BlockCount,
+    pub workers: WorkerCount,
     pub bands: BandNumbers,
     /// The number of the word that chose the last band.
     pub band_at: Option<u64>,
@@ -132,7 +137,7 @@ pub struct Spoken {
     pub output: Option<(u64, Name)>,
     pub x: Option<Position>,
     pub y: Option<Position>,
-    pub tile: Option<SynthSide>,
+    pub tile: Option<TileSide>,
 }
 
 /// Why words are no command.

@@ -2,7 +2,7 @@
 ghost use Rattle.std.specs.Prelude.{◌≡◌, ◌+◌, ◌-◌, ◌<◌, ◌≤◌, ◌^◌, [], length, map, take, drop, string_bytes, ok_or, Ok};
 ghost use Rattle.lists_and_answers.specs.Answers.{Gives};
 ghost use Rattle.command_words.specs.Options.{option_of};
-ghost use Rattle.command_words.specs.Uses.{may_be_negative, is_positional, source_said, output_said, input_said, x_said, y_said, placed, placed_said, said_by, taken_by, behind_use, with_mosaic, with_said, wanted_of, mosaic_of, spoken_of, spoken_in};
+ghost use Rattle.command_words.specs.Uses.{may_be_negative, is_positional, source_said, output_said, input_said, x_said, y_said, tile_said, placed, placed_said, said_by, taken_by, behind_use, with_mosaic, with_said, wanted_of, mosaic_of, spoken_of, spoken_in};
 ghost use Rattle.command_words.specs.Words.{IsMemory};
 
 use crate::command::BandNumbers;
@@ -10,10 +10,11 @@ use crate::numbers::{AskedNodata, BlockCount};
 use crate::options::{OptionWord, Tool, option_of, value_count};
 use crate::said::option_said;
 use crate::spoken::{MosaicSaid, MosaicWanted, Said, Spoken, Spot, Wanted, WordFault};
-use crate::values::{begins_with_dash, read_name};
+use crate::values::{begins_with_dash, read_name, tile_side_of};
 use catalog::NodataWord;
 use geotransform::is_decimal;
 use input_points::Position;
+use lane_teams::WorkerCount;
 use outside::Names;
 use std::alloc::Global;
 
@@ -21,7 +22,7 @@ fn may_be_negative(tool: Tool, word: &[u8]) -> bool
     ensures { result ≡ may_be_negative tool word.now }
 {
     match tool {
-        Tool::Info | Tool::Translate | Tool::Build => false,
+        Tool::Info | Tool::Translate | Tool::Build | Tool::Synth => false,
         Tool::Locate => is_decimal(word),
     }
 }
@@ -77,6 +78,15 @@ fn y_said(at: u64, word: &str) -> Result<Said, WordFault>
     }
 }
 
+fn tile_said(at: u64, word: &str) -> Result<Said, WordFault>
+    ensures { result ≡ ok_or (tile_said word.now) (WordFault.Usage at) }
+{
+    match tile_side_of(word.as_bytes()) {
+        Some(n) => Ok(Said::Tile(n)),
+        None => Err(WordFault::Usage { word: at }),
+    }
+}
+
 // A positional word behind so many others.
 fn placed(alloc: Global, tool: Tool, before: u64, at: u64, word: &str) -> Result<Said, WordFault>
     ensures { Gives IsMemory (λ s. s) result (ok_or (placed tool before word.now) (WordFault.Usage at)) }
@@ -84,11 +94,14 @@ fn placed(alloc: Global, tool: Tool, before: u64, at: u64, word: &str) -> Result
     match tool {
         Tool::Build if before == 0 => output_said(alloc, at, word),
         Tool::Build => input_said(alloc, at, word),
+        Tool::Synth if before == 0 => tile_said(at, word),
         Tool::Info | Tool::Locate | Tool::Translate if before == 0 => source_said(alloc, at, word),
         Tool::Locate if before == 1 => x_said(at, word),
         Tool::Locate if before == 2 => y_said(at, word),
         Tool::Translate if before == 1 => output_said(alloc, at, word),
-        Tool::Info | Tool::Locate | Tool::Translate => Err(WordFault::Usage { word: at }),
+        Tool::Info | Tool::Locate | Tool::Translate | Tool::Synth => {
+            Err(WordFault::Usage { word: at })
+        }
     }
 }
 
@@ -133,6 +146,7 @@ fn with_said(at: u64, said: Said, mut all: Spoken) -> Result<Spoken, WordFault>
         Said::Setting => {}
         Said::Verification(on) => all.verify = on,
         Said::Blocks(blocks) => all.blocks = blocks,
+        Said::Workers(workers) => all.workers = workers,
         Said::Band(band) => {
             all.bands.push(band)?;
             all.band_at = Some(at);
@@ -199,6 +213,7 @@ fn nothing_said(alloc: Global) -> Spoken
     Spoken {
         verify: false,
         blocks: BlockCount::USUAL,
+        workers: WorkerCount::USUAL,
         bands: BandNumbers::new(alloc),
         band_at: None,
         values_only: None,

@@ -7,7 +7,7 @@ mod mosaic;
 mod putting;
 mod walks;
 
-pub use making::{Building, Made};
+pub use making::{Building, Made, make};
 pub use mosaic::mosaic_of_walked;
 pub use putting::put_mosaic;
 pub use walks::walk_all;

@@ -27,6 +27,8 @@ mod raw;
 #[cfg(test)]
 mod stories;
 #[cfg(test)]
+mod synth;
+#[cfg(test)]
 mod translated_cells;
 #[cfg(test)]
 mod translation_faults;
