@@ -118,6 +118,9 @@ fi
 # rasters from a number
 expect 'rasters from a number' 0 '' synth 45
 holds 'whose figures are known' test "$(cat out.txt)" = $'Size: 90 x 90\nValues: 6885\nSum: 4837725\nLeast: 0\nGreatest: 1880'
+expect 'rasters of 2,000 x 2,000' 0 '' synth 1000 --blocks 8192
+holds 'whose figures are known too' test "$(cat out.txt)" = $'Size: 2000 x 2000\nValues: 3400000\nSum: 2498300000\nLeast: 0\nGreatest: 1999'
+expect 'smaller ones in their place' 0 '' synth 45
 mv synth_t2.bil kept.bil && mkdir synth_t2.bil
 expect 'a folder in the place of one of them' 2 'ERROR 3: a file call failed' synth 45
 rmdir synth_t2.bil
