@@ -1,5 +1,5 @@
 -- The mosaic of the tiles is built of them.
-use Rattle.std.proofs.Common.{◌≡◌, ◌∙◌, ap, refl, ℕ, ◌<◌, Bool, true, false, List, [], ◌∷◌, ◌++◌, length, map, Option, Some, None, Result, Ok, Err, cond, arith}
+use Rattle.std.proofs.Common.{◌≡◌, ◌∙◌, ap, sym, refl, ℕ, ◌<◌, Bool, true, false, List, [], ◌∷◌, ◌++◌, length, map, Option, Some, None, Result, Ok, Err, cond, arith}
 use Rattle.std.specs.Prelude.{nat_lt}
 use Rattle.std.proofs.lemmas.Bool.Decides.{nat_tests}
 use Rattle.lists_and_answers.specs.Answers.{◌>>=◌}
@@ -16,7 +16,9 @@ use Rattle.catalog.specs.declared.kind.Kind.TheVariants as kinds
 use Rattle.catalog.specs.declared.driver.DriverHead.TheVariants as drivers
 use Rattle.catalog.specs.declared.driver.Content.{Content}
 use Rattle.catalog.specs.declared.driver.Content.TheVariants.{File}
+use Rattle.catalog.specs.declared.faults.LimitKind.TheVariants as limits
 use Rattle.catalog.specs.declared.faults.WalkFault.{WalkFault}
+use Rattle.catalog.specs.declared.faults.WalkFault.TheVariants.{Limit}
 use Rattle.buildvrt.specs.Mosaic.{mosaic_of}
 use Rattle.buildvrt.specs.declared.faults.BuildFault.{BuildFault}
 use Rattle.buildvrt.specs.declared.faults.Skipped.{Skipped}
@@ -42,7 +44,7 @@ first_visit m verify more met name d h kind fresh few read content =
     let by_kind : dataset_by kinds.Raw m verify name ≡ Ok d = ap (λ (k : Result Kind WalkFault). k >>= λ kind. dataset_by kind m verify name) (sym kind) ∙ read in
     ap (λ (k : Result Kind WalkFault). k >>= λ kind. met_or_first more m verify 16 kind [] met name (number_of met.datasets name)) kind
     ∙ ap (met_or_first more m verify 16 kinds.Raw [] met name) fresh
-    ∙ ap (λ (b : Bool). cond b (Ok tt) (Err _) >>= λ room. (dataset_by kinds.Raw m verify name >>= λ d. visit_sources (more (name ∷ [])) name (record { datasets = met.datasets ++ d ∷ []; sources = met.sources }) (sources_in d.content))) (below (length met.datasets) 65536 few)
+    ∙ ap (λ (b : Bool). cond b (Ok tt) (Err (Limit limits.Files 65537)) >>= λ room. (dataset_by kinds.Raw m verify name >>= λ d. visit_sources (more (name ∷ [])) name (record { datasets = met.datasets ++ d ∷ []; sources = met.sources }) (sources_in d.content))) (below (length met.datasets) 65536 few)
     ∙ ap (λ (r : Result Dataset WalkFault). r >>= λ d. visit_sources (more (name ∷ [])) name (record { datasets = met.datasets ++ d ∷ []; sources = met.sources }) (sources_in d.content)) by_kind
     ∙ ap (λ (c : Content). visit_sources (more (name ∷ [])) name (record { datasets = met.datasets ++ d ∷ []; sources = met.sources }) (sources_in c)) content
 

@@ -54,7 +54,7 @@ header_given n (suc (suc (suc (suc t)))) less before = absurd (omega (arith, les
 
 tiles_stand : (n : ℕ) (m : Files) → TilesStand n (applied (tiles_files n) m)
 tiles_stand n m = record {
-  data = λ t less. get_applied (tiles_files n) m (tile_name t) ∙ tile_given n t less (get m (tile_name t));
+  samples = λ t less. get_applied (tiles_files n) m (tile_name t) ∙ tile_given n t less (get m (tile_name t));
   header = λ t less. get_applied (tiles_files n) m (header_of (tile_name t)) ∙ header_given n t less (get m (header_of (tile_name t)));
 }
 
@@ -83,7 +83,7 @@ header_left n (suc (suc (suc (suc t)))) less before = absurd (omega (arith, less
 mosaics_stand : (n : ℕ) (m : Files) → TilesStand n m → MosaicsStand n (with_mosaics n m)
 mosaics_stand n m stand = record {
   tiles = record {
-    data = λ t less. get_applied (mosaic_files n) m (tile_name t) ∙ tile_left n t less (get m (tile_name t)) ∙ stand.data t less;
+    samples = λ t less. get_applied (mosaic_files n) m (tile_name t) ∙ tile_left n t less (get m (tile_name t)) ∙ stand.samples t less;
     header = λ t less. get_applied (mosaic_files n) m (header_of (tile_name t)) ∙ header_left n t less (get m (header_of (tile_name t))) ∙ stand.header t less;
   };
   inner = get_applied (mosaic_files n) m inner_name;

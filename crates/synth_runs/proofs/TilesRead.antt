@@ -27,14 +27,14 @@ use Rattle.catalog.specs.declared.driver.DriverHead.TheVariants as drivers
 use Rattle.catalog.specs.declared.driver.Content.TheVariants.{File}
 use Rattle.catalog.specs.declared.faults.Bad.TheVariants as bad
 use Rattle.catalog.specs.declared.faults.WalkFault.{WalkFault}
-use Rattle.catalog.specs.declared.faults.WalkFault.TheVariants.{Absent, Malformed}
+use Rattle.catalog.specs.declared.faults.WalkFault.TheVariants.{Absent, Malformed, Short}
 use Rattle.synthetic_rasters.specs.Names.{tile_name}
 use Rattle.synthetic_rasters.specs.Tiles.{IsSide, nodata, tile_place, tile_head, tile_sample, line_bytes, tile_data}
 use Rattle.synth_runs.proofs.Standing.{TilesStand, tile_dataset}
 
 -- pieces that are all as long
 pieces_long : {T : Type 0} (f : ℕ → List T) (k a n : ℕ) → ((i : ℕ) → length (f i) ≡ k) → length (flat_map f (range_with_len a n)) ≡ n * k
-pieces_long f k a zero each = refl
+pieces_long f k a zero each = omega arith
 pieces_long f k a (suc n) each = length-append (f a) (flat_map f (range_with_len (a + 1) n)) ∙ omega (arith, each a, pieces_long f k (a + 1) n each)
 
 -- the bytes of a tile, two for each sample
@@ -42,9 +42,11 @@ tile_long : (n t : ℕ) → length (tile_data n t) ≡ n * (n * 2)
 unfolding tile_data
 tile_long n t = pieces_long (line_bytes n t) (n * 2) 0 n (λ y. pieces_long (λ x. sample_bytes (tile_head n t) (tile_sample t x y)) 2 0 n (λ x. sample_bytes_len (tile_head n t) (tile_sample t x y)))
 
+last_sample : (n k : ℕ) → n ≡ k + 1 → 0 + k * (1 * (n * 2)) + (1 - 1) * (n * 2) + k * 2 + 2 ≡ n * (n * 2)
+last_sample n k is = rw is (omega arith)
+
 needed : (n t : ℕ) → IsSide n → needed_of (tile_head n t) ≡ n * (n * 2)
-needed zero t side = absurd (omega (arith, side.some))
-needed (suc n) t side = omega arith
+needed n t side = last_sample n (n - 1) (omega (arith, side.some))
 
 never_below : (a b : ℕ) → a ≡ b → nat_lt a b ≡ false
 never_below a b is = grind (arith, nat_tests)
@@ -74,9 +76,9 @@ header_found m name h at is =
 raw_found : (m : Files) (name bytes : List ℕ) (h : Head) → get m name ≡ Some bytes → header_in m (header_of name) ≡ Ok h → nat_lt (length bytes) (needed_of h) ≡ false → raw_in m name ≡ Ok (record { content = File (drivers.Raw h); length = length bytes })
 unfolding raw_in
 raw_found m name bytes h at header long =
-    ap (λ (o : Option (List ℕ)). ok_or o (Absent name) >>= λ data. (header_in m (header_of name) >>= λ head. (long_enough (needed_of head) data name >>= λ enough. Ok (record { content = File (drivers.Raw head); length = length data })))) at
+    ap (λ (o : Option (List ℕ)). ok_or o (Absent name) >>= λ read. (header_in m (header_of name) >>= λ head. (long_enough (needed_of head) read name >>= λ enough. Ok (record { content = File (drivers.Raw head); length = length read })))) at
     ∙ ap (λ (r : Result Head WalkFault). r >>= λ head. (long_enough (needed_of head) bytes name >>= λ enough. Ok (record { content = File (drivers.Raw head); length = length bytes }))) header
-    ∙ ap (λ (short : Bool). cond short (Err _) (Ok tt) >>= λ enough. Ok (record { content = File (drivers.Raw h); length = length bytes })) long
+    ∙ ap (λ (short : Bool). cond short (Err (Short name (needed_of h) (length bytes))) (Ok tt) >>= λ enough. Ok (record { content = File (drivers.Raw h); length = length bytes })) long
 
 pub raw_dataset : (m : Files) (verify : Bool) (name : List ℕ) (found : Found) → kind_in name ≡ Ok kinds.Raw → raw_in m name ≡ Ok found → dataset_in m verify name ≡ Ok (dataset_of name found)
 unfolding dataset_in dataset_by
@@ -98,4 +100,4 @@ pub tile_reads : (n t : ℕ) → IsSide n → t < 4 → (m : Files) → (verify 
 tile_reads n t side less m verify stand =
     let header : header_in m (header_of (tile_name t)) ≡ Ok (tile_head n t) = header_found m (header_of (tile_name t)) (tile_head n t) (stand.header t less) (tile_is_head n t side) in
     raw_dataset m verify (tile_name t) (record { content = File (drivers.Raw (tile_head n t)); length = length (tile_data n t) }) (tile_kind t less)
-    (raw_found m (tile_name t) (tile_data n t) (tile_head n t) (stand.data t less) header (enough n t side))
+    (raw_found m (tile_name t) (tile_data n t) (tile_head n t) (stand.samples t less) header (enough n t side))
