@@ -1,5 +1,5 @@
 -- The mosaic of the tiles is built of them.
-use Rattle.std.proofs.Common.{◌≡◌, ◌∙◌, ap, sym, refl, ℕ, ◌<◌, Bool, true, false, List, [], ◌∷◌, ◌++◌, length, map, Option, Some, None, Result, Ok, Err, cond, arith}
+use Rattle.std.proofs.Common.{◌≡◌, ◌∙◌, ap, sym, refl, ℕ, ◌<◌, Bool, true, false, List, [], ◌∷◌, ◌++◌, length, map, None, Result, Ok, Err, cond, arith}
 use Rattle.std.specs.Prelude.{nat_lt}
 use Rattle.std.proofs.lemmas.Bool.Decides.{nat_tests}
 use Rattle.lists_and_answers.specs.Answers.{◌>>=◌}
@@ -10,7 +10,7 @@ use Rattle.vrt_profile.specs.Values.{DocumentValue}
 use Rattle.catalog.specs.Dataset.{DatasetHead}
 use Rattle.catalog.specs.Drivers.{Dataset, dataset_of}
 use Rattle.catalog.specs.Heads.{kind_in, dataset_by, dataset_in}
-use Rattle.catalog.specs.Walk.{number_of, met_or_first, one_more_in, visit, visit_sources, sources_in, sources_among, first_met, visit_step, walked, Met, met_in}
+use Rattle.catalog.specs.Walk.{number_of, met_or_first, visit, visit_sources, sources_in, first_met, visit_step, walked, Met, met_in}
 use Rattle.catalog.specs.declared.kind.Kind.{Kind}
 use Rattle.catalog.specs.declared.kind.Kind.TheVariants as kinds
 use Rattle.catalog.specs.declared.driver.DriverHead.TheVariants as drivers
@@ -31,7 +31,7 @@ use Rattle.mosaic_builds.specs.Walks.{walked_all, heads_of}
 use Rattle.synthetic_rasters.specs.Names.{tile_name, tile_names, inner_name}
 use Rattle.synthetic_rasters.specs.Tiles.{IsSide, tile_head, tile_data}
 use Rattle.synth_runs.specs.Runs.{inner_options}
-use Rattle.synth_runs.proofs.Standing.{TilesStand, tile_dataset, tile_heads, inner_document}
+use Rattle.synth_runs.proofs.Standing.{TilesStand, tile_heads, inner_document}
 use Rattle.synth_runs.proofs.TilesRead.{tile_kind, tile_reads}
 
 below : (a b : ℕ) → a < b → nat_lt a b ≡ true

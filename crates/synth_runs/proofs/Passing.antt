@@ -1,5 +1,5 @@
 -- The run from a number is refused by nothing where its mosaics are made and its copy is read.
-use Rattle.std.proofs.Common.{◌≡◌, ◌∙◌, ap, sym, subst, refl, ℕ, zero, suc, ◌<◌, Bool, true, false, cond, List, [], ◌∷◌, Option, Some, None, Ok, Result, arith}
+use Rattle.std.proofs.Common.{◌≡◌, ◌∙◌, ap, sym, subst, refl, ℕ, zero, suc, ◌<◌, true, false, cond, List, [], ◌∷◌, Option, Some, None, Ok, Result, arith}
 use Rattle.std.specs.Cmp.Lexicographic.{slice_cmp, nat_list_cmp_total}
 use Rattle.std.specs.FinMap.{get, insert, get-insert}
 use Rattle.std.specs.Ordering.{nat_cmp, eq_by_cmp}
@@ -11,8 +11,8 @@ use Rattle.catalog.specs.Drivers.{Dataset}
 use Rattle.buildvrt.specs.Mosaic.{mosaic_of}
 use Rattle.error_lines.specs.declared.faults.Fault.{Fault}
 use Rattle.error_lines.specs.Steps.{Step, Publishes, Done, all_done, published, publishes, applied}
-use Rattle.mosaic_builds.specs.Built.{Built, built_in}
-use Rattle.synthetic_rasters.specs.Names.{tile_name, tile_names, inner_name, outer_name, output_name}
+use Rattle.mosaic_builds.specs.Built.{Built}
+use Rattle.synthetic_rasters.specs.Names.{tile_name, inner_name, outer_name, output_name}
 use Rattle.synthetic_rasters.specs.Outer.{outer_document}
 use Rattle.synthetic_rasters.specs.Tiles.{IsSide, tile_head, tile_data, tiles_files}
 use Rattle.translation_runs.specs.Judged.{Judged, translation_judged, translation_done}

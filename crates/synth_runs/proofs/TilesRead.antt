@@ -1,5 +1,5 @@
 -- The tiles are read as what they were written from.
-use Rattle.std.proofs.Common.{◌≡◌, ◌∙◌, ap, refl, ℕ, ℤ, zero, suc, ◌+◌, ◌-◌, ◌*◌, ◌<◌, ◌≤◌, Bool, true, false, List, [], ◌∷◌, ◌++◌, length, Option, Some, Result, Ok, Err, cond, arith}
+use Rattle.std.proofs.Common.{◌≡◌, ◌∙◌, ap, refl, ℕ, zero, suc, ◌+◌, ◌-◌, ◌*◌, ◌<◌, Bool, false, List, length, Option, Some, Result, Ok, Err, cond, arith}
 use Rattle.std.specs.Prelude.{flat_map, nat_lt, ok_or}
 use Rattle.std.specs.FinMap.{get}
 use Rattle.std.specs.List.{range_with_len}
@@ -18,7 +18,7 @@ use Rattle.esri_hdr.proofs.HeadAgain.{hdr_again}
 use Rattle.esri_hdr.proofs.Heads.{held_fits, plain_is_head}
 use Rattle.interleaved_raw.specs.Raw.{needed_of, sample_bytes}
 use Rattle.interleaved_raw.proofs.Writes.{sample_bytes_len}
-use Rattle.catalog.specs.Drivers.{Dataset, dataset_of}
+use Rattle.catalog.specs.Drivers.{dataset_of}
 use Rattle.catalog.specs.Heads.{named, kind_in, header_in, long_enough, raw_in, dataset_by, dataset_in}
 use Rattle.catalog.specs.declared.kind.Kind.{Kind}
 use Rattle.catalog.specs.declared.kind.Kind.TheVariants as kinds
