@@ -1,5 +1,5 @@
 -- The mosaic that is made of the tiles.
-use Rattle.std.proofs.Common.{◌≡◌, ◌∙◌, sym, ap, refl, arith, ℕ, ℤ, pos, neg_ℤ, ◌+◌, ◌*◌, ◌/◌, ◌%◌, ◌<◌, ◌≤◌, ◌≤ℤ◌, ◌^◌, ◌+ℤ◌, ◌-ℤ◌, ◌*ℤ◌, Bool, true, false, ◌&&◌, List, [], ◌∷◌, Option, Some, None, Result, Ok, Err, unsigned_abs}
+use Rattle.std.proofs.Common.{◌≡◌, ◌∙◌, sym, ap, refl, arith, ℕ, ℤ, pos, neg_ℤ, ◌+◌, ◌*◌, ◌/◌, ◌%◌, ◌<◌, ◌≤◌, ◌≤ℤ◌, ◌^◌, ◌+ℤ◌, ◌-ℤ◌, ◌*ℤ◌, Bool, true, ◌&&◌, List, [], ◌∷◌, Option, Some, None, Result, Ok, unsigned_abs}
 use Rattle.std.specs.Prelude.{if◌then◌else◌, option_map, ok_or}
 use Rattle.std.proofs.lemmas.Int.{ints}
 use Rattle.std.proofs.lemmas.Bool.Decides.{nat_tests}
@@ -13,7 +13,7 @@ use Rattle.geotransform.specs.declared.types.Size.{Size}
 use Rattle.geotransform.proofs.Floors.{half_only}
 use Rattle.esri_hdr.specs.declared.parts.RawGeo.{RawGeo}
 use Rattle.esri_hdr.specs.Head.{raw_geo, raw_geo_of, placed, is_origin, is_half_near}
-use Rattle.vrt_profile.specs.Values.{SourceValue, BandValue, DocumentValue}
+use Rattle.vrt_profile.specs.Values.{SourceValue, BandValue}
 use Rattle.vrt_profile.specs.Built.{pixels_at, plain_source}
 use Rattle.vrt_profile.specs.Cover.{whole}
 use Rattle.vrt_profile.specs.Resolve.{related}
@@ -330,10 +330,10 @@ with_one g t ts p ps e f = rw (e, f) refl
 
 patches_are : (n : ℕ) → IsSide n → patches_of (grid n) (tiles n) ≡ Ok (patches n)
 patches_are n side =
-    with_one _ _ _ _ _ (patch_is n 0 0 0 side (omega arith) (omega arith))
-    (with_one _ _ _ _ _ (patch_is n 1 n 0 side (omega arith) (omega arith))
-    (with_one _ _ _ _ _ (patch_is n 2 0 n side (omega arith) (omega arith))
-    (with_one _ _ _ _ _ (patch_is n 3 n n side (omega arith) (omega arith)) refl)))
+    with_one _ _ (tile n 1 n 0 ∷ tile n 2 0 n ∷ tile n 3 n n ∷ []) _ _ (patch_is n 0 0 0 side (omega arith) (omega arith))
+    (with_one _ _ (tile n 2 0 n ∷ tile n 3 n n ∷ []) _ _ (patch_is n 1 n 0 side (omega arith) (omega arith))
+    (with_one _ _ (tile n 3 n n ∷ []) _ _ (patch_is n 2 0 n side (omega arith) (omega arith))
+    (with_one _ _ [] _ _ (patch_is n 3 n n side (omega arith) (omega arith)) refl)))
 
 -- the band
 abbrev source : ℕ → ℕ → ℕ → ℕ → SourceValue
