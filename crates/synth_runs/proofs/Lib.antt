@@ -1,6 +1,8 @@
 mod Examples
 pub mod Ending
 pub mod Following
+pub mod InnerMade
 pub mod Parts
 pub mod Reaching
+pub mod Standing
 pub mod Tallying
