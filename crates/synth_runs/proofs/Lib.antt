@@ -1,6 +1,7 @@
 mod Examples
 pub mod Ending
 pub mod Following
+pub mod OuterWalked
 pub mod Parts
 pub mod Reaching
 pub mod Standing
