@@ -1,4 +1,6 @@
 mod Examples
+pub mod CopyJudged
+pub mod CopyPlaced
 pub mod Ending
 pub mod Following
 pub mod OuterWalked
