@@ -143,7 +143,7 @@ pub copy_is_judged : (n : ℕ) → IsSide n → (m : Files)
     → MosaicsStand n m → translation_judged m false outer_name output_options ≡ Ok (copy_judged n)
 unfolding translation_judged
 copy_is_judged n side m tiles inner_reads outer_reads stand =
-    let read = outer_is_read n m false inner_reads outer_reads stand in
+    let read = outer_is_read n m false (λ t less. tiles t less false) inner_reads outer_reads stand in
     let met = outer_is_walked n m false (λ t less. tiles t less false) inner_reads outer_reads stand in
     then_ok (by_walk (walked m false [] outer_name)) (outer_datasets n) _ _ (ap (λ r. by_walk r) met)
     (then_ok (by_walk (dataset_in m false outer_name)) (outer_dataset n) _ _ (ap (λ r. by_walk r) read)
