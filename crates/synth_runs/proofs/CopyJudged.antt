@@ -1,5 +1,5 @@
 -- The translation of the outer mosaic is judged: its dataset, and what is planned of the copy.
-use Rattle.std.proofs.Common.{◌≡◌, ◌∙◌, ap, refl, cond, ℕ, pos, ◌*◌, ◌<◌, ◌≤◌, Bool, true, false, List, [], ◌∷◌, length, arith, Option, Some, Result, Ok, Err}
+use Rattle.std.proofs.Common.{◌≡◌, ◌∙◌, ap, refl, cond, ℕ, pos, ◌*◌, ◌<◌, ◌≤◌, Bool, false, [], ◌∷◌, length, arith, Option, Some, Result, Ok, Err}
 use Rattle.std.specs.Prelude.{int_lt, ◌||◌, All}
 use Rattle.std.proofs.lemmas.Bool.Decides.{nat_tests}
 use Rattle.std.proofs.lemmas.Int.{ints}

@@ -197,49 +197,49 @@ module _ (n : ℕ) (m : Files) (verify : Bool)
     (outer_reads : document_in (spelled (outer_document n)) outer_name ≡ Ok (outer_document n))
     (stand : MosaicsStand n m)
   where
-  inner_by : dataset_by Vrt m verify inner_name ≡ Ok (inner_dataset n)
-  inner_by = mosaic_by m verify inner_name (spelled (inner_document n)) (inner_document n) stand.inner inner_reads
+    inner_by : dataset_by Vrt m verify inner_name ≡ Ok (inner_dataset n)
+    inner_by = mosaic_by m verify inner_name (spelled (inner_document n)) (inner_document n) stand.inner inner_reads
 
-  outer_by : dataset_by Vrt m verify outer_name ≡ Ok (outer_dataset n)
-  outer_by = mosaic_by m verify outer_name (spelled (outer_document n)) (outer_document n) stand.outer outer_reads
+    outer_by : dataset_by Vrt m verify outer_name ≡ Ok (outer_dataset n)
+    outer_by = mosaic_by m verify outer_name (spelled (outer_document n)) (outer_document n) stand.outer outer_reads
 
-  -- the datasets of the mosaics
-  pub inner_is_read : dataset_in m verify inner_name ≡ Ok (inner_dataset n)
-  inner_is_read = read_by m verify inner_name Vrt inner_kind ∙ inner_by
+    -- the datasets of the mosaics
+    pub inner_is_read : dataset_in m verify inner_name ≡ Ok (inner_dataset n)
+    inner_is_read = read_by m verify inner_name Vrt inner_kind ∙ inner_by
 
-  pub outer_is_read : dataset_in m verify outer_name ≡ Ok (outer_dataset n)
-  outer_is_read = read_by m verify outer_name Vrt outer_kind ∙ outer_by
+    pub outer_is_read : dataset_in m verify outer_name ≡ Ok (outer_dataset n)
+    outer_is_read = read_by m verify outer_name Vrt outer_kind ∙ outer_by
 
-  -- the mosaic of the tiles, where it is met for the first time, and again
-  inner_visited : visit m verify 15 above_inner (state (outer_dataset n ∷ []) 1) inner_name ≡ Ok (state (outer_datasets n) 5)
-  inner_visited =
-      let first : IsFirst 15 above_inner (state (outer_dataset n ∷ []) 1) inner_name Vrt = record { kind_is = inner_kind; off = refl; shallow = refl; fresh = refl } in
-      visit_mosaic m verify 14 above_inner (state (outer_dataset n ∷ []) 1) inner_name Vrt (inner_dataset n) first (omega arith) inner_by
-      ∙ tiles_visited n m verify tiles
+    -- the mosaic of the tiles, where it is met for the first time, and again
+    inner_visited : visit m verify 15 above_inner (state (outer_dataset n ∷ []) 1) inner_name ≡ Ok (state (outer_datasets n) 5)
+    inner_visited =
+        let first : IsFirst 15 above_inner (state (outer_dataset n ∷ []) 1) inner_name Vrt = record { kind_is = inner_kind; off = refl; shallow = refl; fresh = refl } in
+        visit_mosaic m verify 14 above_inner (state (outer_dataset n ∷ []) 1) inner_name Vrt (inner_dataset n) first (omega arith) inner_by
+        ∙ tiles_visited n m verify tiles
 
-  inner_met : visit m verify 15 above_inner (state (outer_datasets n) 6) inner_name ≡ Ok (state (outer_datasets n) 6)
-  inner_met =
-      visit_again m verify 15 above_inner (state (outer_datasets n) 6) inner_name Vrt 1 inner_kind refl refl
-      ∙ ap (λ r. r >>= λ checked. Ok (state (outer_datasets n) 6)) (inner_again n)
+    inner_met : visit m verify 15 above_inner (state (outer_datasets n) 6) inner_name ≡ Ok (state (outer_datasets n) 6)
+    inner_met =
+        visit_again m verify 15 above_inner (state (outer_datasets n) 6) inner_name Vrt 1 inner_kind refl refl
+        ∙ ap (λ r. r >>= λ checked. Ok (state (outer_datasets n) 6)) (inner_again n)
 
-  -- the sources of the outer mosaic
-  inners_visited : visit_sources (to_inner n m verify) outer_name (state (outer_dataset n ∷ []) 0) (sources_in (outer_dataset n).content) ≡ Ok (state (outer_datasets n) 6)
-  inners_visited =
-      let whole = inner_source (2 * n) (pixels_at (pos 0) (pos 0) (pos (2 * n)) (pos (2 * n))) in
-      let part = adding 1000 (inner_source n (pixels_at (pos n) (pos n) (pos n) (pos n))) in
-      let banded = has_first (outer_datasets n) inner_name (inner_dataset n) refl (inner_banded n) in
-      let once = source_fine (to_inner n m verify) outer_name (state (outer_dataset n ∷ []) 0) whole inner_name (state (outer_datasets n) 5) refl (inner_resolved (2 * n) (pixels_at (pos 0) (pos 0) (pos (2 * n)) (pos (2 * n)))) inner_visited banded in
-      let twice = source_fine (to_inner n m verify) outer_name (state (outer_datasets n) 5) part inner_name (state (outer_datasets n) 6) refl (adding_resolved 1000 n (pixels_at (pos n) (pos n) (pos n) (pos n))) inner_met banded in
-      ap (visit_sources (to_inner n m verify) outer_name (state (outer_dataset n ∷ []) 0)) (outer_sources_are n)
-      ∙ sources_then (to_inner n m verify) outer_name (state (outer_dataset n ∷ []) 0) (state (outer_datasets n) 5) whole (part ∷ []) (Ok (state (outer_datasets n) 6)) once
-      (sources_then (to_inner n m verify) outer_name (state (outer_datasets n) 5) (state (outer_datasets n) 6) part [] (Ok (state (outer_datasets n) 6)) twice refl)
+    -- the sources of the outer mosaic
+    inners_visited : visit_sources (to_inner n m verify) outer_name (state (outer_dataset n ∷ []) 0) (sources_in (outer_dataset n).content) ≡ Ok (state (outer_datasets n) 6)
+    inners_visited =
+        let whole = inner_source (2 * n) (pixels_at (pos 0) (pos 0) (pos (2 * n)) (pos (2 * n))) in
+        let part = adding 1000 (inner_source n (pixels_at (pos n) (pos n) (pos n) (pos n))) in
+        let banded = has_first (outer_datasets n) inner_name (inner_dataset n) refl (inner_banded n) in
+        let once = source_fine (to_inner n m verify) outer_name (state (outer_dataset n ∷ []) 0) whole inner_name (state (outer_datasets n) 5) refl (inner_resolved (2 * n) (pixels_at (pos 0) (pos 0) (pos (2 * n)) (pos (2 * n)))) inner_visited banded in
+        let twice = source_fine (to_inner n m verify) outer_name (state (outer_datasets n) 5) part inner_name (state (outer_datasets n) 6) refl (adding_resolved 1000 n (pixels_at (pos n) (pos n) (pos n) (pos n))) inner_met banded in
+        ap (visit_sources (to_inner n m verify) outer_name (state (outer_dataset n ∷ []) 0)) (outer_sources_are n)
+        ∙ sources_then (to_inner n m verify) outer_name (state (outer_dataset n ∷ []) 0) (state (outer_datasets n) 5) whole (part ∷ []) (Ok (state (outer_datasets n) 6)) once
+        (sources_then (to_inner n m verify) outer_name (state (outer_datasets n) 5) (state (outer_datasets n) 6) part [] (Ok (state (outer_datasets n) 6)) twice refl)
 
-  outer_visited : visit m verify 16 [] (met_in []) outer_name ≡ Ok (state (outer_datasets n) 6)
-  outer_visited =
-      let first : IsFirst 16 [] (met_in []) outer_name Vrt = record { kind_is = outer_kind; off = refl; shallow = refl; fresh = refl } in
-      visit_mosaic m verify 15 [] (met_in []) outer_name Vrt (outer_dataset n) first (omega arith) outer_by
-      ∙ inners_visited
+    outer_visited : visit m verify 16 [] (met_in []) outer_name ≡ Ok (state (outer_datasets n) 6)
+    outer_visited =
+        let first : IsFirst 16 [] (met_in []) outer_name Vrt = record { kind_is = outer_kind; off = refl; shallow = refl; fresh = refl } in
+        visit_mosaic m verify 15 [] (met_in []) outer_name Vrt (outer_dataset n) first (omega arith) outer_by
+        ∙ inners_visited
 
-  pub outer_is_walked : walked m verify [] outer_name ≡ Ok (outer_datasets n)
-  unfolding walked
-  outer_is_walked = ap (λ r. r >>= λ met. Ok met.datasets) outer_visited
+    pub outer_is_walked : walked m verify [] outer_name ≡ Ok (outer_datasets n)
+    unfolding walked
+    outer_is_walked = ap (λ r. r >>= λ met. Ok met.datasets) outer_visited

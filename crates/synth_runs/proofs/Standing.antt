@@ -1,5 +1,5 @@
 -- What stands under the names of a run from a number, before each of its parts.
-use Rattle.std.specs.Prelude.{ℕ, ℤ, pos, ◌≡◌, ◌<◌, ◌*◌, ◌/◌, ◌%◌, List, [], ◌∷◌, length, map, Some, None}
+use Rattle.std.specs.Prelude.{ℕ, pos, ◌≡◌, ◌<◌, ◌*◌, ◌/◌, ◌%◌, List, [], ◌∷◌, length, map, Some, None}
 use Rattle.std.specs.FinMap.{get}
 use Rattle.outside.specs.Outside.{Files}
 use Rattle.outside.specs.Names.{header_of}
