@@ -3,9 +3,11 @@
 
 mod copying;
 mod inner;
+mod laws;
 mod outer;
 mod running;
 mod strips;
 mod telling;
 
+pub use laws::numbers_are_never_refused;
 pub use running::put_rasters;
