@@ -3,4 +3,5 @@ pub mod Ending
 pub mod Following
 pub mod Parts
 pub mod Reaching
+pub mod Standing
 pub mod Tallying

@@ -5,6 +5,7 @@ use Rattle.outside.specs.Outside.{Files}
 use Rattle.outside.specs.Names.{header_of}
 use Rattle.geotransform.specs.declared.types.PixelType.TheVariants.{Int16}
 use Rattle.esri_hdr.specs.Text.{hdr_text}
+use Rattle.esri_hdr.specs.declared.parts.Layout.TheVariants.{Bil}
 use Rattle.vrt_profile.specs.Values.{SourceValue, BandValue, DocumentValue}
 use Rattle.vrt_profile.specs.Built.{pixels_at, plain_source}
 use Rattle.vrt_profile.specs.Cover.{whole}
@@ -14,6 +15,8 @@ use Rattle.catalog.specs.Dataset.{DatasetHead}
 use Rattle.catalog.specs.Drivers.{Dataset, dataset_of}
 use Rattle.catalog.specs.declared.driver.Content.TheVariants.{File, Mosaic}
 use Rattle.catalog.specs.declared.driver.DriverHead.TheVariants as drivers
+use Rattle.translate_plan.specs.Plan.{Planned}
+use Rattle.translate_plan.specs.declared.options.Driver.TheVariants.{EHdr}
 use Rattle.synthetic_rasters.specs.Names.{tile_name, inner_name, outer_name}
 use Rattle.synthetic_rasters.specs.Outer.{outer_document, outer_place}
 use Rattle.synthetic_rasters.specs.Tiles.{tile_head, tile_data, nodata}
@@ -52,3 +55,7 @@ inner_dataset n = dataset_of inner_name (record { content = Mosaic (inner_docume
 
 abbrev pub outer_dataset : ℕ → Dataset
 outer_dataset n = dataset_of outer_name (record { content = Mosaic (outer_document n); length = length (spelled (outer_document n)) })
+
+-- what is planned for the copy of the outer mosaic
+abbrev pub copy_plan : ℕ → Planned
+copy_plan n = record { driver = EHdr; layout = Bil; bands = record { source = 0; kind = Int16; nodata = Some nodata } ∷ []; size = record { w = 2 * n; h = 2 * n }; x = pos 0; y = pos 0; window = record { w = 2 * n; h = 2 * n }; geo = Some outer_place }
