@@ -1,4 +1,7 @@
 mod Examples
+pub mod CopyRead
+pub mod DocumentLengths
+pub mod DocumentsRead
 pub mod Ending
 pub mod Following
 pub mod Parts
