@@ -1,10 +1,12 @@
 -- The documents of the mosaics are read as they were written.
 use Rattle.std.proofs.Common.{◌≡◌, ◌∙◌, ap, sym, refl, ℕ, ℤ, pos, ◌+◌, ◌*◌, ◌/◌, ◌%◌, ◌^◌, ◌<◌, ◌≤◌, Bool, true, false, cond, true≢false, List, [], ◌∷◌, length, map, Some, Result, Ok, Err, IsUtf8, unsigned_abs, nat_lt, arith}
-use Rattle.std.specs.List.{All}
+use Rattle.std.specs.List.{All, list_all}
 use Rattle.std.proofs.lemmas.Bool.Decides.{nat_tests}
 use Rattle.std.proofs.lemmas.Int.{ints}
-use Rattle.std.proofs.lemmas.List.Elements.{All-nil, All-cons}
-use Rattle.std.proofs.lemmas.Str.{IsUtf8-from_is_utf8}
+use Rattle.std.proofs.lemmas.List.Elements.{All-nil, All-cons, All-weaker}
+use Rattle.std.proofs.lemmas.List.Sums.{AllPass-from_list_all}
+use Rattle.std.proofs.lemmas.Str.{IsUtf8-from_ascii}
+use Rattle.std.proofs.lemmas.Str.Ascii.{IsAscii-from_all}
 use Rattle.geotransform.specs.Geo.{IsRaster}
 use Rattle.geotransform.specs.declared.types.PixelType.TheVariants.{Int16}
 use Rattle.geotransform.specs.declared.types.Size.{Size}
@@ -24,6 +26,13 @@ use Rattle.synthetic_rasters.specs.Outer.{adding, inner_source, outer_sources, o
 use Rattle.synthetic_rasters.specs.Tiles.{IsSide, nodata}
 use Rattle.synth_runs.proofs.DocumentLengths.{IsShort, one_band, short_document}
 use Rattle.synth_runs.proofs.Standing.{tile_source, inner_document}
+
+-- texts of ASCII bytes
+is_low : (c : ℕ) → nat_lt c 128 ≡ true → c < 128
+is_low c h = grind (arith, nat_tests)
+
+ascii_text : (text : List ℕ) → list_all (λ c. nat_lt c 128) text ≡ true → IsUtf8 text
+ascii_text text h = IsUtf8-from_ascii text (IsAscii-from_all text (All-weaker (λ c. nat_lt c 128 ≡ true) (λ c. c < 128) is_low text (AllPass-from_list_all (λ c. nat_lt c 128) text h)))
 
 -- rectangles of whole pixels
 pixels_within : (x y w h : ℕ) → x ≤ 8192 → y ≤ 8192 → 0 < w → 0 < h → w ≤ 8192 → h ≤ 8192 → IsRectangle (pixels_at (pos x) (pos y) (pos w) (pos h))
@@ -80,7 +89,7 @@ adding_rules s is complex = record {
 -- the source of the inner mosaic that shows a square of it
 inner_rules : (side : ℕ) (dst : Rectangle) → 0 < side → side ≤ 8192 → IsRectangle dst → IsSource (inner_source side dst)
 unfolding folder_part
-inner_rules side dst some few shown = plain_rules true inner_name _ dst (omega arith) (IsUtf8-from_is_utf8 inner_name refl) (pixels_within 0 0 side side (omega arith) (omega arith) some some few few) shown
+inner_rules side dst some few shown = plain_rules true inner_name _ dst (omega arith) (ascii_text inner_name refl) (pixels_within 0 0 side side (omega arith) (omega arith) some some few few) shown
 
 inner_short : (side : ℕ) (dst : Rectangle) → IsShort (inner_source side dst)
 unfolding folder_part
@@ -100,22 +109,28 @@ tile_short n t few dst = record { file = few; table = refl }
 abbrev tile_sources : ℕ → List SourceValue
 tile_sources n = map (tile_source n) (0 ∷ 1 ∷ 2 ∷ 3 ∷ [])
 
+abbrev first_source : ℕ → SourceValue
+first_source n = inner_source (2 * n) (pixels_at (pos 0) (pos 0) (pos (2 * n)) (pos (2 * n)))
+
+abbrev moved_source : ℕ → SourceValue
+moved_source n = inner_source n (pixels_at (pos n) (pos n) (pos n) (pos n))
+
 outer_kept : (n : ℕ) → IsSide n → All IsSource (outer_sources n)
 outer_kept n is =
     let some : 0 < n = let low = is.some in omega (arith, low) in
     let few : n ≤ 4096 = is.few in
-    All-cons IsSource (inner_source (2 * n) (pixels_at (pos 0) (pos 0) (pos (2 * n)) (pos (2 * n)))) _
+    All-cons IsSource (first_source n) (adding 1000 (moved_source n) ∷ [])
     (inner_rules (2 * n) _ (omega (arith, some)) (omega (arith, few)) (pixels_within 0 0 (2 * n) (2 * n) (omega arith) (omega arith) (omega (arith, some)) (omega (arith, some)) (omega (arith, few)) (omega (arith, few))))
-    (All-cons IsSource (adding 1000 (inner_source n (pixels_at (pos n) (pos n) (pos n) (pos n)))) []
-    (adding_rules (inner_source n (pixels_at (pos n) (pos n) (pos n) (pos n))) (inner_rules n _ some (omega (arith, few)) (pixels_within n n n n (omega (arith, few)) (omega (arith, few)) some some (omega (arith, few)) (omega (arith, few)))) refl)
+    (All-cons IsSource (adding 1000 (moved_source n)) []
+    (adding_rules (moved_source n) (inner_rules n _ some (omega (arith, few)) (pixels_within n n n n (omega (arith, few)) (omega (arith, few)) some some (omega (arith, few)) (omega (arith, few)))) refl)
     (All-nil IsSource))
 
 outer_short : (n : ℕ) → All IsShort (outer_sources n)
 outer_short n =
     let second = inner_short n (pixels_at (pos n) (pos n) (pos n) (pos n)) in
-    All-cons IsShort (inner_source (2 * n) (pixels_at (pos 0) (pos 0) (pos (2 * n)) (pos (2 * n)))) _
+    All-cons IsShort (first_source n) (adding 1000 (moved_source n) ∷ [])
     (inner_short (2 * n) _)
-    (All-cons IsShort (adding 1000 (inner_source n (pixels_at (pos n) (pos n) (pos n) (pos n)))) []
+    (All-cons IsShort (adding 1000 (moved_source n)) []
     (record { file = second.file; table = refl })
     (All-nil IsShort))
 
@@ -123,18 +138,18 @@ tiles_kept : (n : ℕ) → IsSide n → All IsSource (tile_sources n)
 unfolding folder_part
 tiles_kept n is =
     let few : n ≤ 4096 = is.few in
-    All-cons IsSource (tile_source n 0) _ (tile_rules n 0 (0 % 2 * n) (0 / 2 * n) is (omega arith) (omega arith) (omega arith) (IsUtf8-from_is_utf8 (tile_name 0) refl))
-    (All-cons IsSource (tile_source n 1) _ (tile_rules n 1 (1 % 2 * n) (1 / 2 * n) is (omega (arith, few)) (omega arith) (omega arith) (IsUtf8-from_is_utf8 (tile_name 1) refl))
-    (All-cons IsSource (tile_source n 2) _ (tile_rules n 2 (2 % 2 * n) (2 / 2 * n) is (omega arith) (omega (arith, few)) (omega arith) (IsUtf8-from_is_utf8 (tile_name 2) refl))
-    (All-cons IsSource (tile_source n 3) [] (tile_rules n 3 (3 % 2 * n) (3 / 2 * n) is (omega (arith, few)) (omega (arith, few)) (omega arith) (IsUtf8-from_is_utf8 (tile_name 3) refl))
+    All-cons IsSource (tile_source n 0) (tile_source n 1 ∷ tile_source n 2 ∷ tile_source n 3 ∷ []) (tile_rules n 0 (0 % 2 * n) (0 / 2 * n) is (omega arith) (omega arith) (omega arith) (ascii_text (tile_name 0) refl))
+    (All-cons IsSource (tile_source n 1) (tile_source n 2 ∷ tile_source n 3 ∷ []) (tile_rules n 1 (1 % 2 * n) (1 / 2 * n) is (omega (arith, few)) (omega arith) (omega arith) (ascii_text (tile_name 1) refl))
+    (All-cons IsSource (tile_source n 2) (tile_source n 3 ∷ []) (tile_rules n 2 (2 % 2 * n) (2 / 2 * n) is (omega arith) (omega (arith, few)) (omega arith) (ascii_text (tile_name 2) refl))
+    (All-cons IsSource (tile_source n 3) [] (tile_rules n 3 (3 % 2 * n) (3 / 2 * n) is (omega (arith, few)) (omega (arith, few)) (omega arith) (ascii_text (tile_name 3) refl))
     (All-nil IsSource))))
 
 tiles_short : (n : ℕ) → All IsShort (tile_sources n)
 unfolding folder_part
 tiles_short n =
-    All-cons IsShort (tile_source n 0) _ (tile_short n 0 (omega arith) _)
-    (All-cons IsShort (tile_source n 1) _ (tile_short n 1 (omega arith) _)
-    (All-cons IsShort (tile_source n 2) _ (tile_short n 2 (omega arith) _)
+    All-cons IsShort (tile_source n 0) (tile_source n 1 ∷ tile_source n 2 ∷ tile_source n 3 ∷ []) (tile_short n 0 (omega arith) _)
+    (All-cons IsShort (tile_source n 1) (tile_source n 2 ∷ tile_source n 3 ∷ []) (tile_short n 1 (omega arith) _)
+    (All-cons IsShort (tile_source n 2) (tile_source n 3 ∷ []) (tile_short n 2 (omega arith) _)
     (All-cons IsShort (tile_source n 3) [] (tile_short n 3 (omega arith) _)
     (All-nil IsShort))))
 
