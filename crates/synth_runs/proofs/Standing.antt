@@ -1,5 +1,5 @@
 -- What stands under the names of a run from a number, before each of its parts.
-use Rattle.std.specs.Prelude.{ℕ, ℤ, pos, ◌≡◌, ◌<◌, ◌*◌, ◌/◌, ◌%◌, List, [], ◌∷◌, length, map, Some, None}
+use Rattle.std.specs.Prelude.{ℕ, pos, ◌≡◌, ◌<◌, ◌*◌, ◌/◌, ◌%◌, List, [], ◌∷◌, length, map, Some, None}
 use Rattle.std.specs.FinMap.{get}
 use Rattle.outside.specs.Outside.{Files}
 use Rattle.outside.specs.Names.{header_of}
@@ -23,7 +23,7 @@ use Rattle.synthetic_rasters.specs.Tiles.{tile_head, tile_data, nodata}
 
 -- the files of the tiles of this side
 pub record TilesStand (n : ℕ) (m : Files) : Type 0 where
-  pub data : (t : ℕ) → t < 4 → get m (tile_name t) ≡ Some (tile_data n t)
+  pub samples : (t : ℕ) → t < 4 → get m (tile_name t) ≡ Some (tile_data n t)
   pub header : (t : ℕ) → t < 4 → get m (header_of (tile_name t)) ≡ Some (hdr_text (tile_head n t))
 
 -- the dataset of a tile, and the heads of all
