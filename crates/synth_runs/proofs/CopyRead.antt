@@ -1,5 +1,5 @@
 -- The copy of the outer mosaic is read once it is published.
-use Rattle.std.proofs.Common.{◌≡◌, ◌∙◌, ap, sym, subst, refl, ℕ, ℤ, Bool, false, true, List, [], ◌∷◌, ◌++◌, Result, Ok, Err, Some}
+use Rattle.std.proofs.Common.{◌≡◌, ◌∙◌, ap, sym, refl, ℕ, Bool, false, true, List, [], ◌∷◌, ◌++◌, Result, Ok, Err}
 use Rattle.lists_and_answers.specs.Answers.{◌>>=◌}
 use Rattle.outside.specs.Names.{extension_of, ending_of, last_part, kind_of, header_of}
 use Rattle.outside.specs.Outside.{Files}
@@ -9,8 +9,6 @@ use Rattle.catalog.specs.Drivers.{Dataset}
 use Rattle.catalog.specs.Heads.{kind_in, file_in, header_in, long_enough, raw_in, dataset_by, dataset_in, head_in}
 use Rattle.catalog.specs.Pixels.{pixel_of_name}
 use Rattle.catalog.specs.Walk.{Met, sources_in, unless_on, room_for, met_or_first, number_of, visit, visit_step, visit_sources, first_met, met_in, walked}
-use Rattle.catalog.specs.declared.driver.Content.TheVariants.{File}
-use Rattle.catalog.specs.declared.driver.DriverHead.TheVariants as drivers
 use Rattle.catalog.specs.declared.driver.Found.{Found}
 use Rattle.catalog.specs.declared.faults.WalkFault.{WalkFault}
 use Rattle.catalog.specs.declared.kind.Kind.{Kind}
@@ -97,9 +95,11 @@ copied_read : (m : Files) (head : DatasetHead) → head_in m false output_name �
 unfolding copied
 copied_read m head is =
     let d = head_read m false output_name head is in
-    let walk = raw_walked m false output_name d.0 copy_kind (raw_read m false output_name d.0 copy_kind d.1) in
-    (d.0, ap (λ (e : Result (List Dataset) WalkFault). by_walk e >>= (λ (c : List Dataset). by_walk (dataset_in m false output_name))) walk
-        ∙ ap (λ (e : Result Dataset WalkFault). by_walk e) d.1)
+    let walk = raw_walked m false output_name d.0 copy_kind (raw_read m false output_name d.0 copy_kind d.1) in (
+      d.0,
+      ap (λ (e : Result (List Dataset) WalkFault). by_walk e >>= (λ (c : List Dataset). by_walk (dataset_in m false output_name))) walk
+          ∙ ap (λ (e : Result Dataset WalkFault). by_walk e) d.1,
+    )
 
 -- what is published of the copy: its samples and their header
 abbrev copy_output : ℕ → Output

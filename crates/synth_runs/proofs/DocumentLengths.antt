@@ -1,5 +1,5 @@
 -- How long the texts of documents of few sources are.
-use Rattle.std.proofs.Common.{◌≡◌, ℕ, ℤ, pos, negsuc, suc, ◌+◌, ◌*◌, ◌^◌, ◌%◌, ◌<◌, ◌≤◌, ◌*ℤ◌, ◌-ℤ◌, ◌==◌, Bool, true, false, cond, List, [], ◌∷◌, ◌++◌, length, length-append, flat_map, codes, Option, Some, None, IfSome, unsigned_abs, arith}
+use Rattle.std.proofs.Common.{◌≡◌, ℕ, ℤ, pos, negsuc, suc, ◌+◌, ◌*◌, ◌^◌, ◌<◌, ◌≤◌, ◌*ℤ◌, ◌-ℤ◌, ◌==◌, Bool, true, false, cond, List, [], ◌∷◌, ◌++◌, length, length-append, flat_map, codes, Option, Some, None, IfSome, unsigned_abs, arith}
 use Rattle.std.specs.List.{All}
 use Rattle.std.specs.Fmt.{decimal, signed_decimal}
 use Rattle.std.proofs.lemmas.Fmt.{length-decimal-le_wide}
@@ -15,7 +15,7 @@ use Rattle.geotransform.specs.declared.types.Size.{Size}
 use Rattle.geotransform.proofs.RoundTrip.{decimal_word, short_word}
 use Rattle.vrt_profile.specs.Items.{Pair}
 use Rattle.vrt_profile.specs.Values.{trillion, IsOffset, Rectangle, IsRectangle, SourceValue, IsSource, BandValue, IsBand, DocumentValue, IsDocument, IsDecimal}
-use Rattle.vrt_profile.specs.Spelled.{Markup, nothing, both, words, empty, group, written, indent, tag_text, pair_text, end_text, escape, escaped, micro_text, part_text, joined_text, geo_text, flag_text, pair, file_markup, source_band_markup, rectangle_pairs, rectangle_markup, nodata_markup, scale_markup, lut_markup, place_markup, scaling_markup, source_name, source_markup, sources_markup, band_pairs, band_markup, bands_markup, geo_markup, size_pairs, parts_markup, dataset_markup, spelled}
+use Rattle.vrt_profile.specs.Spelled.{Markup, nothing, both, words, empty, group, written, indent, tag_text, pair_text, end_text, escape, escaped, micro_text, part_text, joined_text, geo_text, flag_text, pair, file_markup, source_band_markup, rectangle_pairs, rectangle_markup, nodata_markup, scale_markup, lut_markup, place_markup, scaling_markup, source_name, source_markup, sources_markup, band_pairs, band_markup, geo_markup, size_pairs, parts_markup, spelled}
 use Rattle.vrt_profile.specs.declared.rectangle.LutPair.{LutPair}
 
 -- the text of markup has at most so many bytes
@@ -251,6 +251,6 @@ unfolding spelled
 short_document size geo b is small few short =
     let band : IsBand b = All-head IsBand b [] is.bands in
     let whole = group_within 140 8324 0 (codes "VRTDataset") (size_pairs size) (parts_markup (one_band size geo b)) (omega arith) (omega arith) (sizes_short size is.size.columns is.size.lines)
-        (parts_within size geo b is.geo (first_within b small few band.sources short)) in
+    (parts_within size geo b is.geo (first_within b small few band.sources short)) in
     let long = whole.long in
     omega (arith, long)
