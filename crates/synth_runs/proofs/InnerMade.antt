@@ -298,9 +298,9 @@ grid_is : (n : ℕ) → IsSide n → grid_of inner_options (tiles n) ≡ Some (g
 grid_is n side =
     ap (λ (e : Extent). grid_by e (pos unit, pos unit)) (union_is n)
     ∙ gridded (reach n) (2 * n) (2 * n) outer_place
-      (side_is n (east (2 * n) -ℤ pos 0) side (omega (arith, ints)))
-      (side_is n (pos 0 -ℤ south (2 * n)) side (omega (arith, ints)))
-      refl
+    (side_is n (east (2 * n) -ℤ pos 0) side (omega (arith, ints)))
+    (side_is n (pos 0 -ℤ south (2 * n)) side (omega (arith, ints)))
+    refl
 
 -- the rectangles of the tiles
 abbrev patch : ℕ → ℕ → ℕ → ℕ → PatchValue

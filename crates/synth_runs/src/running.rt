@@ -9,6 +9,7 @@ ghost use Rattle.translation_runs.specs.Ends.{ended};
 
 use crate::copying::put_output;
 use crate::inner::put_inner;
+use crate::laws::numbers_are_never_refused;
 use crate::outer::publish_outer;
 use crate::telling::put_tally;
 use command_words::BlockCount;
@@ -97,8 +98,9 @@ pub fn put_rasters<F: Folder, O: Sink>(
     ensures changed { HasChanged (F.names folder.old) (ended result) }
     ensures cause { HasCauses (F.faults folder.old) (F.faults folder.new) (O.faults out.old) (O.faults out.new) result }
 {
-    // This call is made for the proof: it says that the side is that of a tile.
+    // These calls are made for the proof: the side is that of a tile, and no such run is refused.
     let _side = side.get();
+    numbers_are_never_refused();
     match publish_tiles(alloc, folder, side) {
         Ok(()) => put_mosaics(alloc, folder, out, side, blocks),
         Err(fault) => Err(fault),
