@@ -188,9 +188,16 @@ fn each_failing_put(rt: HostRuntime) -> Result<(), Fail> {
 // Words, the calls of the folder that fail, the status, the fault's line, and how many outputs are published.
 type Untold<'a> = (&'a str, &'a [Failing], u8, &'a str, usize);
 
-// Runs whose error stream fails: one that is done, one that is refused, and two whose folder fails.
-static UNTOLD: [Untold<'static>; 4] = [
+// Runs whose error stream fails: one that is done, two that are refused, and two whose folder fails.
+static UNTOLD: [Untold<'static>; 5] = [
     (FIVE_LINE, &[], 0, "", 2),
+    (
+        "gdalinfo none.bil",
+        &[],
+        1,
+        "ERROR 4: none.bil: no such file\n",
+        0,
+    ),
     (
         "gdal_translate -b 2 five.bil out.bil",
         &[],
