@@ -1,5 +1,6 @@
 -- How a run answers, by how its job ended.
-use Rattle.std.proofs.Common.{◌≡◌, ◌∙◌, ap, sym, subst, ◌⊎◌, inl, inr, ◌≤◌, ℕ, List, length, refl, arith, Result, Ok, Err, Option, Some}
+use Rattle.std.proofs.Common.{◌≡◌, ◌∙◌, ap, sym, subst, ◌⊎◌, inl, inr, ◌≤◌, ℕ, Bool, true, false, List, length, refl, arith, Result, Ok, Err, Option, Some, None}
+use Rattle.std.specs.Prelude.{IfErr, IfSome, IsSome}
 use Rattle.outside.specs.Outside.{Files}
 use Rattle.outside.specs.Streams.{Gets, GetsPart}
 use Rattle.outside.specs.Causes.{HasCause, Rose}
@@ -8,7 +9,7 @@ use Rattle.error_lines.specs.declared.faults.Fault.{Fault}
 use Rattle.error_lines.specs.declared.faults.Fault.TheVariants.{Usage, Absent, NotRecognized, Malformed, Short, Cycle, TooDeep, Limit, SourceBand, Plan, Build, SameName, BadPoint, Changed, FolderFault, InputFault, OutFault, Memory}
 use Rattle.error_lines.specs.Faults.{IsOutside, HasCauses, fault_status, status_of}
 use Rattle.translation_runs.specs.Ends.{ended}
-use Rattle.gdal_cli.specs.Run.{Ends, Answers}
+use Rattle.gdal_cli.specs.Run.{Ends, Answers, IsRefusal}
 use Rattle.error_lines.specs.Steps.{Step, Done, prints, printed, applied, cut, IsFirstPart, AreDone, Goes}
 use Rattle.gdal_cli.proofs.Cuts.{cut_none, cut_whole, prints_cut, prints_done}
 
@@ -101,3 +102,19 @@ pub completed : (r : Done) (result : Result (Unit {0}) Fault) (m : Files) (names
 completed r (Ok done) m names folder folder_now input input_now out out_now before after causes cause calm full still h = inl (sym h.0)
 completed r (Err f) m names folder folder_now input input_now out out_now before after causes cause calm full still (inl h) = inl (sym h.0)
 completed r (Err f) m names folder folder_now input input_now out out_now before after causes cause calm full still (inr h) = inr (ap (λ (g : Fault). Some g) (only_memory f folder folder_now input input_now out out_now h.0 causes cause calm full still))
+
+-- what ends a result is of the outside where the result is
+pub ended_outside : (r : Result (Unit {0}) Fault) → IfErr r IsOutside → IfSome (ended r) IsOutside
+ended_outside (Ok done) h = tt
+ended_outside (Err f) h = h
+
+-- what is of the outside is no refusal
+no_refusal : (r : Result (Unit {0}) Fault) → IfErr r IsOutside → IsRefusal (ended r) → ⊥
+no_refusal (Ok done) h refusal = let none : 0 ≡ 1 = refusal.refused in cc
+no_refusal (Err f) h refusal = let high = outside_status f h in let low = refusal.refused in omega arith
+
+-- a refused run makes no rasters from a number, or its folder doesn't tell its files
+pub unless_made : {T : Type 0} → (rasters : Bool) (names : Option Files) (r : Result (Unit {0}) Fault) → (rasters ≡ true → IsSome names) → (rasters ≡ true → (m : Files) → names ≡ Some m → IfErr r IsOutside) → IsRefusal (ended r) → (rasters ≡ false → T) → T
+unless_made false names r told made refusal others = others refl
+unless_made true None r told made refusal others = let no : ⊥ = (let is : false ≡ true = told refl in cc) in absurd no
+unless_made true (Some m) r told made refusal others = absurd (no_refusal r (made refl m refl) refusal)

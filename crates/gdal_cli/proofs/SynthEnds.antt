@@ -68,6 +68,9 @@ synth_made side is = some_behind (flat_map (λ t. raster_names (tile_name t)) (r
 pub no_rasters : (side : ℕ) → makes_rasters (job.Synth side) ≡ false → ⊥
 no_rasters side is = cc
 
+pub none_made : false ≡ true → ⊥
+none_made is = cc
+
 -- what it may end with, as the job may
 fault_may : (side : ℕ) (f : Fault) → synth.MayEnd f → MayEnd (job.Synth side) f
 fault_may side (Usage n) h = h

@@ -7,7 +7,7 @@ ghost use Rattle.input_points.specs.Entries.{entries};
 ghost use Rattle.input_points.specs.declared.entry.Entry.{Entry};
 ghost use Rattle.catalog.specs.Drivers.{Dataset};
 ghost use Rattle.catalog.specs.Walk.{IsWalked};
-ghost use Rattle.error_lines.specs.Faults.{HasCauses, HasChanged, OwnsFault, Differs, IsOfReading};
+ghost use Rattle.error_lines.specs.Faults.{HasCauses, HasChanged, IsOutside, OwnsFault, Differs, IsOfReading};
 ghost use Rattle.translation_runs.specs.Ends.{ended};
 ghost use Rattle.gdal_cli.specs.Faults.{IsOfLines};
 ghost use Rattle.gdal_cli.specs.Input.{StopsBehind};
@@ -163,8 +163,10 @@ fn put_location<F: Folder, I: Input, O: Sink>(
 /// set, and nothing more is put there.
 ///
 /// Each refusal comes where the files are judged, before anything is put, but for BadPoint and the limit of points, which
-/// come at their line of the input, and for the run from a number, whose later parts read what the earlier ones published. FolderFault, InputFault and OutFault come only where the count of the folder, of the
-/// input and of the output rose, Changed only over a folder that doesn't tell its names, Memory freely.
+/// come at their line of the input, and for the run from a number, whose later parts read what the earlier ones published:
+/// it is refused by nothing over a folder that tells its files. FolderFault, InputFault and OutFault come only where the
+/// count of the folder, of the input and of the output rose, Changed only over a folder that doesn't tell its names, Memory
+/// freely.
 pub fn put_job<F: Folder, I: Input, O: Sink, E: Sink>(
     alloc: Global,
     folder: &mut F,
@@ -179,6 +181,7 @@ pub fn put_job<F: Folder, I: Input, O: Sink, E: Sink>(
     ensures told { (m : Files) → F.names folder.old ≡ Some m → (i : List ℕ) → (reads_input command.job ≡ true → I.left input.old ≡ Some i) → GoesWarning (carried_out (judged_by command.job command.verify m) m (entries i)) m result (F.names folder.new) (O.got out.old) (O.got out.new) (λ steps. AreWarned steps failed.new (E.faults err.old) (E.faults err.new) (E.got err.old) (E.got err.new)) }
     ensures stopped { result ≡ Err Fault.InputFault → (m : Files) → F.names folder.old ≡ Some m → (i : List ℕ) → I.left input.old ≡ Some i → StopsBehind (carried_out (judged_by command.job command.verify m) m) i (I.left input.new) (O.got out.old) (O.got out.new) }
     ensures refused { makes_rasters command.job ≡ false → IsRefusal (ended result) → (out.new ≡ out.old) × (input.new ≡ input.old) × (F.names folder.new ≡ F.names folder.old) }
+    ensures made { makes_rasters command.job ≡ true → (m : Files) → F.names folder.old ≡ Some m → IfErr result IsOutside }
     ensures warned { MayWarn (warns_of_inputs command.job) (ended result) failed.new (E.faults err.old) (E.faults err.new) (E.got err.old) (E.got err.new) }
     ensures only_read { names_published command.job ≡ [] → OnlyRead F.Folder folder.old folder.new }
     ensures may_end { IfErr result (MayEnd command.job) }

@@ -1,10 +1,10 @@
 // A run of the program.
-ghost use Rattle.std.specs.Prelude.{◌≡◌, ◌≤◌, ◌⊎◌, ℕ, List, [], IfOk, IfErr, IfSome, Option, Some, None, Ok, Err, OnOk, true, false, map, string_bytes};
+ghost use Rattle.std.specs.Prelude.{◌≡◌, ◌≤◌, ◌⊎◌, ℕ, List, [], IfOk, IfErr, IfSome, IsSome, Option, Some, None, Ok, Err, OnOk, true, false, map, string_bytes};
 ghost use Rattle.outside.specs.Outside.{Files};
 ghost use Rattle.outside.specs.Causes.{HasCause, Rose};
 ghost use Rattle.outside.specs.Reading.{OnlyRead};
 ghost use Rattle.input_points.specs.Entries.{entries};
-ghost use Rattle.error_lines.specs.Faults.{HasCauses, HasChanged, OwnsFault, status_of};
+ghost use Rattle.error_lines.specs.Faults.{HasCauses, HasChanged, IsOutside, OwnsFault, status_of};
 ghost use Rattle.translation_runs.specs.Ends.{ended};
 ghost use Rattle.gdal_cli.specs.Input.{StopsBehind};
 ghost use Rattle.gdal_cli.specs.Run.{Answers, AreTold, MayEnd, MayWarn, IsRefusal, RefusesWords, RefusesDataset, TellsFault, words_read_input, words_make_rasters, words_published, words_warn};
@@ -34,6 +34,7 @@ fn perform<F: Folder, I: Input, O: Sink, E: Sink>(
     ensures told { (m : Files) → F.names folder.old ≡ Some m → (i : List ℕ) → (words_read_input (words_of (map string_bytes words.now)) ≡ true → I.left input.old ≡ Some i) → GoesWarning (run_over (map string_bytes words.now) m (entries i)) m result (F.names folder.new) (O.got out.old) (O.got out.new) (λ steps. AreWarned steps failed.new (E.faults err.old) (E.faults err.new) (E.got err.old) (E.got err.new)) }
     ensures stopped { result ≡ Err Fault.InputFault → (m : Files) → F.names folder.old ≡ Some m → (i : List ℕ) → I.left input.old ≡ Some i → StopsBehind (run_over (map string_bytes words.now) m) i (I.left input.new) (O.got out.old) (O.got out.new) }
     ensures refused { words_make_rasters (words_of (map string_bytes words.now)) ≡ false → IsRefusal (ended result) → (out.new ≡ out.old) × (input.new ≡ input.old) × (F.names folder.new ≡ F.names folder.old) }
+    ensures made { words_make_rasters (words_of (map string_bytes words.now)) ≡ true → (m : Files) → F.names folder.old ≡ Some m → IfErr result IsOutside }
     ensures warned { MayWarn (words_warn (words_of (map string_bytes words.now))) (ended result) failed.new (E.faults err.old) (E.faults err.new) (E.got err.old) (E.got err.new) }
     ensures only_read { words_published (words_of (map string_bytes words.now)) ≡ [] → OnlyRead F.Folder folder.old folder.new }
     ensures may_end { IfOk (words_of (map string_bytes words.now)) (λ command. IfErr result (MayEnd command.job)) }
@@ -79,9 +80,12 @@ pub fn run<R: Threads + Sync, F: Folder, I: Input, O: Sink, E: Sink>(
         → (part : List Step) × IsFirstPart part (run_of (map string_bytes words.now) m i).steps × AreDone part m (F.names folder.new) (O.got out.old) (O.got out.new)
         × AreTold part result.fault (E.faults err.old) (E.faults err.new) (E.got err.old) (E.got err.new) }
 
-    // Over every folder, a run that is refused before a line of the input has printed, taken and published nothing, but
-    // for the run from a number, whose later parts read what the earlier ones published.
-    ensures refused { words_make_rasters (words_of (map string_bytes words.now)) ≡ false → IsRefusal result.fault → (out.new ≡ out.old) × (input.new ≡ input.old) × (F.names folder.new ≡ F.names folder.old) }
+    // A run that is refused before a line of the input has printed, taken and published nothing: over every folder, and the
+    // run from a number, whose later parts read what the earlier ones published, over one that tells its files.
+    ensures refused { (words_make_rasters (words_of (map string_bytes words.now)) ≡ true → IsSome (F.names folder.old)) → IsRefusal result.fault → (out.new ≡ out.old) × (input.new ≡ input.old) × (F.names folder.new ≡ F.names folder.old) }
+
+    // Over a folder that tells its files, the run from a number is refused by nothing.
+    ensures made { words_make_rasters (words_of (map string_bytes words.now)) ≡ true → (m : Files) → F.names folder.old ≡ Some m → IfSome result.fault IsOutside }
 
     // Over every folder, words that publish nothing only read it.
     ensures only_read { words_published (words_of (map string_bytes words.now)) ≡ [] → OnlyRead F.Folder folder.old folder.new }

@@ -315,10 +315,14 @@ fn a_tile(rt: HostRuntime) -> Result<(), Fail> {
     Ok(())
 }
 
-// The length of the file of a tile when it is opened again, the words, and the status, what is printed and what is
-// told.
-static CHANGES: [(Option<u64>, &str, (u8, &str, &str)); 4] = [
+const HEADER: &[u8] = b"NROWS 2\nNCOLS 3\nNBANDS 2\n";
+
+// The lengths of a file when it is opened first and again, the words, and the status, what is printed and what is told.
+type Change<'a> = (u64, Option<u64>, &'a str, (u8, &'a str, &'a str));
+
+static CHANGES: [Change<'static>; 6] = [
     (
+        2_884_802,
         Some(25_934_402),
         "gdallocationinfo -valonly N00E000.hgt 1 1",
         (
@@ -328,6 +332,7 @@ static CHANGES: [(Option<u64>, &str, (u8, &str, &str)); 4] = [
         ),
     ),
     (
+        2_884_802,
         Some(2_884_801),
         "gdallocationinfo -valonly N00E000.hgt 1 1",
         (
@@ -337,6 +342,7 @@ static CHANGES: [(Option<u64>, &str, (u8, &str, &str)); 4] = [
         ),
     ),
     (
+        2_884_802,
         None,
         "gdallocationinfo -valonly N00E000.hgt 1 1",
         (
@@ -346,22 +352,37 @@ static CHANGES: [(Option<u64>, &str, (u8, &str, &str)); 4] = [
         ),
     ),
     (
+        2_884_802,
         None,
         "gdallocationinfo -valonly N00E000.hgt 1201 1",
         (0, "\n", ""),
     ),
+    (
+        12,
+        Some(11),
+        "gdallocationinfo -valonly a.bil 2 1",
+        (2, "", "ERROR 3: a.bil: length changed from 12 to 11\n"),
+    ),
+    (
+        12,
+        Some(12),
+        "gdallocationinfo -valonly a.bil 2 1",
+        (0, "0\n0\n", ""),
+    ),
 ];
 
-// A run over a tile whose file has this length when it is opened again.
+// A run over a file that has these lengths when it is opened first and again.
 fn run_changed<R: Threads + Sync>(
     rt: &R,
     alloc: Global,
+    first: u64,
     again: Option<u64>,
     line: &str,
 ) -> Result<Said, Unmade> {
     let mut folder = Fickle {
-        first: Some(2_884_802),
+        first: Some(first),
         again,
+        header: HEADER,
         reads: 0,
         writes: 0,
     };
@@ -370,8 +391,8 @@ fn run_changed<R: Threads + Sync>(
 
 // The first of these runs that says something else than is listed, or how many runs there are.
 fn first_wrong_change<R: Threads + Sync>(rt: &R, alloc: Global) -> Result<usize, Unmade> {
-    for (at, (again, line, (status, out, err))) in CHANGES.iter().enumerate() {
-        if !run_changed(rt, alloc, *again, line)?.is(*status, out, err) {
+    for (at, (first, again, line, (status, out, err))) in CHANGES.iter().enumerate() {
+        if !run_changed(rt, alloc, *first, *again, line)?.is(*status, out, err) {
             return Ok(at);
         }
     }

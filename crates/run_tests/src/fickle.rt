@@ -1,28 +1,39 @@
-// A folder whose one file has a length at its first opening, and another or none later. It holds zeros, tells nothing
-// and never fails.
+// A folder whose one file has a length at its first opening, and another or none later, beside a header that stays. The
+// file holds zeros; the folder tells nothing and never fails.
 ghost use Rattle.std.specs.Prelude.{[], None};
 
 use outside::{Failed, Folder, Name, OpenFault, WriteFault};
 use std::alloc::AllocError;
 
-/// The lengths of the file when it is opened first and again; none where it is absent.
+/// The lengths of the file when it is opened first and again; none where it is absent. What stands under each name that
+/// ends with `.hdr`.
 #[derive(Drop)]
 pub struct Fickle {
     pub first: Option<u64>,
     pub again: Option<u64>,
+    pub header: &'static [u8],
     pub reads: u64,
     pub writes: u64,
 }
 
-/// Zeros.
+/// The header, or zeros.
 #[derive(Drop)]
 pub struct Zeros {
     len: u64,
+    is_header: bool,
 }
 
 /// What a draft would be, of which this folder gives none.
 #[derive(Clone, Copy)]
 pub struct NoDraft;
+
+// A byte of a text behind a place, or 0 where there is none.
+fn byte_at(text: &[u8], pos: u64, at: usize) -> u8 {
+    match text.get((pos as usize).saturating_add(at)) {
+        Some(byte) => *byte,
+        None => 0,
+    }
+}
 
 impl Folder for Fickle {
     type File = Zeros;
@@ -47,11 +58,20 @@ impl Folder for Fickle {
 
     ghost draft_len = { λ d. 0 };
 
-    fn open(&mut self, _name: &Name) -> Result<Zeros, OpenFault> {
+    fn open(&mut self, name: &Name) -> Result<Zeros, OpenFault> {
+        if name.as_str().as_bytes().ends_with(b".hdr") {
+            return Ok(Zeros {
+                len: self.header.len() as u64,
+                is_header: true,
+            });
+        }
         let now = self.first;
         self.first = self.again;
         match now {
-            Some(len) => Ok(Zeros { len }),
+            Some(len) => Ok(Zeros {
+                len,
+                is_header: false,
+            }),
             None => Err(OpenFault::Absent),
         }
     }
@@ -60,10 +80,11 @@ impl Folder for Fickle {
         file.len
     }
 
-    fn read_at(&mut self, _file: &mut Zeros, _pos: u64, out: &mut [u8]) -> Result<(), Failed> {
+    fn read_at(&mut self, file: &mut Zeros, pos: u64, out: &mut [u8]) -> Result<(), Failed> {
         self.reads = self.reads.saturating_add(1);
-        for byte in out {
-            *byte = 0;
+        let text = if file.is_header { self.header } else { b"" };
+        for (at, byte) in out.iter_mut().enumerate() {
+            *byte = byte_at(text, pos, at);
         }
         Ok(())
     }
@@ -109,6 +130,7 @@ impl Folder for Fickle {
         Ok(Fickle {
             first: self.first,
             again: self.again,
+            header: self.header,
             reads: 0,
             writes: 0,
         })

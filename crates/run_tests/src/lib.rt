@@ -19,6 +19,8 @@ mod fickle;
 #[cfg(test)]
 mod grids;
 #[cfg(test)]
+mod hostile;
+#[cfg(test)]
 mod mosaics;
 #[cfg(test)]
 mod points;

@@ -10,8 +10,10 @@ use std::thread::Threads;
 
 const TALL: [u8; 1000] = [7; 1000];
 
-// Rasters and a grid, and what stands under the names of outputs before.
-static FILES: [FileOf<'static>; 8] = [
+const LOW: &[u8] = b"NROWS 1\nNCOLS 3\nNBITS 16\nPIXELTYPE SIGNEDINT\n";
+
+// Rasters, a grid and nested mosaics, and what stands under the names of outputs before.
+static FILES: [FileOf<'static>; 15] = [
     ("five.bil", &[1, 2, 3, 4, 5]),
     ("five.hdr", b"NROWS 1\nNCOLS 5\n"),
     ("tall.bil", &TALL),
@@ -19,6 +21,27 @@ static FILES: [FileOf<'static>; 8] = [
     (
         "g.asc",
         b"ncols 2\nnrows 2\nxllcorner 9\nyllcorner 19\ncellsize 2\n1 -2\n30 4\n",
+    ),
+    ("a.bil", &[5, 0, 7, 0, 7, 0]),
+    ("a.hdr", LOW),
+    ("b.bil", &[0, 0, 0, 0, 9, 0]),
+    ("b.hdr", LOW),
+    (
+        "m.vrt",
+        b"<VRTDataset rasterXSize='3' rasterYSize='1'><VRTRasterBand dataType='Int16'><NoDataValue>-1</NoDataValue>
+<ComplexSource><SourceFilename>a.bil</SourceFilename><NODATA>0</NODATA></ComplexSource>
+<ComplexSource><SourceFilename>b.bil</SourceFilename><NODATA>0</NODATA></ComplexSource>
+</VRTRasterBand></VRTDataset>",
+    ),
+    (
+        "n.vrt",
+        b"<VRTDataset rasterXSize='3' rasterYSize='1'><VRTRasterBand dataType='Int16'>
+<SimpleSource><SourceFilename>m.vrt</SourceFilename></SimpleSource></VRTRasterBand></VRTDataset>",
+    ),
+    (
+        "o.vrt",
+        b"<VRTDataset rasterXSize='3' rasterYSize='1'><VRTRasterBand dataType='Int16'>
+<SimpleSource><SourceFilename>n.vrt</SourceFilename></SimpleSource></VRTRasterBand></VRTDataset>",
     ),
     ("out.bil", b"old data"),
     ("out.hdr", b"old header"),
@@ -104,6 +127,31 @@ cellsize     2
     )],
 };
 
+const NESTED: Work<'static> = Work {
+    line: "gdal_translate --blocks 1 o.vrt out.bil",
+    text: "Input file size is 3, 1\n0...10...20...30...40...50...60...70...80...90...100 - done.\n",
+    told: "",
+    outputs: &[
+        ("out.bil", b"old data", &[5, 0, 0xff, 0xff, 9, 0]),
+        (
+            "out.hdr",
+            b"old header",
+            b"BYTEORDER      I
+LAYOUT         BIL
+NROWS          1
+NCOLS          3
+NBANDS         1
+NBITS          16
+SKIPBYTES      0
+BANDROWBYTES   6
+TOTALROWBYTES  6
+BANDGAPBYTES   0
+PIXELTYPE      SIGNEDINT
+",
+        ),
+    ],
+};
+
 // The calls that fail, and how the run ends then.
 type Failed<'a> = (Work<'a>, &'a [Failing], End);
 
@@ -138,7 +186,7 @@ fn failing_calls_of_a_raster(rt: HostRuntime) -> Result<(), Fail> {
 }
 
 // Translations, and how many calls of the folder each makes at least.
-static EACH: [(Work<'static>, u64); 3] = [(FIVE, 9), (QUIET, 9), (GRID, 6)];
+static EACH: [(Work<'static>, u64); 4] = [(FIVE, 9), (QUIET, 9), (GRID, 6), (NESTED, 20)];
 
 // The first of these of which a call's failing isn't met, or how many there are.
 fn first_unmet_of<R: Threads + Sync>(rt: &R, alloc: Global) -> Result<usize, Unmade> {
@@ -188,9 +236,16 @@ fn each_failing_put(rt: HostRuntime) -> Result<(), Fail> {
 // Words, the calls of the folder that fail, the status, the fault's line, and how many outputs are published.
 type Untold<'a> = (&'a str, &'a [Failing], u8, &'a str, usize);
 
-// Runs whose error stream fails: one that is done, one that is refused, and two whose folder fails.
-static UNTOLD: [Untold<'static>; 4] = [
+// Runs whose error stream fails: one that is done, two that are refused, and two whose folder fails.
+static UNTOLD: [Untold<'static>; 5] = [
     (FIVE_LINE, &[], 0, "", 2),
+    (
+        "gdalinfo none.bil",
+        &[],
+        1,
+        "ERROR 4: none.bil: no such file\n",
+        0,
+    ),
     (
         "gdal_translate -b 2 five.bil out.bil",
         &[],

@@ -1,7 +1,9 @@
 -- How far a run goes that is followed by another.
 use Rattle.std.proofs.Common.{◌≡◌, ◌∙◌, sym, subst, refl, inl, inr, ℕ, List, ◌++◌, Result, Ok, Err, Option, Some, None}
+use Rattle.std.specs.Prelude.{IfErr}
 use Rattle.outside.specs.Outside.{Files}
 use Rattle.error_lines.specs.declared.faults.Fault.{Fault}
+use Rattle.error_lines.specs.Faults.{IsOutside}
 use Rattle.error_lines.specs.Steps.{Step, Done, published, applied, all_done, AreDone, Goes}
 use Rattle.output_copies.proofs.Goes.{goes_then, goes_stop}
 use Rattle.synth_runs.specs.Runs.{followed, then_run}
@@ -43,3 +45,9 @@ stopped_at first None r m f names before after is h = more (goes_stop first.step
 pub then_stops : (m : Files) (first : Done) (next : Files → Done) (f : Fault) (names : Option Files) (before after : Option (List ℕ)) → Goes first m (Err f) names before after → Goes (then_run m first next) m (Err f) names before after
 unfolding then_run
 then_stops m first next f names before after h = stopped_at first first.fault (next (applied (published first.steps) m)) m f names before after refl h
+
+-- a run without a fault ends only as the outside ends it
+pub goes_outside : (r : Done) (m : Files) (result : Result (Unit {0}) Fault) (names : Option Files) (before after : Option (List ℕ)) → r.fault ≡ None → Goes r m result names before after → IfErr result IsOutside
+goes_outside r m (Ok done) names before after calm h = tt
+goes_outside r m (Err f) names before after calm (inl h) = let no : ⊥ = (let one : Some f ≡ None = sym h.0 ∙ calm in cc) in absurd no
+goes_outside r m (Err f) names before after calm (inr h) = h.0

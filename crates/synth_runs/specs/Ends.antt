@@ -16,8 +16,8 @@ raster_names name = name ∷ header_of name ∷ []
 abbrev pub names_made : List (List ℕ)
 names_made = flat_map (λ t. raster_names (tile_name t)) (range_with_len 0 4) ++ inner_name ∷ outer_name ∷ raster_names output_name
 
--- The faults that it may end with. Over a folder that tells its files it is refused by nothing; over others a later part
--- may read something else than an earlier one published.
+-- The faults that it may end with over every folder. Where a folder doesn't tell its files, a later part may read something
+-- else than an earlier one published; where it does, none of these comes but those of the outside.
 abbrev pub MayEnd : Fault → Type 0
 MayEnd (Usage n) = ⊥
 MayEnd (Absent name) = Unit {0}

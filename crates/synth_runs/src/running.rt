@@ -1,7 +1,7 @@
 // The run from a number, part by part.
 ghost use Rattle.std.specs.Prelude.{◌≡◌, IfErr, Some};
 ghost use Rattle.outside.specs.Outside.{Files};
-ghost use Rattle.error_lines.specs.Faults.{HasCauses, HasChanged};
+ghost use Rattle.error_lines.specs.Faults.{HasCauses, HasChanged, IsOutside};
 ghost use Rattle.error_lines.specs.Steps.{Goes};
 ghost use Rattle.synth_runs.specs.Ends.{MayEnd};
 ghost use Rattle.synth_runs.specs.Runs.{copy_run, outer_runs, mosaic_runs, synth_run};
@@ -9,6 +9,7 @@ ghost use Rattle.translation_runs.specs.Ends.{ended};
 
 use crate::copying::put_output;
 use crate::inner::put_inner;
+use crate::laws::numbers_are_never_refused;
 use crate::outer::publish_outer;
 use crate::telling::put_tally;
 use command_words::BlockCount;
@@ -79,8 +80,9 @@ fn put_mosaics<F: Folder, O: Sink>(
 /// a new catalog and a new lane, behind each publishing.
 ///
 /// FolderFault and OutFault come only where the count of the folder and of the output rose, Changed only over a folder
-/// that doesn't tell its names, Memory freely. Other refusals come only over a folder that shows something else than was
-/// published. What was published before a fault stands.
+/// that doesn't tell its names, Memory freely. Over a folder that tells its files it is refused by nothing; over others a
+/// later part may read something else than an earlier one published, and is then refused for that. What was published
+/// before a fault stands.
 pub fn put_rasters<F: Folder, O: Sink>(
     alloc: Global,
     folder: &mut F,
@@ -90,10 +92,15 @@ pub fn put_rasters<F: Folder, O: Sink>(
 ) -> Result<(), Fault>
     // over a folder that tells its files: all the steps are done, or where the outside failed the first of them
     ensures told { (m : Files) → F.names folder.old ≡ Some m → Goes (synth_run side m) m result (F.names folder.new) (O.got out.old) (O.got out.new) }
+    // and it is refused by nothing
+    ensures made { (m : Files) → F.names folder.old ≡ Some m → IfErr result IsOutside }
     ensures may_end { IfErr result MayEnd }
     ensures changed { HasChanged (F.names folder.old) (ended result) }
     ensures cause { HasCauses (F.faults folder.old) (F.faults folder.new) (O.faults out.old) (O.faults out.new) result }
 {
+    // These calls are made for the proof: the side is that of a tile, and no such run is refused.
+    let _side = side.get();
+    numbers_are_never_refused();
     match publish_tiles(alloc, folder, side) {
         Ok(()) => put_mosaics(alloc, folder, out, side, blocks),
         Err(fault) => Err(fault),

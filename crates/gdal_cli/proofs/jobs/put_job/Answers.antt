@@ -9,7 +9,7 @@ use Rattle.gdal_cli.specs.Work.{judged_by, carried_out}
 use Rattle.gdal_cli.proofs.Ended.{stops_same}
 use Rattle.gdal_cli.proofs.Printing.{info_prints, location_prints}
 use Rattle.gdal_cli.proofs.TranslationEnds.{translate_silent}
-use Rattle.gdal_cli.proofs.SynthEnds.{no_rasters, synth_made, synth_may, synth_owns, synth_reads_no_input, synth_refuses, synth_silent}
+use Rattle.gdal_cli.proofs.SynthEnds.{no_rasters, none_made, synth_made, synth_may, synth_owns, synth_reads_no_input, synth_refuses, synth_silent}
 use Rattle.gdal_cli.proofs.Unread.{mosaic_published, publishes_some}
 use Rattle.gdal_cli.proofs.Warning.{printing_as, silent_as, silent_may, warning_as}
 use Rattle.gdal_cli.proofs.jobs.put_job.Goals as goal
@@ -123,3 +123,18 @@ returns-in-Synth-clause-unknown g c = rw c.in-Synth.is (synth_refuses c.put_rast
 
 pub returns-in-Synth-clause-own : goal.returns-in-Synth-clause-own
 returns-in-Synth-clause-own g c = synth_owns c.put_rasters.result c.put_rasters.ensures.may_end
+
+pub returns-in-Info-clause-made : goal.returns-in-Info-clause-made
+returns-in-Info-clause-made g c = λ rasters m is. absurd (none_made (sym (ap (λ (j : Job). makes_rasters j) c.in-Info.is) ∙ rasters))
+
+pub returns-in-Locate-clause-made : goal.returns-in-Locate-clause-made
+returns-in-Locate-clause-made g c = λ rasters m is. absurd (none_made (sym (ap (λ (j : Job). makes_rasters j) c.in-Locate.is) ∙ rasters))
+
+pub returns-in-Translate-clause-made : goal.returns-in-Translate-clause-made
+returns-in-Translate-clause-made g c = λ rasters m is. absurd (none_made (sym (ap (λ (j : Job). makes_rasters j) c.in-Translate.is) ∙ rasters))
+
+pub returns-in-Build-clause-made : goal.returns-in-Build-clause-made
+returns-in-Build-clause-made g c = λ rasters m is. absurd (none_made (sym (ap (λ (j : Job). makes_rasters j) c.in-Build.is) ∙ rasters))
+
+pub returns-in-Synth-clause-made : goal.returns-in-Synth-clause-made
+returns-in-Synth-clause-made g c = λ rasters. c.put_rasters.ensures.made

@@ -14,6 +14,7 @@ use Rattle.gdal_cli.proofs.Datasets.{dataset_refused}
 use Rattle.gdal_cli.proofs.Ended.{stops_same}
 use Rattle.gdal_cli.proofs.Judging.{command_judged, command_goes, words_go}
 use Rattle.gdal_cli.proofs.Named.{named_words}
+use Rattle.gdal_cli.proofs.SynthEnds.{none_made}
 use Rattle.gdal_cli.proofs.Warning.{silent_may, silent_steps}
 use Rattle.gdal_cli.proofs.running.perform.Goals as goal
 
@@ -71,3 +72,9 @@ returns-in-Ok-clause-unknown g c = dataset_refused _ c.in-Ok.command c.put_job.r
 pub returns-in-Ok-clause-warned : goal.returns-in-Ok-clause-warned
 returns-in-Ok-clause-warned g c =
     subst (λ (d : Result Command WordFault). MayWarn (words_warn d) (ended c.put_job.result) c.put_job.new.failed (g.E.Sink.faults c.args.err.now) (g.E.Sink.faults c.put_job.new.err) (g.E.Sink.got c.args.err.now) (g.E.Sink.got c.put_job.new.err)) (sym c.in-Ok.ensures.gives) c.put_job.ensures.warned
+
+pub returns-in-Err-clause-made : goal.returns-in-Err-clause-made
+returns-in-Err-clause-made g c = λ rasters m is. absurd (none_made (sym (ap (λ (d : Result Command WordFault). words_make_rasters d) c.in-Err.ensures.gives) ∙ rasters))
+
+pub returns-in-Ok-clause-made : goal.returns-in-Ok-clause-made
+returns-in-Ok-clause-made g c = λ rasters. c.put_job.ensures.made (sym (ap (λ (d : Result Command WordFault). words_make_rasters d) c.in-Ok.ensures.gives) ∙ rasters)

@@ -2,13 +2,13 @@ use Rattle.std.proofs.Common.{◌≡◌, ◌∙◌, ◌⊎◌, ◌≤◌, ap, ma
 use Rattle.std.specs.Prelude.{IfOk, IfSome}
 use Rattle.error_lines.specs.declared.faults.Fault.{Fault}
 use Rattle.error_lines.specs.declared.faults.Fault.TheVariants.{InputFault, Memory}
-use Rattle.error_lines.specs.Faults.{status_of}
-use Rattle.gdal_cli.specs.Run.{Answers, AreTold, MayEnd, MayWarn, IsRefusal, TellsFault, words_warn}
+use Rattle.error_lines.specs.Faults.{IsOutside, status_of}
+use Rattle.gdal_cli.specs.Run.{Answers, AreTold, MayEnd, MayWarn, IsRefusal, TellsFault, words_make_rasters, words_warn}
 use Rattle.command_words.specs.Words.{words_of}
 use Rattle.gdal_cli.specs.Work.{run_of}
 use Rattle.gdal_cli.proofs.Causes.{command_may}
 use Rattle.translation_runs.proofs.Ended.{refused_so}
-use Rattle.gdal_cli.proofs.Outcomes.{answered, completed}
+use Rattle.gdal_cli.proofs.Outcomes.{answered, completed, ended_outside, unless_made}
 use Rattle.gdal_cli.proofs.Warning.{early_warned, fault_behind, goes_of, told_behind, whole_warned}
 use Rattle.gdal_cli.proofs.running.run.Goals as goal
 
@@ -31,8 +31,16 @@ returns-clause-early_end g c = λ high m told i fed.
     let said = told_behind early.0 c.ended-fault.result c.perform.new.failed _ _ _ _ _ _ early.3 c.tell.ensures.whole c.tell.ensures.part (λ is. ap g.E.Sink.got (c.tell.ensures.untouched is)) c.tell.ensures.later in
     (early.0, early.1, early.2, subst (λ (f : Option Fault). AreTold early.0 f (g.E.Sink.faults c.args.err.now) (g.E.Sink.faults c.tell.new.err) (g.E.Sink.got c.args.err.now) (g.E.Sink.got c.tell.new.err)) (sym c.tell.ensures.fault) said)
 
+pub returns-clause-made : goal.returns-clause-made
+returns-clause-made g c = λ rasters m told.
+    subst (λ (f : Option Fault). IfSome f IsOutside) (sym (c.tell.ensures.fault ∙ c.ended-fault.ensures))
+    (ended_outside c.perform.result (c.perform.ensures.made rasters m told))
+
 pub returns-clause-refused : goal.returns-clause-refused
-returns-clause-refused g c = λ rasters refusal. c.perform.ensures.refused rasters (subst IsRefusal (c.tell.ensures.fault ∙ c.ended-fault.ensures) refusal)
+returns-clause-refused g c = λ told refusal.
+    let fault = c.tell.ensures.fault ∙ c.ended-fault.ensures in
+    unless_made (words_make_rasters (words_of (map string_bytes c.args.words.now))) (g.F.Folder.names c.args.folder.now) c.perform.result told c.perform.ensures.made (subst IsRefusal fault refusal)
+    (λ others. c.perform.ensures.refused others (subst IsRefusal fault refusal))
 
 pub returns-clause-may_end : goal.returns-clause-may_end
 returns-clause-may_end g c =

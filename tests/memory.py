@@ -1,0 +1,176 @@
+#!/usr/bin/env python3
+"""Runs the built program with each of its allocations refused in turn, outside the gate: tests/memory.py PROGRAM
+
+A small library, built with the system's C compiler, stands between the program and the allocator and refuses one call by
+its number. Each job is run with the first call refused, then with the second, and so on until a run ends in which none was.
+A run either does all that it does with enough memory, or ends with status 3, the line `ERROR 2: out of memory`, a first part
+of what it prints and the first of the files that it publishes, each whole. Nothing else stands in the folder then. Each line of the
+result names a job and how many of its allocations were refused; the last line counts what failed, and the status is 0 where
+nothing did."""
+import os
+import shutil
+import subprocess
+import sys
+import tempfile
+
+SHIM = r"""
+#define _GNU_SOURCE
+#include <dlfcn.h>
+#include <errno.h>
+#include <fcntl.h>
+#include <stdlib.h>
+#include <unistd.h>
+
+static long left = -1;
+
+__attribute__((constructor)) static void begin(void) {
+    const char *number = getenv("REFUSED_CALL");
+    left = number ? atol(number) : 0;
+}
+
+/* whether this call is the one to refuse; a file tells that it came */
+static int refused(void) {
+    if (left <= 0 || --left > 0) return 0;
+    int mark = open(getenv("REFUSED_MARK"), O_CREAT | O_WRONLY, 0600);
+    if (mark >= 0) close(mark);
+    errno = ENOMEM;
+    return 1;
+}
+
+#define NEXT(name) ((__typeof__(&name))dlsym(RTLD_NEXT, #name))
+extern void *__libc_malloc(size_t), *__libc_calloc(size_t, size_t), *__libc_realloc(void *, size_t);
+void *malloc(size_t n) { return refused() ? 0 : __libc_malloc(n); }
+void *calloc(size_t n, size_t m) { return refused() ? 0 : __libc_calloc(n, m); }
+void *realloc(void *p, size_t n) { return refused() ? 0 : __libc_realloc(p, n); }
+int posix_memalign(void **p, size_t a, size_t n) { return refused() ? ENOMEM : NEXT(posix_memalign)(p, a, n); }
+void *aligned_alloc(size_t a, size_t n) { return refused() ? 0 : NEXT(aligned_alloc)(a, n); }
+"""
+
+
+def mosaic(width, bands):
+    return f'<VRTDataset rasterXSize="{width}" rasterYSize="1">{bands}</VRTDataset>'.encode()
+
+
+def shows(name, words='dataType="Int16"'):
+    return f"<VRTRasterBand {words}><SimpleSource><SourceFilename>{name}</SourceFilename></SimpleSource></VRTRasterBand>"
+
+
+PLACED = b"NROWS 1\nNCOLS 2\nULXMAP 0.5\nULYMAP 0.5\n"
+FILES = {
+    "a.bil": bytes(range(1, 13)),
+    "a.hdr": b"NROWS 2\nNCOLS 3\nNBANDS 2\n",
+    "m.bil": b"\5\0\xff\xff\t\0",
+    "m.hdr": b"NROWS 1\nNCOLS 3\nNBITS 16\nPIXELTYPE SIGNEDINT\n",
+    "n.vrt": mosaic(3, shows("m.bil")),
+    "o.vrt": mosaic(3, shows("n.vrt")),
+    "east.bil": b"\1\2",
+    "east.hdr": PLACED,
+    "two.bil": b"\1\2\3\4",
+    "two.hdr": PLACED + b"NBANDS 2\n",
+    "list.txt": b"east.bil\ntwo.bil\n",
+    "g.asc": b"ncols 2\nnrows\t2\nxllcenter 10\nyllcenter 20\ncellsize 2\n1\t-2\n30 4\n",
+    "big.bsq": b"\7",
+    "big.hdr": b"NROWS 4194304\nNCOLS 4194304\nNBANDS 256\nNBITS 32\nLAYOUT BSQ\n",
+    "deep.vrt": b'<VRTDataset rasterXSize="1" rasterYSize="1">' + b"<Metadata>" * 64,
+    "cut.vrt": b'<VRTDataset rasterXSize="1" rasterYSize="1">' + b"<Metadata>" * 63,
+    "long.asc": b"ncols 1\nnrows 1\nxllcorner 0\nyllcorner 0\ncellsize 1\n" + b"0" * 65,
+    "self.vrt": mosaic(1, shows("self.vrt")),
+}
+POINTS = b"0 0\n9 9\n2 1\n"
+JOBS = (
+    ("a point of raw data", "gdallocationinfo -valonly a.bil 2 1", b""),
+    ("points of the input", "gdallocationinfo -valonly a.bil", POINTS),
+    ("points of the input, the last of which is none", "gdallocationinfo -valonly a.bil", POINTS + b"x\n"),
+    ("a line that is too long", "gdallocationinfo -valonly a.bil", b"0" * 4097),
+    ("the sources of a pixel", "gdallocationinfo -lifonly o.vrt 0 0", b""),
+    ("a report of raw data", "gdalinfo a.bil", b""),
+    ("a report of a mosaic", "gdalinfo o.vrt", b""),
+    ("a report of a grid", "gdalinfo g.asc", b""),
+    ("nested mosaics to raw data, one block", "gdal_translate --blocks 1 o.vrt out.bil", b""),
+    ("nested mosaics to raw data", "gdal_translate -q o.vrt out.bil", b""),
+    ("a grid to a grid", "gdal_translate g.asc out.asc", b""),
+    ("a document of a window", "gdal_translate -srcwin 1 0 1 1 o.vrt out.vrt", b""),
+    ("a mosaic, an input of which is skipped", "gdalbuildvrt out.vrt east.bil two.bil", b""),
+    ("a mosaic of a list", "gdalbuildvrt -q out.vrt -input_file_list list.txt", b""),
+    ("a mosaic that is refused", "gdalbuildvrt -strict out.vrt east.bil two.bil", b""),
+    ("a number", "synth 3", b""),
+    ("a file that is too short", "gdalinfo big.bsq", b""),
+    ("a document that is too deep", "gdalinfo deep.vrt", b""),
+    ("a document that ends too early", "gdalinfo cut.vrt", b""),
+    ("a grid with a long token", "gdalinfo long.asc", b""),
+    ("a mosaic that names itself", "gdallocationinfo -valonly self.vrt 0 0", b""),
+    ("no such file", "gdalinfo none.bil", b""),
+    ("no words", "", b""),
+)
+REFUSED = b"ERROR 2: out of memory\n"
+
+
+class Ran:
+    """What a run answered, printed, told and left in its folder; and whether a call was refused in it."""
+
+    def __init__(self, room, program, words, fed, number):
+        folder, mark = f"{room}/files", f"{room}/mark"
+        shutil.rmtree(folder, ignore_errors=True)
+        os.mkdir(folder)
+        for name, text in FILES.items():
+            with open(f"{folder}/{name}", "wb") as it:
+                it.write(text)
+        if os.path.exists(mark):
+            os.remove(mark)
+        seen = {**os.environ, "LD_PRELOAD": f"{room}/refuse.so", "REFUSED_CALL": str(number), "REFUSED_MARK": mark}
+        ran = subprocess.run([program, *words.split()], cwd=folder, input=fed, capture_output=True, timeout=60, env=seen)
+        self.status, self.out, self.err, self.is_refused = ran.returncode, ran.stdout, ran.stderr, os.path.exists(mark)
+        self.made = {name: open(f"{folder}/{name}", "rb").read() for name in os.listdir(folder)}
+        self.order = sorted(set(self.made) - set(FILES), key=lambda name: os.stat(f"{folder}/{name}").st_mtime_ns)
+
+
+def is_right(whole, ran):
+    """Whether a run of which a call was refused did the same as one with enough memory, or ended for want of it."""
+    if (ran.status, ran.out, ran.err, ran.made) == (whole.status, whole.out, whole.err, whole.made):
+        return True
+    warned = ran.err.removesuffix(REFUSED)
+    new = set(ran.made) - set(FILES)
+    return (
+        ran.status == 3
+        and ran.err.endswith(REFUSED)
+        and whole.err.startswith(warned)
+        and whole.out.startswith(ran.out)
+        and new == set(whole.order[: len(new)])
+        and all(whole.made.get(name) == text for name, text in ran.made.items())
+    )
+
+
+def try_job(room, program, words, fed):
+    """Returns how many calls were refused, one a run, and the first that ended otherwise, if there is one."""
+    whole, number = Ran(room, program, words, fed, 0), 0
+    while True:
+        ran = Ran(room, program, words, fed, number + 1)
+        if not is_right(whole, ran):
+            return number, f"call {number + 1}: status {ran.status}, {ran.err!r}, {sorted(set(ran.made) - set(FILES))}"
+        if not ran.is_refused:
+            return number, None
+        number += 1
+
+
+def main():
+    if len(sys.argv) != 2 or not os.access(sys.argv[1], os.X_OK):
+        print("tests/memory.py PROGRAM: the built program", file=sys.stderr)
+        return 2
+    program, failed = os.path.realpath(sys.argv[1]), 0
+    with tempfile.TemporaryDirectory() as room:
+        with open(f"{room}/refuse.c", "w", encoding="utf-8") as it:
+            it.write(SHIM)
+        built = subprocess.run(["cc", "-O1", "-shared", "-fPIC", "-o", f"{room}/refuse.so", f"{room}/refuse.c", "-ldl"], check=False)
+        if built.returncode:
+            print("tests/memory.py needs a C compiler and a C library with __libc_malloc", file=sys.stderr)
+            return 2
+        for name, words, fed in JOBS:
+            number, wrong = try_job(room, program, words, fed)
+            failed += wrong is not None
+            print(f"FAILED: {name}: {wrong}" if wrong else f"as it is to be: {name}, {number} allocations refused in turn", flush=True)
+    print(f"tried {len(JOBS)}, failed {failed}")
+    return 1 if failed else 0
+
+
+if __name__ == "__main__":
+    sys.exit(main())
