@@ -1,4 +1,5 @@
-use Rattle.std.proofs.Common.{Err}
+use Rattle.std.proofs.Common.{subst, Err}
+use Rattle.synthetic_rasters.specs.Tiles.{IsSide}
 use Rattle.synth_runs.specs.Runs.{mosaic_runs, synth_run, tiles_run}
 use Rattle.synth_runs.proofs.Ending.{changed_then, folder_may, folder_unchanged, told_after}
 use Rattle.synth_runs.proofs.Following.{goes_outside, then_goes, then_stops}
@@ -28,8 +29,8 @@ returns-in-Err-clause-changed g c = folder_unchanged (g.F.Folder.names c.args.fo
 
 pub returns-in-Ok-clause-made : goal.returns-in-Ok-clause-made
 returns-in-Ok-clause-made g c = λ m is.
-    goes_outside (synth_run c.args.side m) m c.put_mosaics.result _ _ _ (c.numbers_are_never_refused.ensures.fault c.args.side c.get.ensures.rules m) (returns-in-Ok-clause-told g c m is)
+    goes_outside (synth_run c.args.side m) m c.put_mosaics.result _ _ _ (c.numbers_are_never_refused.ensures.fault c.args.side (subst IsSide c.get-side.ensures.value c.get-side.ensures.rules) m) (returns-in-Ok-clause-told g c m is)
 
 pub returns-in-Err-clause-made : goal.returns-in-Err-clause-made
 returns-in-Err-clause-made g c = λ m is.
-    goes_outside (synth_run c.args.side m) m (Err c.in-Err.fault) _ _ _ (c.numbers_are_never_refused.ensures.fault c.args.side c.get.ensures.rules m) (returns-in-Err-clause-told g c m is)
+    goes_outside (synth_run c.args.side m) m (Err c.in-Err.fault) _ _ _ (c.numbers_are_never_refused.ensures.fault c.args.side (subst IsSide c.get-side.ensures.value c.get-side.ensures.rules) m) (returns-in-Err-clause-told g c m is)
