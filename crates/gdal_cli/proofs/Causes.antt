@@ -21,9 +21,10 @@ use Rattle.command_words.specs.declared.spoken.WordFault.TheVariants as word
 use Rattle.gdal_cli.specs.Faults.{IsOfLines, word_fault_of}
 use Rattle.gdal_cli.specs.Location.{asked_in}
 use Rattle.translation_runs.specs.Ends.{ended}
-use Rattle.gdal_cli.specs.Run.{MayEnd, IsRefusal, reads_input, reads_pixels}
+use Rattle.gdal_cli.specs.Run.{MayEnd, IsRefusal, reads_input, reads_pixels, words_make_rasters}
 use Rattle.command_words.specs.Words.{IsMemory}
 use Rattle.gdal_cli.proofs.Lacking.{asked_plan}
+use Rattle.gdal_cli.proofs.SynthEnds.{none_made}
 
 -- what a walk answers
 pub walk_may : (job : Job) (f : WalkFault) → MayEnd job (fault_of f)
@@ -185,6 +186,13 @@ words_may (Ok c) word.Memory (inl free) = tt
 words_may (Ok c) (word.Usage n) (inl free) = absurd free
 words_may (Ok c) f (inr is) = let no : ⊥ = cc in absurd no
 words_may (Err e) f h = tt
+
+-- words that are no command make no rasters from a number
+pub words_outside : (d : Result Command WordFault) (f : WordFault) → IsMemory f ⊎ (d ≡ Err f) → words_make_rasters d ≡ true → IsOutside (word_fault_of f)
+words_outside (Err e) f h rasters = absurd (none_made rasters)
+words_outside (Ok c) word.Memory (inl free) rasters = tt
+words_outside (Ok c) (word.Usage n) (inl free) rasters = absurd free
+words_outside (Ok c) f (inr is) rasters = let no : ⊥ = cc in absurd no
 
 -- what a command ends with
 pub command_may : (d : Result Command WordFault) (r : Result (Unit {0}) Fault) → IfOk d (λ c. IfErr r (MayEnd c.job)) → IfOk d (λ c. IfSome (ended r) (MayEnd c.job))

@@ -1,5 +1,5 @@
 -- How a run answers, by how its job ended.
-use Rattle.std.proofs.Common.{◌≡◌, ◌∙◌, ap, sym, subst, ◌⊎◌, inl, inr, ◌≤◌, ℕ, Bool, true, false, List, length, refl, arith, Result, Ok, Err, Option, Some, None}
+use Rattle.std.proofs.Common.{◌≡◌, ◌∙◌, ap, sym, subst, ◌⊎◌, inl, inr, ◌≤◌, ℕ, zero, suc, Bool, true, false, List, length, refl, arith, Result, Ok, Err, Option, Some, None}
 use Rattle.std.specs.Prelude.{IfErr, IfSome, IsSome}
 use Rattle.outside.specs.Outside.{Files}
 use Rattle.outside.specs.Streams.{Gets, GetsPart}
@@ -110,7 +110,7 @@ ended_outside (Err f) h = h
 
 -- what is of the outside is no refusal
 no_refusal : (r : Result (Unit {0}) Fault) → IfErr r IsOutside → IsRefusal (ended r) → ⊥
-no_refusal (Ok done) h refusal = let none : 0 ≡ 1 = refusal.refused in cc
+no_refusal (Ok done) h refusal = let low : zero ≡ suc zero = refusal.refused in omega arith
 no_refusal (Err f) h refusal = let high = outside_status f h in let low = refusal.refused in omega arith
 
 -- a refused run makes no rasters from a number, or its folder doesn't tell its files

@@ -5,16 +5,16 @@ use Rattle.error_lines.specs.declared.faults.Fault.{Fault}
 use Rattle.command_words.specs.declared.command.Command.{Command}
 use Rattle.command_words.specs.declared.spoken.WordFault.{WordFault}
 use Rattle.translation_runs.specs.Ends.{ended}
+use Rattle.error_lines.specs.Faults.{IsOutside}
 use Rattle.gdal_cli.specs.Run.{MayEnd, MayWarn, words_make_rasters, words_read_input, words_warn}
 use Rattle.error_lines.specs.Steps.{Step, AreWarned, GoesWarning}
 use Rattle.command_words.specs.Words.{words_of}
 use Rattle.gdal_cli.specs.Work.{Work, judged_by, carried_out, run_over}
-use Rattle.gdal_cli.proofs.Causes.{words_may}
+use Rattle.gdal_cli.proofs.Causes.{words_may, words_outside}
 use Rattle.gdal_cli.proofs.Datasets.{dataset_refused}
 use Rattle.gdal_cli.proofs.Ended.{stops_same}
 use Rattle.gdal_cli.proofs.Judging.{command_judged, command_goes, words_go}
 use Rattle.gdal_cli.proofs.Named.{named_words}
-use Rattle.gdal_cli.proofs.SynthEnds.{none_made}
 use Rattle.gdal_cli.proofs.Warning.{silent_may, silent_steps}
 use Rattle.gdal_cli.proofs.running.perform.Goals as goal
 
@@ -74,7 +74,8 @@ returns-in-Ok-clause-warned g c =
     subst (λ (d : Result Command WordFault). MayWarn (words_warn d) (ended c.put_job.result) c.put_job.new.failed (g.E.Sink.faults c.args.err.now) (g.E.Sink.faults c.put_job.new.err) (g.E.Sink.got c.args.err.now) (g.E.Sink.got c.put_job.new.err)) (sym c.in-Ok.ensures.gives) c.put_job.ensures.warned
 
 pub returns-in-Err-clause-made : goal.returns-in-Err-clause-made
-returns-in-Err-clause-made g c = λ rasters m is. absurd (none_made (sym (ap (λ (d : Result Command WordFault). words_make_rasters d) c.in-Err.ensures.gives) ∙ rasters))
+returns-in-Err-clause-made g c = λ rasters m is.
+    subst IsOutside (sym c.word_fault_of.ensures) (words_outside (words_of (map string_bytes c.args.words.now)) c.in-Err.fault c.in-Err.ensures.gives rasters)
 
 pub returns-in-Ok-clause-made : goal.returns-in-Ok-clause-made
 returns-in-Ok-clause-made g c = λ rasters. c.put_job.ensures.made (sym (ap (λ (d : Result Command WordFault). words_make_rasters d) c.in-Ok.ensures.gives) ∙ rasters)
