@@ -1,6 +1,5 @@
 // A pool of lines over a draft: a line that the pool drops is written, and one that it lacks is read back.
-ghost use Rattle.std.specs.Prelude.{◌≡◌, ◌<◌, ◌≤◌, ◌+◌, ◌*◌, [], ℕ, List, length, Some, None, true, false, OnOk, IfOk, map, get_or, pos};
-ghost use Rattle.std.specs.List.{range_with_len};
+ghost use Rattle.std.specs.Prelude.{◌≡◌, ◌<◌, ◌≤◌, ◌+◌, ◌*◌, [], ℕ, List, length, Some, None, true, false, OnOk, IfOk};
 ghost use Rattle.outside.specs.Causes.{HasCause};
 ghost use Rattle.band_blocks.specs.Blocks.{written};
 ghost use Rattle.block_cache.specs.Entries.{held_at};
@@ -10,6 +9,7 @@ ghost use Rattle.write_back.specs.State.{AreMet, Changes, IsSound, Serves, lines
 
 use crate::TargetFault;
 use crate::forms::Writer;
+use crate::turned::{Span, group_width, turn_to};
 use band_blocks::{Block, BlockKey};
 use block_cache::Pool;
 use geotransform::{Rect, Sample};
@@ -30,18 +30,6 @@ struct Spot {
     band: u32,
     x: u32,
     y: u32,
-}
-
-// Gathers a column of samples that stand row by row.
-fn gather(samples: &[Sample], width: usize, x: usize, height: usize, out: &mut [Sample])
-    requires within { x < width }
-    requires size { length samples.now ≡ width * height }
-    requires room { length out.old ≡ height }
-    ensures column { out.new ≡ map (λ y. get_or samples.now (y * width + x) (pos 0)) (range_with_len 0 height) }
-{
-    for y in 0..height {
-        out[y] = samples[y * width + x];
-    }
 }
 
 impl<F: Folder> Store<F> {
@@ -236,10 +224,14 @@ impl<F: Folder> Store<F> {
         ensures cause { HasCause TargetFault.FolderFault (F.faults folder.old) (F.faults folder.new) result }
     {
         let _shape = self.writer.shape();
-        let mut column = vec![in alloc; 0i128; rect.h as usize]?;
-        let line = column.as_mut_slice();
+        let most = group_width(rect);
+        let mut room = vec![in alloc; 0i128; most as usize * rect.h as usize]?;
+        let group = room.as_mut_slice();
+        let mut held = Span { first: 0, count: 0 };
         for x in 0..rect.w {
-            gather(samples, rect.w as usize, x as usize, rect.h as usize, line);
+            held = turn_to(samples, rect, most, x, held, group);
+            let from = (x - held.first) as usize * rect.h as usize;
+            let line = &group[from..from + rect.h as usize];
             let spot = Spot {
                 band,
                 x: rect.y,
