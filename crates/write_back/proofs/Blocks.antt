@@ -1,6 +1,6 @@
 -- What a line of raw data or of a tile is as a block.
-use Rattle.std.proofs.Common.{◌≡◌, ℕ, suc, ℤ, pos, ◌+◌, ◌-◌, ◌*◌, ◌<◌, ◌≤◌, ◌⊎◌, inl, inr, ⊎_elim, true, List, [], ◌∷◌, ◌++◌, get_or, length, map, take, drop, sym, ap, ◌∙◌, subst, refl, arith, zero-add, length-append}
-use Rattle.std.specs.Prelude.{Option, Some, Result, Ok, Err, IfOk, OnOk}
+use Rattle.std.proofs.Common.{◌≡◌, ℕ, suc, ℤ, pos, ◌+◌, ◌*◌, ◌<◌, ◌≤◌, ◌⊎◌, inl, inr, ⊎_elim, true, List, [], ◌∷◌, get_or, length, map, take, drop, sym, ap, ◌∙◌, subst, refl, arith, zero-add, length-append}
+use Rattle.std.specs.Prelude.{Option, Some, Result, Ok, Err, OnOk}
 use Rattle.std.specs.List.{All, list_all, range_with_len}
 use Rattle.std.proofs.lemmas.List.Sums.{AllPass-from_list_all}
 use Rattle.std.specs.Int.{w16, cast_signed}
@@ -114,10 +114,6 @@ module _ (side : ℕ) (key : BlockKey) (samples : List ℤ) (b : List ℕ) (file
 
 pub tile_row : (side : ℕ) (b : List ℕ) (band y : ℕ) → line_of side b 0 y side ≡ held_in (Hgt side) b band y
 tile_row side b band y = range_same (λ i. hgt_at side b (0 + i) y) (λ i. hgt_at side b i y) side (λ i less. ap (λ j. hgt_at side b j y) (zero-add i))
-
-pub if_rows : {E : Type 0} (r : Result BlockView E) (xs ys : List ℤ) → xs ≡ ys → IfOk r (λ block. block.samples ≡ xs) → IfOk r (λ block. block.samples ≡ ys)
-if_rows (Ok block) xs ys same is = is ∙ same
-if_rows (Err e) xs ys same is = is
 
 module _ {E : Type 0} (side : ℕ) (key : BlockKey) (block : BlockView) (old new : Option (List ℕ)) (small : AreBytes (row_bytes block.samples)) where
   tile_done : (r : Result (Unit {0}) E) → IsLine (Hgt side) key block → OnOk r (Written (2 * (key.block * side)) (row_bytes block.samples) old new)

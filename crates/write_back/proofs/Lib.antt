@@ -25,5 +25,6 @@ pub mod Sheets
 pub mod Spelled
 pub mod States
 pub mod Taken
+pub mod Transposed
 pub mod TileNames
 pub mod Zeros

@@ -1,16 +1,17 @@
 -- The bytes of a record.
-use Rattle.std.proofs.Common.{◌≡◌, ℕ, zero, suc, ℤ, pos, negsuc, ◌+◌, ◌-◌, ◌*◌, ◌<◌, ◌≤◌, true, List, [], ◌∷◌, ◌++◌, get_or, length, map, take, drop, replicate, ⊎_elim, sym, ap, ◌∙◌, refl, arith, zero-add, length-append}
+use Rattle.std.proofs.Common.{◌≡◌, ℕ, zero, suc, ℤ, pos, negsuc, ◌+◌, ◌-◌, ◌*◌, ◌<◌, ◌≤◌, true, List, [], ◌∷◌, get_or, length, map, take, drop, replicate, ⊎_elim, sym, ap, ◌∙◌, refl, arith, zero-add, length-append}
 use Rattle.std.specs.Prelude.{reverse}
 use Rattle.std.specs.List.{All, flat_map, range_with_len, sum}
 use Rattle.std.proofs.lemmas.Int.{ints}
 use Rattle.std.proofs.lemmas.Bool.Decides.{nat_tests}
-use Rattle.std.proofs.lemmas.List.{get_or-take, get_or-drop, length-replicate, length-reverse}
+use Rattle.std.proofs.lemmas.List.{get_or-take, get_or-drop, get_or-replicate, length-replicate, length-reverse, take-replicate, drop-replicate}
 use Rattle.std.proofs.lemmas.Bool.{cases_lt}
 use Rattle.std.proofs.lemmas.List.FromFn.{fill_by_all, length-map-range_with_len, get_or-map-range_with_len}
 use Rattle.byteorder.specs.Endian.{big_number, big_bytes}
 use Rattle.byteorder.specs.Numbers.{length-bytes_high_first, big_from-lt}
 use Rattle.dted_records.specs.Records.{elevation, elevation_in, point_of, two_at, dted_at, column_of}
 use Rattle.dted_records.specs.Head.{Head, part}
+use Rattle.dted_records.specs.Places.{record_len}
 use Rattle.dted_records.specs.Written.{IsElevation, elevation_bytes, front_bytes, points_bytes, summed_bytes, record_bytes}
 use Rattle.dted_records.proofs.Encoded.{elevation_bytes_len}
 use Rattle.write_back.specs.Pieces.{AreBytes}
@@ -73,6 +74,18 @@ got_same (suc n) (suc k) = got_same n k
 
 pub zero_column : (h : Head) (b : List ℕ) (x : ℕ) → ((y : ℕ) → y < h.points → dted_at h b x y ≡ pos 0) → replicate h.points (pos 0) ≡ column_of h b x
 zero_column h b x zeros = fill_by_all (λ y. dted_at h b x y) (replicate h.points (pos 0)) h.points (pos 0) (length-replicate h.points (pos 0)) (λ k below. got_same h.points k ∙ sym (zeros k below))
+
+-- a record of bytes that are 0 holds elevations that are 0
+pub cleared : (h : Head) (bytes : List ℕ) (n : ℕ) → bytes ≡ replicate n 0 → record_len h ≤ n → map (elevation_in h bytes) (range_with_len 0 h.points) ≡ replicate h.points (pos 0)
+cleared h bytes n is long =
+    ap (λ (l : List ℕ). map (elevation_in h l) (range_with_len 0 h.points)) is
+    ∙ sym (fill_by_all (elevation_in h (replicate n 0)) (replicate h.points (pos 0)) h.points (pos 0) (length-replicate h.points (pos 0)) (λ k below.
+    got_same h.points k
+    ∙ sym (ap (λ (l : List ℕ). elevation (big_number 2 l)) (ap (take 2) (drop-replicate (point_of h k) n 0) ∙ take-replicate 2 (n - point_of h k) 0 (omega arith)))))
+
+-- a column of zeros can be written
+pub zeros_written : (n : ℕ) → All (λ n. is_elevation n ≡ true) (replicate n (pos 0))
+zeros_written n = λ k d below. ap is_elevation (get_or-replicate n k (pos 0) d (let e = length-replicate {A = ℤ} n (pos 0) in omega arith))
 
 -- the first of the bytes from a place on
 pub first_at : (b out : List ℕ) (at : ℕ) → out ≡ take 1 (drop at b) → get_or out 0 0 ≡ get_or b at 0

@@ -8,4 +8,5 @@ pub mod Plans
 pub mod Reading
 pub mod Seen
 pub mod State
+pub mod Turned
 pub mod View

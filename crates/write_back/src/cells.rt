@@ -1,5 +1,5 @@
 // Columns of a DTED cell, each written and read as a whole record.
-ghost use Rattle.std.specs.Prelude.{◌≡◌, ◌<◌, ◌≤◌, ◌+◌, ◌*◌, ℕ, List, length, vec_len, vec_items, true, pos, Some, OnOk, IfOk};
+ghost use Rattle.std.specs.Prelude.{◌≡◌, ◌<◌, ◌≤◌, ◌+◌, ◌*◌, ℕ, List, length, vec_len, vec_items, true, pos, replicate, Some, OnOk, IfOk};
 ghost use Rattle.std.specs.List.{All};
 ghost use Rattle.outside.specs.Causes.{HasCause, one_more};
 ghost use Rattle.outside.specs.Outside.{Written};
@@ -16,7 +16,6 @@ use crate::TargetFault;
 use crate::pieces::put_bytes;
 use band_blocks::Block;
 use dted_records::DtedHead;
-use geotransform::PixelType;
 use outside::Folder;
 use std::alloc::{AllocError, Global};
 use std::marker::Model;
@@ -99,18 +98,20 @@ impl ColumnWriter {
     // Reads a column from the draft. Where its record wasn't begun its elevations are 0, and one byte alone is read.
     pub(crate) fn read_column<F: Folder>(
         &mut self,
-        alloc: Global,
         folder: &mut F,
         draft: &mut F::Draft,
         x: u32,
-    ) -> Result<Block, TargetFault>
+        block: &mut Block,
+    ) -> Result<(), TargetFault>
         requires column { x < self.old.head.lines }
         requires long { F.draft_len draft.old ≡ needed_of self.old.head }
+        requires kind { block.old.kind ≡ Int16 }
+        requires room { length block.old.samples ≡ self.old.head.points }
         ensures cell { self.new ≡ self.old }
-        ensures told { (b : List ℕ) → F.draft_bytes draft.old ≡ Some b → length b ≡ needed_of self.old.head → IsCell self.old b → IfOk result (λ block. block.samples ≡ column_of self.old.head b x) }
-        ensures kind { IfOk result (λ block. block.kind ≡ Int16) }
-        ensures count { IfOk result (λ block. length block.samples ≡ self.old.head.points) }
-        ensures range { IfOk result (λ block. All (λ n. is_elevation n ≡ true) block.samples) }
+        ensures told { OnOk result ((b : List ℕ) → F.draft_bytes draft.old ≡ Some b → length b ≡ needed_of self.old.head → IsCell self.old b → block.new.samples ≡ column_of self.old.head b x) }
+        ensures kind { OnOk result (block.new.kind ≡ Int16) }
+        ensures count { OnOk result (length block.new.samples ≡ self.old.head.points) }
+        ensures range { OnOk result (All (λ n. is_elevation n ≡ true) block.new.samples) }
         ensures bytes { F.draft_bytes draft.new ≡ F.draft_bytes draft.old }
         ensures len { F.draft_len draft.new ≡ F.draft_len draft.old }
         ensures name { F.draft_name draft.new ≡ F.draft_name draft.old }
@@ -121,7 +122,7 @@ impl ColumnWriter {
     {
         let head = self.head;
         let bytes = self.bytes.as_mut_slice();
-        get_record(alloc, folder, draft, &head, x, bytes)
+        get_record(folder, draft, &head, x, bytes, block)
     }
 }
 
@@ -135,6 +136,20 @@ fn decode_column(head: &DtedHead, bytes: &[u8], block: &mut Block)
     ensures count { length block.new.samples ≡ head.now.points }
     ensures range { All (λ n. is_elevation n ≡ true) block.new.samples }
 {
+    block.decode_record(head, bytes);
+}
+
+// Makes each elevation of a column 0, through room for the bytes of a record.
+fn clear_column(head: &DtedHead, bytes: &mut [u8], block: &mut Block)
+    requires len { length bytes.old ≡ record_len head.now }
+    requires kind { block.old.kind ≡ Int16 }
+    requires points { length block.old.samples ≡ head.now.points }
+    ensures zeros { block.new.samples ≡ replicate head.now.points (pos 0) }
+    ensures kind { block.new.kind ≡ Int16 }
+    ensures count { length block.new.samples ≡ head.now.points }
+    ensures range { All (λ n. is_elevation n ≡ true) block.new.samples }
+{
+    bytes.fill(0);
     block.decode_record(head, bytes);
 }
 
@@ -169,20 +184,22 @@ fn put_record<F: Folder>(
 
 // Reads a column, through room for its bytes.
 fn get_record<F: Folder>(
-    alloc: Global,
     folder: &mut F,
     draft: &mut F::Draft,
     head: &DtedHead,
     x: u32,
     bytes: &mut [u8],
-) -> Result<Block, TargetFault>
+    block: &mut Block,
+) -> Result<(), TargetFault>
     requires column { x < head.now.lines }
     requires bytes { length bytes.old ≡ record_len head.now }
     requires long { F.draft_len draft.old ≡ needed_of head.now }
-    ensures told { (b : List ℕ) → F.draft_bytes draft.old ≡ Some b → length b ≡ needed_of head.now → ((y : ℕ) → y < head.now.points → (IsBegun head.now b x → ⊥) → dted_at head.now b x y ≡ pos 0) → IfOk result (λ block. block.samples ≡ column_of head.now b x) }
-    ensures kind { IfOk result (λ block. block.kind ≡ Int16) }
-    ensures count { IfOk result (λ block. length block.samples ≡ head.now.points) }
-    ensures range { IfOk result (λ block. All (λ n. is_elevation n ≡ true) block.samples) }
+    requires kind { block.old.kind ≡ Int16 }
+    requires room { length block.old.samples ≡ head.now.points }
+    ensures told { OnOk result ((b : List ℕ) → F.draft_bytes draft.old ≡ Some b → length b ≡ needed_of head.now → ((y : ℕ) → y < head.now.points → (IsBegun head.now b x → ⊥) → dted_at head.now b x y ≡ pos 0) → block.new.samples ≡ column_of head.now b x) }
+    ensures kind { OnOk result (block.new.kind ≡ Int16) }
+    ensures count { OnOk result (length block.new.samples ≡ head.now.points) }
+    ensures range { OnOk result (All (λ n. is_elevation n ≡ true) block.new.samples) }
     ensures bytes { F.draft_bytes draft.new ≡ F.draft_bytes draft.old }
     ensures len { F.draft_len draft.new ≡ F.draft_len draft.old }
     ensures name { F.draft_name draft.new ≡ F.draft_name draft.old }
@@ -191,15 +208,14 @@ fn get_record<F: Folder>(
     ensures calls { F.write_calls folder.new ≡ F.write_calls folder.old }
     ensures cause { HasCause TargetFault.FolderFault (F.faults folder.old) (F.faults folder.new) result }
 {
-    let points = head.points;
     let at = head.record_at(x);
     let mut first = [0u8; 1];
     folder.draft_read(draft, at, &mut first)?;
-    let mut block = Block::new(alloc, PixelType::Int16, points)?;
     if first[0] != 170 {
-        return Ok(block);
+        clear_column(head, bytes, block);
+        return Ok(());
     }
     folder.draft_read(draft, at, bytes)?;
-    decode_column(head, bytes, &mut block);
-    Ok(block)
+    decode_column(head, bytes, block);
+    Ok(())
 }

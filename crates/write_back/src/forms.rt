@@ -1,5 +1,5 @@
 // What differs between the outputs that are written through a pool of blocks.
-ghost use Rattle.std.specs.Prelude.{◌≡◌, ◌<◌, ◌≤◌, ◌+◌, ◌*◌, ◌^◌, ℕ, List, length, Some, OnOk, IfOk};
+ghost use Rattle.std.specs.Prelude.{◌≡◌, ◌<◌, ◌≤◌, ◌+◌, ◌*◌, ◌^◌, ℕ, List, length, Some, OnOk};
 ghost use Rattle.outside.specs.Causes.{HasCause};
 ghost use Rattle.write_back.specs.Forms.{cut_of, height_of, holds, most_calls, needed_of, width_of, IsFormed};
 ghost use Rattle.write_back.specs.Overlay.{held_in, line_key, IsBlockWritten, IsLine};
@@ -11,7 +11,6 @@ use crate::writer::LineWriter;
 use band_blocks::{Block, BlockKey};
 use geotransform::{PixelType, Sample, Size, holds};
 use outside::Folder;
-use std::alloc::Global;
 
 /// How a raster is cut into blocks: lines, or columns.
 #[derive(Clone, Copy)]
@@ -142,18 +141,20 @@ impl Writer {
     // Reads a block from the draft.
     pub(crate) fn read_block<F: Folder>(
         &mut self,
-        alloc: Global,
         folder: &mut F,
         draft: &mut F::Draft,
         band: u32,
         block: u32,
-    ) -> Result<Block, TargetFault>
+        into: &mut Block,
+    ) -> Result<(), TargetFault>
         requires band { band < (cut_of self.old).bands }
         requires block { block < (cut_of self.old).blocks }
         requires long { F.draft_len draft.old ≡ needed_of self.old }
+        requires kind { into.old.kind ≡ (cut_of self.old).kind }
+        requires room { length into.old.samples ≡ (cut_of self.old).spots }
         ensures same { self.new ≡ self.old }
-        ensures told { (b : List ℕ) → F.draft_bytes draft.old ≡ Some b → length b ≡ needed_of self.old → IsFormed self.old b → IfOk result (λ got. got.samples ≡ held_in self.old b band block) }
-        ensures line { IfOk result (λ got. IsLine self.old (line_key band block) got) }
+        ensures told { OnOk result ((b : List ℕ) → F.draft_bytes draft.old ≡ Some b → length b ≡ needed_of self.old → IsFormed self.old b → into.new.samples ≡ held_in self.old b band block) }
+        ensures line { OnOk result (IsLine self.old (line_key band block) into.new) }
         ensures bytes { F.draft_bytes draft.new ≡ F.draft_bytes draft.old }
         ensures len { F.draft_len draft.new ≡ F.draft_len draft.old }
         ensures name { F.draft_name draft.new ≡ F.draft_name draft.old }
@@ -163,9 +164,9 @@ impl Writer {
         ensures cause { HasCause TargetFault.FolderFault (F.faults folder.old) (F.faults folder.new) result }
     {
         match self {
-            Writer::Raw(lines) => lines.read_line(alloc, folder, draft, band, block),
-            Writer::Hgt(tile) => tile.read_line(alloc, folder, draft, block),
-            Writer::Dted(cell) => cell.read_column(alloc, folder, draft, block),
+            Writer::Raw(lines) => lines.read_line(folder, draft, band, block, into),
+            Writer::Hgt(tile) => tile.read_line(folder, draft, block, into),
+            Writer::Dted(cell) => cell.read_column(folder, draft, block, into),
         }
     }
 }

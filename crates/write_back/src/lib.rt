@@ -14,6 +14,7 @@ mod sheet;
 mod store;
 mod target;
 mod tiles;
+mod turned;
 mod writer;
 
 pub use fault::{CloseFault, TargetFault};

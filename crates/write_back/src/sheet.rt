@@ -153,6 +153,7 @@ impl<F: Folder> Sheet<F> {
                     writer: _,
                     pool: _,
                     draft,
+                    spare: _,
                 } = store;
                 draft
             }

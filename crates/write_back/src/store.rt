@@ -1,6 +1,5 @@
 // A pool of lines over a draft: a line that the pool drops is written, and one that it lacks is read back.
-ghost use Rattle.std.specs.Prelude.{◌≡◌, ◌<◌, ◌≤◌, ◌+◌, ◌*◌, [], ℕ, List, length, Some, None, true, false, OnOk, IfOk, map, get_or, pos};
-ghost use Rattle.std.specs.List.{range_with_len};
+ghost use Rattle.std.specs.Prelude.{◌≡◌, ◌<◌, ◌≤◌, ◌+◌, ◌*◌, [], ℕ, List, length, Some, None, true, false, OnOk, IfOk};
 ghost use Rattle.outside.specs.Causes.{HasCause};
 ghost use Rattle.band_blocks.specs.Blocks.{written};
 ghost use Rattle.block_cache.specs.Entries.{held_at};
@@ -10,18 +9,21 @@ ghost use Rattle.write_back.specs.State.{AreMet, Changes, IsSound, Serves, lines
 
 use crate::TargetFault;
 use crate::forms::Writer;
+use crate::turned::{Span, group_width, turn_to};
 use band_blocks::{Block, BlockKey};
 use block_cache::Pool;
-use geotransform::{Rect, Sample};
+use geotransform::{PixelType, Rect, Sample};
 use outside::{Folder, Steps};
-use std::alloc::Global;
+use std::alloc::{AllocError, Global};
 use std::sync::ledger::Ledger;
 
-/// Lines of a raster: those in a pool, and those in a draft.
+/// Lines of a raster: those in a pool, and those in a draft. A block that left the pool is spare, and the next one that
+/// comes takes its room.
 pub(crate) struct Store<F: Folder> {
     pub(crate) writer: Writer,
     pub(crate) pool: Pool,
     pub(crate) draft: F::Draft,
+    pub(crate) spare: Option<Block>,
 }
 
 /// Where samples are put: a band, a place in a block of it, and the block. All count from 0.
@@ -32,20 +34,51 @@ struct Spot {
     y: u32,
 }
 
-// Gathers a column of samples that stand row by row.
-fn gather(samples: &[Sample], width: usize, x: usize, height: usize, out: &mut [Sample])
-    requires within { x < width }
-    requires size { length samples.now ≡ width * height }
-    requires room { length out.old ≡ height }
-    ensures column { out.new ≡ map (λ y. get_or samples.now (y * width + x) (pos 0)) (range_with_len 0 height) }
+// Room for a block of a type and so many samples: a spare one that is like it, or else a new one.
+fn room_for(
+    alloc: Global,
+    spare: Option<Block>,
+    kind: PixelType,
+    len: u32,
+) -> Result<Block, AllocError>
+    ensures kind { IfOk result (λ block. block.kind ≡ kind) }
+    ensures count { IfOk result (λ block. length block.samples ≡ len) }
 {
-    for y in 0..height {
-        out[y] = samples[y * width + x];
+    if let Some(block) = spare {
+        if block.kind() == kind && block.len() == len {
+            return Ok(block);
+        }
     }
+    Block::new(alloc, kind, len)
 }
 
 impl<F: Folder> Store<F> {
     // Writes a line into the draft.
+    fn write_out<L: Ledger>(
+        &mut self,
+        folder: &mut F,
+        key: BlockKey,
+        block: &Block,
+        writes: &mut Steps<L>,
+    ) -> Result<(), TargetFault>
+        requires line { IsLine self.old.writer key block.now }
+        requires long { F.draft_len self.old.draft ≡ needed_of self.old.writer }
+        ensures head { self.new.writer ≡ self.old.writer }
+        ensures pool { self.new.pool ≡ self.old.pool }
+        ensures written { OnOk result ((b : List ℕ) → F.draft_bytes self.old.draft ≡ Some b → length b ≡ needed_of self.old.writer → (c : List ℕ) × (F.draft_bytes self.new.draft ≡ Some c) × IsBlockWritten self.old.writer key block.now.samples b c) }
+        ensures len { OnOk result (F.draft_len self.new.draft ≡ F.draft_len self.old.draft) }
+        ensures name { F.draft_name self.new.draft ≡ F.draft_name self.old.draft }
+        ensures names { F.names folder.new ≡ F.names folder.old }
+        ensures reads { F.read_calls folder.new ≡ F.read_calls folder.old }
+        ensures calls { F.write_calls folder.new ≤ F.write_calls folder.old + most_calls self.old.writer }
+        ensures one { writes.new ≡ writes.old + 1 }
+        ensures cause { HasCause TargetFault.FolderFault (F.faults folder.old) (F.faults folder.new) result }
+    {
+        writes.tick();
+        self.writer.write_block(folder, &mut self.draft, key, block)
+    }
+
+    // Writes a line that left the pool into the draft.
     fn write<L: Ledger>(
         &mut self,
         folder: &mut F,
@@ -66,12 +99,10 @@ impl<F: Folder> Store<F> {
         ensures one { writes.new ≡ writes.old + 1 }
         ensures cause { HasCause TargetFault.FolderFault (F.faults folder.old) (F.faults folder.new) result }
     {
-        writes.tick();
-        self.writer
-            .write_block(folder, &mut self.draft, key, &block)
+        self.write_out(folder, key, &block, writes)
     }
 
-    // Keeps a line that isn't held. The line that a full pool drops for it is written, where it isn't yet.
+    // Keeps a line that isn't held. The line that a full pool drops for it is written, where it isn't yet, and is spare.
     fn keep<L: Ledger>(
         &mut self,
         folder: &mut F,
@@ -93,9 +124,12 @@ impl<F: Folder> Store<F> {
             Ok(None) => Ok(()),
             Ok(Some(last)) => {
                 if !last.dirty {
+                    self.spare = Some(last.block);
                     return Ok(());
                 }
-                self.write(folder, last.key, last.block, writes)
+                let written = self.write_out(folder, last.key, &last.block, writes);
+                self.spare = Some(last.block);
+                written
             }
             Err(_) => Err(TargetFault::Memory),
         }
@@ -129,13 +163,13 @@ impl<F: Folder> Store<F> {
         ensures cause { HasCause TargetFault.FolderFault (F.faults folder.old) (F.faults folder.new) result }
     {
         let shape = self.writer.shape();
+        let mut block = room_for(alloc, self.spare.take(), shape.kind, shape.spots)?;
         if samples.len() == shape.spots as usize {
-            let block = Block::pack(alloc, shape.kind, samples)?;
+            block.write_run(0, samples);
             return Ok(block);
         }
-        let mut block = self
-            .writer
-            .read_block(alloc, folder, &mut self.draft, band, y)?;
+        self.writer
+            .read_block(folder, &mut self.draft, band, y, &mut block)?;
         block.write_run(x, samples);
         Ok(block)
     }
@@ -236,10 +270,14 @@ impl<F: Folder> Store<F> {
         ensures cause { HasCause TargetFault.FolderFault (F.faults folder.old) (F.faults folder.new) result }
     {
         let _shape = self.writer.shape();
-        let mut column = vec![in alloc; 0i128; rect.h as usize]?;
-        let line = column.as_mut_slice();
+        let most = group_width(rect);
+        let mut room = vec![in alloc; 0i128; most as usize * rect.h as usize]?;
+        let group = room.as_mut_slice();
+        let mut held = Span { first: 0, count: 0 };
         for x in 0..rect.w {
-            gather(samples, rect.w as usize, x as usize, rect.h as usize, line);
+            held = turn_to(samples, rect, most, x, held, group);
+            let from = (x - held.first) as usize * rect.h as usize;
+            let line = &group[from..from + rect.h as usize];
             let spot = Spot {
                 band,
                 x: rect.y,

@@ -93,6 +93,7 @@ impl<F: Folder> Target<F> {
                     writer,
                     pool,
                     draft,
+                    spare: None,
                 });
                 Ok(Target {
                     sheet: Sheet { kind },
@@ -138,6 +139,7 @@ impl<F: Folder> Target<F> {
             writer,
             pool,
             draft,
+            spare: None,
         });
         Ok(Target {
             sheet: Sheet { kind },
@@ -181,6 +183,7 @@ impl<F: Folder> Target<F> {
                     writer,
                     pool,
                     draft,
+                    spare: None,
                 });
                 Ok(Target {
                     sheet: Sheet { kind },

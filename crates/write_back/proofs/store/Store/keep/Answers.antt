@@ -4,7 +4,7 @@ use Rattle.block_cache.proofs.Held.{dropped_is_gone}
 use Rattle.write_back.proofs.MetColumns.{dirty_admitted, ok_any}
 use Rattle.write_back.specs.Overlay.{HoldsDirty}
 use Rattle.write_back.proofs.Lines.{settled_none, settled_clean, settled_dirty}
-use Rattle.write_back.proofs.States.{admitted_sound, admitted_changes, serves_unwritten, serves_written, on_both, not_true, not_false}
+use Rattle.write_back.proofs.States.{admitted_sound, admitted_changes, serves_unwritten, serves_written, on_both}
 use Rattle.write_back.proofs.store.Store.keep.Goals as goal
 
 pub returns-in-Ok-None-clause-serves : goal.returns-in-Ok-None-clause-serves
@@ -36,14 +36,14 @@ returns-then-not-last-clause-changed g c =
     let p = c.args.self.now.pool in
     let o = c.in-Ok-Some.ensures in
     let out : Some (entry_dropped c.in-Ok-Some.last) ≡ dropped p.capacity c.args.key p.entries = rw c.in-Ok-Some.field-0-is at o.dropped in
-    let clean : c.in-Ok-Some.last.dirty ≡ false = not_true c.in-Ok-Some.last.dirty c.if-not-last.true in
+    let clean : c.in-Ok-Some.last.dirty ≡ false = c.if-not-last.true in
     record {
       long = refl;
       told = λ b has. admitted_changes h p c.admit.new.self c.args.key (entry_of c.args.block true) b b _ c.requires.sound o.entries o.valid c.requires.line.dataset_is refl has.kept has.long has.formed (settled_clean h p.capacity c.args.key p.entries b (entry_dropped c.in-Ok-Some.last) (sym out) clean) has.is;
     }
 
-pub write-requires-clause-line : goal.write-requires-clause-line
-write-requires-clause-line g c κs within =
+pub write_out-written-requires-clause-line : goal.write_out-written-requires-clause-line
+write_out-written-requires-clause-line g c κs within =
     let p = c.args.self.now.pool in
     let o = c.in-Ok-Some.ensures in
     let out : Some (entry_dropped c.in-Ok-Some.last) ≡ dropped p.capacity c.args.key p.entries = rw c.in-Ok-Some.field-0-is at o.dropped in
@@ -55,28 +55,28 @@ returns-in-Ok-Some-clause-serves g c =
     let h = c.args.self.now.writer in
     let p = c.args.self.now.pool in
     let o = c.in-Ok-Some.ensures in
-    let w = c.write.ensures in
+    let w = c.write_out-written.ensures in
     let out : Some (entry_dropped c.in-Ok-Some.last) ≡ dropped p.capacity c.args.key p.entries = rw c.in-Ok-Some.field-0-is at o.dropped in
-    let q : c.write.new.self.pool ≡ c.admit.new.self = w.pool in
+    let q : c.write_out-written.new.self.pool ≡ c.admit.new.self = w.pool in
     let sound = admitted_sound h p c.admit.new.self c.args.key (entry_of c.args.block true) c.requires.sound o.entries o.valid c.requires.line in
-    serves_written h _ _ p c.write.new.self.pool _ _ _ _ _ _ _ _ _ _ _ _ _ _ c.args.key (entry_dropped c.in-Ok-Some.last) c.requires.sound (rw q sound) (ap (λ (r : PoolView). r.capacity) (q ∙ o.entries)) c.requires.line.dataset_is c.requires.line.band c.requires.line.line c.requires.absent (sym out) w.names w.name w.reads w.cause.later w.calls w.one
+    serves_written h _ _ p c.write_out-written.new.self.pool _ _ _ _ _ _ _ _ _ _ _ _ _ _ c.args.key (entry_dropped c.in-Ok-Some.last) c.requires.sound (rw q sound) (ap (λ (r : PoolView). r.capacity) (q ∙ o.entries)) c.requires.line.dataset_is c.requires.line.band c.requires.line.line c.requires.absent (sym out) w.names w.name w.reads w.cause.later w.calls w.one
 
 pub returns-in-Ok-Some-clause-changed : goal.returns-in-Ok-Some-clause-changed
 returns-in-Ok-Some-clause-changed g c =
     let h = c.args.self.now.writer in
     let p = c.args.self.now.pool in
     let o = c.in-Ok-Some.ensures in
-    let w = c.write.ensures in
+    let w = c.write_out-written.ensures in
     let out : Some (entry_dropped c.in-Ok-Some.last) ≡ dropped p.capacity c.args.key p.entries = rw c.in-Ok-Some.field-0-is at o.dropped in
-    let dirty : c.in-Ok-Some.last.dirty ≡ true = not_false c.in-Ok-Some.last.dirty c.if-not-last.false in
+    let dirty : c.in-Ok-Some.last.dirty ≡ true = c.if-not-last.false in
     let gone = dropped_is_gone p.capacity c.args.key (entry_of c.args.block true) p.entries (entry_dropped c.in-Ok-Some.last) c.requires.sound.valid (sym out) in
     let line = c.requires.sound.lines c.in-Ok-Some.last.key (entry_dropped c.in-Ok-Some.last).1 gone.before in
-    let q : c.write.new.self.pool ≡ c.admit.new.self = w.pool in
-    on_both c.write.result _ _ _ (λ written len. record {
+    let q : c.write_out-written.new.self.pool ≡ c.admit.new.self = w.pool in
+    on_both c.write_out-written.result _ _ _ (λ written len. record {
       long = len;
       told = λ b has. (
           let now = written b has.is has.long in
-          admitted_changes h p c.write.new.self.pool c.args.key (entry_of c.args.block true) b now.0 _ c.requires.sound (q ∙ o.entries) (rw q o.valid) c.requires.line.dataset_is refl has.kept has.long has.formed
+          admitted_changes h p c.write_out-written.new.self.pool c.args.key (entry_of c.args.block true) b now.0 _ c.requires.sound (q ∙ o.entries) (rw q o.valid) c.requires.line.dataset_is refl has.kept has.long has.formed
           (settled_dirty h p.capacity c.args.key p.entries b now.0 (entry_dropped c.in-Ok-Some.last) (sym out) dirty line.dataset_is now.2) now.1
           );
     }) w.written w.len
@@ -90,4 +90,4 @@ returns-then-not-last-clause-dirty g c = let o = c.in-Ok-Some.ensures in dirty_a
 pub returns-in-Ok-Some-clause-dirty : goal.returns-in-Ok-Some-clause-dirty
 returns-in-Ok-Some-clause-dirty g c =
     let o = c.in-Ok-Some.ensures in
-    ok_any c.write.result (HoldsDirty c.write.new.self.pool.entries c.args.key) (dirty_admitted c.args.self.now.pool c.write.new.self.pool c.args.key (entry_of c.args.block true) c.requires.sound.valid (c.write.ensures.pool ∙ o.entries) refl)
+    ok_any c.write_out-written.result (HoldsDirty c.write_out-written.new.self.pool.entries c.args.key) (dirty_admitted c.args.self.now.pool c.write_out-written.new.self.pool c.args.key (entry_of c.args.block true) c.requires.sound.valid (c.write_out-written.ensures.pool ∙ o.entries) refl)

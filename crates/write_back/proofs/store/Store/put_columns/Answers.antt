@@ -1,18 +1,22 @@
-use Rattle.std.proofs.Common.{◌≡◌, ◌+◌, ◌-◌, ◌*◌, arith, refl, ap, sym, subst, ◌∙◌, length, map, get_or, pos}
-use Rattle.std.specs.List.{range_with_len}
+use Rattle.std.proofs.Common.{◌≡◌, ◌+◌, ◌-◌, ◌*◌, arith, ap, sym, subst, ◌∙◌, length, take, drop, get_or, pos}
 use Rattle.std.proofs.lemmas.List.FromFn.{length-map-range_with_len}
 use Rattle.write_back.specs.Forms.{IsSpot, AreHeld}
 use Rattle.write_back.specs.Overlay.{IsOverlaid, line_rect}
-use Rattle.write_back.proofs.MetColumns.{met_none, met_more, met_as}
-use Rattle.write_back.proofs.Lines.{AreColumns, column_in, columns_more, columns_none}
+use Rattle.write_back.proofs.MetColumns.{met_more, met_as}
+use Rattle.write_back.proofs.Lines.{AreColumns, column_in, columns_more}
+use Rattle.write_back.proofs.Transposed.{column_of}
 use Rattle.write_back.proofs.States.{serves_trans, serves_as, changes_trans, overlaid_as, columned, column_held}
 use Rattle.write_back.proofs.store.Store.put_columns.Goals as goal
 
 pub put-requires-clause-range : goal.put-requires-clause-range
 put-requires-clause-range g c κs within =
     let w = c.args.self.now.writer in
-    let line : c.gather.new.out ≡ column_in c.args.samples.now c.args.rect.w c.loop-x.x c.args.rect.h = c.gather.ensures.column in
-    subst (λ v. AreHeld v c.gather.new.out) (sym c.loop-x.invariant.head) (subst (AreHeld w) (sym line) (column_held w c.args.samples.now c.args.rect.w c.loop-x.x c.args.rect.h c.loop-x-test.true c.requires.size c.requires.range))
+    let from = (c.loop-x.x - c.turn_to-held.result.first) * c.args.rect.h in
+    let run = take (from + c.args.rect.h - from) (drop from c.turn_to-held.new.group) in
+    let line : run ≡ column_in c.args.samples.now c.args.rect.w c.loop-x.x c.args.rect.h =
+    ap (λ k. take k (drop from c.turn_to-held.new.group)) (omega arith)
+    ∙ column_of c.args.samples.now c.args.rect c.group_width-most.result c.turn_to-held.result c.turn_to-held.new.group c.loop-x.x (c.turn_to-held.auto.group ∙ c.loop-x.invariant.room) c.turn_to-held.ensures.held c.turn_to-held.ensures.first c.turn_to-held.ensures.last in
+    subst (λ v. AreHeld v run) (sym c.loop-x.invariant.head) (subst (AreHeld w) (sym line) (column_held w c.args.samples.now c.args.rect.w c.loop-x.x c.args.rect.h c.loop-x-test.true c.requires.size c.requires.range))
 
 pub loop-x-preserved : goal.loop-x-preserved
 loop-x-preserved g c =
@@ -22,11 +26,17 @@ loop-x-preserved g c =
     let xs = c.args.samples.now in
     let so_far = c.loop-x.invariant in
     let o = c.in_ok-put.ensures in
-    let line : c.gather.new.out ≡ column_in c.args.samples.now c.args.rect.w c.loop-x.x c.args.rect.h = c.gather.ensures.column in
-    let len : length c.gather.new.out ≡ c.args.rect.h = ap length line ∙ length-map-range_with_len (λ y. get_or c.args.samples.now (y * c.args.rect.w + c.loop-x.x) (pos 0)) 0 c.args.rect.h in
+    let from = (c.loop-x.x - c.turn_to-held.result.first) * c.args.rect.h in
+    let run = take (from + c.args.rect.h - from) (drop from c.turn_to-held.new.group) in
+    let line : run ≡ column_in c.args.samples.now c.args.rect.w c.loop-x.x c.args.rect.h =
+    ap (λ k. take k (drop from c.turn_to-held.new.group)) (omega arith)
+    ∙ column_of c.args.samples.now c.args.rect c.group_width-most.result c.turn_to-held.result c.turn_to-held.new.group c.loop-x.x (c.turn_to-held.auto.group ∙ c.loop-x.invariant.room) c.turn_to-held.ensures.held c.turn_to-held.ensures.first c.turn_to-held.ensures.last in
+    let len : length run ≡ c.args.rect.h = ap length line ∙ length-map-range_with_len (λ y. get_or c.args.samples.now (y * c.args.rect.w + c.loop-x.x) (pos 0)) 0 c.args.rect.h in
     record {
       head = o.head ∙ so_far.head;
-      room = c.gather.auto.out ∙ so_far.room;
+      room = c.turn_to-held.auto.group ∙ so_far.room;
+      first = omega (arith, c.turn_to-held.ensures.first);
+      held = c.turn_to-held.ensures.held;
       serves = serves_trans h x 0 1 0 _ _ _ so_far.serves (serves_as _ _ 1 0 _ _ so_far.head o.serves);
       changed = changes_trans h
           (AreColumns h c.args.band rect x xs)
