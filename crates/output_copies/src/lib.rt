@@ -1,4 +1,4 @@
-// Outputs of translations: copied strip by strip from a lane into a target, or made as a document, and published.
+// Outputs of translations: copied strip by strip from a team of lanes into a target, or made as a document, and published.
 #![tactic(auto)]
 
 mod copying;
@@ -6,5 +6,6 @@ mod documents;
 mod output;
 mod progress;
 mod texts;
+mod workers;
 
 pub use output::{Writing, write_output};

@@ -4,7 +4,7 @@ ghost use Rattle.outside.specs.Outside.{Files};
 ghost use Rattle.outside.specs.Reading.{WhereTold};
 ghost use Rattle.catalog.specs.Drivers.{Dataset};
 ghost use Rattle.catalog.specs.Walk.{IsWalked};
-ghost use Rattle.nearest_window.specs.Right.{IsFresh};
+ghost use Rattle.lane_teams.specs.Ready.{AreLanesFresh};
 ghost use Rattle.translate_plan.specs.declared.options.Driver.TheVariants.{Vrt};
 ghost use Rattle.write_back.specs.Plans.{output_of, IsNamedFor};
 ghost use Rattle.strip_copies.specs.Copies.{IsRoomFor, IsTranslation};
@@ -17,58 +17,72 @@ ghost use Rattle.output_copies.specs.Steps.{files_by, progress, raster_of, trans
 use crate::copying::{Copier, area, copy_all};
 use crate::documents::write_document;
 use crate::texts::{put_end, put_size};
+use crate::workers::{lines_by, worker_count};
 use error_lines::Fault;
 use geotransform::Sample;
 use outside::{Folder, Name, Sink, Steps};
 use std::marker::Brand;
 use std::sync::ledger::{Blank, Ledger};
-use strip_copies::{StripReader, Translation, strip_height};
+use std::thread::Threads;
+use strip_copies::{StripReader, Translation};
 use translate_plan::Driver;
 use write_back::Target;
 
-/// How an output is written: under which name, with how many blocks held at a time by what is read and by what is
-/// written, and whether nothing is told of the work.
+/// How an output is written: under which name, with how many blocks held at a time by each worker that reads and by what
+/// is written, by how many workers, and whether nothing is told of the work.
 #[derive(Clone, Copy)]
 pub struct Writing<'a> {
     pub name: &'a Name,
     pub blocks: u32,
+    pub workers: u32,
     pub quiet: bool,
 }
 
-// The reader and the count that a translation's lines are copied with.
+// Room for the lines of a strip of one band.
+fn room_for(translation: &Translation, workers: u32) -> Result<Vec<Sample>, Fault>
+    requires some { 1 ≤ workers }
+    requires few { workers ≤ 16 }
+    ensures long { IfOk result (λ samples. translation.now.plan.size.w * lines_copied workers translation.now.cat translation.now.plan ≤ length samples.items) }
+    ensures memory { IfErr result (λ f. f ≡ Fault.Memory) }
+{
+    let plan = &translation.plan;
+    let count = area(plan.size.w, lines_by(translation, workers));
+    let samples = vec![in translation.alloc; 0; count]?;
+    Ok(samples)
+}
+
+// The reader, the room and the count that a translation's lines are copied with.
 fn copier_for<F: Folder, L: Ledger, W: Ledger>(
     translation: &Translation,
-    blocks: u32,
+    writing: Writing,
     loads: Blank,
     writes: Blank,
 ) -> Result<Copier<F, L, W>, Fault>
     requires translation { IsTranslation translation.now.cat translation.now.id translation.now.plan }
-    requires some { 1 ≤ blocks }
-    requires few { blocks ≤ 65536 }
+    requires some { 1 ≤ writing.blocks }
+    requires few { writing.blocks ≤ 65536 }
+    requires workers_some { 1 ≤ writing.workers }
+    requires workers_few { writing.workers ≤ 16 }
     requires loads_name { loads.name ≡ L.name }
     requires loads_parts { loads.parts ≡ L.parts }
     requires loads_shares { 0 < loads.parts }
     requires writes_name { writes.name ≡ W.name }
     requires writes_parts { writes.parts ≡ W.parts }
     requires writes_shares { 0 < writes.parts }
-    ensures fresh { IfOk result (λ copier. IsFresh F.Folder copier.reader.pixels.lane) }
+    ensures fresh { IfOk result (λ copier. AreLanesFresh F.Folder copier.reader.team.lanes.items) }
     ensures room { IfOk result (λ copier. IsRoomFor translation.now.cat translation.now.id translation.now.plan copier.reader.columns copier.reader.samples.items) }
+    ensures long { IfOk result (λ copier. translation.now.plan.size.w * lines_copied writing.entry.workers translation.now.cat translation.now.plan ≤ length copier.samples.items) }
     ensures memory { IfErr result (λ f. f ≡ Fault.Memory) }
 {
-    let reader = StripReader::new(translation, blocks, loads)?;
+    let samples = room_for(translation, writing.workers)?;
+    let workers = worker_count(writing.workers);
+    let reader = StripReader::new(translation, workers, writing.blocks, loads)?;
     let writes = Steps::open(writes);
-    Ok(Copier { reader, writes })
-}
-
-// Room for the lines of a strip of one band.
-fn room_for(translation: &Translation) -> Result<Vec<Sample>, Fault>
-    ensures long { IfOk result (λ samples. translation.now.plan.size.w * lines_copied translation.now.cat translation.now.plan ≤ length samples.items) }
-    ensures memory { IfErr result (λ f. f ≡ Fault.Memory) }
-{
-    let plan = &translation.plan;
-    let count = area(plan.size.w, strip_height(translation));
-    let samples = vec![in translation.alloc; 0; count]?;
-    Ok(samples)
+    Ok(Copier {
+        reader,
+        samples,
+        writes,
+    })
 }
 
 // Publishes the files of an output, all lines of which were written.
@@ -90,7 +104,8 @@ fn publish<F: Folder, W: Ledger>(
 }
 
 // Copies the lines of an output, and publishes its files.
-fn write_files<F: Folder, O: Sink, L: Ledger, W: Ledger>(
+fn write_files<R: Threads + Sync, F: Folder, O: Sink, L: Ledger, W: Ledger>(
+    rt: &R,
     translation: &Translation,
     folder: &mut F,
     out: &mut O,
@@ -102,6 +117,8 @@ fn write_files<F: Folder, O: Sink, L: Ledger, W: Ledger>(
     requires walked { WhereTold F.Folder folder.old (λ m. IsWalked m translation.now.cat) }
     requires some { 1 ≤ writing.blocks }
     requires few { writing.blocks ≤ 65536 }
+    requires workers_some { 1 ≤ writing.workers }
+    requires workers_few { writing.workers ≤ 16 }
     requires files { translation.now.plan.driver ≢ Vrt }
     requires extension { IsNamedFor translation.now.plan writing.name.now }
     requires loads_name { loads.name ≡ L.name }
@@ -115,18 +132,16 @@ fn write_files<F: Folder, O: Sink, L: Ledger, W: Ledger>(
 {
     let alloc = translation.alloc;
     let plan = &translation.plan;
-    let blocks = writing.blocks;
-    let mut copier: Copier<F, L, W> = copier_for(translation, blocks, loads, writes)?;
-    let mut samples = room_for(translation)?;
-    let mut target = Target::create(alloc, folder, plan, writing.name, blocks)?;
+    let mut copier: Copier<F, L, W> = copier_for(translation, writing, loads, writes)?;
+    let mut target = Target::create(alloc, folder, plan, writing.name, writing.blocks)?;
     match copy_all(
+        rt,
         translation,
         &mut copier,
         folder,
         &mut target,
         out,
-        writing.quiet,
-        &mut samples,
+        writing,
     ) {
         Ok(()) => publish(translation, folder, target, &mut copier.writes),
         Err(fault) => {
@@ -137,7 +152,8 @@ fn write_files<F: Folder, O: Sink, L: Ledger, W: Ledger>(
 }
 
 // Writes what the driver of an output's plan makes of it.
-fn write_planned<F: Folder, O: Sink>(
+fn write_planned<R: Threads + Sync, F: Folder, O: Sink>(
+    rt: &R,
     translation: &Translation,
     folder: &mut F,
     out: &mut O,
@@ -147,6 +163,8 @@ fn write_planned<F: Folder, O: Sink>(
     requires walked { WhereTold F.Folder folder.old (λ m. IsWalked m translation.now.cat) }
     requires some { 1 ≤ writing.blocks }
     requires few { writing.blocks ≤ 65536 }
+    requires workers_some { 1 ≤ writing.workers }
+    requires workers_few { writing.workers ≤ 16 }
     requires extension { IsNamedFor translation.now.plan writing.name.now }
     ensures goes { (m : Files) (d : Dataset) → F.names folder.old ≡ Some m → slice_get translation.now.cat translation.now.id ≡ Some d → Goes (all_done (unless_quiet writing.entry.quiet progress ++ publishes (written m d translation.now.plan writing.entry.name.now))) m result (F.names folder.new) (O.got out.old) (O.got out.new) }
     ensures ends { MayEnd (F.names folder.old) (F.faults folder.old) (F.faults folder.new) (O.faults out.old) (O.faults out.new) result }
@@ -155,7 +173,8 @@ fn write_planned<F: Folder, O: Sink>(
     if let Driver::Vrt = translation.plan.driver {
         return write_document(translation, folder, out, writing);
     }
-    write_files::<F, O, Brand, Brand>(
+    write_files::<R, F, O, Brand, Brand>(
+        rt,
         translation,
         folder,
         out,
@@ -168,12 +187,13 @@ fn write_planned<F: Folder, O: Sink>(
 /// Does a translation: tells the size of the source, copies the pixels of the output strip by strip, telling how far
 /// it is, publishes the files of the output, each whole, its data first, and tells that it is done. Of a mosaic no pixel
 /// is copied, and its document is published. The name's extension is one of the plan's driver, and 1 to 65,536 blocks
-/// are held at a time.
+/// are held at a time by each of 1 to 16 workers. What is told and published is the same for every number of blocks and of workers.
 ///
 /// FolderFault and OutFault come only where the count of the folder and of the output rose, Changed only where a file
 /// was opened again and had another length than the walk found, or was absent, and Memory freely. All names but those
 /// that were published by then keep what they held, and no draft is left.
-pub fn write_output<F: Folder, O: Sink>(
+pub fn write_output<R: Threads + Sync, F: Folder, O: Sink>(
+    rt: &R,
     translation: &Translation,
     folder: &mut F,
     out: &mut O,
@@ -183,6 +203,8 @@ pub fn write_output<F: Folder, O: Sink>(
     requires walked { WhereTold F.Folder folder.old (λ m. IsWalked m translation.now.cat) }
     requires some { 1 ≤ writing.blocks }
     requires few { writing.blocks ≤ 65536 }
+    requires workers_some { 1 ≤ writing.workers }
+    requires workers_few { writing.workers ≤ 16 }
     requires extension { IsNamedFor translation.now.plan writing.name.now }
     // over a folder that tells its files: all the steps are done, or where the outside failed the first of them
     ensures told { WhereTold F.Folder folder.old (λ m. (d : Dataset) → slice_get translation.now.cat translation.now.id ≡ Some d → Goes (all_done (translation_steps writing.entry.quiet m d translation.now.plan writing.entry.name.now)) m result (F.names folder.new) (O.got out.old) (O.got out.new)) }
@@ -191,6 +213,6 @@ pub fn write_output<F: Folder, O: Sink>(
     ensures cause { HasCauses (F.faults folder.old) (F.faults folder.new) (O.faults out.old) (O.faults out.new) result }
 {
     put_size(translation, out, writing.quiet)?;
-    write_planned(translation, folder, out, writing)?;
+    write_planned(rt, translation, folder, out, writing)?;
     put_end(out, writing.quiet)
 }

@@ -2,6 +2,7 @@ use Rattle.std.proofs.Common.{◌≡◌, ◌∙◌, refl, arith, sym, subst, ℕ
 use Rattle.error_lines.specs.Faults.{target_fault_of}
 use Rattle.error_lines.specs.Steps.{all_done, publishes, Goes}
 use Rattle.write_back.specs.Plans.{output_of}
+use Rattle.lane_teams.proofs.Lanes.{lanes_begin}
 use Rattle.output_copies.specs.Copying.{MayEnd}
 use Rattle.output_copies.specs.Steps.{files_by, progress, raster_of, unless_quiet}
 use Rattle.output_copies.proofs.Ends.{ends_after, ends_beside, ends_so, ends_target, err_is, outside_memory, outside_target}
@@ -13,11 +14,6 @@ pub returns-in_err-copier-clause-goes : goal.returns-in_err-copier-clause-goes
 returns-in_err-copier-clause-goes g c = λ m d told at.
     goes_refused (samples_steps c.args.writing.quiet m d c.args.translation.now.plan c.args.writing.name.now) m c.from_residual.result c.in_err-copier.field-0.0 (g.F.Folder.names c.args.folder.now) (g.O.Sink.got c.args.out.now)
     (err_is c.from_residual.result c.in_err-copier.field-0.0 c.from_residual.ensures) told (outside_memory c.in_err-copier.field-0.0 c.in_err-copier.ensures.memory)
-
-pub returns-in_err-samples-clause-goes : goal.returns-in_err-samples-clause-goes
-returns-in_err-samples-clause-goes g c = λ m d told at.
-    goes_refused (samples_steps c.args.writing.quiet m d c.args.translation.now.plan c.args.writing.name.now) m c.from_residual-in_err-samples.result c.in_err-samples.field-0.0 (g.F.Folder.names c.args.folder.now) (g.O.Sink.got c.args.out.now)
-    (err_is c.from_residual-in_err-samples.result c.in_err-samples.field-0.0 c.from_residual-in_err-samples.ensures) told (outside_memory c.in_err-samples.field-0.0 c.in_err-samples.ensures.memory)
 
 pub returns-in_err-target-clause-goes : goal.returns-in_err-target-clause-goes
 returns-in_err-target-clause-goes g c = λ m d told at.
@@ -34,7 +30,7 @@ returns-in_err-target-clause-ends g c =
     (ends_target t told (g.F.Folder.faults c.args.folder.now) (g.F.Folder.faults c.create.new.folder) c.in_err-target.ensures.cause))
 
 pub copy_all-requires-clause-ready : goal.copy_all-requires-clause-ready
-copy_all-requires-clause-ready g c κs within = c.in_ok-copier.ensures.fresh c.create.new.folder c.args.translation.now.cat (λ m is. c.requires.walked m (sym c.create.ensures.names ∙ is))
+copy_all-requires-clause-ready g c κs within = lanes_begin g.F.Folder c.args.translation.now.cat _ c.create.new.folder (λ m is. c.requires.walked m (sym c.create.ensures.names ∙ is)) c.in_ok-copier.ensures.fresh
 
 pub returns-in-Ok-clause-goes : goal.returns-in-Ok-clause-goes
 returns-in-Ok-clause-goes g c = λ m d told at.
