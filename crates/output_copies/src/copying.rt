@@ -1,16 +1,13 @@
 // Lines of a translation's output, copied into a target.
-ghost use Rattle.std.specs.Prelude.{◌≡◌, ◌<◌, ◌≤◌, ◌+◌, ◌-◌, ◌*◌, ℕ, Option, Some, OnOk, OnErr, length, slice_get};
+ghost use Rattle.std.specs.Prelude.{◌≡◌, ◌<◌, ◌≤◌, ◌+◌, ◌-◌, ◌*◌, ℕ, Option, Some, OnOk, OnErr, length, slice_get, true};
 ghost use Rattle.outside.specs.Outside.{Files};
 ghost use Rattle.outside.specs.Streams.{Gets, GetsPart};
 ghost use Rattle.lane_teams.specs.Ready.{AreLanesReady};
 ghost use Rattle.strip_copies.specs.Copies.{IsRoomFor, IsTranslation};
-ghost use Rattle.strip_copies.specs.Heights.{lines_copied};
 ghost use Rattle.output_copies.specs.Copying.{spoken, IsFilled, MayEnd};
 ghost use Rattle.output_copies.specs.Steps.{progress};
 
-use crate::output::Writing;
 use crate::progress::{Share, tell};
-use crate::workers::lines_by;
 use error_lines::Fault;
 use geotransform::{Rect, Sample};
 use outside::{Folder, Sink, Steps};
@@ -19,13 +16,14 @@ use std::thread::Threads;
 use strip_copies::{Lines, StripReader, Translation, read_lines};
 use write_back::Target;
 
-/// What lines are copied with: a reader, room for the lines of a strip of one band, which is made once, and the count of
-/// the blocks that are written.
+/// What lines are copied with: a reader, the count of the blocks that are written, how many lines are copied at a time, and
+/// whether nothing is told.
 #[derive(Drop)]
 pub struct Copier<F: Folder, L: Ledger, W: Ledger> {
     pub reader: StripReader<F, L>,
-    pub samples: Vec<Sample>,
     pub writes: Steps<W>,
+    pub rows: u32,
+    pub quiet: bool,
 }
 
 /// The samples of so many lines of so many columns.
@@ -50,11 +48,12 @@ fn copy_band<R: Threads + Sync, F: Folder, L: Ledger, W: Ledger>(
     folder: &mut F,
     target: &mut Target<F>,
     lines: Lines,
+    samples: &mut [Sample],
 ) -> Result<(), Fault>
     requires translation { IsTranslation translation.now.cat translation.now.id translation.now.plan }
     requires ready { AreLanesReady F.Folder folder.old translation.now.cat copier.old.reader.team.lanes.items }
     requires room { IsRoomFor translation.now.cat translation.now.id translation.now.plan copier.old.reader.columns copier.old.reader.samples.items }
-    requires long { translation.now.plan.size.w * (lines.end - lines.first) ≤ length copier.old.samples.items }
+    requires long { translation.now.plan.size.w * (lines.end - lines.first) ≤ length samples.old }
     requires band { lines.band < length translation.now.plan.bands }
     requires order { lines.first < lines.end }
     requires end { lines.end ≤ translation.now.plan.size.h }
@@ -63,7 +62,6 @@ fn copy_band<R: Threads + Sync, F: Folder, L: Ledger, W: Ledger>(
     ensures name { target.new.name ≡ target.old.name }
     ensures ready { AreLanesReady F.Folder folder.new translation.now.cat copier.new.reader.team.lanes.items }
     ensures room { IsRoomFor translation.now.cat translation.now.id translation.now.plan copier.new.reader.columns copier.new.reader.samples.items }
-    ensures long { length copier.new.samples.items ≡ length copier.old.samples.items }
     ensures names { F.names folder.new ≡ F.names folder.old }
     ensures ends { MayEnd (F.names folder.old) (F.faults folder.old) (F.faults folder.new) 0 0 result }
 {
@@ -79,7 +77,6 @@ fn copy_band<R: Threads + Sync, F: Folder, L: Ledger, W: Ledger>(
     };
     let reader = &mut copier.reader;
     let writes = &mut copier.writes;
-    let samples = copier.samples.as_mut_slice();
     let part = &mut samples[..area(size.w, height)];
     read_lines(rt, translation, reader, folder, lines, part)?;
     let alloc = translation.alloc;
@@ -95,11 +92,12 @@ fn copy_strip<R: Threads + Sync, F: Folder, L: Ledger, W: Ledger>(
     folder: &mut F,
     target: &mut Target<F>,
     strip: Strip,
+    samples: &mut [Sample],
 ) -> Result<(), Fault>
     requires translation { IsTranslation translation.now.cat translation.now.id translation.now.plan }
     requires ready { AreLanesReady F.Folder folder.old translation.now.cat copier.old.reader.team.lanes.items }
     requires room { IsRoomFor translation.now.cat translation.now.id translation.now.plan copier.old.reader.columns copier.old.reader.samples.items }
-    requires long { translation.now.plan.size.w * (strip.end - strip.first) ≤ length copier.old.samples.items }
+    requires long { translation.now.plan.size.w * (strip.end - strip.first) ≤ length samples.old }
     requires order { strip.first < strip.end }
     requires end { strip.end ≤ translation.now.plan.size.h }
     requires filled { IsFilled (F.names folder.old) translation.now.cat translation.now.id translation.now.plan target.old strip.first strip.first 0 }
@@ -107,7 +105,6 @@ fn copy_strip<R: Threads + Sync, F: Folder, L: Ledger, W: Ledger>(
     ensures name { target.new.name ≡ target.old.name }
     ensures ready { AreLanesReady F.Folder folder.new translation.now.cat copier.new.reader.team.lanes.items }
     ensures room { IsRoomFor translation.now.cat translation.now.id translation.now.plan copier.new.reader.columns copier.new.reader.samples.items }
-    ensures long { length copier.new.samples.items ≡ length copier.old.samples.items }
     ensures names { F.names folder.new ≡ F.names folder.old }
     ensures ends { MayEnd (F.names folder.old) (F.faults folder.old) (F.faults folder.new) 0 0 result }
 {
@@ -120,7 +117,7 @@ fn copy_strip<R: Threads + Sync, F: Folder, L: Ledger, W: Ledger>(
             first: strip.first,
             end: strip.end,
         };
-        copy_band(rt, translation, copier, folder, target, lines)?;
+        copy_band(rt, translation, copier, folder, target, lines, samples)?;
     }
     Ok(())
 }
@@ -133,33 +130,33 @@ pub fn copy_all<R: Threads + Sync, F: Folder, O: Sink, L: Ledger, W: Ledger>(
     folder: &mut F,
     target: &mut Target<F>,
     out: &mut O,
-    writing: Writing,
+    samples: &mut [Sample],
 ) -> Result<(), Fault>
     requires translation { IsTranslation translation.now.cat translation.now.id translation.now.plan }
     requires ready { AreLanesReady F.Folder folder.old translation.now.cat copier.old.reader.team.lanes.items }
     requires room { IsRoomFor translation.now.cat translation.now.id translation.now.plan copier.old.reader.columns copier.old.reader.samples.items }
-    requires workers_some { 1 ≤ writing.workers }
-    requires workers_few { writing.workers ≤ 16 }
-    requires long { translation.now.plan.size.w * lines_copied writing.workers translation.now.cat translation.now.plan ≤ length copier.old.samples.items }
+    requires rows { 1 ≤ copier.old.rows }
+    requires long { translation.now.plan.size.w * copier.old.rows ≤ length samples.old }
     requires filled { IsFilled (F.names folder.old) translation.now.cat translation.now.id translation.now.plan target.old 0 0 0 }
     ensures filled { OnOk result (IsFilled (F.names folder.new) translation.now.cat translation.now.id translation.now.plan target.new translation.now.plan.size.h translation.now.plan.size.h 0) }
     ensures name { target.new.name ≡ target.old.name }
     ensures names { F.names folder.new ≡ F.names folder.old }
-    ensures ok { OnOk result (Gets (spoken writing.entry.quiet progress) (O.got out.old) (O.got out.new)) }
-    ensures err { OnErr result (GetsPart (spoken writing.entry.quiet progress) (O.got out.old) (O.got out.new)) }
+    ensures ok { OnOk result (Gets (spoken copier.old.quiet progress) (O.got out.old) (O.got out.new)) }
+    ensures err { OnErr result (GetsPart (spoken copier.old.quiet progress) (O.got out.old) (O.got out.new)) }
+    ensures quiet { copier.old.quiet ≡ true → out.new ≡ out.old }
     ensures ends { MayEnd (F.names folder.old) (F.faults folder.old) (F.faults folder.new) (O.faults out.old) (O.faults out.new) result }
 {
     let plan = &translation.plan;
     plan.rules();
     let height = plan.size.h;
-    let quiet = writing.quiet;
-    let rows = lines_by(translation, writing.workers);
+    let rows = copier.rows;
+    let quiet = copier.quiet;
     let mut told = tell(out, quiet, 0, Share { done: 0, height })?;
     let mut line = 0;
     while line < height {
         let end = line + rows.min(height - line);
         let strip = Strip { first: line, end };
-        copy_strip(rt, translation, copier, folder, target, strip)?;
+        copy_strip(rt, translation, copier, folder, target, strip, samples)?;
         told = tell(out, quiet, told, Share { done: end, height })?;
         line = end;
     }

@@ -6,6 +6,5 @@ mod documents;
 mod output;
 mod progress;
 mod texts;
-mod workers;
 
 pub use output::{Writing, write_output};

@@ -8,7 +8,6 @@ pub loop-band-init : goal.loop-band-init
 loop-band-init g c = record {
   ready = c.requires.ready;
   room = c.requires.room;
-  long = refl;
   filled = filled_to (g.F.Folder.names c.args.folder.now) c.args.translation.now.cat c.args.translation.now.id c.args.translation.now.plan c.rules.ensures.kept c.args.target.now c.args.strip.first c.args.strip.first c.args.strip.end c.requires.filled;
   name = refl;
   names = refl;
