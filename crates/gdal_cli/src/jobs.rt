@@ -35,8 +35,16 @@ use outside::{Folder, Input, Name, Sink};
 use std::alloc::Global;
 use std::marker::Brand;
 use std::sync::ledger::{Blank, Ledger};
+use std::thread::Threads;
 use synth_runs::put_rasters;
 use translation_runs::Way;
+
+/// What a run stands on: what starts threads, and where memory comes from.
+#[derive(Drop)]
+pub struct Host<'a, R: Threads + Sync> {
+    pub rt: &'a R,
+    pub alloc: Global,
+}
 
 // How points of a dataset are asked for.
 #[derive(Clone, Copy)]
@@ -165,8 +173,8 @@ fn put_location<F: Folder, I: Input, O: Sink>(
 /// Each refusal comes where the files are judged, before anything is put, but for BadPoint and the limit of points, which
 /// come at their line of the input, and for the run from a number, whose later parts read what the earlier ones published. FolderFault, InputFault and OutFault come only where the count of the folder, of the
 /// input and of the output rose, Changed only over a folder that doesn't tell its names, Memory freely.
-pub fn put_job<F: Folder, I: Input, O: Sink, E: Sink>(
-    alloc: Global,
+pub fn put_job<R: Threads + Sync, F: Folder, I: Input, O: Sink, E: Sink>(
+    host: &Host<R>,
     folder: &mut F,
     input: &mut I,
     out: &mut O,
@@ -190,8 +198,10 @@ pub fn put_job<F: Folder, I: Input, O: Sink, E: Sink>(
     ensures changed { HasChanged (F.names folder.old) (ended result) }
     ensures own { OwnsFault (ended result) }
 {
+    let alloc = host.alloc;
     let verify = command.verify;
     let blocks = command.blocks;
+    let workers = command.workers;
     match command.job {
         Job::Info { name } => put_info(alloc, folder, out, &name, verify),
         Job::Locate {
@@ -218,9 +228,10 @@ pub fn put_job<F: Folder, I: Input, O: Sink, E: Sink>(
             let way = Way {
                 verify,
                 blocks,
+                workers,
                 quiet,
             };
-            put_translated(alloc, folder, out, &src, &options, way)
+            put_translated(host.rt, alloc, folder, out, &src, &options, way)
         }
         Job::Build {
             inputs,
@@ -236,6 +247,8 @@ pub fn put_job<F: Folder, I: Input, O: Sink, E: Sink>(
             };
             put_build(alloc, folder, out, err, failed, inputs, building)
         }
-        Job::Synth { ref side } => put_rasters(alloc, folder, out, *side, blocks),
+        Job::Synth { ref side } => {
+            put_rasters(host.rt, alloc, folder, out, *side, blocks, workers)
+        }
     }
 }
