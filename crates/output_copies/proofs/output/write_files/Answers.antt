@@ -1,9 +1,10 @@
-use Rattle.std.proofs.Common.{◌≡◌, ◌∙◌, refl, arith, sym, subst, ℕ, List, Some, Err}
+use Rattle.std.proofs.Common.{◌≡◌, ◌∙◌, refl, arith, sym, subst, ℕ, Bool, List, Some, Err}
+use Rattle.outside.specs.Streams.{Gets, GetsPart}
 use Rattle.error_lines.specs.Faults.{target_fault_of}
 use Rattle.error_lines.specs.Steps.{all_done, publishes, Goes}
 use Rattle.write_back.specs.Plans.{output_of}
 use Rattle.lane_teams.proofs.Lanes.{lanes_begin}
-use Rattle.output_copies.specs.Copying.{MayEnd}
+use Rattle.output_copies.specs.Copying.{spoken, MayEnd}
 use Rattle.output_copies.specs.Steps.{files_by, progress, raster_of, unless_quiet}
 use Rattle.output_copies.proofs.Ends.{ends_after, ends_beside, ends_so, ends_target, err_is, outside_memory, outside_target}
 use Rattle.output_copies.proofs.Goes.{goes_refused, goes_stop, goes_then, spoken_done, spoken_stops}
@@ -46,7 +47,7 @@ returns-in-Ok-clause-goes g c = λ m d told at.
     let names : g.F.Folder.names c.copy_all.new.folder ≡ Some m = c.copy_all.ensures.names ∙ (c.create.ensures.names ∙ told) in
     let name : c.copy_all.new.target.name ≡ c.args.writing.now.name.now = c.copy_all.ensures.name ∙ c.in_ok-target.ensures.name in
     goes_then (unless_quiet q progress) (publishes (files_by (output_of p) c.args.writing.now.name.now (raster_of m d p))) m m c.publish.result (g.F.Folder.names c.publish.new.folder) before after after
-    (spoken_done q progress m (Some m) before after refl c.in-Ok.ensures.ok)
+    (spoken_done q progress m (Some m) before after refl (subst (λ (b : Bool). Gets (spoken b progress) before after) c.in_ok-copier.ensures.quiet c.in-Ok.ensures.ok))
     (subst (λ (n : List ℕ). Goes (all_done (publishes (files_by (output_of p) n (raster_of m d p)))) m c.publish.result (g.F.Folder.names c.publish.new.folder) (g.O.Sink.got c.copy_all.new.out) (g.O.Sink.got c.copy_all.new.out)) name
     (c.publish.ensures.goes m d names at after))
 
@@ -65,7 +66,7 @@ returns-clause-goes g c = λ m d told at.
     let f = c.in-Err.fault in
     let here : g.F.Folder.names c.create.new.folder ≡ Some m = c.create.ensures.names ∙ told in
     goes_stop (unless_quiet q progress) (publishes (files_by (output_of p) c.args.writing.now.name.now (raster_of m d p))) m f (g.F.Folder.names c.give_up.new.folder) (g.O.Sink.got c.args.out.now) (g.O.Sink.got c.copy_all.new.out)
-    (spoken_stops q progress f m (g.F.Folder.names c.give_up.new.folder) (g.O.Sink.got c.args.out.now) (g.O.Sink.got c.copy_all.new.out) (c.give_up.ensures.names ∙ (c.copy_all.ensures.names ∙ here)) (c.in-Err.ensures.ends.never m here) c.in-Err.ensures.err)
+    (spoken_stops q progress f m (g.F.Folder.names c.give_up.new.folder) (g.O.Sink.got c.args.out.now) (g.O.Sink.got c.copy_all.new.out) (c.give_up.ensures.names ∙ (c.copy_all.ensures.names ∙ here)) (c.in-Err.ensures.ends.never m here) (subst (λ (b : Bool). GetsPart (spoken b progress) (g.O.Sink.got c.args.out.now) (g.O.Sink.got c.copy_all.new.out)) c.in_ok-copier.ensures.quiet c.in-Err.ensures.err))
 
 pub returns-clause-ends : goal.returns-clause-ends
 returns-clause-ends g c =
