@@ -17,12 +17,7 @@ fn samples(alloc: Global) -> Result<Vec<u8>, Unmade> {
     Ok(bytes)
 }
 
-static BESIDE: [Row<'static>; 1] = [(
-    "gdal_translate -q --workers 2 tall.bil out.bil",
-    0,
-    "",
-    "",
-)];
+static BESIDE: [Row<'static>; 1] = [("gdal_translate -q --workers 2 tall.bil out.bil", 0, "", "")];
 
 // Whether two workers, each of which waits for the other to read, copy the lines.
 fn is_copied<R: Threads + Sync>(rt: &R, alloc: Global) -> Result<bool, Unmade> {
@@ -51,12 +46,7 @@ static NUMBERS: [Row<'static>; 4] = [
         "",
         "",
     ),
-    (
-        "gdal_translate -q --workers 16 tall.bil d.bil",
-        0,
-        "",
-        "",
-    ),
+    ("gdal_translate -q --workers 16 tall.bil d.bil", 0, "", ""),
 ];
 
 // Whether each number of workers copies the same lines.

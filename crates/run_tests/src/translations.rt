@@ -329,12 +329,7 @@ PIXELTYPE      UNSIGNEDINT
     (
         &[
             ("gdal_translate -q --blocks 1 two.bil out.bsq", 0, "", ""),
-            (
-                "gdal_translate -q --workers 2 two.bil other.bsq",
-                0,
-                "",
-                "",
-            ),
+            ("gdal_translate -q --workers 2 two.bil other.bsq", 0, "", ""),
         ],
         &[
             ("out.bsq", &[1, 2, 3, 7, 8, 9, 4, 5, 6, 10, 11, 12]),
