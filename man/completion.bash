@@ -1,7 +1,7 @@
 # Completions of the five commands for bash: source this file.
 
 _jirovamby() {
-    local word=$2 before=$3 options='--config --blocks'
+    local word=$2 before=$3 options='--config --blocks --workers'
     case $before in
         -of) mapfile -t COMPREPLY < <(compgen -W 'EHdr DTED SRTMHGT AAIGrid VRT' -- "$word") && return ;;
         -ot) mapfile -t COMPREPLY < <(compgen -W 'Byte UInt16 Int16 UInt32 Int32' -- "$word") && return ;;

@@ -24,6 +24,9 @@ REFUSALS = (
     ("gdalinfo --blocks 0 sample/hills.bil", WORD.format(2)),
     ("gdalinfo --blocks 65537 sample/hills.bil", WORD.format(2)),
     ("gdalinfo --blocks 1e3 sample/hills.bil", WORD.format(2)),
+    ("gdalinfo --workers 0 sample/hills.bil", WORD.format(2)),
+    ("gdalinfo --workers 17 sample/hills.bil", WORD.format(2)),
+    ("gdalinfo --workers +5 sample/hills.bil", WORD.format(2)),
     ("gdalinfo n47.dt1 --config DTED_VERIFY_CHECKSUM", WORD.format(4)),
     ("gdalinfo", WORD.format(1)),
     ("gdalinfo -stats sample/hills.bil", WORD.format(1)),
@@ -78,6 +81,7 @@ REFUSALS = (
     ("synth -q 4", WORD.format(1)),
     ("synth 4 5", WORD.format(2)),
     ("synth --blocks 0 45", WORD.format(2)),
+    ("synth --workers 0 45", WORD.format(2)),
 )
 
 

@@ -17,7 +17,7 @@ use Rattle.command_words.specs.declared.command.Job.TheVariants.{Info, Locate, T
 use Rattle.command_words.specs.declared.spoken.WordFault.TheVariants.{Usage}
 use Rattle.command_words.specs.Options.{shared_option_of, own_option_of}
 use Rattle.command_words.specs.Values.{format_of, layout_of, nodata_of, resolution_named}
-use Rattle.command_words.specs.Said.{config_said, window_said, places_said, outsize_said, band_said, blocks_said, format_said, nodata_said, kind_said, creation_said, resolution_said, pixel_size_said, extent_said, source_nodata_said, mosaic_nodata_said, list_said}
+use Rattle.command_words.specs.Said.{config_said, window_said, places_said, outsize_said, band_said, blocks_said, workers_said, format_said, nodata_said, kind_said, creation_said, resolution_said, pixel_size_said, extent_said, source_nodata_said, mosaic_nodata_said, list_said}
 use Rattle.command_words.specs.Uses.{placed_said, spoken_of, spoken_in}
 use Rattle.command_words.specs.Jobs.{written_of, asked_of, asked_mosaic, info_job, locate_job, translate_job, build_job, synth_job}
 use Rattle.command_words.specs.Words.{command_of, words_of}
@@ -28,18 +28,19 @@ translated : words_of (codes "gdal_translate" ∷ codes "-b" ∷ codes "2" ∷ c
       job = Translate (codes "a.bil") (record { driver = EHdr; layout = Bip; out = codes "out.bil"; bands = 2 ∷ 1 ∷ []; view = Pixels (pos 3) (neg_ℤ (pos 1)) (pos 4) (pos 1); outsize = Some (Count 2, Percent 50); nodata = Number (pos 9); kind = Some UInt16; epo = false; eco = false }) true;
       verify = false;
       blocks = 64;
+      workers = 1;
     })
 unfolding words_of command_of spoken_in spoken_of translate_job asked_of written_of extension_of ending_of last_part kind_of shared_option_of own_option_of window_said outsize_said band_said nodata_said kind_said creation_said placed_said layout_of nodata_of normal whole_of parts_of type_named
 translated = refl
 
 -- a setting that is no, and a word with a dash as the value of another
 reported : words_of (codes "gdalinfo" ∷ codes "--config" ∷ codes "DTED_VERIFY_CHECKSUM" ∷ codes "YES" ∷ codes "--config" ∷ codes "-b" ∷ codes "--blocks" ∷ codes "./a.dt0" ∷ codes "--blocks" ∷ codes "7" ∷ [])
-    ≡ Ok (record { job = Info (codes "a.dt0"); verify = true; blocks = 7 })
+    ≡ Ok (record { job = Info (codes "a.dt0"); verify = true; blocks = 7; workers = 1 })
 unfolding words_of command_of spoken_in spoken_of info_job shared_option_of own_option_of config_said blocks_said placed_said normal
 reported = refl
 
 located : words_of (codes "gdallocationinfo" ∷ codes "a.bil" ∷ codes "-lifonly" ∷ codes "-b" ∷ codes "2" ∷ [])
-    ≡ Ok (record { job = Locate (codes "a.bil") None (2 ∷ []) FilesOnly false; verify = false; blocks = 64 })
+    ≡ Ok (record { job = Locate (codes "a.bil") None (2 ∷ []) FilesOnly false; verify = false; blocks = 64; workers = 1 })
 unfolding words_of command_of spoken_in spoken_of locate_job shared_option_of own_option_of band_said placed_said normal
 located = refl
 
@@ -87,6 +88,7 @@ built : words_of (codes "gdalbuildvrt" ∷ codes "-te" ∷ codes "0" ∷ codes "
       job = Build (codes "a.bil" ∷ codes "b.bil" ∷ []) (Some (codes "l.txt")) (record { out = codes "out.vrt"; bands = []; resolution = User (pos 180000000000000000) (pos 90000000000000000); extent = Some (record { xmin = pos 0; ymin = neg_ℤ (pos 180000000000000000); xmax = pos 360000000000000000; ymax = pos 180000000000000000 }); src_nodata = Remove; vrt_nodata = Number (neg_ℤ (pos 7)); separate = true; strict = true }) true;
       verify = false;
       blocks = 64;
+      workers = 1;
     })
 unfolding words_of command_of spoken_in spoken_of build_job asked_mosaic written_of extension_of ending_of last_part kind_of shared_option_of own_option_of pixel_size_said extent_said source_nodata_said mosaic_nodata_said list_said placed_said nodata_of normal ticks_of whole_of parts_of
 built = refl
@@ -102,17 +104,31 @@ unfolding words_of command_of spoken_in spoken_of build_job asked_mosaic written
 size_beside_word = refl
 
 -- the side of the tiles, alone, beside a count of blocks and beside a setting that has no effect; the greatest one
-made : words_of (codes "synth" ∷ codes "45" ∷ []) ≡ Ok (record { job = Synth 45; verify = false; blocks = 64 })
+made : words_of (codes "synth" ∷ codes "45" ∷ []) ≡ Ok (record { job = Synth 45; verify = false; blocks = 64; workers = 1 })
 unfolding words_of command_of spoken_in spoken_of synth_job shared_option_of own_option_of placed_said
 made = refl
 
-made_by_one_block : words_of (codes "synth" ∷ codes "45" ∷ codes "--blocks" ∷ codes "1" ∷ []) ≡ Ok (record { job = Synth 45; verify = false; blocks = 1 })
+made_by_one_block : words_of (codes "synth" ∷ codes "45" ∷ codes "--blocks" ∷ codes "1" ∷ []) ≡ Ok (record { job = Synth 45; verify = false; blocks = 1; workers = 1 })
 unfolding words_of command_of spoken_in spoken_of synth_job shared_option_of own_option_of blocks_said placed_said
 made_by_one_block = refl
 
-greatest_side : words_of (codes "synth" ∷ codes "--config" ∷ codes "A" ∷ codes "B" ∷ codes "4096" ∷ []) ≡ Ok (record { job = Synth 4096; verify = false; blocks = 64 })
+greatest_side : words_of (codes "synth" ∷ codes "--config" ∷ codes "A" ∷ codes "B" ∷ codes "4096" ∷ []) ≡ Ok (record { job = Synth 4096; verify = false; blocks = 64; workers = 1 })
 unfolding words_of command_of spoken_in spoken_of synth_job shared_option_of own_option_of config_said placed_said
 greatest_side = refl
+
+-- the last number of workers counts, beside a count of blocks; one of more than sixteen, and none, are named
+read_by_workers : words_of (codes "gdalinfo" ∷ codes "--workers" ∷ codes "3" ∷ codes "a.dt0" ∷ codes "--blocks" ∷ codes "2" ∷ codes "--workers" ∷ codes "16" ∷ [])
+    ≡ Ok (record { job = Info (codes "a.dt0"); verify = false; blocks = 2; workers = 16 })
+unfolding words_of command_of spoken_in spoken_of info_job shared_option_of own_option_of blocks_said workers_said placed_said normal
+read_by_workers = refl
+
+too_many_workers : words_of (codes "synth" ∷ codes "--workers" ∷ codes "17" ∷ codes "45" ∷ []) ≡ Err (Usage 2)
+unfolding words_of spoken_in shared_option_of own_option_of workers_said placed_said
+too_many_workers = refl
+
+no_workers : words_of (codes "gdalbuildvrt" ∷ codes "--workers" ∷ codes "0" ∷ []) ≡ Err (Usage 2)
+unfolding words_of spoken_in shared_option_of own_option_of workers_said placed_said
+no_workers = refl
 
 -- sides out of range are named
 no_side : words_of (codes "synth" ∷ codes "0" ∷ []) ≡ Err (Usage 1)

@@ -21,6 +21,7 @@ unfolding spoken_of
 spoken_more at said.Setting uses = refl
 spoken_more at (said.Verification on) uses = refl
 spoken_more at (said.Blocks blocks) uses = refl
+spoken_more at (said.Workers workers) uses = refl
 spoken_more at (said.Band band) uses = refl
 spoken_more at said.ValuesOnly uses = refl
 spoken_more at said.FilesOnly uses = refl

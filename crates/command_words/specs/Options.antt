@@ -13,6 +13,7 @@ tool_of word = if bytes_eq word (codes "gdalinfo") then Some Info else if bytes_
 abbrev pub shared_options : List (List ℕ × OptionWord)
 shared_options = (codes "--config", option.Config)
     ∷ (codes "--blocks", option.Blocks)
+    ∷ (codes "--workers", option.Workers)
     ∷ []
 
 -- those of gdallocationinfo alone
@@ -81,6 +82,7 @@ option_of tool word = either_option (shared_option_of word) (own_option_of tool 
 abbrev pub value_count : OptionWord → ℕ
 value_count option.Config = 2
 value_count option.Blocks = 1
+value_count option.Workers = 1
 value_count option.Band = 1
 value_count option.ValuesOnly = 0
 value_count option.FilesOnly = 0

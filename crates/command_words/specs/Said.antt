@@ -13,7 +13,7 @@ use Rattle.command_words.specs.declared.spoken.Said.TheVariants as said
 use Rattle.command_words.specs.declared.spoken.Spot.{Spot}
 use Rattle.command_words.specs.declared.spoken.WordFault.{WordFault}
 use Rattle.command_words.specs.declared.spoken.WordFault.TheVariants.{Usage}
-use Rattle.command_words.specs.Values.{band_of, blocks_of, integer_of, side_of, name_of, is_no, format_of, layout_of, nodata_of, resolution_named, beyond}
+use Rattle.command_words.specs.Values.{band_of, blocks_of, integer_of, side_of, name_of, is_no, format_of, layout_of, nodata_of, resolution_named, beyond, workers_of}
 
 -- a value, counted from 0, by how it is read; one that is refused is named, and where the values end early the number of all words is
 abbrev pub value_said : {T : Type 0} → (List ℕ → Option T) → Spot → List (List ℕ) → ℕ → Result T WordFault
@@ -66,6 +66,11 @@ unfoldable pub blocks_said : Spot → List (List ℕ) → Result Said WordFault
 blocks_said spot values = do
   blocks ← value_said blocks_of spot values 0
   Ok (said.Blocks blocks)
+
+unfoldable pub workers_said : Spot → List (List ℕ) → Result Said WordFault
+workers_said spot values = do
+  workers ← value_said workers_of spot values 0
+  Ok (said.Workers workers)
 
 unfoldable pub format_said : Spot → List (List ℕ) → Result Said WordFault
 format_said spot values = do
@@ -127,6 +132,7 @@ list_said spot values = do
 abbrev pub option_said : OptionWord → Spot → List (List ℕ) → Result Said WordFault
 option_said option.Config spot values = config_said spot values
 option_said option.Blocks spot values = blocks_said spot values
+option_said option.Workers spot values = workers_said spot values
 option_said option.Band spot values = band_said spot values
 option_said option.ValuesOnly spot values = Ok said.ValuesOnly
 option_said option.FilesOnly spot values = Ok said.FilesOnly

@@ -122,6 +122,10 @@ abbrev pub block_count : ℕ → Said → Option ℕ
 block_count at (said.Blocks blocks) = Some blocks
 block_count at other = None
 
+abbrev pub worker_count : ℕ → Said → Option ℕ
+worker_count at (said.Workers workers) = Some workers
+worker_count at other = None
+
 abbrev pub band_place : ℕ → Said → Option ℕ
 band_place at (said.Band band) = Some at
 band_place at other = None
@@ -279,6 +283,7 @@ unfoldable pub spoken_of : List (ℕ × Said) → Spoken
 spoken_of uses = record {
   verify = unwrap_or (last verification uses) false;
   blocks = unwrap_or (last block_count uses) 64;
+  workers = unwrap_or (last worker_count uses) 1;
   bands = bands_said uses;
   band_at = last band_place uses;
   values_only = last values_only uses;
@@ -311,6 +316,7 @@ abbrev pub with_said : ℕ → Said → Spoken → Spoken
 with_said at said.Setting s = s
 with_said at (said.Verification on) s = record s { verify = on }
 with_said at (said.Blocks blocks) s = record s { blocks = blocks }
+with_said at (said.Workers workers) s = record s { workers = workers }
 with_said at (said.Band band) s = record s { bands = s.bands ++ band ∷ []; band_at = Some at }
 with_said at said.ValuesOnly s = record s { values_only = Some at }
 with_said at said.FilesOnly s = record s { files_only = Some at }

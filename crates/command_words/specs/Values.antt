@@ -33,6 +33,9 @@ band_of word = number_within 256 (short_of word)
 abbrev pub blocks_of : List ℕ → Option ℕ
 blocks_of word = number_within 65536 (short_of word)
 
+abbrev pub workers_of : List ℕ → Option ℕ
+workers_of word = number_within 16 (short_of word)
+
 -- the side of a tile that synth makes
 abbrev pub tile_side_of : List ℕ → Option ℕ
 tile_side_of word = number_within 4096 (short_of word)

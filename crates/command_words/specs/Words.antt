@@ -14,7 +14,7 @@ use Rattle.command_words.specs.Jobs.{job_of}
 unfoldable pub command_of : Tool → ℕ → Spoken → Result Command WordFault
 command_of tool count s = do
   job ← job_of tool count s
-  Ok (record { job = job; verify = s.verify; blocks = s.blocks })
+  Ok (record { job = job; verify = s.verify; blocks = s.blocks; workers = s.workers })
 
 -- the command, or the number of the first word that doesn't fit, or the number of words where one is missing
 unfoldable pub words_of : List (List ℕ) → Result Command WordFault

@@ -2,6 +2,7 @@
 use crate::numbers::{BandNumber, BlockCount};
 use buildvrt::BuildOptions;
 use input_points::Position;
+use lane_teams::WorkerCount;
 use lists_and_answers::Items;
 use location_report::Form;
 use outside::{Name, Names};
@@ -56,4 +57,6 @@ pub struct Command {
     pub verify: bool,
     /// How many blocks of pixels are held at once. Nothing that is printed depends on it.
     pub blocks: BlockCount,
+    /// How many workers read a translation's lines beside each other. Nothing that is printed depends on it.
+    pub workers: WorkerCount,
 }

@@ -17,6 +17,7 @@ pub enum Tool {
 pub enum OptionWord {
     Config,
     Blocks,
+    Workers,
     Band,
     ValuesOnly,
     FilesOnly,
@@ -75,6 +76,7 @@ fn shared_option_of(word: &str) -> Option<OptionWord>
     match word {
         _ if word == "--config" => Some(OptionWord::Config),
         _ if word == "--blocks" => Some(OptionWord::Blocks),
+        _ if word == "--workers" => Some(OptionWord::Workers),
         _ => None,
     }
 }
@@ -167,6 +169,7 @@ pub fn value_count(option: OptionWord) -> usize
         | OptionWord::Strict
         | OptionWord::Overwrite => 0,
         OptionWord::Blocks
+        | OptionWord::Workers
         | OptionWord::Band
         | OptionWord::Format
         | OptionWord::Nodata

@@ -4,7 +4,7 @@ ghost use Rattle.translate_plan.specs.Options.{IsWhole};
 ghost use Rattle.lists_and_answers.specs.Answers.{Gives};
 ghost use Rattle.geotransform.specs.Decimal.{ticks_of};
 ghost use Rattle.command_words.specs.Values.{integer_of, side_of, nodata_of, beyond};
-ghost use Rattle.command_words.specs.Said.{value_said, config_said, setting_said, window_said, places_said, outsize_said, band_said, blocks_said, format_said, nodata_said, kind_said, creation_said, resolution_said, pixel_size_said, extent_said, source_nodata_said, mosaic_nodata_said, list_said, option_said};
+ghost use Rattle.command_words.specs.Said.{value_said, config_said, setting_said, window_said, places_said, outsize_said, band_said, blocks_said, workers_said, format_said, nodata_said, kind_said, creation_said, resolution_said, pixel_size_said, extent_said, source_nodata_said, mosaic_nodata_said, list_said, option_said};
 ghost use Rattle.command_words.specs.Words.{IsMemory};
 
 use crate::numbers::{AskedExtent, AskedNodata, AskedResolution, AskedView, Side};
@@ -12,7 +12,7 @@ use crate::options::OptionWord;
 use crate::spoken::{MosaicSaid, Said, Spot, WordFault};
 use crate::values::{
     band_of, beyond, blocks_of, format_of, integer_of, is_no, layout_of, nodata_of, read_name,
-    resolution_named, side_of,
+    resolution_named, side_of, workers_of,
 };
 use buildvrt::{Extent, Resolution};
 use geotransform::PixelType;
@@ -181,6 +181,20 @@ fn blocks_said(spot: Spot, values: &[String]) -> Result<Said, WordFault>
         Some(word) => match blocks_of(word.as_bytes()) {
             None => Err(refused(spot, 0)),
             Some(blocks) => Ok(Said::Blocks(blocks)),
+        },
+    }
+}
+
+#[tactic(auto, unfolding(crate::specs::Said::workers_said))]
+fn workers_said(spot: Spot, values: &[String]) -> Result<Said, WordFault>
+    requires within { spot.at + length values.now < spot.count }
+    ensures { result ≡ workers_said spot (map string_bytes values.now) }
+{
+    match word_at(values, 0) {
+        None => Err(ends_early(spot)),
+        Some(word) => match workers_of(word.as_bytes()) {
+            None => Err(refused(spot, 0)),
+            Some(workers) => Ok(Said::Workers(workers)),
         },
     }
 }
@@ -373,6 +387,7 @@ pub fn option_said(
     match option {
         OptionWord::Config => config_said(spot, values),
         OptionWord::Blocks => blocks_said(spot, values),
+        OptionWord::Workers => workers_said(spot, values),
         OptionWord::Band => band_said(spot, values),
         OptionWord::ValuesOnly => Ok(Said::ValuesOnly),
         OptionWord::FilesOnly => Ok(Said::FilesOnly),

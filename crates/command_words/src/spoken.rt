@@ -9,6 +9,7 @@ use crate::numbers::{
 use esri_hdr::Layout;
 use geotransform::PixelType;
 use input_points::Position;
+use lane_teams::WorkerCount;
 use outside::{Name, Names};
 use std::alloc::AllocError;
 use synthetic_rasters::TileSide;
@@ -62,6 +63,7 @@ pub enum Said {
     /// Whether the sums of records are to be checked.
     Verification(bool),
     Blocks(BlockCount),
+    Workers(WorkerCount),
     Band(BandNumber),
     ValuesOnly,
     FilesOnly,
@@ -119,6 +121,7 @@ pub struct MosaicWanted {
 pub struct Spoken {
     pub verify: bool,
     pub blocks: BlockCount,
+    pub workers: WorkerCount,
     pub bands: BandNumbers,
     /// The number of the word that chose the last band.
     pub band_at: Option<u64>,

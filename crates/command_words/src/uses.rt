@@ -14,6 +14,7 @@ use crate::values::{begins_with_dash, read_name, tile_side_of};
 use catalog::NodataWord;
 use geotransform::is_decimal;
 use input_points::Position;
+use lane_teams::WorkerCount;
 use outside::Names;
 use std::alloc::Global;
 
@@ -145,6 +146,7 @@ fn with_said(at: u64, said: Said, mut all: Spoken) -> Result<Spoken, WordFault>
         Said::Setting => {}
         Said::Verification(on) => all.verify = on,
         Said::Blocks(blocks) => all.blocks = blocks,
+        Said::Workers(workers) => all.workers = workers,
         Said::Band(band) => {
             all.bands.push(band)?;
             all.band_at = Some(at);
@@ -211,6 +213,7 @@ fn nothing_said(alloc: Global) -> Spoken
     Spoken {
         verify: false,
         blocks: BlockCount::USUAL,
+        workers: WorkerCount::USUAL,
         bands: BandNumbers::new(alloc),
         band_at: None,
         values_only: None,

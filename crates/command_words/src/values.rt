@@ -4,7 +4,7 @@ ghost use Rattle.lists_and_answers.specs.Answers.{Gives};
 ghost use Rattle.geotransform.specs.Decimal.{IsRead};
 ghost use Rattle.outside.specs.Names.{same_letters};
 ghost use Rattle.translate_plan.specs.Options.{IsWhole};
-ghost use Rattle.command_words.specs.Values.{begins_with_dash, short_of, band_of, blocks_of, integer_of, side_of, name_of, is_no, format_of, layout_of, nodata_of, wide_number, is_wide, tile_side_of, resolution_named, beyond};
+ghost use Rattle.command_words.specs.Values.{begins_with_dash, short_of, band_of, blocks_of, integer_of, side_of, name_of, is_no, format_of, layout_of, nodata_of, wide_number, is_wide, tile_side_of, resolution_named, beyond, workers_of};
 ghost use Rattle.command_words.specs.Words.{IsMemory};
 
 use crate::numbers::{AskedNodata, BandNumber, BlockCount, Side};
@@ -13,6 +13,7 @@ use catalog::NodataWord;
 use esri_hdr::Layout;
 use geotransform::{read_number, read_whole};
 use input_points::Position;
+use lane_teams::WorkerCount;
 use outside::{Name, NameFault};
 use std::alloc::Global;
 use synthetic_rasters::TileSide;
@@ -53,6 +54,13 @@ pub fn blocks_of(word: &[u8]) -> Option<BlockCount>
     ensures { result ≡ blocks_of word.now }
 {
     BlockCount::new(short_of(word)?)
+}
+
+/// How many workers read, from 1 to 16.
+pub fn workers_of(word: &[u8]) -> Option<WorkerCount>
+    ensures { result ≡ workers_of word.now }
+{
+    WorkerCount::new(short_of(word)?)
 }
 
 /// The side of a tile, from 1 to 4,096.

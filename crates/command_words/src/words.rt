@@ -16,11 +16,13 @@ fn command_of(alloc: Global, tool: Tool, count: u64, said: Spoken) -> Result<Com
 {
     let verify = said.verify;
     let blocks = said.blocks;
+    let workers = said.workers;
     let job = job_of(alloc, tool, count, said)?;
     Ok(Command {
         job,
         verify,
         blocks,
+        workers,
     })
 }
 

@@ -35,8 +35,16 @@ use outside::{Folder, Input, Name, Sink};
 use std::alloc::Global;
 use std::marker::Brand;
 use std::sync::ledger::{Blank, Ledger};
+use std::thread::Threads;
 use synth_runs::put_rasters;
 use translation_runs::Way;
+
+/// What a run stands on: what starts threads, and where memory comes from.
+#[derive(Drop)]
+pub struct Host<'a, R: Threads + Sync> {
+    pub rt: &'a R,
+    pub alloc: Global,
+}
 
 // How points of a dataset are asked for.
 #[derive(Clone, Copy)]
@@ -167,8 +175,8 @@ fn put_location<F: Folder, I: Input, O: Sink>(
 /// it is refused by nothing over a folder that tells its files. FolderFault, InputFault and OutFault come only where the
 /// count of the folder, of the input and of the output rose, Changed only over a folder that doesn't tell its names, Memory
 /// freely.
-pub fn put_job<F: Folder, I: Input, O: Sink, E: Sink>(
-    alloc: Global,
+pub fn put_job<R: Threads + Sync, F: Folder, I: Input, O: Sink, E: Sink>(
+    host: &Host<R>,
     folder: &mut F,
     input: &mut I,
     out: &mut O,
@@ -193,8 +201,10 @@ pub fn put_job<F: Folder, I: Input, O: Sink, E: Sink>(
     ensures changed { HasChanged (F.names folder.old) (ended result) }
     ensures own { OwnsFault (ended result) }
 {
+    let alloc = host.alloc;
     let verify = command.verify;
     let blocks = command.blocks;
+    let workers = command.workers;
     match command.job {
         Job::Info { name } => put_info(alloc, folder, out, &name, verify),
         Job::Locate {
@@ -221,9 +231,10 @@ pub fn put_job<F: Folder, I: Input, O: Sink, E: Sink>(
             let way = Way {
                 verify,
                 blocks,
+                workers,
                 quiet,
             };
-            put_translated(alloc, folder, out, &src, &options, way)
+            put_translated(host.rt, alloc, folder, out, &src, &options, way)
         }
         Job::Build {
             inputs,
@@ -239,6 +250,8 @@ pub fn put_job<F: Folder, I: Input, O: Sink, E: Sink>(
             };
             put_build(alloc, folder, out, err, failed, inputs, building)
         }
-        Job::Synth { ref side } => put_rasters(alloc, folder, out, *side, blocks),
+        Job::Synth { ref side } => {
+            put_rasters(host.rt, alloc, folder, out, *side, blocks, workers)
+        }
     }
 }

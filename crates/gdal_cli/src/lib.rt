@@ -16,5 +16,6 @@ mod values;
 
 pub use command_words::{BandNumber, BandNumbers, BlockCount, Command, Job, WordFault, read_words};
 pub use error_lines::{Fault, Outcome, tell};
-pub use laws::blocks_change_nothing;
+pub use lane_teams::WorkerCount;
+pub use laws::{blocks_change_nothing, workers_change_nothing};
 pub use running::run;

@@ -13,7 +13,7 @@ ghost use Rattle.command_words.specs.Words.{words_of};
 ghost use Rattle.gdal_cli.specs.Work.{run_of, run_over};
 
 use crate::faults::word_fault_of;
-use crate::jobs::put_job;
+use crate::jobs::{Host, put_job};
 use command_words::read_words;
 use error_lines::{Fault, Outcome, tell};
 use outside::{Folder, Input, Sink};
@@ -21,8 +21,8 @@ use std::alloc::Global;
 use std::thread::Threads;
 
 // Reads the words, and does what they ask for.
-fn perform<F: Folder, I: Input, O: Sink, E: Sink>(
-    alloc: Global,
+fn perform<R: Threads + Sync, F: Folder, I: Input, O: Sink, E: Sink>(
+    host: &Host<R>,
     words: &[String],
     folder: &mut F,
     input: &mut I,
@@ -47,8 +47,8 @@ fn perform<F: Folder, I: Input, O: Sink, E: Sink>(
     ensures changed { HasChanged (F.names folder.old) (ended result) }
     ensures own { OwnsFault (ended result) }
 {
-    match read_words(alloc, words) {
-        Ok(command) => put_job(alloc, folder, input, out, err, failed, command),
+    match read_words(host.alloc, words) {
+        Ok(command) => put_job(host, folder, input, out, err, failed, command),
         Err(fault) => Err(word_fault_of(fault)),
     }
 }
@@ -63,7 +63,7 @@ fn ended(end: Result<(), Fault>) -> Option<Fault>
 /// for over the files of the folder and the lines of the input, prints on `out`, publishes files in
 /// the folder, and tells warnings and a fault on `err`. It answers for every list of words.
 pub fn run<R: Threads + Sync, F: Folder, I: Input, O: Sink, E: Sink>(
-    _rt: &R,
+    rt: &R,
     alloc: Global,
     words: &[String],
     folder: &mut F,
@@ -137,6 +137,7 @@ pub fn run<R: Threads + Sync, F: Folder, I: Input, O: Sink, E: Sink>(
         → AreTold (run_of (map string_bytes words.now) m i).steps result.fault (E.faults err.old) (E.faults err.new) (E.got err.old) (E.got err.new) }
 {
     let mut failed = false;
-    let fault = ended(perform(alloc, words, folder, input, out, err, &mut failed));
+    let host = Host { rt, alloc };
+    let fault = ended(perform(&host, words, folder, input, out, err, &mut failed));
     tell(err, failed, fault)
 }

@@ -13,6 +13,7 @@ use command_words::Job;
 use error_lines::Fault;
 use outside::{Folder, Name, Sink};
 use std::alloc::Global;
+use std::thread::Threads;
 use translate_plan::TranslateOptions;
 use translation_runs::{Way, put_translation};
 
@@ -21,7 +22,8 @@ use translation_runs::{Way, put_translation};
 ///
 /// All refusals come before anything is put or published. FolderFault and OutFault come only where the count of the
 /// folder and of the output rose, Changed only over a folder that doesn't tell its names, Memory freely.
-pub fn put_translated<F: Folder, O: Sink>(
+pub fn put_translated<R: Threads + Sync, F: Folder, O: Sink>(
+    rt: &R,
     alloc: Global,
     folder: &mut F,
     out: &mut O,
@@ -39,5 +41,5 @@ pub fn put_translated<F: Folder, O: Sink>(
     ensures changed { HasChanged (F.names folder.old) (ended result) }
     ensures own { OwnsFault (ended result) }
 {
-    put_translation(alloc, folder, out, src, options, way)
+    put_translation(rt, alloc, folder, out, src, options, way)
 }

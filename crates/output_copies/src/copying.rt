@@ -1,10 +1,9 @@
 // Lines of a translation's output, copied into a target.
-ghost use Rattle.std.specs.Prelude.{◌≡◌, ◌<◌, ◌≤◌, ◌+◌, ◌-◌, ◌*◌, ℕ, Option, Some, OnOk, OnErr, length, slice_get};
+ghost use Rattle.std.specs.Prelude.{◌≡◌, ◌<◌, ◌≤◌, ◌+◌, ◌-◌, ◌*◌, ℕ, Option, Some, OnOk, OnErr, length, slice_get, true};
 ghost use Rattle.outside.specs.Outside.{Files};
 ghost use Rattle.outside.specs.Streams.{Gets, GetsPart};
-ghost use Rattle.nearest_window.specs.Right.{IsReady};
+ghost use Rattle.lane_teams.specs.Ready.{AreLanesReady};
 ghost use Rattle.strip_copies.specs.Copies.{IsRoomFor, IsTranslation};
-ghost use Rattle.strip_copies.specs.Heights.{lines_copied};
 ghost use Rattle.output_copies.specs.Copying.{spoken, IsFilled, MayEnd};
 ghost use Rattle.output_copies.specs.Steps.{progress};
 
@@ -13,14 +12,18 @@ use error_lines::Fault;
 use geotransform::{Rect, Sample};
 use outside::{Folder, Sink, Steps};
 use std::sync::ledger::Ledger;
-use strip_copies::{Lines, StripReader, Translation, read_lines, strip_height};
+use std::thread::Threads;
+use strip_copies::{Lines, StripReader, Translation, read_lines};
 use write_back::Target;
 
-/// What lines are copied with: a reader, and the count of the blocks that are written.
+/// What lines are copied with: a reader, the count of the blocks that are written, how many lines are copied at a time, and
+/// whether nothing is told.
 #[derive(Drop)]
 pub struct Copier<F: Folder, L: Ledger, W: Ledger> {
     pub reader: StripReader<F, L>,
     pub writes: Steps<W>,
+    pub rows: u32,
+    pub quiet: bool,
 }
 
 /// The samples of so many lines of so many columns.
@@ -38,7 +41,8 @@ struct Strip {
 }
 
 // Copies lines of a band.
-fn copy_band<F: Folder, L: Ledger, W: Ledger>(
+fn copy_band<R: Threads + Sync, F: Folder, L: Ledger, W: Ledger>(
+    rt: &R,
     translation: &Translation,
     copier: &mut Copier<F, L, W>,
     folder: &mut F,
@@ -47,7 +51,7 @@ fn copy_band<F: Folder, L: Ledger, W: Ledger>(
     samples: &mut [Sample],
 ) -> Result<(), Fault>
     requires translation { IsTranslation translation.now.cat translation.now.id translation.now.plan }
-    requires ready { IsReady F.Folder folder.old translation.now.cat copier.old.reader.pixels.lane }
+    requires ready { AreLanesReady F.Folder folder.old translation.now.cat copier.old.reader.team.lanes.items }
     requires room { IsRoomFor translation.now.cat translation.now.id translation.now.plan copier.old.reader.columns copier.old.reader.samples.items }
     requires long { translation.now.plan.size.w * (lines.end - lines.first) ≤ length samples.old }
     requires band { lines.band < length translation.now.plan.bands }
@@ -56,7 +60,7 @@ fn copy_band<F: Folder, L: Ledger, W: Ledger>(
     requires filled { IsFilled (F.names folder.old) translation.now.cat translation.now.id translation.now.plan target.old lines.first lines.end lines.band }
     ensures filled { OnOk result (IsFilled (F.names folder.new) translation.now.cat translation.now.id translation.now.plan target.new lines.first lines.end (lines.band + 1)) }
     ensures name { target.new.name ≡ target.old.name }
-    ensures ready { IsReady F.Folder folder.new translation.now.cat copier.new.reader.pixels.lane }
+    ensures ready { AreLanesReady F.Folder folder.new translation.now.cat copier.new.reader.team.lanes.items }
     ensures room { IsRoomFor translation.now.cat translation.now.id translation.now.plan copier.new.reader.columns copier.new.reader.samples.items }
     ensures names { F.names folder.new ≡ F.names folder.old }
     ensures ends { MayEnd (F.names folder.old) (F.faults folder.old) (F.faults folder.new) 0 0 result }
@@ -74,14 +78,15 @@ fn copy_band<F: Folder, L: Ledger, W: Ledger>(
     let reader = &mut copier.reader;
     let writes = &mut copier.writes;
     let part = &mut samples[..area(size.w, height)];
-    read_lines(translation, reader, folder, lines, part)?;
+    read_lines(rt, translation, reader, folder, lines, part)?;
     let alloc = translation.alloc;
     target.write_window(alloc, folder, lines.band, rect, part, writes)?;
     Ok(())
 }
 
 // Copies the lines of a strip of all bands.
-fn copy_strip<F: Folder, L: Ledger, W: Ledger>(
+fn copy_strip<R: Threads + Sync, F: Folder, L: Ledger, W: Ledger>(
+    rt: &R,
     translation: &Translation,
     copier: &mut Copier<F, L, W>,
     folder: &mut F,
@@ -90,7 +95,7 @@ fn copy_strip<F: Folder, L: Ledger, W: Ledger>(
     samples: &mut [Sample],
 ) -> Result<(), Fault>
     requires translation { IsTranslation translation.now.cat translation.now.id translation.now.plan }
-    requires ready { IsReady F.Folder folder.old translation.now.cat copier.old.reader.pixels.lane }
+    requires ready { AreLanesReady F.Folder folder.old translation.now.cat copier.old.reader.team.lanes.items }
     requires room { IsRoomFor translation.now.cat translation.now.id translation.now.plan copier.old.reader.columns copier.old.reader.samples.items }
     requires long { translation.now.plan.size.w * (strip.end - strip.first) ≤ length samples.old }
     requires order { strip.first < strip.end }
@@ -98,7 +103,7 @@ fn copy_strip<F: Folder, L: Ledger, W: Ledger>(
     requires filled { IsFilled (F.names folder.old) translation.now.cat translation.now.id translation.now.plan target.old strip.first strip.first 0 }
     ensures filled { OnOk result (IsFilled (F.names folder.new) translation.now.cat translation.now.id translation.now.plan target.new strip.end strip.end 0) }
     ensures name { target.new.name ≡ target.old.name }
-    ensures ready { IsReady F.Folder folder.new translation.now.cat copier.new.reader.pixels.lane }
+    ensures ready { AreLanesReady F.Folder folder.new translation.now.cat copier.new.reader.team.lanes.items }
     ensures room { IsRoomFor translation.now.cat translation.now.id translation.now.plan copier.new.reader.columns copier.new.reader.samples.items }
     ensures names { F.names folder.new ≡ F.names folder.old }
     ensures ends { MayEnd (F.names folder.old) (F.faults folder.old) (F.faults folder.new) 0 0 result }
@@ -112,43 +117,46 @@ fn copy_strip<F: Folder, L: Ledger, W: Ledger>(
             first: strip.first,
             end: strip.end,
         };
-        copy_band(translation, copier, folder, target, lines, samples)?;
+        copy_band(rt, translation, copier, folder, target, lines, samples)?;
     }
     Ok(())
 }
 
 /// Copies all lines of all bands, strip by strip, and tells how far it is.
-pub fn copy_all<F: Folder, O: Sink, L: Ledger, W: Ledger>(
+pub fn copy_all<R: Threads + Sync, F: Folder, O: Sink, L: Ledger, W: Ledger>(
+    rt: &R,
     translation: &Translation,
     copier: &mut Copier<F, L, W>,
     folder: &mut F,
     target: &mut Target<F>,
     out: &mut O,
-    quiet: bool,
     samples: &mut [Sample],
 ) -> Result<(), Fault>
     requires translation { IsTranslation translation.now.cat translation.now.id translation.now.plan }
-    requires ready { IsReady F.Folder folder.old translation.now.cat copier.old.reader.pixels.lane }
+    requires ready { AreLanesReady F.Folder folder.old translation.now.cat copier.old.reader.team.lanes.items }
     requires room { IsRoomFor translation.now.cat translation.now.id translation.now.plan copier.old.reader.columns copier.old.reader.samples.items }
-    requires long { translation.now.plan.size.w * lines_copied translation.now.cat translation.now.plan ≤ length samples.old }
+    requires rows { 1 ≤ copier.old.rows }
+    requires long { translation.now.plan.size.w * copier.old.rows ≤ length samples.old }
     requires filled { IsFilled (F.names folder.old) translation.now.cat translation.now.id translation.now.plan target.old 0 0 0 }
     ensures filled { OnOk result (IsFilled (F.names folder.new) translation.now.cat translation.now.id translation.now.plan target.new translation.now.plan.size.h translation.now.plan.size.h 0) }
     ensures name { target.new.name ≡ target.old.name }
     ensures names { F.names folder.new ≡ F.names folder.old }
-    ensures ok { OnOk result (Gets (spoken quiet progress) (O.got out.old) (O.got out.new)) }
-    ensures err { OnErr result (GetsPart (spoken quiet progress) (O.got out.old) (O.got out.new)) }
+    ensures ok { OnOk result (Gets (spoken copier.old.quiet progress) (O.got out.old) (O.got out.new)) }
+    ensures err { OnErr result (GetsPart (spoken copier.old.quiet progress) (O.got out.old) (O.got out.new)) }
+    ensures quiet { copier.old.quiet ≡ true → out.new ≡ out.old }
     ensures ends { MayEnd (F.names folder.old) (F.faults folder.old) (F.faults folder.new) (O.faults out.old) (O.faults out.new) result }
 {
     let plan = &translation.plan;
     plan.rules();
     let height = plan.size.h;
-    let rows = strip_height(translation);
+    let rows = copier.rows;
+    let quiet = copier.quiet;
     let mut told = tell(out, quiet, 0, Share { done: 0, height })?;
     let mut line = 0;
     while line < height {
         let end = line + rows.min(height - line);
         let strip = Strip { first: line, end };
-        copy_strip(translation, copier, folder, target, strip, samples)?;
+        copy_strip(rt, translation, copier, folder, target, strip, samples)?;
         told = tell(out, quiet, told, Share { done: end, height })?;
         line = end;
     }

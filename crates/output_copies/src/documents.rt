@@ -1,5 +1,5 @@
 // Documents of mosaics that translations publish.
-ghost use Rattle.std.specs.Prelude.{◌≡◌, ◌++◌, ◌∷◌, [], IfErr, IfOk, Some, slice_get};
+ghost use Rattle.std.specs.Prelude.{◌≡◌, ◌++◌, ◌∷◌, [], IfErr, IfOk, Some, slice_get, true};
 ghost use Rattle.outside.specs.Outside.{Files};
 ghost use Rattle.vrt_profile.specs.Spelled.{spelled};
 ghost use Rattle.catalog.specs.Drivers.{Dataset};
@@ -36,11 +36,12 @@ pub fn write_document<F: Folder, O: Sink>(
     translation: &Translation,
     folder: &mut F,
     out: &mut O,
-    writing: Writing,
+    writing: &Writing,
 ) -> Result<(), Fault>
     requires translation { IsTranslation translation.now.cat translation.now.id translation.now.plan }
     requires mosaic { translation.now.plan.driver ≡ Vrt }
-    ensures goes { (m : Files) (d : Dataset) → F.names folder.old ≡ Some m → slice_get translation.now.cat translation.now.id ≡ Some d → Goes (all_done (unless_quiet writing.entry.quiet progress ++ Publishes writing.entry.name.now (spelled (document_by translation.now.plan writing.entry.name.now d.head)) ∷ [])) m result (F.names folder.new) (O.got out.old) (O.got out.new) }
+    ensures goes { (m : Files) (d : Dataset) → F.names folder.old ≡ Some m → slice_get translation.now.cat translation.now.id ≡ Some d → Goes (all_done (unless_quiet writing.now.quiet progress ++ Publishes writing.now.name.now (spelled (document_by translation.now.plan writing.now.name.now d.head)) ∷ [])) m result (F.names folder.new) (O.got out.old) (O.got out.new) }
+    ensures quiet { writing.now.quiet ≡ true → out.new ≡ out.old }
     ensures ends { MayEnd (F.names folder.old) (F.faults folder.old) (F.faults folder.new) (O.faults out.old) (O.faults out.new) result }
 {
     let document = document_for(translation, writing.name)?;

@@ -1,14 +1,13 @@
 // A translation, from its first text to its last.
-ghost use Rattle.std.specs.Prelude.{◌≡◌, ◌≢◌, ◌≤◌, ◌<◌, ◌*◌, ◌++◌, ℕ, List, Option, IfErr, IfOk, Some, length, slice_get};
+ghost use Rattle.std.specs.Prelude.{◌≡◌, ◌≢◌, ◌≤◌, ◌<◌, ◌*◌, ◌++◌, ℕ, List, Option, IfErr, IfOk, Some, length, slice_get, true};
 ghost use Rattle.outside.specs.Outside.{Files};
 ghost use Rattle.outside.specs.Reading.{WhereTold};
 ghost use Rattle.catalog.specs.Drivers.{Dataset};
 ghost use Rattle.catalog.specs.Walk.{IsWalked};
-ghost use Rattle.nearest_window.specs.Right.{IsFresh};
+ghost use Rattle.lane_teams.specs.Ready.{AreLanesFresh};
 ghost use Rattle.translate_plan.specs.declared.options.Driver.TheVariants.{Vrt};
 ghost use Rattle.write_back.specs.Plans.{output_of, IsNamedFor};
 ghost use Rattle.strip_copies.specs.Copies.{IsRoomFor, IsTranslation};
-ghost use Rattle.strip_copies.specs.Heights.{lines_copied};
 ghost use Rattle.error_lines.specs.Faults.{Differs, HasCauses, IsOfReading};
 ghost use Rattle.error_lines.specs.Steps.{all_done, publishes, Goes};
 ghost use Rattle.output_copies.specs.Copying.{IsFilled, MayEnd};
@@ -19,54 +18,66 @@ use crate::documents::write_document;
 use crate::texts::{put_end, put_size};
 use error_lines::Fault;
 use geotransform::Sample;
+use lane_teams::WorkerCount;
 use outside::{Folder, Name, Sink, Steps};
 use std::marker::Brand;
 use std::sync::ledger::{Blank, Ledger};
+use std::thread::Threads;
 use strip_copies::{StripReader, Translation, strip_height};
 use translate_plan::Driver;
 use write_back::Target;
 
-/// How an output is written: under which name, with how many blocks held at a time by what is read and by what is
-/// written, and whether nothing is told of the work.
+/// How an output is written: under which name, with how many blocks held at a time by each worker that reads and by what
+/// is written, by how many workers, and whether nothing is told of the work.
 #[derive(Clone, Copy)]
 pub struct Writing<'a> {
     pub name: &'a Name,
     pub blocks: u32,
+    pub workers: WorkerCount,
     pub quiet: bool,
 }
 
-// The reader and the count that a translation's lines are copied with.
+// What a translation's lines are copied with.
 fn copier_for<F: Folder, L: Ledger, W: Ledger>(
     translation: &Translation,
-    blocks: u32,
+    writing: &Writing,
     loads: Blank,
     writes: Blank,
 ) -> Result<Copier<F, L, W>, Fault>
     requires translation { IsTranslation translation.now.cat translation.now.id translation.now.plan }
-    requires some { 1 ≤ blocks }
-    requires few { blocks ≤ 65536 }
+    requires some { 1 ≤ writing.now.blocks }
+    requires few { writing.now.blocks ≤ 65536 }
     requires loads_name { loads.name ≡ L.name }
     requires loads_parts { loads.parts ≡ L.parts }
     requires loads_shares { 0 < loads.parts }
     requires writes_name { writes.name ≡ W.name }
     requires writes_parts { writes.parts ≡ W.parts }
     requires writes_shares { 0 < writes.parts }
-    ensures fresh { IfOk result (λ copier. IsFresh F.Folder copier.reader.pixels.lane) }
+    ensures fresh { IfOk result (λ copier. AreLanesFresh F.Folder copier.reader.team.lanes.items) }
     ensures room { IfOk result (λ copier. IsRoomFor translation.now.cat translation.now.id translation.now.plan copier.reader.columns copier.reader.samples.items) }
+    ensures rows { IfOk result (λ copier. 1 ≤ copier.rows) }
+    ensures quiet { IfOk result (λ copier. copier.quiet ≡ writing.now.quiet) }
     ensures memory { IfErr result (λ f. f ≡ Fault.Memory) }
 {
-    let reader = StripReader::new(translation, blocks, loads)?;
+    let reader = StripReader::new(translation, writing.workers, writing.blocks, loads)?;
     let writes = Steps::open(writes);
-    Ok(Copier { reader, writes })
+    let rows = strip_height(translation, writing.workers);
+    let quiet = writing.quiet;
+    Ok(Copier {
+        reader,
+        writes,
+        rows,
+        quiet,
+    })
 }
 
-// Room for the lines of a strip of one band.
-fn room_for(translation: &Translation) -> Result<Vec<Sample>, Fault>
-    ensures long { IfOk result (λ samples. translation.now.plan.size.w * lines_copied translation.now.cat translation.now.plan ≤ length samples.items) }
+// Room for so many lines of one band.
+fn room_for(translation: &Translation, rows: u32) -> Result<Vec<Sample>, Fault>
+    ensures long { IfOk result (λ samples. translation.now.plan.size.w * rows ≤ length samples.items) }
     ensures memory { IfErr result (λ f. f ≡ Fault.Memory) }
 {
     let plan = &translation.plan;
-    let count = area(plan.size.w, strip_height(translation));
+    let count = area(plan.size.w, rows);
     let samples = vec![in translation.alloc; 0; count]?;
     Ok(samples)
 }
@@ -90,42 +101,44 @@ fn publish<F: Folder, W: Ledger>(
 }
 
 // Copies the lines of an output, and publishes its files.
-fn write_files<F: Folder, O: Sink, L: Ledger, W: Ledger>(
+fn write_files<R: Threads + Sync, F: Folder, O: Sink, L: Ledger, W: Ledger>(
+    rt: &R,
     translation: &Translation,
     folder: &mut F,
     out: &mut O,
-    writing: Writing,
+    writing: &Writing,
     loads: Blank,
     writes: Blank,
 ) -> Result<(), Fault>
     requires translation { IsTranslation translation.now.cat translation.now.id translation.now.plan }
     requires walked { WhereTold F.Folder folder.old (λ m. IsWalked m translation.now.cat) }
-    requires some { 1 ≤ writing.blocks }
-    requires few { writing.blocks ≤ 65536 }
+    requires some { 1 ≤ writing.now.blocks }
+    requires few { writing.now.blocks ≤ 65536 }
     requires files { translation.now.plan.driver ≢ Vrt }
-    requires extension { IsNamedFor translation.now.plan writing.name.now }
+    requires extension { IsNamedFor translation.now.plan writing.now.name.now }
     requires loads_name { loads.name ≡ L.name }
     requires loads_parts { loads.parts ≡ L.parts }
     requires loads_shares { 0 < loads.parts }
     requires writes_name { writes.name ≡ W.name }
     requires writes_parts { writes.parts ≡ W.parts }
     requires writes_shares { 0 < writes.parts }
-    ensures goes { (m : Files) (d : Dataset) → F.names folder.old ≡ Some m → slice_get translation.now.cat translation.now.id ≡ Some d → Goes (all_done (unless_quiet writing.entry.quiet progress ++ publishes (files_by (output_of translation.now.plan) writing.entry.name.now (raster_of m d translation.now.plan)))) m result (F.names folder.new) (O.got out.old) (O.got out.new) }
+    ensures goes { (m : Files) (d : Dataset) → F.names folder.old ≡ Some m → slice_get translation.now.cat translation.now.id ≡ Some d → Goes (all_done (unless_quiet writing.now.quiet progress ++ publishes (files_by (output_of translation.now.plan) writing.now.name.now (raster_of m d translation.now.plan)))) m result (F.names folder.new) (O.got out.old) (O.got out.new) }
+    ensures quiet { writing.now.quiet ≡ true → out.new ≡ out.old }
     ensures ends { MayEnd (F.names folder.old) (F.faults folder.old) (F.faults folder.new) (O.faults out.old) (O.faults out.new) result }
 {
     let alloc = translation.alloc;
     let plan = &translation.plan;
     let blocks = writing.blocks;
-    let mut copier: Copier<F, L, W> = copier_for(translation, blocks, loads, writes)?;
-    let mut samples = room_for(translation)?;
+    let mut copier: Copier<F, L, W> = copier_for(translation, writing, loads, writes)?;
+    let mut samples = room_for(translation, copier.rows)?;
     let mut target = Target::create(alloc, folder, plan, writing.name, blocks)?;
     match copy_all(
+        rt,
         translation,
         &mut copier,
         folder,
         &mut target,
         out,
-        writing.quiet,
         &mut samples,
     ) {
         Ok(()) => publish(translation, folder, target, &mut copier.writes),
@@ -137,25 +150,28 @@ fn write_files<F: Folder, O: Sink, L: Ledger, W: Ledger>(
 }
 
 // Writes what the driver of an output's plan makes of it.
-fn write_planned<F: Folder, O: Sink>(
+fn write_planned<R: Threads + Sync, F: Folder, O: Sink>(
+    rt: &R,
     translation: &Translation,
     folder: &mut F,
     out: &mut O,
-    writing: Writing,
+    writing: &Writing,
 ) -> Result<(), Fault>
     requires translation { IsTranslation translation.now.cat translation.now.id translation.now.plan }
     requires walked { WhereTold F.Folder folder.old (λ m. IsWalked m translation.now.cat) }
-    requires some { 1 ≤ writing.blocks }
-    requires few { writing.blocks ≤ 65536 }
-    requires extension { IsNamedFor translation.now.plan writing.name.now }
-    ensures goes { (m : Files) (d : Dataset) → F.names folder.old ≡ Some m → slice_get translation.now.cat translation.now.id ≡ Some d → Goes (all_done (unless_quiet writing.entry.quiet progress ++ publishes (written m d translation.now.plan writing.entry.name.now))) m result (F.names folder.new) (O.got out.old) (O.got out.new) }
+    requires some { 1 ≤ writing.now.blocks }
+    requires few { writing.now.blocks ≤ 65536 }
+    requires extension { IsNamedFor translation.now.plan writing.now.name.now }
+    ensures goes { (m : Files) (d : Dataset) → F.names folder.old ≡ Some m → slice_get translation.now.cat translation.now.id ≡ Some d → Goes (all_done (unless_quiet writing.now.quiet progress ++ publishes (written m d translation.now.plan writing.now.name.now))) m result (F.names folder.new) (O.got out.old) (O.got out.new) }
+    ensures quiet { writing.now.quiet ≡ true → out.new ≡ out.old }
     ensures ends { MayEnd (F.names folder.old) (F.faults folder.old) (F.faults folder.new) (O.faults out.old) (O.faults out.new) result }
 {
     translation.plan.rules();
     if let Driver::Vrt = translation.plan.driver {
         return write_document(translation, folder, out, writing);
     }
-    write_files::<F, O, Brand, Brand>(
+    write_files::<R, F, O, Brand, Brand>(
+        rt,
         translation,
         folder,
         out,
@@ -168,29 +184,32 @@ fn write_planned<F: Folder, O: Sink>(
 /// Does a translation: tells the size of the source, copies the pixels of the output strip by strip, telling how far
 /// it is, publishes the files of the output, each whole, its data first, and tells that it is done. Of a mosaic no pixel
 /// is copied, and its document is published. The name's extension is one of the plan's driver, and 1 to 65,536 blocks
-/// are held at a time.
+/// are held at a time by each worker. What is told and published is the same for every number of blocks and of workers.
 ///
 /// FolderFault and OutFault come only where the count of the folder and of the output rose, Changed only where a file
 /// was opened again and had another length than the walk found, or was absent, and Memory freely. All names but those
 /// that were published by then keep what they held, and no draft is left.
-pub fn write_output<F: Folder, O: Sink>(
+pub fn write_output<R: Threads + Sync, F: Folder, O: Sink>(
+    rt: &R,
     translation: &Translation,
     folder: &mut F,
     out: &mut O,
-    writing: Writing,
+    writing: &Writing,
 ) -> Result<(), Fault>
     requires translation { IsTranslation translation.now.cat translation.now.id translation.now.plan }
     requires walked { WhereTold F.Folder folder.old (λ m. IsWalked m translation.now.cat) }
-    requires some { 1 ≤ writing.blocks }
-    requires few { writing.blocks ≤ 65536 }
-    requires extension { IsNamedFor translation.now.plan writing.name.now }
+    requires some { 1 ≤ writing.now.blocks }
+    requires few { writing.now.blocks ≤ 65536 }
+    requires extension { IsNamedFor translation.now.plan writing.now.name.now }
     // over a folder that tells its files: all the steps are done, or where the outside failed the first of them
-    ensures told { WhereTold F.Folder folder.old (λ m. (d : Dataset) → slice_get translation.now.cat translation.now.id ≡ Some d → Goes (all_done (translation_steps writing.entry.quiet m d translation.now.plan writing.entry.name.now)) m result (F.names folder.new) (O.got out.old) (O.got out.new)) }
+    ensures told { WhereTold F.Folder folder.old (λ m. (d : Dataset) → slice_get translation.now.cat translation.now.id ≡ Some d → Goes (all_done (translation_steps writing.now.quiet m d translation.now.plan writing.now.name.now)) m result (F.names folder.new) (O.got out.old) (O.got out.new)) }
+    // over every folder and for every answer: a quiet copy leaves the sink as it was
+    ensures quiet { writing.now.quiet ≡ true → out.new ≡ out.old }
     ensures faults { IfErr result IsOfReading }
     ensures differs { Differs result }
     ensures cause { HasCauses (F.faults folder.old) (F.faults folder.new) (O.faults out.old) (O.faults out.new) result }
 {
     put_size(translation, out, writing.quiet)?;
-    write_planned(translation, folder, out, writing)?;
+    write_planned(rt, translation, folder, out, writing)?;
     put_end(out, writing.quiet)
 }

@@ -1,5 +1,5 @@
 // What is told while the lines of an output are written.
-ghost use Rattle.std.specs.Prelude.{◌≡◌, ◌<◌, ◌≤◌, ℕ, List, Option, IfOk, OnErr, OnOk, length, take};
+ghost use Rattle.std.specs.Prelude.{◌≡◌, ◌<◌, ◌≤◌, ℕ, List, Option, IfOk, OnErr, OnOk, length, take, true};
 ghost use Rattle.outside.specs.Outside.{Files};
 ghost use Rattle.outside.specs.Streams.{Gets, GetsPart};
 ghost use Rattle.output_copies.specs.Copying.{spoken, MayEnd, Tells};
@@ -43,6 +43,7 @@ pub fn tell<O: Sink>(out: &mut O, quiet: bool, told: usize, share: Share) -> Res
     ensures told { (before : Option (List ℕ)) → Gets (spoken quiet (take told progress)) before (O.got out.old) → Tells quiet result before (O.got out.new) }
     ensures within { IfOk result (λ next. next ≤ 49) }
     ensures whole { share.done ≡ share.height → IfOk result (λ next. next ≡ 49) }
+    ensures quiet { quiet ≡ true → out.new ≡ out.old }
     ensures ends { (names : Option Files) (faults : ℕ) → MayEnd names faults faults (O.faults out.old) (O.faults out.new) result }
 {
     let next = reached(share).max(told);
@@ -56,6 +57,7 @@ pub fn tell<O: Sink>(out: &mut O, quiet: bool, told: usize, share: Share) -> Res
 pub fn put_progress<O: Sink>(out: &mut O, quiet: bool) -> Result<(), Fault>
     ensures ok { OnOk result (Gets (spoken quiet progress) (O.got out.old) (O.got out.new)) }
     ensures err { OnErr result (GetsPart (spoken quiet progress) (O.got out.old) (O.got out.new)) }
+    ensures quiet { quiet ≡ true → out.new ≡ out.old }
     ensures ends { (names : Option Files) (faults : ℕ) → MayEnd names faults faults (O.faults out.old) (O.faults out.new) result }
 {
     put_text(out, quiet, &[progress_text()])

@@ -1,5 +1,5 @@
 // What is told of a translation.
-ghost use Rattle.std.specs.Prelude.{◌≡◌, ℕ, ◌∷◌, [], Option, Some, OnOk, OnErr, slice_get, codes, decimal};
+ghost use Rattle.std.specs.Prelude.{◌≡◌, ℕ, ◌∷◌, [], Option, Some, OnOk, OnErr, slice_get, codes, decimal, true};
 ghost use Rattle.outside.specs.Outside.{Files};
 ghost use Rattle.outside.specs.Streams.{Gets, GetsPart, joined};
 ghost use Rattle.catalog.specs.Drivers.{Dataset};
@@ -17,6 +17,7 @@ use strip_copies::Translation;
 pub fn put_text<O: Sink>(out: &mut O, quiet: bool, parts: &[&[u8]]) -> Result<(), Fault>
     ensures ok { OnOk result (Gets (spoken quiet (joined parts.now)) (O.got out.old) (O.got out.new)) }
     ensures err { OnErr result (GetsPart (spoken quiet (joined parts.now)) (O.got out.old) (O.got out.new)) }
+    ensures quiet { quiet ≡ true → out.new ≡ out.old }
     ensures ends { (told : Option Files) (faults : ℕ) → MayEnd told faults faults (O.faults out.old) (O.faults out.new) result }
 {
     if quiet {
@@ -41,6 +42,7 @@ fn source_size(translation: &Translation) -> Size
 fn put_sides<O: Sink>(size: Size, out: &mut O, quiet: bool) -> Result<(), Fault>
     ensures ok { OnOk result (Gets (spoken quiet (size_line size)) (O.got out.old) (O.got out.new)) }
     ensures err { OnErr result (GetsPart (spoken quiet (size_line size)) (O.got out.old) (O.got out.new)) }
+    ensures quiet { quiet ≡ true → out.new ≡ out.old }
     ensures ends { (told : Option Files) (faults : ℕ) → MayEnd told faults faults (O.faults out.old) (O.faults out.new) result }
 {
     let mut columns = Buffer::new();
@@ -59,6 +61,7 @@ pub fn put_size<O: Sink>(translation: &Translation, out: &mut O, quiet: bool) ->
     requires translation { IsTranslation translation.now.cat translation.now.id translation.now.plan }
     ensures ok { (d : Dataset) → slice_get translation.now.cat translation.now.id ≡ Some d → OnOk result (Gets (spoken quiet (size_line d.head.size)) (O.got out.old) (O.got out.new)) }
     ensures err { (d : Dataset) → slice_get translation.now.cat translation.now.id ≡ Some d → OnErr result (GetsPart (spoken quiet (size_line d.head.size)) (O.got out.old) (O.got out.new)) }
+    ensures quiet { quiet ≡ true → out.new ≡ out.old }
     ensures ends { (told : Option Files) (faults : ℕ) → MayEnd told faults faults (O.faults out.old) (O.faults out.new) result }
 {
     let size = source_size(translation);
@@ -69,6 +72,7 @@ pub fn put_size<O: Sink>(translation: &Translation, out: &mut O, quiet: bool) ->
 pub fn put_end<O: Sink>(out: &mut O, quiet: bool) -> Result<(), Fault>
     ensures ok { OnOk result (Gets (spoken quiet progress_end) (O.got out.old) (O.got out.new)) }
     ensures err { OnErr result (GetsPart (spoken quiet progress_end) (O.got out.old) (O.got out.new)) }
+    ensures quiet { quiet ≡ true → out.new ≡ out.old }
     ensures ends { (told : Option Files) (faults : ℕ) → MayEnd told faults faults (O.faults out.old) (O.faults out.new) result }
 {
     put_text(out, quiet, &[b"100 - done.\n"])

@@ -131,10 +131,10 @@ static REFUSALS: [Row<'static>; 16] = [
         "ERROR 1: word 2 doesn't fit\n",
     ),
     (
-        "gdallocationinfo --workers 2 a.bil 1 0",
+        "gdallocationinfo --workers 17 a.bil 1 0",
         1,
         "",
-        "ERROR 1: word 1 doesn't fit\n",
+        "ERROR 1: word 2 doesn't fit\n",
     ),
     (
         "gdalinfo none.bil",

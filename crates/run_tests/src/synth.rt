@@ -14,11 +14,12 @@ const TWO: &str = "Size: 4 x 4\nValues: 15\nSum: 4450\nLeast: 0\nGreatest: 1020\
 
 const ONE: &str = "Size: 2 x 2\nValues: 4\nSum: 1093\nLeast: 0\nGreatest: 1000\n";
 
-// Tiles of three sides, with one block and with many; leading zeros; a setting without effect; and a repeated option, of
+// Tiles of three sides, with one block, with many and with three workers; leading zeros; a setting without effect; and a repeated option, of
 // which the last use counts.
-static TOLD: [Row<'static>; 7] = [
+static TOLD: [Row<'static>; 8] = [
     ("synth 45 --blocks 1", 0, FORTY_FIVE, ""),
     ("synth --blocks 64 45", 0, FORTY_FIVE, ""),
+    ("synth --workers 3 45", 0, FORTY_FIVE, ""),
     ("synth 2", 0, TWO, ""),
     (
         "synth 000000002 --config DTED_VERIFY_CHECKSUM YES",
@@ -44,7 +45,7 @@ const SECOND: &str = "ERROR 1: word 2 doesn't fit\n";
 const THIRD: &str = "ERROR 1: word 3 doesn't fit\n";
 
 // Words that don't fit: nothing is printed, and no file is made.
-static REFUSED: [Row<'static>; 16] = [
+static REFUSED: [Row<'static>; 17] = [
     ("synth", 1, "", FIRST),
     ("synth 0", 1, "", FIRST),
     ("synth 4097", 1, "", FIRST),
@@ -59,6 +60,7 @@ static REFUSED: [Row<'static>; 16] = [
     ("synth -q 4", 1, "", FIRST),
     ("synth -b 1 4", 1, "", FIRST),
     ("synth --blocks 0 4", 1, "", SECOND),
+    ("synth --workers 17 4", 1, "", SECOND),
     ("synth 4 --blocks", 1, "", THIRD),
     ("synth --blocks 4", 1, "", THIRD),
 ];

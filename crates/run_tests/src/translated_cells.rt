@@ -33,14 +33,23 @@ static FILES: [FileOf<'static>; 3] = [
 const TEXT: &str =
     "Input file size is 121, 121\n0...10...20...30...40...50...60...70...80...90...100 - done.\n";
 
-// The cell with so many blocks, and a pixel of it while the sums of all its records are checked.
-static MADE: [[Row<'static>; 2]; 4] = [
+// The cell with so many blocks and workers, and a pixel of it while the sums of all its records are checked.
+static MADE: [[Row<'static>; 2]; 5] = [
     [
         ("gdal_translate --blocks 1 t.vrt out.dt0", 0, TEXT, ""),
         CHECKED,
     ],
     [
         ("gdal_translate --blocks 64 t.vrt out.dt0", 0, TEXT, ""),
+        CHECKED,
+    ],
+    [
+        (
+            "gdal_translate --blocks 1 --workers 4 t.vrt out.dt0",
+            0,
+            TEXT,
+            "",
+        ),
         CHECKED,
     ],
     [
@@ -155,10 +164,10 @@ static REFUSED: [Row<'static>; 6] = [
         "ERROR 6: raster doesn't fit the format\n",
     ),
     (
-        "gdal_translate --blocks 1 --workers 4 t.vrt out.dt0",
+        "gdal_translate --blocks 1 --workers 17 t.vrt out.dt0",
         1,
         "",
-        "ERROR 1: word 3 doesn't fit\n",
+        "ERROR 1: word 4 doesn't fit\n",
     ),
     (
         "gdal_translate -of DTED t.vrt out.bil",

@@ -45,6 +45,20 @@ static FILES: [FileOf<'static>; 16] = [
     ),
 ];
 
+// The header of two bands, one behind the other.
+const BANDS_APART: &[u8] = b"BYTEORDER      I
+LAYOUT         BSQ
+NROWS          2
+NCOLS          3
+NBANDS         2
+NBITS          8
+SKIPBYTES      0
+BANDROWBYTES   3
+TOTALROWBYTES  3
+BANDGAPBYTES   0
+PIXELTYPE      UNSIGNEDINT
+";
+
 static STORIES: [Story<'static>; 19] = [
     (
         &[(
@@ -313,24 +327,15 @@ PIXELTYPE      UNSIGNEDINT
         ],
     ),
     (
-        &[("gdal_translate -q --blocks 1 two.bil out.bsq", 0, "", "")],
+        &[
+            ("gdal_translate -q --blocks 1 two.bil out.bsq", 0, "", ""),
+            ("gdal_translate -q --workers 2 two.bil other.bsq", 0, "", ""),
+        ],
         &[
             ("out.bsq", &[1, 2, 3, 7, 8, 9, 4, 5, 6, 10, 11, 12]),
-            (
-                "out.hdr",
-                b"BYTEORDER      I
-LAYOUT         BSQ
-NROWS          2
-NCOLS          3
-NBANDS         2
-NBITS          8
-SKIPBYTES      0
-BANDROWBYTES   3
-TOTALROWBYTES  3
-BANDGAPBYTES   0
-PIXELTYPE      UNSIGNEDINT
-",
-            ),
+            ("other.bsq", &[1, 2, 3, 7, 8, 9, 4, 5, 6, 10, 11, 12]),
+            ("out.hdr", BANDS_APART),
+            ("other.hdr", BANDS_APART),
         ],
     ),
     (
@@ -598,10 +603,10 @@ static REFUSED: [Row<'static>; 38] = [
         "ERROR 1: word 2 doesn't fit\n",
     ),
     (
-        "gdal_translate --workers 2 five.bil out.bil",
+        "gdal_translate --workers 17 five.bil out.bil",
         1,
         "",
-        "ERROR 1: word 1 doesn't fit\n",
+        "ERROR 1: word 2 doesn't fit\n",
     ),
     (
         "gdal_translate --blocks 0 five.bil out.bil",

@@ -1,5 +1,5 @@
 -- How many lines are copied at a time.
-use Rattle.std.specs.Prelude.{ℕ, ◌/◌, min, Bool, true, false, List, if◌then◌else◌}
+use Rattle.std.specs.Prelude.{ℕ, ◌*◌, ◌/◌, min, Bool, true, false, List, if◌then◌else◌}
 use Rattle.std.specs.List.{list_any}
 use Rattle.catalog.specs.Drivers.{Dataset}
 use Rattle.catalog.specs.declared.kind.Kind.{Kind}
@@ -41,14 +41,20 @@ is_tall cat SrtmHgt = has_blocks Columns cat
 is_tall cat AaiGrid = has_blocks Columns cat
 is_tall cat Vrt = has_blocks Columns cat
 
--- the most lines of a strip: those of a square where the source is a mosaic, and 32 where it is a file of lines
-abbrev pub most_lines : List Dataset → Driver → ℕ
-most_lines cat driver = if is_tall cat driver then 4194304 else (if has_blocks Squares cat then 128 else 32)
+-- the lanes that read for so many workers: one where the source is made of cells, whose blocks each lane would load again, else
+-- one for each
+abbrev pub lane_count : ℕ → List Dataset → ℕ
+lane_count workers cat = if has_blocks Columns cat then 1 else workers
+
+-- the most lines of a strip that so many workers read: for each of them those of a square where the source is a mosaic, and
+-- 32 where it is a file of lines
+abbrev pub most_lines : ℕ → List Dataset → Driver → ℕ
+most_lines workers cat driver = if is_tall cat driver then 4194304 else (if has_blocks Squares cat then 128 * workers else 32 * workers)
 
 -- the lines of a strip of so many columns, from 1 to 4,194,304: at most 4,194,304 samples
 abbrev pub strip_height : ℕ → ℕ → ℕ
 strip_height most width = min most (4194304 / width)
 
--- the lines of an output that are copied at a time
-abbrev pub lines_copied : List Dataset → Planned → ℕ
-lines_copied cat p = min (strip_height (most_lines cat p.driver) p.size.w) p.size.h
+-- the lines of an output that so many workers copy at a time
+abbrev pub lines_copied : ℕ → List Dataset → Planned → ℕ
+lines_copied workers cat p = min (strip_height (most_lines workers cat p.driver) p.size.w) p.size.h

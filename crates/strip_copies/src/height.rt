@@ -1,10 +1,11 @@
 // How many lines are copied at a time.
 ghost use Rattle.std.specs.Prelude.{◌≡◌, ◌<◌, ◌≤◌, ◌*◌, Some, length, slice_get};
 ghost use Rattle.catalog.specs.Drivers.{Dataset};
-ghost use Rattle.strip_copies.specs.Heights.{has_blocks, is_cell, is_cut_in, is_mosaic, is_tall, lines_copied, most_lines, strip_height};
+ghost use Rattle.strip_copies.specs.Heights.{has_blocks, is_cell, is_cut_in, is_mosaic, is_tall, lane_count, lines_copied, most_lines, strip_height};
 
 use crate::reading::Translation;
 use catalog::{Catalog, Kind};
+use lane_teams::WorkerCount;
 use translate_plan::Driver;
 
 /// How a dataset's blocks lie, where they are taller than a line.
@@ -87,29 +88,42 @@ fn is_tall(translation: &Translation) -> bool
     }
 }
 
-/// The most lines of a strip: as many as a square of a mosaic has, so that it isn't made again for each of its lines,
-/// and 32 of a file of lines.
-pub fn most_lines(translation: &Translation) -> u32
-    ensures most { result ≡ most_lines translation.now.cat translation.now.plan.driver }
+/// How many lanes read for so many workers: one for each, but only one where the walk met a DTED cell. A block of a cell is
+/// a whole column, which every lane would load again for its own lines.
+pub fn lane_count(translation: &Translation, workers: WorkerCount) -> u32
+    ensures lanes { result ≡ lane_count workers translation.now.cat }
+    ensures some { 1 ≤ result }
+{
+    if has_blocks(&translation.cat, BlockShape::Columns) {
+        1
+    } else {
+        workers.get()
+    }
+}
+
+/// The most lines of a strip that so many workers read: for each of them as many as a square of a mosaic has, so that it
+/// isn't made again for each of its lines, and 32 of a file of lines.
+pub fn most_lines(translation: &Translation, workers: WorkerCount) -> u32
+    ensures most { result ≡ most_lines workers translation.now.cat translation.now.plan.driver }
     ensures some { 1 ≤ result }
 {
     if is_tall(translation) {
         4_194_304
     } else if has_blocks(&translation.cat, BlockShape::Squares) {
-        128
+        128 * workers.get()
     } else {
-        32
+        32 * workers.get()
     }
 }
 
-/// How many lines of the output are copied at a time: those of a strip, or all that there are.
-pub fn strip_height(translation: &Translation) -> u32
-    ensures height { result ≡ lines_copied translation.now.cat translation.now.plan }
+/// How many lines of the output so many workers copy at a time: those of a strip, or all that there are.
+pub fn strip_height(translation: &Translation, workers: WorkerCount) -> u32
+    ensures height { result ≡ lines_copied workers translation.now.cat translation.now.plan }
     ensures some { 1 ≤ result }
     ensures bound { translation.now.plan.size.w * result ≤ 4194304 }
 {
     let plan = &translation.plan;
     plan.rules();
-    let lines = height_of(most_lines(translation), plan.size.w);
+    let lines = height_of(most_lines(translation, workers), plan.size.w);
     lines.min(plan.size.h)
 }

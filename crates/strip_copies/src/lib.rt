@@ -1,4 +1,4 @@
-// Lines of a translation's output, read through a lane and written into a target.
+// Lines of a translation's output, read by a team of lanes.
 #![tactic(auto)]
 
 mod columns;
@@ -14,4 +14,4 @@ mod spans;
 pub use columns::Columns;
 pub use height::strip_height;
 pub use laws::plans_are_translations;
-pub use reading::{Lines, PixelReader, StripReader, Translation, read_lines};
+pub use reading::{Lines, StripReader, Translation, read_lines};

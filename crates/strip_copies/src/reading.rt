@@ -1,32 +1,37 @@
-// Lines of a translation's output, read through a lane.
+// Lines of a translation's output, read by a team of lanes.
 ghost use Rattle.std.specs.Prelude.{◌≡◌, ◌<◌, ◌≤◌, ◌+◌, ◌-◌, ◌*◌, All, IfErr, IfOk, OnOk, length, slice_get, Some};
 ghost use Rattle.geotransform.specs.Geo.{IsRaster};
 ghost use Rattle.outside.specs.Causes.{HasCause};
-ghost use Rattle.outside.specs.Reading.{OnlyRead, WhereTold};
+ghost use Rattle.outside.specs.Reading.{WhereTold};
 ghost use Rattle.band_blocks.specs.Contents.{most_calls};
 ghost use Rattle.band_blocks.specs.Open.{IsUnchanged};
 ghost use Rattle.catalog.specs.Drivers.{Dataset};
 ghost use Rattle.catalog.specs.Pixels.{pixel_of_name};
 ghost use Rattle.catalog.specs.Places.{row_by_row};
-ghost use Rattle.nearest_window.specs.Right.{IsFresh, IsReady, TellsChangeIn};
+ghost use Rattle.nearest_window.specs.Right.{TellsChangeIn};
 ghost use Rattle.nearest_window.specs.Shown.{IsWindow};
+ghost use Rattle.lane_teams.specs.Ready.{AreLanesFresh, AreLanesReady};
+ghost use Rattle.lane_teams.specs.Turns.{OnlyReadByViews};
 ghost use Rattle.translate_plan.specs.Plan.{out_pixel};
 ghost use Rattle.translate_plan.specs.declared.band.OutBand.{OutBand};
 ghost use Rattle.strip_copies.specs.Copies.{lines_rect, AreOf, IsPart, IsRoomFor, IsTranslation};
+ghost use Rattle.strip_copies.specs.Heights.{lane_count};
 ghost use Rattle.strip_copies.specs.Rows.{strip_rect, AreColumns, IsHeldIn, IsMaking};
 
 use crate::columns::Columns;
-use crate::height::{height_of, most_lines};
+use crate::height::{height_of, lane_count, most_lines};
 use crate::holding::Holding;
 use crate::making::{Making, area, make_lines};
 use crate::spans::{Run, run_from};
-use band_blocks::{LoadFault, Steps};
+use band_blocks::LoadFault;
 use catalog::Catalog;
 use geotransform::{Rect, Sample, Size};
-use nearest_window::{Lane, Window};
+use lane_teams::{Team, WorkerCount};
+use nearest_window::Window;
 use outside::Folder;
 use std::alloc::{AllocError, Global};
 use std::sync::ledger::{Blank, Ledger};
+use std::thread::Threads;
 use translate_plan::Plan;
 
 /// What is translated: a dataset of a catalog, by its number, and the plan of its output.
@@ -38,18 +43,11 @@ pub struct Translation {
     pub plan: Plan,
 }
 
-/// A lane, and the count of its loads.
-#[derive(Drop)]
-pub struct PixelReader<F: Folder, L: Ledger> {
-    pub lane: Lane<F>,
-    pub loads: Steps<L>,
-}
-
-/// What lines of a translation are read with: a lane, the columns of the source that are read, and room for lines of
-/// them, which is made once.
+/// What lines of a translation are read with: a team of lanes, the columns of the source that are read, and room for
+/// lines of them, which is made once.
 #[derive(Drop)]
 pub struct StripReader<F: Folder, L: Ledger> {
-    pub pixels: PixelReader<F, L>,
+    pub team: Team<F, L>,
     pub columns: Columns,
     pub samples: Vec<Sample>,
 }
@@ -69,10 +67,11 @@ fn room_height(most: u32, columns: u32, lines: u32) -> u32
 }
 
 impl<F: Folder, L: Ledger> StripReader<F, L> {
-    /// A reader for a translation whose lane holds so many blocks at a time, 1 to 65,536. It has read nothing. The room
-    /// for lines has 4,194,304 samples at most.
+    /// A reader for a translation with a lane for each worker, or with one where the walk met a DTED cell. Each lane holds
+    /// so many blocks at a time, 1 to 65,536. It has read nothing. The room for lines has 4,194,304 samples at most.
     pub fn new(
         translation: &Translation,
+        workers: WorkerCount,
         capacity: u32,
         blank: Blank,
     ) -> Result<StripReader<F, L>, AllocError>
@@ -82,21 +81,20 @@ impl<F: Folder, L: Ledger> StripReader<F, L> {
         requires name { blank.name ≡ L.name }
         requires parts { blank.parts ≡ L.parts }
         requires shares { 0 < blank.parts }
-        ensures fresh { IfOk result (λ reader. IsFresh F.Folder reader.pixels.lane) }
+        ensures lanes { IfOk result (λ reader. length reader.team.lanes.items ≡ lane_count workers translation.now.cat) }
+        ensures fresh { IfOk result (λ reader. AreLanesFresh F.Folder reader.team.lanes.items) }
         ensures room { IfOk result (λ reader. IsRoomFor translation.now.cat translation.now.id translation.now.plan reader.columns reader.samples.items) }
         ensures bound { IfOk result (λ reader. length reader.samples.items ≤ 4194304) }
-        ensures none { IfOk result (λ reader. reader.pixels.loads ≡ 0) }
+        ensures none { IfOk result (λ reader. reader.team.loads ≡ 0) }
     {
         let alloc = translation.alloc;
-        let loads = Steps::open(blank);
         let size = source_size(translation);
         let columns = Columns::new(alloc, &translation.plan, size.w)?;
-        let lines = room_height(most_lines(translation), columns.count, size.h);
+        let lines = room_height(most_lines(translation, workers), columns.count, size.h);
         let samples = vec![in alloc; 0; area(columns.count, lines)]?;
-        let lane = Lane::new(alloc, capacity)?;
-        let pixels = PixelReader { lane, loads };
+        let team = Team::new(alloc, lane_count(translation, workers), capacity, blank)?;
         Ok(StripReader {
-            pixels,
+            team,
             columns,
             samples,
         })
@@ -164,36 +162,43 @@ fn making_of<'a>(translation: &'a Translation, columns: &'a Columns, band: u32) 
     }
 }
 
+// A translation, and the columns of its source that are read.
+#[derive(Clone, Copy)]
+struct Shown<'a> {
+    translation: &'a Translation,
+    columns: &'a Columns,
+}
+
 // Reads the lines of a run. After a refusal `strip` and `out` are unknown.
-fn read_part<F: Folder, L: Ledger>(
-    translation: &Translation,
-    pixels: &mut PixelReader<F, L>,
+fn read_part<R: Threads + Sync, F: Folder, L: Ledger>(
+    rt: &R,
+    shown: Shown,
+    team: &mut Team<F, L>,
     folder: &mut F,
-    columns: &Columns,
     run: Run,
     strip: &mut [Sample],
     out: &mut [Sample],
 ) -> Result<(), LoadFault>
-    requires ready { IsReady F.Folder folder.old translation.now.cat pixels.old.lane }
-    requires translation { IsTranslation translation.now.cat translation.now.id translation.now.plan }
-    requires part { IsPart translation.now.cat translation.now.id translation.now.plan columns.now run }
-    requires strip { length strip.old ≡ columns.now.count * run.span.height }
-    requires room { length out.old ≡ (run.end - run.first) * translation.now.plan.size.w }
-    ensures samples { OnOk result (AreOf (F.names folder.old) translation.now.cat translation.now.id translation.now.plan run.band run.first (length out.old) out.new) }
-    ensures ready { IsReady F.Folder folder.new translation.now.cat pixels.new.lane }
-    ensures only_read { OnlyRead F.Folder folder.old folder.new }
+    requires ready { AreLanesReady F.Folder folder.old shown.translation.now.cat team.old.lanes.items }
+    requires translation { IsTranslation shown.translation.now.cat shown.translation.now.id shown.translation.now.plan }
+    requires part { IsPart shown.translation.now.cat shown.translation.now.id shown.translation.now.plan shown.columns.now run }
+    requires strip { length strip.old ≡ shown.columns.now.count * run.span.height }
+    requires room { length out.old ≡ (run.end - run.first) * shown.translation.now.plan.size.w }
+    ensures samples { OnOk result (AreOf (F.names folder.old) shown.entry.translation.now.cat shown.entry.translation.now.id shown.entry.translation.now.plan run.band run.first (length out.old) out.new) }
+    ensures ready { AreLanesReady F.Folder folder.new shown.entry.translation.now.cat team.new.lanes.items }
+    ensures lanes { length team.new.lanes.items ≡ length team.old.lanes.items }
+    ensures only_read { OnlyReadByViews F.Folder folder.old folder.new }
     ensures cause { HasCause LoadFault.FolderFault (F.faults folder.old) (F.faults folder.new) result }
-    ensures changed { IfErr result (TellsChangeIn translation.now.cat) }
+    ensures changed { IfErr result (TellsChangeIn shown.entry.translation.now.cat) }
     ensures never { WhereTold F.Folder folder.old (λ _. IfErr result IsUnchanged) }
-    ensures counted { pixels.old.loads ≤ pixels.new.loads }
-    ensures reads { F.read_calls folder.new ≤ F.read_calls folder.old + most_calls translation.now.cat * (pixels.new.loads - pixels.old.loads) }
+    ensures counted { team.old.loads ≤ team.new.loads }
+    ensures reads { length team.old.lanes.items ≡ 1 → F.read_calls folder.new ≤ F.read_calls folder.old + most_calls shown.entry.translation.now.cat * (team.new.loads - team.old.loads) }
 {
+    let translation = shown.translation;
+    let columns = shown.columns;
     let window = window_of(translation, columns, run);
     let alloc = translation.alloc;
-    let loads = &mut pixels.loads;
-    pixels
-        .lane
-        .read_window(alloc, &translation.cat, folder, window, strip, loads)?;
+    team.read_window(rt, alloc, &translation.cat, folder, window, strip)?;
     let making = making_of(translation, columns, run.band);
     make_lines(making, run, strip, out);
     Ok(())
@@ -213,62 +218,66 @@ fn lines_in(samples: usize, columns: u32) -> u32
 }
 
 // Reads lines of a band, one run after the other. After a refusal `samples` and `out` are unknown.
-fn read_runs<F: Folder, L: Ledger>(
-    translation: &Translation,
-    pixels: &mut PixelReader<F, L>,
+fn read_runs<R: Threads + Sync, F: Folder, L: Ledger>(
+    rt: &R,
+    shown: Shown,
+    team: &mut Team<F, L>,
     folder: &mut F,
-    columns: &Columns,
     lines: Lines,
     samples: &mut [Sample],
     out: &mut [Sample],
 ) -> Result<(), LoadFault>
-    requires ready { IsReady F.Folder folder.old translation.now.cat pixels.old.lane }
-    requires translation { IsTranslation translation.now.cat translation.now.id translation.now.plan }
-    requires room { IsRoomFor translation.now.cat translation.now.id translation.now.plan columns.now samples.old }
-    requires band { lines.band < length translation.now.plan.bands }
+    requires ready { AreLanesReady F.Folder folder.old shown.translation.now.cat team.old.lanes.items }
+    requires translation { IsTranslation shown.translation.now.cat shown.translation.now.id shown.translation.now.plan }
+    requires room { IsRoomFor shown.translation.now.cat shown.translation.now.id shown.translation.now.plan shown.columns.now samples.old }
+    requires band { lines.band < length shown.translation.now.plan.bands }
     requires order { lines.first ≤ lines.end }
-    requires end { lines.end ≤ translation.now.plan.size.h }
-    requires size { length out.old ≡ (lines.end - lines.first) * translation.now.plan.size.w }
-    ensures samples { OnOk result (AreOf (F.names folder.old) translation.now.cat translation.now.id translation.now.plan lines.band lines.first (length out.old) out.new) }
-    ensures ready { IsReady F.Folder folder.new translation.now.cat pixels.new.lane }
-    ensures only_read { OnlyRead F.Folder folder.old folder.new }
+    requires end { lines.end ≤ shown.translation.now.plan.size.h }
+    requires size { length out.old ≡ (lines.end - lines.first) * shown.translation.now.plan.size.w }
+    ensures samples { OnOk result (AreOf (F.names folder.old) shown.entry.translation.now.cat shown.entry.translation.now.id shown.entry.translation.now.plan lines.band lines.first (length out.old) out.new) }
+    ensures ready { AreLanesReady F.Folder folder.new shown.entry.translation.now.cat team.new.lanes.items }
+    ensures lanes { length team.new.lanes.items ≡ length team.old.lanes.items }
+    ensures only_read { OnlyReadByViews F.Folder folder.old folder.new }
     ensures cause { HasCause LoadFault.FolderFault (F.faults folder.old) (F.faults folder.new) result }
-    ensures changed { IfErr result (TellsChangeIn translation.now.cat) }
+    ensures changed { IfErr result (TellsChangeIn shown.entry.translation.now.cat) }
     ensures never { WhereTold F.Folder folder.old (λ _. IfErr result IsUnchanged) }
-    ensures counted { pixels.old.loads ≤ pixels.new.loads }
-    ensures reads { F.read_calls folder.new ≤ F.read_calls folder.old + most_calls translation.now.cat * (pixels.new.loads - pixels.old.loads) }
+    ensures counted { team.old.loads ≤ team.new.loads }
+    ensures reads { length team.old.lanes.items ≡ 1 → F.read_calls folder.new ≤ F.read_calls folder.old + most_calls shown.entry.translation.now.cat * (team.new.loads - team.old.loads) }
 {
-    let plan = &translation.plan;
+    let plan = &shown.translation.plan;
     plan.rules();
-    let height = source_size(translation).h;
-    let rows = lines_in(samples.len(), columns.count);
+    let count = shown.columns.count;
+    let height = source_size(shown.translation).h;
+    let rows = lines_in(samples.len(), count);
     let mut line = lines.first;
     while line < lines.end {
         let run = run_from(plan, height, rows, lines.band, line, lines.end);
         let begin = area(line - lines.first, plan.size.w);
         let end = area(run.end - lines.first, plan.size.w);
         let part = &mut out[begin..end];
-        let strip = &mut samples[..area(columns.count, run.span.height)];
-        read_part(translation, pixels, folder, columns, run, strip, part)?;
+        let strip = &mut samples[..area(count, run.span.height)];
+        read_part(rt, shown, team, folder, run, strip, part)?;
         line = run.end;
     }
     Ok(())
 }
 
 /// Fills `out` with lines of a band of the translation's output, row by row: each pixel of the output that lies outside
-/// the raster is the band's NODATA, or 0. The lane is ready for the catalog and the folder.
+/// the raster is the band's NODATA, or 0. The lanes of the reader's team read beside each other, and are ready for the
+/// catalog and the folder; the samples are the same for every number of them.
 ///
 /// FolderFault comes only where the folder's count rose, Memory freely. Changed comes only where a file was opened again
 /// and had another length than the walk found, or was absent: never over a folder that tells its files. After a refusal
-/// `out` is unknown, and the lane is still ready.
-pub fn read_lines<F: Folder, L: Ledger>(
+/// `out` is unknown, and the lanes are still ready. Of one lane each read is behind a load that is counted.
+pub fn read_lines<R: Threads + Sync, F: Folder, L: Ledger>(
+    rt: &R,
     translation: &Translation,
     reader: &mut StripReader<F, L>,
     folder: &mut F,
     lines: Lines,
     out: &mut [Sample],
 ) -> Result<(), LoadFault>
-    requires ready { IsReady F.Folder folder.old translation.now.cat reader.old.pixels.lane }
+    requires ready { AreLanesReady F.Folder folder.old translation.now.cat reader.old.team.lanes.items }
     requires translation { IsTranslation translation.now.cat translation.now.id translation.now.plan }
     requires room { IsRoomFor translation.now.cat translation.now.id translation.now.plan reader.old.columns reader.old.samples.items }
     requires band { lines.band < length translation.now.plan.bands }
@@ -278,18 +287,23 @@ pub fn read_lines<F: Folder, L: Ledger>(
     ensures pixels { WhereTold F.Folder folder.old (λ m. (d : Dataset) → slice_get translation.now.cat translation.now.id ≡ Some d → OnOk result (out.new ≡ row_by_row (out_pixel translation.now.plan d.head.size (pixel_of_name m d.head.name) lines.band) (lines_rect translation.now.plan.size lines.first lines.end))) }
     // each sample is one that the output can hold, whatever the folder tells
     ensures held { OnOk result (All (IsHeldIn translation.now.plan lines.band) out.new) }
-    ensures ready { IsReady F.Folder folder.new translation.now.cat reader.new.pixels.lane }
+    ensures ready { AreLanesReady F.Folder folder.new translation.now.cat reader.new.team.lanes.items }
+    ensures lanes { length reader.new.team.lanes.items ≡ length reader.old.team.lanes.items }
     ensures room { IsRoomFor translation.now.cat translation.now.id translation.now.plan reader.new.columns reader.new.samples.items }
-    ensures only_read { OnlyRead F.Folder folder.old folder.new }
+    ensures only_read { OnlyReadByViews F.Folder folder.old folder.new }
     ensures cause { HasCause LoadFault.FolderFault (F.faults folder.old) (F.faults folder.new) result }
     ensures changed { IfErr result (TellsChangeIn translation.now.cat) }
     ensures never { WhereTold F.Folder folder.old (λ _. IfErr result IsUnchanged) }
-    ensures counted { reader.old.pixels.loads ≤ reader.new.pixels.loads }
-    ensures reads { F.read_calls folder.new ≤ F.read_calls folder.old + most_calls translation.now.cat * (reader.new.pixels.loads - reader.old.pixels.loads) }
+    ensures counted { reader.old.team.loads ≤ reader.new.team.loads }
+    ensures reads { length reader.old.team.lanes.items ≡ 1 → F.read_calls folder.new ≤ F.read_calls folder.old + most_calls translation.now.cat * (reader.new.team.loads - reader.old.team.loads) }
 {
     translation.plan.rules();
     let columns = &reader.columns;
-    let pixels = &mut reader.pixels;
+    let shown = Shown {
+        translation,
+        columns,
+    };
+    let team = &mut reader.team;
     let samples = reader.samples.as_mut_slice();
-    read_runs(translation, pixels, folder, columns, lines, samples, out)
+    read_runs(rt, shown, team, folder, lines, samples, out)
 }

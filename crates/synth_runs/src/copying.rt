@@ -11,8 +11,10 @@ use catalog::NodataWord;
 use command_words::BlockCount;
 use error_lines::Fault;
 use esri_hdr::Layout;
+use lane_teams::WorkerCount;
 use outside::{Folder, Sink};
 use std::alloc::{AllocError, Global};
+use std::thread::Threads;
 use synthetic_rasters::{outer_name, output_name};
 use translate_plan::{Driver, Numbers, TranslateOptions, View};
 use translation_runs::{Way, put_translation};
@@ -39,11 +41,13 @@ fn output_options(alloc: Global) -> Result<TranslateOptions, AllocError>
 ///
 /// FolderFault and OutFault come only where the count of the folder and of the output rose, Changed only over a folder
 /// that doesn't tell its names, Memory freely, and the refusals of a translation before it has done anything.
-pub fn put_output<F: Folder, O: Sink>(
+pub fn put_output<R: Threads + Sync, F: Folder, O: Sink>(
+    rt: &R,
     alloc: Global,
     folder: &mut F,
     out: &mut O,
     blocks: BlockCount,
+    workers: WorkerCount,
 ) -> Result<(), Fault>
     ensures told { (m : Files) → F.names folder.old ≡ Some m → Goes (output_run m) m result (F.names folder.new) (O.got out.old) (O.got out.new) }
     ensures may_end { IfErr result MayEnd }
@@ -55,7 +59,8 @@ pub fn put_output<F: Folder, O: Sink>(
     let way = Way {
         verify: false,
         blocks,
+        workers,
         quiet: true,
     };
-    put_translation(alloc, folder, out, &name, &options, way)
+    put_translation(rt, alloc, folder, out, &name, &options, way)
 }

@@ -20,8 +20,14 @@ use nearest_window::{Lane, Window};
 use outside::Folder;
 use std::alloc::{AllocError, Global};
 use std::sync::ledger::{Blank, Ledger};
-use strip_copies::PixelReader;
 use synthetic_rasters::Tally;
+
+// A lane, and the count of its loads.
+#[derive(Drop)]
+struct PixelReader<F: Folder, L: Ledger> {
+    lane: Lane<F>,
+    loads: Steps<L>,
+}
 
 /// A dataset of a catalog, by its number, and its size.
 #[derive(Drop)]

@@ -1,5 +1,5 @@
 // Translations, from the words' options to the files.
-ghost use Rattle.std.specs.Prelude.{◌≡◌, IfErr, Some};
+ghost use Rattle.std.specs.Prelude.{◌≡◌, IfErr, Some, true};
 ghost use Rattle.outside.specs.Outside.{Files};
 ghost use Rattle.error_lines.specs.Faults.{HasCauses, HasChanged, fault_status};
 ghost use Rattle.error_lines.specs.Steps.{Goes};
@@ -12,9 +12,11 @@ use crate::published::unless_read;
 use catalog::{Catalog, open_all};
 use command_words::BlockCount;
 use error_lines::Fault;
+use lane_teams::WorkerCount;
 use output_copies::{Writing, write_output};
 use outside::{Folder, Name, Sink};
 use std::alloc::Global;
+use std::thread::Threads;
 use strip_copies::Translation;
 use translate_plan::{TranslateOptions, plan};
 
@@ -23,8 +25,10 @@ use translate_plan::{TranslateOptions, plan};
 pub struct Way {
     /// Whether the sums of records are to be checked.
     pub verify: bool,
-    /// How many blocks are held at once.
+    /// How many blocks each worker holds at once.
     pub blocks: BlockCount,
+    /// How many workers read lines beside each other.
+    pub workers: WorkerCount,
     /// Whether nothing is told of the work.
     pub quiet: bool,
 }
@@ -34,9 +38,10 @@ pub struct Way {
 ///
 /// The refusals of the walk come first, then Plan, then SameName with the first such name, all before anything is put or
 /// published. FolderFault and OutFault come only where the count of the folder and of the output rose, Changed only over
-/// a folder that doesn't tell its names, Memory freely.
+/// a folder that doesn't tell its names, Memory freely. Nothing of this depends on the number of blocks or of workers.
 #[tactic(auto, unfolding(crate::specs::Judged::translation_judged))]
-pub fn put_translation<F: Folder, O: Sink>(
+pub fn put_translation<R: Threads + Sync, F: Folder, O: Sink>(
+    rt: &R,
     alloc: Global,
     folder: &mut F,
     out: &mut O,
@@ -49,6 +54,8 @@ pub fn put_translation<F: Folder, O: Sink>(
     ensures told { (m : Files) → F.names folder.old ≡ Some m → Goes (translation_run m way.verify src.now options.now way.quiet) m result (F.names folder.new) (O.got out.old) (O.got out.new) }
     // over every folder: a refused translation has done nothing
     ensures refused { IfErr result (λ f. fault_status f ≡ 1 → (out.new ≡ out.old) × (F.names folder.new ≡ F.names folder.old)) }
+    // over every folder and for every answer: a quiet translation leaves the sink as it was
+    ensures quiet { way.quiet ≡ true → out.new ≡ out.old }
     ensures may_end { IfErr result (MayEnd options.now) }
     ensures unknown { RefusesName src.now result }
     ensures changed { HasChanged (F.names folder.old) (ended result) }
@@ -67,7 +74,8 @@ pub fn put_translation<F: Folder, O: Sink>(
     let writing = Writing {
         name: &options.out,
         blocks: way.blocks.get(),
+        workers: way.workers,
         quiet: way.quiet,
     };
-    write_output(&translation, folder, out, writing)
+    write_output(rt, &translation, folder, out, &writing)
 }

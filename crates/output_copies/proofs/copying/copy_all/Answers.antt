@@ -12,8 +12,8 @@ use Rattle.output_copies.proofs.copying.copy_all.Goals as goal
 pub returns-in_err-told-clause-err : goal.returns-in_err-told-clause-err
 returns-in_err-told-clause-err g c =
     let before = g.O.Sink.got c.args.out.now in
-    subst (λ (r : Result (Unit {0}) Fault). OnErr r (GetsPart (spoken c.args.quiet progress) (g.O.Sink.got c.args.out.now) (g.O.Sink.got c.tell.new.out))) (sym (err_is c.from_residual.result c.in_err-told.field-0.0 c.from_residual.ensures))
-    (c.in_err-told.ensures.told before (told_none c.args.quiet progress before))
+    subst (λ (r : Result (Unit {0}) Fault). OnErr r (GetsPart (spoken c.args.copier.now.quiet progress) (g.O.Sink.got c.args.out.now) (g.O.Sink.got c.tell.new.out))) (sym (err_is c.from_residual.result c.in_err-told.field-0.0 c.from_residual.ensures))
+    (c.in_err-told.ensures.told before (told_none c.args.copier.now.quiet progress before))
 
 pub returns-in_err-told-clause-ends : goal.returns-in_err-told-clause-ends
 returns-in_err-told-clause-ends g c =
@@ -31,16 +31,17 @@ loop-line-init g c =
       name = refl;
       names = refl;
       folder_later = omega arith;
+      still = c.in_ok-told.ensures.quiet;
       out_later = put.cause.out_later;
       told = c.in_ok-told.ensures.within;
       whole = c.in_ok-told.ensures.whole;
-      text = c.in_ok-told.ensures.told before (told_none c.args.quiet progress before);
+      text = c.in_ok-told.ensures.told before (told_none c.args.copier.now.quiet progress before);
     }
 
 pub returns-in_err-copy_strip-clause-err : goal.returns-in_err-copy_strip-clause-err
 returns-in_err-copy_strip-clause-err g c =
-    subst (λ (r : Result (Unit {0}) Fault). OnErr r (GetsPart (spoken c.args.quiet progress) (g.O.Sink.got c.args.out.now) (g.O.Sink.got c.loop-line.out))) (sym (err_is c.from_residual-in_err-copy_strip.result c.in_err-copy_strip.field-0.0 c.from_residual-in_err-copy_strip.ensures))
-    (told_so_far c.args.quiet progress c.loop-line.told (g.O.Sink.got c.args.out.now) (g.O.Sink.got c.loop-line.out) c.loop-line.invariant.text)
+    subst (λ (r : Result (Unit {0}) Fault). OnErr r (GetsPart (spoken c.args.copier.now.quiet progress) (g.O.Sink.got c.args.out.now) (g.O.Sink.got c.loop-line.out))) (sym (err_is c.from_residual-in_err-copy_strip.result c.in_err-copy_strip.field-0.0 c.from_residual-in_err-copy_strip.ensures))
+    (told_so_far c.args.copier.now.quiet progress c.loop-line.told (g.O.Sink.got c.args.out.now) (g.O.Sink.got c.loop-line.out) c.loop-line.invariant.text)
 
 pub returns-in_err-copy_strip-clause-ends : goal.returns-in_err-copy_strip-clause-ends
 returns-in_err-copy_strip-clause-ends g c =
@@ -52,7 +53,7 @@ returns-in_err-copy_strip-clause-ends g c =
 
 pub returns-in_err-told-2-clause-err : goal.returns-in_err-told-2-clause-err
 returns-in_err-told-2-clause-err g c =
-    subst (λ (r : Result (Unit {0}) Fault). OnErr r (GetsPart (spoken c.args.quiet progress) (g.O.Sink.got c.args.out.now) (g.O.Sink.got c.tell-in-loop-line.new.out))) (sym (err_is c.from_residual-in_err-told-2.result c.in_err-told-2.field-0.0 c.from_residual-in_err-told-2.ensures))
+    subst (λ (r : Result (Unit {0}) Fault). OnErr r (GetsPart (spoken c.args.copier.now.quiet progress) (g.O.Sink.got c.args.out.now) (g.O.Sink.got c.tell-in-loop-line.new.out))) (sym (err_is c.from_residual-in_err-told-2.result c.in_err-told-2.field-0.0 c.from_residual-in_err-told-2.ensures))
     (c.in_err-told-2.ensures.told (g.O.Sink.got c.args.out.now) c.loop-line.invariant.text)
 
 pub returns-in_err-told-2-clause-ends : goal.returns-in_err-told-2-clause-ends
@@ -81,6 +82,7 @@ loop-line-preserved g c =
       name = copied.name ∙ before.name;
       names = names;
       folder_later = omega (arith, before.folder_later, copied.ends.cause.folder_later);
+      still = λ quiet. c.in_ok-told-2.ensures.quiet quiet ∙ before.still quiet;
       out_later = omega (arith, before.out_later, put.cause.out_later);
       told = c.in_ok-told-2.ensures.within;
       whole = c.in_ok-told-2.ensures.whole;
@@ -91,4 +93,4 @@ pub returns-clause-ok : goal.returns-clause-ok
 returns-clause-ok g c =
     let before = c.loop-line.invariant in
     let all : c.loop-line.told ≡ 49 = before.whole (omega (arith, before.below, c.loop-line-test.false)) in
-    subst (λ (n : ℕ). Gets (spoken c.args.quiet (take n progress)) (g.O.Sink.got c.args.out.now) (g.O.Sink.got c.loop-line.out)) all before.text
+    subst (λ (n : ℕ). Gets (spoken c.args.copier.now.quiet (take n progress)) (g.O.Sink.got c.args.out.now) (g.O.Sink.got c.loop-line.out)) all before.text

@@ -1,4 +1,5 @@
 use Rattle.std.proofs.Common.{◌≡◌, ap, arith}
+use Rattle.lane_teams.proofs.Lanes.{lanes_kept}
 use Rattle.translate_plan.specs.Plan.{Planned}
 use Rattle.output_copies.proofs.Copied.{are_writable, filled_behind, may_come}
 use Rattle.output_copies.proofs.copying.copy_band.Goals as goal
@@ -29,3 +30,9 @@ returns-clause-filled g c =
     (g.F.Folder.names c.read_lines.new.folder) (g.F.Folder.names c.write_window.new.folder) c.plan.inside.size c.args.target.now c.write_window.new.self c.args.lines.first c.args.lines.end c.args.lines.band c.read_lines.new.out
     c.read_lines.ensures.only_read.names put.names size c.requires.order c.requires.end c.requires.band c.requires.filled
     put.target put.output put.fault put.lines put.overlay put.met c.in_ok-read_lines.ensures.pixels
+
+pub returns-in_err-write_window-clause-ready : goal.returns-in_err-write_window-clause-ready
+returns-in_err-write_window-clause-ready g c = lanes_kept g.F.Folder c.args.translation.now.cat _ c.read_lines.new.folder c.write_window.new.folder c.write_window.ensures.names c.read_lines.ensures.ready
+
+pub returns-clause-ready : goal.returns-clause-ready
+returns-clause-ready g c = lanes_kept g.F.Folder c.args.translation.now.cat _ c.read_lines.new.folder c.write_window.new.folder c.write_window.ensures.names c.read_lines.ensures.ready

@@ -12,14 +12,14 @@ use Rattle.output_copies.proofs.documents.write_document.Goals as goal
 pub returns-in_err-document-clause-goes : goal.returns-in_err-document-clause-goes
 returns-in_err-document-clause-goes g c = λ m d told at.
     let f = c.in_err-document.field-0.0 in
-    goes_refused (document_steps c.args.writing.quiet d c.args.translation.now.plan c.args.writing.name.now) m c.from_residual.result f (g.F.Folder.names c.args.folder.now) (g.O.Sink.got c.args.out.now)
+    goes_refused (document_steps c.args.writing.now.quiet d c.args.translation.now.plan c.args.writing.now.name.now) m c.from_residual.result f (g.F.Folder.names c.args.folder.now) (g.O.Sink.got c.args.out.now)
     (err_is c.from_residual.result f c.from_residual.ensures) told (outside_memory f c.in_err-document.ensures.memory)
 
 pub returns-in_err-put_progress-clause-goes : goal.returns-in_err-put_progress-clause-goes
 returns-in_err-put_progress-clause-goes g c = λ m d told at.
-    let q = c.args.writing.quiet in
+    let q = c.args.writing.now.quiet in
     let p = c.args.translation.now.plan in
-    let name = c.args.writing.name.now in
+    let name = c.args.writing.now.name.now in
     let f = c.in_err-put_progress.field-0.0 in
     let names = g.F.Folder.names c.args.folder.now in
     let file = Publishes name (spelled (document_by p name d.head)) ∷ [] in
@@ -37,9 +37,9 @@ returns-in_err-put_progress-clause-ends g c =
 
 pub returns-clause-goes : goal.returns-clause-goes
 returns-clause-goes g c = λ m d told at.
-    let q = c.args.writing.quiet in
+    let q = c.args.writing.now.quiet in
     let p = c.args.translation.now.plan in
-    let name = c.args.writing.name.now in
+    let name = c.args.writing.now.name.now in
     let before = g.O.Sink.got c.args.out.now in
     let after = g.O.Sink.got c.put_progress.new.out in
     let names = g.F.Folder.names c.publish_document.new.folder in

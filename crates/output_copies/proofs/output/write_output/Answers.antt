@@ -9,25 +9,25 @@ use Rattle.output_copies.proofs.output.write_output.Goals as goal
 pub returns-in_err-put_size-clause-told : goal.returns-in_err-put_size-clause-told
 returns-in_err-put_size-clause-told g c = λ m told d at.
     let f = c.in_err-put_size.field-0.0 in
-    subst (λ (r : Result (Unit {0}) Fault). Goes (all_done (translation_steps c.args.writing.quiet m d c.args.translation.now.plan c.args.writing.name.now)) m r (g.F.Folder.names c.args.folder.now) (g.O.Sink.got c.args.out.now) (g.O.Sink.got c.put_size.new.out))
+    subst (λ (r : Result (Unit {0}) Fault). Goes (all_done (translation_steps c.args.writing.now.quiet m d c.args.translation.now.plan c.args.writing.now.name.now)) m r (g.F.Folder.names c.args.folder.now) (g.O.Sink.got c.args.out.now) (g.O.Sink.got c.put_size.new.out))
     (sym (err_is c.from_residual.result c.in_err-put_size.field-0.0 c.from_residual.ensures))
-    (size_stops c.args.writing.quiet m d c.args.translation.now.plan c.args.writing.name.now f (g.F.Folder.names c.args.folder.now) (g.O.Sink.got c.args.out.now) (g.O.Sink.got c.put_size.new.out) told
+    (size_stops c.args.writing.now.quiet m d c.args.translation.now.plan c.args.writing.now.name.now f (g.F.Folder.names c.args.folder.now) (g.O.Sink.got c.args.out.now) (g.O.Sink.got c.put_size.new.out) told
     ((c.in_err-put_size.ensures.ends (g.F.Folder.names c.args.folder.now) 0).never m told) (c.in_err-put_size.ensures.err d at))
 
 pub returns-in_err-write_planned-clause-told : goal.returns-in_err-write_planned-clause-told
 returns-in_err-write_planned-clause-told g c = λ m told d at.
     let f = c.in_err-write_planned.field-0.0 in
     let goes = c.in_err-write_planned.ensures.goes m d told at in
-    subst (λ (r : Result (Unit {0}) Fault). Goes (all_done (translation_steps c.args.writing.quiet m d c.args.translation.now.plan c.args.writing.name.now)) m r (g.F.Folder.names c.write_planned.new.folder) (g.O.Sink.got c.args.out.now) (g.O.Sink.got c.write_planned.new.out))
+    subst (λ (r : Result (Unit {0}) Fault). Goes (all_done (translation_steps c.args.writing.now.quiet m d c.args.translation.now.plan c.args.writing.now.name.now)) m r (g.F.Folder.names c.write_planned.new.folder) (g.O.Sink.got c.args.out.now) (g.O.Sink.got c.write_planned.new.out))
     (sym (err_is c.from_residual-in_err-write_planned.result c.in_err-write_planned.field-0.0 c.from_residual-in_err-write_planned.ensures))
-    (files_stop c.args.writing.quiet m d c.args.translation.now.plan c.args.writing.name.now f (g.F.Folder.names c.write_planned.new.folder) (g.O.Sink.got c.args.out.now) (g.O.Sink.got c.put_size.new.out) (g.O.Sink.got c.write_planned.new.out)
+    (files_stop c.args.writing.now.quiet m d c.args.translation.now.plan c.args.writing.now.name.now f (g.F.Folder.names c.write_planned.new.folder) (g.O.Sink.got c.args.out.now) (g.O.Sink.got c.put_size.new.out) (g.O.Sink.got c.write_planned.new.out)
     (c.in_ok-put_size.ensures.ok d at) goes)
 
 pub returns-clause-told : goal.returns-clause-told
 returns-clause-told g c = λ m told d at.
     let goes = c.in_ok-write_planned.ensures.goes m d told at in
     let ends = c.put_end.ensures.ends (g.F.Folder.names c.args.folder.now) 0 in
-    end_goes c.args.writing.quiet m d c.args.translation.now.plan c.args.writing.name.now c.put_end.result (g.F.Folder.names c.write_planned.new.folder) (g.O.Sink.got c.args.out.now) (g.O.Sink.got c.put_size.new.out) (g.O.Sink.got c.write_planned.new.out) (g.O.Sink.got c.put_end.new.out)
+    end_goes c.args.writing.now.quiet m d c.args.translation.now.plan c.args.writing.now.name.now c.put_end.result (g.F.Folder.names c.write_planned.new.folder) (g.O.Sink.got c.args.out.now) (g.O.Sink.got c.put_size.new.out) (g.O.Sink.got c.write_planned.new.out) (g.O.Sink.got c.put_end.new.out)
     (c.in_ok-put_size.ensures.ok d at) goes c.put_end.ensures.ok c.put_end.ensures.err (ends.never m told)
 
 pub returns-in_err-put_size-clause-faults : goal.returns-in_err-put_size-clause-faults

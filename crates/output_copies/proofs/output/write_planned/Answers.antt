@@ -8,12 +8,12 @@ pub returns-in-Vrt-clause-goes : goal.returns-in-Vrt-clause-goes
 returns-in-Vrt-clause-goes g c = λ m d told at.
     let p = c.args.translation.now.plan in
     subst (λ (s : List Step). Goes (all_done s) m c.write_document.result (g.F.Folder.names c.write_document.new.folder) (g.O.Sink.got c.args.out.now) (g.O.Sink.got c.write_document.new.out))
-    (document_middle m d p c.args.writing.name.now c.args.writing.quiet (ap (λ (t : Translation). t.plan.driver) (sym c.translation.view_is) ∙ c.in-Vrt.is))
+    (document_middle m d p c.args.writing.now.name.now c.args.writing.now.quiet (ap (λ (t : Translation). t.plan.driver) (sym c.translation.view_is) ∙ c.in-Vrt.is))
     (c.write_document.ensures.goes m d told at)
 
 pub returns-clause-goes : goal.returns-clause-goes
 returns-clause-goes g c = λ m d told at.
     let p = c.args.translation.now.plan in
     subst (λ (s : List Step). Goes (all_done s) m c.write_files.result (g.F.Folder.names c.write_files.new.folder) (g.O.Sink.got c.args.out.now) (g.O.Sink.got c.write_files.new.out))
-    (samples_middle m d p c.args.writing.name.now c.args.writing.quiet (λ mosaic. c.in_default.not-Vrt (ap (λ (t : Translation). t.plan.driver) c.translation.view_is ∙ mosaic)))
+    (samples_middle m d p c.args.writing.now.name.now c.args.writing.now.quiet (λ mosaic. c.in_default.not-Vrt (ap (λ (t : Translation). t.plan.driver) c.translation.view_is ∙ mosaic)))
     (c.write_files.ensures.goes m d told at)

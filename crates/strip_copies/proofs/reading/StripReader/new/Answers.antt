@@ -19,3 +19,9 @@ returns-clause-room g c =
       shown = subst (λ w. AreColumns c.args.translation.now.plan w columns) wide c.in_ok-columns.ensures.columns;
       room = omega (arith, most, one, size);
     }
+
+pub returns-clause-fresh : goal.returns-clause-fresh
+returns-clause-fresh g c = record {
+  some = (let n = c.in_ok-team.ensures.count in let w = c.lane_count.ensures.some in omega arith);
+  fresh = c.in_ok-team.ensures.fresh;
+}
