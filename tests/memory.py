@@ -77,30 +77,41 @@ FILES = {
     "self.vrt": mosaic(1, shows("self.vrt")),
 }
 POINTS = b"0 0\n9 9\n2 1\n"
+RASTER = ("out.bil", "out.hdr")
+MOSAIC = ("out.vrt",)
+NUMBER = (
+    *(f"synth_t{tile}.{ending}" for tile in range(4) for ending in ("bil", "hdr")),
+    "synth_inner.vrt",
+    "synth_outer.vrt",
+    "synth_out.bil",
+    "synth_out.hdr",
+)
+# a name, the words, the input, and the files that are published, in their order
 JOBS = (
-    ("a point of raw data", "gdallocationinfo -valonly a.bil 2 1", b""),
-    ("points of the input", "gdallocationinfo -valonly a.bil", POINTS),
-    ("points of the input, the last of which is none", "gdallocationinfo -valonly a.bil", POINTS + b"x\n"),
-    ("a line that is too long", "gdallocationinfo -valonly a.bil", b"0" * 4097),
-    ("the sources of a pixel", "gdallocationinfo -lifonly o.vrt 0 0", b""),
-    ("a report of raw data", "gdalinfo a.bil", b""),
-    ("a report of a mosaic", "gdalinfo o.vrt", b""),
-    ("a report of a grid", "gdalinfo g.asc", b""),
-    ("nested mosaics to raw data, one block", "gdal_translate --blocks 1 o.vrt out.bil", b""),
-    ("nested mosaics to raw data", "gdal_translate -q o.vrt out.bil", b""),
-    ("a grid to a grid", "gdal_translate g.asc out.asc", b""),
-    ("a document of a window", "gdal_translate -srcwin 1 0 1 1 o.vrt out.vrt", b""),
-    ("a mosaic, an input of which is skipped", "gdalbuildvrt out.vrt east.bil two.bil", b""),
-    ("a mosaic of a list", "gdalbuildvrt -q out.vrt -input_file_list list.txt", b""),
-    ("a mosaic that is refused", "gdalbuildvrt -strict out.vrt east.bil two.bil", b""),
-    ("a number", "synth 3", b""),
-    ("a file that is too short", "gdalinfo big.bsq", b""),
-    ("a document that is too deep", "gdalinfo deep.vrt", b""),
-    ("a document that ends too early", "gdalinfo cut.vrt", b""),
-    ("a grid with a long token", "gdalinfo long.asc", b""),
-    ("a mosaic that names itself", "gdallocationinfo -valonly self.vrt 0 0", b""),
-    ("no such file", "gdalinfo none.bil", b""),
-    ("no words", "", b""),
+    ("a point of raw data", "gdallocationinfo -valonly a.bil 2 1", b"", ()),
+    ("points of the input", "gdallocationinfo -valonly a.bil", POINTS, ()),
+    ("points of the input, the last of which is none", "gdallocationinfo -valonly a.bil", POINTS + b"x\n", ()),
+    ("a line that is too long", "gdallocationinfo -valonly a.bil", b"0" * 4097, ()),
+    ("the sources of a pixel", "gdallocationinfo -lifonly o.vrt 0 0", b"", ()),
+    ("a report of raw data", "gdalinfo a.bil", b"", ()),
+    ("a report of a mosaic", "gdalinfo o.vrt", b"", ()),
+    ("a report of a grid", "gdalinfo g.asc", b"", ()),
+    ("nested mosaics to raw data, one block", "gdal_translate --blocks 1 o.vrt out.bil", b"", RASTER),
+    ("nested mosaics to raw data", "gdal_translate -q o.vrt out.bil", b"", RASTER),
+    ("lines that two workers read", "gdal_translate --workers 2 a.bil out.bil", b"", RASTER),
+    ("a grid to a grid", "gdal_translate g.asc out.asc", b"", ("out.asc",)),
+    ("a document of a window", "gdal_translate -srcwin 1 0 1 1 o.vrt out.vrt", b"", MOSAIC),
+    ("a mosaic, an input of which is skipped", "gdalbuildvrt out.vrt east.bil two.bil", b"", MOSAIC),
+    ("a mosaic of a list", "gdalbuildvrt -q out.vrt -input_file_list list.txt", b"", MOSAIC),
+    ("a mosaic that is refused", "gdalbuildvrt -strict out.vrt east.bil two.bil", b"", ()),
+    ("a number", "synth 3", b"", NUMBER),
+    ("a file that is too short", "gdalinfo big.bsq", b"", ()),
+    ("a document that is too deep", "gdalinfo deep.vrt", b"", ()),
+    ("a document that ends too early", "gdalinfo cut.vrt", b"", ()),
+    ("a grid with a long token", "gdalinfo long.asc", b"", ()),
+    ("a mosaic that names itself", "gdallocationinfo -valonly self.vrt 0 0", b"", ()),
+    ("no such file", "gdalinfo none.bil", b"", ()),
+    ("no words", "", b"", ()),
 )
 REFUSED = b"ERROR 2: out of memory\n"
 
@@ -121,10 +132,9 @@ class Ran:
         ran = subprocess.run([program, *words.split()], cwd=folder, input=fed, capture_output=True, timeout=60, env=seen)
         self.status, self.out, self.err, self.is_refused = ran.returncode, ran.stdout, ran.stderr, os.path.exists(mark)
         self.made = {name: open(f"{folder}/{name}", "rb").read() for name in os.listdir(folder)}
-        self.order = sorted(set(self.made) - set(FILES), key=lambda name: os.stat(f"{folder}/{name}").st_mtime_ns)
 
 
-def is_right(whole, ran):
+def is_right(whole, ran, outputs):
     """Whether a run of which a call was refused did the same as one with enough memory, or ended for want of it."""
     if (ran.status, ran.out, ran.err, ran.made) == (whole.status, whole.out, whole.err, whole.made):
         return True
@@ -135,17 +145,19 @@ def is_right(whole, ran):
         and ran.err.endswith(REFUSED)
         and whole.err.startswith(warned)
         and whole.out.startswith(ran.out)
-        and new == set(whole.order[: len(new)])
+        and new == set(outputs[: len(new)])
         and all(whole.made.get(name) == text for name, text in ran.made.items())
     )
 
 
-def try_job(room, program, words, fed):
+def try_job(room, program, words, fed, outputs):
     """Returns how many calls were refused, one a run, and the first that ended otherwise, if there is one."""
     whole, number = Ran(room, program, words, fed, 0), 0
+    if set(whole.made) - set(FILES) != set(outputs):
+        return 0, f"published {sorted(set(whole.made) - set(FILES))}"
     while True:
         ran = Ran(room, program, words, fed, number + 1)
-        if not is_right(whole, ran):
+        if not is_right(whole, ran, outputs):
             return number, f"call {number + 1}: status {ran.status}, {ran.err!r}, {sorted(set(ran.made) - set(FILES))}"
         if not ran.is_refused:
             return number, None
@@ -164,8 +176,8 @@ def main():
         if built.returncode:
             print("tests/memory.py needs a C compiler and a C library with __libc_malloc", file=sys.stderr)
             return 2
-        for name, words, fed in JOBS:
-            number, wrong = try_job(room, program, words, fed)
+        for name, words, fed, outputs in JOBS:
+            number, wrong = try_job(room, program, words, fed, outputs)
             failed += wrong is not None
             print(f"FAILED: {name}: {wrong}" if wrong else f"as it is to be: {name}, {number} allocations refused in turn", flush=True)
     print(f"tried {len(JOBS)}, failed {failed}")
