@@ -22,7 +22,7 @@ static FILES: [FileOf<'static>; 15] = [
         "g.asc",
         b"ncols 2\nnrows 2\nxllcorner 9\nyllcorner 19\ncellsize 2\n1 -2\n30 4\n",
     ),
-    ("a.bil", &[5, 0, 7, 0, 7, 0]),
+    ("a.bil", &[5, 0, 0, 0, 7, 0]),
     ("a.hdr", LOW),
     ("b.bil", &[0, 0, 0, 0, 9, 0]),
     ("b.hdr", LOW),
