@@ -235,7 +235,7 @@ decimal_of_whole (Some d) text n is whole = rw is refl
 nodata_again : (at : ℕ) (n : ℤ) → is_value n ≡ true → unsigned_abs n < 10 ^ 18 → nodata_in at (signed_decimal n) ≡ Ok (Some n)
 unfolding nodata_in
 nodata_again at n int small =
-    let whole : whole_of (signed_decimal n) ≡ Some n = whole_again n small in
+    let whole : whole_of (signed_decimal n) ≡ Some n = whole_again n (omega (arith, small)) in
     let dec : is_decimal (signed_decimal n) ≡ true = decimal_of_whole (parts_of (signed_decimal n)) (signed_decimal n) n refl whole in
     ap (λ b. cond (b || is_same (signed_decimal n) (codes "nan")) (Ok (when_value (whole_of (signed_decimal n)))) (Err (BadToken at))) dec
     ∙ ap (λ (q : Option ℤ). Ok (when_value q)) whole ∙ ap (λ b. Ok (cond b (Some n) None)) int

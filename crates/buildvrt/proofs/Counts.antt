@@ -9,7 +9,7 @@ use Rattle.std.specs.Prelude.{ℤ, pos, negsuc, int_le, unsigned_abs, ◌^◌}
 use Rattle.std.proofs.lemmas.Int.{ints}
 use Rattle.geotransform.specs.Types.{is_in}
 use Rattle.geotransform.specs.declared.types.PixelType.{PixelType}
-use Rattle.geotransform.specs.declared.types.PixelType.TheVariants.{Byte, UInt16, Int16, UInt32, Int32}
+use Rattle.geotransform.proofs.Ranges.{is_near}
 use Rattle.std.specs.List.{filter_map, list_all, cons_option, AllByRecursion, range_with_len}
 use Rattle.std.proofs.lemmas.List.FromFn.{length-range_with_len}
 use Rattle.std.proofs.lemmas.List.Elements.{filter_map-append}
@@ -105,29 +105,8 @@ own_sources o (p ∷ ps) all =
     ∙ sym (one_shown p ps)
 
 -- a number of a type is small
-at_most : (k high : ℕ) → nat_le k high ≡ true → k ≤ high
-at_most k high e = grind (arith, nat_tests)
-
-from_zero : (high : ℕ) (n : ℤ) → (int_le (pos 0) n && int_le n (pos high)) ≡ true → high < 10 ^ 10 → unsigned_abs n < 10 ^ 20
-from_zero high (pos k) e h =
-    let low : k ≤ high = at_most k high (both (int_le (pos 0) (pos k)) (int_le (pos k) (pos high)) e).1 in
-    omega (arith, ints)
-from_zero high (negsuc k) e h = absurd cc
-
-from_below : (least high : ℕ) (n : ℤ) → (int_le (negsuc least) n && int_le n (pos high)) ≡ true → least < 10 ^ 10 → high < 10 ^ 10 → unsigned_abs n < 10 ^ 20
-from_below least high (pos k) e l h =
-    let low : k ≤ high = at_most k high (both (int_le (negsuc least) (pos k)) (int_le (pos k) (pos high)) e).1 in
-    omega (arith, ints)
-from_below least high (negsuc k) e l h =
-    let low : k ≤ least = at_most k least (both (int_le (negsuc least) (negsuc k)) (int_le (negsuc k) (pos high)) e).0 in
-    omega (arith, ints)
-
 pub type_bound : (kind : PixelType) (n : ℤ) → is_in kind n ≡ true → unsigned_abs n < 10 ^ 20
-type_bound Byte n e = from_zero 255 n e (omega arith)
-type_bound UInt16 n e = from_zero 65535 n e (omega arith)
-type_bound Int16 n e = from_below 32767 32767 n e (omega arith) (omega arith)
-type_bound UInt32 n e = from_zero 4294967295 n e (omega arith)
-type_bound Int32 n e = from_below 2147483647 2147483647 n e (omega arith) (omega arith)
+type_bound kind n e = omega (arith, is_near kind n e)
 
 -- one input more
 pub shown_next : (ps : List PatchValue) (i : ℕ) (p : PatchValue) (c d : ℕ) → i < length ps → p ≡ get_or ps i p → c ≡ shown_count (take i ps) → d ≡ c + shown_count (p ∷ []) → d ≡ shown_count (take (i + 1) ps)

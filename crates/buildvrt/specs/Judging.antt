@@ -1,12 +1,11 @@
 -- Which inputs are skipped, and why.
-use Rattle.std.specs.Prelude.{ℕ, suc, ◌-◌, ◌<◌, Bool, true, false, ◌&&◌, ◌||◌, ◌==◌, not, List, [], ◌∷◌, ◌++◌, length, nat_le, slice_get, Option, None, Some, Result, Ok, Err, ok_or, if◌then◌else◌}
+use Rattle.std.specs.Prelude.{ℕ, suc, ◌+◌, ◌*◌, ◌-◌, ◌<◌, Bool, true, false, ◌&&◌, ◌||◌, ◌==◌, not, List, [], ◌∷◌, ◌++◌, length, nat_le, slice_get, Option, None, Some, Result, Ok, Err, ok_or, if◌then◌else◌}
 use Rattle.std.specs.List.{list_all, range_with_len}
 use Rattle.std.specs.Option.{option_and_then}
 use Rattle.lists_and_answers.specs.Answers.{◌>>=◌}
 use Rattle.geotransform.specs.Geo.{Transform, is_north_up}
-use Rattle.geotransform.specs.Types.{is_same}
+use Rattle.geotransform.specs.Types.{bytes_of, is_same, is_signed}
 use Rattle.geotransform.specs.declared.types.PixelType.{PixelType}
-use Rattle.geotransform.specs.declared.types.PixelType.TheVariants.{Byte, UInt16, Int16, UInt32, Int32}
 use Rattle.catalog.specs.Dataset.{DatasetHead}
 use Rattle.catalog.specs.declared.kind.BandHead.{BandHead}
 use Rattle.buildvrt.specs.Options.{Options}
@@ -51,13 +50,9 @@ numbers_or_all (n ∷ ns) count = n ∷ ns
 abbrev pub taken_bands : Options → DatasetHead → List ℕ
 taken_bands o reference = numbers_or_all o.bands (length reference.bands)
 
--- the types of samples, numbered
+-- the types of samples, numbered from 2 on by their bytes and their sign, which tell them apart
 abbrev pub type_number : PixelType → ℕ
-type_number Byte = 1
-type_number UInt16 = 2
-type_number Int16 = 3
-type_number UInt32 = 4
-type_number Int32 = 5
+type_number kind = if is_signed kind then 2 * bytes_of kind + 1 else 2 * bytes_of kind
 
 -- the number of a band's type, 0 where there is no such band
 abbrev pub band_type : Option BandHead → ℕ

@@ -45,11 +45,11 @@ pub record IsBandNumber (n : ℕ) : Type 0 where
   pub from_one : 0 < n
   pub few : n ≤ 256
 
--- a number of 64 bits
+-- a number of a type of 64 bits, with or without a sign
 abbrev pub IsWord : NodataWord → Type 0
 IsWord Absent = Unit {0}
 IsWord Remove = Unit {0}
-IsWord (Number n) = (neg_ℤ (pos (2 ^ 63)) ≤ℤ n) × (n <ℤ pos (2 ^ 63))
+IsWord (Number n) = (neg_ℤ (pos (2 ^ 63)) ≤ℤ n) × (n <ℤ pos (2 ^ 64))
 
 -- what the options keep
 pub record IsOptions (o : Options) : Type 0 where

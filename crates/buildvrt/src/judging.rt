@@ -87,12 +87,11 @@ pub fn band_of(head: &Head, number: u32) -> Option<BandHead>
 fn type_number(kind: PixelType) -> u32
     ensures { result ≡ type_number kind }
 {
-    match kind {
-        PixelType::Byte => 1,
-        PixelType::UInt16 => 2,
-        PixelType::Int16 => 3,
-        PixelType::UInt32 => 4,
-        PixelType::Int32 => 5,
+    let bytes = kind.bytes() as u32;
+    if kind.is_signed() {
+        2 * bytes + 1
+    } else {
+        2 * bytes
     }
 }
 

@@ -71,9 +71,9 @@ format_of word = if same_letters word (codes "EHdr") then Some EHdr else if same
 unfoldable pub layout_of : List ℕ → Option Layout
 layout_of word = if same_letters word (codes "INTERLEAVE=BIL") then Some Bil else if same_letters word (codes "INTERLEAVE=BIP") then Some Bip else if same_letters word (codes "INTERLEAVE=BSQ") then Some Bsq else None
 
--- a number of 64 bits
+-- a number of a type of 64 bits, with or without a sign
 abbrev pub is_wide : ℤ → Bool
-is_wide n = int_le (neg_ℤ (pos (2 ^ 63))) n && int_le n (pos (2 ^ 63 - 1))
+is_wide n = int_le (neg_ℤ (pos (2 ^ 63))) n && int_le n (pos (2 ^ 64 - 1))
 
 abbrev pub wide_number : ℤ → Option NodataWord
 wide_number n = if is_wide n then Some (nodata.Number n) else None

@@ -146,11 +146,11 @@ pub fn layout_of(word: &str) -> Option<Layout>
     }
 }
 
-// A number of 64 bits.
+// A number of a type of 64 bits, with or without a sign.
 fn wide_number(number: i128) -> Option<AskedNodata>
     ensures { result ≡ wide_number number }
 {
-    if number >= -9_223_372_036_854_775_808 && number <= 9_223_372_036_854_775_807 {
+    if number >= -9_223_372_036_854_775_808 && number <= 18_446_744_073_709_551_615 {
         Some(AskedNodata::of(NodataWord::Number(number)))
     } else {
         None

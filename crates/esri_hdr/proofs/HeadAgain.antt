@@ -2,17 +2,17 @@
 use Rattle.std.proofs.Common.{◌≡◌, ℕ, ℤ, pos, negsuc, ◌*◌, ◌^◌, ◌<◌, ◌≤◌, Bool, true, false, cond, ◌++◌, length, Option, Some, None, Ok, Err, refl, ap, ◌∙◌, sym, subst, arith, unsigned_abs}
 use Rattle.std.proofs.Math.Nat.{mul-div_cancel_left}
 use Rattle.std.proofs.lemmas.Nat.{mul-le}
-use Rattle.std.specs.Prelude.{nat_lt, ◌&&◌, int_lt, IfSome, ◌+ℤ◌}
+use Rattle.std.specs.Prelude.{codes, nat_lt, ◌&&◌, int_lt, IfSome, ◌+ℤ◌}
 use Rattle.std.specs.Option.{option_map}
 use Rattle.std.specs.Fmt.{decimal, signed_decimal}
 use mathlib.Core.Path.{fun_ext}
 use Rattle.geotransform.specs.Decimal.{IsRead}
 use Rattle.geotransform.specs.Print.{short_text}
-use Rattle.geotransform.specs.Types.{is_in}
+use Rattle.geotransform.specs.Types.{is_in, is_signed}
+use Rattle.geotransform.proofs.Ranges.{bytes_bounds, is_near}
 use Rattle.geotransform.proofs.RoundTrip.{short_again, whole_again, decimal_word, signed_word, short_word}
 use Rattle.std.proofs.lemmas.Bool.Decides.{nat_tests}
 use Rattle.std.proofs.lemmas.Int.{ints}
-use Rattle.geotransform.specs.declared.types.PixelType.TheVariants.{Byte, UInt16, Int16, UInt32, Int32}
 use Rattle.geotransform.specs.declared.types.PixelType.{PixelType}
 use Rattle.esri_hdr.specs.declared.parts.HdrFault.TheVariants.{BadValue, Limit}
 use Rattle.esri_hdr.specs.declared.parts.RawGeo.{RawGeo}
@@ -28,7 +28,7 @@ use Rattle.esri_hdr.proofs.Again.{IsKey, IsField, last_field, last_text, text_le
 use Rattle.std.specs.List.{AllByRecursion}
 use Rattle.esri_hdr.specs.declared.parts.Layout.{Layout}
 use Rattle.esri_hdr.specs.declared.parts.Layout.TheVariants.{Bil, Bip, Bsq}
-use Rattle.esri_hdr.proofs.ValuesAgain.{side_again, bands_again, bits_again, big_again, layout_again, skip_again, is_signed, signed_again, kind_again, band_row_again, total_row_again, gap_again}
+use Rattle.esri_hdr.proofs.ValuesAgain.{side_again, bands_again, bits_again, big_again, layout_again, skip_again, signed_again, kind_again, band_row_again, total_row_again, gap_again}
 
 place_again : (v : ℤ) → IsRead v → place_in (Some (short_text v)) ≡ Ok (Some v)
 unfolding place_in
@@ -86,18 +86,6 @@ rows_again h none geo value w is =
     let fits = subst (λ (k : ℕ). RowsFit h.layout h.bands k (rows_from h)) (row_is h) is.rows in
     rw (w.bandrowbytes, band_row_again h.layout (row_len (shape_from h)) h.band_row fits.0, w.totalrowbytes, total_row_again h.layout h.bands (row_len (shape_from h)) h.band_row h.total_row fits.1, w.bandgapbytes, gap_again h.layout h.gap fits.2) refl
 
-pub in_small : (kind : PixelType) (n : ℤ) → is_in kind n ≡ true → unsigned_abs n < 10 ^ 18
-in_small Byte (pos n) h = grind (arith, nat_tests, ints)
-in_small Byte (negsuc n) h = grind (arith, nat_tests, ints)
-in_small UInt16 (pos n) h = grind (arith, nat_tests, ints)
-in_small UInt16 (negsuc n) h = grind (arith, nat_tests, ints)
-in_small Int16 (pos n) h = grind (arith, nat_tests, ints)
-in_small Int16 (negsuc n) h = grind (arith, nat_tests, ints)
-in_small UInt32 (pos n) h = grind (arith, nat_tests, ints)
-in_small UInt32 (negsuc n) h = grind (arith, nat_tests, ints)
-in_small Int32 (pos n) h = grind (arith, nat_tests, ints)
-in_small Int32 (negsuc n) h = grind (arith, nat_tests, ints)
-
 geo_of_none : (h : Head) (nd : Option ℤ) (value : Values) → Written value h nd None → geo_of value ≡ Ok None
 unfolding geo_of place_in step_in geo_in
 geo_of_none h nd value w = rw (w.ulxmap, w.ulymap, w.xdim, w.ydim) refl
@@ -113,7 +101,7 @@ geo_of_again h nd (Some g) value w is = geo_of_some h nd g value w is
 nodata_again : (kind : PixelType) (h : Head) (nd : Option ℤ) (geo : Option RawGeo) (value : Values) → Written value h nd geo → IfSome nd (λ n. is_in kind n ≡ true) → nodata_in kind (value keys.nodata) ≡ nd
 unfolding nodata_in
 nodata_again kind h None geo value w is = rw w.nodata refl
-nodata_again kind h (Some n) geo value w is = rw w.nodata (ap (when_in kind) (whole_again n (in_small kind n is)) ∙ ap (λ b. cond b (Some n) None) is)
+nodata_again kind h (Some n) geo value w is = rw w.nodata (ap (when_in kind) (whole_again n (is_near kind n is)) ∙ ap (λ b. cond b (Some n) None) is)
 
 head_again : (h : Head) (value : Values) → Written value h h.nodata h.geo → IsHead h → head_of value ≡ Ok h
 unfolding head_of
@@ -128,19 +116,15 @@ layout_field Bil = field_const 5 (layout_text Bil) (key_const 5 refl refl (omega
 layout_field Bip = field_const 5 (layout_text Bip) (key_const 5 refl refl (omega arith) (omega arith)) refl (omega arith) (omega arith)
 layout_field Bsq = field_const 5 (layout_text Bsq) (key_const 5 refl refl (omega arith) (omega arith)) refl (omega arith) (omega arith)
 
+sign_by : (signed : Bool) → IsField (keys.pixeltype, cond signed (codes "SIGNEDINT") (codes "UNSIGNEDINT"))
+sign_by true = field_const 7 (codes "SIGNEDINT") (key_const 7 refl refl (omega arith) (omega arith)) refl (omega arith) (omega arith)
+sign_by false = field_const 7 (codes "UNSIGNEDINT") (key_const 7 refl refl (omega arith) (omega arith)) refl (omega arith) (omega arith)
+
 sign_field : (kind : PixelType) → IsField (keys.pixeltype, sign_text kind)
-sign_field Byte = field_const 7 (sign_text Byte) (key_const 7 refl refl (omega arith) (omega arith)) refl (omega arith) (omega arith)
-sign_field UInt16 = field_const 7 (sign_text UInt16) (key_const 7 refl refl (omega arith) (omega arith)) refl (omega arith) (omega arith)
-sign_field Int16 = field_const 7 (sign_text Int16) (key_const 7 refl refl (omega arith) (omega arith)) refl (omega arith) (omega arith)
-sign_field UInt32 = field_const 7 (sign_text UInt32) (key_const 7 refl refl (omega arith) (omega arith)) refl (omega arith) (omega arith)
-sign_field Int32 = field_const 7 (sign_text Int32) (key_const 7 refl refl (omega arith) (omega arith)) refl (omega arith) (omega arith)
+sign_field kind = sign_by (is_signed kind)
 
 bits_small : (kind : PixelType) → 8 * sample_len kind < 10 ^ 18
-bits_small Byte = omega arith
-bits_small UInt16 = omega arith
-bits_small Int16 = omega arith
-bits_small UInt32 = omega arith
-bits_small Int32 = omega arith
+bits_small kind = omega (arith, bytes_bounds kind)
 
 geo_all : (geo : Option RawGeo) → IfSome geo GeoFits → AllByRecursion IsField (geo_fields geo)
 geo_all None h = tt
@@ -157,26 +141,19 @@ geo_all (Some g) h = (
 
 tail_all : (kind : PixelType) (nd : Option ℤ) (geo : Option RawGeo) → IfSome nd (λ n. is_in kind n ≡ true) → IfSome geo GeoFits → AllByRecursion IsField (nodata_fields nd ++ geo_fields geo)
 tail_all kind None geo n g = geo_all geo g
-tail_all kind (Some m) geo n g = (field_word 15 (signed_decimal m) (key_const 15 refl refl (omega arith) (omega arith)) (signed_word m (in_small kind m n)), geo_all geo g)
+tail_all kind (Some m) geo n g = (field_word 15 (signed_decimal m) (key_const 15 refl refl (omega arith) (omega arith)) (signed_word m (is_near kind m n)), geo_all geo g)
 
 number_field : (k n : ℕ) → IsKey k → n < 10 ^ 18 → IsField (k, decimal n)
-number_field k n key small = field_word k (decimal n) key (decimal_word n small)
+number_field k n key small = field_word k (decimal n) key (decimal_word n (omega (arith, small)))
 
-bytes_most : (kind : PixelType) → sample_len kind ≤ 4
-bytes_most Byte = omega arith
-bytes_most UInt16 = omega arith
-bytes_most Int16 = omega arith
-bytes_most UInt32 = omega arith
-bytes_most Int32 = omega arith
-
-rows_bound : (layout : Layout) (bands row : ℕ) (r : Rows) → RowsFit layout bands row r → row ≤ 2 ^ 24 → (r.band_row ≤ 2 ^ 33) × (r.total_row ≤ 2 ^ 33) × (r.gap ≤ 2 ^ 40)
+rows_bound : (layout : Layout) (bands row : ℕ) (r : Rows) → RowsFit layout bands row r → row ≤ 2 ^ 25 → (r.band_row ≤ 2 ^ 33) × (r.total_row ≤ 2 ^ 33) × (r.gap ≤ 2 ^ 40)
 rows_bound Bil bands row r h small = (omega (arith, h.0), omega (arith, h.1), omega (arith, h.2))
 rows_bound Bip bands row r h small = (omega (arith, h.0), omega (arith, h.1), omega (arith, h.2))
 rows_bound Bsq bands row r h small = (omega (arith, h.0), omega (arith, h.1), omega (arith, h.2))
 
 rows_small : (h : Head) → IsHead h → (h.band_row < 10 ^ 18) × (h.total_row < 10 ^ 18) × (h.gap < 10 ^ 18)
 rows_small h is =
-    let most : h.size.w * sample_len h.kind ≤ 4194304 * 4 = mul-le h.size.w (sample_len h.kind) 4194304 4 is.width.1 (bytes_most h.kind) in
+    let most : h.size.w * sample_len h.kind ≤ 4194304 * 8 = mul-le h.size.w (sample_len h.kind) 4194304 8 is.width.1 (bytes_bounds h.kind).1 in
     let b = rows_bound h.layout h.bands (h.size.w * sample_len h.kind) (rows_from h) is.rows (omega arith) in
     (omega (arith, b.0), omega (arith, b.1), omega (arith, b.2))
 

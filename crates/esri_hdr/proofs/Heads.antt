@@ -6,11 +6,11 @@ use Rattle.std.proofs.lemmas.Bool.Decides.{nat_tests}
 use Rattle.std.proofs.lemmas.Int.{ints}
 use Rattle.geotransform.specs.Decimal.{IsRead}
 use Rattle.geotransform.specs.Types.{is_in}
+use Rattle.geotransform.proofs.Ranges.{bytes_bounds}
 use Rattle.geotransform.specs.Places.{half, sixteen_places}
 use Rattle.geotransform.specs.Geo.{Transform, IsRaster, is_near, is_size, is_north_up, sizes_held}
 use Rattle.geotransform.specs.declared.types.Size.{Size}
 use Rattle.geotransform.specs.declared.types.PixelType.{PixelType}
-use Rattle.geotransform.specs.declared.types.PixelType.TheVariants.{Byte, UInt16, Int16, UInt32, Int32}
 use Rattle.esri_hdr.specs.declared.parts.Layout.{Layout}
 use Rattle.esri_hdr.specs.declared.parts.Layout.TheVariants.{Bil, Bip, Bsq}
 use Rattle.esri_hdr.specs.declared.parts.RawGeo.{RawGeo}
@@ -57,20 +57,13 @@ when_held g false e = tt
 pub held_fits : (g : Transform) → IfSome (raw_geo_of g) GeoFits
 held_fits g = when_held g (holds_transform g) refl
 
-sample_bound : (kind : PixelType) → sample_len kind ≤ 4
-sample_bound Byte = omega arith
-sample_bound UInt16 = omega arith
-sample_bound Int16 = omega arith
-sample_bound UInt32 = omega arith
-sample_bound Int32 = omega arith
+pub row_bound : (n : ℕ) (kind : PixelType) → n ≤ 4194304 → n * sample_len kind ≤ 8 * 4194304
+row_bound n kind h = omega (arith, mul-le n (sample_len kind) 4194304 8 h (bytes_bounds kind).1)
 
-pub row_bound : (n : ℕ) (kind : PixelType) → n ≤ 4194304 → n * sample_len kind ≤ 4 * 4194304
-row_bound n kind h = omega (arith, mul-le n (sample_len kind) 4194304 4 h (sample_bound kind))
+line_bound : (bands row : ℕ) → bands ≤ 256 → row ≤ 8 * 4194304 → bands * row ≤ 2 ^ 33
+line_bound bands row b r = omega (arith, mul-le bands row 256 (8 * 4194304) b r)
 
-line_bound : (bands row : ℕ) → bands ≤ 256 → row ≤ 4 * 4194304 → bands * row ≤ 2 ^ 33
-line_bound bands row b r = omega (arith, mul-le bands row 256 (4 * 4194304) b r)
-
-rows_fit : (layout : Layout) (bands row : ℕ) → bands ≤ 256 → row ≤ 4 * 4194304 → RowsFit layout bands row (record { band_row = row; total_row = plain_row layout bands row; gap = 0 })
+rows_fit : (layout : Layout) (bands row : ℕ) → bands ≤ 256 → row ≤ 8 * 4194304 → RowsFit layout bands row (record { band_row = row; total_row = plain_row layout bands row; gap = 0 })
 rows_fit Bil bands row b r = ((omega arith, omega arith), (omega arith, line_bound bands row b r), refl)
 rows_fit Bip bands row b r = (refl, (omega arith, omega (arith, line_bound bands row b r)), refl)
 rows_fit Bsq bands row b r = (refl, refl, omega arith)

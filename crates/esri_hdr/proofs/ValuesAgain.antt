@@ -7,9 +7,10 @@ use Rattle.std.specs.Fmt.{decimal}
 use Rattle.std.proofs.lemmas.Fmt.{digits_decimal, digits_value-decimal, decimal_nonempty, length-decimal-le}
 use Rattle.std.proofs.lemmas.Bool.Decides.{nat_tests}
 use Rattle.geotransform.specs.Decimal.{number, number_of}
+use Rattle.geotransform.specs.Types.{is_signed}
 use Rattle.geotransform.proofs.Numbers.{own}
 use Rattle.geotransform.specs.declared.types.PixelType.{PixelType}
-use Rattle.geotransform.specs.declared.types.PixelType.TheVariants.{Byte, UInt16, Int16, UInt32, Int32}
+use Rattle.geotransform.specs.declared.types.PixelType.TheVariants.{Byte, Int8, UInt16, Int16, UInt32, Int32, UInt64, Int64}
 use Rattle.esri_hdr.specs.declared.parts.HdrFault.{HdrFault}
 use Rattle.esri_hdr.specs.declared.parts.HdrFault.TheVariants.{BadValue, Unsupported, Limit}
 use Rattle.esri_hdr.specs.declared.parts.Layout.{Layout}
@@ -48,13 +49,22 @@ pub bands_again : (n : ℕ) → (0 < n) × (n ≤ 256) → bands_in (Some (decim
 unfolding bands_in
 bands_again n h = ap (λ (x : Result ℕ HdrFault). x >>= counted 256) (number_again n (omega arith)) ∙ counted_again 256 n h.0 h.1
 
-pub bits_again : (kind : PixelType) → bits_in (Some (decimal (8 * sample_len kind))) ≡ Ok (8 * sample_len kind)
+abbrev is_bits : ℕ → Bool
+is_bits n = (n == 8) || ((n == 16) || ((n == 32) || (n == 64)))
+
+bits_read : (n : ℕ) → n < 10 ^ 18 → is_bits n ≡ true → bits_in (Some (decimal n)) ≡ Ok n
 unfolding bits_in
-bits_again Byte = ap (λ (x : Result ℕ HdrFault). x >>= λ n. cond ((n == 8) || ((n == 16) || (n == 32))) (Ok n) (Err Unsupported)) (number_again 8 (omega arith))
-bits_again UInt16 = ap (λ (x : Result ℕ HdrFault). x >>= λ n. cond ((n == 8) || ((n == 16) || (n == 32))) (Ok n) (Err Unsupported)) (number_again 16 (omega arith))
-bits_again Int16 = ap (λ (x : Result ℕ HdrFault). x >>= λ n. cond ((n == 8) || ((n == 16) || (n == 32))) (Ok n) (Err Unsupported)) (number_again 16 (omega arith))
-bits_again UInt32 = ap (λ (x : Result ℕ HdrFault). x >>= λ n. cond ((n == 8) || ((n == 16) || (n == 32))) (Ok n) (Err Unsupported)) (number_again 32 (omega arith))
-bits_again Int32 = ap (λ (x : Result ℕ HdrFault). x >>= λ n. cond ((n == 8) || ((n == 16) || (n == 32))) (Ok n) (Err Unsupported)) (number_again 32 (omega arith))
+bits_read n small is = ap (λ (x : Result ℕ HdrFault). x >>= λ m. cond (is_bits m) (Ok m) (Err Unsupported)) (number_again n small) ∙ ap (λ b. cond b (Ok n) (Err Unsupported)) is
+
+pub bits_again : (kind : PixelType) → bits_in (Some (decimal (8 * sample_len kind))) ≡ Ok (8 * sample_len kind)
+bits_again Byte = bits_read 8 (omega arith) refl
+bits_again Int8 = bits_read 8 (omega arith) refl
+bits_again UInt16 = bits_read 16 (omega arith) refl
+bits_again Int16 = bits_read 16 (omega arith) refl
+bits_again UInt32 = bits_read 32 (omega arith) refl
+bits_again Int32 = bits_read 32 (omega arith) refl
+bits_again UInt64 = bits_read 64 (omega arith) refl
+bits_again Int64 = bits_read 64 (omega arith) refl
 
 pub big_again : (big : Bool) → big_in (Some (order_text big)) ≡ Ok big
 unfolding big_in
@@ -71,28 +81,27 @@ pub skip_again : (n : ℕ) → n ≤ 2 ^ 40 → skip_in (Some (decimal n)) ≡ O
 unfolding skip_in
 skip_again n h = ap (λ (x : Result ℕ HdrFault). x >>= at_most (2 ^ 40)) (number_again n (omega arith)) ∙ at_most_again (2 ^ 40) n h
 
-abbrev pub is_signed : PixelType → Bool
-is_signed Byte = false
-is_signed UInt16 = false
-is_signed Int16 = true
-is_signed UInt32 = false
-is_signed Int32 = true
-
 pub signed_again : (kind : PixelType) (nodata : Option (List ℕ)) → signed_in (8 * sample_len kind) (Some (sign_text kind)) nodata ≡ Ok (is_signed kind)
 unfolding signed_in
 signed_again Byte nodata = refl
+signed_again Int8 nodata = refl
 signed_again UInt16 nodata = refl
 signed_again Int16 nodata = refl
 signed_again UInt32 nodata = refl
 signed_again Int32 nodata = refl
+signed_again UInt64 nodata = refl
+signed_again Int64 nodata = refl
 
 pub kind_again : (kind : PixelType) → kind_of (8 * sample_len kind) (is_signed kind) ≡ kind
 unfolding kind_of
 kind_again Byte = refl
+kind_again Int8 = refl
 kind_again UInt16 = refl
 kind_again Int16 = refl
 kind_again UInt32 = refl
 kind_again Int32 = refl
+kind_again UInt64 = refl
+kind_again Int64 = refl
 
 row_again : (least n : ℕ) → least ≤ n → n ≤ 2 ^ 33 → row_in least (Some (decimal n)) ≡ Ok n
 unfolding row_in

@@ -4,12 +4,11 @@ use Rattle.std.specs.Option.{option_map}
 use Rattle.lists_and_answers.specs.Answers.{◌>>=◌}
 use Rattle.geotransform.specs.Decimal.{ticks_of, whole_of, IsRead}
 use Rattle.geotransform.specs.Print.{unit}
-use Rattle.geotransform.specs.Types.{is_in}
+use Rattle.geotransform.specs.Types.{is_in, bytes_of}
 use Rattle.geotransform.specs.Places.{half, sixteen_places}
 use Rattle.geotransform.specs.Geo.{Transform, is_near, is_north_up, sizes_held}
 use Rattle.geotransform.specs.declared.types.Size.{Size}
 use Rattle.geotransform.specs.declared.types.PixelType.{PixelType}
-use Rattle.geotransform.specs.declared.types.PixelType.TheVariants.{Byte, UInt16, Int16, UInt32, Int32}
 use Rattle.esri_hdr.specs.declared.parts.HdrFault.{HdrFault}
 use Rattle.esri_hdr.specs.declared.parts.HdrFault.TheVariants.{MissingKey, BadValue, Limit}
 use Rattle.esri_hdr.specs.declared.parts.Layout.{Layout}
@@ -123,11 +122,7 @@ esri_head text = if nat_lt 1048576 (length text) then Err Limit else head_of (la
 
 -- the bytes of a sample
 abbrev pub sample_len : PixelType → ℕ
-sample_len Byte = 1
-sample_len UInt16 = 2
-sample_len Int16 = 2
-sample_len UInt32 = 4
-sample_len Int32 = 4
+sample_len kind = bytes_of kind
 
 -- the rules of the row lengths and the gap, by the layout, the number of bands and the bytes of a band's row
 abbrev pub RowsFit : Layout → ℕ → ℕ → Rows → Type 0
@@ -164,7 +159,7 @@ pub record IsShape (s : Shape) : Type 0 where
   pub height : IsSide s.h
   pub bands : (0 < s.bands) × (s.bands ≤ 256)
   pub skip : s.skip ≤ 2 ^ 40
-  pub bits : (s.bits ≡ 8) ⊎ ((s.bits ≡ 16) ⊎ (s.bits ≡ 32))
+  pub bits : (s.bits ≡ 8) ⊎ ((s.bits ≡ 16) ⊎ ((s.bits ≡ 32) ⊎ (s.bits ≡ 64)))
 
 -- half of a size of a pixel, which is above 0 and even
 abbrev pub half_of : ℤ → ℤ

@@ -3,7 +3,7 @@ use Rattle.std.specs.Prelude.{◌≡◌, ℕ, ℤ, ◌-◌, ◌*◌, Bool, List,
 use Rattle.std.specs.Fmt.{decimal, signed_decimal}
 use Rattle.geotransform.specs.Print.{short_text}
 use Rattle.geotransform.specs.declared.types.PixelType.{PixelType}
-use Rattle.geotransform.specs.declared.types.PixelType.TheVariants.{Byte, UInt16, Int16, UInt32, Int32}
+use Rattle.geotransform.specs.Types.{is_signed}
 use Rattle.esri_hdr.specs.declared.parts.Layout.{Layout}
 use Rattle.esri_hdr.specs.declared.parts.Layout.TheVariants.{Bil, Bip, Bsq}
 use Rattle.esri_hdr.specs.declared.parts.RawGeo.{RawGeo}
@@ -36,11 +36,7 @@ layout_text Bsq = codes "BSQ"
 
 -- the value of PIXELTYPE
 abbrev pub sign_text : PixelType → List ℕ
-sign_text Byte = codes "UNSIGNEDINT"
-sign_text UInt16 = codes "UNSIGNEDINT"
-sign_text Int16 = codes "SIGNEDINT"
-sign_text UInt32 = codes "UNSIGNEDINT"
-sign_text Int32 = codes "SIGNEDINT"
+sign_text kind = if is_signed kind then codes "SIGNEDINT" else codes "UNSIGNEDINT"
 
 -- NODATA, where there is one
 abbrev pub nodata_fields : Option ℤ → List (ℕ × List ℕ)

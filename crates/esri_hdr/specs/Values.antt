@@ -4,7 +4,7 @@ use Rattle.std.specs.Char.{to_ascii_lowercase}
 use Rattle.lists_and_answers.specs.Answers.{◌>>=◌}
 use Rattle.geotransform.specs.Decimal.{number_of, is_negative_decimal}
 use Rattle.geotransform.specs.declared.types.PixelType.{PixelType}
-use Rattle.geotransform.specs.declared.types.PixelType.TheVariants.{Byte, UInt16, Int16, UInt32, Int32}
+use Rattle.geotransform.specs.declared.types.PixelType.TheVariants.{Byte, Int8, UInt16, Int16, UInt32, Int32, UInt64, Int64}
 use Rattle.esri_hdr.specs.declared.parts.HdrFault.{HdrFault}
 use Rattle.esri_hdr.specs.declared.parts.HdrFault.TheVariants.{BadValue, Unsupported, Limit}
 use Rattle.esri_hdr.specs.declared.parts.Layout.{Layout}
@@ -49,7 +49,7 @@ bands_in text = do
 unfoldable pub bits_in : Option (List ℕ) → Result ℕ HdrFault
 bits_in text = do
   n ← number_or 8 text
-  if (n == 8) || ((n == 16) || (n == 32)) then Ok n else Err Unsupported
+  if (n == 8) || ((n == 16) || ((n == 32) || (n == 64))) then Ok n else Err Unsupported
 
 -- BYTEORDER, by its first letter
 abbrev pub order_of : ℕ → Result Bool HdrFault
@@ -78,11 +78,11 @@ is_negative (Some text) = is_negative_decimal text
 -- PIXELTYPE: whether the samples are signed. Without it they are where more than 8 bits have a negative NODATA
 unfoldable pub signed_in : ℕ → Option (List ℕ) → Option (List ℕ) → Result Bool HdrFault
 signed_in bits None nodata = Ok (nat_lt 8 bits && is_negative nodata)
-signed_in bits (Some text) nodata = if is_same text (codes "SIGNEDINT") then (if bits == 8 then Err Unsupported else Ok true) else (if is_same text (codes "UNSIGNEDINT") then Ok false else (if is_same text (codes "FLOAT") then Err Unsupported else Err BadValue))
+signed_in bits (Some text) nodata = if is_same text (codes "SIGNEDINT") then Ok true else (if is_same text (codes "UNSIGNEDINT") then Ok false else (if is_same text (codes "FLOAT") then Err Unsupported else Err BadValue))
 
 -- the type of samples of so many bits
 unfoldable pub kind_of : ℕ → Bool → PixelType
-kind_of bits signed = if bits == 8 then Byte else (if bits == 16 then (if signed then Int16 else UInt16) else (if signed then Int32 else UInt32))
+kind_of bits signed = if bits == 8 then (if signed then Int8 else Byte) else (if bits == 16 then (if signed then Int16 else UInt16) else (if bits == 32 then (if signed then Int32 else UInt32) else (if signed then Int64 else UInt64)))
 
 -- a length that is at least what the samples take, which is its default
 unfoldable pub row_in : ℕ → Option (List ℕ) → Result ℕ HdrFault

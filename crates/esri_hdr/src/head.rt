@@ -34,13 +34,9 @@ pub struct RawHead {
 /// The bytes of a sample.
 pub fn sample_len(kind: PixelType) -> usize
     ensures value { result ≡ sample_len kind }
-    ensures bounds { (1 ≤ result) × (result ≤ 4) }
+    ensures bounds { (1 ≤ result) × (result ≤ 8) }
 {
-    match kind {
-        PixelType::Byte => 1,
-        PixelType::UInt16 | PixelType::Int16 => 2,
-        PixelType::UInt32 | PixelType::Int32 => 4,
-    }
+    kind.bytes()
 }
 
 impl Model for RawHead {

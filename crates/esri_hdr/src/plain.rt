@@ -13,7 +13,7 @@ use geotransform::{PixelType, Sample, Size};
 fn row_of(columns: u32, kind: PixelType) -> u64
     requires { columns ≤ 4194304 }
     ensures value { result ≡ columns * sample_len kind }
-    ensures bound { result ≤ 4 * 4194304 }
+    ensures bound { result ≤ 8 * 4194304 }
 {
     let len = sample_len(kind) as u64;
     columns as u64 * len
@@ -22,7 +22,7 @@ fn row_of(columns: u32, kind: PixelType) -> u64
 /// The bytes of a line of all bands.
 fn plain_row(layout: Layout, bands: u32, row: u64) -> u64
     requires bands { bands ≤ 256 }
-    requires row { row ≤ 4 * 4194304 }
+    requires row { row ≤ 8 * 4194304 }
     ensures { result ≡ plain_row layout bands row }
 {
     match layout {

@@ -76,7 +76,7 @@ fn rows_of(shape: &Shape, found: &Found<'_>) -> Result<Rows, HdrFault>
 fn row_len(shape: &Shape) -> u64
     requires { IsShape shape.now }
     ensures value { result ≡ row_len shape.now }
-    ensures bound { result ≤ 2 ^ 24 }
+    ensures bound { result ≤ 2 ^ 25 }
 {
     shape.w as u64 * (shape.bits / 8) as u64
 }

@@ -63,10 +63,10 @@ pub fn bands_in(text: Option<&[u8]>) -> Result<u32, HdrFault>
 #[tactic(auto, unfolding(crate::specs::Values::bits_in))]
 pub fn bits_in(text: Option<&[u8]>) -> Result<u32, HdrFault>
     ensures value { result ≡ bits_in (option_map (λ v. v.now) text.entry) }
-    ensures bound { IfOk result (λ n. (n ≡ 8) ⊎ ((n ≡ 16) ⊎ (n ≡ 32))) }
+    ensures bound { IfOk result (λ n. (n ≡ 8) ⊎ ((n ≡ 16) ⊎ ((n ≡ 32) ⊎ (n ≡ 64)))) }
 {
     let n = number_or(8, text)?;
-    if n == 8 || n == 16 || n == 32 {
+    if n == 8 || n == 16 || n == 32 || n == 64 {
         Ok(n as u32)
     } else {
         Err(HdrFault::Unsupported)
@@ -138,11 +138,7 @@ pub fn signed_in(bits: u32, text: Option<&[u8]>, nodata: Option<&[u8]>) -> Resul
         return Ok(bits > 8 && is_negative(nodata));
     };
     if is_same(text, b"SIGNEDINT") {
-        return if bits == 8 {
-            Err(HdrFault::Unsupported)
-        } else {
-            Ok(true)
-        };
+        return Ok(true);
     }
     if is_same(text, b"UNSIGNEDINT") {
         return Ok(false);
@@ -158,11 +154,14 @@ pub fn kind_of(bits: u32, signed: bool) -> PixelType
     ensures { result ≡ kind_of bits signed }
 {
     match (bits, signed) {
-        (8, _) => PixelType::Byte,
+        (8, true) => PixelType::Int8,
+        (8, false) => PixelType::Byte,
         (16, true) => PixelType::Int16,
         (16, false) => PixelType::UInt16,
-        (_, true) => PixelType::Int32,
-        (_, false) => PixelType::UInt32,
+        (32, true) => PixelType::Int32,
+        (32, false) => PixelType::UInt32,
+        (_, true) => PixelType::Int64,
+        (_, false) => PixelType::UInt64,
     }
 }
 

@@ -66,9 +66,10 @@ fn layout_text(layout: Layout) -> &'static [u8]
 fn sign_text(kind: PixelType) -> &'static [u8]
     ensures { result.now ≡ sign_text kind }
 {
-    match kind {
-        PixelType::Byte | PixelType::UInt16 | PixelType::UInt32 => b"UNSIGNEDINT",
-        PixelType::Int16 | PixelType::Int32 => b"SIGNEDINT",
+    if kind.is_signed() {
+        b"SIGNEDINT"
+    } else {
+        b"UNSIGNEDINT"
     }
 }
 

@@ -1,10 +1,10 @@
 -- Where the samples of a raw file lie, and what their bytes mean.
 use Rattle.std.specs.Prelude.{◌≡◌, ◌<◌, ◌≤◌, ◌⊎◌, ℕ, ℤ, pos, ◌+◌, ◌-◌, ◌*◌, ◌/◌, ◌%◌, Bool, List, length, map, take, drop, if◌then◌else◌, unsigned_abs}
 use Rattle.std.specs.List.{range_with_len}
-use Rattle.std.specs.Int.{w16, w32, cast_signed, cast_unsigned}
+use Rattle.std.specs.Int.{w8, w16, w32, w64, cast_signed, cast_unsigned}
 use Rattle.byteorder.specs.Endian.{big_number, little_number, big_bytes, little_bytes}
 use Rattle.geotransform.specs.declared.types.PixelType.{PixelType}
-use Rattle.geotransform.specs.declared.types.PixelType.TheVariants.{Byte, UInt16, Int16, UInt32, Int32}
+use Rattle.geotransform.specs.declared.types.PixelType.TheVariants.{Byte, Int8, UInt16, Int16, UInt32, Int32, UInt64, Int64}
 use Rattle.esri_hdr.specs.declared.parts.Layout.{Layout}
 use Rattle.esri_hdr.specs.declared.parts.Layout.TheVariants.{Bil, Bip, Bsq}
 use Rattle.esri_hdr.specs.Head.{Head, sample_len}
@@ -44,18 +44,24 @@ stride_of h = stride_by h.layout h
 -- the number that the bits of a sample stand for
 abbrev pub value_of : PixelType → ℕ → ℤ
 value_of Byte bits = pos bits
+value_of Int8 bits = cast_signed w8 bits
 value_of UInt16 bits = pos bits
 value_of Int16 bits = cast_signed w16 bits
 value_of UInt32 bits = pos bits
 value_of Int32 bits = cast_signed w32 bits
+value_of UInt64 bits = pos bits
+value_of Int64 bits = cast_signed w64 bits
 
 -- the bits of a sample that stands for a number of the type
 abbrev pub bits_of : PixelType → ℤ → ℕ
 bits_of Byte n = unsigned_abs n
+bits_of Int8 n = cast_unsigned w8 n
 bits_of UInt16 n = unsigned_abs n
 bits_of Int16 n = cast_unsigned w16 n
 bits_of UInt32 n = unsigned_abs n
 bits_of Int32 n = cast_unsigned w32 n
+bits_of UInt64 n = unsigned_abs n
+bits_of Int64 n = cast_unsigned w64 n
 
 -- the number that n bytes write, the first or the last of which counts most
 abbrev pub number_in : Bool → ℕ → List ℕ → ℕ

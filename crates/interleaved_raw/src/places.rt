@@ -9,7 +9,7 @@ use esri_hdr::{Layout, RawHead, sample_len};
 /// BIP, of one sample else.
 pub fn stride(head: &RawHead) -> u64
     ensures value { result ≡ stride_of head.now }
-    ensures bounds { (1 ≤ result) × (result ≤ 1024) }
+    ensures bounds { (1 ≤ result) × (result ≤ 2048) }
     ensures wide { sample_len head.now.kind ≤ result }
 {
     let s = sample_len(head.kind) as u64;
@@ -23,7 +23,7 @@ pub fn stride(head: &RawHead) -> u64
 #[tactic(auto, using(crate::proofs::Runs::gap_bound))]
 fn band_len(head: &RawHead) -> u64
     ensures value { result ≡ head.now.size.h * head.now.size.w * sample_len head.now.kind + head.now.gap }
-    ensures bound { result ≤ 2 ^ 47 }
+    ensures bound { result ≤ 2 ^ 48 }
 {
     let s = sample_len(head.kind) as u64;
     head.size.h as u64 * head.size.w as u64 * s + head.gap

@@ -1,7 +1,7 @@
 // Samples and their bytes.
 ghost use Rattle.std.specs.Prelude.{◌≡◌, ◌<◌, ◌≤◌, ◌⊎◌, ℕ, ◌+◌, ◌-◌, ◌*◌, ◌/◌, ◌%◌, ◌^◌, List, length, take, drop, map, true, pos, get_or};
 ghost use Rattle.std.specs.List.{range_with_len, All};
-ghost use Rattle.std.specs.Int.{w16, w32, cast_signed, cast_unsigned};
+ghost use Rattle.std.specs.Int.{w8, w16, w32, w64, cast_signed, cast_unsigned};
 ghost use Rattle.geotransform.specs.Types.{is_in};
 ghost use Rattle.esri_hdr.specs.Head.{Head, sample_len};
 ghost use Rattle.lists_and_answers.specs.Places.{StandsAt};
@@ -18,9 +18,11 @@ fn value_of(kind: PixelType, bits: u64) -> Sample
     ensures range { is_in kind result ≡ true }
 {
     match kind {
-        PixelType::Byte | PixelType::UInt16 | PixelType::UInt32 => bits as i128,
+        PixelType::Byte | PixelType::UInt16 | PixelType::UInt32 | PixelType::UInt64 => bits as i128,
+        PixelType::Int8 => (bits as u8).cast_signed() as i128,
         PixelType::Int16 => (bits as u16).cast_signed() as i128,
         PixelType::Int32 => (bits as u32).cast_signed() as i128,
+        PixelType::Int64 => bits.cast_signed() as i128,
     }
 }
 
@@ -31,9 +33,10 @@ fn bits_by<O: ByteOrder>(kind: PixelType, bytes: &[u8]) -> u64
     ensures fits { result < 256 ^ sample_len kind }
 {
     match kind {
-        PixelType::Byte => O::read_uint(bytes, 1),
+        PixelType::Byte | PixelType::Int8 => O::read_uint(bytes, 1),
         PixelType::UInt16 | PixelType::Int16 => O::read_u16(bytes) as u64,
         PixelType::UInt32 | PixelType::Int32 => O::read_u32(bytes) as u64,
+        PixelType::UInt64 | PixelType::Int64 => O::read_u64(bytes),
     }
 }
 
@@ -84,9 +87,11 @@ fn bits_of(kind: PixelType, n: Sample) -> u64
     ensures fits { result < 256 ^ sample_len kind }
 {
     match kind {
-        PixelType::Byte | PixelType::UInt16 | PixelType::UInt32 => n as u64,
+        PixelType::Byte | PixelType::UInt16 | PixelType::UInt32 | PixelType::UInt64 => n as u64,
+        PixelType::Int8 => (n as i8).cast_unsigned() as u64,
         PixelType::Int16 => (n as i16).cast_unsigned() as u64,
         PixelType::Int32 => (n as i32).cast_unsigned() as u64,
+        PixelType::Int64 => (n as i64).cast_unsigned(),
     }
 }
 
@@ -97,9 +102,10 @@ fn write_bits<O: ByteOrder>(kind: PixelType, bits: u64, bytes: &mut [u8])
     ensures { bytes.new ≡ O.bytes_of (sample_len kind) bits }
 {
     match kind {
-        PixelType::Byte => return O::write_uint(bytes, bits, 1),
+        PixelType::Byte | PixelType::Int8 => return O::write_uint(bytes, bits, 1),
         PixelType::UInt16 | PixelType::Int16 => return O::write_u16(bytes, bits as u16),
         PixelType::UInt32 | PixelType::Int32 => return O::write_u32(bytes, bits as u32),
+        PixelType::UInt64 | PixelType::Int64 => return O::write_u64(bytes, bits),
     }
 }
 

@@ -11,7 +11,7 @@ use Rattle.std.proofs.lemmas.List.{length-take-le, get_or-take, get_or-drop, get
 use borrow.Rule.Slice.PartMut.{put_mid, mid_of}
 use Rattle.geotransform.specs.Types.{clamp, is_in}
 use Rattle.geotransform.specs.declared.types.PixelType.{PixelType}
-use Rattle.geotransform.specs.declared.types.PixelType.TheVariants.{Byte, UInt16, Int16, UInt32, Int32}
+use Rattle.geotransform.proofs.Ranges.{clamp_kept}
 use Rattle.mosaic_sources.specs.Pixels.{IsPixel}
 use Rattle.mosaic_sources.proofs.Following.{is_pixel}
 use Rattle.nearest_window.specs.declared.merging.Place.{Place}
@@ -29,11 +29,7 @@ pub pixel_stands : (v : ℤ) → IsPixel v → filled_with v ≡ Some v
 pixel_stands v h = let high = h.greatest in ap (λ b. cond b None (Some v)) (not_blank v (omega (arith, ints)))
 
 pub in_itself : (kind : PixelType) (v : ℤ) → is_in kind v ≡ true → clamp kind v ≡ v
-in_itself Byte v h = grind (arith, nat_tests, ints)
-in_itself UInt16 v h = grind (arith, nat_tests, ints)
-in_itself Int16 v h = grind (arith, nat_tests, ints)
-in_itself UInt32 v h = grind (arith, nat_tests, ints)
-in_itself Int32 v h = grind (arith, nat_tests, ints)
+in_itself kind v h = clamp_kept kind v h
 
 -- what is filled has a value, which is the sample
 pub filled_value : (v : ℤ) (x : ℤ) → filled_with v ≡ Some x → x ≡ v

@@ -8,7 +8,7 @@ use Rattle.std.specs.List.{sum_by}
 use Rattle.std.proofs.lemmas.List.{length-map}
 use Rattle.geotransform.specs.declared.types.Rect.{Rect}
 use Rattle.geotransform.specs.declared.types.PixelType.{PixelType}
-use Rattle.geotransform.specs.declared.types.PixelType.TheVariants.{Byte, UInt16, Int16, UInt32, Int32}
+use Rattle.geotransform.proofs.Ranges.{clamp_zero}
 use Rattle.geotransform.specs.Types.{clamp, is_in}
 use Rattle.lists_and_answers.specs.Options.{◌>>=◌}
 use Rattle.outside.specs.Outside.{Files}
@@ -97,20 +97,13 @@ pub clamp_given : (kind : PixelType) (o : Option ℤ) (v : ℤ) → clamp kind v
 clamp_given kind (Some x) v e = refl
 clamp_given kind None v e = e
 
-zero_kept : (kind : PixelType) → clamp kind (pos 0) ≡ pos 0
-zero_kept Byte = refl
-zero_kept UInt16 = refl
-zero_kept Int16 = refl
-zero_kept UInt32 = refl
-zero_kept Int32 = refl
-
 -- the NODATA of a band, or 0, is in the band's range
 pub nodata_kept : (b : BandValue) → IsBand b → clamp b.kind (unwrap_or b.nodata (pos 0)) ≡ unwrap_or b.nodata (pos 0)
 nodata_kept b rules = on b.nodata rules.nodata
   where
     on : (o : Option ℤ) → IfSome o (λ n. is_in b.kind n ≡ true) → clamp b.kind (unwrap_or o (pos 0)) ≡ unwrap_or o (pos 0)
     on (Some n) h = in_itself b.kind n h
-    on None h = zero_kept b.kind
+    on None h = clamp_zero b.kind
 
 -- the samples of a block's rectangle are the block
 pub whole_block : (told : Option Files) (cat : List Dataset) (key : BlockKey) (rect : Rect) (block : BlockView) → ((d : Dataset) → slice_get cat key.dataset ≡ Some d → rect ≡ block_rect_of d.head key.block)

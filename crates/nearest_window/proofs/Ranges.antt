@@ -7,7 +7,7 @@ use Rattle.std.proofs.lemmas.Nat.{mod_below}
 use borrow.Rule.Slice.PartMut.{put_mid, mid_of}
 use Rattle.geotransform.specs.Types.{is_in}
 use Rattle.geotransform.specs.declared.types.PixelType.{PixelType}
-use Rattle.geotransform.specs.declared.types.PixelType.TheVariants.{Byte, UInt16, Int16, UInt32, Int32}
+use Rattle.geotransform.proofs.Ranges.{zero_in}
 use Rattle.geotransform.specs.declared.types.Rect.{Rect}
 use Rattle.outside.specs.Outside.{Files}
 use Rattle.catalog.specs.Drivers.{Dataset}
@@ -33,13 +33,6 @@ use Rattle.nearest_window.specs.Shown.{IsPictureOf, IsInBand, IsPartOf, IsTyped,
 use Rattle.nearest_window.specs.Taken.{place_at, taken_by}
 use Rattle.nearest_window.proofs.Filled.{filled_by, filled_none, filled_columns, filled_rows, all_of}
 use Rattle.nearest_window.proofs.Keys.{is_block_held}
-
-zero_in : (kind : PixelType) → is_in kind (pos 0) ≡ true
-zero_in Byte = refl
-zero_in UInt16 = refl
-zero_in Int16 = refl
-zero_in UInt32 = refl
-zero_in Int32 = refl
 
 past_end : (xs : List ℤ) (i : ℕ) → length xs ≤ i → get_or xs i (pos 0) ≡ pos 0
 past_end [] i p = refl

@@ -25,7 +25,7 @@ use Rattle.nearest_window.specs.Taken.{place_at, taken_by}
 
 -- what marks a sample that is open: no sample of any type
 abbrev pub blank : ℤ
-blank = pos 1099511627776
+blank = pos 1180591620717411303424
 
 -- what a sample shows, or nothing where it is open
 abbrev pub filled_with : ℤ → Option ℤ

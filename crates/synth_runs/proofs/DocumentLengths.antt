@@ -10,7 +10,7 @@ use Rattle.geotransform.specs.Geo.{Transform}
 use Rattle.geotransform.specs.Print.{short_text}
 use Rattle.geotransform.specs.Types.{name_of}
 use Rattle.geotransform.specs.declared.types.PixelType.{PixelType}
-use Rattle.geotransform.specs.declared.types.PixelType.TheVariants.{Byte, UInt16, Int16, UInt32, Int32}
+use Rattle.geotransform.specs.declared.types.PixelType.TheVariants.{Byte, Int8, UInt16, Int16, UInt32, Int32, UInt64, Int64}
 use Rattle.geotransform.specs.declared.types.Size.{Size}
 use Rattle.geotransform.proofs.RoundTrip.{decimal_word, short_word}
 use Rattle.vrt_profile.specs.Items.{Pair}
@@ -80,7 +80,7 @@ either_within k level m false within = within
 
 -- texts of numbers
 count_short : (n : ℕ) → n < 10 ^ 18 → length (decimal n) ≤ 40
-count_short n small = (decimal_word n small).short
+count_short n small = (decimal_word n (omega (arith, small))).short
 
 wide_short : (n : ℕ) → n < 10 ^ 20 → length (decimal n) ≤ 20
 wide_short n small = length-decimal-le_wide 20 n (omega arith) small (omega arith)
@@ -108,10 +108,13 @@ flag_short false = omega arith
 
 kind_short : (kind : PixelType) → length (name_of kind) ≤ 40
 kind_short Byte = omega arith
+kind_short Int8 = omega arith
 kind_short UInt16 = omega arith
 kind_short Int16 = omega arith
 kind_short UInt32 = omega arith
 kind_short Int32 = omega arith
+kind_short UInt64 = omega arith
+kind_short Int64 = omega arith
 
 tag_short : (complex : Bool) → length (source_name complex) ≤ 40
 tag_short true = omega arith

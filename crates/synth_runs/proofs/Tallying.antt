@@ -9,7 +9,7 @@ use Rattle.std.proofs.lemmas.List.{get_or_append_left, get_or-append_right}
 use Rattle.std.proofs.lemmas.Nat.{div-mul-add, mod-mul-add, div-add-mod', mod_below}
 use Rattle.geotransform.specs.Types.{is_in}
 use Rattle.geotransform.specs.declared.types.PixelType.{PixelType}
-use Rattle.geotransform.specs.declared.types.PixelType.TheVariants.{Byte, UInt16, Int16, UInt32, Int32}
+use Rattle.geotransform.proofs.Ranges.{is_near}
 use Rattle.geotransform.specs.declared.types.Size.{Size}
 use Rattle.outside.specs.Outside.{Files}
 use Rattle.band_blocks.proofs.Corners.{length-row_by_row, get_or-row_by_row, filled-row_by_row}
@@ -24,28 +24,15 @@ use Rattle.synthetic_rasters.proofs.Tallied.{count_few}
 use Rattle.synth_runs.specs.Runs.{samples_of}
 use Rattle.synth_runs.specs.Tallied.{lines_of, AreTallied, IsCopied}
 
--- a sample of a type is less than 2^32 from 0
-near_of : (kind : PixelType) (n : ℤ) → is_in kind n ≡ true → unsigned_abs n < 2 ^ 32
-near_of Byte (pos n) h = grind (arith, nat_tests, ints)
-near_of Byte (negsuc n) h = grind (arith, nat_tests, ints)
-near_of UInt16 (pos n) h = grind (arith, nat_tests, ints)
-near_of UInt16 (negsuc n) h = grind (arith, nat_tests, ints)
-near_of Int16 (pos n) h = grind (arith, nat_tests, ints)
-near_of Int16 (negsuc n) h = grind (arith, nat_tests, ints)
-near_of UInt32 (pos n) h = grind (arith, nat_tests, ints)
-near_of UInt32 (negsuc n) h = grind (arith, nat_tests, ints)
-near_of Int32 (pos n) h = grind (arith, nat_tests, ints)
-near_of Int32 (negsuc n) h = grind (arith, nat_tests, ints)
-
 first_of : {X : Type 0} (xs : List X) → 0 < length xs → (x : X) × (slice_get xs 0 ≡ Some x)
 first_of [] some = absurd (omega (arith, some))
 first_of (x ∷ xs) some = (x, refl)
 
--- so is each sample of the first band
-pub samples_near : (cat : List Dataset) (id : ℕ) (size : Size) (samples : List ℤ) → IsCopied cat id size → All (IsInBand cat id 0) samples → All (λ n. unsigned_abs n < 2 ^ 32) samples
+-- each sample of the first band is less than 2^64 from 0
+pub samples_near : (cat : List Dataset) (id : ℕ) (size : Size) (samples : List ℤ) → IsCopied cat id size → All (IsInBand cat id 0) samples → All (λ n. unsigned_abs n < 2 ^ 64) samples
 samples_near cat id size samples is typed i d less =
     let first = first_of is.dataset.head.bands is.banded in
-    near_of first.0.kind (get_or samples i d) (typed i d less is.dataset first.0.kind is.at (ap (option_map (λ band. band.kind)) first.1))
+    is_near first.0.kind (get_or samples i d) (typed i d less is.dataset first.0.kind is.at (ap (option_map (λ band. band.kind)) first.1))
 
 -- a column and a line that lie some lines further
 column_of : (w r k : ℕ) → 0 < w → (r * w + k) % w ≡ k % w

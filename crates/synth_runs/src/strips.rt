@@ -98,7 +98,7 @@ fn read_strip<F: Folder, L: Ledger>(
     requires end { strip.end ≤ copied.now.size.h }
     requires long { length samples.old ≡ copied.now.size.w * (strip.end - strip.first) }
     ensures samples { WhereTold F.Folder folder.old (λ m. (d : Dataset) → slice_get copied.now.cat copied.now.id ≡ Some d → OnOk result (samples.new ≡ lines_of m d.head.name copied.now.size strip.first strip.end)) }
-    ensures near { OnOk result (All (λ n. unsigned_abs n < 2 ^ 32) samples.new) }
+    ensures near { OnOk result (All (λ n. unsigned_abs n < 2 ^ 64) samples.new) }
     ensures long { length samples.new ≡ length samples.old }
     ensures ready { IsReady F.Folder folder.new copied.now.cat pixels.new.lane }
     ensures names { F.names folder.new ≡ F.names folder.old }

@@ -45,7 +45,7 @@ most_pixels = 4194304 * 4194304
 -- the limits of what is told of samples of the types of bands
 pub record IsTally (t : Totals) : Type 0 where
   pub few : t.count ≤ most_pixels
-  pub near : unsigned_abs t.sum ≤ 2 ^ 32 * t.count
+  pub near : unsigned_abs t.sum ≤ 2 ^ 64 * t.count
 
 -- five lines on a raster of this size
 unfoldable pub tally_text : Size → Totals → List ℕ

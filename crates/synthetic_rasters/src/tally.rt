@@ -33,11 +33,11 @@ impl Model for Tally {
 
 // The sum of values and of one more.
 fn sum_with(count: u64, sum: i128, value: Sample) -> i128
-    requires sum { unsigned_abs sum ≤ 2 ^ 32 * count }
+    requires sum { unsigned_abs sum ≤ 2 ^ 64 * count }
     requires few { count < most_pixels }
-    requires near { unsigned_abs value < 2 ^ 32 }
+    requires near { unsigned_abs value < 2 ^ 64 }
     ensures sum { result ≡ sum +ℤ value }
-    ensures near { unsigned_abs result ≤ 2 ^ 32 * (count + 1) }
+    ensures near { unsigned_abs result ≤ 2 ^ 64 * (count + 1) }
 {
     sum + value
 }
@@ -81,7 +81,7 @@ impl Tally {
     // One value more, which isn't NODATA.
     fn add_value(&mut self, value: Sample)
         requires value { int_eq value nodata ≡ false }
-        requires near { unsigned_abs value < 2 ^ 32 }
+        requires near { unsigned_abs value < 2 ^ 64 }
         requires few { self.old.count < most_pixels }
         ensures added { (seen : List ℤ) → self.old ≡ tally_of seen → self.new ≡ tally_of (seen ++ value ∷ []) }
         ensures count { self.new.count ≡ self.old.count + 1 }
@@ -94,7 +94,7 @@ impl Tally {
 
     // One sample more.
     fn add_one(&mut self, sample: Sample)
-        requires near { unsigned_abs sample < 2 ^ 32 }
+        requires near { unsigned_abs sample < 2 ^ 64 }
         requires few { self.old.count < most_pixels }
         ensures added { (seen : List ℤ) → self.old ≡ tally_of seen → self.new ≡ tally_of (seen ++ sample ∷ []) }
         ensures count { self.new.count ≤ self.old.count + 1 }
@@ -107,7 +107,7 @@ impl Tally {
     /// These samples more, none of which is farther from 0 than a band's samples can be. All are at most as many as the
     /// pixels of the greatest raster.
     pub fn add(&mut self, samples: &[Sample])
-        requires near { All (λ n. unsigned_abs n < 2 ^ 32) samples.now }
+        requires near { All (λ n. unsigned_abs n < 2 ^ 64) samples.now }
         requires few { self.old.count + length samples.now ≤ most_pixels }
         ensures added { (seen : List ℤ) → self.old ≡ tally_of seen → self.new ≡ tally_of (seen ++ samples.now) }
         ensures count { self.new.count ≤ self.old.count + length samples.now }

@@ -11,7 +11,7 @@ use Rattle.geotransform.specs.Types.{is_in}
 use Rattle.geotransform.specs.Geo.{Transform, IsRaster}
 use Rattle.geotransform.specs.declared.types.Size.{Size}
 use Rattle.geotransform.specs.declared.types.PixelType.{PixelType}
-use Rattle.geotransform.specs.declared.types.PixelType.TheVariants.{Byte, UInt16, Int16, UInt32, Int32}
+use Rattle.geotransform.specs.declared.types.PixelType.TheVariants.{Byte, Int8, UInt16, Int16, UInt32, Int32, UInt64, Int64}
 use Rattle.geotransform.specs.declared.faults.PlanFault.{PlanFault}
 use Rattle.esri_hdr.specs.Head.{when_in}
 use Rattle.esri_hdr.specs.declared.parts.Layout.{Layout}
@@ -114,10 +114,13 @@ some_count (b ∷ bs) count some = grind (arith, nat_tests)
 -- the type of cells and tiles
 int16_is : (kind : PixelType) → is_int16 kind ≡ true → kind ≡ Int16
 int16_is Byte e = absurd cc
+int16_is Int8 e = absurd cc
 int16_is UInt16 e = absurd cc
 int16_is Int16 e = refl
 int16_is UInt32 e = absurd cc
 int16_is Int32 e = absurd cc
+int16_is UInt64 e = absurd cc
+int16_is Int64 e = absurd cc
 
 tile_kind : (driver : Driver) (asked : Option PixelType) (first own : PixelType) (n : ℤ) → takes_kind driver asked ≡ true → own_nodata driver ≡ Some n → kind_of driver asked first own ≡ Int16
 tile_kind EHdr asked first own n takes e = absurd cc

@@ -9,21 +9,15 @@ use Rattle.std.proofs.lemmas.Int.{ints}
 use Rattle.std.proofs.lemmas.Bool.Decides.{nat_tests}
 use Rattle.std.proofs.lemmas.Option.{get_or_from_slice_get, slice_get_within}
 use Rattle.geotransform.specs.Types.{is_in, clamp}
+use Rattle.geotransform.proofs.Ranges.{clamp_in, zero_in}
 use Rattle.geotransform.specs.declared.types.Size.{Size}
 use Rattle.geotransform.specs.declared.types.PixelType.{PixelType}
-use Rattle.geotransform.specs.declared.types.PixelType.TheVariants.{Byte, UInt16, Int16, UInt32, Int32}
+use Rattle.geotransform.specs.declared.types.PixelType.TheVariants.{Int16}
 use Rattle.dted_records.specs.Written.{IsElevation}
 use Rattle.translate_plan.specs.declared.options.Driver.{Driver}
 use Rattle.translate_plan.specs.declared.options.Driver.TheVariants.{EHdr, Dted, SrtmHgt, AaiGrid, Vrt}
 use Rattle.translate_plan.specs.declared.band.OutBand.{OutBand}
 use Rattle.translate_plan.specs.Plan.{Planned, BandsHold, IsOutBand, IsPlan, shown, shown_column, shown_line, is_inside, elevation_near, held, band_pixel, pixel_in, out_pixel}
-
-clamped : (kind : PixelType) (v : ℤ) → is_in kind (clamp kind v) ≡ true
-clamped Byte v = grind (arith, nat_tests, ints)
-clamped UInt16 v = grind (arith, nat_tests, ints)
-clamped Int16 v = grind (arith, nat_tests, ints)
-clamped UInt32 v = grind (arith, nat_tests, ints)
-clamped Int32 v = grind (arith, nat_tests, ints)
 
 near_in : (v : ℤ) → is_in Int16 v ≡ true → is_in Int16 (elevation_near v) ≡ true
 near_in v h = grind (arith, nat_tests, ints)
@@ -31,21 +25,14 @@ near_in v h = grind (arith, nat_tests, ints)
 near_elevation : (v : ℤ) → is_in Int16 v ≡ true → IsElevation (elevation_near v)
 near_elevation v h = grind (arith, nat_tests, ints)
 
-zero_in : (kind : PixelType) → is_in kind (pos 0) ≡ true
-zero_in Byte = refl
-zero_in UInt16 = refl
-zero_in Int16 = refl
-zero_in UInt32 = refl
-zero_in Int32 = refl
-
 held_in : (driver : Driver) (kind : PixelType) (v : ℤ) → ((level : ℕ) → driver ≡ Dted level → kind ≡ Int16) → is_in kind (held driver kind v) ≡ true
-held_in EHdr kind v h = clamped kind v
+held_in EHdr kind v h = clamp_in kind v
 held_in (Dted level) kind v h =
     let is = h level refl in
-    ap (λ k. is_in k (elevation_near (clamp k v))) is ∙ near_in (clamp Int16 v) (clamped Int16 v)
-held_in SrtmHgt kind v h = clamped kind v
-held_in AaiGrid kind v h = clamped kind v
-held_in Vrt kind v h = clamped kind v
+    ap (λ k. is_in k (elevation_near (clamp k v))) is ∙ near_in (clamp Int16 v) (clamp_in Int16 v)
+held_in SrtmHgt kind v h = clamp_in kind v
+held_in AaiGrid kind v h = clamp_in kind v
+held_in Vrt kind v h = clamp_in kind v
 
 fill_in : (kind : PixelType) (nodata : Option ℤ) → IfSome nodata (λ n. is_in kind n ≡ true) → is_in kind (unwrap_or nodata (pos 0)) ≡ true
 fill_in kind None h = zero_in kind
@@ -76,7 +63,7 @@ either_near true x y h e = h
 either_near false x y h e = e
 
 held_near : (d : Driver) (level : ℕ) (kind : PixelType) (v : ℤ) → d ≡ Dted level → kind ≡ Int16 → IsElevation (held d kind v)
-held_near d level kind v is e = rw (is, e) (near_elevation (clamp Int16 v) (clamped Int16 v))
+held_near d level kind v is e = rw (is, e) (near_elevation (clamp Int16 v) (clamp_in Int16 v))
 
 option_near : (p : Planned) (source : Size) (pixels : ℕ → ℕ → ℕ → ℤ) (k i j level : ℕ) (m : Option OutBand) → slice_get p.bands k ≡ m → IsPlan p → p.driver ≡ Dted level → IsElevation (pixel_in p source pixels m i j)
 option_near p source pixels k i j level None e plan is = omega arith

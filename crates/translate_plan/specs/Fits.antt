@@ -1,13 +1,13 @@
 -- What the driver of an output can hold.
-use Rattle.std.specs.Prelude.{ℕ, ℤ, negsuc, Bool, true, false, not, ◌&&◌, ◌||◌, List, ◌++◌, codes, Option, Some, None, is_some, Result, Ok, Err, nat_lt, int_le, if◌then◌else◌}
+use Rattle.std.specs.Prelude.{ℕ, ℤ, negsuc, Bool, true, false, not, ◌&&◌, ◌||◌, ◌==◌, List, ◌++◌, codes, Option, Some, None, is_some, Result, Ok, Err, nat_lt, int_le, if◌then◌else◌}
 use Rattle.std.specs.List.{list_all}
 use Rattle.lists_and_answers.specs.Options.{◌>>=◌}
-use Rattle.geotransform.specs.Types.{is_in}
+use Rattle.geotransform.specs.Types.{bytes_of, highest, is_in, is_signed, lowest}
 use Rattle.geotransform.specs.Places.{sixteen_places}
 use Rattle.geotransform.specs.Geo.{Transform, is_north_up, sizes_held, transform_of, cut_of}
 use Rattle.geotransform.specs.declared.types.Size.{Size}
 use Rattle.geotransform.specs.declared.types.PixelType.{PixelType}
-use Rattle.geotransform.specs.declared.types.PixelType.TheVariants.{Byte, UInt16, Int16, UInt32, Int32}
+use Rattle.geotransform.specs.declared.types.PixelType.TheVariants.{Int32}
 use Rattle.geotransform.specs.declared.faults.PlanFault.{PlanFault}
 use Rattle.geotransform.specs.declared.faults.PlanFault.TheVariants.{NoGeo, Limit, BandCount}
 use Rattle.outside.specs.Names.{last_part, same_letters}
@@ -108,30 +108,23 @@ holds_name AaiGrid name size geo = true
 holds_name Vrt name size geo = true
 
 abbrev pub is_int16 : PixelType → Bool
-is_int16 Byte = false
-is_int16 UInt16 = false
-is_int16 Int16 = true
-is_int16 UInt32 = false
-is_int16 Int32 = false
+is_int16 kind = (bytes_of kind == 2) && is_signed kind
 
-abbrev pub is_uint32 : PixelType → Bool
-is_uint32 Byte = false
-is_uint32 UInt16 = false
-is_uint32 Int16 = false
-is_uint32 UInt32 = true
-is_uint32 Int32 = false
+-- whether each number of a type is one of Int32
+abbrev pub is_within_int32 : PixelType → Bool
+is_within_int32 kind = is_in Int32 (lowest kind) && is_in Int32 (highest kind)
 
 -- the type that is asked for, if one is: cells and tiles are Int16
 abbrev pub takes_kind : Driver → Option PixelType → Bool
 takes_kind driver None = true
 takes_kind driver (Some kind) = not (is_some (own_nodata driver)) || is_int16 kind
 
--- the types of the bands: grids hold all but UInt32
+-- the types of the bands: grids hold numbers of Int32 alone, so no UInt32, UInt64 or Int64
 abbrev pub holds_kinds : Driver → List OutBand → Bool
 holds_kinds EHdr bands = true
 holds_kinds (Dted level) bands = true
 holds_kinds SrtmHgt bands = true
-holds_kinds AaiGrid bands = list_all (λ b. not (is_uint32 b.kind)) bands
+holds_kinds AaiGrid bands = list_all (λ b. is_within_int32 b.kind) bands
 holds_kinds Vrt bands = true
 
 -- two numbers are the same

@@ -48,11 +48,11 @@ abbrev pub IsOutSize : OutSize → Type 0
 IsOutSize (sizes.Count n) = n < 10 ^ 9
 IsOutSize (sizes.Percent n) = n < 10 ^ 9
 
--- a number of 64 bits
+-- a number of a type of 64 bits, with or without a sign
 abbrev pub IsWord : NodataWord → Type 0
 IsWord nodata.Absent = Unit {0}
 IsWord nodata.Remove = Unit {0}
-IsWord (nodata.Number n) = (neg_ℤ (pos (2 ^ 63)) ≤ℤ n) × (n ≤ℤ pos (2 ^ 63 - 1))
+IsWord (nodata.Number n) = (neg_ℤ (pos (2 ^ 63)) ≤ℤ n) × (n ≤ℤ pos (2 ^ 64 - 1))
 
 -- the ranges in which the values of words are
 pub record IsOptions (o : Options) : Type 0 where

@@ -6,7 +6,7 @@ ghost use Rattle.hgt_tiles.specs.Names as tiles;
 ghost use Rattle.esri_hdr.specs.Head.{GeoFits, raw_geo_of};
 ghost use Rattle.translate_plan.specs.Options.{IsDriver};
 ghost use Rattle.translate_plan.specs.Window.{IsWindow};
-ghost use Rattle.translate_plan.specs.Fits.{is_single, own_nodata, count_in, rounded, rounded_for, or_limit, geo_in, place_in, raw_in, cell_in, tile_in, holds_geo, is_named, holds_name, is_int16, is_uint32, takes_kind, holds_kinds, is_same, takes_number, takes_nodata};
+ghost use Rattle.translate_plan.specs.Fits.{is_single, own_nodata, count_in, rounded, rounded_for, or_limit, geo_in, place_in, raw_in, cell_in, tile_in, holds_geo, is_named, holds_name, is_int16, is_within_int32, takes_kind, holds_kinds, is_same, takes_number, takes_nodata};
 
 use crate::band::OutBand;
 use crate::options::Driver;
@@ -211,19 +211,14 @@ pub fn holds_name(driver: Driver, name: &Name, size: Size, geo: &Option<GeoTrans
 fn is_int16(kind: PixelType) -> bool
     ensures { result ≡ is_int16 kind }
 {
-    match kind {
-        PixelType::Int16 => true,
-        PixelType::Byte | PixelType::UInt16 | PixelType::UInt32 | PixelType::Int32 => false,
-    }
+    kind.bytes() == 2 && kind.is_signed()
 }
 
-fn is_uint32(kind: PixelType) -> bool
-    ensures { result ≡ is_uint32 kind }
+/// Whether each number of the type is one of Int32.
+fn is_within_int32(kind: PixelType) -> bool
+    ensures { result ≡ is_within_int32 kind }
 {
-    match kind {
-        PixelType::UInt32 => true,
-        PixelType::Byte | PixelType::UInt16 | PixelType::Int16 | PixelType::Int32 => false,
-    }
+    holds(PixelType::Int32, kind.lowest()) && holds(PixelType::Int32, kind.highest())
 }
 
 pub fn takes_kind(driver: Driver, kind: Option<PixelType>) -> bool
@@ -235,12 +230,12 @@ pub fn takes_kind(driver: Driver, kind: Option<PixelType>) -> bool
     }
 }
 
-/// Whether no band is of UInt32.
-fn none_uint32(bands: &[OutBand]) -> bool
+/// Whether each number of each band is one of Int32.
+fn all_within_int32(bands: &[OutBand]) -> bool
     ensures { result ≡ holds_kinds Driver.AaiGrid bands.now }
 {
     for band in bands {
-        if is_uint32(band.kind) {
+        if !is_within_int32(band.kind) {
             return false;
         }
     }
@@ -251,7 +246,7 @@ pub fn holds_kinds(driver: Driver, bands: &[OutBand]) -> bool
     ensures { result ≡ holds_kinds driver bands.now }
 {
     match driver {
-        Driver::AaiGrid => none_uint32(bands),
+        Driver::AaiGrid => all_within_int32(bands),
         Driver::EHdr | Driver::Dted { .. } | Driver::SrtmHgt | Driver::Vrt => true,
     }
 }

@@ -10,7 +10,8 @@ use Rattle.lists_and_answers.specs.Answers.{◌>>=◌}
 use Rattle.geotransform.specs.Geo.{Transform}
 use Rattle.geotransform.specs.Types.{is_in, name_of}
 use Rattle.geotransform.specs.declared.types.PixelType.{PixelType}
-use Rattle.geotransform.specs.declared.types.PixelType.TheVariants.{Byte, UInt16, Int16, UInt32, Int32}
+use Rattle.geotransform.proofs.Ranges.{is_near}
+use Rattle.geotransform.specs.declared.types.PixelType.TheVariants.{Byte, Int8, UInt16, Int16, UInt32, Int32, UInt64, Int64}
 use Rattle.geotransform.proofs.Named.{named_again}
 use Rattle.vrt_profile.specs.Items.{plain_len}
 use Rattle.vrt_profile.specs.Numbers.{or_fault}
@@ -79,11 +80,7 @@ takes_sources taken nodata front (s ∷ ss) is few =
 
 -- its NODATA
 pub in_range : (kind : PixelType) (n : ℤ) → is_in kind n ≡ true → unsigned_abs n < 10 ^ 20
-in_range Byte n h = grind (arith, nat_tests, ints)
-in_range UInt16 n h = grind (arith, nat_tests, ints)
-in_range Int16 n h = grind (arith, nat_tests, ints)
-in_range UInt32 n h = grind (arith, nat_tests, ints)
-in_range Int32 n h = grind (arith, nat_tests, ints)
+in_range kind n h = omega (arith, is_near kind n h)
 
 takes_value : (kind : PixelType) (taken : ℕ) (o : Option ℤ) → IfSome o (λ n. is_in kind n ≡ true) → Takes band_step 2 (nodata_markup (codes "NoDataValue") o) (Ok (no_band_parts taken)) (Ok (band_of taken (with_value o) []))
 takes_value kind taken None is = takes_nothing band_step 2 (Ok (no_band_parts taken))
@@ -112,10 +109,13 @@ as_band kind nodata sources = record { kind = kind; nodata = nodata; sources = s
 
 kind_value : (kind : PixelType) (r : List ℕ) → plain_len 34 (name_of kind ++ 34 ∷ r) ≡ length (name_of kind)
 kind_value Byte r = refl
+kind_value Int8 r = refl
 kind_value UInt16 r = refl
 kind_value Int16 r = refl
 kind_value UInt32 r = refl
 kind_value Int32 r = refl
+kind_value UInt64 r = refl
+kind_value Int64 r = refl
 
 band_opening : (n : ℕ) (kind : PixelType) → n ≤ 256 → IsOpening (codes "VRTRasterBand") (band_pairs n kind)
 band_opening n kind few = record {

@@ -9,7 +9,7 @@ use Rattle.std.proofs.lemmas.Bool.Decides.{nat_tests}
 use Rattle.geotransform.specs.Geo.{Transform}
 use Rattle.geotransform.specs.Types.{is_in, name_of}
 use Rattle.geotransform.specs.declared.types.PixelType.{PixelType}
-use Rattle.geotransform.specs.declared.types.PixelType.TheVariants.{Byte, UInt16, Int16, UInt32, Int32}
+use Rattle.geotransform.specs.declared.types.PixelType.TheVariants.{Byte, Int8, UInt16, Int16, UInt32, Int32, UInt64, Int64}
 use Rattle.vrt_profile.specs.Items.{Pair}
 use Rattle.vrt_profile.specs.Values.{trillion, IsOffset, Rectangle, IsRectangle, IsLut, SourceValue, IsSource, BandValue, IsBand, DocumentValue, IsDocument, IsDecimal}
 use Rattle.vrt_profile.specs.Spelled.{Markup, nothing, both, words, empty, group, written, indent, tag_text, pair_text, end_text, escape, escaped, micro_text, part_text, lut_text, geo_text, flag_text, file_markup, source_band_markup, rectangle_markup, nodata_markup, lut_markup, source_name, source_markup, sources_markup, band_markup, bands_markup, srs_markup, geo_markup, dataset_markup, spelled}
@@ -194,10 +194,13 @@ sources_valid (s ∷ ss) is = (source_valid s (all_head IsSource s ss is), sourc
 
 kind_ascii : (kind : PixelType) → AreAscii (name_of kind)
 kind_ascii Byte = refl
+kind_ascii Int8 = refl
 kind_ascii UInt16 = refl
 kind_ascii Int16 = refl
 kind_ascii UInt32 = refl
 kind_ascii Int32 = refl
+kind_ascii UInt64 = refl
+kind_ascii Int64 = refl
 
 value_valid : (kind : PixelType) (o : Option ℤ) → IfSome o (λ n. is_in kind n ≡ true) → IsValid (nodata_markup (codes "NoDataValue") o)
 value_valid kind None is = tt

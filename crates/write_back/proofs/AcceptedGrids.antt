@@ -26,7 +26,7 @@ use Rattle.catalog.specs.Heads.{ascii_in, found_in, grid_in, named}
 use Rattle.translate_plan.specs.declared.options.Driver.TheVariants.{AaiGrid}
 use Rattle.translate_plan.specs.declared.band.OutBand.{OutBand}
 use Rattle.translate_plan.specs.Bands.{no_out_band}
-use Rattle.translate_plan.specs.Fits.{is_uint32}
+use Rattle.translate_plan.specs.Fits.{is_within_int32}
 use Rattle.translate_plan.specs.Plan.{Planned, first_band, BandsHold, IsPlan}
 use Rattle.write_back.specs.declared.rows.GridForm.{GridForm}
 use Rattle.write_back.specs.Files.{files_of, grid_text, line_at}
@@ -43,7 +43,7 @@ lone : {A : Type 0} (x y : A) (k : ℕ) → slice_get (x ∷ []) k ≡ Some y �
 lone x y zero e = cc
 lone x y (suc k) e = absurd cc
 
-nodata_value : (kind : PixelType) (nodata : Option ℤ) → not (is_uint32 kind) ≡ true → IfSome nodata (λ n. is_in kind n ≡ true) → IfSome nodata (λ n. is_value n ≡ true)
+nodata_value : (kind : PixelType) (nodata : Option ℤ) → is_within_int32 kind ≡ true → IfSome nodata (λ n. is_in kind n ≡ true) → IfSome nodata (λ n. is_value n ≡ true)
 nodata_value kind None small within = tt
 nodata_value kind (Some n) small within = value_held kind n small within
 
@@ -79,7 +79,7 @@ grid_decoded m v name p samples plan driver is held has =
     let one = one_band p AaiGrid plan driver refl in
     let there : get m name ≡ Some bytes = first_file m (name, bytes) [] has in
     let bands : BandsHold AaiGrid p.bands = subst (λ d. BandsHold d p.bands) driver plan.alike in
-    let small : not (is_uint32 (first_band p).kind) ≡ true = AllPass-from_list_all (λ b. not (is_uint32 b.kind)) p.bands bands 0 no_out_band plan.some_band in
+    let small : is_within_int32 (first_band p).kind ≡ true = AllPass-from_list_all (λ b. is_within_int32 b.kind) p.bands bands 0 no_out_band plan.some_band in
     let nodata = nodata_value (first_band p).kind (first_band p).nodata small (plan.each 0 no_out_band plan.some_band) in
     let place : (read : Transform) × IsReadAgain p.size (placing_of p.size p.geo) read = subst (λ d. IsReadBackBy d p) driver is.place in
     let rows = are_rows g samples (λ x y column line. held 0 x y (record { band = omega arith; column = column; line = line })) in

@@ -10,7 +10,7 @@ use Rattle.geotransform.specs.Types.{is_in}
 use Rattle.geotransform.specs.Geo.{Transform}
 use Rattle.geotransform.specs.declared.types.Size.{Size}
 use Rattle.geotransform.specs.declared.types.PixelType.{PixelType}
-use Rattle.geotransform.specs.declared.types.PixelType.TheVariants.{Byte, UInt16, Int16, UInt32, Int32}
+use Rattle.geotransform.specs.declared.types.PixelType.TheVariants.{Byte, Int8, UInt16, Int16, UInt32, Int32, UInt64, Int64}
 use Rattle.dted_records.specs.Head as cells
 use Rattle.dted_records.specs.Text.{head_text}
 use Rattle.dted_records.specs.Written.{IsElevation}
@@ -23,7 +23,7 @@ use Rattle.translate_plan.specs.declared.options.Driver.{Driver}
 use Rattle.translate_plan.specs.declared.options.Driver.TheVariants.{EHdr, Dted, SrtmHgt, AaiGrid, Vrt}
 use Rattle.translate_plan.specs.declared.band.OutBand.{OutBand}
 use Rattle.translate_plan.specs.Bands.{no_out_band}
-use Rattle.translate_plan.specs.Fits.{is_single, is_uint32, cell_in, tile_in}
+use Rattle.translate_plan.specs.Fits.{is_single, is_within_int32, cell_in, tile_in}
 use Rattle.translate_plan.specs.Plan.{Planned, first_band, out_pixel, raw_head, BandsHold, IsAlike, IsPlan}
 use Rattle.translate_plan.proofs.Shown.{pixel_held, cell_held}
 use Rattle.translate_plan.proofs.Written.{cell_is, tile_is}
@@ -103,12 +103,15 @@ one_of P bs k b all e = subst P (get_or_from_slice_get bs k b b e) (all k b (sli
 elevation_held : (n : ℤ) → is_in Int16 n ≡ true → IsElevation n → is_elevation n ≡ true
 elevation_held n h e = grind (arith, nat_tests, ints)
 
-pub value_held : (kind : PixelType) (n : ℤ) → not (is_uint32 kind) ≡ true → is_in kind n ≡ true → is_value n ≡ true
+pub value_held : (kind : PixelType) (n : ℤ) → is_within_int32 kind ≡ true → is_in kind n ≡ true → is_value n ≡ true
 value_held Byte n k h = grind (arith, nat_tests, ints)
+value_held Int8 n k h = grind (arith, nat_tests, ints)
 value_held UInt16 n k h = grind (arith, nat_tests, ints)
 value_held Int16 n k h = grind (arith, nat_tests, ints)
 value_held UInt32 n k h = absurd cc
 value_held Int32 n k h = h
+value_held UInt64 n k h = absurd cc
+value_held Int64 n k h = absurd cc
 
 held_by : (d : Driver) (p : Planned) (o : Output) (b : OutBand) (k : ℕ) (n : ℤ) → IsPlan p → p.driver ≡ d → output_by d p ≡ Some o → slice_get p.bands k ≡ Some b → is_in b.kind n ≡ true → ((level : ℕ) → p.driver ≡ Dted level → IsElevation n) → is_writable o n ≡ true
 held_by EHdr p o b k n plan is e at h elevation =
@@ -126,7 +129,7 @@ held_by SrtmHgt p o b k n plan is e at h elevation =
     ap (λ x. is_writable x n) (sym (is_same _ o e)) ∙ ap (λ t. is_in t n) (sym same.0) ∙ h
 held_by AaiGrid p o b k n plan is e at h elevation =
     let bands : BandsHold AaiGrid p.bands = subst (λ d. BandsHold d p.bands) is plan.alike in
-    let kind : not (is_uint32 b.kind) ≡ true = one_of (λ b. not (is_uint32 b.kind) ≡ true) p.bands k b (AllPass-from_list_all (λ b. not (is_uint32 b.kind)) p.bands bands) at in
+    let kind : is_within_int32 b.kind ≡ true = one_of (λ b. is_within_int32 b.kind ≡ true) p.bands k b (AllPass-from_list_all (λ b. is_within_int32 b.kind) p.bands bands) at in
     ap (λ x. is_writable x n) (sym (is_same _ o e)) ∙ value_held b.kind n kind h
 held_by Vrt p o b k n plan is e at h elevation = absurd cc
 

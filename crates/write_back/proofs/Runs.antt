@@ -9,7 +9,7 @@ use Rattle.std.proofs.lemmas.Nat.{mod_below, div-add-mod'}
 use Rattle.std.proofs.Math.Nat.{mul-le-mul_right, add-mul}
 use Rattle.outside.specs.Outside.{put_at}
 use Rattle.geotransform.specs.declared.types.PixelType.{PixelType}
-use Rattle.geotransform.specs.declared.types.PixelType.TheVariants.{Byte, UInt16, Int16, UInt32, Int32}
+use Rattle.geotransform.proofs.Ranges.{bytes_bounds}
 use Rattle.esri_hdr.specs.declared.parts.Layout.{Layout}
 use Rattle.esri_hdr.specs.declared.parts.Layout.TheVariants.{Bil, Bip, Bsq}
 use Rattle.esri_hdr.specs.Head.{Head, IsHead, sample_len}
@@ -29,11 +29,7 @@ on_ok (Ok v) P Q f p = f p
 on_ok (Err e) P Q f p = p
 
 pub sample_some : (kind : PixelType) → 1 ≤ sample_len kind
-sample_some Byte = omega arith
-sample_some UInt16 = omega arith
-sample_some Int16 = omega arith
-sample_some UInt32 = omega arith
-sample_some Int32 = omega arith
+sample_some kind = (bytes_bounds kind).0
 
 wide_by : (l : Layout) (h : Head) → 0 < h.bands → sample_len h.kind ≤ stride_by l h
 wide_by Bil h some = omega arith

@@ -10,7 +10,7 @@ use Rattle.write_back.specs.Columns.{cell_of, IsBegun, IsCell}
 use Rattle.write_back.specs.Pieces.{AreBytes}
 use Rattle.write_back.proofs.CellBlocks.{record_before}
 use Rattle.geotransform.specs.declared.types.PixelType.{PixelType}
-use Rattle.geotransform.specs.declared.types.PixelType.TheVariants.{Byte, UInt16, Int16, UInt32, Int32}
+use Rattle.geotransform.specs.declared.types.PixelType.TheVariants.{Byte, Int8, UInt16, Int16, UInt32, Int32, UInt64, Int64}
 use Rattle.std.specs.Int.{w16, cast_signed}
 use Rattle.std.proofs.Math.Nat.{mul-le-mul_right}
 use Rattle.byteorder.specs.Endian.{big_number}
@@ -22,6 +22,8 @@ use Rattle.interleaved_raw.proofs.Order.{ends_within}
 zero_value : (kind : PixelType) (big : Bool) → value_of kind (number_in big (sample_len kind) (replicate (sample_len kind) 0)) ≡ pos 0
 zero_value Byte true = refl
 zero_value Byte false = refl
+zero_value Int8 true = refl
+zero_value Int8 false = refl
 zero_value UInt16 true = refl
 zero_value UInt16 false = refl
 zero_value Int16 true = refl
@@ -30,6 +32,10 @@ zero_value UInt32 true = refl
 zero_value UInt32 false = refl
 zero_value Int32 true = refl
 zero_value Int32 false = refl
+zero_value UInt64 true = refl
+zero_value UInt64 false = refl
+zero_value Int64 true = refl
+zero_value Int64 false = refl
 
 pub zero_sample : (h : Head) (k x y : ℕ) → IsPlace h k x y → raw_at h (replicate (needed_of h) 0) k x y ≡ pos 0
 zero_sample h k x y place =

@@ -4,7 +4,7 @@ use mir.Val.{SFits}
 use Rattle.std.proofs.lemmas.Int.{to_z-of_z}
 use Rattle.esri_hdr.specs.Head.{sample_len}
 use Rattle.interleaved_raw.specs.Raw.{stride_of, sample_bytes}
-use Rattle.interleaved_raw.proofs.Bits.{in_fits}
+use Rattle.geotransform.proofs.Ranges.{fits as in_fits}
 use Rattle.interleaved_raw.proofs.Writes.{written_more, others_more, run_again, sample_bytes_len}
 use Rattle.interleaved_raw.proofs.Runs.{room}
 use Rattle.interleaved_raw.proofs.samples.encode_run.Goals as goal
