@@ -13,40 +13,60 @@ ghost use Rattle.band_blocks.specs.Views.{cells_view};
 ghost use Rattle.band_blocks.specs.Blocks.{block_view, IsPacked, AreIn, written, run_of};
 ghost use Rattle.band_blocks.specs.Spread.{IsSpread};
 
-use crate::cell::{
-    Cell, clamp_cells, copy_cells, decode_cells, encode_cells, set_cell, spread_cells, write_cells,
-};
-use crate::int16::{decode_elevations, decode_items, encode_elevations, encode_items};
+use crate::packed::Packed;
 use dted_records::DtedHead;
 use esri_hdr::RawHead;
 use geotransform::{PixelType, Sample};
 use std::alloc::{AllocError, Global};
 use std::marker::Model;
 
+// The cells of a block, by their type.
 #[derive(Drop)]
 enum Cells {
-    Bytes(Vec<u8>),
-    UInts16(Vec<u16>),
-    Ints16(Vec<i16>),
-    UInts32(Vec<u32>),
-    Ints32(Vec<i32>),
+    Bytes(Packed<u8>),
+    Ints8(Packed<i8>),
+    UInts16(Packed<u16>),
+    Ints16(Packed<i16>),
+    UInts32(Packed<u32>),
+    Ints32(Packed<i32>),
+    UInts64(Packed<u64>),
+    Ints64(Packed<i64>),
+}
+
+// What is returned of the cells, whichever their type is.
+macro_rules! of_cells {
+    ($cells:expr, $packed:ident => $returned:expr) => {
+        match $cells {
+            Cells::Bytes($packed) => return $returned,
+            Cells::Ints8($packed) => return $returned,
+            Cells::UInts16($packed) => return $returned,
+            Cells::Ints16($packed) => return $returned,
+            Cells::UInts32($packed) => return $returned,
+            Cells::Ints32($packed) => return $returned,
+            Cells::UInts64($packed) => return $returned,
+            Cells::Ints64($packed) => return $returned,
+        }
+    };
 }
 
 // Cells of a type that are 0.
-#[tactic(auto, using(crate::proofs::Cells::map_zeros))]
 fn zero_cells(alloc: Global, kind: PixelType, len: usize) -> Result<Cells, AllocError>
+    requires few { len < 2 ^ 32 }
     ensures { IfOk result (λ cells. cells_view cells ≡ block_view kind (replicate len (pos 0))) }
 {
     match kind {
-        PixelType::Byte => return Ok(Cells::Bytes(vec![in alloc; 0u8; len]?)),
-        PixelType::UInt16 => return Ok(Cells::UInts16(vec![in alloc; 0u16; len]?)),
-        PixelType::Int16 => return Ok(Cells::Ints16(vec![in alloc; 0i16; len]?)),
-        PixelType::UInt32 => return Ok(Cells::UInts32(vec![in alloc; 0u32; len]?)),
-        PixelType::Int32 => return Ok(Cells::Ints32(vec![in alloc; 0i32; len]?)),
+        PixelType::Byte => return Ok(Cells::Bytes(Packed::zeros(alloc, len)?)),
+        PixelType::Int8 => return Ok(Cells::Ints8(Packed::zeros(alloc, len)?)),
+        PixelType::UInt16 => return Ok(Cells::UInts16(Packed::zeros(alloc, len)?)),
+        PixelType::Int16 => return Ok(Cells::Ints16(Packed::zeros(alloc, len)?)),
+        PixelType::UInt32 => return Ok(Cells::UInts32(Packed::zeros(alloc, len)?)),
+        PixelType::Int32 => return Ok(Cells::Ints32(Packed::zeros(alloc, len)?)),
+        PixelType::UInt64 => return Ok(Cells::UInts64(Packed::zeros(alloc, len)?)),
+        PixelType::Int64 => return Ok(Cells::Ints64(Packed::zeros(alloc, len)?)),
     }
 }
 
-/// A list of samples of one type, row by row, packed in one, two or four bytes each. It holds below
+/// A list of samples of one type, row by row, packed in one, two, four or eight bytes each. It holds below
 /// 2^32 samples, and each of them is in the range of the type.
 #[derive(Drop)]
 pub struct Block {
@@ -58,16 +78,13 @@ impl Model for Block {
 
     ghost Value = { BlockView };
 
-    ghost use Rattle.band_blocks.specs.Views.{cells_view, ArePacked};
+    ghost use Rattle.band_blocks.specs.Views.{cells_view};
 
     ghost view = { λ b. cells_view b.cells };
-
-    ghost invariant = { λ b. ArePacked b.cells };
 }
 
 impl Block {
     /// A block of `len` samples that are 0. It is refused where memory is.
-    #[tactic(auto, using(crate::proofs::Cells::zeros_in))]
     pub fn new(alloc: Global, kind: PixelType, len: u32) -> Result<Block, AllocError>
         ensures zeros { IfOk result (λ block. block ≡ block_view kind (replicate len (pos 0))) }
     {
@@ -92,13 +109,7 @@ impl Block {
         requires count { length samples.now ≡ length self.old.samples }
         ensures samples { self.new ≡ block_view self.old.kind (map (clamp self.old.kind) samples.now) }
     {
-        match &mut self.cells {
-            Cells::Bytes(cells) => return clamp_cells(samples, cells),
-            Cells::UInts16(cells) => return clamp_cells(samples, cells),
-            Cells::Ints16(cells) => return clamp_cells(samples, cells),
-            Cells::UInts32(cells) => return clamp_cells(samples, cells),
-            Cells::Ints32(cells) => return clamp_cells(samples, cells),
-        }
+        of_cells!(&mut self.cells, packed => packed.clamp_all(samples))
     }
 
     /// A block of these samples, each clamped to the range of the type. It is refused where memory
@@ -123,13 +134,7 @@ impl Block {
         ensures kind { result ≡ self.now.kind }
         ensures valid { IsPacked self.now }
     {
-        match &self.cells {
-            Cells::Bytes(_) => PixelType::Byte,
-            Cells::UInts16(_) => PixelType::UInt16,
-            Cells::Ints16(_) => PixelType::Int16,
-            Cells::UInts32(_) => PixelType::UInt32,
-            Cells::Ints32(_) => PixelType::Int32,
-        }
+        of_cells!(&self.cells, packed => packed.kind())
     }
 
     /// The number of samples.
@@ -137,14 +142,7 @@ impl Block {
         ensures count { result ≡ length self.now.samples }
         ensures valid { IsPacked self.now }
     {
-        let len = match &self.cells {
-            Cells::Bytes(cells) => cells.len(),
-            Cells::UInts16(cells) => cells.len(),
-            Cells::Ints16(cells) => cells.len(),
-            Cells::UInts32(cells) => cells.len(),
-            Cells::Ints32(cells) => cells.len(),
-        };
-        len as u32
+        of_cells!(&self.cells, packed => packed.len() as u32)
     }
 
     /// The sample at a place, counted from 0.
@@ -154,13 +152,7 @@ impl Block {
         ensures range { is_in self.now.kind result ≡ true }
     {
         let at = at as usize;
-        match &self.cells {
-            Cells::Bytes(cells) => return cells[at].widen(),
-            Cells::UInts16(cells) => return cells[at].widen(),
-            Cells::Ints16(cells) => return cells[at].widen(),
-            Cells::UInts32(cells) => return cells[at].widen(),
-            Cells::Ints32(cells) => return cells[at].widen(),
-        }
+        of_cells!(&self.cells, packed => packed.get(at))
     }
 
     /// Puts a sample, which is in the range of the block's type, at a place, counted from 0.
@@ -170,13 +162,7 @@ impl Block {
         ensures sample { self.new ≡ block_view self.old.kind (slice_set self.old.samples at value) }
     {
         let at = at as usize;
-        match &mut self.cells {
-            Cells::Bytes(cells) => return set_cell(cells, at, value),
-            Cells::UInts16(cells) => return set_cell(cells, at, value),
-            Cells::Ints16(cells) => return set_cell(cells, at, value),
-            Cells::UInts32(cells) => return set_cell(cells, at, value),
-            Cells::Ints32(cells) => return set_cell(cells, at, value),
-        }
+        of_cells!(&mut self.cells, packed => packed.set(at, value))
     }
 
     /// Copies as many samples as `out` takes, from the place `at` on.
@@ -185,17 +171,8 @@ impl Block {
         ensures samples { out.new ≡ run_of at (length out.old) self.now.samples }
         ensures range { AreIn self.now.kind out.new }
     {
-        // This call is made for the proof: it says what holds of every block.
-        let _len = self.len();
         let at = at as usize;
-        let end = at + out.len();
-        match &self.cells {
-            Cells::Bytes(cells) => copy_cells(&cells[at..end], out),
-            Cells::UInts16(cells) => copy_cells(&cells[at..end], out),
-            Cells::Ints16(cells) => copy_cells(&cells[at..end], out),
-            Cells::UInts32(cells) => copy_cells(&cells[at..end], out),
-            Cells::Ints32(cells) => copy_cells(&cells[at..end], out),
-        }
+        of_cells!(&self.cells, packed => packed.copy_run(at, out))
     }
 
     /// Copies so many samples, from the place `at` on, to places of `out` that stand `stride` apart, the
@@ -208,13 +185,7 @@ impl Block {
     {
         let at = at as usize;
         let count = count as usize;
-        match &self.cells {
-            Cells::Bytes(cells) => return spread_cells(cells, at, count, out, start, stride),
-            Cells::UInts16(cells) => return spread_cells(cells, at, count, out, start, stride),
-            Cells::Ints16(cells) => return spread_cells(cells, at, count, out, start, stride),
-            Cells::UInts32(cells) => return spread_cells(cells, at, count, out, start, stride),
-            Cells::Ints32(cells) => return spread_cells(cells, at, count, out, start, stride),
-        }
+        of_cells!(&self.cells, packed => packed.copy_spread(at, count, out, start, stride))
     }
 
     /// Puts samples, which are in the range of the block's type, at the places from `at` on.
@@ -224,13 +195,7 @@ impl Block {
         ensures samples { self.new ≡ block_view self.old.kind (written at samples.now self.old.samples) }
     {
         let at = at as usize;
-        match &mut self.cells {
-            Cells::Bytes(cells) => return write_cells(cells, at, samples),
-            Cells::UInts16(cells) => return write_cells(cells, at, samples),
-            Cells::Ints16(cells) => return write_cells(cells, at, samples),
-            Cells::UInts32(cells) => return write_cells(cells, at, samples),
-            Cells::Ints32(cells) => return write_cells(cells, at, samples),
-        }
+        of_cells!(&mut self.cells, packed => packed.write_run(at, samples))
     }
 
     /// Reads so many samples, which stand a stride apart in the bytes of raw data of the block's type,
@@ -243,13 +208,7 @@ impl Block {
     {
         let at = at as usize;
         let count = count as usize;
-        match &mut self.cells {
-            Cells::Bytes(cells) => return decode_cells(head, bytes, count, cells, at),
-            Cells::UInts16(cells) => return decode_cells(head, bytes, count, cells, at),
-            Cells::Ints16(cells) => return decode_cells(head, bytes, count, cells, at),
-            Cells::UInts32(cells) => return decode_cells(head, bytes, count, cells, at),
-            Cells::Ints32(cells) => return decode_cells(head, bytes, count, cells, at),
-        }
+        of_cells!(&mut self.cells, packed => packed.decode(head, bytes, at, count))
     }
 
     /// Writes so many samples, from the place `at` on, a stride apart over the bytes of raw data of the
@@ -262,17 +221,9 @@ impl Block {
         ensures samples { map (sample_of head.now bytes.new) (range_with_len 0 count) ≡ run_of at count self.now.samples }
         ensures others { (j : ℕ) → IsBetween head.now count j → get_or bytes.new j 0 ≡ get_or bytes.old j 0 }
     {
-        // This call is made for the proof: it says what holds of every block.
-        let _len = self.len();
         let at = at as usize;
-        let end = at + count as usize;
-        match &self.cells {
-            Cells::Bytes(cells) => return encode_cells(head, &cells[at..end], bytes),
-            Cells::UInts16(cells) => return encode_cells(head, &cells[at..end], bytes),
-            Cells::Ints16(cells) => return encode_cells(head, &cells[at..end], bytes),
-            Cells::UInts32(cells) => return encode_cells(head, &cells[at..end], bytes),
-            Cells::Ints32(cells) => return encode_cells(head, &cells[at..end], bytes),
-        }
+        let count = count as usize;
+        of_cells!(&self.cells, packed => packed.encode(head, at, count, bytes))
     }
 
     /// Reads the elevations of a record of a cell, from north to south, as many as the block has samples.
@@ -286,7 +237,7 @@ impl Block {
         ensures file { (file : List ℕ) (x : ℕ) → StandsAt file bytes.now (record_of head.now x) → self.new.samples ≡ column_of head.now file x }
     {
         match &mut self.cells {
-            Cells::Ints16(cells) => return decode_elevations(head, bytes, cells),
+            Cells::Ints16(packed) => return packed.decode_record(head, bytes),
             _ => return,
         }
     }
@@ -301,7 +252,7 @@ impl Block {
         ensures file { (file : List ℕ) (side x y : ℕ) → StandsAt file bytes.now (2 * (y * side + x)) → self.new.samples ≡ line_of side file x y (length self.old.samples) }
     {
         match &mut self.cells {
-            Cells::Ints16(cells) => return decode_items(bytes, cells),
+            Cells::Ints16(packed) => return packed.decode_items(bytes),
             _ => return,
         }
     }
@@ -313,7 +264,7 @@ impl Block {
         ensures bytes { bytes.new ≡ row_bytes self.now.samples }
     {
         match &self.cells {
-            Cells::Ints16(cells) => return encode_items(cells, bytes),
+            Cells::Ints16(packed) => return packed.encode_items(bytes),
             _ => return,
         }
     }
@@ -328,7 +279,7 @@ impl Block {
         ensures bytes { bytes.new ≡ record_bytes line self.now.samples }
     {
         match &self.cells {
-            Cells::Ints16(cells) => return encode_elevations(line, cells, bytes),
+            Cells::Ints16(packed) => return packed.encode_record(line, bytes),
             _ => return,
         }
     }

@@ -75,6 +75,7 @@ target_stays old new base s id grows apart t = record {
   at = grows.datasets id t.dataset t.at;
   whole = grows.links id t.link t.whole;
   band = t.band;
+  takes = t.takes;
 }
 
 -- lists that go together

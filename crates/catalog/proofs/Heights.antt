@@ -75,6 +75,7 @@ targets_nested st P base (s ∷ ss) (id ∷ ids) height all low nested =
       resolves = ap (λ o. ok_or o (Limit limits.Name (length (resolved_text base s)))) t.resolves;
       named = named_at st.datasets t.name id t.dataset t.number t.at;
       band = t.band;
+      takes = t.takes;
       asked = nested id t.dataset t.link (record { at = t.at; whole = t.whole }) here;
     } in
     All-cons (HasTarget P st.datasets base) s ss first (targets_nested st P base ss ids height all.1 rest nested)

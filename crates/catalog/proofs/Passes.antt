@@ -1,6 +1,6 @@
 -- Walks through the sources of a mosaic.
 use Rattle.std.proofs.Common.{◌≡◌, ◌∙◌, ◌⊎◌, inl, inr, ◌+◌, ◌<◌, ◌≤◌, ap, sym, subst, refl, ℕ, suc, List, [], ◌∷◌, ◌++◌, length, take, drop, Bool, true, false, cond, Option, Some, None, Result, Ok, Err, arith, append_assoc}
-use Rattle.std.specs.Prelude.{IfOk, IfErr, OnOk, slice_get, flat_map, nat_lt, ok_or}
+use Rattle.std.specs.Prelude.{◌-◌, ◌||◌, IfOk, IfErr, OnOk, slice_get, flat_map, nat_lt, ok_or}
 use Rattle.std.proofs.lemmas.Bool.Decides.{nat_tests}
 use Rattle.std.proofs.lemmas.Grind.{flat_map-append}
 use Rattle.std.proofs.lemmas.List.{take_all, append-nil}
@@ -10,13 +10,17 @@ use Rattle.vrt_profile.specs.Values.{SourceValue, BandValue}
 use Rattle.vrt_profile.specs.Resolve.{resolved_text}
 use Rattle.catalog.specs.declared.faults.LimitKind.TheVariants as limits
 use Rattle.catalog.specs.declared.faults.WalkFault.{WalkFault}
-use Rattle.catalog.specs.declared.faults.WalkFault.TheVariants.{Limit, SourceBand}
+use Rattle.catalog.specs.declared.faults.Bad.TheVariants as bad
+use Rattle.catalog.specs.declared.faults.WalkFault.TheVariants.{Limit, Malformed, SourceBand}
+use Rattle.catalog.specs.Dataset.{band_at}
+use Rattle.vrt_profile.specs.declared.fault.VrtFault.TheVariants as vrt
+use Rattle.vrt_profile.specs.Value.{is_plain}
 use Rattle.catalog.specs.declared.walk.Wanted.{Wanted}
 use Rattle.catalog.specs.Drivers.{Dataset}
 use Rattle.catalog.specs.Mosaics.{source_name}
 use Rattle.catalog.specs.Outcomes.{IsOutside, IsMemory}
 use Rattle.catalog.specs.Heads.{resolved}
-use Rattle.catalog.specs.Walk.{Met, dataset_named, bands_of, IsWalked, one_more_source, has_band, visit, visit_source, visit_sources}
+use Rattle.catalog.specs.Walk.{Met, dataset_named, bands_of, band_named, is_narrow_band, IsWalked, one_more_source, has_band, has_samples, unless_wide, visit, visit_source, visit_sources}
 use Rattle.catalog.specs.Linked.{State, met_of, IsLinked, IsPath, IsTarget, Each, Grows, Goes, one_counted, most, all_of, height_at, height_in, IsMosaicAt, HasBand, HasSource}
 use Rattle.catalog.specs.Steps.{Seen, IsPlain, Steps, Visits, Passes, Names, Reaches, ReachesRows}
 use Rattle.catalog.proofs.Found.{each_more, each_map, target_stays, most_stays, flat_rows, rows_stay, named_at}
@@ -36,7 +40,7 @@ bind_both : {A B : Type 0} (x : Result A WalkFault) (y : Result B WalkFault) (b 
 bind_both (Ok c) y b is = is
 bind_both (Err e) y b is = absurd (ok≢err (sym is))
 
-counted_by : (x : Result (Unit {0}) WalkFault) (y : Result (List ℕ) WalkFault) (b : List ℕ) → (x >>= λ c. y) ≡ Ok b → x ≡ Ok tt
+counted_by : {B : Type 0} (x : Result (Unit {0}) WalkFault) (y : Result B WalkFault) (b : B) → (x >>= λ c. y) ≡ Ok b → x ≡ Ok tt
 counted_by (Ok c) y b is = refl
 counted_by (Err e) y b is = absurd (ok≢err (sym is))
 
@@ -48,13 +52,17 @@ module _ (below : Met → List ℕ → Result Met WalkFault) (base : List ℕ) (
   unresolved : (f : WalkFault) → IsMemory f ⊎ ((one_more_source met.sources >>= λ c. resolved base s) ≡ Err f) → IsOutside f ⊎ (visit_sources below base met (s ∷ []) ≡ Err f)
   unfolding visit_source
   unresolved f (inl free) = inl (subst IsOutside (sym free) tt)
-  unresolved f (inr is) = inr (one_is (visit_source below base met s) ∙ bind_fails (one_more_source met.sources) (resolved base s) (λ name. below (record { datasets = met.datasets; sources = met.sources + 1 }) name >>= λ after. has_band after.datasets name s.band >>= λ there. Ok after) f is)
+  unresolved f (inr is) = inr (one_is (visit_source below base met s) ∙ bind_fails (one_more_source met.sources) (resolved base s) (λ name. below (record { datasets = met.datasets; sources = met.sources + 1 }) name >>= λ after. has_samples after.datasets base name s.band (is_plain s) >>= λ there. Ok after) f is)
 
-  named_one : (name : List ℕ) → (one_more_source met.sources >>= λ c. resolved base s) ≡ Ok name → visit_sources below base met (s ∷ []) ≡ (below (record { datasets = met.datasets; sources = met.sources + 1 }) name >>= λ after. has_band after.datasets name s.band >>= λ there. Ok after)
+  named_one : (name : List ℕ) → (one_more_source met.sources >>= λ c. resolved base s) ≡ Ok name → visit_sources below base met (s ∷ []) ≡ (below (record { datasets = met.datasets; sources = met.sources + 1 }) name >>= λ after. has_samples after.datasets base name s.band (is_plain s) >>= λ there. Ok after)
   named_one name is = one_is (visit_source below base met s) ∙ source_named below base met s name (counted_by (one_more_source met.sources) (resolved base s) name is) (bind_both (one_more_source met.sources) (resolved base s) name is)
 
 abbrev passed : Result (Unit {0}) WalkFault
 passed = Ok tt
+
+passes_test : (b : Bool) (f : WalkFault) → cond b passed (Err f) ≡ passed → b ≡ true
+passes_test true f is = refl
+passes_test false f is = absurd (ok≢err (sym is))
 
 not_full : (n : ℕ) → one_more_source n ≡ Ok tt → n < 262144
 not_full n is = by_test (nat_lt n 262144) refl is
@@ -101,16 +109,17 @@ counted_source old new id band source is w = record {
 }
 
 pub names_uncounted : (base : List ℕ) (s : SourceValue) (old new : State) (f : WalkFault) → IsMemory f ⊎ (one_more_source old.sources ≡ Err f) → IsPlain f → new ≡ old → Names base s old new (Err f)
-names_uncounted base s old new f told plain same = record { told = by_told told; band = tt; grows = subst (λ (st : State). Grows old st) (sym same) (grows_refl old); counted = tt; plain = plain }
+names_uncounted base s old new f told plain same = record { told = by_told told; band = tt; kept = tt; grows = subst (λ (st : State). Grows old st) (sym same) (grows_refl old); counted = tt; plain = plain }
   where
     by_told : IsMemory f ⊎ (one_more_source old.sources ≡ Err f) → IsMemory f ⊎ ((one_more_source old.sources >>= λ c. resolved base s) ≡ Err f)
     by_told (inl free) = inl free
     by_told (inr is) = inr (ap (λ r. r >>= λ c. resolved base s) is)
 
-pub names_resolved : (base : List ℕ) (s : SourceValue) (old new : State) (r : Result Wanted WalkFault) → one_more_source old.sources ≡ Ok tt → new ≡ one_counted old → Gives IsMemory (λ (w : Wanted). w.name) r (resolved base s) → IfOk r (λ (w : Wanted). w.band ≡ s.band) → IfErr r IsPlain → Names base s old new r
-names_resolved base s old new r room counted told band plain = record {
+pub names_resolved : (base : List ℕ) (s : SourceValue) (old new : State) (r : Result Wanted WalkFault) → one_more_source old.sources ≡ Ok tt → new ≡ one_counted old → Gives IsMemory (λ (w : Wanted). w.name) r (resolved base s) → IfOk r (λ (w : Wanted). w.band ≡ s.band) → IfOk r (λ (w : Wanted). w.plain ≡ is_plain s) → IfErr r IsPlain → Names base s old new r
+names_resolved base s old new r room counted told band kept plain = record {
   told = subst (λ x. Gives IsMemory (λ (w : Wanted). w.name) r x) (sym (ap (λ x. x >>= λ c. resolved base s) room)) told;
   band = band;
+  kept = kept;
   grows = subst (λ (st : State). Grows old st) (sym counted) (record { datasets = λ id d is. is; links = λ id l is. is });
   counted = on_ok r;
   plain = plain;
@@ -128,6 +137,10 @@ item_counted xs ys k n less is same = item_there xs k (omega (arith, ap length s
 
 abbrev pub grown_mosaic : (old new : State) (id : ℕ) → Grows old new → (w : IsMosaicAt old id) → IsMosaicAt new id
 grown_mosaic old new id grows w = record { dataset = w.dataset; document = w.document; at = grows.datasets id w.dataset w.at; content = w.content }
+
+-- a mosaic is still there after two steps
+pub mosaic_still : (old mid new : State) (id : ℕ) → Grows old mid → Grows mid new → (w : IsMosaicAt old id) → slice_get new.datasets id ≡ Some w.dataset
+mosaic_still old mid new id first second w = second.datasets id w.dataset (first.datasets id w.dataset w.at)
 
 abbrev pub grown_band : (old new : State) (id band : ℕ) → Grows old new → (w : HasBand old id band) → HasBand new id band
 grown_band old new id band grows w = record { mosaic = grown_mosaic old new id grows w.mosaic; value = w.value; band_at = w.band_at }
@@ -150,17 +163,17 @@ module _ (verify : Bool) (room : ℕ) (base : List ℕ) (s : SourceValue) where
     counted_path : (path : List (List ℕ)) → IsPath old path → IsPath mid path
     counted_path path is name = is name ∙ (counted_steps base s a old mid w linked n).goes.same_open name
 
-    visited_as : (m : Files) (path : List (List ℕ)) → visit_sources (λ e k. visit m verify room path e k) base (met_of old) (s ∷ []) ≡ (visit m verify room path (met_of mid) w.name >>= λ after. has_band after.datasets w.name s.band >>= λ there. Ok after)
+    visited_as : (m : Files) (path : List (List ℕ)) → visit_sources (λ e k. visit m verify room path e k) base (met_of old) (s ∷ []) ≡ (visit m verify room path (met_of mid) w.name >>= λ after. has_samples after.datasets base w.name s.band (is_plain s) >>= λ there. Ok after)
     visited_as m path =
         named_one (λ e k. visit m verify room path e k) base (met_of old) s w.name n.told
-        ∙ ap (λ (st : State). visit m verify room path (met_of st) w.name >>= λ after. has_band after.datasets w.name s.band >>= λ there. Ok after) (sym n.counted)
+        ∙ ap (λ (st : State). visit m verify room path (met_of st) w.name >>= λ after. has_samples after.datasets base w.name s.band (is_plain s) >>= λ there. Ok after) (sym n.counted)
 
     pub source_unvisited : (T : Type 0) (P : T → Type 0) (f : WalkFault) → Visits verify room w.name a b mid new (Err f) → Passes verify room base (s ∷ []) a b old new P (Err f)
     source_unvisited T P f v = record {
       steps = steps_err ℕ T 1 1 a b old new f (steps_then Wanted ℕ 1 0 1 a a b old mid new w (Err f) (omega arith) (counted_steps base s a old mid w linked n) v.steps);
       told = λ m told path is.
           subst (λ (r : Result Met WalkFault). IsOutside f ⊎ (r ≡ Err f)) (sym (visited_as m path))
-          (still_refused (visit m verify room path (met_of mid) w.name) (λ after. has_band after.datasets w.name s.band >>= λ there. Ok after) f (v.told m told path (counted_path path is)));
+          (still_refused (visit m verify room path (met_of mid) w.name) (λ after. has_samples after.datasets base w.name s.band (is_plain s) >>= λ there. Ok after) f (v.told m told path (counted_path path is)));
       reached = tt;
     }
 
@@ -168,23 +181,24 @@ module _ (verify : Bool) (room : ℕ) (base : List ℕ) (s : SourceValue) where
       visited_steps : Steps 1 a b old new (Ok id)
       visited_steps = steps_then Wanted ℕ 1 0 1 a a b old mid new w (Ok id) (omega arith) (counted_steps base s a old mid w linked n) v.steps
 
-      banded_as : (m : Files) → a.names ≡ Some m → (path : List (List ℕ)) → IsPath old path → visit_sources (λ e k. visit m verify room path e k) base (met_of old) (s ∷ []) ≡ (has_band new.datasets w.name w.band >>= λ there. Ok (met_of new))
+      banded_as : (m : Files) → a.names ≡ Some m → (path : List (List ℕ)) → IsPath old path → visit_sources (λ e k. visit m verify room path e k) base (met_of old) (s ∷ []) ≡ (has_samples new.datasets base w.name w.band w.plain >>= λ there. Ok (met_of new))
       banded_as m told path is =
-          visited_as m path ∙ ap (λ r. r >>= λ after. has_band after.datasets w.name s.band >>= λ there. Ok after) (v.told m told path (counted_path path is))
-          ∙ ap (λ k. has_band new.datasets w.name k >>= λ there. Ok (met_of new)) (sym n.band)
+          visited_as m path ∙ ap (λ r. r >>= λ after. has_samples after.datasets base w.name s.band (is_plain s) >>= λ there. Ok after) (v.told m told path (counted_path path is))
+          ∙ ap (λ k. has_samples new.datasets base w.name k (is_plain s) >>= λ there. Ok (met_of new)) (sym n.band)
+          ∙ ap (λ p. has_samples new.datasets base w.name w.band p >>= λ there. Ok (met_of new)) (sym n.kept)
 
-      pub source_bandless : (T : Type 0) (P : T → Type 0) (f : WalkFault) → IsPlain f → IsMemory f ⊎ (has_band new.datasets w.name w.band ≡ Err f) → Passes verify room base (s ∷ []) a b old new P (Err f)
+      pub source_bandless : (T : Type 0) (P : T → Type 0) (f : WalkFault) → IsPlain f → IsMemory f ⊎ (has_samples new.datasets base w.name w.band w.plain ≡ Err f) → Passes verify room base (s ∷ []) a b old new P (Err f)
       source_bandless T P f plain refused = record {
         steps = steps_then ℕ T 1 0 1 a b b old new new id (Err f) (omega arith) visited_steps (steps_plain T 0 b new new f (grows_refl new) plain);
-        told = λ m told path is. subst (λ (r : Result Met WalkFault). IsOutside f ⊎ (r ≡ Err f)) (sym (banded_as m told path is)) (still_refused (has_band new.datasets w.name w.band) (λ there. Ok (met_of new)) f (by_cause refused));
+        told = λ m told path is. subst (λ (r : Result Met WalkFault). IsOutside f ⊎ (r ≡ Err f)) (sym (banded_as m told path is)) (still_refused (has_samples new.datasets base w.name w.band w.plain) (λ there. Ok (met_of new)) f (by_cause refused));
         reached = tt;
       }
         where
-          by_cause : IsMemory f ⊎ (has_band new.datasets w.name w.band ≡ Err f) → IsOutside f ⊎ (has_band new.datasets w.name w.band ≡ Err f)
+          by_cause : IsMemory f ⊎ (has_samples new.datasets base w.name w.band w.plain ≡ Err f) → IsOutside f ⊎ (has_samples new.datasets base w.name w.band w.plain ≡ Err f)
           by_cause (inl free) = inl (subst IsOutside (sym free) tt)
           by_cause (inr is) = inr is
 
-      pub source_passed : has_band new.datasets w.name w.band ≡ Ok tt → Passes verify room base (s ∷ []) a b old new (λ t. Reaches new room base (s ∷ []) (t ∷ [])) (Ok id)
+      pub source_passed : has_samples new.datasets base w.name w.band w.plain ≡ Ok tt → Passes verify room base (s ∷ []) a b old new (λ t. Reaches new room base (s ∷ []) (t ∷ [])) (Ok id)
       source_passed there = record {
         steps = visited_steps;
         told = λ m told path is. banded_as m told path is ∙ ap (λ r. r >>= λ t. Ok (met_of new)) there;
@@ -199,6 +213,7 @@ module _ (verify : Bool) (room : ℕ) (base : List ℕ) (s : SourceValue) where
               at = low.met.at;
               whole = low.met.whole;
               band = subst (λ k. k ≤ length low.dataset.head.bands) n.band (band_is low.dataset (named_at new.datasets w.name id low.dataset v.number low.met.at));
+              takes = taken low.dataset (named_at new.datasets w.name id low.dataset v.number low.met.at);
             },
             tt,
           );
@@ -206,8 +221,19 @@ module _ (verify : Bool) (room : ℕ) (base : List ℕ) (s : SourceValue) where
         });
       }
         where
+          banded : has_band new.datasets w.name w.band ≡ Ok tt
+          banded = counted_by (has_band new.datasets w.name w.band) (unless_wide new.datasets base w.name w.band w.plain) tt there
+
+          narrow : unless_wide new.datasets base w.name w.band w.plain ≡ Ok tt
+          narrow = bind_both (has_band new.datasets w.name w.band) (unless_wide new.datasets base w.name w.band w.plain) tt there
+
+          taken : (d : Dataset) → dataset_named new.datasets w.name ≡ Some d → is_plain s || is_narrow_band (band_at d.head (s.band - 1)) ≡ true
+          taken d is =
+              ap (λ p. p || is_narrow_band (band_at d.head (s.band - 1))) (sym n.kept) ∙ ap (λ k. w.plain || is_narrow_band (band_at d.head (k - 1))) (sym n.band)
+              ∙ passes_test (w.plain || is_narrow_band (band_at d.head (w.band - 1))) (Malformed base (bad.Vrt vrt.Unsupported)) (sym (ap (λ o. cond (w.plain || is_narrow_band (band_named o w.band)) (Ok tt) (Err (Malformed base (bad.Vrt vrt.Unsupported)))) is) ∙ narrow)
+
           band_is : (d : Dataset) → dataset_named new.datasets w.name ≡ Some d → w.band ≤ length d.head.bands
-          band_is d is = by_test (nat_lt (length d.head.bands) w.band) refl (sym (ap (λ o. cond (nat_lt (bands_of o) w.band) (Err (SourceBand w.name w.band)) (Ok tt)) is) ∙ there)
+          band_is d is = by_test (nat_lt (length d.head.bands) w.band) refl (sym (ap (λ o. cond (nat_lt (bands_of o) w.band) (Err (SourceBand w.name w.band)) (Ok tt)) is) ∙ banded)
             where
               by_test : (x : Bool) → nat_lt (length d.head.bands) w.band ≡ x → cond x (Err (SourceBand w.name w.band)) passed ≡ passed → w.band ≤ length d.head.bands
               by_test true e ok = absurd (ok≢err (sym ok))

@@ -140,7 +140,7 @@ has_target cat id band source d s is at stands =
     let P = λ (x : Dataset). IsNested 15 cat x in
     let t = source_target cat d band source s (nested cat id d is at) stands in
     let n = named_is cat t.name t.dataset t.named in
-    record { target = n.number; dataset = t.dataset; is = target_is cat d band source s P t n.number stands n.found; there = n.there; has_band = t.band }
+    record { target = n.number; dataset = t.dataset; is = target_is cat d band source s P t n.number stands n.found; there = n.there; has_band = t.band; takes = t.takes }
 
 pub mosaic_is_of_targets : (m : Files) (cat : List Dataset) (id band x y : ℕ) (d : Dataset) (doc : DocumentValue) (b : BandValue) (sizes : ℕ → Size) (pixels : ℕ → ℕ → ℕ → ℤ)
     → IsCatalog cat → slice_get cat id ≡ Some d → document_of d.content ≡ Some doc → slice_get doc.bands band ≡ Some b → AreOfTargets m cat d band sizes pixels

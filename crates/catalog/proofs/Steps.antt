@@ -7,6 +7,7 @@ use Rattle.vrt_profile.specs.Values.{SourceValue}
 use Rattle.catalog.specs.declared.faults.Bad.{Bad}
 use Rattle.catalog.specs.declared.faults.WalkFault.{WalkFault}
 use Rattle.catalog.specs.declared.faults.WalkFault.TheVariants.{NotRecognized, Malformed, FolderFault, Memory}
+use Rattle.catalog.specs.Heads.{IsOwnFault}
 use Rattle.catalog.specs.Outcomes.{IsOutside}
 use Rattle.catalog.specs.Walk.{Met, visit, visit_sources}
 use Rattle.catalog.specs.Linked.{State, met_of, IsLinked, Grows, Goes}
@@ -26,7 +27,7 @@ ok≢err is = cc
 pub plain_known : (f : WalkFault) (n : List ℕ) → IsPlain f → f ≡ NotRecognized n → ⊥
 plain_known f n plain is = subst IsPlain is plain
 
-pub plain_own : (f : WalkFault) (n : List ℕ) (b : Bad) → IsPlain f → f ≡ Malformed n b → ⊥
+pub plain_own : (f : WalkFault) (n : List ℕ) (b : Bad) → IsPlain f → f ≡ Malformed n b → IsOwnFault b
 plain_own f n b plain is = subst IsPlain is plain
 
 pub plain_inside : (f : WalkFault) → IsPlain f → f ≡ FolderFault → ⊥
@@ -53,7 +54,7 @@ steps_plain T n a old new f grows plain = record {
   goes = tt;
   read = λ m told walked. tt;
   known = λ k is. absurd (plain_known f k plain (fault_is T f (NotRecognized k) is));
-  own = λ k b is. absurd (plain_own f k b plain (fault_is T f (Malformed k b) is));
+  own = λ k b is. plain_own f k b plain (fault_is T f (Malformed k b) is);
   names = refl;
   writes = refl;
   cause = record { later = omega arith; failed = λ is. absurd (plain_inside f plain (fault_is T f FolderFault is)) };
@@ -142,7 +143,7 @@ module _ (verify : Bool) (room : ℕ) (base : List ℕ) where
       goes = tt;
       read = λ m told walked. tt;
       known = λ n is. absurd (plain_known f n plain (fault_is B f (NotRecognized n) is));
-      own = λ n y is. absurd (plain_own f n y plain (fault_is B f (Malformed n y) is));
+      own = λ n y is. plain_own f n y plain (fault_is B f (Malformed n y) is);
       names = p.steps.names;
       writes = p.steps.writes;
       cause = record { later = p.steps.cause.later; failed = λ is. absurd (plain_inside f plain (fault_is B f FolderFault is)) };

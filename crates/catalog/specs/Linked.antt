@@ -1,15 +1,16 @@
 -- What a walk keeps of what it has met: a mosaic is open while the walk is below it, and every dataset that was met
 -- whole has a link.
-use Rattle.std.specs.Prelude.{◌≡◌, ◌<◌, ◌≤◌, ◌+◌, ℕ, suc, max, Bool, true, false, List, [], ◌∷◌, length, All, flat_map, slice_get, ◌++◌, take, set, Option, Some, None, option_and_then, Err, nat_lt, if◌then◌else◌}
+use Rattle.std.specs.Prelude.{◌≡◌, ◌<◌, ◌≤◌, ◌+◌, ◌-◌, ℕ, suc, max, Bool, true, false, ◌||◌, List, [], ◌∷◌, length, All, flat_map, slice_get, ◌++◌, take, set, Option, Some, None, option_and_then, Err, nat_lt, if◌then◌else◌}
+use Rattle.vrt_profile.specs.Value.{is_plain}
 use Rattle.vrt_profile.specs.Values.{DocumentValue, BandValue, SourceValue}
 use Rattle.catalog.specs.declared.driver.Content.{Content}
 use Rattle.catalog.specs.declared.driver.Content.TheVariants.{File, Mosaic}
 use Rattle.catalog.specs.declared.faults.WalkFault.TheVariants.{TooDeep}
 use Rattle.catalog.specs.declared.links.Link.{Link}
-use Rattle.catalog.specs.Dataset.{band_count}
+use Rattle.catalog.specs.Dataset.{band_at, band_count}
 use Rattle.catalog.specs.Drivers.{Dataset}
 use Rattle.catalog.specs.Mosaics.{source_name, is_among}
-use Rattle.catalog.specs.Walk.{Met, again, number_of, sources_among, IsDataset, IsApart, IsCatalog}
+use Rattle.catalog.specs.Walk.{Met, again, is_narrow_band, number_of, sources_among, IsDataset, IsApart, IsCatalog}
 
 -- the datasets in the order in which they were met, the link of each that was met whole, and the number of their
 -- sources that were met
@@ -55,7 +56,8 @@ first_above links room (id ∷ ids) = if nat_lt room (height_at links id) then S
 abbrev pub all_of : List (List ℕ) → List ℕ
 all_of rows = flat_map (λ (row : List ℕ). row) rows
 
--- the dataset of this number is what a source of the mosaic with the name `base` names: it was met whole, and has the band
+-- the dataset of this number is what a source of the mosaic with the name `base` names: it was met whole, and has the
+-- band, with samples that the source takes
 pub record IsTarget (st : State) (base : List ℕ) (s : SourceValue) (id : ℕ) : Type 0 where
   pub name : List ℕ
   pub dataset : Dataset
@@ -65,6 +67,7 @@ pub record IsTarget (st : State) (base : List ℕ) (s : SourceValue) (id : ℕ) 
   pub at : slice_get st.datasets id ≡ Some dataset
   pub whole : slice_get st.links id ≡ Some (Some link)
   pub band : s.band ≤ band_count dataset.head
+  pub takes : is_plain s || is_narrow_band (band_at dataset.head (s.band - 1)) ≡ true
 
 -- two lists go together item by item
 abbrev pub Each : {A B : Type 0} → (A → B → Type 0) → List A → List B → Type 0

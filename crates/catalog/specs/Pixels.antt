@@ -1,5 +1,5 @@
 -- The pixels of datasets, one at a time.
-use Rattle.std.specs.Prelude.{◌≡◌, ◌≤◌, ℕ, ℤ, pos, zero, suc, ◌-◌, false, List, [], slice_get, Option, Some, None, option_map, Result, Ok, Err}
+use Rattle.std.specs.Prelude.{◌≡◌, ◌≤◌, ℕ, ℤ, pos, zero, suc, ◌-◌, false, true, ◌||◌, List, [], slice_get, Option, Some, None, option_map, Result, Ok, Err}
 use Rattle.std.specs.Option.{unwrap_or}
 use Rattle.std.specs.FinMap.{get}
 use Rattle.lists_and_answers.specs.Options.{◌>>=◌}
@@ -10,12 +10,12 @@ use Rattle.dted_records.specs.Records.{dted_at}
 use Rattle.hgt_tiles.specs.Samples.{hgt_at}
 use Rattle.ascii_grid.specs.Grid.{ascii_at, grid_head}
 use Rattle.vrt_profile.specs.Values.{BandValue, SourceValue}
-use Rattle.vrt_profile.specs.Value.{mosaic_pixel}
-use Rattle.catalog.specs.Dataset.{band_count}
+use Rattle.vrt_profile.specs.Value.{is_plain, mosaic_pixel}
+use Rattle.catalog.specs.Dataset.{band_at, band_count}
 use Rattle.catalog.specs.Drivers.{Dataset}
 use Rattle.catalog.specs.Mosaics.{source_name}
 use Rattle.catalog.specs.Heads.{dataset_in}
-use Rattle.catalog.specs.Walk.{dataset_named}
+use Rattle.catalog.specs.Walk.{dataset_named, is_narrow_band}
 use Rattle.catalog.specs.Links.{source_at, target_at}
 use Rattle.catalog.specs.declared.driver.Content.{Content}
 use Rattle.catalog.specs.declared.driver.Content.TheVariants.{File, Mosaic}
@@ -106,13 +106,14 @@ target_size cat d band source = size_of (target_at cat d band source >>= λ t. s
 abbrev pub target_pixel : Files → List Dataset → Dataset → ℕ → ℕ → ℕ → ℕ → ℤ
 target_pixel m cat d band source x y = unwrap_or (target_at cat d band source >>= λ t. option_map (λ s. pixel_of m cat t (s.band - 1) x y) (source_at d band source)) (pos 0)
 
--- what a source of a band names: a dataset of the catalog that has the source's band
+-- what a source of a band names: a dataset of the catalog that has the source's band, with samples that it takes
 pub record IsTaken (cat : List Dataset) (d : Dataset) (band source : ℕ) (s : SourceValue) : Type 0 where
   pub target : ℕ
   pub dataset : Dataset
   pub is : target_at cat d band source ≡ Some target
   pub there : slice_get cat target ≡ Some dataset
   pub has_band : s.band ≤ band_count dataset.head
+  pub takes : is_plain s || is_narrow_band (band_at dataset.head (s.band - 1)) ≡ true
 
 -- for each source of a band, this is the size of the dataset that it names, and these are the pixels of its band
 abbrev pub AreOfTargets : Files → List Dataset → Dataset → ℕ → (ℕ → Size) → (ℕ → ℕ → ℕ → ℤ) → Type 0

@@ -3,6 +3,7 @@ use Rattle.std.specs.Prelude.{◌≡◌, ◌<◌, ◌≤◌, ◌-◌, ℕ, Bool,
 use Rattle.lists_and_answers.specs.Answers.{Gives, ◌>>=◌}
 use Rattle.outside.specs.Outside.{Files}
 use Rattle.outside.specs.Causes.{HasCause}
+use Rattle.vrt_profile.specs.Value.{is_plain}
 use Rattle.vrt_profile.specs.Values.{DocumentValue, BandValue, SourceValue}
 use Rattle.catalog.specs.declared.kind.Kind.TheVariants as kinds
 use Rattle.catalog.specs.declared.driver.Content.TheVariants.{Mosaic}
@@ -14,7 +15,7 @@ use Rattle.catalog.specs.declared.walk.Meeting.TheVariants.{Whole, Open}
 use Rattle.catalog.specs.Drivers.{Dataset}
 use Rattle.catalog.specs.Mosaics.{sources_of}
 use Rattle.catalog.specs.Outcomes.{IsOutside, IsMemory}
-use Rattle.catalog.specs.Heads.{kind_in, resolved, OwnsFaults}
+use Rattle.catalog.specs.Heads.{kind_in, resolved, IsOwnFault, OwnsFaults}
 use Rattle.catalog.specs.Walk.{number_of, one_more_source, visit, visit_sources, IsWalked, TellsKinds, WalksUnknown}
 use Rattle.catalog.specs.Linked.{State, met_of, most, all_of, IsLinked, IsTarget, Each, AreRows, IsPath, IsLow, Grows, Goes, pushed, one_counted}
 
@@ -28,11 +29,11 @@ pub record Seen : Type 0 where
 abbrev pub seen : Option Files → ℕ → ℕ → ℕ → Seen
 seen names writes reads faults = record { names = names; writes = writes; reads = reads; faults = faults }
 
--- a refusal that says nothing of a name's kind, of a file's form or of a call of the folder
+-- a refusal that says nothing of a name's kind or of a call of the folder, and of a file only what its form may lack
 abbrev pub IsPlain : WalkFault → Type 0
 IsPlain (Absent name) = Unit {0}
 IsPlain (NotRecognized name) = ⊥
-IsPlain (Malformed name bad) = ⊥
+IsPlain (Malformed name bad) = IsOwnFault bad
 IsPlain (Short name needed has) = Unit {0}
 IsPlain (Cycle name) = Unit {0}
 IsPlain (TooDeep name) = Unit {0}
@@ -113,6 +114,7 @@ pub record Passes {T : Type 0} (verify : Bool) (room : ℕ) (base : List ℕ) (s
 pub record Names (base : List ℕ) (s : SourceValue) (old new : State) (result : Result Wanted WalkFault) : Type 0 where
   pub told : Gives IsMemory (λ (w : Wanted). w.name) result (one_more_source old.sources >>= λ counted. resolved base s)
   pub band : IfOk result (λ (w : Wanted). w.band ≡ s.band)
+  pub kept : IfOk result (λ (w : Wanted). w.plain ≡ is_plain s)
   pub grows : Grows old new
   pub counted : OnOk result (new ≡ one_counted old)
   pub plain : IfErr result IsPlain

@@ -1,20 +1,25 @@
 -- The walk from a name to the datasets that it reaches, and what a catalog keeps of them.
-use Rattle.std.specs.Prelude.{◌≡◌, ◌⊎◌, ◌≤◌, ◌+◌, ℕ, zero, suc, Bool, false, List, [], ◌∷◌, ◌++◌, length, All, bytes_eq, slice_get, Option, Some, None, option_and_then, Result, Ok, Err, nat_lt, if◌then◌else◌}
+use Rattle.std.specs.Prelude.{◌≡◌, ◌⊎◌, ◌≤◌, ◌+◌, ◌-◌, ℕ, zero, suc, Bool, false, true, ◌||◌, nat_le, List, [], ◌∷◌, ◌++◌, length, All, bytes_eq, slice_get, Option, Some, None, option_and_then, Result, Ok, Err, nat_lt, if◌then◌else◌}
 use Rattle.std.specs.List.{sum_by}
 use Rattle.lists_and_answers.specs.Answers.{◌>>=◌}
 use Rattle.outside.specs.Outside.{Files}
+use Rattle.geotransform.specs.Types.{bytes_of}
+use Rattle.vrt_profile.specs.Value.{is_plain}
 use Rattle.vrt_profile.specs.Values.{SourceValue}
+use Rattle.vrt_profile.specs.declared.fault.VrtFault.TheVariants as vrt
+use Rattle.catalog.specs.declared.kind.BandHead.{BandHead}
 use Rattle.catalog.specs.declared.kind.Kind.{Kind}
 use Rattle.catalog.specs.declared.kind.Kind.TheVariants as kinds
 use Rattle.catalog.specs.declared.driver.Content.{Content}
 use Rattle.catalog.specs.declared.driver.Content.TheVariants.{File, Mosaic}
-use Rattle.catalog.specs.Dataset.{IsDatasetHead, band_count}
+use Rattle.catalog.specs.Dataset.{IsDatasetHead, band_at, band_count}
 use Rattle.catalog.specs.Drivers.{Dataset, content_head, Fits}
 use Rattle.catalog.specs.Mosaics.{sources_of, is_among}
 use Rattle.catalog.specs.Heads.{kind_in, dataset_by, dataset_in, resolved}
+use Rattle.catalog.specs.declared.faults.Bad.TheVariants as bad
 use Rattle.catalog.specs.declared.faults.LimitKind.TheVariants as limits
 use Rattle.catalog.specs.declared.faults.WalkFault.{WalkFault}
-use Rattle.catalog.specs.declared.faults.WalkFault.TheVariants.{NotRecognized, Cycle, TooDeep, Limit, SourceBand, Memory}
+use Rattle.catalog.specs.declared.faults.WalkFault.TheVariants.{NotRecognized, Malformed, Cycle, TooDeep, Limit, SourceBand, Memory}
 
 -- the number of the first dataset of a name, counted from `at`
 abbrev pub number_from : ℕ → List Dataset → List ℕ → Option ℕ
@@ -73,6 +78,25 @@ bands_of (Some d) = band_count d.head
 abbrev pub has_band : List Dataset → List ℕ → ℕ → Result (Unit {0}) WalkFault
 has_band cat name band = if nat_lt (bands_of (dataset_named cat name)) band then Err (SourceBand name band) else Ok tt
 
+-- the samples of a band have at most 32 bits
+abbrev pub is_narrow_band : Option BandHead → Bool
+is_narrow_band None = true
+is_narrow_band (Some b) = nat_le (bytes_of b.kind) 4
+
+-- a band of the dataset of a name, counted from 1
+abbrev pub band_named : Option Dataset → ℕ → Option BandHead
+band_named None band = None
+band_named (Some d) band = band_at d.head (band - 1)
+
+-- Samples that are given as they are may have any width; others have at most 32 bits, or the mosaic with the name
+-- `base`, whose source scales them or has a table for them, isn't one that is read.
+abbrev pub unless_wide : List Dataset → List ℕ → List ℕ → ℕ → Bool → Result (Unit {0}) WalkFault
+unless_wide cat base name band plain = if plain || is_narrow_band (band_named (dataset_named cat name) band) then Ok tt else Err (Malformed base (bad.Vrt vrt.Unsupported))
+
+-- the dataset of a name has a band, counted from 1, whose samples a source of the mosaic with the name `base` takes
+abbrev pub has_samples : List Dataset → List ℕ → List ℕ → ℕ → Bool → Result (Unit {0}) WalkFault
+has_samples cat base name band plain = has_band cat name band >>= λ there. unless_wide cat base name band plain
+
 -- What is checked of a name that was met whole earlier, on another path: itself, and then what its sources name, in
 -- order. `below` checks a name with one mosaic more on the path.
 abbrev pub again_sources : (List ℕ → Result (Unit {0}) WalkFault) → List ℕ → List SourceValue → Result (Unit {0}) WalkFault
@@ -96,13 +120,13 @@ again zero cat path name = again_step (λ p n. Ok tt) zero cat path name
 again (suc room) cat path name = again_step (λ p n. again room cat p n) (suc room) cat path name
 
 -- How a walk goes on through a source of the mosaic with the name `base`: it is counted, its name is resolved, the walk
--- goes to that name by `visit`, and then its band must be there.
+-- goes to that name by `visit`, and then its band must be there, with samples that the source takes.
 unfoldable pub visit_source : (Met → List ℕ → Result Met WalkFault) → List ℕ → Met → SourceValue → Result Met WalkFault
 visit_source visit base met s = do
   counted ← one_more_source met.sources
   name ← resolved base s
   after ← visit (record { datasets = met.datasets; sources = met.sources + 1 }) name
-  there ← has_band after.datasets name s.band
+  there ← has_samples after.datasets base name s.band (is_plain s)
   Ok after
 
 abbrev pub visit_sources : (Met → List ℕ → Result Met WalkFault) → List ℕ → Met → List SourceValue → Result Met WalkFault
@@ -157,13 +181,15 @@ pub record IsDataset (d : Dataset) : Type 0 where
 abbrev pub IsApart : List Dataset → Type 0
 IsApart cat = (id : ℕ) (d : Dataset) → slice_get cat id ≡ Some d → number_of cat d.head.name ≡ Some id
 
--- a source names a dataset of the catalog, which has its band and is one of those that are asked for
+-- a source names a dataset of the catalog, which has its band, with samples that it takes, and is one of those that are
+-- asked for
 pub record HasTarget (IsAsked : Dataset → Type 0) (cat : List Dataset) (base : List ℕ) (s : SourceValue) : Type 0 where
   pub name : List ℕ
   pub dataset : Dataset
   pub resolves : resolved base s ≡ Ok name
   pub named : dataset_named cat name ≡ Some dataset
   pub band : s.band ≤ band_count dataset.head
+  pub takes : is_plain s || is_narrow_band (band_at dataset.head (s.band - 1)) ≡ true
   pub asked : IsAsked dataset
 
 -- the content isn't a mosaic's

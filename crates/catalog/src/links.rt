@@ -1,5 +1,5 @@
 // What a walk keeps of what it has met.
-ghost use Rattle.std.specs.Prelude.{◌≡◌, ◌<◌, ◌≤◌, ◌+◌, ℕ, suc, List, [], length, All, slice_get, bytes_eq, Option, Some, None, option_map, if◌then◌else◌, IfOk, IfErr, OnOk, OnErr, max};
+ghost use Rattle.std.specs.Prelude.{◌≡◌, ◌<◌, ◌≤◌, ◌+◌, ◌-◌, ℕ, suc, List, [], length, All, slice_get, bytes_eq, Option, Some, None, option_map, if◌then◌else◌, IfOk, IfErr, OnOk, OnErr, max};
 ghost use Rattle.std.specs.Option.{option_or};
 ghost use Rattle.std.specs.BTreeMap.{get_by_text};
 ghost use Rattle.vrt_profile.specs.Values.{BandValue};
@@ -7,7 +7,8 @@ ghost use Rattle.lists_and_answers.specs.Answers.{Gives};
 ghost use Rattle.catalog.specs.Outcomes.{IsMemory};
 ghost use Rattle.catalog.specs.Drivers.{Dataset as Known};
 ghost use Rattle.catalog.specs.Steps.{IsPlain};
-ghost use Rattle.catalog.specs.Walk.{number_of, one_more_source};
+ghost use Rattle.catalog.specs.Dataset.{band_at};
+ghost use Rattle.catalog.specs.Walk.{is_narrow_band, number_of, one_more_source};
 ghost use Rattle.catalog.specs.Linked.{State, IsLinked, IsHigh, IsDeep, Grows, HasBand, IsMosaicAt, pushed, closed, one_counted, cut_to, height_at, most, all_of, first_above};
 
 use crate::dataset::Dataset;
@@ -145,6 +146,18 @@ impl Met {
         ensures bands { (d : Known) → slice_get self.now.datasets id ≡ Some d → result ≡ length d.head.bands }
     {
         self.dataset(id).head.bands.len()
+    }
+
+    /// Whether the samples of a band of a dataset, counted from 1, have at most 32 bits.
+    pub fn is_narrow(&self, id: u32, band: u32) -> bool
+        requires known { id < length self.now.datasets }
+        ensures narrow { (d : Known) → slice_get self.now.datasets id ≡ Some d → result ≡ is_narrow_band (band_at d.head (band - 1)) }
+    {
+        let at = (band as usize).saturating_sub(1);
+        match self.dataset(id).head.bands.as_slice().get(at) {
+            None => true,
+            Some(band) => band.kind.bytes() <= 4,
+        }
     }
 
     /// The link of a dataset, if it was met whole.

@@ -1,11 +1,13 @@
 // The walk from a name to all that it reaches.
-ghost use Rattle.std.specs.Prelude.{◌≡◌, ◌<◌, ◌≤◌, ◌∷◌, [], ℕ, List, Bool, Some, None, Ok, IfOk, IfErr, OnOk};
+ghost use Rattle.std.specs.Prelude.{◌≡◌, ◌<◌, ◌≤◌, ◌∷◌, ◌||◌, [], ℕ, List, Bool, Some, None, length, slice_get, Ok, IfOk, IfErr, OnOk};
 ghost use Rattle.lists_and_answers.specs.Answers.{Gives};
 ghost use Rattle.outside.specs.Outside.{Files};
 ghost use Rattle.catalog.specs.Outcomes.{IsMemory};
 ghost use Rattle.catalog.specs.Mosaics.{sources_of};
 ghost use Rattle.catalog.specs.Heads.{kind_in, resolved};
-ghost use Rattle.catalog.specs.Walk.{number_of, room_for, has_band, visit};
+ghost use Rattle.catalog.specs.Drivers.{Dataset as Known};
+ghost use Rattle.catalog.specs.Walk.{number_of, dataset_named, band_named, is_narrow_band, room_for, has_band, has_samples, unless_wide, visit};
+ghost use Rattle.vrt_profile.specs.Value.{is_plain};
 ghost use Rattle.catalog.specs.Linked.{IsLinked, IsPath, IsLow, IsMosaicAt, HasBand, HasSource, met_of};
 ghost use Rattle.catalog.specs.Steps.{IsPlain, Meets, Visits, Passes, Names, Reaches, ReachesRows, seen};
 
@@ -13,11 +15,11 @@ use crate::catalog::read_dataset;
 use crate::driver::Content;
 use crate::kind::kind_of;
 use crate::links::{Link, Met, Targets};
-use crate::{Kind, LimitKind, WalkFault};
+use crate::{Bad, Kind, LimitKind, WalkFault};
 use lists_and_answers::Items;
 use outside::{Folder, Name, NameFault};
 use std::alloc::Global;
-use vrt_profile::{resolve, resolved_len};
+use vrt_profile::{VrtFault, resolve, resolved_len};
 
 /// The most datasets of a catalog.
 const MOST_DATASETS: u32 = 65_536;
@@ -37,11 +39,12 @@ struct SourceAt {
     source: usize,
 }
 
-// What a source names, and which of its bands.
+// What a source names, which of its bands, and whether its samples are given as they are.
 #[derive(Drop)]
 struct Wanted {
     name: Name,
     band: u32,
+    plain: bool,
 }
 
 // What a source of a mosaic names. Limit comes exactly where the text of the name has more than 4,096
@@ -50,6 +53,7 @@ fn resolve_source(alloc: Global, met: &Met, at: SourceAt) -> Result<Wanted, Walk
     requires there { HasSource met.now at.id at.band at.source }
     ensures told { (w : HasSource met.now at.id at.band at.source) → Gives IsMemory (λ r. r.name) result (resolved w.of.mosaic.dataset.head.name w.value) }
     ensures band { (w : HasSource met.now at.id at.band at.source) → IfOk result (λ r. r.band ≡ w.value.band) }
+    ensures kept { (w : HasSource met.now at.id at.band at.source) → IfOk result (λ r. r.plain ≡ is_plain w.value) }
     ensures plain { IfErr result IsPlain }
 {
     let base = met.name(at.id);
@@ -58,6 +62,7 @@ fn resolve_source(alloc: Global, met: &Met, at: SourceAt) -> Result<Wanted, Walk
         Ok(name) => Ok(Wanted {
             name,
             band: source.band,
+            plain: source.is_plain(),
         }),
         Err(NameFault::TooLong) => Err(WalkFault::Limit {
             what: LimitKind::Name,
@@ -81,6 +86,42 @@ fn check_band(met: &Met, target: u32, wanted: &Wanted) -> Result<(), WalkFault>
         });
     }
     Ok(())
+}
+
+// Whether a source takes the samples of the band that it names: those that it scales, or has a table for, have at
+// most 32 bits.
+fn takes_samples(met: &Met, target: u32, wanted: &Wanted) -> bool
+    requires number { number_of met.now.datasets wanted.now.name ≡ Some target }
+    ensures takes { result ≡ (wanted.now.plain || is_narrow_band (band_named (dataset_named met.now.datasets wanted.now.name) wanted.now.band)) }
+{
+    wanted.plain || met.is_narrow(target, wanted.band)
+}
+
+// A mosaic, whose number this is, that doesn't take the samples of what its source names isn't one that is read.
+fn check_width(met: &Met, id: u32, target: u32, wanted: &Wanted) -> Result<(), WalkFault>
+    requires known { id < length met.now.datasets }
+    requires number { number_of met.now.datasets wanted.now.name ≡ Some target }
+    ensures told { (d : Known) → slice_get met.now.datasets id ≡ Some d → Gives IsMemory (λ _. tt) result (unless_wide met.now.datasets d.head.name wanted.now.name wanted.now.band wanted.now.plain) }
+    ensures plain { IfErr result IsPlain }
+{
+    if takes_samples(met, target, wanted) {
+        return Ok(());
+    }
+    Err(WalkFault::Malformed {
+        name: met.name(id).try_clone()?,
+        bad: Bad::Vrt(VrtFault::Unsupported),
+    })
+}
+
+// What a source of the mosaic of this number names has the band that it names, with samples that it takes.
+fn check_samples(met: &Met, id: u32, target: u32, wanted: &Wanted) -> Result<(), WalkFault>
+    requires known { id < length met.now.datasets }
+    requires number { number_of met.now.datasets wanted.now.name ≡ Some target }
+    ensures told { (d : Known) → slice_get met.now.datasets id ≡ Some d → Gives IsMemory (λ _. tt) result (has_samples met.now.datasets d.head.name wanted.now.name wanted.now.band wanted.now.plain) }
+    ensures plain { IfErr result IsPlain }
+{
+    check_band(met, target, wanted)?;
+    check_width(met, id, target, wanted)
 }
 
 // The checks of a name that was met earlier, by its height: the datasets below it aren't gone through.
@@ -172,7 +213,8 @@ fn meet<F: Folder>(
     meet_first(alloc, met, folder, verify, room, kind, name)
 }
 
-// Visits what a source of a mosaic names, after it is counted; then the band must be there.
+// Visits what a source of a mosaic names, after it is counted; then the band must be there, with samples that the
+// source takes.
 #[cycle(walk)]
 fn visit_source<F: Folder>(
     alloc: Global,
@@ -189,7 +231,7 @@ fn visit_source<F: Folder>(
 {
     let wanted = count_and_resolve(alloc, met, at)?;
     let target = visit(alloc, met, folder, verify, room, &wanted.name)?;
-    check_band(met, target, &wanted)?;
+    check_samples(met, at.id, target, &wanted)?;
     Ok(target)
 }
 

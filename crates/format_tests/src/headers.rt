@@ -20,7 +20,9 @@ const REFUSED: [(&str, u8); 46] = [
     ("NROWS 2\nNCOLS 3\nNCOLS 0", 2),
     ("NROWS 2\nNCOLS 3\nNBANDS 0\nNBITS 7", 2),
     ("NROWS 2\nNCOLS 3\nNBITS 7\nNBANDS 257", 4),
-    ("NROWS 2\nNCOLS 3\nNBITS 64\nBYTEORDER X", 3),
+    ("NROWS 2\nNCOLS 3\nNBITS 24\nBYTEORDER X", 3),
+    ("NROWS 2\nNCOLS 3\nNBITS 64\nBYTEORDER X", 2),
+    ("NROWS 2\nNCOLS 3\nNBITS 128", 3),
     ("NROWS 2\nNCOLS 3\nNBITS 0", 3),
     ("NROWS 2\nNCOLS 3\nNBITS -8", 2),
     ("NROWS 2\nNCOLS 3\nSKIPBYTES 1099511627777\nBYTEORDER X", 2),
@@ -28,7 +30,7 @@ const REFUSED: [(&str, u8); 46] = [
     ("NROWS 2\nNCOLS 3\nPIXELTYPE x\nSKIPBYTES 1099511627777", 4),
     ("NROWS 2\nNCOLS 3\nBANDROWBYTES 2\nPIXELTYPE FLOAT", 3),
     ("NROWS 2\nNCOLS 3\nNBITS 32\nPIXELTYPE float", 3),
-    ("NROWS 2\nNCOLS 3\nPIXELTYPE SIGNEDINT", 3),
+    ("NROWS 2\nNCOLS 3\nNBITS 64\nPIXELTYPE FLOAT", 3),
     ("NROWS 2\nNCOLS 3\nNBITS 16\nPIXELTYPE SIGNED", 2),
     (
         "NROWS 2\nNCOLS 3\nBANDROWBYTES 2\nTOTALROWBYTES 8589934593",
@@ -133,8 +135,36 @@ BANDGAPBYTES   1099511627776
 PIXELTYPE      UNSIGNEDINT
 ";
 
+const BROAD: &str = "BYTEORDER      M
+LAYOUT         BIP
+NROWS          1
+NCOLS          2
+NBANDS         1
+NBITS          64
+SKIPBYTES      0
+BANDROWBYTES   16
+TOTALROWBYTES  16
+BANDGAPBYTES   0
+PIXELTYPE      SIGNEDINT
+NODATA         -9223372036854775808
+";
+
+const LITTLE: &str = "BYTEORDER      I
+LAYOUT         BIL
+NROWS          1
+NCOLS          2
+NBANDS         1
+NBITS          8
+SKIPBYTES      0
+BANDROWBYTES   2
+TOTALROWBYTES  2
+BANDGAPBYTES   0
+PIXELTYPE      SIGNEDINT
+NODATA         -128
+";
+
 // A header, and the text that is written of its head.
-const WRITTEN: [(&str, &str); 6] = [
+const WRITTEN: [(&str, &str); 10] = [
     (ROW_OF_FOUR, ROW_OF_FOUR),
     (
         "ncols 9\nNCOLS 4\nNROWS 1\nNODATA 9\nNOTHING 3\nULXMAP 5\n",
@@ -152,6 +182,16 @@ const WRITTEN: [(&str, &str); 6] = [
     (
         "NROWS 2\nNCOLS 3\nLAYOUT BSQ\nNBANDS 2\nNBITS 32\nSKIPBYTES 1099511627776\nBANDGAPBYTES 1099511627776\nBANDROWBYTES 1\nTOTALROWBYTES x\nBYTEORDER lsb\nNODATA -0.0\nNODATA none\nXDIM 7\nULYMAP 1",
         GAPS,
+    ),
+    (BROAD, BROAD),
+    (
+        "NROWS 1\nNCOLS 2\nLAYOUT BIP\nNBITS 64\nBYTEORDER M\nNODATA -9223372036854775808",
+        BROAD,
+    ),
+    (LITTLE, LITTLE),
+    (
+        "NROWS 1\nNCOLS 2\nPIXELTYPE signedint\nNODATA -0128.0",
+        LITTLE,
     ),
 ];
 
@@ -187,7 +227,7 @@ fn kind_of(text: &str) -> Option<(PixelType, Option<i128>)> {
 }
 
 // A header, the type of its samples and its NODATA.
-const KINDS: [(&str, PixelType, Option<i128>); 6] = [
+const KINDS: [(&str, PixelType, Option<i128>); 15] = [
     (
         "NROWS 2\nNCOLS 3\nNBITS 16\nNODATA -1",
         PixelType::Int16,
@@ -212,6 +252,51 @@ const KINDS: [(&str, PixelType, Option<i128>); 6] = [
     (
         "NROWS 2\nNCOLS 3\nNBITS 32\nNODATA -1\nPIXELTYPE UNSIGNEDINT",
         PixelType::UInt32,
+        None,
+    ),
+    (
+        "NROWS 2\nNCOLS 3\nPIXELTYPE SIGNEDINT\nNODATA -128",
+        PixelType::Int8,
+        Some(-128),
+    ),
+    (
+        "NROWS 2\nNCOLS 3\nPIXELTYPE SIGNEDINT\nNODATA 128",
+        PixelType::Int8,
+        None,
+    ),
+    (
+        "NROWS 2\nNCOLS 3\nNBITS 8\nPIXELTYPE UNSIGNEDINT\nNODATA -1",
+        PixelType::Byte,
+        None,
+    ),
+    (
+        "NROWS 2\nNCOLS 3\nNBITS 64\nNODATA 18446744073709551615",
+        PixelType::UInt64,
+        Some(18_446_744_073_709_551_615),
+    ),
+    (
+        "NROWS 2\nNCOLS 3\nNBITS 64\nNODATA 18446744073709551616",
+        PixelType::UInt64,
+        None,
+    ),
+    (
+        "NROWS 2\nNCOLS 3\nNBITS 64\nNODATA -9223372036854775808",
+        PixelType::Int64,
+        Some(-9_223_372_036_854_775_808),
+    ),
+    (
+        "NROWS 2\nNCOLS 3\nNBITS 64\nNODATA -9223372036854775809",
+        PixelType::Int64,
+        None,
+    ),
+    (
+        "NROWS 2\nNCOLS 3\nNBITS 64\nPIXELTYPE SIGNEDINT\nNODATA 9223372036854775808",
+        PixelType::Int64,
+        None,
+    ),
+    (
+        "NROWS 2\nNCOLS 3\nNBITS 64\nPIXELTYPE UNSIGNEDINT\nNODATA -1",
+        PixelType::UInt64,
         None,
     ),
 ];

@@ -367,8 +367,9 @@ fn ticks(n: i128) -> Ticks {
 }
 
 // A type, its name, its name in another case, and the least and the greatest number of it.
-const KINDS: [(PixelType, &str, &str, Sample, Sample); 5] = [
+const KINDS: [(PixelType, &str, &str, Sample, Sample); 8] = [
     (PixelType::Byte, "Byte", "bYTE", 0, 255),
+    (PixelType::Int8, "Int8", "iNT8", -128, 127),
     (PixelType::UInt16, "UInt16", "uint16", 0, 65_535),
     (PixelType::Int16, "Int16", "INT16", -32_768, 32_767),
     (PixelType::UInt32, "UInt32", "uInt32", 0, 4_294_967_295),
@@ -378,6 +379,20 @@ const KINDS: [(PixelType, &str, &str, Sample, Sample); 5] = [
         "int32",
         -2_147_483_648,
         2_147_483_647,
+    ),
+    (
+        PixelType::UInt64,
+        "UInt64",
+        "uINT64",
+        0,
+        18_446_744_073_709_551_615,
+    ),
+    (
+        PixelType::Int64,
+        "Int64",
+        "INT64",
+        -9_223_372_036_854_775_808,
+        9_223_372_036_854_775_807,
     ),
 ];
 
@@ -420,7 +435,9 @@ fn first_of_other_range() -> usize {
     KINDS.len()
 }
 
-const NO_NAMES: [&str; 5] = ["", "byte ", "Float32", "UInt1", "UInt166"];
+const NO_NAMES: [&str; 8] = [
+    "", "byte ", "Float32", "UInt1", "UInt166", "UInt8", "Int 8", "Int644",
+];
 
 // The first of these texts that is the name of a type, or how many texts there are.
 fn first_named() -> usize {

@@ -2,6 +2,7 @@ use esri_hdr::{RawHead, read, sample_len};
 use geotransform::holds;
 use interleaved_raw::places::{needed_len, position, stride};
 use interleaved_raw::samples::{decode_run, decode_sample, encode_run};
+use std::alloc::Global;
 use std::test::*;
 
 /// The sample of a file in a band, a column and a line, where it has one.
@@ -50,8 +51,8 @@ fn finds_samples_by_layout(rt: HostRuntime) {
     assert_eq!(rt; first_of_other_layout(), LAYOUTS.len());
 }
 
-// A header of one pixel, and its sample in the bytes FF FE 80 01.
-const KINDS: [(&[u8], i128); 8] = [
+// A header of one pixel, and its sample in the bytes FF FE 80 01 00 7F 10 80.
+const KINDS: [(&[u8], i128); 13] = [
     (b"NROWS 1\nNCOLS 1\nNBITS 16\nBYTEORDER M\n", 65534),
     (
         b"NROWS 1\nNCOLS 1\nNBITS 16\nBYTEORDER M\nPIXELTYPE SIGNEDINT\n",
@@ -66,12 +67,35 @@ const KINDS: [(&[u8], i128); 8] = [
     ),
     (b"NROWS 1\nNCOLS 1\nNBITS 32\n", 25231103),
     (b"NROWS 1\nNCOLS 1\nNBITS 8\n", 255),
+    (b"NROWS 1\nNCOLS 1\nPIXELTYPE SIGNEDINT\n", -1),
+    (
+        b"NROWS 1\nNCOLS 1\nNBITS 64\nBYTEORDER M\n",
+        18_446_321_865_547_780_224,
+    ),
+    (
+        b"NROWS 1\nNCOLS 1\nNBITS 64\nBYTEORDER M\nPIXELTYPE SIGNEDINT\n",
+        -422_208_161_771_392,
+    ),
+    (
+        b"NROWS 1\nNCOLS 1\nNBITS 64\n",
+        9_228_015_274_484_104_959,
+    ),
+    (
+        b"NROWS 1\nNCOLS 1\nNBITS 64\nPIXELTYPE SIGNEDINT\n",
+        -9_218_728_799_225_446_657,
+    ),
 ];
 
 // The one sample of a header.
 fn pixel_of(text: &[u8]) -> Option<i128> {
     let head = read(text).ok()?;
-    sample_of(&head, &[0xFF, 0xFE, 0x80, 0x01], 0, 0, 0)
+    sample_of(
+        &head,
+        &[0xFF, 0xFE, 0x80, 0x01, 0x00, 0x7F, 0x10, 0x80],
+        0,
+        0,
+        0,
+    )
 }
 
 // The first of these headers that has another sample, or how many headers there are.
@@ -150,4 +174,70 @@ fn line_from(text: &[u8], place: usize) -> Option<[i128; 3]> {
 fn reads_a_run_of_a_band(rt: HostRuntime) {
     let line = line_from(b"NROWS 2\nNCOLS 3\nNBANDS 2\nLAYOUT BIP", 7);
     assert!(rt; line == Some([8, 10, 12]));
+}
+
+// A header without its layout and its order, and the least and the greatest number of its type.
+const ENDS: [(&str, [i128; 2]); 8] = [
+    ("NBITS 8\n", [0, 255]),
+    ("NBITS 8\nPIXELTYPE SIGNEDINT\n", [-128, 127]),
+    ("NBITS 16\n", [0, 65_535]),
+    ("NBITS 16\nPIXELTYPE SIGNEDINT\n", [-32_768, 32_767]),
+    ("NBITS 32\n", [0, 4_294_967_295]),
+    (
+        "NBITS 32\nPIXELTYPE SIGNEDINT\n",
+        [-2_147_483_648, 2_147_483_647],
+    ),
+    ("NBITS 64\n", [0, 18_446_744_073_709_551_615]),
+    (
+        "NBITS 64\nPIXELTYPE SIGNEDINT\n",
+        [-9_223_372_036_854_775_808, 9_223_372_036_854_775_807],
+    ),
+];
+
+const FORMS: [&str; 6] = [
+    "NROWS 1\nNCOLS 2\nNBANDS 2\nLAYOUT BIL\nBYTEORDER I\n",
+    "NROWS 1\nNCOLS 2\nNBANDS 2\nLAYOUT BIL\nBYTEORDER M\n",
+    "NROWS 1\nNCOLS 2\nNBANDS 2\nLAYOUT BIP\nBYTEORDER I\n",
+    "NROWS 1\nNCOLS 2\nNBANDS 2\nLAYOUT BIP\nBYTEORDER M\n",
+    "NROWS 1\nNCOLS 2\nNBANDS 2\nLAYOUT BSQ\nBYTEORDER I\n",
+    "NROWS 1\nNCOLS 2\nNBANDS 2\nLAYOUT BSQ\nBYTEORDER M\n",
+];
+
+// Whether what is written of two samples is read as they are.
+fn reads_again(alloc: Global, form: &str, kind: &str, ends: [i128; 2]) -> Result<bool, Fail> {
+    let mut text: Vec<u8> = Vec::new(alloc);
+    text.extend_from_slice(form.as_bytes())?;
+    text.extend_from_slice(kind.as_bytes())?;
+    let Ok(head) = read(&text) else {
+        return Ok(false);
+    };
+    let mut bytes = [7; 24];
+    let mut out = [0; 2];
+    Ok(write_run(&head, &ends, &mut bytes) && read_run(&head, &bytes, &mut out) && out == ends)
+}
+
+// Whether the ends of a type are read as they were written in each layout and order.
+fn keeps_ends(alloc: Global, kind: &str, ends: [i128; 2]) -> Result<bool, Fail> {
+    for form in FORMS {
+        if !reads_again(alloc, form, kind, ends)? {
+            return Ok(false);
+        }
+    }
+    Ok(true)
+}
+
+// The first type whose ends are lost, or how many types there are.
+fn first_lost(alloc: Global) -> Result<usize, Fail> {
+    for (at, (kind, ends)) in ENDS.iter().enumerate() {
+        if !keeps_ends(alloc, kind, *ends)? {
+            return Ok(at);
+        }
+    }
+    Ok(ENDS.len())
+}
+
+#[test]
+fn keeps_the_ends_of_types(rt: HostRuntime) -> Result<(), Fail> {
+    assert_eq!(rt; first_lost(rt.alloc())?, ENDS.len());
+    Ok(())
 }

@@ -24,6 +24,7 @@ fn first_source(document: &Document) -> Option<&Source> {
 }
 
 /// What a source of these parts makes of a pixel.
+#[tactic(auto, using(mosaic_sources::proofs::Following::narrow_pixel))]
 fn value_by(alloc: Global, source: &[u8], pixel: i32) -> Result<Option<Option<i128>>, Fail> {
     match document(alloc, source)? {
         Some(document) => match first_source(&document) {

@@ -6,12 +6,14 @@ ghost use Rattle.geotransform.specs.declared.types.PixelType.{PixelType};
 ghost use Rattle.geotransform.specs.declared.types.Size.{Size};
 ghost use Rattle.vrt_profile.specs.Values.{SourceValue};
 ghost use Rattle.vrt_profile.specs.Cover.{Axis, axis_at};
-ghost use Rattle.vrt_profile.specs.Value.{given_of, last_given};
-ghost use Rattle.mosaic_sources.specs.Pixels.{IsPixel};
+ghost use Rattle.vrt_profile.specs.Value.{given_of, last_given, takes_kind};
+ghost use Rattle.mosaic_sources.specs.Pixels.{IsPixel, IsPixelOf};
 
 /// Each sample of each type is a pixel that a source takes.
 pub fn samples_are_pixels()
     ensures within { (kind : PixelType) → (sample : ℤ) → is_in kind sample ≡ true → IsPixel sample }
+    // and each of a type that a source takes is one for the source
+    ensures taken { (source : SourceValue) → (kind : PixelType) → (sample : ℤ) → takes_kind source kind ≡ true → is_in kind sample ≡ true → IsPixelOf source sample }
 {}
 
 /// The dataset's columns of a mosaic's columns don't fall.

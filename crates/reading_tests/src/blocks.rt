@@ -3,14 +3,33 @@ use geotransform::{PixelType, Sample, holds};
 use std::alloc::{AllocError, Global};
 use std::test::*;
 
-const EXTREMES: [(PixelType, [Sample; 4]); 5] = [
+const EXTREMES: [(PixelType, [Sample; 4]); 8] = [
     (PixelType::Byte, [0, 255, 1, 254]),
+    (PixelType::Int8, [-128, 127, -1, 126]),
     (PixelType::UInt16, [0, 65_535, 256, 255]),
     (PixelType::Int16, [-32_768, 32_767, -1, 256]),
     (PixelType::UInt32, [0, 4_294_967_295, 65_536, 2_147_483_648]),
     (
         PixelType::Int32,
         [-2_147_483_648, 2_147_483_647, -1, 65_536],
+    ),
+    (
+        PixelType::UInt64,
+        [
+            0,
+            18_446_744_073_709_551_615,
+            4_294_967_296,
+            9_223_372_036_854_775_808,
+        ],
+    ),
+    (
+        PixelType::Int64,
+        [
+            -9_223_372_036_854_775_808,
+            9_223_372_036_854_775_807,
+            -1,
+            4_294_967_296,
+        ],
     ),
 ];
 
@@ -134,17 +153,23 @@ fn moves_runs(rt: HostRuntime) -> Result<(), Fail> {
     Ok(())
 }
 
-const CLAMPED: [(PixelType, [Sample; 2]); 5] = [
+const CLAMPED: [(PixelType, [Sample; 2]); 8] = [
     (PixelType::Byte, [0, 255]),
+    (PixelType::Int8, [-128, 127]),
     (PixelType::UInt16, [0, 65_535]),
     (PixelType::Int16, [-32_768, 32_767]),
     (PixelType::UInt32, [0, 4_294_967_295]),
     (PixelType::Int32, [-2_147_483_648, 2_147_483_647]),
+    (PixelType::UInt64, [0, 18_446_744_073_709_551_615]),
+    (
+        PixelType::Int64,
+        [-9_223_372_036_854_775_808, 9_223_372_036_854_775_807],
+    ),
 ];
 
 // Whether samples beyond the range of a type become these.
 fn clamps(alloc: Global, kind: PixelType, wanted: [Sample; 2]) -> Result<bool, AllocError> {
-    let block = Block::pack_clamped(alloc, kind, &[-5_000_000_000, 5_000_000_000])?;
+    let block = Block::pack_clamped(alloc, kind, &[-20_000_000_000_000_000_000, 20_000_000_000_000_000_000])?;
     Ok(block.kind() == kind && pair_at(&block, 0) == Some(wanted))
 }
 

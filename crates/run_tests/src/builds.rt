@@ -377,7 +377,7 @@ fn quiet_builds(rt: HostRuntime) -> Result<(), Fail> {
 }
 
 // Words that don't fit: nothing is printed, and no file changes.
-static UNFIT: [Row<'static>; 31] = [
+static UNFIT: [Row<'static>; 32] = [
     ("gdalbuildvrt", 1, "", "ERROR 1: word 1 doesn't fit\n"),
     (
         "gdalbuildvrt out.vrt",
@@ -506,7 +506,13 @@ static UNFIT: [Row<'static>; 31] = [
         "ERROR 1: word 2 doesn't fit\n",
     ),
     (
-        "gdalbuildvrt -vrtnodata 9223372036854775808 out.vrt a.bil",
+        "gdalbuildvrt -vrtnodata 18446744073709551616 out.vrt a.bil",
+        1,
+        "",
+        "ERROR 1: word 2 doesn't fit\n",
+    ),
+    (
+        "gdalbuildvrt -srcnodata -9223372036854775809 out.vrt a.bil",
         1,
         "",
         "ERROR 1: word 2 doesn't fit\n",

@@ -41,4 +41,6 @@ mod translations;
 #[cfg(test)]
 mod trials;
 #[cfg(test)]
+mod wide;
+#[cfg(test)]
 mod worked;

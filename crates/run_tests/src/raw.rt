@@ -23,7 +23,7 @@ static FILES: [FileOf<'static>; 14] = [
         b"NROWS 2\nNCOLS 2\nNBANDS 1\nNBITS 8\nLAYOUT BSQ\nBYTEORDER I\n",
     ),
     ("m.bil", &TWELVE),
-    ("m.hdr", b"NROWS 1\nNCOLS 1\nPIXELTYPE SIGNEDINT\n"),
+    ("m.hdr", b"NROWS 1\nNCOLS 1\nPIXELTYPE FLOAT\n"),
     ("n.bil", &[7, 9]),
     ("n.hdr", b"NROWS 1\nNCOLS 2\nNODATA 9\n"),
     ("w.bil", &[255, 254]),

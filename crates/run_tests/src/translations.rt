@@ -564,7 +564,7 @@ fn translations(rt: HostRuntime) -> Result<(), Fail> {
 }
 
 // Refusals, in the order in which they come: nothing is printed, and no file changes.
-static REFUSED: [Row<'static>; 38] = [
+static REFUSED: [Row<'static>; 40] = [
     ("gdal_translate", 1, "", "ERROR 1: word 1 doesn't fit\n"),
     (
         "gdal_translate five.bil",
@@ -730,6 +730,18 @@ static REFUSED: [Row<'static>; 38] = [
     ),
     (
         "gdal_translate -ot UInt32 five.bil out.asc",
+        1,
+        "",
+        "ERROR 6: raster doesn't fit the format\n",
+    ),
+    (
+        "gdal_translate -ot UInt64 five.bil out.asc",
+        1,
+        "",
+        "ERROR 6: raster doesn't fit the format\n",
+    ),
+    (
+        "gdal_translate -ot Int64 five.bil out.asc",
         1,
         "",
         "ERROR 6: raster doesn't fit the format\n",

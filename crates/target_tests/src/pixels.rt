@@ -3,29 +3,44 @@ use crate::fixtures::{Story, Window, area};
 use geotransform::Sample;
 use std::alloc::{AllocError, Global};
 
-/// The least number of a type, and how many there are.
+/// The least number of a type, and how far the greatest is above it.
 pub type Range = (i64, u64);
 
-pub const BYTE: Range = (0, 256);
+pub const BYTE: Range = (0, 255);
 
-pub const UINT16: Range = (0, 65_536);
+pub const INT8: Range = (-128, 255);
 
-pub const INT16: Range = (-32_768, 65_536);
+pub const UINT16: Range = (0, 65_535);
 
-pub const UINT32: Range = (0, 4_294_967_296);
+pub const INT16: Range = (-32_768, 65_535);
 
-pub const INT32: Range = (-2_147_483_648, 4_294_967_296);
+pub const UINT32: Range = (0, 4_294_967_295);
+
+pub const INT32: Range = (-2_147_483_648, 4_294_967_295);
+
+pub const UINT64: Range = (0, 18_446_744_073_709_551_615);
+
+pub const INT64: Range = (-9_223_372_036_854_775_808, 18_446_744_073_709_551_615);
 
 /// The elevations that a cell can hold.
-pub const ELEVATIONS: Range = (-32_767, 65_535);
+pub const ELEVATIONS: Range = (-32_767, 65_534);
+
+// A number for each place, up to the last.
+fn mixed(at: u32, last: u64) -> u64 {
+    let number = (at as u64).wrapping_mul(11_400_714_819_323_198_485);
+    if last == u64::MAX {
+        number
+    } else {
+        number % (last + 1)
+    }
+}
 
 // A number of a range for each place: the least, the greatest, and others all over it.
-fn sample_at((least, count): Range, at: u32) -> Sample {
-    let count = count.max(1);
+fn sample_at((least, last): Range, at: u32) -> Sample {
     let above = match at % 16 {
         5 => 0,
-        11 => count - 1,
-        _ => (at as u64).wrapping_mul(2_654_435_761) % count,
+        11 => last,
+        _ => mixed(at, last),
     };
     least as i128 + above as i128
 }

@@ -2,7 +2,8 @@
 // pixels that their windows show.
 use crate::fixtures::{Asked, Ended, Form, Story, Window, folder_of, has_all, ordered, written};
 use crate::pixels::{
-    BYTE, INT16, INT32, Range, UINT16, UINT32, number_from_end, pixel, samples_in,
+    BYTE, INT8, INT16, INT32, INT64, Range, UINT16, UINT32, UINT64, number_from_end, pixel,
+    samples_in,
 };
 use esri_hdr::Layout;
 use geotransform::{PixelType, Sample};
@@ -157,12 +158,15 @@ const OF_THREE: [Window; 12] = [
 ];
 
 // The types, their ranges, and the bytes of a sample.
-const KINDS: [(PixelType, Range, u8); 5] = [
+const KINDS: [(PixelType, Range, u8); 8] = [
     (PixelType::Byte, BYTE, 1),
+    (PixelType::Int8, INT8, 1),
     (PixelType::UInt16, UINT16, 2),
     (PixelType::Int16, INT16, 2),
     (PixelType::UInt32, UINT32, 4),
     (PixelType::Int32, INT32, 4),
+    (PixelType::UInt64, UINT64, 8),
+    (PixelType::Int64, INT64, 8),
 ];
 
 // The layouts, the names, the bands, and their windows.
@@ -217,7 +221,8 @@ fn unsigned(sample: Sample, len: u8) -> Sample {
     match len {
         1 => sample.wrapping_add(256),
         2 => sample.wrapping_add(65_536),
-        _ => sample.wrapping_add(4_294_967_296),
+        4 => sample.wrapping_add(4_294_967_296),
+        _ => sample.wrapping_add(18_446_744_073_709_551_616),
     }
 }
 

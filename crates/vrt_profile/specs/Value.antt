@@ -1,10 +1,11 @@
 -- What a source makes of a pixel of its dataset, and what the pixels of a mosaic's band are.
-use Rattle.std.specs.Prelude.{ℕ, ℤ, pos, ◌+ℤ◌, ◌-ℤ◌, ◌*ℤ◌, ◌*◌, suc, Bool, false, List, [], ◌∷◌, Option, Some, None, int_lt, int_le, if◌then◌else◌, unsigned_abs, unwrap_or, option_map}
+use Rattle.std.specs.Prelude.{ℕ, ℤ, pos, ◌+ℤ◌, ◌-ℤ◌, ◌*ℤ◌, ◌*◌, suc, Bool, false, not, is_some, ◌&&◌, ◌||◌, nat_le, List, [], ◌∷◌, Option, Some, None, int_lt, int_le, if◌then◌else◌, unsigned_abs, unwrap_or, option_map}
 use Rattle.std.specs.Ordering.{int_eq}
 use Rattle.std.specs.Option.{option_or}
 use Rattle.lists_and_answers.specs.Options.{◌>>=◌}
 use Rattle.geotransform.specs.Places.{half}
-use Rattle.geotransform.specs.Types.{clamp}
+use Rattle.geotransform.specs.Types.{bytes_of, clamp}
+use Rattle.geotransform.specs.declared.types.PixelType.{PixelType}
 use Rattle.geotransform.specs.declared.types.Size.{Size}
 use Rattle.vrt_profile.specs.Values.{million, trillion, SourceValue, BandValue}
 use Rattle.vrt_profile.specs.Cover.{cover_of}
@@ -41,6 +42,14 @@ complex_value s pixel = if is_nodata s.nodata pixel then None else Some (whole_b
 -- What a source makes of a pixel.
 unfoldable pub value_of : SourceValue → ℤ → Option ℤ
 value_of s pixel = if s.complex then complex_value s pixel else Some pixel
+
+-- whether a source gives each pixel as it is, but its NODATA: it is neither scaled nor has it a table
+abbrev pub is_plain : SourceValue → Bool
+is_plain s = not s.complex || (int_eq s.ratio (pos trillion) && (int_eq s.offset (pos 0) && not (is_some s.lut)))
+
+-- whether a source takes samples of a type: those that it scales, or has a table for, have at most 32 bits
+abbrev pub takes_kind : SourceValue → PixelType → Bool
+takes_kind s kind = is_plain s || nat_le (bytes_of kind) 4
 
 -- what a source gives at a pixel of the mosaic, where the pixels of its dataset are these
 abbrev pub given_of : SourceValue → Size → Size → (ℕ → ℕ → ℤ) → ℕ → ℕ → Option ℤ

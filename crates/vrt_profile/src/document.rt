@@ -1,4 +1,6 @@
 // A VRT document: a raster of bands, each of which is made of sources.
+ghost use Rattle.std.specs.Prelude.{◌≡◌, is_some};
+ghost use Rattle.vrt_profile.specs.Value.{is_plain, takes_kind};
 ghost use Rattle.vrt_profile.specs.Values.{IsSource, IsBand, IsDocument};
 
 use crate::rectangle::{Lut, MicroRect};
@@ -89,12 +91,39 @@ impl Model for Document {
     ghost invariant = { λ d. IsDocument (record { size = d.size; srs = d.srs; geo = d.geo; bands = d.bands }) };
 }
 
+fn has_table(lut: &Option<Lut>) -> bool
+    ensures table { result ≡ is_some lut.now }
+{
+    match lut {
+        None => false,
+        Some(_) => true,
+    }
+}
+
 impl Source {
     /// The rules that each source keeps.
     pub fn rules(&self)
         ensures rules { IsSource self.now }
     {
         let _band = &self.band;
+    }
+
+    /// Whether the source gives each pixel as it is, but its NODATA: it is neither scaled nor has it a table.
+    pub fn is_plain(&self) -> bool
+        ensures plain { result ≡ is_plain self.now }
+    {
+        if !self.complex {
+            return true;
+        }
+        self.ratio == 1_000_000_000_000 && self.offset == 0 && !has_table(&self.lut)
+    }
+
+    /// Whether the source takes samples of this type: those that it scales, or has a table for, have at most 32
+    /// bits.
+    pub fn takes_kind(&self, kind: PixelType) -> bool
+        ensures kind { result ≡ takes_kind self.now kind }
+    {
+        self.is_plain() || kind.bytes() <= 4
     }
 }
 

@@ -1,10 +1,11 @@
 use Rattle.std.proofs.Common.{◌∙◌, ap, refl, ℕ, List, length, arith}
+use Rattle.std.proofs.lemmas.Option.{slice_get_within}
 use Rattle.vrt_profile.specs.Values.{BandValue, DocumentValue}
 use Rattle.catalog.specs.Mosaics.{sources_of}
 use Rattle.catalog.specs.declared.faults.WalkFault.TheVariants.{Memory}
 use Rattle.catalog.specs.Steps.{seen}
 use Rattle.catalog.proofs.Listings.{err_is}
-use Rattle.catalog.proofs.Passes.{source_unnamed, counted_linked, source_unvisited, source_bandless, source_passed, band_refused, band_more, band_ends, bands_refused, bands_more, bands_end, source_there, band_there, item_counted}
+use Rattle.catalog.proofs.Passes.{source_unnamed, counted_linked, mosaic_still, source_unvisited, source_bandless, source_passed, band_refused, band_more, band_ends, bands_refused, bands_more, bands_end, source_there, band_there, item_counted}
 use Rattle.catalog.proofs.Steps.{passes_memory}
 use Rattle.catalog.proofs.Closings.{visits_below, rows_known, rows_low, open_known, visits_closed}
 use Rattle.catalog.proofs.walk.+walk.Goals as goal
@@ -50,15 +51,27 @@ visit_source-returns-in_err-target g t c =
     let result = err_is c.from_residual-in_err-target.result c.in_err-target.field-0.0 c.from_residual-in_err-target.ensures in
     record { passes = λ w. rw result (source_unvisited c.args.verify c.args.room w.of.mosaic.dataset.head.name w.value _ _ c.args.met.now c.count_and_resolve.new.met c.visit.new.met c.in_ok-wanted.wanted c.requires.linked (c.in_ok-wanted.ensures.names w) ℕ _ c.in_err-target.field-0.0 c.in_err-target.ensures.visits) }
 
-pub visit_source-returns-in_err-check_band : goal.visit_source-returns-in_err-check_band
-visit_source-returns-in_err-check_band g t c =
-    let result = err_is c.from_residual-in_err-check_band.result c.in_err-check_band.field-0.0 c.from_residual-in_err-check_band.ensures in
-    let e = c.in_err-check_band.ensures in
-    record { passes = λ w. rw result (source_bandless c.args.verify c.args.room w.of.mosaic.dataset.head.name w.value _ _ c.args.met.now c.count_and_resolve.new.met c.visit.new.met c.in_ok-wanted.wanted c.requires.linked (c.in_ok-wanted.ensures.names w) c.in_ok-target.target c.in_ok-target.ensures.visits ℕ _ c.in_err-check_band.field-0.0 e.plain e.told) }
+pub visit_source-check_samples-requires-clause-known : goal.visit_source-check_samples-requires-clause-known
+visit_source-check_samples-requires-clause-known g t c =
+    let w = c.requires.there in
+    slice_get_within c.visit.new.met.datasets c.args.at.id w.of.mosaic.dataset (mosaic_still c.args.met.now c.count_and_resolve.new.met c.visit.new.met c.args.at.id (c.in_ok-wanted.ensures.names w).grows c.in_ok-target.ensures.visits.steps.grows w.of.mosaic)
+
+pub visit_source-returns-in_err-check_samples : goal.visit_source-returns-in_err-check_samples
+visit_source-returns-in_err-check_samples g t c =
+    let result = err_is c.from_residual-in_err-check_samples.result c.in_err-check_samples.field-0.0 c.from_residual-in_err-check_samples.ensures in
+    let e = c.in_err-check_samples.ensures in
+    record {
+      passes = λ w.
+          let still = mosaic_still c.args.met.now c.count_and_resolve.new.met c.visit.new.met c.args.at.id (c.in_ok-wanted.ensures.names w).grows c.in_ok-target.ensures.visits.steps.grows w.of.mosaic in
+          rw result (source_bandless c.args.verify c.args.room w.of.mosaic.dataset.head.name w.value _ _ c.args.met.now c.count_and_resolve.new.met c.visit.new.met c.in_ok-wanted.wanted c.requires.linked (c.in_ok-wanted.ensures.names w) c.in_ok-target.target c.in_ok-target.ensures.visits ℕ _ c.in_err-check_samples.field-0.0 e.plain (e.told w.of.mosaic.dataset still));
+    }
 
 pub visit_source-returns : goal.visit_source-returns
-visit_source-returns g t c =
-    record { passes = λ w. source_passed c.args.verify c.args.room w.of.mosaic.dataset.head.name w.value _ _ c.args.met.now c.count_and_resolve.new.met c.visit.new.met c.in_ok-wanted.wanted c.requires.linked (c.in_ok-wanted.ensures.names w) c.in_ok-target.target c.in_ok-target.ensures.visits c.in_ok-check_band.ensures.told }
+visit_source-returns g t c = record {
+  passes = λ w.
+      let still = mosaic_still c.args.met.now c.count_and_resolve.new.met c.visit.new.met c.args.at.id (c.in_ok-wanted.ensures.names w).grows c.in_ok-target.ensures.visits.steps.grows w.of.mosaic in
+      source_passed c.args.verify c.args.room w.of.mosaic.dataset.head.name w.value _ _ c.args.met.now c.count_and_resolve.new.met c.visit.new.met c.in_ok-wanted.wanted c.requires.linked (c.in_ok-wanted.ensures.names w) c.in_ok-target.target c.in_ok-target.ensures.visits (c.in_ok-check_samples.ensures.told w.of.mosaic.dataset still);
+}
 
 pub visit_band-visit_source-requires-clause-linked : goal.visit_band-visit_source-requires-clause-linked
 visit_band-visit_source-requires-clause-linked g t c κs within = (c.loop-source.invariant c.requires.there).steps.goes.linked

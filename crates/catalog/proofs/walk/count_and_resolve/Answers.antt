@@ -17,5 +17,5 @@ returns c = record {
       let e = c.in_ok-count_source.ensures in
       let v = counted_source c.args.met.now c.count_source.new.self c.args.at.id c.args.at.band c.args.at.source e.ok w in
       let r = c.resolve_source.ensures in
-      names_resolved w.of.mosaic.dataset.head.name w.value c.args.met.now c.count_source.new.self c.resolve_source.result e.told e.ok (r.told v) (r.band v) r.plain;
+      names_resolved w.of.mosaic.dataset.head.name w.value c.args.met.now c.count_source.new.self c.resolve_source.result e.told e.ok (r.told v) (r.band v) (r.kept v) r.plain;
 }

@@ -1,6 +1,7 @@
 use Rattle.std.proofs.Common.{◌≡◌, ◌∙◌, ap, sym, inr, Ok, Err}
 use Rattle.std.specs.Prelude.{slice_get}
 use Rattle.std.proofs.lemmas.Option.{slice_get_within}
+use Rattle.vrt_profile.specs.Value.{is_plain}
 use Rattle.vrt_profile.specs.Values.{BandValue, SourceValue}
 use Rattle.catalog.specs.declared.faults.LimitKind.TheVariants as limits
 use Rattle.catalog.specs.declared.faults.WalkFault.TheVariants.{Limit}
@@ -28,6 +29,11 @@ pub returns-in-Ok-clause-band : goal.returns-in-Ok-clause-band
 returns-in-Ok-clause-band c = λ w.
     let same : c.get-source.result.now ≡ w.value = some_is (sym c.get-source.ensures.item ∙ ap (λ (b : BandValue). slice_get b.sources c.args.at.source) (c.behind-met.view_is ∙ c.band.ensures.band w.of) ∙ w.source_at) in
     ap (λ (s : SourceValue). s.band) (c.source.view_is ∙ same)
+
+pub returns-in-Ok-clause-kept : goal.returns-in-Ok-clause-kept
+returns-in-Ok-clause-kept c = λ w.
+    let same : c.get-source.result.now ≡ w.value = some_is (sym c.get-source.ensures.item ∙ ap (λ (b : BandValue). slice_get b.sources c.args.at.source) (c.behind-met.view_is ∙ c.band.ensures.band w.of) ∙ w.source_at) in
+    c.is_plain-in-Ok.ensures.plain ∙ ap is_plain same
 
 pub returns-in-Err-TooLong-clause-told : goal.returns-in-Err-TooLong-clause-told
 returns-in-Err-TooLong-clause-told c = λ w.
