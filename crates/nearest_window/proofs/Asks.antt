@@ -18,7 +18,7 @@ use Rattle.nearest_window.specs.declared.picture.Picture.{Picture}
 use Rattle.nearest_window.specs.declared.taking.Taking.TheVariants.{All}
 use Rattle.nearest_window.specs.Canvases.{IsAsked, IsIn, IsUnasked}
 use Rattle.nearest_window.specs.Heights.{height_at}
-use Rattle.nearest_window.specs.Shown.{IsPictureOf, IsSeenBy, IsUnseen, IsSourceOf}
+use Rattle.nearest_window.specs.Shown.{IsPictureOf, IsSeenBy, IsUnseen, IsSourceOf, TakesBand}
 use Rattle.nearest_window.specs.Taken.{place_at, IsLongAs}
 use Rattle.nearest_window.proofs.Covers.{unseen_column, unseen_line}
 
@@ -36,7 +36,7 @@ ends_below cat id d rect valid at within =
     (omega arith, omega arith)
 
 module _ (cat : List Dataset) (key : BlockKey) (number : ℕ) (s : SourceValue) (c : Canvas) (p q : Picture) (a : Asked) (of : IsSourceOf cat key number s) (seen : IsSeenBy cat key number s c.rect p) (known : IsPictureOf cat p)
-    (falls : height_at cat p.dataset < height_at cat key.dataset) (dataset : q.dataset ≡ p.dataset) (band : q.band ≡ p.band) (taking : q.taking ≡ All) (width : q.width ≡ p.width) (columns : q.columns ≡ p.columns) (height : q.height ≡ p.height) (lines : q.lines ≡ p.lines)
+    (takes : TakesBand cat s p) (falls : height_at cat p.dataset < height_at cat key.dataset) (dataset : q.dataset ≡ p.dataset) (band : q.band ≡ p.band) (taking : q.taking ≡ All) (width : q.width ≡ p.width) (columns : q.columns ≡ p.columns) (height : q.height ≡ p.height) (lines : q.lines ≡ p.lines)
     (to : q.to ≡ 0) (stride : q.stride ≡ p.width) (picture : a.picture ≡ q) (left : a.part.x ≡ c.rect.x + p.to) (top : a.part.y ≡ c.rect.y + p.top) (wide : a.part.w ≡ p.width) (high : a.part.h ≡ p.height) (room : length a.pixels.items ≡ a.part.w * a.part.h) where
   cut : (d : Dataset) → slice_get cat key.dataset ≡ Some d → (x y : ℕ) → IsIn c.rect x y → (IsIn a.part x y → ⊥) → cover_of s d.head.size (target_size cat d key.band number) x y ≡ None
   cut d at x y there out =
@@ -64,7 +64,7 @@ module _ (cat : List Dataset) (key : BlockKey) (number : ℕ) (s : SourceValue) 
       let f = known.picture in
       let positive = known.some in
       record {
-        picture = record { columns = subst (λ n. IsLongAs q.columns n) (sym width) (subst (λ cs. IsLongAs cs p.width) (sym columns) f.columns); lines = subst (λ n. IsLongAs q.lines n) (sym height) (subst (λ cs. IsLongAs cs p.height) (sym lines) f.lines); some = omega arith; inside = omega arith };
+        picture = record { columns = subst (λ n. IsLongAs q.columns n) (sym width) (subst (λ cs. IsLongAs cs p.width) (sym columns) f.columns); lines = subst (λ n. IsLongAs q.lines n) (sym height) (subst (λ cs. IsLongAs cs p.height) (sym lines) f.lines); some = omega arith; inside = omega arith; plain = taking };
         some = omega arith;
         dataset = known.dataset;
         at = subst (λ n. slice_get cat n ≡ Some known.dataset) (sym dataset) known.at;
@@ -89,6 +89,7 @@ module _ (cat : List Dataset) (key : BlockKey) (number : ℕ) (s : SourceValue) 
         to = ap (λ (p : Picture). p.to) picture ∙ to;
         stride = ap (λ (p : Picture). p.stride) picture ∙ stride ∙ sym wide;
         taking = ap (λ (p : Picture). p.taking) picture ∙ taking;
+        takes = λ d b at there. takes d b (subst (λ n. slice_get cat n ≡ Some d) (ap (λ (p : Picture). p.dataset) picture ∙ dataset) at) (subst (λ n. slice_get d.head.bands n ≡ Some b) (ap (λ (p : Picture). p.band) picture ∙ band) there);
         size = room;
         pixels = λ m d at x y. seen.pixels m d at x y ∙ ap (λ n. pixel_of m cat n p.band x y) (sym (ap (λ (p : Picture). p.dataset) picture ∙ dataset)) ∙ ap (λ n. pixel_of m cat a.picture.dataset n x y) (sym (ap (λ (p : Picture). p.band) picture ∙ band));
         across = λ d at k l. ap (λ n. axis_at (columns_of s d.head.size (target_size cat d key.band number)) (target_size cat d key.band number).w (n + k)) left ∙ (seen.seen d at).across.there k (omega arith) ∙ ap (λ cs. Some (place_at cs k)) (sym (ap (λ (p : Picture). p.columns) picture ∙ columns));

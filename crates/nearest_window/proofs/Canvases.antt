@@ -12,13 +12,15 @@ use borrow.Rule.Slice.PartMut.{put_mid, mid_of}
 use Rattle.geotransform.specs.Types.{clamp, is_in}
 use Rattle.geotransform.specs.declared.types.PixelType.{PixelType}
 use Rattle.geotransform.proofs.Ranges.{clamp_kept}
-use Rattle.mosaic_sources.specs.Pixels.{IsPixel}
+use Rattle.vrt_profile.specs.Values.{SourceValue}
+use Rattle.mosaic_sources.specs.Pixels.{IsPixel, IsPixelOf}
 use Rattle.mosaic_sources.proofs.Following.{is_pixel}
 use Rattle.nearest_window.specs.declared.merging.Place.{Place}
 use Rattle.nearest_window.specs.declared.taking.Taking.{Taking}
+use Rattle.nearest_window.specs.declared.taking.Taking.TheVariants.{All, Except, By}
 use Rattle.nearest_window.specs.Canvases.{blank, filled_with, stands, IsSame, IsUnder, IsMerged}
 use Rattle.nearest_window.specs.Painted.{IsPainted, placed}
-use Rattle.nearest_window.specs.Taken.{taken_by}
+use Rattle.nearest_window.specs.Taken.{TakesPixel, taken_by}
 use Rattle.nearest_window.proofs.Painted.{painted_part, placed_in, placed_before, placed_after}
 
 -- a pixel stands
@@ -27,6 +29,22 @@ not_blank v h = grind (arith, ints)
 
 pub pixel_stands : (v : ℤ) → IsPixel v → filled_with v ≡ Some v
 pixel_stands v h = let high = h.greatest in ap (λ b. cond b None (Some v)) (not_blank v (omega (arith, ints)))
+
+-- a pixel of a source is one of a band's type
+pub wide_pixel : (source : SourceValue) (v : ℤ) → IsPixelOf source v → IsPixel v
+wide_pixel source v h = h.wide
+
+-- each pixel that may be taken is one of a band's type
+pub any_pixel : (taking : Taking) (v : ℤ) → TakesPixel taking v → IsPixel v
+any_pixel All v h = h
+any_pixel (Except nodata) v h = h
+any_pixel (By source) v h = h.wide
+
+-- where each pixel is taken as it is, each of a band's type may be
+pub plain_pixel : (taking : Taking) (v : ℤ) → taking ≡ All → IsPixel v → TakesPixel taking v
+plain_pixel All v is h = h
+plain_pixel (Except nodata) v is h = let no : ⊥ = cc in absurd no
+plain_pixel (By source) v is h = let no : ⊥ = cc in absurd no
 
 pub in_itself : (kind : PixelType) (v : ℤ) → is_in kind v ≡ true → clamp kind v ≡ v
 in_itself kind v h = clamp_kept kind v h

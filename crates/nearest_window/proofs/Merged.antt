@@ -11,12 +11,11 @@ use Rattle.geotransform.specs.declared.types.Rect.{Rect}
 use Rattle.band_blocks.specs.Blocks.{BlockView, block_view}
 use Rattle.nearest_window.specs.declared.canvas.Canvas.{Canvas}
 use Rattle.nearest_window.specs.declared.merging.Place.{Place}
-use Rattle.mosaic_sources.specs.Pixels.{IsPixel}
 use Rattle.nearest_window.specs.declared.taking.Taking.{Taking}
 use Rattle.nearest_window.specs.declared.taking.Taking.TheVariants as takings
 use Rattle.nearest_window.specs.Canvases.{filled_with, stands, stands_at, IsSame, IsCanvas, IsIn, IsInside, IsAt, IsMerged, IsTaken, IsPackedOf}
-use Rattle.nearest_window.specs.Taken.{taken_by}
-use Rattle.nearest_window.proofs.Canvases.{stands_there, pixel_stands, open_replicate}
+use Rattle.nearest_window.specs.Taken.{TakesPixel, taken_by}
+use Rattle.nearest_window.proofs.Canvases.{any_pixel, stands_there, pixel_stands, open_replicate}
 
 some_mapped : (kind : PixelType) (a : Option ℤ) → is_some (option_map (clamp kind) a) ≡ is_some a
 some_mapped kind (Some v) = refl
@@ -124,13 +123,13 @@ packed_of c value began xs kind same size stood kept closed b packed = record {
 
 -- a canvas on which nothing was filled, and then all, by pixels as they are
 
-module _ (c c' : Canvas) (taking : Taking) (pixels : List ℤ) (part : Rect) (canvas : IsCanvas c) (inside : IsInside c.rect part) (size : length pixels ≡ part.w * part.h) (near : All IsPixel pixels) (none : c.samples.items ≡ []) (wide : part.w ≡ c.rect.w) (high : part.h ≡ c.rect.h)
+module _ (c c' : Canvas) (taking : Taking) (pixels : List ℤ) (part : Rect) (canvas : IsCanvas c) (inside : IsInside c.rect part) (size : length pixels ≡ part.w * part.h) (near : All (TakesPixel taking) pixels) (none : c.samples.items ≡ []) (wide : part.w ≡ c.rect.w) (high : part.h ≡ c.rect.h)
     (plain : taking ≡ takings.All) (same_rect : c'.rect ≡ c.rect) (same_kind : c'.kind ≡ c.kind) (samples : c'.samples.items ≡ pixels) (filled : c'.filled ≡ length pixels) where
   all_size : length pixels ≡ c.rect.w * c.rect.h
   all_size = size ∙ ap (λ n. n * part.h) wide ∙ ap (λ n. c.rect.w * n) high
 
   pixel_at : (k : ℕ) → k < length pixels → stands pixels k ≡ Some (get_or pixels k (pos 0))
-  pixel_at k p = stands_there pixels k p ∙ pixel_stands (get_or pixels k (pos 0)) (near k (pos 0) p)
+  pixel_at k p = stands_there pixels k p ∙ pixel_stands (get_or pixels k (pos 0)) (any_pixel taking (get_or pixels k (pos 0)) (near k (pos 0) p))
 
   pub swapped_canvas : IsCanvas c'
   swapped_canvas = record {

@@ -27,9 +27,10 @@ use Rattle.nearest_window.specs.Painted.{IsPainted, IsFilled, in_columns}
 use Rattle.nearest_window.specs.Pictures.{from_block}
 use Rattle.nearest_window.specs.Lanes.{IsUsed, LaneView}
 use Rattle.nearest_window.specs.Right.{AreBlocks}
-use Rattle.mosaic_sources.specs.Pixels.{IsPixel}
-use Rattle.mosaic_sources.proofs.Following.{is_pixel}
-use Rattle.nearest_window.specs.Shown.{IsPictureOf, IsInBand, IsPartOf, IsTyped, AreTyped, IsWhole}
+use Rattle.vrt_profile.specs.Values.{SourceValue}
+use Rattle.mosaic_sources.specs.Pixels.{IsPixelOf}
+use Rattle.mosaic_sources.proofs.Following.{is_pixel_of}
+use Rattle.nearest_window.specs.Shown.{IsPictureOf, IsInBand, IsPartOf, IsTyped, AreTyped, IsWhole, TakesBand}
 use Rattle.nearest_window.specs.Taken.{place_at, taken_by}
 use Rattle.nearest_window.proofs.Filled.{filled_by, filled_none, filled_columns, filled_rows, all_of}
 use Rattle.nearest_window.proofs.Keys.{is_block_held}
@@ -129,12 +130,12 @@ there [] i p = absurd (omega arith)
 there (x ∷ xs) zero p = (x, refl)
 there (x ∷ xs) (suc i) p = there xs i (omega arith)
 
--- each sample of a picture that is all of its rows is a pixel
-pub pixels_near : (cat : List Dataset) (p : Picture) (xs : List ℤ) (n : ℕ) → IsPictureOf cat p → p.taking ≡ takings.All → p.to ≡ 0 → p.stride ≡ p.width → length xs ≡ n → AreTyped cat p n xs → All IsPixel xs
-pixels_near cat p xs n of all to stride size typed =
-    all_of IsPixel xs
+-- each sample of a picture that is all of its rows is a pixel of a source that takes its band
+pub pixels_near : (cat : List Dataset) (s : SourceValue) (p : Picture) (xs : List ℤ) (n : ℕ) → IsPictureOf cat p → TakesBand cat s p → p.taking ≡ takings.All → p.to ≡ 0 → p.stride ≡ p.width → length xs ≡ n → AreTyped cat p n xs → All (IsPixelOf s) xs
+pixels_near cat s p xs n of takes all to stride size typed =
+    all_of (IsPixelOf s) xs
     (λ k q.
     let some = of.picture.some in
     let below = mod_below k p.stride some in
     let b = there of.dataset.head.bands p.band of.band in
-    is_pixel b.0.kind (get_or xs k (pos 0)) (typed all k (omega arith) (omega arith) (omega arith) of.dataset b.0.kind of.at (ap (λ o. option_map (λ band. band.kind) o) b.1)))
+    is_pixel_of s b.0.kind (get_or xs k (pos 0)) (takes of.dataset b.0 of.at b.1) (typed all k (omega arith) (omega arith) (omega arith) of.dataset b.0.kind of.at (ap (λ o. option_map (λ band. band.kind) o) b.1)))

@@ -20,7 +20,7 @@ use Rattle.nearest_window.specs.declared.merging.Place.{Place}
 use Rattle.nearest_window.specs.declared.taking.Taking.{Taking}
 use Rattle.nearest_window.specs.declared.taking.Taking.TheVariants.{All}
 use Rattle.nearest_window.specs.Heights.{height_at}
-use Rattle.nearest_window.specs.Shown.{IsPictureOf}
+use Rattle.nearest_window.specs.Shown.{IsPictureOf, TakesBand}
 use Rattle.nearest_window.specs.Taken.{place_at, taken_by}
 
 -- what marks a sample that is open: no sample of any type
@@ -114,6 +114,7 @@ pub record IsAsked (cat : List Dataset) (key : BlockKey) (number : ℕ) (s : Sou
   pub to : a.picture.to ≡ 0
   pub stride : a.picture.stride ≡ a.part.w
   pub taking : a.picture.taking ≡ All
+  pub takes : TakesBand cat s a.picture
   pub size : length a.pixels.items ≡ a.part.w * a.part.h
   pub pixels : (m : Files) (d : Dataset) → slice_get cat key.dataset ≡ Some d → (x y : ℕ) → target_pixel m cat d key.band number x y ≡ pixel_of m cat a.picture.dataset a.picture.band x y
   pub across : (d : Dataset) → slice_get cat key.dataset ≡ Some d → (k : ℕ) → k < a.part.w → axis_at (columns_of s d.head.size (target_size cat d key.band number)) (target_size cat d key.band number).w (a.part.x + k) ≡ Some (place_at a.picture.columns k)

@@ -1,7 +1,7 @@
 // Samples of a rectangle of a mosaic, which are filled from the last source to the first.
 ghost use Rattle.std.specs.Prelude.{◌≡◌, ◌⊎◌, ℕ, ◌+◌, ◌*◌, ◌<◌, ◌≤◌, ◌^◌, List, [], None, true, is_some, length, All, IfOk, OnOk, IsTrue};
-ghost use Rattle.mosaic_sources.specs.Pixels.{IsPixel};
 ghost use Rattle.nearest_window.specs.Canvases.{IsCanvas, IsInside, IsPackedOf, IsTaken, stands};
+ghost use Rattle.nearest_window.specs.Taken.{TakesPixel};
 
 use crate::merging::{Place, close, filled_from, take_rows};
 use crate::taking::{BLANK, Taking};
@@ -76,7 +76,7 @@ impl Canvas {
         requires size { length self.old.samples.items ≡ self.old.rect.w * self.old.rect.h }
         requires part { IsInside self.old.rect part }
         requires pixels { length pixels.now ≡ part.w * part.h }
-        requires near { All IsPixel pixels.now }
+        requires near { All (TakesPixel taking.now) pixels.now }
         ensures canvas { IsCanvas self.new }
         ensures taken { IsTaken taking.now pixels.now part self.old self.new }
     {
@@ -143,7 +143,7 @@ impl Canvas {
         requires canvas { IsCanvas self.old }
         requires part { IsInside self.old.rect part }
         requires pixels { length pixels.items ≡ part.w * part.h }
-        requires near { All IsPixel pixels.items }
+        requires near { All (TakesPixel taking.now) pixels.items }
         ensures canvas { OnOk result (IsCanvas self.new) }
         ensures taken { OnOk result (IsTaken taking.now pixels.items part self.old self.new) }
     {

@@ -1,7 +1,7 @@
 // Taking pixels where samples are open.
 ghost use Rattle.std.specs.Prelude.{◌≡◌, ℕ, ◌+◌, ◌*◌, ◌<◌, ◌≤◌, ◌^◌, length, All, true, is_some, unwrap_or, pos, slice_index_or};
-ghost use Rattle.mosaic_sources.specs.Pixels.{IsPixel};
 ghost use Rattle.nearest_window.specs.Canvases.{IsMerged, IsUnder, filled_with};
+ghost use Rattle.nearest_window.specs.Taken.{TakesPixel};
 
 use crate::taking::{BLANK, Taking};
 use geotransform::{PixelType, Sample};
@@ -20,7 +20,7 @@ pub struct Place {
 // Takes the pixels from `base` on where the samples are open.
 fn take_each(taking: &Taking, kind: PixelType, pixels: &[Sample], base: usize, out: &mut [Sample])
     requires pixels { base + length out.old ≤ length pixels.now }
-    requires near { All IsPixel pixels.now }
+    requires near { All (TakesPixel taking.now) pixels.now }
     ensures taken { IsUnder taking.now kind pixels.now base out.old out.new }
 {
     for at in 0..out.len() {
@@ -40,7 +40,7 @@ pub fn take_rows(
     requires few { place.top + place.rows < 2 ^ 32 }
     requires low { (place.top + place.rows) * place.stride ≤ length out.old }
     requires pixels { length pixels.now ≡ place.columns * place.rows }
-    requires near { All IsPixel pixels.now }
+    requires near { All (TakesPixel taking.now) pixels.now }
     ensures taken { IsMerged taking.now kind pixels.now place place.rows out.old out.new }
 {
     for row in 0..place.rows {

@@ -1,6 +1,6 @@
 -- The walk from the outer mosaic meets it, the mosaic of the tiles, and the tiles.
-use Rattle.std.proofs.Common.{◌≡◌, ◌∙◌, ap, sym, refl, cond, ℕ, zero, suc, pos, ◌+◌, ◌*◌, ◌<◌, Bool, false, List, [], ◌∷◌, ◌++◌, length, arith, Some, None, Result, Ok, Err}
-use Rattle.std.specs.Prelude.{ok_or, nat_lt}
+use Rattle.std.proofs.Common.{◌≡◌, ◌∙◌, ap, sym, refl, cond, ℕ, zero, suc, pos, ◌+◌, ◌*◌, ◌<◌, Bool, true, false, List, [], ◌∷◌, ◌++◌, length, arith, Some, None, Result, Ok, Err}
+use Rattle.std.specs.Prelude.{◌||◌, ok_or, nat_lt}
 use Rattle.std.specs.FinMap.{get}
 use Rattle.lists_and_answers.specs.Answers.{◌>>=◌}
 use Rattle.outside.specs.Names.{extension_of, ending_of, last_part, kind_of, folder_part}
@@ -9,15 +9,18 @@ use Rattle.outside.specs.Paths.{normal}
 use Rattle.vrt_profile.specs.Values.{Rectangle, SourceValue, DocumentValue}
 use Rattle.vrt_profile.specs.Built.{pixels_at}
 use Rattle.vrt_profile.specs.Spelled.{spelled}
-use Rattle.catalog.specs.Dataset.{band_count}
+use Rattle.catalog.specs.Dataset.{band_at, band_count}
 use Rattle.catalog.specs.Drivers.{Dataset, dataset_of}
 use Rattle.catalog.specs.Heads.{kind_in, document_in, vrt_in, dataset_by, dataset_in, resolved}
 use Rattle.catalog.specs.Mosaics.{is_among}
-use Rattle.catalog.specs.Walk.{Met, number_of, dataset_named, sources_in, one_more_source, bands_of, has_band, again_below, again_sources, again, visit_source, visit_sources, visit, met_in, walked}
+use Rattle.catalog.specs.Walk.{Met, number_of, dataset_named, sources_in, one_more_source, bands_of, band_named, is_narrow_band, has_band, has_samples, unless_wide, again_below, again_sources, again, visit_source, visit_sources, visit, met_in, walked}
 use Rattle.catalog.specs.declared.driver.Content.TheVariants.{Mosaic}
 use Rattle.catalog.specs.declared.driver.Found.{Found}
 use Rattle.catalog.specs.declared.faults.WalkFault.{WalkFault}
-use Rattle.catalog.specs.declared.faults.WalkFault.TheVariants.{Absent, SourceBand}
+use Rattle.catalog.specs.declared.faults.WalkFault.TheVariants.{Absent, Malformed, SourceBand}
+use Rattle.catalog.specs.declared.faults.Bad.TheVariants as bad
+use Rattle.vrt_profile.specs.declared.fault.VrtFault.TheVariants as vrt
+use Rattle.vrt_profile.specs.Value.{is_plain}
 use Rattle.catalog.specs.declared.kind.Kind.{Kind}
 use Rattle.catalog.specs.declared.kind.Kind.TheVariants.{Raw, Vrt}
 use Rattle.catalog.proofs.Again.{again_begins}
@@ -118,6 +121,24 @@ has_first ds name d there one =
     ap (λ o. cond (nat_lt (bands_of o) 1) (Err (SourceBand name 1)) (Ok tt)) there
     ∙ ap (λ c. cond (nat_lt c 1) (Err (SourceBand name 1)) (Ok tt)) one
 
+or_right : (a b : Bool) → b ≡ true → a || b ≡ true
+or_right true b is = refl
+or_right false b is = is
+
+-- and a source takes its samples, which have at most 32 bits
+takes_first : (ds : List Dataset) (base name : List ℕ) (d : Dataset) (plain : Bool) → dataset_named ds name ≡ Some d → band_count d.head ≡ 1 → is_narrow_band (band_at d.head 0) ≡ true → has_samples ds base name 1 plain ≡ Ok tt
+takes_first ds base name d plain there one narrow =
+    ap (λ r. r >>= λ t. unless_wide ds base name 1 plain) (has_first ds name d there one)
+    ∙ ap (λ o. cond (plain || is_narrow_band (band_named o 1)) (Ok tt) (Err (Malformed base (bad.Vrt vrt.Unsupported)))) there
+    ∙ ap (λ b. cond b (Ok tt) (Err (Malformed base (bad.Vrt vrt.Unsupported)))) (or_right plain (is_narrow_band (band_at d.head 0)) narrow)
+
+tile_narrow : (n t : ℕ) → is_narrow_band (band_at (tile_dataset n t).head 0) ≡ true
+tile_narrow n t = refl
+
+inner_narrow : (n : ℕ) → is_narrow_band (band_at (inner_dataset n).head 0) ≡ true
+unfolding inner_document
+inner_narrow n = refl
+
 tile_banded : (n t : ℕ) → band_count (tile_dataset n t).head ≡ 1
 tile_banded n t = refl
 
@@ -147,7 +168,7 @@ module _ (n : ℕ) (m : Files) (verify : Bool) where
       let met : IsFirst 14 above_tiles (state ds (k + 1)) (tile_name t) Raw = record { kind_is = kind; off = tile_off t meets.tile; shallow = refl; fresh = meets.fresh } in
       let visited : to_tile (state ds (k + 1)) (tile_name t) ≡ Ok (state (ds ++ tile_dataset n t ∷ []) (k + 1)) = visit_file m verify 14 above_tiles (state ds (k + 1)) (tile_name t) Raw (tile_dataset n t) met meets.few (sym (read_by m verify (tile_name t) Raw kind) ∙ reads) refl in
       source_fine to_tile inner_name (state ds k) (tile_source n t) (tile_name t) (state (ds ++ tile_dataset n t ∷ []) (k + 1)) meets.counted (tile_resolved n t meets.tile) visited
-      (has_first (ds ++ tile_dataset n t ∷ []) (tile_name t) (tile_dataset n t) meets.there (tile_banded n t))
+      (takes_first (ds ++ tile_dataset n t ∷ []) inner_name (tile_name t) (tile_dataset n t) (is_plain (tile_source n t)) meets.there (tile_banded n t) (tile_narrow n t))
 
   -- the sources of the mosaic of the tiles
   tiles_visited : ((t : ℕ) → t < 4 → dataset_in m verify (tile_name t) ≡ Ok (tile_dataset n t))
@@ -227,9 +248,9 @@ module _ (n : ℕ) (m : Files) (verify : Bool)
     inners_visited =
         let whole = inner_source (2 * n) (pixels_at (pos 0) (pos 0) (pos (2 * n)) (pos (2 * n))) in
         let part = adding 1000 (inner_source n (pixels_at (pos n) (pos n) (pos n) (pos n))) in
-        let banded = has_first (outer_datasets n) inner_name (inner_dataset n) refl (inner_banded n) in
-        let once = source_fine (to_inner n m verify) outer_name (state (outer_dataset n ∷ []) 0) whole inner_name (state (outer_datasets n) 5) refl (inner_resolved (2 * n) (pixels_at (pos 0) (pos 0) (pos (2 * n)) (pos (2 * n)))) inner_visited banded in
-        let twice = source_fine (to_inner n m verify) outer_name (state (outer_datasets n) 5) part inner_name (state (outer_datasets n) 6) refl (adding_resolved 1000 n (pixels_at (pos n) (pos n) (pos n) (pos n))) inner_met banded in
+        let takes = λ (plain : Bool). takes_first (outer_datasets n) outer_name inner_name (inner_dataset n) plain refl (inner_banded n) (inner_narrow n) in
+        let once = source_fine (to_inner n m verify) outer_name (state (outer_dataset n ∷ []) 0) whole inner_name (state (outer_datasets n) 5) refl (inner_resolved (2 * n) (pixels_at (pos 0) (pos 0) (pos (2 * n)) (pos (2 * n)))) inner_visited (takes (is_plain whole)) in
+        let twice = source_fine (to_inner n m verify) outer_name (state (outer_datasets n) 5) part inner_name (state (outer_datasets n) 6) refl (adding_resolved 1000 n (pixels_at (pos n) (pos n) (pos n) (pos n))) inner_met (takes (is_plain part)) in
         ap (visit_sources (to_inner n m verify) outer_name (state (outer_dataset n ∷ []) 0)) (outer_sources_are n)
         ∙ sources_then (to_inner n m verify) outer_name (state (outer_dataset n ∷ []) 0) (state (outer_datasets n) 5) whole (part ∷ []) (Ok (state (outer_datasets n) 6)) once
         (sources_then (to_inner n m verify) outer_name (state (outer_datasets n) 5) (state (outer_datasets n) 6) part [] (Ok (state (outer_datasets n) 6)) twice refl)

@@ -42,8 +42,9 @@ pub returns-clause-asked : goal.returns-clause-asked
 returns-clause-asked c =
     let seen = rw c.in-Some.is at c.in_ok-picture.ensures.seen in
     let known = rw c.in-Some.is at c.in_ok-picture.ensures.picture in
+    let takes = rw c.in-Some.is at c.in_ok-picture.ensures.takes in
     let falls = rw c.in-Some.is at c.in_ok-picture.ensures.falls in
     let o = c.picture_alone.ensures in
     let room : length c.in_ok-pixels.pixels.items ≡ c.in-Some.picture.width * c.in-Some.picture.height = first_of (search rules, grind (arith, common_steps)) in
-    asked_is c.args.cat.now c.args.source.key c.args.source.number c.args.source.source.now c.args.canvas.now c.in-Some.picture c.picture_alone.result _ c.requires.source seen known falls
+    asked_is c.args.cat.now c.args.source.key c.args.source.number c.args.source.source.now c.args.canvas.now c.in-Some.picture c.picture_alone.result _ c.requires.source seen known takes falls
     o.dataset o.band o.taking o.width o.columns o.height o.lines o.to o.stride refl refl refl refl refl room

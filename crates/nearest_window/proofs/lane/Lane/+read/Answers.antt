@@ -1,9 +1,10 @@
 use Rattle.std.proofs.Common.{◌≡◌, List, ◌+◌, ◌-◌, ◌*◌, ◌<◌, ◌≤◌, ◌++◌, Some, refl, sym, ap, ◌∙◌, subst, arith, rules, length, take, drop, pos, false, to_z, of_z}
 use Rattle.std.specs.Prelude.{slice_get, unwrap_or}
 use Rattle.std.specs.List.{All}
-use Rattle.mosaic_sources.specs.Pixels.{IsPixel}
+use Rattle.mosaic_sources.specs.Pixels.{IsPixelOf}
 use Rattle.std.proofs.Math.Nat.{mul-le-mul, mul_comm}
 use Rattle.std.proofs.Math.Seq.{take-append_seam}
+use Rattle.std.proofs.lemmas.List.Elements.{All-weaker}
 use mir.Syntax.{w128}
 use borrow.Rule.Slice.PartMut.{put_mid}
 use Rattle.outside.specs.Outside.{Files}
@@ -16,7 +17,7 @@ use Rattle.nearest_window.specs.Heights.{height_at}
 use Rattle.nearest_window.specs.Right.{IsReady, Serves, slack_of, state_of}
 use Rattle.nearest_window.specs.Painted.{IsPainted, first, in_columns}
 use Rattle.nearest_window.specs.Pictures.{from_block}
-use Rattle.nearest_window.specs.Taken.{place_at}
+use Rattle.nearest_window.specs.Taken.{place_at, TakesPixel}
 use Rattle.nearest_window.specs.Shown.{shown, AreTyped, IsTyped, IsShown, IsSourceOf}
 use Rattle.nearest_window.proofs.Keys.{held_made}
 use Rattle.nearest_window.proofs.Steps.{ready_then, serves_refl, serves_trans, serves_keep, serves_used}
@@ -126,8 +127,9 @@ paint-take-requires-clause-near g t c =
     let size : length c.paint_picture.new.out ≡ c.in-Some.asked.picture.height * c.in-Some.asked.picture.stride =
     kept ∙ ap length c.as_mut_slice.ensures.value ∙ asked.size ∙ mul_comm c.in-Some.asked.part.w c.in-Some.asked.part.h
     ∙ ap (λ n. n * c.in-Some.asked.part.w) (sym asked.height) ∙ ap (λ n. c.in-Some.asked.picture.height * n) (sym asked.stride) in
-    subst (All IsPixel) (sym whole)
-    (pixels_near c.args.cat.now c.in-Some.asked.picture c.paint_picture.new.out (c.in-Some.asked.picture.height * c.in-Some.asked.picture.stride) asked.picture asked.taking asked.to (asked.stride ∙ sym asked.width) size c.in_ok-paint_picture.ensures.typed)
+    subst (All (TakesPixel c.taking_of-taking.result)) (sym whole)
+    (All-weaker (IsPixelOf c.args.source.source.now) (TakesPixel c.taking_of-taking.result) (λ v p. c.taking_of-taking.ensures.pixels v p) c.paint_picture.new.out
+    (pixels_near c.args.cat.now c.args.source.source.now c.in-Some.asked.picture c.paint_picture.new.out (c.in-Some.asked.picture.height * c.in-Some.asked.picture.stride) asked.picture asked.takes asked.taking asked.to (asked.stride ∙ sym asked.width) size c.in_ok-paint_picture.ensures.typed))
 
 pub paint-returns-in_default-clause-taken : goal.paint-returns-in_default-clause-taken
 paint-returns-in_default-clause-taken g t c = λ d at.
