@@ -4,7 +4,7 @@ _jirovamby() {
     local word=$2 before=$3 options='--config --blocks --workers'
     case $before in
         -of) mapfile -t COMPREPLY < <(compgen -W 'EHdr DTED SRTMHGT AAIGrid VRT' -- "$word") && return ;;
-        -ot) mapfile -t COMPREPLY < <(compgen -W 'Byte UInt16 Int16 UInt32 Int32' -- "$word") && return ;;
+        -ot) mapfile -t COMPREPLY < <(compgen -W 'Byte Int8 UInt16 Int16 UInt32 Int32 UInt64 Int64' -- "$word") && return ;;
         -resolution) mapfile -t COMPREPLY < <(compgen -W 'highest lowest average user' -- "$word") && return ;;
         --config) mapfile -t COMPREPLY < <(compgen -W 'DTED_VERIFY_CHECKSUM' -- "$word") && return ;;
         -a_nodata | -srcnodata | -vrtnodata) mapfile -t COMPREPLY < <(compgen -W 'none' -- "$word") && return ;;
