@@ -14,5 +14,5 @@ loop-i-preserved g c =
     let r = c.requires.within in
     let a = c.loop-i.auto.out in
     let room = c.requires.room c.loop-i.i t in
-    let cell = get_or-map g.T.Cell.value c.args.cells.now (c.args.at + c.loop-i.i) c.index-cells-at.result (pos 0) (omega arith) ∙ ap g.T.Cell.value (sym c.index-cells-at.is) ∙ sym c.widen.ensures in
+    let cell = get_or-map g.T.Cell.value c.args.cells.now (c.args.at + c.loop-i.i) c.index-cells-at.result (pos 0) (omega arith) ∙ ap g.T.Cell.value (sym c.index-cells-at.is) ∙ sym c.widen.ensures.value in
     spread_more (map g.T.Cell.value c.args.cells.now) c.args.out.now c.loop-i.out c.args.at c.loop-i.i c.args.start c.args.stride _ c.requires.some (omega arith) (e ∙ sym cell) c.loop-i.invariant
