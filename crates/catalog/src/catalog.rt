@@ -236,8 +236,9 @@ impl Catalog {
 /// Limit with the kind Files and the value 65537 where it would be one dataset too many; those of its own
 /// files. Then for each source of a mosaic: Limit with the kind Sources and the value 262145, Limit with
 /// the kind Name where the text of its name is longer than 4,096 bytes, the refusals of what it names,
-/// and SourceBand where that lacks the band. The first refusal counts, and after it the catalog is as
-/// before. `verify` asks for the sums of DTED records.
+/// SourceBand where that lacks the band, and Malformed with Unsupported where the source scales the band,
+/// or has a table for it, and its samples have more than 32 bits. The first refusal counts, and after it
+/// the catalog is as before. `verify` asks for the sums of DTED records.
 pub fn open_all<F: Folder>(
     alloc: Global,
     cat: &mut Catalog,

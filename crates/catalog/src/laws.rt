@@ -33,7 +33,8 @@ pub fn mosaic_pixels_are_of_sources()
     ensures block { (m : Files) (cat : List Dataset) (id band block : ℕ) (d : Dataset) (doc : DocumentValue) (b : BandValue) (sizes : ℕ → Size) (pixels : ℕ → ℕ → ℕ → ℤ) → IsCatalog cat → slice_get cat id ≡ Some d → document_of d.content ≡ Some doc → slice_get doc.bands band ≡ Some b → AreOfTargets m cat d band sizes pixels → block_pixels m cat id band block ≡ row_by_row (mosaic_pixel b doc.size sizes pixels) (block_rect_of d.head block) }
 {}
 
-/// Each source of a mosaic names a dataset of the catalog, which has the band that the source takes.
+/// Each source of a mosaic names a dataset of the catalog, which has the band that the source takes, with samples that
+/// it takes.
 pub fn sources_have_targets()
     ensures there { (cat : List Dataset) (id band source : ℕ) (d : Dataset) (s : SourceValue) → IsCatalog cat → slice_get cat id ≡ Some d → source_at d band source ≡ Some s → IsTaken cat d band source s }
 {}
