@@ -216,7 +216,7 @@ static VALUES: [Row<'static>; 22] = [
     (
         "gdalinfo v.vrt",
         0,
-        "Driver: VRT\nFiles: v.vrt\n       u.bsq\n       u.hdr\nSize is 1, 1\nBand 1 Block=1x1 Type=UInt64\n  NoData Value=7\n",
+        "Driver: VRT\nFiles: v.vrt\n       u.bsq\nSize is 1, 1\nBand 1 Block=128x128 Type=UInt64\n  NoData Value=7\n",
         "",
     ),
 ];
@@ -238,43 +238,43 @@ static REFUSED: [Row<'static>; 13] = [
         "ERROR 4: w.vrt: malformed vrt (5)\n",
     ),
     (
-        "gdalinfo o.vrt",
+        "gdallocationinfo -valonly o.vrt 0 0",
         1,
         "",
         "ERROR 4: o.vrt: malformed vrt (5)\n",
     ),
     (
-        "gdalinfo l.vrt",
+        "gdallocationinfo -valonly l.vrt 0 0",
         1,
         "",
         "ERROR 4: l.vrt: malformed vrt (5)\n",
     ),
     (
-        "gdalinfo nested.vrt",
+        "gdallocationinfo -valonly nested.vrt 0 0",
         1,
         "",
         "ERROR 4: w.vrt: malformed vrt (5)\n",
     ),
     (
-        "gdalinfo second.vrt",
+        "gdallocationinfo -valonly second.vrt 0 0",
         1,
         "",
         "ERROR 4: second.vrt: malformed vrt (5)\n",
     ),
     (
-        "gdalinfo over.vrt",
+        "gdallocationinfo -valonly over.vrt 0 0",
         1,
         "",
         "ERROR 4: none.bsq: no such file\n",
     ),
     (
-        "gdalinfo two.vrt",
+        "gdallocationinfo -valonly two.vrt 0 0",
         1,
         "",
         "ERROR 5: u.bsq: no band 2\n",
     ),
     (
-        "gdalinfo then.vrt",
+        "gdallocationinfo -valonly then.vrt 0 0",
         1,
         "",
         "ERROR 4: then.vrt: malformed vrt (5)\n",
@@ -423,7 +423,7 @@ NODATA         18446744073709551615
         ],
         &[(
             "out.asc",
-            b"ncols 1\nnrows 1\nxllcorner 0\nyllcorner 0\ncellsize 1\n-128\n",
+            b"ncols        1\nnrows        1\nxllcorner    0\nyllcorner    0\ncellsize     1\n-128\n",
         )],
     ),
     (
