@@ -1,0 +1,15 @@
+use Rattle.std.proofs.Common.{◌≡◌, ◌∙◌, ap, sym, subst}
+use Rattle.std.specs.List.{All}
+use Rattle.std.proofs.lemmas.List.{map-id}
+use Rattle.dted_records.specs.Written.{IsElevation, record_bytes}
+use Rattle.band_blocks.proofs.packed.Packed.encode_record.Goals as goal
+
+pub encode_elevations-requires-clause-range : goal.encode_elevations-requires-clause-range
+encode_elevations-requires-clause-range c =
+    let same : c.deref.result.now ≡ c.args.self.now = c.deref.ensures.value ∙ sym (map-id c.self.inside.cells.items) ∙ c.self.view_is in
+    subst (All IsElevation) (sym same) c.requires.range
+
+pub returns : goal.returns
+returns c =
+    let same : c.deref.result.now ≡ c.args.self.now = c.deref.ensures.value ∙ sym (map-id c.self.inside.cells.items) ∙ c.self.view_is in
+    record { bytes = c.encode_elevations.ensures.bytes ∙ ap (record_bytes c.args.line) same }
