@@ -1,5 +1,5 @@
 -- The head that is written is read again.
-use Rattle.std.proofs.Common.{◌≡◌, ℕ, ℤ, pos, negsuc, ◌*◌, ◌^◌, ◌<◌, ◌≤◌, Bool, true, false, cond, ◌++◌, length, Option, Some, None, Ok, Err, refl, ap, ◌∙◌, sym, subst, arith, unsigned_abs}
+use Rattle.std.proofs.Common.{◌≡◌, ℕ, ℤ, pos, ◌*◌, ◌^◌, ◌<◌, ◌≤◌, Bool, true, false, cond, ◌++◌, length, Option, Some, None, Ok, Err, refl, ap, ◌∙◌, sym, subst, arith}
 use Rattle.std.proofs.Math.Nat.{mul-div_cancel_left}
 use Rattle.std.proofs.lemmas.Nat.{mul-le}
 use Rattle.std.specs.Prelude.{codes, nat_lt, ◌&&◌, int_lt, IfSome, ◌+ℤ◌}
@@ -12,7 +12,6 @@ use Rattle.geotransform.specs.Types.{is_in, is_signed}
 use Rattle.geotransform.proofs.Ranges.{bytes_bounds, is_near}
 use Rattle.geotransform.proofs.RoundTrip.{short_again, whole_again, decimal_word, signed_word, short_word}
 use Rattle.std.proofs.lemmas.Bool.Decides.{nat_tests}
-use Rattle.std.proofs.lemmas.Int.{ints}
 use Rattle.geotransform.specs.declared.types.PixelType.{PixelType}
 use Rattle.esri_hdr.specs.declared.parts.HdrFault.TheVariants.{BadValue, Limit}
 use Rattle.esri_hdr.specs.declared.parts.RawGeo.{RawGeo}

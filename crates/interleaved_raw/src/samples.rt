@@ -1,7 +1,7 @@
 // Samples and their bytes.
 ghost use Rattle.std.specs.Prelude.{◌≡◌, ◌<◌, ◌≤◌, ◌⊎◌, ℕ, ◌+◌, ◌-◌, ◌*◌, ◌/◌, ◌%◌, ◌^◌, List, length, take, drop, map, true, pos, get_or};
 ghost use Rattle.std.specs.List.{range_with_len, All};
-ghost use Rattle.std.specs.Int.{w8, w16, w32, w64, cast_signed, cast_unsigned};
+ghost use Rattle.std.specs.Int.{w16, w32, cast_signed, cast_unsigned};
 ghost use Rattle.geotransform.specs.Types.{is_in};
 ghost use Rattle.esri_hdr.specs.Head.{Head, sample_len};
 ghost use Rattle.lists_and_answers.specs.Places.{StandsAt};

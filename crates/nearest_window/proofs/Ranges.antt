@@ -6,7 +6,6 @@ use Rattle.std.proofs.lemmas.Bool.{cases_lt}
 use Rattle.std.proofs.lemmas.Nat.{mod_below}
 use borrow.Rule.Slice.PartMut.{put_mid, mid_of}
 use Rattle.geotransform.specs.Types.{is_in}
-use Rattle.geotransform.specs.declared.types.PixelType.{PixelType}
 use Rattle.geotransform.proofs.Ranges.{zero_in}
 use Rattle.geotransform.specs.declared.types.Rect.{Rect}
 use Rattle.outside.specs.Outside.{Files}

@@ -1,5 +1,5 @@
 -- The outputs of plans: their sizes, and the samples that they can hold.
-use Rattle.std.proofs.Common.{◌≡◌, ℕ, ℤ, ◌<◌, ◌≤◌, Bool, true, false, not, List, length, refl, ap, sym, ◌∙◌, subst, arith, pos, negsuc, Option, Some, None}
+use Rattle.std.proofs.Common.{◌≡◌, ℕ, ℤ, ◌<◌, ◌≤◌, Bool, true, false, List, length, refl, ap, sym, ◌∙◌, subst, arith, pos, negsuc, Option, Some, None}
 use Rattle.std.specs.Prelude.{is_some, IsSome, slice_get, get_or}
 use Rattle.std.specs.List.{All}
 use Rattle.std.proofs.lemmas.Int.{ints}

@@ -1,8 +1,5 @@
-use Rattle.std.proofs.Common.{◌∙◌, ap, sym}
-use Rattle.std.specs.Prelude.{◌||◌}
 use Rattle.std.proofs.lemmas.Option.{slice_get_within}
-use Rattle.catalog.specs.Walk.{band_named, is_narrow_band}
-use Rattle.catalog.proofs.Found.{found, named_at}
+use Rattle.catalog.proofs.Found.{found}
 use Rattle.catalog.proofs.walk.takes_samples.Goals as goal
 
 pub is_narrow-requires : goal.is_narrow-requires

@@ -1,4 +1,4 @@
-use Rattle.std.proofs.Common.{ap, ◌∙◌, sym, map, arith}
+use Rattle.std.proofs.Common.{sym, map, arith}
 use Rattle.geotransform.specs.Types.{clamp}
 use Rattle.band_blocks.proofs.Cells.{clamped_packed, shown_list}
 use Rattle.band_blocks.proofs.packed.Packed.clamp_all.Goals as goal
