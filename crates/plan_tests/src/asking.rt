@@ -41,6 +41,7 @@ pub enum Word {
     Nothing,
     Remove,
     Number(i64),
+    Unsigned(u64),
 }
 
 /// Where the window must lie.
@@ -158,6 +159,7 @@ fn nodata_of(word: Word) -> NodataWord
         Word::Nothing => NodataWord::Absent,
         Word::Remove => NodataWord::Remove,
         Word::Number(n) => NodataWord::Number(n as i128),
+        Word::Unsigned(n) => NodataWord::Number(n as i128),
     }
 }
 

@@ -6,7 +6,7 @@ use geotransform::{PixelType, PlanFault};
 use std::test::*;
 
 /// Types and NODATA that are asked for.
-const NUMBERS: [Row<'static>; 20] = [
+const NUMBERS: [Row<'static>; 30] = [
     (
         CELL,
         (
@@ -274,6 +274,158 @@ const NUMBERS: [Row<'static>; 20] = [
             Inside::Anywhere,
         ),
         Want::Refused(PlanFault::Unfit),
+    ),
+    (
+        FIVE,
+        (
+            Out::Raw,
+            "o.bil",
+            &[],
+            Seen::All,
+            None,
+            Word::Number(9_223_372_036_854_775_807),
+            Some(PixelType::Int64),
+            Inside::Anywhere,
+        ),
+        Want::Planned(
+            (5, 1),
+            (0, 0, 5, 1),
+            &[(0, PixelType::Int64, Some(9_223_372_036_854_775_807))],
+        ),
+    ),
+    (
+        FIVE,
+        (
+            Out::Raw,
+            "o.bil",
+            &[],
+            Seen::All,
+            None,
+            Word::Unsigned(9_223_372_036_854_775_808),
+            Some(PixelType::Int64),
+            Inside::Anywhere,
+        ),
+        Want::Refused(PlanFault::Unfit),
+    ),
+    (
+        FIVE,
+        (
+            Out::Raw,
+            "o.bil",
+            &[],
+            Seen::All,
+            None,
+            Word::Number(-9_223_372_036_854_775_808),
+            Some(PixelType::Int64),
+            Inside::Anywhere,
+        ),
+        Want::Planned(
+            (5, 1),
+            (0, 0, 5, 1),
+            &[(0, PixelType::Int64, Some(-9_223_372_036_854_775_808))],
+        ),
+    ),
+    (
+        FIVE,
+        (
+            Out::Raw,
+            "o.bil",
+            &[],
+            Seen::All,
+            None,
+            Word::Unsigned(18_446_744_073_709_551_615),
+            Some(PixelType::UInt64),
+            Inside::Anywhere,
+        ),
+        Want::Planned(
+            (5, 1),
+            (0, 0, 5, 1),
+            &[(0, PixelType::UInt64, Some(18_446_744_073_709_551_615))],
+        ),
+    ),
+    (
+        FIVE,
+        (
+            Out::Raw,
+            "o.bil",
+            &[],
+            Seen::All,
+            None,
+            Word::Number(-1),
+            Some(PixelType::UInt64),
+            Inside::Anywhere,
+        ),
+        Want::Refused(PlanFault::Unfit),
+    ),
+    (
+        FIVE,
+        (
+            Out::Raw,
+            "o.bil",
+            &[],
+            Seen::All,
+            None,
+            Word::Number(-128),
+            Some(PixelType::Int8),
+            Inside::Anywhere,
+        ),
+        Want::Planned((5, 1), (0, 0, 5, 1), &[(0, PixelType::Int8, Some(-128))]),
+    ),
+    (
+        FIVE,
+        (
+            Out::Raw,
+            "o.bil",
+            &[],
+            Seen::All,
+            None,
+            Word::Number(128),
+            Some(PixelType::Int8),
+            Inside::Anywhere,
+        ),
+        Want::Refused(PlanFault::Unfit),
+    ),
+    (
+        FIVE,
+        (
+            Out::Grid,
+            "o.asc",
+            &[],
+            Seen::All,
+            None,
+            Word::Nothing,
+            Some(PixelType::UInt64),
+            Inside::Anywhere,
+        ),
+        Want::Refused(PlanFault::Unfit),
+    ),
+    (
+        FIVE,
+        (
+            Out::Grid,
+            "o.asc",
+            &[],
+            Seen::All,
+            None,
+            Word::Nothing,
+            Some(PixelType::Int64),
+            Inside::Anywhere,
+        ),
+        Want::Refused(PlanFault::Unfit),
+    ),
+    (
+        FIVE,
+        (
+            Out::Grid,
+            "o.asc",
+            &[],
+            Seen::All,
+            None,
+            Word::Nothing,
+            Some(PixelType::Int8),
+            Inside::Anywhere,
+        ),
+        Want::Planned((5, 1), (0, 0, 5, 1), &[(0, PixelType::Int8, None)]),
     ),
     (
         THREE,
