@@ -8,7 +8,7 @@ ghost use Rattle.ascii_grid.specs.Values.{is_same, is_body_start, side_in, coord
 use crate::faults::GridFault;
 use crate::parts::{Coordinate, Side, Step, Value};
 use geotransform::decimal::{digits_at, sign_at};
-use geotransform::{PixelType, Sample, holds, is_decimal, read_decimal, read_number, read_whole};
+use geotransform::{PixelType, holds, is_decimal, read_decimal, read_number, read_whole};
 
 /// Whether two texts differ at most in the case of ASCII letters.
 pub fn is_same(a: &[u8], b: &[u8]) -> bool
@@ -127,14 +127,14 @@ fn capped(digits: &[u8]) -> u64
 }
 
 // The number with this sign and these digits, where it is one of the band.
-fn signed_value(negative: bool, digits: &[u8]) -> Option<Sample>
+fn signed_value(negative: bool, digits: &[u8]) -> Option<i32>
     ensures { result ≡ (if is_value (signed negative (number digits.now)) then Some (signed negative (number digits.now)) else None) }
 {
-    let n = capped(digits) as i128;
+    let n = capped(digits) as i64;
     if negative && n <= 2_147_483_648 {
-        Some(-n)
+        Some(-n as i32)
     } else if !negative && n <= 2_147_483_647 {
-        Some(n)
+        Some(n as i32)
     } else {
         None
     }
@@ -163,11 +163,11 @@ fn plain_number(text: &[u8]) -> Option<u32>
 
 /// The value of a token of the body.
 #[tactic(auto, unfolding(crate::specs::Values::value_in))]
-pub fn value_in(at: u64, text: &[u8]) -> Result<Sample, GridFault>
+pub fn value_in(at: u64, text: &[u8]) -> Result<i32, GridFault>
     ensures { result ≡ value_in at text.now }
 {
     if let Some(n) = plain_number(text) {
-        return Ok(n as Sample);
+        return Ok(n as i32);
     }
     let (negative, rest) = sign_at(text);
     let (digits, end) = digits_at(rest);
