@@ -83,7 +83,7 @@ word_tokens (x ∷ xs) tail at s t =
 
 -- values
 
-value_from : (at : ℕ) (text ds : List ℕ) (negative : Bool) → sign_at text ≡ (negative, ds) → AreDigits ds → 0 < length ds → length text ≤ 64 → is_value (signed negative (number ds)) ≡ true → value_in at text ≡ Ok (signed negative (number ds))
+pub value_from : (at : ℕ) (text ds : List ℕ) (negative : Bool) → sign_at text ≡ (negative, ds) → AreDigits ds → 0 < length ds → length text ≤ 64 → is_value (signed negative (number ds)) ≡ true → value_in at text ≡ Ok (signed negative (number ds))
 unfolding value_in
 value_from at text ds negative sign digits some short int =
     let parts : digits_at (sign_at text).1 ≡ (ds, []) = ap (λ s. digits_at s.1) sign ∙ ap digits_at (sym (append-nil ds)) ∙ digits_again ds [] digits refl in

@@ -7,7 +7,7 @@ ghost use Rattle.ascii_grid.specs.Row.{value_or_zero, put, reading, row_ended, r
 
 use crate::open::Open;
 use crate::tokens::{dark_len, is_white};
-use crate::values::value_in;
+use crate::values::{value_at, value_in};
 use std::marker::Model;
 
 /// What was read of a row so far: how many samples are filled, the token that is open, and whether an
@@ -59,8 +59,9 @@ impl RowState {
         self.held.pass();
     }
 
-    // Reads a whole token, where none is open, and a byte of white space behind it.
-    fn add_whole(&mut self, token: &[u8], out: &mut [i32])
+    // Reads a whole token of this value, where none is open, and a byte of white space behind it.
+    fn add_whole(&mut self, token: &[u8], value: i32, out: &mut [i32])
+        requires value { value ≡ value_or_zero token.now }
         requires filled { self.old.filled ≤ length out.old }
         requires some { 0 < length token.now }
         requires few { length token.now ≤ 64 }
@@ -71,7 +72,7 @@ impl RowState {
         ensures room { self.new.filled ≤ length out.new }
         ensures size { length out.new ≡ length out.old }
     {
-        self.filled = put(token, self.filled, out);
+        self.filled = put_value(value, self.filled, out);
         self.held.pass_token(token.len());
     }
 
@@ -88,9 +89,14 @@ impl RowState {
         ensures size { length out.new ≡ length out.old }
     {
         if !self.held.is_open() {
+            if let Some((n, value)) = value_at(bytes) {
+                self.add_whole(&bytes[..n], value, out);
+                return n + 1;
+            }
             let n = dark_len(bytes);
             if n > 0 && n <= 64 && n < bytes.len() {
-                self.add_whole(&bytes[..n], out);
+                let token = &bytes[..n];
+                self.add_whole(token, value_or_zero(token), out);
                 return n + 1;
             }
         }
@@ -194,6 +200,21 @@ fn value_or_zero(text: &[u8]) -> i32
     value_in(0, text).unwrap_or(0)
 }
 
+// Puts a value into the row, where there is room.
+fn put_value(value: i32, filled: usize, out: &mut [i32]) -> usize
+    requires { filled ≤ length out.old }
+    ensures row { (token : List ℕ) → value ≡ value_or_zero token → record { filled = result; out = out.new } ≡ put (record { filled = filled; out = out.old }) token }
+    ensures room { result ≤ length out.new }
+    ensures size { length out.new ≡ length out.old }
+{
+    if filled < out.len() {
+        out[filled] = value;
+        filled + 1
+    } else {
+        filled
+    }
+}
+
 // Puts the value of a token into the row, where there is room.
 fn put(token: &[u8], filled: usize, out: &mut [i32]) -> usize
     requires { filled ≤ length out.old }
@@ -201,12 +222,7 @@ fn put(token: &[u8], filled: usize, out: &mut [i32]) -> usize
     ensures room { result ≤ length out.new }
     ensures size { length out.new ≡ length out.old }
 {
-    if filled < out.len() {
-        out[filled] = value_or_zero(token);
-        filled + 1
-    } else {
-        filled
-    }
+    put_value(value_or_zero(token), filled, out)
 }
 
 // Puts the value of the open token into the row, where there is one and there is room.
