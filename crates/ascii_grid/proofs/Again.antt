@@ -94,16 +94,6 @@ value_from at text ds negative sign digits some short int =
     let pick : Bool → ℤ → Result ℤ GridFault = λ a v. cond a (cond (is_value v) (Ok v) (Err Limit)) (cond (is_decimal text) (Err (NotInteger at)) (Err (BadToken at))) in
     ap (λ a. pick a (whole_value text)) whole ∙ ap (pick true) value ∙ ap (λ b. cond b (Ok (signed negative (number ds))) (Err Limit)) int
 
-small_value : (n : ℕ) → n < 2147483648 → is_value (pos n) ≡ true
-small_value n small = grind (arith, nat_tests, ints)
-
--- digits alone that write a small number
-pub digits_value : (at : ℕ) (text : List ℕ) → AreDigits text → 0 < length text → length text ≤ 64 → number text < 2147483648 → value_in at text ≡ Ok (pos (number text))
-digits_value at text digits some short small =
-    let sign : sign_at text ≡ (false, text) = ap sign_at (sym (append-nil text)) ∙ sign_none text [] digits some ∙ ap (λ (x : List ℕ). (false, x)) (append-nil text) in
-    let int : is_value (pos (number text)) ≡ true = small_value (number text) small in
-    value_from at text text false sign digits some short int
-
 small_pos : (n : ℕ) → is_value (pos n) ≡ true → n < 2 ^ 31
 small_pos n int = grind (arith, nat_tests, ints)
 

@@ -143,35 +143,11 @@ fn signed_value(negative: bool, digits: &[u8]) -> Option<i32>
     }
 }
 
-// The number that a text of digits alone writes, where it is small and its text short.
-fn plain_number(text: &[u8]) -> Option<u32>
-    ensures digits { IfSome result (λ n. list_all is_ascii_digit text.now ≡ true) }
-    ensures value { IfSome result (λ n. n ≡ number text.now) }
-    ensures small { IfSome result (λ n. n < 2147483648) }
-    ensures some { IfSome result (λ n. 0 < length text.now) }
-    ensures short { IfSome result (λ n. length text.now ≤ 64) }
-{
-    if text.is_empty() || text.len() > 64 {
-        return None;
-    }
-    let mut n = 0u32;
-    for c in text {
-        if !c.is_ascii_digit() || n > 200_000_000 {
-            return None;
-        }
-        n = n * 10 + u32::from(*c - b'0');
-    }
-    Some(n)
-}
-
 /// The value of a token of the body.
 #[tactic(auto, unfolding(crate::specs::Values::value_in))]
 pub fn value_in(at: u64, text: &[u8]) -> Result<i32, GridFault>
     ensures { result ≡ value_in at text.now }
 {
-    if let Some(n) = plain_number(text) {
-        return Ok(n as i32);
-    }
     let (negative, rest) = sign_at(text);
     let (digits, end) = digits_at(rest);
     if text.len() <= 64 && !digits.is_empty() && is_whole_end(end) {

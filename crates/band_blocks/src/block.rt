@@ -89,9 +89,9 @@ impl Block {
 
     // A block of Int32 whose samples these cells are.
     pub(crate) fn of_ints(cells: Vec<i32>) -> Block
-        requires few { length cells < 2 ^ 32 }
-        requires range { AreIn Int32 cells }
-        ensures samples { result ≡ block_view Int32 cells }
+        requires few { length cells.items < 2 ^ 32 }
+        requires range { AreIn Int32 cells.items }
+        ensures samples { result ≡ block_view Int32 cells.items }
     {
         Block {
             cells: Cells::Ints32(cells),
