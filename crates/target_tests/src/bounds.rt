@@ -1,6 +1,6 @@
 // How often a draft is written and read: never in a window where the pool has room for all blocks, and whole lines are
-// never read back. A target's counter of written blocks has no bytes in a run: what a run shows of it are the calls that
-// write the blocks, and those that add lines to a grid.
+// never read back. A target's counter of written blocks has no bytes in a run: what a run shows of it are the calls
+// that write the blocks, and those that add lines to a grid.
 use crate::cells::CELL;
 use crate::fixtures::{
     Asked, Ended, Form, Order, Story, Window, folder_of, ordered, tried, written,
@@ -193,7 +193,8 @@ type Row<'a> = (Asked, &'a [Window], u16, u64, &'a [u64]);
 
 // All that is written of a pool of all blocks are the blocks that the windows meet; of a pool of one block there is one
 // once more for each time that another one comes. A window writes at most the blocks that it meets, and none of a pool
-// of all blocks; `close` at most the blocks of the pool. A line of 65,000 bytes takes at most three calls, any other block one.
+// of all blocks; `close` at most the blocks of the pool. A line of 65,000 bytes takes at most three calls, any other
+// block one.
 const MOST: [Row; 14] = [
     (BANDS, &LINES, 1, 6, &[2, 1, 1, 2, 1]),
     (BANDS, &LINES, 6, 6, &[0, 0, 0, 0, 6]),
@@ -232,8 +233,8 @@ fn writes_before(
     Ok(if put { Some(folder.writes()) } else { None })
 }
 
-// How often an output's draft is written by its first so many windows, and by all of them and `close` where there are no
-// more.
+// How often an output's draft is written by its first so many windows, and by all of them and `close` where there are
+// no more.
 fn writes_by(
     alloc: Global,
     asked: &Asked,

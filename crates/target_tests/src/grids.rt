@@ -1,8 +1,7 @@
 // Grids whose lines come in strips of several heights, number by number.
-use crate::fixtures::{Asked, Ended, Story, Window, folder_of, has, ordered, written};
+use crate::fixtures::{Asked, Ended, Order, Story, Window, folder_of, has, ordered, written};
 use crate::pixels::{INT32, pixel, samples_in};
 use crate::texts::SQUARE;
-use geotransform::Sample;
 use std::alloc::{AllocError, Global};
 use std::test::*;
 
@@ -77,25 +76,21 @@ fn text_of(alloc: Global, story: Story<'_>) -> Result<String, AllocError> {
 }
 
 // Whether a grid of these windows is the text of its pixels.
-fn is_shown(
-    alloc: Global,
-    windows: &[Window],
-    samples: &[Sample],
-    capacity: u16,
-) -> Result<bool, Fail> {
-    let order = ordered(alloc, &TALL)?;
-    let story = Story { windows, samples };
+fn is_shown(alloc: Global, order: &Order, capacity: u16, story: Story<'_>) -> Result<bool, Fail> {
     let text = text_of(alloc, story)?;
     let mut folder = folder_of(alloc, &[], &[])?;
-    let closed = written(alloc, &mut folder, &order, capacity, story) == Ended::Closed;
+    let closed = written(alloc, &mut folder, order, capacity, story) == Ended::Closed;
     Ok(closed && has(alloc, &folder, "h.asc", text.as_bytes())?)
 }
 
 // The first of these grids that is another text, or how many there are.
 fn first_unshown(alloc: Global) -> Result<usize, Fail> {
+    let order = ordered(alloc, &TALL)?;
     let samples = samples_in(alloc, INT32, 70)?;
+    let samples = samples.as_slice();
     for (at, (windows, capacity)) in ROWS.iter().enumerate() {
-        if !is_shown(alloc, windows, samples.as_slice(), *capacity)? {
+        let story = Story { windows, samples };
+        if !is_shown(alloc, &order, *capacity, story)? {
             return Ok(at);
         }
     }
