@@ -195,7 +195,7 @@ type Row<'a> = (Asked, &'a [Window], u16, u64, &'a [u64]);
 // once more for each time that another one comes. A window writes at most the blocks that it meets, and none of a pool
 // of all blocks; `close` at most the blocks of the pool. A line of 65,000 bytes takes at most three calls, any other
 // block one.
-const MOST: [Row; 14] = [
+const MOST: [Row; 9] = [
     (BANDS, &LINES, 1, 6, &[2, 1, 1, 2, 1]),
     (BANDS, &LINES, 6, 6, &[0, 0, 0, 0, 6]),
     (BANDS_BSQ, &LINES, 1, 6, &[2, 1, 1, 2, 1]),
@@ -203,13 +203,16 @@ const MOST: [Row; 14] = [
     (BANDS, &COLUMNS, 6, 6, &[0, 0, 0, 0, 6]),
     (BANDS_BIP, &COLUMNS, 1, 8, &[2, 2, 2, 2, 1]),
     (BANDS_BIP, &COLUMNS, 6, 6, &[0, 0, 0, 0, 6]),
+    (LONG, &LONG_LINES, 1, 6, &[3, 3, 3]),
+    (LONG, &LONG_PARTS, 2, 6, &[0, 0, 0, 6]),
+];
+
+const MOST_OF_FORMS: [Row; 5] = [
     (TILE, &TILE_LINES, 1, 4, &[2, 1, 1, 1]),
     (TILE, &TILE_PARTS, 1, 42, &[40, 2, 1]),
     (TILE, &TILE_PARTS, 1201, 40, &[0, 0, 40]),
     (CELL, &CELL_PARTS, 1, 124, &[121, 3, 1]),
     (CELL, &CELL_PARTS, 121, 121, &[0, 0, 121]),
-    (LONG, &LONG_LINES, 1, 6, &[3, 3, 3]),
-    (LONG, &LONG_PARTS, 2, 6, &[0, 0, 0, 6]),
 ];
 
 // The first so many of an output's windows, or all of them.
@@ -257,51 +260,47 @@ fn rises(before: u64, after: Option<u64>, most: u64) -> bool {
     }
 }
 
-// Whether each window writes at most so often, and `close` too.
-fn is_each_within(
-    alloc: Global,
-    asked: &Asked,
-    story: Story<'_>,
-    capacity: u16,
-    each: &[u64],
-) -> Result<bool, Fail> {
-    let mut before = 0;
-    for (at, most) in each.iter().enumerate() {
-        let after = writes_by(alloc, asked, story, capacity, at.saturating_add(1))?;
-        if !rises(before, after, *most) {
-            return Ok(false);
-        }
-        before = after.unwrap_or(0);
-    }
-    Ok(each.len() == story.windows.len().saturating_add(1))
-}
-
-// Whether an output is written, within its bounds.
+// Whether each window writes at most so often, and `close` too, and all of them at least once and at most so often.
 fn is_within(
     alloc: Global,
     (asked, windows, capacity, most, each): Row<'_>,
     samples: &[Sample],
 ) -> Result<bool, Fail> {
     let story = Story { windows, samples };
-    let all = writes(alloc, &asked, story, capacity)?;
-    let within = all != Some(0) && rises(0, all, most);
-    Ok(within && is_each_within(alloc, &asked, story, capacity, each)?)
+    let mut before = 0;
+    for (at, bound) in each.iter().enumerate() {
+        let after = writes_by(alloc, &asked, story, capacity, at.saturating_add(1))?;
+        if !rises(before, after, *bound) {
+            return Ok(false);
+        }
+        before = after.unwrap_or(0);
+    }
+    Ok(each.len() == windows.len().saturating_add(1) && 0 < before && before <= most)
 }
 
 // The first of these that is written more often, or never, or how many there are.
-fn first_beyond(alloc: Global) -> Result<usize, Fail> {
+fn first_beyond(alloc: Global, rows: &[Row<'_>]) -> Result<usize, Fail> {
     let samples = samples_in(alloc, (0, 100), MOST_SAMPLES)?;
-    for (at, row) in MOST.iter().enumerate() {
+    for (at, row) in rows.iter().enumerate() {
         if !is_within(alloc, *row, samples.as_slice())? {
             return Ok(at);
         }
     }
-    Ok(MOST.len())
+    Ok(rows.len())
 }
 
 #[test]
 fn drafts_are_written_within_the_bound(rt: HostRuntime) -> Result<(), Fail> {
-    assert_eq!(rt; first_beyond(rt.alloc())?, MOST.len());
+    assert_eq!(rt; first_beyond(rt.alloc(), &MOST)?, MOST.len());
+    Ok(())
+}
+
+#[test]
+fn tiles_and_cells_are_written_within_the_bound(rt: HostRuntime) -> Result<(), Fail> {
+    assert_eq!(rt;
+        first_beyond(rt.alloc(), &MOST_OF_FORMS)?,
+        MOST_OF_FORMS.len()
+    );
     Ok(())
 }
 

@@ -158,17 +158,27 @@ const SQUARE_CALLS: [Call; 11] = [
     (Method::Publish, 2, 4),
 ];
 
-/// What is asked for, its windows, what the names hold where the data is published and the header isn't, and calls
-/// that fail; a file that has no header is never published alone.
-type Row<'a> = (Asked, &'a [Window], &'a [File<'a>], &'a [Call]);
+// The calls of an output of a form.
+fn calls_of(form: Form) -> &'static [Call] {
+    match form {
+        Form::Raw(_) => &PAIR_CALLS,
+        Form::Cell => &CELL_CALLS,
+        Form::Tile => &TILE_CALLS,
+        Form::Grid => &SQUARE_CALLS,
+    }
+}
+
+/// What is asked for, its windows, and what the names hold where the data is published and the header isn't; a file
+/// that has no header is never published alone.
+type Row<'a> = (Asked, &'a [Window], &'a [File<'a>]);
 
 const ROWS: [Row; 6] = [
-    (PAIR, &PAIR_WINDOWS, &BIL_FILES, &PAIR_CALLS),
-    (PAIR_BIP, &PAIR_WINDOWS, &BIP_FILES, &PAIR_CALLS),
-    (PAIR_BSQ, &PAIR_WINDOWS, &BSQ_FILES, &PAIR_CALLS),
-    (CELL, &CELL_WINDOWS, &[], &CELL_CALLS),
-    (TILE, &TILE_WINDOWS, &[], &TILE_CALLS),
-    (SQUARE, &SQUARE_WINDOWS, &[], &SQUARE_CALLS),
+    (PAIR, &PAIR_WINDOWS, &BIL_FILES),
+    (PAIR_BIP, &PAIR_WINDOWS, &BIP_FILES),
+    (PAIR_BSQ, &PAIR_WINDOWS, &BSQ_FILES),
+    (CELL, &CELL_WINDOWS, &[]),
+    (TILE, &TILE_WINDOWS, &[]),
+    (SQUARE, &SQUARE_WINDOWS, &[]),
 ];
 
 // How far an output came: to its target, to its windows, to its first file, to its second one, to its end.
@@ -218,7 +228,7 @@ fn stage_at(
 
 // Where the calls fail one after another, the stages come in their order and none is left out; the first of the
 // calls that fails otherwise, or None.
-fn wrong_call(alloc: Global, (asked, windows, published, _): Row<'_>) -> Result<Option<u64>, Fail> {
+fn wrong_call(alloc: Global, (asked, windows, published): Row<'_>) -> Result<Option<u64>, Fail> {
     let order = ordered(alloc, &asked)?;
     let last = if published.is_empty() { 2 } else { 3 };
     let mut reached = 0;
@@ -249,26 +259,22 @@ fn each_call_may_fail(rt: HostRuntime) -> Result<(), Fail> {
     Ok(())
 }
 
-// The first of an output's calls whose failing leads elsewhere, or how many there are.
-fn first_elsewhere(
-    alloc: Global,
-    (asked, windows, published, calls): Row<'_>,
-) -> Result<usize, Fail> {
+// The first of an output's calls whose failing leads elsewhere, or None.
+fn wrong_method(alloc: Global, (asked, windows, published): Row<'_>) -> Result<Option<Call>, Fail> {
     let order = ordered(alloc, &asked)?;
-    for (at, (method, number, stage)) in calls.iter().enumerate() {
+    for (method, number, stage) in calls_of(asked.form) {
         let failing = Failing::Of(*method, *number);
         if stage_at(alloc, &order, windows, published, failing)? != Some(*stage) {
-            return Ok(at);
+            return Ok(Some((*method, *number, *stage)));
         }
     }
-    Ok(calls.len())
+    Ok(None)
 }
 
 // The first of these outputs of which a call leads elsewhere, or how many there are.
 fn first_astray(alloc: Global) -> Result<usize, Fail> {
     for (at, row) in ROWS.iter().enumerate() {
-        let (_, _, _, calls) = row;
-        if first_elsewhere(alloc, *row)? != calls.len() {
+        if wrong_method(alloc, *row)?.is_some() {
             return Ok(at);
         }
     }
