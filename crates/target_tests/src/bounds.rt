@@ -403,3 +403,91 @@ fn lines_of_a_grid_are_added_in_their_windows(rt: HostRuntime) -> Result<(), Fai
     assert_eq!(rt; first_late(rt.alloc())?, ADDED.len());
     Ok(())
 }
+
+// Blocks of each band that are met once, in part, in another order than they stand in.
+const APART: [Window; 3] = [
+    (2, (2, 0), (1, 2), 0),
+    (0, (0, 0), (2, 2), 2),
+    (1, (1, 0), (2, 2), 6),
+];
+
+const TILE_APART: [Window; 3] = [
+    (0, (1200, 1200), (1, 1), 0),
+    (0, (0, 0), (1, 40), 1),
+    (0, (5, 40), (7, 3), 41),
+];
+
+const CELL_APART: [Window; 3] = [
+    (0, (43, 120), (78, 1), 0),
+    (0, (0, 0), (40, 2), 0),
+    (0, (40, 2), (3, 119), 0),
+];
+
+// Two lines in part, and the first one once more.
+const AGAIN: [Window; 2] = [(0, (0, 0), (1, 2), 0), (0, (1, 0), (1, 1), 2)];
+
+// Two columns in part, and the first one once more.
+const CELL_AGAIN: [Window; 2] = [(0, (0, 0), (2, 1), 0), (0, (0, 1), (1, 1), 2)];
+
+// Both lines of the first band, and then those of the second one, which leave for one another and in `close`.
+const SECOND: [Window; 2] = [(0, (0, 0), (3, 2), 0), (1, (0, 0), (3, 2), 6)];
+
+const FIRST: [Window; 1] = [(0, (0, 0), (3, 2), 0)];
+
+const FIRST_PART: [Window; 1] = [(0, (1, 0), (1, 2), 0)];
+
+const LOST: Ended = Ended::Refused(TargetFault::FolderFault, true);
+
+const UNPUBLISHED: Ended = Ended::NotClosed(0, TargetFault::FolderFault);
+
+/// What is written through a pool of one block, its windows, and how it ends where its first read fails, its second
+/// one, and so on.
+type Read<'a> = (Asked, &'a [Window], &'a [Ended]);
+
+// A block that wasn't written before isn't read, and one that was is read where it comes back. Where samples of other
+// bands stand between those of a line, they are read before it leaves, if one of them was written before.
+const READS: [Read; 12] = [
+    (BANDS, &APART, &[Ended::Closed]),
+    (BANDS_BSQ, &APART, &[Ended::Closed]),
+    (TILE, &TILE_APART, &[Ended::Closed]),
+    (CELL, &CELL_APART, &[Ended::Closed]),
+    (BANDS, &AGAIN, &[LOST, Ended::Closed]),
+    (BANDS_BSQ, &AGAIN, &[LOST, Ended::Closed]),
+    (TILE, &AGAIN, &[LOST, Ended::Closed]),
+    (CELL, &CELL_AGAIN, &[LOST, Ended::Closed]),
+    (BANDS_BIP, &AGAIN, &[LOST]),
+    (BANDS_BIP, &FIRST, &[Ended::Closed]),
+    (BANDS_BIP, &FIRST_PART, &[Ended::Closed]),
+    (BANDS_BIP, &SECOND, &[LOST, UNPUBLISHED, Ended::Closed]),
+];
+
+// Whether an output ends so where each of its reads fails in turn.
+fn is_ended(alloc: Global, asked: &Asked, story: Story<'_>, ends: &[Ended]) -> Result<bool, Fail> {
+    let mut all = true;
+    for (at, end) in ends.iter().enumerate() {
+        let failing = Failing::Of(Method::DraftRead, (at as u64).saturating_add(1));
+        if ended(alloc, asked, story, 1, failing)? != *end {
+            all = false;
+        }
+    }
+    Ok(all)
+}
+
+// The first of these that ends otherwise, or how many there are.
+fn first_otherwise(alloc: Global) -> Result<usize, Fail> {
+    let samples = samples_in(alloc, (0, 100), 400)?;
+    let samples = samples.as_slice();
+    for (at, (asked, windows, ends)) in READS.iter().enumerate() {
+        let story = Story { windows, samples };
+        if !is_ended(alloc, asked, story, ends)? {
+            return Ok(at);
+        }
+    }
+    Ok(READS.len())
+}
+
+#[test]
+fn blocks_that_were_not_written_are_not_read(rt: HostRuntime) -> Result<(), Fail> {
+    assert_eq!(rt; first_otherwise(rt.alloc())?, READS.len());
+    Ok(())
+}
