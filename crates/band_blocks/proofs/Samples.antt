@@ -11,6 +11,7 @@ use Rattle.geotransform.specs.Geo.{IsRaster}
 use Rattle.geotransform.specs.declared.types.PixelType.{PixelType}
 use Rattle.geotransform.specs.declared.types.Size.{Size}
 use Rattle.outside.specs.Outside.{Files}
+use Rattle.interleaved_raw.proofs.Order.{ends_within}
 use Rattle.dted_records.specs.Head as dted
 use Rattle.dted_records.specs.Places as dted_places
 use Rattle.dted_records.specs.Records.{point_of}
@@ -32,24 +33,38 @@ use Rattle.band_blocks.specs.declared.key.PixelKey.{PixelKey}
 use Rattle.band_blocks.specs.Contents.{calls_in, content_calls, calls_of, most_calls, kind_of}
 use Rattle.band_blocks.specs.Keys.{IsKeyOf, IsPixelKeyOf}
 use Rattle.band_blocks.specs.Open.{AreGood}
-use Rattle.band_blocks.specs.Samples.{HasPlaces, HasSample, IsDirect, IsOfType}
+use Rattle.band_blocks.specs.Samples.{HasPlaces, HasSample, IsDirect, IsOfType, place_of, width_of}
 use Rattle.band_blocks.proofs.Corners.{number_below}
 use Rattle.band_blocks.proofs.Loads.{told_by, told_kind, some_one, driver_in, file_of, long_enough, calls_within}
 use Rattle.band_blocks.proofs.Opened.{good_found, some_file}
+use Rattle.band_blocks.proofs.Parts.{tile_long}
 
 -- each elevation ends within the bytes that a cell must have
-pub elevation_within : (h : dted.Head) (x y : ℕ) → x < h.lines → y < h.points → dted_places.record_of h x + point_of h y + 2 ≤ dted_places.needed_of h
+elevation_within : (h : dted.Head) (x y : ℕ) → x < h.lines → y < h.points → dted_places.record_of h x + point_of h y + 2 ≤ dted_places.needed_of h
 elevation_within h x y column line =
     let big : (x + 1) * dted_places.record_len h ≤ h.lines * dted_places.record_len h = mul-le-mul (omega arith) (omega arith) in
     let e : (x + 1) * dted_places.record_len h ≡ x * dted_places.record_len h + dted_places.record_len h = grind arith in
     omega arith
 
 -- each sample ends within the bytes of a tile
-pub item_within : (side x y : ℕ) → x < side → y < side → 2 * (y * side + x) + 2 ≤ 2 * (side * side)
+item_within : (side x y : ℕ) → x < side → y < side → 2 * (y * side + x) + 2 ≤ 2 * (side * side)
 item_within side x y column line =
     let big : (y + 1) * side ≤ side * side = mul-le-mul (omega arith) (omega arith) in
     let e : (y + 1) * side ≡ y * side + side = grind arith in
     omega arith
+
+-- the lines of a tile are few
+pub short_side : (driver : DriverHead) (side len : ℕ) → driver ≡ Hgt side → IsLongEnough driver len → side ≤ 4194304
+short_side driver side len is long =
+    let t = tile_long len side (subst (λ (d : DriverHead). IsLongEnough d len) is long) in
+    elim t.side_is [ inl small ↦ omega arith | inr large ↦ omega arith ]
+
+-- each sample ends within a file that is long enough
+pub sample_within : (driver : DriverHead) (band x y len : ℕ) → HasSample driver band x y → HasPlaces driver → IsLongEnough driver len → place_of driver band x y + width_of driver ≤ len
+sample_within (Raw h) band x y len there places long = let e = ends_within h band x y (record { band = there.0; column = there.1; line = there.2 }) in omega arith
+sample_within (Dted h) band x y len there places long = let e = elevation_within h x y there.0 there.1 in omega arith
+sample_within (Hgt side) band x y len there places long = let t = tile_long len side long in let e = item_within side x y there.0 there.1 in let n = t.long in omega arith
+sample_within (Ascii h) band x y len there places long = absurd places
 
 told_sample : (driver : DriverHead) (name : List ℕ) (band x y : ℕ) → band < length (head_told name driver).bands → x < (head_told name driver).size.w → y < (head_told name driver).size.h → HasSample driver band x y
 told_sample (Raw h) name band x y known column line = let bands = length-replicate h.bands (raw_band h) in (omega (arith, bands, known), column, line)
@@ -63,7 +78,7 @@ direct_known o x h places d is = subst IsDirect (sym (file_of o d x is h)) place
 
 -- it is a file
 pub direct_is_file : (c : Content) → IsDirect c → IsSome (driver_of c)
-direct_is_file (File h) direct = tt
+direct_is_file (File h) direct = refl
 direct_is_file (Mosaic d) direct = absurd direct
 
 -- the key of the block that a pixel lies in

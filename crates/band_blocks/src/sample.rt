@@ -85,12 +85,11 @@ fn item_place(side: u32, x: u32, y: u32) -> u64
 }
 
 // The place of the sample of a pixel.
-#[tactic(auto, using(crate::proofs::Parts::tile_long, crate::proofs::Samples::raw_within, crate::proofs::Samples::elevation_within, crate::proofs::Samples::item_within))]
 fn place_of(driver: &DriverHead, pixel: PixelKey) -> u64
     requires sample { HasSample driver.now pixel.band pixel.x pixel.y }
     requires places { HasPlaces driver.now }
+    requires long { (len : ℕ) × IsLongEnough driver.now len }
     ensures place { result ≡ place_of driver.now pixel.band pixel.x pixel.y }
-    ensures within { (len : ℕ) → IsLongEnough driver.now len → result + width_of driver.now ≤ len }
 {
     match driver {
         DriverHead::Raw(head) => position(head, pixel.band, pixel.x, pixel.y),
