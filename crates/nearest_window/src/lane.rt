@@ -251,10 +251,16 @@ impl<F: Folder> Lane<F> {
         ensures narrow { result ≡ true → picture.now.width ≡ 1 }
         ensures low { result ≡ true → picture.now.height ≡ 1 }
     {
-        if picture.width != 1 || picture.height != 1 {
+        if picture.width != 1 {
             return false;
         }
-        if !self.is_full() || self.holds(&piece.key) {
+        if picture.height != 1 {
+            return false;
+        }
+        if !self.is_full() {
+            return false;
+        }
+        if self.holds(&piece.key) {
             return false;
         }
         if !has_places(cat, piece.key.dataset) {
