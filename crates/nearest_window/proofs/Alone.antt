@@ -37,7 +37,7 @@ one_row f rect v narrow low is =
     subst (λ i. get_or (v ∷ []) i (pos 0) ≡ f (rect.x + i % rect.w) (rect.y + i / rect.w)) zero (is ∙ ap (λ x. f x rect.y) column ∙ ap (f (rect.x + 0 % rect.w)) line))
 
 -- a list of one sample of a type
-one_in : (kind : PixelType) (v : ℤ) → is_in kind v ≡ true → All (λ n. is_in kind n ≡ true) (v ∷ [])
+pub one_in : (kind : PixelType) (v : ℤ) → is_in kind v ≡ true → All (λ n. is_in kind n ≡ true) (v ∷ [])
 one_in kind v is = λ k d less. subst (λ i. is_in kind (get_or (v ∷ []) i d) ≡ true) (let zero : 0 ≡ k = omega arith in zero) is
 
 -- the block of a pixel that is read by itself

@@ -19,13 +19,13 @@ ghost use Rattle.nearest_window.specs.Taken.{place_at};
 
 use crate::asking::{Asked, asked_of};
 use crate::canvas::{Canvas, is_wanted};
-use crate::paint::paint_rows;
 use crate::missed::Missed;
+use crate::paint::paint_rows;
 use crate::parts::{Part, cost_of, part_of, pixel_rect};
 use crate::picture::Picture;
 use crate::places::Span;
 use crate::taking::taking_of;
-use crate::targets::{Area, Around, Numbered, Piece, band_of, block_around, mosaic_rect};
+use crate::targets::{Area, Around, Numbered, Piece, band_of, block_around, kind_of, mosaic_rect};
 use band_blocks::{
     Block, BlockKey, LoadFault, OpenFiles, PixelKey, Steps, has_places, load_block, load_sample,
 };
@@ -299,7 +299,7 @@ impl<F: Folder> Lane<F> {
             x: rect.x,
             y: rect.y,
         };
-        let kind = cat.head(key.dataset).bands.get(key.band as usize).kind;
+        let kind = kind_of(cat, key);
         let sample = load_sample(cat, folder, &mut self.files, pixel, loads)?;
         Ok(Block::pack(alloc, kind, &[sample])?)
     }

@@ -1,8 +1,10 @@
-use Rattle.std.proofs.Common.{◌≡◌, ◌≤◌, ◌∙◌, length, None, sym, subst}
+use Rattle.std.proofs.Common.{rules, ◌≡◌, ◌≤◌, ◌∙◌, length, None, true, sym, subst, to_z, of_z}
+use mir.Syntax.{w128}
+use Rattle.geotransform.specs.Types.{is_in}
 use Rattle.block_cache.specs.Entries.{held_at}
 use Rattle.nearest_window.specs.Lanes.{lane_view}
 use Rattle.nearest_window.specs.Right.{IsReady, Serves, slack_of, state_of}
-use Rattle.nearest_window.proofs.Alone.{pixel_block}
+use Rattle.nearest_window.proofs.Alone.{one_in, pixel_block}
 use Rattle.nearest_window.proofs.Steps.{serves_alone}
 use Rattle.nearest_window.proofs.lane.Lane.load_alone.Goals as goal
 
@@ -42,3 +44,21 @@ returns-clause-serves g c =
     (g.F.Folder.faults c.args.folder.now) (g.F.Folder.faults c.load_sample.new.folder) (g.F.Folder.read_calls c.args.folder.now) (g.F.Folder.read_calls c.load_sample.new.folder) (g.F.Folder.write_calls c.args.folder.now) (g.F.Folder.write_calls c.load_sample.new.folder) c.args.loads.now
     c.args.key c.requires.key.0 ready.right c.requires.key.1 absent full o.only_read.names o.only_read.writes o.good o.cause.later o.most))
 
+pub pack-requires-clause-range : goal.pack-requires-clause-range
+pack-requires-clause-range g c =
+    let d = c.requires.key.0 in
+    let at = c.requires.key.1.at in
+    let same : to_z w128 (of_z w128 c.in_ok-sample.sample) ≡ c.in_ok-sample.sample = search rules in
+    one_in c.kind_of-kind.result (to_z w128 (of_z w128 c.in_ok-sample.sample)) (subst (λ v. is_in c.kind_of-kind.result v ≡ true) (sym same) (c.in_ok-sample.ensures.typed d at c.kind_of-kind.result (c.kind_of-kind.ensures.kind d at)))
+
+pub returns-clause-block : goal.returns-clause-block
+returns-clause-block g c =
+    let o = c.load_sample.ensures in
+    let d = c.requires.key.0 in
+    let at = c.requires.key.1.at in
+    let same : to_z w128 (of_z w128 c.in_ok-sample.sample) ≡ c.in_ok-sample.sample = search rules in
+    pixel_block (g.F.Folder.names c.load_sample.new.folder) c.args.cat.now c.args.key d c.args.rect c.kind_of-kind.result (to_z w128 (of_z w128 c.in_ok-sample.sample)) c.in_ok-pack.field-0 c.requires.key.1 c.requires.narrow c.requires.low
+    (c.kind_of-kind.ensures.kind d at)
+    (subst (λ v. is_in c.kind_of-kind.result v ≡ true) (sym same) (c.in_ok-sample.ensures.typed d at c.kind_of-kind.result (c.kind_of-kind.ensures.kind d at)))
+    (λ m e. let before = sym o.only_read.names ∙ e in same ∙ c.in_ok-sample.ensures.told m before (c.requires.ready.walked m before))
+    c.in_ok-pack.ensures.samples
