@@ -278,10 +278,11 @@ paint_block-paint_held-requires-clause-held g t c κs within =
 pub paint_block-returns-clause-serves : goal.paint_block-returns-clause-serves
 paint_block-returns-clause-serves g t c =
     let o = c.in_ok-hold.ensures in
-    serves_trans g.F.Folder.file_bytes g.F.Folder.file_len c.args.cat.now 0 _ _ _ o.serves
+    subst (λ lane. Serves g.F.Folder.file_bytes g.F.Folder.file_len c.args.cat.now 0 (state_of g.F.Folder c.args.folder.now lane c.args.loads.now) (state_of g.F.Folder c.hold.new.folder c.paint_held.new.self c.hold.new.loads)) c.is_jump.ensures.same
+    (serves_trans g.F.Folder.file_bytes g.F.Folder.file_len c.args.cat.now 0 _ _ _ o.serves
     (serves_used g.F.Folder.file_bytes g.F.Folder.file_len c.args.cat.now (g.F.Folder.names c.hold.new.folder) c.hold.new.self c.paint_held.new.self (g.F.Folder.faults c.hold.new.folder) (g.F.Folder.read_calls c.hold.new.folder) (g.F.Folder.write_calls c.hold.new.folder) c.hold.new.loads c.args.piece.key
     (λ e. IsPainted (in_columns c.args.picture.now.stride (c.args.picture.now.to + c.args.piece.area.column) (c.args.picture.now.to + c.args.piece.area.column + c.args.piece.area.columns) (from_block e.block c.args.piece.rect c.args.picture.now c.args.piece.area.column c.args.piece.area.line)) c.args.out.now c.paint_held.new.out)
-    o.serves.right c.paint_held.ensures.used c.paint_held.ensures.valid c.paint_held.ensures.made_valid)
+    o.serves.right c.paint_held.ensures.used c.paint_held.ensures.valid c.paint_held.ensures.made_valid))
 
 pub paint_block-returns-clause-painted : goal.paint_block-returns-clause-painted
 paint_block-returns-clause-painted g t c =
