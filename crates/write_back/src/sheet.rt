@@ -143,7 +143,7 @@ impl<F: Folder> Sheet<F> {
 
     // The draft of the data.
     pub(crate) fn into_draft(self) -> F::Draft
-        ensures bytes { F.draft_bytes result ≡ self.draft }
+        ensures bytes { (b : List ℕ) → self.draft ≡ Some b → F.draft_bytes result ≡ Some b }
         ensures name { F.draft_name result ≡ self.name }
     {
         let Sheet { kind } = self;
@@ -153,6 +153,7 @@ impl<F: Folder> Sheet<F> {
                     writer: _,
                     pool: _,
                     draft,
+                    written: _,
                     spare: _,
                 } = store;
                 draft
