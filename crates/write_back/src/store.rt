@@ -56,7 +56,7 @@ fn room_for(
 }
 
 // Makes each sample of a block 0.
-#[tactic(auto, using(crate::proofs::Cleared::zero_in, crate::proofs::Cleared::zero_more, crate::proofs::Cleared::all_zero))]
+#[tactic(auto, using(crate::proofs::Cleared::zero_in))]
 fn clear(block: &mut Block)
     ensures kind { block.new.kind ≡ block.old.kind }
     ensures count { length block.new.samples ≡ length block.old.samples }
@@ -155,7 +155,7 @@ impl<F: Folder> Store<F> {
         }
     }
 
-    // Makes a block what the draft holds of a line: zeros where the line was never written, and else what is read there.
+    // Makes a block what the draft holds of a line: zeros where it was never written, and else what is read there.
     fn fetch(
         &mut self,
         folder: &mut F,
