@@ -50,6 +50,15 @@ impl<T: Cell> Packed<T> {
         Ok(Packed { cells })
     }
 
+    // The samples that these cells show.
+    pub(crate) fn of(cells: Vec<T>) -> Self
+        requires few { length cells.items < 2 ^ 32 }
+        requires range { AreIn T.kind (map T.value cells.items) }
+        ensures samples { result ≡ map T.value cells.items }
+    {
+        Packed { cells }
+    }
+
     // The type of the samples.
     pub(crate) fn kind(&self) -> PixelType
         ensures kind { result ≡ T.kind }

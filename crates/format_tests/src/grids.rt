@@ -427,7 +427,7 @@ fn places_grids(rt: HostRuntime) {
 }
 
 // Reads a row from bytes in two pieces and, where they end within it, an empty one.
-fn read_row(front: &[u8], back: &[u8], out: &mut [Sample]) {
+fn read_row(front: &[u8], back: &[u8], out: &mut [i32]) {
     let mut state = RowState::new();
     if !decode_more(&mut state, front, out) && !decode_more(&mut state, back, out) {
         decode_more(&mut state, b"", out);
@@ -435,7 +435,7 @@ fn read_row(front: &[u8], back: &[u8], out: &mut [Sample]) {
 }
 
 // The first place at which these bytes are cut and give another row; None where there is none.
-fn first_miscut(rest: &[u8], wanted: [Sample; 2]) -> Option<usize> {
+fn first_miscut(rest: &[u8], wanted: [i32; 2]) -> Option<usize> {
     for cut in 1..rest.len() {
         let (front, back) = rest.split_at(cut.min(rest.len()));
         let mut out = [9; 2];
@@ -456,7 +456,7 @@ fn reads_rows_of_each_cut(rt: HostRuntime) {
 }
 
 // Two pieces of a row of three values, and what is read of them.
-const ROWS: [(&[u8], &[u8], [Sample; 3]); 6] = [
+const ROWS: [(&[u8], &[u8], [i32; 3]); 6] = [
     (b"1 2 3", b"4 5", [1, 2, 34]),
     (b"1 2", b"", [1, 2, 0]),
     (b" \t1", b"\n", [1, 0, 0]),
@@ -466,7 +466,7 @@ const ROWS: [(&[u8], &[u8], [Sample; 3]); 6] = [
 ];
 
 // What is read of a row of three values in two pieces.
-fn row_of(front: &[u8], back: &[u8]) -> [Sample; 3] {
+fn row_of(front: &[u8], back: &[u8]) -> [i32; 3] {
     let mut out = [9; 3];
     read_row(front, back, &mut out);
     out

@@ -7,4 +7,4 @@ mod report;
 mod values;
 
 pub use covering::{files_at, push_covering};
-pub use report::{Form, ReportFault, push_location, write_location};
+pub use report::{Form, Question, push_location, write_location};

@@ -5,11 +5,11 @@ ghost use Rattle.lists_and_answers.specs.Growth.{KeepsFront};
 ghost use Rattle.outside.specs.Causes.{HasCause};
 ghost use Rattle.outside.specs.Streams.{Gets, GetsPart};
 ghost use Rattle.location_report.specs.Location.{place_text, report_text, only_text, location_text};
-ghost use Rattle.location_report.specs.declared.report.ReportFault.TheVariants as report_fault;
 
 use crate::files::push_files;
 use crate::values::{push_bands, push_values};
 use geotransform::Sample;
+use info_report::ReportFault;
 use itoa::Buffer;
 use lists_and_answers::push_all;
 use outside::{Failed, Names, Sink};
@@ -23,19 +23,12 @@ pub enum Form {
     FilesOnly,
 }
 
-/// Why a place wasn't told whole: the sink failed, or memory was refused.
+/// What is asked: a form, and a place by its column and its line, which may lie off the raster.
 #[derive(Clone, Copy, Debug, PartialEq, Eq)]
-pub enum ReportFault {
-    OutFault,
-    Memory,
-}
-
-impl From<AllocError> for ReportFault {
-    ghost from_gives = { λ _ e. e ≡ report_fault.Memory };
-
-    fn from(_: AllocError) -> Self {
-        ReportFault::Memory
-    }
+pub struct Question {
+    pub form: Form,
+    pub x: i128,
+    pub y: i128,
 }
 
 /// Appends the head of a report.
@@ -143,21 +136,20 @@ pub fn push_location(
 #[tactic(auto, using(crate::proofs::Appended::nothing_put))]
 pub fn write_location<S: Sink>(
     alloc: Global,
-    form: Form,
-    x: i128,
-    y: i128,
+    question: Question,
     values: Option<&[Sample]>,
     bands: &[u32],
     files: &Names,
     sink: &mut S,
 ) -> Result<(), ReportFault>
     requires { IfSome values (λ v. length v.now ≡ length bands.now) }
-    ensures ok { OnOk result (Gets (location_text form x y (option_map (λ v. v.now) values.entry) bands.now files.now) (S.got sink.old) (S.got sink.new)) }
-    ensures err { OnErr result (GetsPart (location_text form x y (option_map (λ v. v.now) values.entry) bands.now files.now) (S.got sink.old) (S.got sink.new)) }
+    ensures ok { OnOk result (Gets (location_text question.form question.x question.y (option_map (λ v. v.now) values.entry) bands.now files.now) (S.got sink.old) (S.got sink.new)) }
+    ensures err { OnErr result (GetsPart (location_text question.form question.x question.y (option_map (λ v. v.now) values.entry) bands.now files.now) (S.got sink.old) (S.got sink.new)) }
     ensures memory { result ≡ Err ReportFault.Memory → sink.new ≡ sink.old }
     ensures cause { HasCause ReportFault.OutFault (S.faults sink.old) (S.faults sink.new) result }
 {
     let mut text = Vec::new(alloc);
+    let Question { form, x, y } = question;
     push_location(form, x, y, values, bands, files, &mut text)?;
     match sink.put(&text) {
         Ok(()) => Ok(()),

@@ -1,3 +1,4 @@
+mod Alone
 mod Asks
 pub mod Blocks
 pub mod Canvases

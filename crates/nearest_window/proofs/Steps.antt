@@ -1,5 +1,5 @@
 -- How the service of a lane goes on from call to call.
-use Rattle.std.proofs.Common.{◌≡◌, inl, inr, ℕ, ◌+◌, ◌*◌, ◌≤◌, List, Option, None, refl, sym, ◌∙◌, subst, arith, Result, Ok, Err, OnOk, OnErr}
+use Rattle.std.proofs.Common.{◌≡◌, inl, inr, ℕ, ◌+◌, ◌*◌, ◌≤◌, List, Option, None, length, refl, sym, ◌∙◌, subst, arith, Result, Ok, Err, OnOk, OnErr}
 use Rattle.outside.specs.Outside.{Files}
 use Rattle.catalog.specs.Drivers.{Dataset}
 use Rattle.catalog.specs.Blocks.{all_blocks}
@@ -139,6 +139,22 @@ module _ {File : Type 0} (bytes : File → Option (List ℕ)) (len : File → �
     reads = one_load n n' l reads;
     held = omega arith;
     bound = λ h. omega arith;
+  }
+
+  -- a pixel was read by itself, while the pool was full
+  pub serves_alone : (k : ℕ) (told told' : Option Files) (p : PoolView) (fs fs' : List (ℕ × File)) (b : PoolView) (f f' n n' w w' l : ℕ) (key : BlockKey) (d : Dataset) → IsRight bytes len told cat p fs b → IsKeyOf cat key d → held_at key p.entries ≡ None → p.capacity ≤ length p.entries
+      → told' ≡ told → w' ≡ w → AreGood bytes len told' cat fs' → f ≤ f' → n' ≤ n + most_calls cat
+      → Serves bytes len cat k (lane_state told p fs b f n w l) (lane_state told' p fs' b f' n' w' (l + 1))
+  serves_alone k told told' p fs fs' b f f' n n' w w' l key d right key_of absent full same unwritten good faults reads = record {
+    right = record { valid = right.valid; blocks = are_blocks_told told told' p.entries same right.blocks; good = good; made_valid = right.made_valid; remembered = are_blocks_told told told' b.entries same right.remembered };
+    told = same;
+    writes = unwritten;
+    capacity = refl;
+    faults = faults;
+    loads = omega arith;
+    reads = one_load n n' l reads;
+    held = omega arith;
+    bound = λ h. let room = room_for_one told cat key d p right.valid right.blocks key_of absent in omega arith;
   }
 
   -- a file's block was loaded, and then kept, or memory was refused

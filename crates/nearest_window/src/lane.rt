@@ -7,6 +7,7 @@ ghost use Rattle.catalog.specs.Drivers.{Dataset};
 ghost use Rattle.catalog.specs.Places.{IsWithin};
 ghost use Rattle.band_blocks.specs.Keys.{IsKey};
 ghost use Rattle.band_blocks.specs.Open.{IsUnchanged};
+ghost use Rattle.band_blocks.specs.Samples.{IsDirect};
 ghost use Rattle.block_cache.specs.Entries.{pool_view, entry_of, held_at, moved_to_front, admitted, IsPool};
 ghost use Rattle.nearest_window.specs.Canvases.{IsCanvas, IsSourceTaken};
 ghost use Rattle.nearest_window.specs.Lanes.{IsHeldWith, IsKept, IsUsed, LaneView, lane_view, held_in, room_of};
@@ -18,13 +19,16 @@ ghost use Rattle.nearest_window.specs.Taken.{place_at};
 
 use crate::asking::{Asked, asked_of};
 use crate::canvas::{Canvas, is_wanted};
+use crate::missed::Missed;
 use crate::paint::paint_rows;
-use crate::parts::{Part, cost_of, part_of};
+use crate::parts::{Part, cost_of, part_of, pixel_rect};
 use crate::picture::Picture;
 use crate::places::Span;
 use crate::taking::taking_of;
-use crate::targets::{Area, Around, Numbered, Piece, band_of, block_around, mosaic_rect};
-use band_blocks::{Block, BlockKey, LoadFault, OpenFiles, Steps, load_block};
+use crate::targets::{Area, Around, Numbered, Piece, band_of, block_around, kind_of, mosaic_rect};
+use band_blocks::{
+    Block, BlockKey, LoadFault, OpenFiles, PixelKey, Steps, has_places, load_block, load_sample,
+};
 use block_cache::Pool;
 use catalog::Catalog;
 use geotransform::{Rect, Sample};
@@ -51,6 +55,7 @@ pub struct Lane<F: Folder> {
     made: Pool,
     // So many pixels may still be filled in this call before blocks are made in place of parts.
     left: u64,
+    missed: Missed,
 }
 
 // Paints a piece of a picture over the rows of `out`, from the block of a pool that has its pixels.
@@ -102,6 +107,7 @@ impl<F: Folder> Lane<F> {
             files,
             made,
             left: 0,
+            missed: Missed::new(capacity),
         })
     }
 
@@ -128,7 +134,9 @@ impl<F: Folder> Lane<F> {
     }
 
     // Whether the pool is full.
-    fn is_full(&self) -> bool {
+    fn is_full(&self) -> bool
+        ensures full { result ≡ true → room_of self.now ≤ held_in self.now }
+    {
         self.held() >= self.pool.capacity()
     }
 
@@ -230,6 +238,70 @@ impl<F: Folder> Lane<F> {
     {
         let block = load_block(alloc, cat, folder, &mut self.files, key, loads)?;
         self.keep(key, block)
+    }
+
+    // Whether a piece of a picture is read by itself: the picture is one pixel of a file whose block isn't held
+    // and wasn't missed before, and the pool is full.
+    fn is_jump(&mut self, cat: &Catalog, picture: &Picture, piece: Piece) -> bool
+        requires known { piece.key.dataset < length cat.now }
+        ensures same { self.new ≡ self.old }
+        ensures absent { result ≡ true → held_at piece.key self.old.pool.entries ≡ None }
+        ensures full { result ≡ true → room_of self.old ≤ held_in self.old }
+        ensures direct { result ≡ true → (d : Dataset) → slice_get cat.now piece.key.dataset ≡ Some d → IsDirect d.content }
+        ensures narrow { result ≡ true → picture.now.width ≡ 1 }
+        ensures low { result ≡ true → picture.now.height ≡ 1 }
+    {
+        if picture.width != 1 {
+            return false;
+        }
+        if picture.height != 1 {
+            return false;
+        }
+        if !self.is_full() {
+            return false;
+        }
+        if self.holds(&piece.key) {
+            return false;
+        }
+        if !has_places(cat, piece.key.dataset) {
+            return false;
+        }
+        self.missed.is_new(piece.key)
+    }
+
+    // Reads a pixel of a file by itself, as a block of its own that isn't kept.
+    fn load_alone<L: Ledger>(
+        &mut self,
+        alloc: Global,
+        cat: &Catalog,
+        folder: &mut F,
+        key: BlockKey,
+        rect: Rect,
+        loads: &mut Steps<L>,
+    ) -> Result<Block, LoadFault>
+        requires ready { IsReady F.Folder folder.old cat.now self.old }
+        requires key { IsKey cat.now key }
+        requires absent { held_at key self.old.pool.entries ≡ None }
+        requires full { room_of self.old ≤ held_in self.old }
+        requires direct { (d : Dataset) → slice_get cat.now key.dataset ≡ Some d → IsDirect d.content }
+        requires within { (d : Dataset) → slice_get cat.now key.dataset ≡ Some d → IsWithin rect d.head.size }
+        requires narrow { rect.w ≡ 1 }
+        requires low { rect.h ≡ 1 }
+        ensures serves { Served F.Folder cat.now result folder.old self.old loads.old folder.new self.new loads.new }
+        ensures cause { HasCause LoadFault.FolderFault (F.faults folder.old) (F.faults folder.new) result }
+        ensures changed { IfErr result (TellsChangeIn cat.now) }
+        ensures never { WhereTold F.Folder folder.old (λ _. IfErr result IsUnchanged) }
+        ensures block { IfOk result (λ b. IsPartBlock (F.names folder.new) cat.now key rect b) }
+    {
+        let pixel = PixelKey {
+            dataset: key.dataset,
+            band: key.band,
+            x: rect.x,
+            y: rect.y,
+        };
+        let kind = kind_of(cat, key);
+        let sample = load_sample(cat, folder, &mut self.files, pixel, loads)?;
+        Ok(Block::pack(alloc, kind, &[sample])?)
     }
 
     // Sees that the block of a key is held.
@@ -469,6 +541,12 @@ impl<F: Folder> Lane<F> {
         if let Some(part) = self.lone_part(cat, picture, piece) {
             let Part { band, rect } = part;
             let block = self.fill(alloc, cat, folder, piece.key, band, rect, loads)?;
+            paint_rows(&block, rect, picture, piece.area, out);
+            return Ok(());
+        }
+        if self.is_jump(cat, picture, piece) {
+            let rect = pixel_rect(picture, piece.area);
+            let block = self.load_alone(alloc, cat, folder, piece.key, rect, loads)?;
             paint_rows(&block, rect, picture, piece.area, out);
             return Ok(());
         }

@@ -6,6 +6,7 @@ mod canvas;
 mod lane;
 mod laws;
 mod merging;
+mod missed;
 mod paint;
 mod parts;
 mod picture;

@@ -61,7 +61,9 @@ impl<F: Folder> Lane<F> {
     /// Fills `out` with the pixels of a window, row by row. The window lies in the raster, and `out` has its
     /// size. The lane is ready for the catalog and the folder.
     ///
-    /// Each block of a file that isn't held is loaded, which ticks `loads` once. A block of a mosaic is
+    /// Each block of a file that isn't held is loaded, which ticks `loads` once. Where the pool is full, a single
+    /// pixel of a file that isn't a grid is read by itself in place of its block, which ticks `loads` once, too,
+    /// unless the block was missed so before. A block of a mosaic is
     /// made of the blocks of its sources, through every nesting, and takes memory for its samples until it
     /// is whole. Where the pool is full, any part of such a block is made without the block, until the call
     /// has filled 131,072 pixels and eight times its own; from then on whole blocks are made, and up to

@@ -594,9 +594,30 @@ fn read_points_of<F: Folder>(
     read_points::<F, Brand>(alloc, &cat, folder, id, places, Blank::new(1))
 }
 
+// A folder that holds a raster of 3 lines. A line has 300 columns of 256 bands, of which 256 are read at once, in
+// 65,536 bytes; so its load takes two reads.
+fn long_lines(alloc: Global) -> Result<CalmFolder, Fail> {
+    let mut folder = CalmFolder::new(alloc, Never);
+    let data = vec![in alloc; 7u8; 3 * 300 * 256]?;
+    folder.put(&Name::read(alloc, "long.bip")?, data.as_slice())?;
+    folder.put(
+        &Name::read(alloc, "long.hdr")?,
+        b"NROWS 3\nNCOLS 300\nNBANDS 256\nLAYOUT BIP\n",
+    )?;
+    Ok(folder)
+}
+
+// A folder that holds the dataset of a name.
+fn folder_with(alloc: Global, name: &str) -> Result<CalmFolder, Fail> {
+    if name == "long.bip" {
+        return long_lines(alloc);
+    }
+    drawn(alloc)
+}
+
 // How many reads the walk and these pixels take.
 fn all_reads(alloc: Global, name: &str, places: &[(u32, u32)]) -> Result<u64, Fail> {
-    let mut folder = Tally::new(drawn(alloc)?);
+    let mut folder = Tally::new(folder_with(alloc, name)?);
     read_points_of(alloc, &mut folder, name, places)?;
     Ok(folder.reads())
 }
@@ -640,5 +661,28 @@ fn a_point_loads_one_block_of_each_source(rt: HostRuntime) -> Result<(), Fail> {
     let wide = first_miscounted(rt.alloc(), "wide.vrt", &WIDE_PLACES, &WIDE_READS)?;
     let nested = first_miscounted(rt.alloc(), "nested.vrt", &NESTED_PLACES, &NESTED_READS)?;
     assert!(rt; wide == 5 && nested == 6, "place {wide}, place {nested}");
+    Ok(())
+}
+
+const LONG_PLACES: [(u32, u32); 8] = [
+    (0, 0),
+    (299, 1),
+    (5, 2),
+    (6, 1),
+    (7, 1),
+    (8, 1),
+    (9, 0),
+    (10, 0),
+];
+
+const LONG_READS: [u64; 8] = [2, 3, 4, 5, 7, 7, 8, 10];
+
+// The first pixel loads its line, in two reads, since there is room. Those in other lines then jump: each reads
+// its byte alone. The fifth stands in the line of the fourth, which is loaded and holds the sixth; and so does
+// the eighth in the line of the seventh, which was pushed out.
+#[test]
+fn a_point_that_jumps_reads_its_byte_alone(rt: HostRuntime) -> Result<(), Fail> {
+    let long = first_miscounted(rt.alloc(), "long.bip", &LONG_PLACES, &LONG_READS)?;
+    assert_eq!(rt; long, LONG_READS.len());
     Ok(())
 }

@@ -1,8 +1,9 @@
 ghost use Rattle.std.specs.Prelude.{◌≡◌, length, IfSome};
 
 use geotransform::{Sample, Size};
+use info_report::ReportFault;
 use lists_and_answers::Items;
-use location_report::{Form, ReportFault, push_covering, write_location};
+use location_report::{Form, Question, push_covering, write_location};
 use outside::{Failing, Listed, MemSink, Name, Names};
 use std::alloc::{AllocError, Global};
 use std::test::*;
@@ -30,7 +31,8 @@ fn is_written(
 {
     let (x, y) = place;
     let mut sink = MemSink::new(alloc, Listed::new(Items::new(alloc)));
-    let answer = write_location(alloc, form, x, y, values, bands, files, &mut sink);
+    let question = Question { form, x, y };
+    let answer = write_location(alloc, question, values, bands, files, &mut sink);
     answer.is_ok() && sink.got() == want
 }
 
@@ -93,7 +95,12 @@ fn is_refused(alloc: Global, files: &Names) -> Result<bool, AllocError> {
     let mut calls = Items::new(alloc);
     calls.push(Failing::Call(1))?;
     let mut sink = MemSink::new(alloc, Listed::new(calls));
-    let answer = write_location(alloc, Form::Report, 0, 0, None, &[], files, &mut sink);
+    let question = Question {
+        form: Form::Report,
+        x: 0,
+        y: 0,
+    };
+    let answer = write_location(alloc, question, None, &[], files, &mut sink);
     Ok(answer == Err(ReportFault::OutFault) && b"Report:\n".starts_with(sink.got()))
 }
 

@@ -1,7 +1,11 @@
 // How often a draft is written and read: never in a window where the pool has room for all blocks, and whole lines are
-// never read back.
+// never read back. A target's counter of written blocks has no bytes in a run: what a run shows of it are the calls
+// that write the blocks, and those that add lines to a grid.
 use crate::cells::CELL;
-use crate::fixtures::{Asked, Ended, Form, Story, Window, folder_of, ordered, written};
+use crate::fixtures::{
+    Asked, Ended, Form, Order, Story, Window, folder_of, ordered, tried, written,
+};
+use crate::grids::{STRIPS, TALL};
 use crate::pixels::samples_in;
 use crate::texts::SQUARE;
 use crate::tiles::TILE;
@@ -70,6 +74,8 @@ const TILE_PARTS: [Window; 2] = [(0, (0, 0), (1, 40), 0), (0, (1, 0), (1200, 2),
 const CELL_PARTS: [Window; 2] = [(0, (0, 0), (121, 2), 0), (0, (40, 2), (3, 119), 0)];
 
 const SQUARE_LINES: [Window; 2] = [(0, (0, 0), (2, 1), 0), (0, (0, 1), (2, 1), 2)];
+
+const SQUARE_WHOLE: [Window; 1] = [(0, (0, 0), (2, 2), 0)];
 
 const LONG_LINES: [Window; 2] = [(0, (0, 0), (65_000, 1), 0), (0, (0, 1), (65_000, 1), 1)];
 
@@ -181,41 +187,307 @@ fn writes(
     })
 }
 
-// What is written, its windows, the blocks of the pool, and the most calls that write: of a pool of all blocks the
-// blocks that the windows meet, of a pool of one block once more for each time that another one comes.
-const MOST: [(Asked, &[Window], u16, u64); 14] = [
-    (BANDS, &LINES, 1, 6),
-    (BANDS, &LINES, 6, 6),
-    (BANDS_BSQ, &LINES, 1, 6),
-    (BANDS, &COLUMNS, 1, 8),
-    (BANDS, &COLUMNS, 6, 6),
-    (BANDS_BIP, &COLUMNS, 1, 8),
-    (BANDS_BIP, &COLUMNS, 6, 6),
-    (TILE, &TILE_LINES, 1, 4),
-    (TILE, &TILE_PARTS, 1, 42),
-    (TILE, &TILE_PARTS, 1201, 40),
-    (CELL, &CELL_PARTS, 1, 124),
-    (CELL, &CELL_PARTS, 121, 121),
-    (LONG, &LONG_LINES, 1, 6),
-    (LONG, &LONG_PARTS, 2, 6),
+/// What is written, its windows, the blocks of the pool, the most calls that write, and the most of them in each window
+/// and, behind those, in `close`.
+type Row<'a> = (Asked, &'a [Window], u16, u64, &'a [u64]);
+
+// All that is written of a pool of all blocks are the blocks that the windows meet; of a pool of one block there is one
+// once more for each time that another one comes. A window writes at most the blocks that it meets, and none of a pool
+// of all blocks; `close` at most the blocks of the pool. A line of 65,000 bytes takes at most three calls, any other
+// block one.
+const MOST: [Row; 9] = [
+    (BANDS, &LINES, 1, 6, &[2, 1, 1, 2, 1]),
+    (BANDS, &LINES, 6, 6, &[0, 0, 0, 0, 6]),
+    (BANDS_BSQ, &LINES, 1, 6, &[2, 1, 1, 2, 1]),
+    (BANDS, &COLUMNS, 1, 8, &[2, 2, 2, 2, 1]),
+    (BANDS, &COLUMNS, 6, 6, &[0, 0, 0, 0, 6]),
+    (BANDS_BIP, &COLUMNS, 1, 8, &[2, 2, 2, 2, 1]),
+    (BANDS_BIP, &COLUMNS, 6, 6, &[0, 0, 0, 0, 6]),
+    (LONG, &LONG_LINES, 1, 6, &[3, 3, 3]),
+    (LONG, &LONG_PARTS, 2, 6, &[0, 0, 0, 6]),
 ];
 
+const MOST_OF_FORMS: [Row; 5] = [
+    (TILE, &TILE_LINES, 1, 4, &[2, 1, 1, 1]),
+    (TILE, &TILE_PARTS, 1, 42, &[40, 2, 1]),
+    (TILE, &TILE_PARTS, 1201, 40, &[0, 0, 40]),
+    (CELL, &CELL_PARTS, 1, 124, &[121, 3, 1]),
+    (CELL, &CELL_PARTS, 121, 121, &[0, 0, 121]),
+];
+
+// The first so many of an output's windows, or all of them.
+fn first_windows<'a>(story: Story<'a>, count: usize) -> Story<'a> {
+    let (windows, _) = story.windows.split_at(count.min(story.windows.len()));
+    Story {
+        windows,
+        samples: story.samples,
+    }
+}
+
+// How often an output's draft is written by these windows alone, where each is put.
+fn writes_before(
+    alloc: Global,
+    order: &Order,
+    capacity: u16,
+    story: Story<'_>,
+) -> Result<Option<u64>, Fail> {
+    let mut folder = Tally::new(folder_of(alloc, &[], &[])?);
+    let put = tried(alloc, &mut folder, order, capacity, story);
+    Ok(if put { Some(folder.writes()) } else { None })
+}
+
+// How often an output's draft is written by its first so many windows, and by all of them and `close` where there are
+// no more.
+fn writes_by(
+    alloc: Global,
+    asked: &Asked,
+    story: Story<'_>,
+    capacity: u16,
+    count: usize,
+) -> Result<Option<u64>, Fail> {
+    if count > story.windows.len() {
+        return writes(alloc, asked, story, capacity);
+    }
+    let order = ordered(alloc, asked)?;
+    writes_before(alloc, &order, capacity, first_windows(story, count))
+}
+
+// Whether a count rose, and at most by so many.
+fn rises(before: u64, after: Option<u64>, most: u64) -> bool {
+    match after {
+        None => false,
+        Some(count) => before <= count && count - before <= most,
+    }
+}
+
+// Whether each window writes at most so often, and `close` too, and all of them at least once and at most so often.
+fn is_within(
+    alloc: Global,
+    (asked, windows, capacity, most, each): Row<'_>,
+    samples: &[Sample],
+) -> Result<bool, Fail> {
+    let story = Story { windows, samples };
+    let mut before = 0;
+    for (at, bound) in each.iter().enumerate() {
+        let after = writes_by(alloc, &asked, story, capacity, at.saturating_add(1))?;
+        if !rises(before, after, *bound) {
+            return Ok(false);
+        }
+        before = after.unwrap_or(0);
+    }
+    Ok(each.len() == windows.len().saturating_add(1) && 0 < before && before <= most)
+}
+
 // The first of these that is written more often, or never, or how many there are.
-fn first_beyond(alloc: Global) -> Result<usize, Fail> {
+fn first_beyond(alloc: Global, rows: &[Row<'_>]) -> Result<usize, Fail> {
     let samples = samples_in(alloc, (0, 100), MOST_SAMPLES)?;
-    let samples = samples.as_slice();
-    for (at, (asked, windows, capacity, most)) in MOST.iter().enumerate() {
-        let story = Story { windows, samples };
-        match writes(alloc, asked, story, *capacity)? {
-            Some(count) if 0 < count && count <= *most => {}
-            _ => return Ok(at),
+    for (at, row) in rows.iter().enumerate() {
+        if !is_within(alloc, *row, samples.as_slice())? {
+            return Ok(at);
         }
     }
-    Ok(MOST.len())
+    Ok(rows.len())
 }
 
 #[test]
 fn drafts_are_written_within_the_bound(rt: HostRuntime) -> Result<(), Fail> {
-    assert_eq!(rt; first_beyond(rt.alloc())?, MOST.len());
+    assert_eq!(rt; first_beyond(rt.alloc(), &MOST)?, MOST.len());
+    Ok(())
+}
+
+#[test]
+fn tiles_and_cells_are_written_within_the_bound(rt: HostRuntime) -> Result<(), Fail> {
+    assert_eq!(rt;
+        first_beyond(rt.alloc(), &MOST_OF_FORMS)?,
+        MOST_OF_FORMS.len()
+    );
+    Ok(())
+}
+
+// Whether an output's windows are put, and no call of its folder comes that would fail, where it is given up.
+fn lacks(
+    alloc: Global,
+    order: &Order,
+    capacity: u16,
+    story: Story<'_>,
+    failing: Failing,
+) -> Result<bool, Fail> {
+    let mut folder = folder_of(alloc, &[failing], &[])?;
+    let put = tried(alloc, &mut folder, order, capacity, story);
+    Ok(put && folder.faults() == 0)
+}
+
+/// A grid, its windows, the blocks of the pool that is asked for, and how many lines are there after each window.
+type Grid<'a> = (Asked, &'a [Window], u16, &'a [u64]);
+
+const ADDED: [Grid; 6] = [
+    (SQUARE, &SQUARE_LINES, 1, &[1, 2]),
+    (SQUARE, &SQUARE_LINES, 2, &[1, 2]),
+    (SQUARE, &SQUARE_WHOLE, 1, &[2]),
+    (SQUARE, &SQUARE_WHOLE, 2, &[2]),
+    (TALL, &STRIPS, 1, &[0, 3, 4, 4, 6, 9, 9]),
+    (TALL, &STRIPS, 9, &[0, 3, 4, 4, 6, 9, 9]),
+];
+
+// Whether windows of a grid add so many lines behind its head, and no more.
+fn adds(
+    alloc: Global,
+    order: &Order,
+    capacity: u16,
+    story: Story<'_>,
+    lines: u64,
+) -> Result<bool, Fail> {
+    let last = Failing::Of(Method::Append, lines.saturating_add(1));
+    let next = Failing::Of(Method::Append, lines.saturating_add(2));
+    let fewer = lacks(alloc, order, capacity, story, last)?;
+    Ok(!fewer && lacks(alloc, order, capacity, story, next)?)
+}
+
+// Whether each window of a grid adds its lines.
+fn is_each_added(
+    alloc: Global,
+    order: &Order,
+    capacity: u16,
+    story: Story<'_>,
+    each: &[u64],
+) -> Result<bool, Fail> {
+    let mut all = each.len() == story.windows.len();
+    for (at, lines) in each.iter().enumerate() {
+        let first = first_windows(story, at.saturating_add(1));
+        if !adds(alloc, order, capacity, first, *lines)? {
+            all = false;
+        }
+    }
+    Ok(all)
+}
+
+// Whether a grid adds no line in `close`, and never writes at a place.
+fn is_added_before(
+    alloc: Global,
+    asked: &Asked,
+    story: Story<'_>,
+    capacity: u16,
+    lines: u64,
+) -> Result<bool, Fail> {
+    let beyond = Failing::Of(Method::Append, lines.saturating_add(2));
+    let added = ended(alloc, asked, story, capacity, beyond)? == Ended::Closed;
+    let placed = Failing::Of(Method::WriteAt, 1);
+    Ok(added && ended(alloc, asked, story, capacity, placed)? == Ended::Closed)
+}
+
+fn is_added(
+    alloc: Global,
+    (asked, windows, capacity, each): Grid<'_>,
+    samples: &[Sample],
+) -> Result<bool, Fail> {
+    let story = Story { windows, samples };
+    let lines = each.last().copied().unwrap_or(0);
+    let order = ordered(alloc, &asked)?;
+    let before = is_added_before(alloc, &asked, story, capacity, lines)?;
+    Ok(before && is_each_added(alloc, &order, capacity, story, each)?)
+}
+
+// The first of these grids whose lines come at other times, or how many there are.
+fn first_late(alloc: Global) -> Result<usize, Fail> {
+    let samples = samples_in(alloc, (0, 100), 100)?;
+    for (at, row) in ADDED.iter().enumerate() {
+        if !is_added(alloc, *row, samples.as_slice())? {
+            return Ok(at);
+        }
+    }
+    Ok(ADDED.len())
+}
+
+#[test]
+fn lines_of_a_grid_are_added_in_their_windows(rt: HostRuntime) -> Result<(), Fail> {
+    assert_eq!(rt; first_late(rt.alloc())?, ADDED.len());
+    Ok(())
+}
+
+// Blocks of each band that are met once, in part, in another order than they stand in.
+const APART: [Window; 3] = [
+    (2, (2, 0), (1, 2), 0),
+    (0, (0, 0), (2, 2), 2),
+    (1, (1, 0), (2, 2), 6),
+];
+
+const TILE_APART: [Window; 3] = [
+    (0, (1200, 1200), (1, 1), 0),
+    (0, (0, 0), (1, 40), 1),
+    (0, (5, 40), (7, 3), 41),
+];
+
+const CELL_APART: [Window; 3] = [
+    (0, (43, 120), (78, 1), 0),
+    (0, (0, 0), (40, 2), 0),
+    (0, (40, 2), (3, 119), 0),
+];
+
+// Two lines in part, and the first one once more.
+const AGAIN: [Window; 2] = [(0, (0, 0), (1, 2), 0), (0, (1, 0), (1, 1), 2)];
+
+// Two columns in part, and the first one once more.
+const CELL_AGAIN: [Window; 2] = [(0, (0, 0), (2, 1), 0), (0, (0, 1), (1, 1), 2)];
+
+// Both lines of the first band, and then those of the second one, which leave for one another and in `close`.
+const SECOND: [Window; 2] = [(0, (0, 0), (3, 2), 0), (1, (0, 0), (3, 2), 6)];
+
+const FIRST: [Window; 1] = [(0, (0, 0), (3, 2), 0)];
+
+const FIRST_PART: [Window; 1] = [(0, (1, 0), (1, 2), 0)];
+
+const LOST: Ended = Ended::Refused(TargetFault::FolderFault, true);
+
+const UNPUBLISHED: Ended = Ended::NotClosed(0, TargetFault::FolderFault);
+
+/// What is written through a pool of one block, its windows, and how it ends where its first read fails, its second
+/// one, and so on.
+type Read<'a> = (Asked, &'a [Window], &'a [Ended]);
+
+// A block that wasn't written before isn't read, and one that was is read where it comes back. Where samples of other
+// bands stand between those of a line, they are read before it leaves, if one of them was written before.
+const READS: [Read; 12] = [
+    (BANDS, &APART, &[Ended::Closed]),
+    (BANDS_BSQ, &APART, &[Ended::Closed]),
+    (TILE, &TILE_APART, &[Ended::Closed]),
+    (CELL, &CELL_APART, &[Ended::Closed]),
+    (BANDS, &AGAIN, &[LOST, Ended::Closed]),
+    (BANDS_BSQ, &AGAIN, &[LOST, Ended::Closed]),
+    (TILE, &AGAIN, &[LOST, Ended::Closed]),
+    (CELL, &CELL_AGAIN, &[LOST, Ended::Closed]),
+    (BANDS_BIP, &AGAIN, &[LOST]),
+    (BANDS_BIP, &FIRST, &[Ended::Closed]),
+    (BANDS_BIP, &FIRST_PART, &[Ended::Closed]),
+    (BANDS_BIP, &SECOND, &[LOST, UNPUBLISHED, Ended::Closed]),
+];
+
+// Whether an output ends so where each of its reads fails in turn.
+fn is_ended(alloc: Global, asked: &Asked, story: Story<'_>, ends: &[Ended]) -> Result<bool, Fail> {
+    let mut all = true;
+    for (at, end) in ends.iter().enumerate() {
+        let failing = Failing::Of(Method::DraftRead, (at as u64).saturating_add(1));
+        if ended(alloc, asked, story, 1, failing)? != *end {
+            all = false;
+        }
+    }
+    Ok(all)
+}
+
+// The first of these that ends otherwise, or how many there are.
+fn first_otherwise(alloc: Global) -> Result<usize, Fail> {
+    let samples = samples_in(alloc, (0, 100), 400)?;
+    let samples = samples.as_slice();
+    for (at, (asked, windows, ends)) in READS.iter().enumerate() {
+        let story = Story { windows, samples };
+        if !is_ended(alloc, asked, story, ends)? {
+            return Ok(at);
+        }
+    }
+    Ok(READS.len())
+}
+
+#[test]
+fn blocks_that_were_not_written_are_not_read(rt: HostRuntime) -> Result<(), Fail> {
+    assert_eq!(rt; first_otherwise(rt.alloc())?, READS.len());
     Ok(())
 }

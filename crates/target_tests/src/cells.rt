@@ -1,6 +1,6 @@
 // Cells of level 0: their bytes at each capacity, written by lines and by columns and patched once more.
 use crate::fixtures::{Asked, Ended, Form, Order, Story, Window, folder_of, ordered, written};
-use crate::pixels::{ELEVATIONS, number_of, pixel, samples_in};
+use crate::pixels::{ELEVATIONS, meets_column, number_of, pixel, samples_in};
 use geotransform::Sample;
 use std::alloc::{AllocError, Global};
 use std::test::*;
@@ -96,10 +96,23 @@ fn record_in(bytes: &[u8], x: u8) -> Option<&[u8]> {
     Some(&bytes[from..from + RECORD])
 }
 
+// Whether a column that a window meets has its record, and another one zeros.
+fn is_column(record: &[u8], story: Story<'_>, x: u8) -> bool {
+    if story
+        .windows
+        .iter()
+        .any(|window| meets_column(window, x as u16))
+    {
+        is_record(record, story, x)
+    } else {
+        record.iter().all(|byte| *byte == 0)
+    }
+}
+
 fn has_record(bytes: &[u8], story: Story<'_>, x: u8) -> bool {
     match record_in(bytes, x) {
         None => false,
-        Some(record) => is_record(record, story, x),
+        Some(record) => is_column(record, story, x),
     }
 }
 
@@ -193,6 +206,28 @@ fn cells_are_written_by_lines(rt: HostRuntime) -> Result<(), Fail> {
 fn cells_are_written_by_columns(rt: HostRuntime) -> Result<(), Fail> {
     let windows = by_columns(rt.alloc())?;
     assert!(rt; each_is_written(rt.alloc(), windows.as_slice())?);
+    Ok(())
+}
+
+// Single points, parts of columns and of lines, a whole column, nothing, and parts of what was written, from the east
+// to the west and back; no window meets columns 42 to 47 and 53 to 117.
+const APART: [Window; 11] = [
+    (0, (120, 120), (1, 1), 0),
+    (0, (48, 7), (5, 1), 1),
+    (0, (50, 0), (1, 121), 6),
+    (0, (9, 119), (33, 2), 127),
+    (0, (3, 40), (2, 60), 200),
+    (0, (60, 60), (0, 5), 320),
+    (0, (0, 0), (5, 3), 320),
+    (0, (70, 9), (4, 0), 335),
+    (0, (49, 5), (3, 4), 335),
+    (0, (118, 118), (3, 3), 347),
+    (0, (4, 99), (6, 22), 356),
+];
+
+#[test]
+fn columns_that_no_window_meets_are_zeros(rt: HostRuntime) -> Result<(), Fail> {
+    assert!(rt; each_is_written(rt.alloc(), &APART)?);
     Ok(())
 }
 

@@ -31,6 +31,12 @@ const PAIR_BIP: Asked = Asked {
     ..PAIR
 };
 
+const PAIR_BSQ: Asked = Asked {
+    form: Form::Raw(Layout::Bsq),
+    name: "out.bsq",
+    ..PAIR
+};
+
 // Columns of both bands, and a line of the first.
 const PAIR_WINDOWS: [Window; 4] = [
     (0, (0, 0), (1, 2), 0),
@@ -52,16 +58,17 @@ const SQUARE_WINDOWS: [Window; 2] = [(0, (0, 0), (2, 1), 0), (0, (0, 1), (2, 1),
 const SAMPLES: [Sample; 8] = [1, 2, 3, 4, 5, 6, 7, 8];
 
 // What the names hold before.
-const OLD: [File; 6] = [
+const OLD: [File; 7] = [
     ("out.bil", b"old data"),
     ("out.bip", b"old data"),
+    ("out.bsq", b"old data"),
     ("out.hdr", b"old header"),
     ("out.dt0", b"old cell"),
     ("N00E000.hgt", b"old tile"),
     ("h.asc", b"old grid"),
 ];
 
-// The data of both layouts: in lines of bands, and pixel by pixel.
+// The data of each layout: in lines of bands, pixel by pixel, and band by band.
 const BIL_FILES: [File; 2] = [
     ("out.bil", &[1, 0, 3, 5, 7, 8, 4, 6]),
     ("out.hdr", b"old header"),
@@ -72,13 +79,103 @@ const BIP_FILES: [File; 2] = [
     ("out.hdr", b"old header"),
 ];
 
+const BSQ_FILES: [File; 2] = [
+    ("out.bsq", &[1, 0, 7, 8, 3, 5, 4, 6]),
+    ("out.hdr", b"old header"),
+];
+
+/// A method, the number of the call of it that fails, and how far an output comes then: to its target (0), to its
+/// windows (1), to its first file (2), to its second one (3), to its end since there is no such call (4).
+type Call = (Method, u64, u8);
+
+// Through a pool of one block, each time that another block comes the held one is written, and the last one in
+// `close`.
+const PAIR_CALLS: [Call; 17] = [
+    (Method::Create, 1, 0),
+    (Method::Grow, 1, 0),
+    (Method::Create, 2, 0),
+    (Method::Append, 1, 0),
+    (Method::Create, 3, 4),
+    (Method::Grow, 2, 4),
+    (Method::Append, 2, 4),
+    (Method::DraftRead, 1, 1),
+    (Method::WriteAt, 1, 1),
+    (Method::WriteAt, 6, 1),
+    (Method::WriteAt, 7, 2),
+    (Method::WriteAt, 8, 4),
+    (Method::Publish, 1, 2),
+    (Method::Publish, 2, 3),
+    (Method::Publish, 3, 4),
+    (Method::Open, 1, 4),
+    (Method::ReadAt, 1, 4),
+];
+
+// The head of a cell is added before its draft grows.
+const CELL_CALLS: [Call; 14] = [
+    (Method::Create, 1, 0),
+    (Method::Append, 1, 0),
+    (Method::Grow, 1, 0),
+    (Method::Create, 2, 4),
+    (Method::Append, 2, 4),
+    (Method::Grow, 2, 4),
+    (Method::DraftRead, 1, 1),
+    (Method::WriteAt, 1, 1),
+    (Method::WriteAt, 2, 1),
+    (Method::WriteAt, 3, 2),
+    (Method::WriteAt, 4, 4),
+    (Method::Publish, 1, 2),
+    (Method::Publish, 2, 4),
+    (Method::Open, 1, 4),
+];
+
+const TILE_CALLS: [Call; 12] = [
+    (Method::Create, 1, 0),
+    (Method::Grow, 1, 0),
+    (Method::Create, 2, 4),
+    (Method::Grow, 2, 4),
+    (Method::Append, 1, 4),
+    (Method::WriteAt, 1, 1),
+    (Method::WriteAt, 2, 1),
+    (Method::WriteAt, 3, 2),
+    (Method::WriteAt, 4, 4),
+    (Method::Publish, 1, 2),
+    (Method::Publish, 2, 4),
+    (Method::Open, 1, 4),
+];
+
+// A grid's head and lines are added as they come.
+const SQUARE_CALLS: [Call; 11] = [
+    (Method::Create, 1, 0),
+    (Method::Append, 1, 0),
+    (Method::Create, 2, 4),
+    (Method::Append, 2, 1),
+    (Method::Append, 3, 1),
+    (Method::Append, 4, 4),
+    (Method::Grow, 1, 4),
+    (Method::DraftRead, 1, 4),
+    (Method::WriteAt, 1, 4),
+    (Method::Publish, 1, 2),
+    (Method::Publish, 2, 4),
+];
+
+// The calls of an output of a form.
+fn calls_of(form: Form) -> &'static [Call] {
+    match form {
+        Form::Raw(_) => &PAIR_CALLS,
+        Form::Cell => &CELL_CALLS,
+        Form::Tile => &TILE_CALLS,
+        Form::Grid => &SQUARE_CALLS,
+    }
+}
+
 /// What is asked for, its windows, and what the names hold where the data is published and the header isn't; a file
 /// that has no header is never published alone.
 type Row<'a> = (Asked, &'a [Window], &'a [File<'a>]);
 
-const ROWS: [Row; 5] = [
+const ROWS: [Row; 6] = [
     (PAIR, &PAIR_WINDOWS, &BIL_FILES),
     (PAIR_BIP, &PAIR_WINDOWS, &BIP_FILES),
+    (PAIR_BSQ, &PAIR_WINDOWS, &BSQ_FILES),
     (CELL, &CELL_WINDOWS, &[]),
     (TILE, &TILE_WINDOWS, &[]),
     (SQUARE, &SQUARE_WINDOWS, &[]),
@@ -162,33 +259,30 @@ fn each_call_may_fail(rt: HostRuntime) -> Result<(), Fail> {
     Ok(())
 }
 
-// Calls of pixels that lie band by band, and how far they come where that call fails.
-const CALLS: [(Method, u64, u8); 9] = [
-    (Method::Create, 1, 0),
-    (Method::Grow, 1, 0),
-    (Method::Create, 2, 0),
-    (Method::Append, 1, 0),
-    (Method::DraftRead, 1, 1),
-    (Method::WriteAt, 1, 1),
-    (Method::Publish, 1, 2),
-    (Method::Publish, 2, 3),
-    (Method::Publish, 3, 4),
-];
-
-// The first of these calls whose failing leads elsewhere, or how many there are.
-fn first_elsewhere(alloc: Global) -> Result<usize, Fail> {
-    let order = ordered(alloc, &PAIR_BIP)?;
-    for (at, (method, number, stage)) in CALLS.iter().enumerate() {
+// The first of an output's calls whose failing leads elsewhere, or None.
+fn wrong_method(alloc: Global, (asked, windows, published): Row<'_>) -> Result<Option<Call>, Fail> {
+    let order = ordered(alloc, &asked)?;
+    for (method, number, stage) in calls_of(asked.form) {
         let failing = Failing::Of(*method, *number);
-        if stage_at(alloc, &order, &PAIR_WINDOWS, &BIP_FILES, failing)? != Some(*stage) {
+        if stage_at(alloc, &order, windows, published, failing)? != Some(*stage) {
+            return Ok(Some((*method, *number, *stage)));
+        }
+    }
+    Ok(None)
+}
+
+// The first of these outputs of which a call leads elsewhere, or how many there are.
+fn first_astray(alloc: Global) -> Result<usize, Fail> {
+    for (at, row) in ROWS.iter().enumerate() {
+        if wrong_method(alloc, *row)?.is_some() {
             return Ok(at);
         }
     }
-    Ok(CALLS.len())
+    Ok(ROWS.len())
 }
 
 #[test]
 fn each_method_may_fail(rt: HostRuntime) -> Result<(), Fail> {
-    assert_eq!(rt; first_elsewhere(rt.alloc())?, CALLS.len());
+    assert_eq!(rt; first_astray(rt.alloc())?, ROWS.len());
     Ok(())
 }

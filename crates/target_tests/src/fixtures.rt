@@ -343,3 +343,45 @@ pub fn written<F: Folder>(
         Err(fault) => Ended::NotMade(fault),
     }
 }
+
+// Puts windows into a target, and gives it up: whether each was put.
+fn given_up<F: Folder, L: Ledger>(
+    alloc: Global,
+    folder: &mut F,
+    mut target: Target<F>,
+    story: Story<'_>,
+    blank: Blank,
+) -> bool
+    requires target { IsTarget (F.names folder.old) target }
+    requires name { blank.name ≡ L.name }
+    requires parts { blank.parts ≡ L.parts }
+    requires some { 0 < blank.parts }
+{
+    let mut writes: Steps<L> = Steps::open(blank);
+    let samples = story.samples;
+    let mut all = true;
+    for window in story.windows {
+        if put(alloc, &mut target, folder, window, samples, &mut writes) != Ok(true) {
+            all = false;
+        }
+    }
+    target.give_up(folder);
+    all
+}
+
+/// Puts windows into an output's target through a pool of so many blocks, and gives it up: whether each was put.
+pub fn tried<F: Folder>(
+    alloc: Global,
+    folder: &mut F,
+    order: &Order,
+    capacity: u16,
+    story: Story<'_>,
+) -> bool {
+    if capacity == 0 || !is_named_for(&order.plan, &order.name) {
+        return false;
+    }
+    match Target::create(alloc, folder, &order.plan, &order.name, capacity as u32) {
+        Ok(target) => given_up::<F, Brand>(alloc, folder, target, story, Blank::new(1)),
+        Err(_) => false,
+    }
+}

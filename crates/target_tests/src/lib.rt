@@ -11,6 +11,8 @@ mod failing;
 #[cfg(test)]
 mod fixtures;
 #[cfg(test)]
+mod grids;
+#[cfg(test)]
 mod pixels;
 #[cfg(test)]
 mod raw;

@@ -80,6 +80,23 @@ pub fn pixel(story: Story<'_>, place: (u16, u16, u16)) -> Sample {
     seen
 }
 
+// Whether a place is one of so many from a first one on.
+fn is_from(first: u16, count: u16, place: u16) -> bool {
+    place >= first && place - first < count
+}
+
+/// Whether a window has a pixel in a line.
+pub fn meets_line(window: &Window, y: u16) -> bool {
+    let (_, (_, top), (w, h), _) = *window;
+    w > 0 && is_from(top, h, y)
+}
+
+/// Whether a window has a pixel in a column.
+pub fn meets_column(window: &Window, x: u16) -> bool {
+    let (_, (left, _), (w, h), _) = *window;
+    h > 0 && is_from(left, w, x)
+}
+
 /// The number that bytes are, the first of which is the most significant.
 pub fn number_of(bytes: &[u8]) -> u64 {
     let mut number = 0u64;

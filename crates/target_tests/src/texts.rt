@@ -137,10 +137,21 @@ fn is_written(
     Ok(closed && has_all(alloc, &folder, files)?)
 }
 
-// The first of these rows whose files are others at a pool of one block or of two, or how many rows there are.
+// Whether the files of a row are these at each of some capacities.
+fn each_is_written(alloc: Global, row: Row<'_>) -> Result<bool, Fail> {
+    let mut all = true;
+    for capacity in [1, 2, 3, 4, 200] {
+        if !is_written(alloc, row, capacity)? {
+            all = false;
+        }
+    }
+    Ok(all)
+}
+
+// The first of these rows whose files are others, or how many rows there are.
 fn first_unwritten(alloc: Global) -> Result<usize, Fail> {
     for (at, row) in ROWS.iter().enumerate() {
-        if !is_written(alloc, *row, 1)? || !is_written(alloc, *row, 2)? {
+        if !each_is_written(alloc, *row)? {
             return Ok(at);
         }
     }

@@ -1,6 +1,6 @@
-// A tile of 1201 columns and lines, by a few windows, at chosen pixels.
+// A tile of 1201 columns and lines, by a few windows: all its pixels.
 use crate::fixtures::{Asked, Ended, Form, Order, Story, Window, folder_of, ordered, written};
-use crate::pixels::{INT16, number_of, pixel, samples_in};
+use crate::pixels::{INT16, meets_line, number_of, pixel, samples_in};
 use geotransform::Sample;
 use std::alloc::Global;
 use std::test::*;
@@ -31,61 +31,50 @@ const WINDOWS: [Window; 9] = [
     (0, (0, 1199), (2, 2), 3500),
 ];
 
-// The columns and the lines of pixels in the windows, on their edges and beside them.
-const PLACES: [(u16, u16); 27] = [
-    (0, 0),
-    (1199, 0),
-    (1200, 0),
-    (3, 1),
-    (4, 1),
-    (2, 2),
-    (3, 2),
-    (3, 3),
-    (1200, 2),
-    (1199, 3),
-    (1200, 3),
-    (1200, 49),
-    (1200, 50),
-    (1200, 1180),
-    (600, 598),
-    (606, 598),
-    (607, 598),
-    (598, 600),
-    (599, 600),
-    (601, 600),
-    (602, 600),
-    (606, 602),
-    (606, 603),
-    (0, 1199),
-    (1, 1200),
-    (2, 1200),
-    (1200, 1200),
-];
+// The bytes of a line of 1201 pixels.
+const LINE: usize = 2402;
 
-// The two bytes of a pixel of a tile of 1201 columns, where they are there.
-fn bytes_at(bytes: &[u8], x: u16, y: u16) -> Option<&[u8]> {
-    let from = 2 * (1201 * y as usize + x as usize);
-    if from + 2 > bytes.len() {
+// The bytes of a line of a tile, where they are there.
+fn line_in(bytes: &[u8], y: u16) -> Option<&[u8]> {
+    let from = LINE * y as usize;
+    if from + LINE > bytes.len() {
         return None;
     }
-    Some(&bytes[from..from + 2])
+    Some(&bytes[from..from + LINE])
 }
 
-fn is_pixel(bytes: &[u8], story: Story<'_>, (x, y): (u16, u16)) -> bool {
+fn is_pixel(line: &[u8], story: Story<'_>, x: u16, y: u16) -> bool {
+    let at = 2 * x as usize;
+    if at + 2 > line.len() {
+        return false;
+    }
     let sample = pixel(story, (0, x, y));
     let unsigned = if sample < 0 {
         sample.wrapping_add(65_536)
     } else {
         sample
     };
-    match bytes_at(bytes, x, y) {
+    number_of(&line[at..at + 2]) as Sample == unsigned
+}
+
+// Whether a line that a window meets has its pixels, and another one zeros.
+fn is_line(line: &[u8], story: Story<'_>, y: u16) -> bool {
+    if story.windows.iter().any(|window| meets_line(window, y)) {
+        (0..1201u16).all(|x| is_pixel(line, story, x, y))
+    } else {
+        line.iter().all(|byte| *byte == 0)
+    }
+}
+
+fn has_line(bytes: &[u8], story: Story<'_>, y: u16) -> bool {
+    match line_in(bytes, y) {
         None => false,
-        Some(found) => number_of(found) as Sample == unsigned,
+        Some(line) => is_line(line, story, y),
     }
 }
 
 fn is_tile(bytes: &[u8], story: Story<'_>) -> bool {
-    bytes.len() == 2_884_802 && PLACES.iter().all(|place| is_pixel(bytes, story, *place))
+    bytes.len() == 2_884_802 && (0..1201u16).all(|y| has_line(bytes, story, y))
 }
 
 // Whether the windows of a tile end as its file at a capacity.

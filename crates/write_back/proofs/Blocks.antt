@@ -1,6 +1,6 @@
 -- What a line of raw data or of a tile is as a block.
 use Rattle.std.proofs.Common.{◌≡◌, ℕ, suc, ℤ, pos, ◌+◌, ◌*◌, ◌<◌, ◌≤◌, ◌⊎◌, inl, inr, ⊎_elim, true, List, [], ◌∷◌, get_or, length, map, take, drop, sym, ap, ◌∙◌, subst, refl, arith, zero-add, length-append}
-use Rattle.std.specs.Prelude.{Option, Some, Result, Ok, Err, OnOk}
+use Rattle.std.specs.Prelude.{Bool, Option, Some, Result, Ok, Err, OnOk}
 use Rattle.std.specs.List.{All, list_all, range_with_len}
 use Rattle.std.proofs.lemmas.List.Sums.{AllPass-from_list_all}
 use Rattle.std.specs.Int.{w16, cast_signed}
@@ -21,9 +21,10 @@ use Rattle.band_blocks.specs.declared.key.BlockKey.{BlockKey}
 use Rattle.write_back.specs.declared.forms.Writer.{Writer}
 use Rattle.write_back.specs.declared.forms.Writer.TheVariants.{Raw, Hgt}
 use Rattle.band_blocks.specs.Blocks.{BlockView}
-use Rattle.write_back.specs.Forms.{IsSpot, holds, needed_of, AreHeld}
+use Rattle.write_back.specs.Forms.{cut_of, IsSpot, holds, needed_of, AreHeld, IsFormed}
 use Rattle.write_back.specs.Overlay.{line_key, held_in, IsBlockWritten, IsLine}
-use Rattle.write_back.specs.Pieces.{AreBytes, IsRunWritten}
+use Rattle.write_back.specs.Pieces.{AreBytes, IsClear, IsRunWritten}
+use Rattle.write_back.specs.Unwritten.{IsBlank}
 use Rattle.write_back.proofs.Lines.{line_is}
 use Rattle.write_back.proofs.Runs.{put_len, put_small, put_stands, put_below, put_past}
 
@@ -43,6 +44,21 @@ raw_written h key line b c file put = record {
   met = tt;
   stays = λ v less was. tt;
 }
+
+module _ {E : Type 0} (h : Head) (key : BlockKey) (block : BlockView) (old new : Option (List ℕ)) (blank : Bool) where
+  raw_done : (r : Result (Unit {0}) E) → IsLine (Raw h) key block
+      → OnOk r ((b : List ℕ) → old ≡ Some b → length b ≡ needed_of (Raw h) → (blank ≡ true → IsClear h key.band 0 key.block b) → (c : List ℕ) × (new ≡ Some c) × IsRunWritten h key.band key.block 0 h.size.w block.samples b c)
+      → OnOk r ((b : List ℕ) → old ≡ Some b → length b ≡ needed_of (Raw h) → IsFormed (Raw h) b → (blank ≡ true → (k : ℕ) → k < (cut_of (Raw h)).bands → IsBlank (Raw h) b k key.block) → (c : List ℕ) × (new ≡ Some c) × IsBlockWritten (Raw h) key block.samples b c)
+  raw_done (Err e) line put = put
+  raw_done (Ok x) line put = λ b told long formed zeros.
+      let now = put b told long (λ is. record { small = formed; zeros = λ k u place after. zeros is k place.band u place.column }) in
+      (now.0, now.1, raw_written h key block.samples b now.0 line.dataset_is now.2)
+
+  pub raw_block : (w : Writer) (r : Result (Unit {0}) E) → w ≡ Raw h → IsLine w key block
+      → OnOk r ((b : List ℕ) → old ≡ Some b → length b ≡ needed_of (Raw h) → (blank ≡ true → IsClear h key.band 0 key.block b) → (c : List ℕ) × (new ≡ Some c) × IsRunWritten h key.band key.block 0 h.size.w block.samples b c)
+      → OnOk r ((b : List ℕ) → old ≡ Some b → length b ≡ needed_of w → IsFormed w b → (blank ≡ true → (k : ℕ) → k < (cut_of w).bands → IsBlank w b k key.block) → (c : List ℕ) × (new ≡ Some c) × IsBlockWritten w key block.samples b c)
+  raw_block w r is line put = subst (λ v. OnOk r ((b : List ℕ) → old ≡ Some b → length b ≡ needed_of v → IsFormed v b → (blank ≡ true → (k : ℕ) → k < (cut_of v).bands → IsBlank v b k key.block) → (c : List ℕ) × (new ≡ Some c) × IsBlockWritten v key block.samples b c)) (sym is)
+      (raw_done r (subst (λ v. IsLine v key block) is line) put)
 
 pub raw_row : (h : Head) (b : List ℕ) (band y : ℕ) → row_of h b band 0 y h.size.w ≡ held_in (Raw h) b band y
 raw_row h b band y = range_same (λ i. raw_at h b band (0 + i) y) (λ i. raw_at h b band i y) h.size.w (λ i less. ap (λ j. raw_at h b band j y) (zero-add i))

@@ -5,6 +5,7 @@ pub mod Blocks
 pub mod CellBlocks
 pub mod CellHeads
 pub mod CellSamples
+pub mod Cleared
 pub mod Counting
 pub mod Data
 pub mod Decoded
@@ -12,6 +13,7 @@ pub mod Exact
 pub mod GridRows
 pub mod HeaderNames
 pub mod HeldFiles
+pub mod Known
 pub mod Lines
 pub mod Made
 pub mod MetColumns
@@ -27,4 +29,5 @@ pub mod States
 pub mod Taken
 pub mod Transposed
 pub mod TileNames
+pub mod ZeroBytes
 pub mod Zeros

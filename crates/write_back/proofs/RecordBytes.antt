@@ -65,28 +65,3 @@ elevations h bytes small = λ k d below.
     let less : k < h.points = omega arith in
     ap is_elevation (get_or-map-range_with_len (elevation_in h bytes) 0 h.points k k d less (zero-add k))
     ∙ elevation_in_range (two_at bytes (point_of h k)) (big_from-lt 0 2 (part (point_of h k) 2 bytes) (part_small (point_of h k) bytes small))
-
--- a column of zeros
-got_same : (n k : ℕ) → get_or (replicate n (pos 0)) k (pos 0) ≡ pos 0
-got_same zero k = refl
-got_same (suc n) zero = refl
-got_same (suc n) (suc k) = got_same n k
-
-pub zero_column : (h : Head) (b : List ℕ) (x : ℕ) → ((y : ℕ) → y < h.points → dted_at h b x y ≡ pos 0) → replicate h.points (pos 0) ≡ column_of h b x
-zero_column h b x zeros = fill_by_all (λ y. dted_at h b x y) (replicate h.points (pos 0)) h.points (pos 0) (length-replicate h.points (pos 0)) (λ k below. got_same h.points k ∙ sym (zeros k below))
-
--- a record of bytes that are 0 holds elevations that are 0
-pub cleared : (h : Head) (bytes : List ℕ) (n : ℕ) → bytes ≡ replicate n 0 → record_len h ≤ n → map (elevation_in h bytes) (range_with_len 0 h.points) ≡ replicate h.points (pos 0)
-cleared h bytes n is long =
-    ap (λ (l : List ℕ). map (elevation_in h l) (range_with_len 0 h.points)) is
-    ∙ sym (fill_by_all (elevation_in h (replicate n 0)) (replicate h.points (pos 0)) h.points (pos 0) (length-replicate h.points (pos 0)) (λ k below.
-    got_same h.points k
-    ∙ sym (ap (λ (l : List ℕ). elevation (big_number 2 l)) (ap (take 2) (drop-replicate (point_of h k) n 0) ∙ take-replicate 2 (n - point_of h k) 0 (omega arith)))))
-
--- a column of zeros can be written
-pub zeros_written : (n : ℕ) → All (λ n. is_elevation n ≡ true) (replicate n (pos 0))
-zeros_written n = λ k d below. ap is_elevation (get_or-replicate n k (pos 0) d (let e = length-replicate {A = ℤ} n (pos 0) in omega arith))
-
--- the first of the bytes from a place on
-pub first_at : (b out : List ℕ) (at : ℕ) → out ≡ take 1 (drop at b) → get_or out 0 0 ≡ get_or b at 0
-first_at b out at is = ap (λ (l : List ℕ). get_or l 0 0) is ∙ get_or-take 1 (drop at b) 0 0 (omega arith) ∙ get_or-drop at b 0 0 ∙ ap (λ i. get_or b i 0) (let e : at + 0 ≡ at = omega arith in e)

@@ -9,4 +9,5 @@ pub mod Reading
 pub mod Seen
 pub mod State
 pub mod Turned
+pub mod Unwritten
 pub mod View

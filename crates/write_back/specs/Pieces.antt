@@ -1,5 +1,5 @@
 -- How the lines of a raw file are written: in pieces, through room that is used again.
-use Rattle.std.specs.Prelude.{◌≡◌, ◌⊎◌, get_or, ℕ, ℤ, pos, length, ◌+◌, ◌-◌, ◌*◌, ◌/◌, ◌<◌, ◌≤◌, List}
+use Rattle.std.specs.Prelude.{◌≡◌, ◌⊎◌, get_or, replicate, ℕ, ℤ, pos, length, ◌+◌, ◌-◌, ◌*◌, ◌/◌, ◌<◌, ◌≤◌, Bool, true, List}
 use Rattle.esri_hdr.specs.Head.{Head, sample_len}
 use Rattle.interleaved_raw.specs.Raw.{stride_of, raw_at, IsPlace}
 use Rattle.lists_and_answers.specs.Places.{StandsAt}
@@ -25,6 +25,10 @@ pub record FitsHead (h : Head) (step bytes : ℕ) : Type 0 where
 abbrev pub HasBetween : Head → List ℕ → List ℕ → ℕ → Type 0
 HasBetween h draft bytes at = (stride_of h ≡ sample_len h.kind) ⊎ StandsAt draft bytes at
 
+-- what a line's samples are put between: what stands in a draft, or zeros where the line is blank
+abbrev pub HasAround : Bool → Head → List ℕ → List ℕ → ℕ → Type 0
+HasAround blank h draft bytes at = HasBetween h draft bytes at ⊎ ((blank ≡ true) × (bytes ≡ replicate (length bytes) 0))
+
 -- each number of a list is one of a byte
 abbrev pub AreBytes : List ℕ → Type 0
 AreBytes bytes = (i : ℕ) → get_or bytes i 0 < 256
@@ -42,6 +46,11 @@ pub record IsRunWritten (h : Head) (band y x n : ℕ) (line : List ℤ) (old new
   pub small : AreBytes old → AreBytes new
   pub here : (u : ℕ) → x ≤ u → u < x + n → raw_at h new band u y ≡ get_or line u (pos 0)
   pub others : (k u v : ℕ) → IsPlace h k u v → (IsInRun band y x n k u v → ⊥) → raw_at h new k u v ≡ raw_at h old k u v
+
+-- all samples of a line are 0, but for the first x of a band
+pub record IsClear (h : Head) (band x y : ℕ) (bytes : List ℕ) : Type 0 where
+  pub small : AreBytes bytes
+  pub zeros : (k u : ℕ) → IsPlace h k u y → (k ≡ band → x ≤ u) → raw_at h bytes k u y ≡ pos 0
 
 -- room for the bytes of a line of a tile
 pub record FitsSide (side bytes : ℕ) : Type 0 where

@@ -3,9 +3,15 @@ use Rattle.std.specs.Prelude.{ℕ, List, [], Option}
 use Rattle.block_cache.specs.Entries.{pool_view}
 use Rattle.write_back.specs.declared.sheet.Kind.{Kind}
 use Rattle.write_back.specs.declared.sheet.Kind.TheVariants as kinds
+use Rattle.write_back.specs.declared.store.Store.{Store}
+use Rattle.write_back.specs.Unwritten.{known}
 use Rattle.write_back.specs.View.{Blocks, Rows, SheetView}
+
+-- what a store knows of its draft's bytes
+abbrev pub known_in : {F File D : Type 0} → (D → Option (List ℕ)) → Store F File D → Option (List ℕ)
+known_in bytes s = known s.writer s.written (bytes s.draft)
 
 -- blocks have a pool, and lines a count
 abbrev pub sheet_of : {F File D : Type 0} → (D → Option (List ℕ)) → (D → ℕ) → (D → List ℕ) → Kind F File D → SheetView
-sheet_of bytes len name (kinds.Blocks s) = record { output = Blocks s.writer; pool = s.pool; draft = bytes s.draft; len = len s.draft; name = name s.draft; lines = 0 }
+sheet_of bytes len name (kinds.Blocks s) = record { output = Blocks s.writer; pool = s.pool; draft = known_in bytes s; len = len s.draft; name = name s.draft; lines = 0 }
 sheet_of bytes len name (kinds.Rows r) = record { output = Rows r.form; pool = pool_view [] 0; draft = bytes r.draft; len = len r.draft; name = name r.draft; lines = r.lines }

@@ -1,15 +1,15 @@
 // Columns of a DTED cell, each written and read as a whole record.
-ghost use Rattle.std.specs.Prelude.{◌≡◌, ◌<◌, ◌≤◌, ◌+◌, ◌*◌, ℕ, List, length, vec_len, vec_items, true, pos, replicate, Some, OnOk, IfOk};
+ghost use Rattle.std.specs.Prelude.{◌≡◌, ◌<◌, ◌≤◌, ◌+◌, ◌*◌, ℕ, List, length, vec_len, vec_items, true, Some, OnOk, IfOk};
 ghost use Rattle.std.specs.List.{All};
 ghost use Rattle.outside.specs.Causes.{HasCause, one_more};
 ghost use Rattle.outside.specs.Outside.{Written};
 ghost use Rattle.geotransform.specs.declared.types.PixelType.TheVariants.{Int16};
 ghost use Rattle.dted_records.specs.Head.{IsHead};
 ghost use Rattle.dted_records.specs.Places.{needed_of, record_len, record_of};
-ghost use Rattle.dted_records.specs.Records.{column_of, dted_at};
+ghost use Rattle.dted_records.specs.Records.{column_of};
 ghost use Rattle.lists_and_answers.specs.Places.{StandsAt};
 ghost use Rattle.dted_records.specs.Written.{record_bytes};
-ghost use Rattle.write_back.specs.Columns.{cell_of, is_elevation, IsBegun, IsCell};
+ghost use Rattle.write_back.specs.Columns.{cell_of, is_elevation};
 ghost use Rattle.write_back.specs.Pieces.{AreBytes};
 
 use crate::TargetFault;
@@ -95,7 +95,7 @@ impl ColumnWriter {
         put_record(folder, draft, &head, x, block, bytes)
     }
 
-    // Reads a column from the draft. Where its record wasn't begun its elevations are 0, and one byte alone is read.
+    // Reads a column from the draft, as a whole record.
     pub(crate) fn read_column<F: Folder>(
         &mut self,
         folder: &mut F,
@@ -108,7 +108,7 @@ impl ColumnWriter {
         requires kind { block.old.kind ≡ Int16 }
         requires room { length block.old.samples ≡ self.old.head.points }
         ensures cell { self.new ≡ self.old }
-        ensures told { OnOk result ((b : List ℕ) → F.draft_bytes draft.old ≡ Some b → length b ≡ needed_of self.old.head → IsCell self.old b → block.new.samples ≡ column_of self.old.head b x) }
+        ensures told { OnOk result ((b : List ℕ) → F.draft_bytes draft.old ≡ Some b → length b ≡ needed_of self.old.head → block.new.samples ≡ column_of self.old.head b x) }
         ensures kind { OnOk result (block.new.kind ≡ Int16) }
         ensures count { OnOk result (length block.new.samples ≡ self.old.head.points) }
         ensures range { OnOk result (All (λ n. is_elevation n ≡ true) block.new.samples) }
@@ -136,20 +136,6 @@ fn decode_column(head: &DtedHead, bytes: &[u8], block: &mut Block)
     ensures count { length block.new.samples ≡ head.now.points }
     ensures range { All (λ n. is_elevation n ≡ true) block.new.samples }
 {
-    block.decode_record(head, bytes);
-}
-
-// Makes each elevation of a column 0, through room for the bytes of a record.
-fn clear_column(head: &DtedHead, bytes: &mut [u8], block: &mut Block)
-    requires len { length bytes.old ≡ record_len head.now }
-    requires kind { block.old.kind ≡ Int16 }
-    requires points { length block.old.samples ≡ head.now.points }
-    ensures zeros { block.new.samples ≡ replicate head.now.points (pos 0) }
-    ensures kind { block.new.kind ≡ Int16 }
-    ensures count { length block.new.samples ≡ head.now.points }
-    ensures range { All (λ n. is_elevation n ≡ true) block.new.samples }
-{
-    bytes.fill(0);
     block.decode_record(head, bytes);
 }
 
@@ -196,7 +182,7 @@ fn get_record<F: Folder>(
     requires long { F.draft_len draft.old ≡ needed_of head.now }
     requires kind { block.old.kind ≡ Int16 }
     requires room { length block.old.samples ≡ head.now.points }
-    ensures told { OnOk result ((b : List ℕ) → F.draft_bytes draft.old ≡ Some b → length b ≡ needed_of head.now → ((y : ℕ) → y < head.now.points → (IsBegun head.now b x → ⊥) → dted_at head.now b x y ≡ pos 0) → block.new.samples ≡ column_of head.now b x) }
+    ensures told { OnOk result ((b : List ℕ) → F.draft_bytes draft.old ≡ Some b → length b ≡ needed_of head.now → block.new.samples ≡ column_of head.now b x) }
     ensures kind { OnOk result (block.new.kind ≡ Int16) }
     ensures count { OnOk result (length block.new.samples ≡ head.now.points) }
     ensures range { OnOk result (All (λ n. is_elevation n ≡ true) block.new.samples) }
@@ -209,12 +195,6 @@ fn get_record<F: Folder>(
     ensures cause { HasCause TargetFault.FolderFault (F.faults folder.old) (F.faults folder.new) result }
 {
     let at = head.record_at(x);
-    let mut first = [0u8; 1];
-    folder.draft_read(draft, at, &mut first)?;
-    if first[0] != 170 {
-        clear_column(head, bytes, block);
-        return Ok(());
-    }
     folder.draft_read(draft, at, bytes)?;
     decode_column(head, bytes, block);
     Ok(())

@@ -1,14 +1,15 @@
 // What differs between the outputs that are written through a pool of blocks.
-ghost use Rattle.std.specs.Prelude.{◌≡◌, ◌<◌, ◌≤◌, ◌+◌, ◌*◌, ◌^◌, ℕ, List, length, Some, OnOk};
+ghost use Rattle.std.specs.Prelude.{◌≡◌, ◌<◌, ◌≤◌, ◌+◌, ◌*◌, ◌^◌, ℕ, List, length, Some, true, OnOk};
 ghost use Rattle.outside.specs.Causes.{HasCause};
 ghost use Rattle.write_back.specs.Forms.{cut_of, height_of, holds, most_calls, needed_of, width_of, IsFormed};
 ghost use Rattle.write_back.specs.Overlay.{held_in, line_key, IsBlockWritten, IsLine};
+ghost use Rattle.write_back.specs.Unwritten.{IsBlank};
 
 use crate::TargetFault;
 use crate::cells::ColumnWriter;
 use crate::tiles::TileWriter;
 use crate::writer::LineWriter;
-use band_blocks::{Block, BlockKey};
+use band_blocks::{Block, BlockKey, Row};
 use geotransform::{PixelType, Sample, Size, holds};
 use outside::Folder;
 
@@ -103,18 +104,19 @@ impl Writer {
         }
     }
 
-    // Writes a block into the draft.
+    // Writes a block into the draft. The block of each band may be blank there: then nothing is read first.
     pub(crate) fn write_block<F: Folder>(
         &mut self,
         folder: &mut F,
         draft: &mut F::Draft,
         key: BlockKey,
         block: &Block,
+        blank: bool,
     ) -> Result<(), TargetFault>
         requires line { IsLine self.old key block.now }
         requires long { F.draft_len draft.old ≡ needed_of self.old }
         ensures same { self.new ≡ self.old }
-        ensures told { OnOk result ((b : List ℕ) → F.draft_bytes draft.old ≡ Some b → length b ≡ needed_of self.old → (c : List ℕ) × (F.draft_bytes draft.new ≡ Some c) × IsBlockWritten self.old key block.now.samples b c) }
+        ensures told { OnOk result ((b : List ℕ) → F.draft_bytes draft.old ≡ Some b → length b ≡ needed_of self.old → IsFormed self.old b → (blank ≡ true → (k : ℕ) → k < (cut_of self.old).bands → IsBlank self.old b k key.block) → (c : List ℕ) × (F.draft_bytes draft.new ≡ Some c) × IsBlockWritten self.old key block.now.samples b c) }
         ensures len { OnOk result (F.draft_len draft.new ≡ F.draft_len draft.old) }
         ensures name { F.draft_name draft.new ≡ F.draft_name draft.old }
         ensures names { F.names folder.new ≡ F.names folder.old }
@@ -125,7 +127,11 @@ impl Writer {
         match self {
             Writer::Raw(lines) => {
                 let _head = lines.head();
-                lines.write_line(folder, draft, key.band, key.block as u32, block)
+                let row = Row {
+                    band: key.band,
+                    y: key.block as u32,
+                };
+                lines.write_line(folder, draft, row, block, blank)
             }
             Writer::Hgt(tile) => {
                 let _side = tile.side();
@@ -153,7 +159,7 @@ impl Writer {
         requires kind { into.old.kind ≡ (cut_of self.old).kind }
         requires room { length into.old.samples ≡ (cut_of self.old).spots }
         ensures same { self.new ≡ self.old }
-        ensures told { OnOk result ((b : List ℕ) → F.draft_bytes draft.old ≡ Some b → length b ≡ needed_of self.old → IsFormed self.old b → into.new.samples ≡ held_in self.old b band block) }
+        ensures told { OnOk result ((b : List ℕ) → F.draft_bytes draft.old ≡ Some b → length b ≡ needed_of self.old → into.new.samples ≡ held_in self.old b band block) }
         ensures line { OnOk result (IsLine self.old (line_key band block) into.new) }
         ensures bytes { F.draft_bytes draft.new ≡ F.draft_bytes draft.old }
         ensures len { F.draft_len draft.new ≡ F.draft_len draft.old }

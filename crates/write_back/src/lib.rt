@@ -15,6 +15,7 @@ mod store;
 mod target;
 mod tiles;
 mod turned;
+mod unwritten;
 mod writer;
 
 pub use fault::{CloseFault, TargetFault};

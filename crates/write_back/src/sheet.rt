@@ -1,5 +1,5 @@
 // The data of an output: blocks through a pool, or lines of text one behind the other.
-ghost use Rattle.std.specs.Prelude.{◌≡◌, ◌<◌, ◌≤◌, ◌+◌, ◌*◌, length, true, OnOk};
+ghost use Rattle.std.specs.Prelude.{◌≡◌, ◌<◌, ◌≤◌, ◌+◌, ◌*◌, ℕ, List, length, Some, true, OnOk};
 ghost use Rattle.std.specs.List.{list_all};
 ghost use Rattle.outside.specs.Causes.{HasCause};
 ghost use Rattle.write_back.specs.View.{bands_of, columns_of, is_writable, rows_of, AreWritable, Finishes, IsNext, IsSoundOn, IsRightOn, Keeps, Puts};
@@ -143,7 +143,7 @@ impl<F: Folder> Sheet<F> {
 
     // The draft of the data.
     pub(crate) fn into_draft(self) -> F::Draft
-        ensures bytes { F.draft_bytes result ≡ self.draft }
+        ensures bytes { (b : List ℕ) → self.draft ≡ Some b → F.draft_bytes result ≡ Some b }
         ensures name { F.draft_name result ≡ self.name }
     {
         let Sheet { kind } = self;
@@ -153,6 +153,7 @@ impl<F: Folder> Sheet<F> {
                     writer: _,
                     pool: _,
                     draft,
+                    written: _,
                     spare: _,
                 } = store;
                 draft

@@ -1,15 +1,17 @@
 // A pool of lines over a draft: a line that the pool drops is written, and one that it lacks is read back.
-ghost use Rattle.std.specs.Prelude.{◌≡◌, ◌<◌, ◌≤◌, ◌+◌, ◌*◌, [], ℕ, List, length, Some, None, true, false, OnOk, IfOk};
+ghost use Rattle.std.specs.Prelude.{◌≡◌, ◌<◌, ◌≤◌, ◌+◌, ◌*◌, [], ℕ, List, length, get_or, pos, Some, None, true, false, OnOk, IfOk};
 ghost use Rattle.outside.specs.Causes.{HasCause};
 ghost use Rattle.band_blocks.specs.Blocks.{written};
 ghost use Rattle.block_cache.specs.Entries.{held_at};
 ghost use Rattle.write_back.specs.Forms.{cut_of, needed_of, most_calls, AreHeld, IsFormed, IsSpot, width_of, height_of};
 ghost use Rattle.write_back.specs.Overlay.{IsLine, IsOverlaid, IsWindow, IsLineSet, AreSame, HoldsDirty, IsBlockWritten, held_in, line_rect, line_key};
+ghost use Rattle.write_back.specs.Seen.{known_in};
 ghost use Rattle.write_back.specs.State.{AreMet, Changes, IsSound, Serves, lines_met, store_state};
 
 use crate::TargetFault;
 use crate::forms::Writer;
 use crate::turned::{Span, group_width, turn_to};
+use crate::unwritten::Written;
 use band_blocks::{Block, BlockKey};
 use block_cache::Pool;
 use geotransform::{PixelType, Rect, Sample};
@@ -17,12 +19,13 @@ use outside::{Folder, Steps};
 use std::alloc::{AllocError, Global};
 use std::sync::ledger::Ledger;
 
-/// Lines of a raster: those in a pool, and those in a draft. A block that left the pool is spare, and the next one that
-/// comes takes its room.
+/// Lines of a raster: those in a pool, and those in a draft. A line that was never written to the draft is zeros there,
+/// and isn't read. A block that left the pool is spare, and the next one that comes takes its room.
 pub(crate) struct Store<F: Folder> {
     pub(crate) writer: Writer,
     pub(crate) pool: Pool,
     pub(crate) draft: F::Draft,
+    pub(crate) written: Written,
     pub(crate) spare: Option<Block>,
 }
 
@@ -52,6 +55,18 @@ fn room_for(
     Block::new(alloc, kind, len)
 }
 
+// Makes each sample of a block 0.
+#[tactic(auto, using(geotransform::proofs::Ranges::zero_in))]
+fn clear(block: &mut Block)
+    ensures kind { block.new.kind ≡ block.old.kind }
+    ensures count { length block.new.samples ≡ length block.old.samples }
+    ensures zeros { (u : ℕ) → get_or block.new.samples u (pos 0) ≡ pos 0 }
+{
+    for at in 0..block.len() {
+        block.set(at, 0);
+    }
+}
+
 impl<F: Folder> Store<F> {
     // Writes a line into the draft.
     fn write_out<L: Ledger>(
@@ -65,7 +80,7 @@ impl<F: Folder> Store<F> {
         requires long { F.draft_len self.old.draft ≡ needed_of self.old.writer }
         ensures head { self.new.writer ≡ self.old.writer }
         ensures pool { self.new.pool ≡ self.old.pool }
-        ensures written { OnOk result ((b : List ℕ) → F.draft_bytes self.old.draft ≡ Some b → length b ≡ needed_of self.old.writer → (c : List ℕ) × (F.draft_bytes self.new.draft ≡ Some c) × IsBlockWritten self.old.writer key block.now.samples b c) }
+        ensures written { OnOk result ((b : List ℕ) → known_in F.draft_bytes self.old ≡ Some b → length b ≡ needed_of self.old.writer → IsFormed self.old.writer b → (c : List ℕ) × (known_in F.draft_bytes self.new ≡ Some c) × IsBlockWritten self.old.writer key block.now.samples b c) }
         ensures len { OnOk result (F.draft_len self.new.draft ≡ F.draft_len self.old.draft) }
         ensures name { F.draft_name self.new.draft ≡ F.draft_name self.old.draft }
         ensures names { F.names folder.new ≡ F.names folder.old }
@@ -75,7 +90,12 @@ impl<F: Folder> Store<F> {
         ensures cause { HasCause TargetFault.FolderFault (F.faults folder.old) (F.faults folder.new) result }
     {
         writes.tick();
-        self.writer.write_block(folder, &mut self.draft, key, block)
+        let shape = self.writer.shape();
+        let number = key.block as u32;
+        let blank = self.written.is_blank(shape.bands, number);
+        self.written.mark(key.band, number);
+        self.writer
+            .write_block(folder, &mut self.draft, key, block, blank)
     }
 
     // Writes a line that left the pool into the draft.
@@ -90,7 +110,7 @@ impl<F: Folder> Store<F> {
         requires long { F.draft_len self.old.draft ≡ needed_of self.old.writer }
         ensures head { self.new.writer ≡ self.old.writer }
         ensures pool { self.new.pool ≡ self.old.pool }
-        ensures written { OnOk result ((b : List ℕ) → F.draft_bytes self.old.draft ≡ Some b → length b ≡ needed_of self.old.writer → (c : List ℕ) × (F.draft_bytes self.new.draft ≡ Some c) × IsBlockWritten self.old.writer key block.samples b c) }
+        ensures written { OnOk result ((b : List ℕ) → known_in F.draft_bytes self.old ≡ Some b → length b ≡ needed_of self.old.writer → IsFormed self.old.writer b → (c : List ℕ) × (known_in F.draft_bytes self.new ≡ Some c) × IsBlockWritten self.old.writer key block.samples b c) }
         ensures len { OnOk result (F.draft_len self.new.draft ≡ F.draft_len self.old.draft) }
         ensures name { F.draft_name self.new.draft ≡ F.draft_name self.old.draft }
         ensures names { F.names folder.new ≡ F.names folder.old }
@@ -115,8 +135,8 @@ impl<F: Folder> Store<F> {
         requires absent { held_at key self.old.pool.entries ≡ None }
         requires line { IsLine self.old.writer key block }
         ensures head { self.new.writer ≡ self.old.writer }
-        ensures serves { Serves self.old.writer 1 0 (store_state (F.names folder.old) self.old.pool (F.draft_bytes self.old.draft) (F.draft_len self.old.draft) (F.draft_name self.old.draft) (F.faults folder.old) (F.read_calls folder.old) (F.write_calls folder.old) writes.old) (store_state (F.names folder.new) self.new.pool (F.draft_bytes self.new.draft) (F.draft_len self.new.draft) (F.draft_name self.new.draft) (F.faults folder.new) (F.read_calls folder.new) (F.write_calls folder.new) writes.new) }
-        ensures changed { OnOk result (Changes self.old.writer (IsLineSet self.old.writer key block.samples) (store_state (F.names folder.old) self.old.pool (F.draft_bytes self.old.draft) (F.draft_len self.old.draft) (F.draft_name self.old.draft) (F.faults folder.old) (F.read_calls folder.old) (F.write_calls folder.old) writes.old) (store_state (F.names folder.new) self.new.pool (F.draft_bytes self.new.draft) (F.draft_len self.new.draft) (F.draft_name self.new.draft) (F.faults folder.new) (F.read_calls folder.new) (F.write_calls folder.new) writes.new)) }
+        ensures serves { Serves self.old.writer 1 0 (store_state (F.names folder.old) self.old.pool (known_in F.draft_bytes self.old) (F.draft_len self.old.draft) (F.draft_name self.old.draft) (F.faults folder.old) (F.read_calls folder.old) (F.write_calls folder.old) writes.old) (store_state (F.names folder.new) self.new.pool (known_in F.draft_bytes self.new) (F.draft_len self.new.draft) (F.draft_name self.new.draft) (F.faults folder.new) (F.read_calls folder.new) (F.write_calls folder.new) writes.new) }
+        ensures changed { OnOk result (Changes self.old.writer (IsLineSet self.old.writer key block.samples) (store_state (F.names folder.old) self.old.pool (known_in F.draft_bytes self.old) (F.draft_len self.old.draft) (F.draft_name self.old.draft) (F.faults folder.old) (F.read_calls folder.old) (F.write_calls folder.old) writes.old) (store_state (F.names folder.new) self.new.pool (known_in F.draft_bytes self.new) (F.draft_len self.new.draft) (F.draft_name self.new.draft) (F.faults folder.new) (F.read_calls folder.new) (F.write_calls folder.new) writes.new)) }
         ensures dirty { OnOk result (HoldsDirty self.new.pool.entries key) }
         ensures cause { HasCause TargetFault.FolderFault (F.faults folder.old) (F.faults folder.new) result }
     {
@@ -133,6 +153,39 @@ impl<F: Folder> Store<F> {
             }
             Err(_) => Err(TargetFault::Memory),
         }
+    }
+
+    // Makes a block what the draft holds of a line: zeros where it was never written, and else what is read there.
+    fn fetch(
+        &mut self,
+        folder: &mut F,
+        band: u32,
+        y: u32,
+        block: &mut Block,
+    ) -> Result<(), TargetFault>
+        requires long { F.draft_len self.old.draft ≡ needed_of self.old.writer }
+        requires band { band < (cut_of self.old.writer).bands }
+        requires line { y < (cut_of self.old.writer).blocks }
+        requires kind { block.old.kind ≡ (cut_of self.old.writer).kind }
+        requires room { length block.old.samples ≡ (cut_of self.old.writer).spots }
+        ensures head { self.new.writer ≡ self.old.writer }
+        ensures pool { self.new.pool ≡ self.old.pool }
+        ensures line { OnOk result (IsLine self.old.writer (line_key band y) block.new) }
+        ensures told { OnOk result ((b : List ℕ) → known_in F.draft_bytes self.old ≡ Some b → length b ≡ needed_of self.old.writer → block.new.samples ≡ held_in self.old.writer b band y) }
+        ensures bytes { known_in F.draft_bytes self.new ≡ known_in F.draft_bytes self.old }
+        ensures len { F.draft_len self.new.draft ≡ F.draft_len self.old.draft }
+        ensures name { F.draft_name self.new.draft ≡ F.draft_name self.old.draft }
+        ensures names { F.names folder.new ≡ F.names folder.old }
+        ensures reads { F.read_calls folder.new ≡ F.read_calls folder.old }
+        ensures calls { F.write_calls folder.new ≡ F.write_calls folder.old }
+        ensures cause { HasCause TargetFault.FolderFault (F.faults folder.old) (F.faults folder.new) result }
+    {
+        if !self.written.is_written(band, y) {
+            clear(block);
+            return Ok(());
+        }
+        self.writer
+            .read_block(folder, &mut self.draft, band, y, block)
     }
 
     // The line of a band with these samples from a column on, and the draft's elsewhere.
@@ -153,8 +206,8 @@ impl<F: Folder> Store<F> {
         ensures head { self.new.writer ≡ self.old.writer }
         ensures pool { self.new.pool ≡ self.old.pool }
         ensures line { IfOk result (λ block. IsLine self.old.writer (line_key band y) block) }
-        ensures told { (b : List ℕ) → F.draft_bytes self.old.draft ≡ Some b → length b ≡ needed_of self.old.writer → IsFormed self.old.writer b → IfOk result (λ block. block.samples ≡ written x samples.now (held_in self.old.writer b band y)) }
-        ensures bytes { F.draft_bytes self.new.draft ≡ F.draft_bytes self.old.draft }
+        ensures told { (b : List ℕ) → known_in F.draft_bytes self.old ≡ Some b → length b ≡ needed_of self.old.writer → IfOk result (λ block. block.samples ≡ written x samples.now (held_in self.old.writer b band y)) }
+        ensures bytes { known_in F.draft_bytes self.new ≡ known_in F.draft_bytes self.old }
         ensures len { F.draft_len self.new.draft ≡ F.draft_len self.old.draft }
         ensures name { F.draft_name self.new.draft ≡ F.draft_name self.old.draft }
         ensures names { F.names folder.new ≡ F.names folder.old }
@@ -168,8 +221,7 @@ impl<F: Folder> Store<F> {
             block.write_run(0, samples);
             return Ok(block);
         }
-        self.writer
-            .read_block(folder, &mut self.draft, band, y, &mut block)?;
+        self.fetch(folder, band, y, &mut block)?;
         block.write_run(x, samples);
         Ok(block)
     }
@@ -190,8 +242,8 @@ impl<F: Folder> Store<F> {
         requires columns { spot.x + length samples.now ≤ (cut_of self.old.writer).spots }
         requires range { AreHeld self.old.writer samples.now }
         ensures head { self.new.writer ≡ self.old.writer }
-        ensures serves { Serves self.old.writer 1 0 (store_state (F.names folder.old) self.old.pool (F.draft_bytes self.old.draft) (F.draft_len self.old.draft) (F.draft_name self.old.draft) (F.faults folder.old) (F.read_calls folder.old) (F.write_calls folder.old) writes.old) (store_state (F.names folder.new) self.new.pool (F.draft_bytes self.new.draft) (F.draft_len self.new.draft) (F.draft_name self.new.draft) (F.faults folder.new) (F.read_calls folder.new) (F.write_calls folder.new) writes.new) }
-        ensures changed { OnOk result (Changes self.old.writer (IsOverlaid (IsSpot self.old.writer) spot.band (line_rect spot.x spot.y (length samples.now)) samples.now) (store_state (F.names folder.old) self.old.pool (F.draft_bytes self.old.draft) (F.draft_len self.old.draft) (F.draft_name self.old.draft) (F.faults folder.old) (F.read_calls folder.old) (F.write_calls folder.old) writes.old) (store_state (F.names folder.new) self.new.pool (F.draft_bytes self.new.draft) (F.draft_len self.new.draft) (F.draft_name self.new.draft) (F.faults folder.new) (F.read_calls folder.new) (F.write_calls folder.new) writes.new)) }
+        ensures serves { Serves self.old.writer 1 0 (store_state (F.names folder.old) self.old.pool (known_in F.draft_bytes self.old) (F.draft_len self.old.draft) (F.draft_name self.old.draft) (F.faults folder.old) (F.read_calls folder.old) (F.write_calls folder.old) writes.old) (store_state (F.names folder.new) self.new.pool (known_in F.draft_bytes self.new) (F.draft_len self.new.draft) (F.draft_name self.new.draft) (F.faults folder.new) (F.read_calls folder.new) (F.write_calls folder.new) writes.new) }
+        ensures changed { OnOk result (Changes self.old.writer (IsOverlaid (IsSpot self.old.writer) spot.band (line_rect spot.x spot.y (length samples.now)) samples.now) (store_state (F.names folder.old) self.old.pool (known_in F.draft_bytes self.old) (F.draft_len self.old.draft) (F.draft_name self.old.draft) (F.faults folder.old) (F.read_calls folder.old) (F.write_calls folder.old) writes.old) (store_state (F.names folder.new) self.new.pool (known_in F.draft_bytes self.new) (F.draft_len self.new.draft) (F.draft_name self.new.draft) (F.faults folder.new) (F.read_calls folder.new) (F.write_calls folder.new) writes.new)) }
         ensures dirty { OnOk result (HoldsDirty self.new.pool.entries (line_key spot.band spot.y)) }
         ensures cause { HasCause TargetFault.FolderFault (F.faults folder.old) (F.faults folder.new) result }
     {
@@ -226,8 +278,8 @@ impl<F: Folder> Store<F> {
         requires size { length samples.now ≡ rect.w * rect.h }
         requires range { AreHeld self.old.writer samples.now }
         ensures head { self.new.writer ≡ self.old.writer }
-        ensures serves { Serves self.old.writer rect.h 0 (store_state (F.names folder.old) self.old.pool (F.draft_bytes self.old.draft) (F.draft_len self.old.draft) (F.draft_name self.old.draft) (F.faults folder.old) (F.read_calls folder.old) (F.write_calls folder.old) writes.old) (store_state (F.names folder.new) self.new.pool (F.draft_bytes self.new.draft) (F.draft_len self.new.draft) (F.draft_name self.new.draft) (F.faults folder.new) (F.read_calls folder.new) (F.write_calls folder.new) writes.new) }
-        ensures changed { OnOk result (Changes self.old.writer (IsWindow self.old.writer band rect samples.now) (store_state (F.names folder.old) self.old.pool (F.draft_bytes self.old.draft) (F.draft_len self.old.draft) (F.draft_name self.old.draft) (F.faults folder.old) (F.read_calls folder.old) (F.write_calls folder.old) writes.old) (store_state (F.names folder.new) self.new.pool (F.draft_bytes self.new.draft) (F.draft_len self.new.draft) (F.draft_name self.new.draft) (F.faults folder.new) (F.read_calls folder.new) (F.write_calls folder.new) writes.new)) }
+        ensures serves { Serves self.old.writer rect.h 0 (store_state (F.names folder.old) self.old.pool (known_in F.draft_bytes self.old) (F.draft_len self.old.draft) (F.draft_name self.old.draft) (F.faults folder.old) (F.read_calls folder.old) (F.write_calls folder.old) writes.old) (store_state (F.names folder.new) self.new.pool (known_in F.draft_bytes self.new) (F.draft_len self.new.draft) (F.draft_name self.new.draft) (F.faults folder.new) (F.read_calls folder.new) (F.write_calls folder.new) writes.new) }
+        ensures changed { OnOk result (Changes self.old.writer (IsWindow self.old.writer band rect samples.now) (store_state (F.names folder.old) self.old.pool (known_in F.draft_bytes self.old) (F.draft_len self.old.draft) (F.draft_name self.old.draft) (F.faults folder.old) (F.read_calls folder.old) (F.write_calls folder.old) writes.old) (store_state (F.names folder.new) self.new.pool (known_in F.draft_bytes self.new) (F.draft_len self.new.draft) (F.draft_name self.new.draft) (F.faults folder.new) (F.read_calls folder.new) (F.write_calls folder.new) writes.new)) }
         ensures cause { HasCause TargetFault.FolderFault (F.faults folder.old) (F.faults folder.new) result }
     {
         let _shape = self.writer.shape();
@@ -264,9 +316,9 @@ impl<F: Folder> Store<F> {
         requires size { length samples.now ≡ rect.w * rect.h }
         requires range { AreHeld self.old.writer samples.now }
         ensures head { self.new.writer ≡ self.old.writer }
-        ensures serves { Serves self.old.writer rect.w 0 (store_state (F.names folder.old) self.old.pool (F.draft_bytes self.old.draft) (F.draft_len self.old.draft) (F.draft_name self.old.draft) (F.faults folder.old) (F.read_calls folder.old) (F.write_calls folder.old) writes.old) (store_state (F.names folder.new) self.new.pool (F.draft_bytes self.new.draft) (F.draft_len self.new.draft) (F.draft_name self.new.draft) (F.faults folder.new) (F.read_calls folder.new) (F.write_calls folder.new) writes.new) }
-        ensures changed { OnOk result (Changes self.old.writer (IsWindow self.old.writer band rect samples.now) (store_state (F.names folder.old) self.old.pool (F.draft_bytes self.old.draft) (F.draft_len self.old.draft) (F.draft_name self.old.draft) (F.faults folder.old) (F.read_calls folder.old) (F.write_calls folder.old) writes.old) (store_state (F.names folder.new) self.new.pool (F.draft_bytes self.new.draft) (F.draft_len self.new.draft) (F.draft_name self.new.draft) (F.faults folder.new) (F.read_calls folder.new) (F.write_calls folder.new) writes.new)) }
-        ensures met { OnOk result (AreMet self.old.writer band rect.x rect.w (store_state (F.names folder.old) self.old.pool (F.draft_bytes self.old.draft) (F.draft_len self.old.draft) (F.draft_name self.old.draft) (F.faults folder.old) (F.read_calls folder.old) (F.write_calls folder.old) writes.old) (store_state (F.names folder.new) self.new.pool (F.draft_bytes self.new.draft) (F.draft_len self.new.draft) (F.draft_name self.new.draft) (F.faults folder.new) (F.read_calls folder.new) (F.write_calls folder.new) writes.new)) }
+        ensures serves { Serves self.old.writer rect.w 0 (store_state (F.names folder.old) self.old.pool (known_in F.draft_bytes self.old) (F.draft_len self.old.draft) (F.draft_name self.old.draft) (F.faults folder.old) (F.read_calls folder.old) (F.write_calls folder.old) writes.old) (store_state (F.names folder.new) self.new.pool (known_in F.draft_bytes self.new) (F.draft_len self.new.draft) (F.draft_name self.new.draft) (F.faults folder.new) (F.read_calls folder.new) (F.write_calls folder.new) writes.new) }
+        ensures changed { OnOk result (Changes self.old.writer (IsWindow self.old.writer band rect samples.now) (store_state (F.names folder.old) self.old.pool (known_in F.draft_bytes self.old) (F.draft_len self.old.draft) (F.draft_name self.old.draft) (F.faults folder.old) (F.read_calls folder.old) (F.write_calls folder.old) writes.old) (store_state (F.names folder.new) self.new.pool (known_in F.draft_bytes self.new) (F.draft_len self.new.draft) (F.draft_name self.new.draft) (F.faults folder.new) (F.read_calls folder.new) (F.write_calls folder.new) writes.new)) }
+        ensures met { OnOk result (AreMet self.old.writer band rect.x rect.w (store_state (F.names folder.old) self.old.pool (known_in F.draft_bytes self.old) (F.draft_len self.old.draft) (F.draft_name self.old.draft) (F.faults folder.old) (F.read_calls folder.old) (F.write_calls folder.old) writes.old) (store_state (F.names folder.new) self.new.pool (known_in F.draft_bytes self.new) (F.draft_len self.new.draft) (F.draft_name self.new.draft) (F.faults folder.new) (F.read_calls folder.new) (F.write_calls folder.new) writes.new)) }
         ensures cause { HasCause TargetFault.FolderFault (F.faults folder.old) (F.faults folder.new) result }
     {
         let _shape = self.writer.shape();
@@ -308,9 +360,9 @@ impl<F: Folder> Store<F> {
         requires size { length samples.now ≡ rect.w * rect.h }
         requires range { AreHeld self.old.writer samples.now }
         ensures head { self.new.writer ≡ self.old.writer }
-        ensures serves { Serves self.old.writer (lines_met self.old.writer rect) 0 (store_state (F.names folder.old) self.old.pool (F.draft_bytes self.old.draft) (F.draft_len self.old.draft) (F.draft_name self.old.draft) (F.faults folder.old) (F.read_calls folder.old) (F.write_calls folder.old) writes.old) (store_state (F.names folder.new) self.new.pool (F.draft_bytes self.new.draft) (F.draft_len self.new.draft) (F.draft_name self.new.draft) (F.faults folder.new) (F.read_calls folder.new) (F.write_calls folder.new) writes.new) }
-        ensures changed { OnOk result (Changes self.old.writer (IsWindow self.old.writer band rect samples.now) (store_state (F.names folder.old) self.old.pool (F.draft_bytes self.old.draft) (F.draft_len self.old.draft) (F.draft_name self.old.draft) (F.faults folder.old) (F.read_calls folder.old) (F.write_calls folder.old) writes.old) (store_state (F.names folder.new) self.new.pool (F.draft_bytes self.new.draft) (F.draft_len self.new.draft) (F.draft_name self.new.draft) (F.faults folder.new) (F.read_calls folder.new) (F.write_calls folder.new) writes.new)) }
-        ensures met { OnOk result ((cut_of self.old.writer).by_columns ≡ true → AreMet self.old.writer band rect.x rect.w (store_state (F.names folder.old) self.old.pool (F.draft_bytes self.old.draft) (F.draft_len self.old.draft) (F.draft_name self.old.draft) (F.faults folder.old) (F.read_calls folder.old) (F.write_calls folder.old) writes.old) (store_state (F.names folder.new) self.new.pool (F.draft_bytes self.new.draft) (F.draft_len self.new.draft) (F.draft_name self.new.draft) (F.faults folder.new) (F.read_calls folder.new) (F.write_calls folder.new) writes.new)) }
+        ensures serves { Serves self.old.writer (lines_met self.old.writer rect) 0 (store_state (F.names folder.old) self.old.pool (known_in F.draft_bytes self.old) (F.draft_len self.old.draft) (F.draft_name self.old.draft) (F.faults folder.old) (F.read_calls folder.old) (F.write_calls folder.old) writes.old) (store_state (F.names folder.new) self.new.pool (known_in F.draft_bytes self.new) (F.draft_len self.new.draft) (F.draft_name self.new.draft) (F.faults folder.new) (F.read_calls folder.new) (F.write_calls folder.new) writes.new) }
+        ensures changed { OnOk result (Changes self.old.writer (IsWindow self.old.writer band rect samples.now) (store_state (F.names folder.old) self.old.pool (known_in F.draft_bytes self.old) (F.draft_len self.old.draft) (F.draft_name self.old.draft) (F.faults folder.old) (F.read_calls folder.old) (F.write_calls folder.old) writes.old) (store_state (F.names folder.new) self.new.pool (known_in F.draft_bytes self.new) (F.draft_len self.new.draft) (F.draft_name self.new.draft) (F.faults folder.new) (F.read_calls folder.new) (F.write_calls folder.new) writes.new)) }
+        ensures met { OnOk result ((cut_of self.old.writer).by_columns ≡ true → AreMet self.old.writer band rect.x rect.w (store_state (F.names folder.old) self.old.pool (known_in F.draft_bytes self.old) (F.draft_len self.old.draft) (F.draft_name self.old.draft) (F.faults folder.old) (F.read_calls folder.old) (F.write_calls folder.old) writes.old) (store_state (F.names folder.new) self.new.pool (known_in F.draft_bytes self.new) (F.draft_len self.new.draft) (F.draft_name self.new.draft) (F.faults folder.new) (F.read_calls folder.new) (F.write_calls folder.new) writes.new)) }
         ensures cause { HasCause TargetFault.FolderFault (F.faults folder.old) (F.faults folder.new) result }
     {
         let shape = self.writer.shape();
@@ -330,8 +382,8 @@ impl<F: Folder> Store<F> {
         requires sound { IsSound self.old.writer self.old.pool }
         requires long { F.draft_len self.old.draft ≡ needed_of self.old.writer }
         ensures head { self.new.writer ≡ self.old.writer }
-        ensures serves { Serves self.old.writer (length self.old.pool.entries) (length self.old.pool.entries) (store_state (F.names folder.old) self.old.pool (F.draft_bytes self.old.draft) (F.draft_len self.old.draft) (F.draft_name self.old.draft) (F.faults folder.old) (F.read_calls folder.old) (F.write_calls folder.old) writes.old) (store_state (F.names folder.new) self.new.pool (F.draft_bytes self.new.draft) (F.draft_len self.new.draft) (F.draft_name self.new.draft) (F.faults folder.new) (F.read_calls folder.new) (F.write_calls folder.new) writes.new) }
-        ensures changed { OnOk result (Changes self.old.writer (AreSame self.old.writer) (store_state (F.names folder.old) self.old.pool (F.draft_bytes self.old.draft) (F.draft_len self.old.draft) (F.draft_name self.old.draft) (F.faults folder.old) (F.read_calls folder.old) (F.write_calls folder.old) writes.old) (store_state (F.names folder.new) self.new.pool (F.draft_bytes self.new.draft) (F.draft_len self.new.draft) (F.draft_name self.new.draft) (F.faults folder.new) (F.read_calls folder.new) (F.write_calls folder.new) writes.new)) }
+        ensures serves { Serves self.old.writer (length self.old.pool.entries) (length self.old.pool.entries) (store_state (F.names folder.old) self.old.pool (known_in F.draft_bytes self.old) (F.draft_len self.old.draft) (F.draft_name self.old.draft) (F.faults folder.old) (F.read_calls folder.old) (F.write_calls folder.old) writes.old) (store_state (F.names folder.new) self.new.pool (known_in F.draft_bytes self.new) (F.draft_len self.new.draft) (F.draft_name self.new.draft) (F.faults folder.new) (F.read_calls folder.new) (F.write_calls folder.new) writes.new) }
+        ensures changed { OnOk result (Changes self.old.writer (AreSame self.old.writer) (store_state (F.names folder.old) self.old.pool (known_in F.draft_bytes self.old) (F.draft_len self.old.draft) (F.draft_name self.old.draft) (F.faults folder.old) (F.read_calls folder.old) (F.write_calls folder.old) writes.old) (store_state (F.names folder.new) self.new.pool (known_in F.draft_bytes self.new) (F.draft_len self.new.draft) (F.draft_name self.new.draft) (F.faults folder.new) (F.read_calls folder.new) (F.write_calls folder.new) writes.new)) }
         ensures empty { OnOk result (self.new.pool.entries ≡ []) }
         ensures cause { HasCause TargetFault.FolderFault (F.faults folder.old) (F.faults folder.new) result }
     {

@@ -22,6 +22,7 @@ use crate::rows::{GridForm, RowStore};
 use crate::sheet::{Kind, Sheet};
 use crate::store::Store;
 use crate::tiles::TileWriter;
+use crate::unwritten::Written;
 use crate::writer::LineWriter;
 use crate::{CloseFault, TargetFault};
 use ascii_grid::write_head;
@@ -82,6 +83,7 @@ impl<F: Folder> Target<F> {
         let _bands = head.bands;
         let pool = Pool::new(alloc, capacity)?;
         let writer = LineWriter::new(alloc, head)?;
+        let written = Written::new(alloc, head.bands, head.size.h)?;
         let header_name = name.header(alloc)?;
         let mut text = Vec::new(alloc);
         write(head, &mut text)?;
@@ -93,6 +95,7 @@ impl<F: Folder> Target<F> {
                     writer,
                     pool,
                     draft,
+                    written,
                     spare: None,
                 });
                 Ok(Target {
@@ -133,12 +136,14 @@ impl<F: Folder> Target<F> {
     {
         let pool = Pool::new(alloc, capacity)?;
         let writer = TileWriter::new(alloc, side)?;
+        let written = Written::new(alloc, 1, side)?;
         let draft = zeros_draft(folder, name, 2 * (side as u64 * side as u64))?;
         let writer = Writer::Hgt(writer);
         let kind = Kind::Blocks(Store {
             writer,
             pool,
             draft,
+            written,
             spare: None,
         });
         Ok(Target {
@@ -173,8 +178,8 @@ impl<F: Folder> Target<F> {
         ensures calls { F.write_calls folder.new ≡ F.write_calls folder.old }
         ensures cause { HasCause TargetFault.FolderFault (F.faults folder.old) (F.faults folder.new) result }
     {
-        let _lines = head.lines;
         let pool = Pool::new(alloc, capacity)?;
+        let written = Written::new(alloc, 1, head.lines)?;
         let draft = front_draft(folder, name, front.as_slice(), head.needed_len())?;
         match ColumnWriter::new(alloc, head, front) {
             Ok(writer) => {
@@ -183,6 +188,7 @@ impl<F: Folder> Target<F> {
                     writer,
                     pool,
                     draft,
+                    written,
                     spare: None,
                 });
                 Ok(Target {

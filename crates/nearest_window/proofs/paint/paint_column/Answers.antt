@@ -1,5 +1,4 @@
-use Rattle.std.proofs.Common.{◌≡◌, ℕ, ◌+◌, ◌-◌, ◌*◌, ◌<◌, ◌≤◌, sym, ap, ◌∙◌, subst, arith, length}
-use Rattle.std.proofs.Math.Nat.{mul-le-mul}
+use Rattle.std.proofs.Common.{◌≡◌, ◌+◌, ◌-◌, ◌≤◌, sym, ap, subst, arith}
 use Rattle.nearest_window.specs.Painted.{IsPainted, in_columns}
 use Rattle.nearest_window.specs.Pictures.{from_block}
 use Rattle.nearest_window.specs.Taken.{place_at}

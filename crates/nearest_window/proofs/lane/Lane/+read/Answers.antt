@@ -19,6 +19,7 @@ use Rattle.nearest_window.specs.Painted.{IsPainted, first, in_columns}
 use Rattle.nearest_window.specs.Pictures.{from_block}
 use Rattle.nearest_window.specs.Taken.{place_at, TakesPixel}
 use Rattle.nearest_window.specs.Shown.{shown, AreTyped, IsTyped, IsShown, IsSourceOf}
+use Rattle.nearest_window.proofs.Alone.{alone_in}
 use Rattle.nearest_window.proofs.Keys.{held_made}
 use Rattle.nearest_window.proofs.Steps.{ready_then, serves_refl, serves_trans, serves_keep, serves_used}
 use Rattle.nearest_window.proofs.Shown.{held_sized, rect_shown, used_shown}
@@ -267,6 +268,28 @@ paint_block-returns-in-Some-clause-typed g t c =
     let made = c.in_ok-block.ensures.block in
     rect_typed c.args.cat.now c.args.picture.now c.args.piece c.in-Some.part.rect made.dataset c.in_ok-block.block c.args.out.now c.paint_rows.new.out part.dataset_is part.band_is made.in_range made.shape c.paint_rows.ensures.painted
 
+pub paint_block-returns-then-is_jump-clause-painted : goal.paint_block-returns-then-is_jump-clause-painted
+paint_block-returns-then-is_jump-clause-painted g t c = λ m e.
+    let part = c.requires.piece in
+    let made = c.in_ok-block-2.ensures.block in
+    let pixel = c.pixel_rect-rect.ensures in
+    let rows = c.requires.rows in
+    let jump = c.if-is_jump.true in
+    let one = c.is_jump.ensures.narrow in
+    let one_line = c.is_jump.ensures.low in
+    let narrow : c.args.picture.now.width ≡ 1 = search (rules, one, jump) in
+    let low : c.args.picture.now.height ≡ 1 = search (rules, one_line, jump) in
+    rect_shown m c.args.cat.now c.args.piece.key.dataset c.args.piece.key.band c.pixel_rect-rect.result c.args.picture.now c.args.piece.area.column c.args.piece.area.columns c.args.piece.area.line c.args.piece.area.lines c.in_ok-block-2.block c.args.out.now c.paint_rows-then-is_jump.new.out part.dataset_is part.band
+    (alone_in c.args.picture.now.columns c.pixel_rect-rect.result.x c.pixel_rect-rect.result.w c.args.picture.now.width c.args.piece.area.column c.args.piece.area.columns pixel.column pixel.narrow narrow c.requires.area.columns)
+    (alone_in c.args.picture.now.lines c.pixel_rect-rect.result.y c.pixel_rect-rect.result.h c.args.picture.now.height c.args.piece.area.line c.args.piece.area.lines pixel.line pixel.low low c.requires.area.lines)
+    (made.content m e) c.requires.picture.picture.some (omega arith) c.paint_rows-then-is_jump.ensures.painted
+
+pub paint_block-returns-then-is_jump-clause-typed : goal.paint_block-returns-then-is_jump-clause-typed
+paint_block-returns-then-is_jump-clause-typed g t c =
+    let part = c.requires.piece in
+    let made = c.in_ok-block-2.ensures.block in
+    rect_typed c.args.cat.now c.args.picture.now c.args.piece c.pixel_rect-rect.result made.dataset c.in_ok-block-2.block c.args.out.now c.paint_rows-then-is_jump.new.out part.dataset_is part.band made.in_range made.shape c.paint_rows-then-is_jump.ensures.painted
+
 pub paint_block-returns-clause-typed : goal.paint_block-returns-clause-typed
 paint_block-returns-clause-typed g t c =
     let o = c.in_ok-hold.ensures in
@@ -280,10 +303,11 @@ paint_block-paint_held-requires-clause-held g t c κs within =
 pub paint_block-returns-clause-serves : goal.paint_block-returns-clause-serves
 paint_block-returns-clause-serves g t c =
     let o = c.in_ok-hold.ensures in
-    serves_trans g.F.Folder.file_bytes g.F.Folder.file_len c.args.cat.now 0 _ _ _ o.serves
+    subst (λ lane. Serves g.F.Folder.file_bytes g.F.Folder.file_len c.args.cat.now 0 (state_of g.F.Folder c.args.folder.now lane c.args.loads.now) (state_of g.F.Folder c.hold.new.folder c.paint_held.new.self c.hold.new.loads)) c.is_jump.ensures.same
+    (serves_trans g.F.Folder.file_bytes g.F.Folder.file_len c.args.cat.now 0 _ _ _ o.serves
     (serves_used g.F.Folder.file_bytes g.F.Folder.file_len c.args.cat.now (g.F.Folder.names c.hold.new.folder) c.hold.new.self c.paint_held.new.self (g.F.Folder.faults c.hold.new.folder) (g.F.Folder.read_calls c.hold.new.folder) (g.F.Folder.write_calls c.hold.new.folder) c.hold.new.loads c.args.piece.key
     (λ e. IsPainted (in_columns c.args.picture.now.stride (c.args.picture.now.to + c.args.piece.area.column) (c.args.picture.now.to + c.args.piece.area.column + c.args.piece.area.columns) (from_block e.block c.args.piece.rect c.args.picture.now c.args.piece.area.column c.args.piece.area.line)) c.args.out.now c.paint_held.new.out)
-    o.serves.right c.paint_held.ensures.used c.paint_held.ensures.valid c.paint_held.ensures.made_valid)
+    o.serves.right c.paint_held.ensures.used c.paint_held.ensures.valid c.paint_held.ensures.made_valid))
 
 pub paint_block-returns-clause-painted : goal.paint_block-returns-clause-painted
 paint_block-returns-clause-painted g t c =

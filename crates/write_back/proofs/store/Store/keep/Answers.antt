@@ -75,7 +75,7 @@ returns-in-Ok-Some-clause-changed g c =
     on_both c.write_out-written.result _ _ _ (λ written len. record {
       long = len;
       told = λ b has. (
-          let now = written b has.is has.long in
+          let now = written b has.is has.long has.formed in
           admitted_changes h p c.write_out-written.new.self.pool c.args.key (entry_of c.args.block true) b now.0 _ c.requires.sound (q ∙ o.entries) (rw q o.valid) c.requires.line.dataset_is refl has.kept has.long has.formed
           (settled_dirty h p.capacity c.args.key p.entries b now.0 (entry_dropped c.in-Ok-Some.last) (sym out) dirty line.dataset_is now.2) now.1
           );

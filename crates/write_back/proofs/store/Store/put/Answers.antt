@@ -1,6 +1,7 @@
 use Rattle.std.proofs.Common.{◌≡◌, refl, ap, sym, ◌∙◌}
 use Rattle.block_cache.specs.Entries.{PoolView, pool_view, held_at, patched, patched_block}
 use Rattle.write_back.specs.Overlay.{line_key, IsLineSet}
+use Rattle.write_back.specs.Seen.{known_in}
 use Rattle.write_back.specs.State.{store_state}
 use Rattle.write_back.proofs.MetColumns.{dirty_patched}
 use Rattle.write_back.proofs.Runs.{on_ok}
@@ -44,13 +45,13 @@ returns-clause-changed g c =
     let same : c.patch.new.self ≡ p = c.patch.ensures.absent absent in
     let w = c.line_with.ensures in
     on_ok c.keep.result _ _ (λ set.
-    let before = store_state (g.F.Folder.names c.args.folder.now) c.args.self.now.pool (g.F.Folder.draft_bytes c.args.self.now.draft) (g.F.Folder.draft_len c.args.self.now.draft) (g.F.Folder.draft_name c.args.self.now.draft) (g.F.Folder.faults c.args.folder.now) (g.F.Folder.read_calls c.args.folder.now) (g.F.Folder.write_calls c.args.folder.now) c.args.writes.now in
+    let before = store_state (g.F.Folder.names c.args.folder.now) c.args.self.now.pool (known_in g.F.Folder.draft_bytes c.args.self.now) (g.F.Folder.draft_len c.args.self.now.draft) (g.F.Folder.draft_name c.args.self.now.draft) (g.F.Folder.faults c.args.folder.now) (g.F.Folder.read_calls c.args.folder.now) (g.F.Folder.write_calls c.args.folder.now) c.args.writes.now in
     let from = changes_from h (IsLineSet h (line_key c.args.spot.band c.args.spot.y) c.in_ok-block.block.samples) before _ _ (w.pool ∙ same) w.bytes w.len (set_as _ _ (line_key c.args.spot.band c.args.spot.y) c.in_ok-block.block.samples _ _ w.head set) in
     record {
       long = from.long;
       told = λ b has. (
           let now = from.told b has in
-          (now.0, now.1, set_changes h p c.keep.new.self.pool (line_key c.args.spot.band c.args.spot.y) c.args.spot.x c.args.samples.now c.in_ok-block.block.samples b now.0 refl absent c.requires.columns (c.in_ok-block.ensures.told b has.is has.long has.formed) now.2, now.3)
+          (now.0, now.1, set_changes h p c.keep.new.self.pool (line_key c.args.spot.band c.args.spot.y) c.args.spot.x c.args.samples.now c.in_ok-block.block.samples b now.0 refl absent c.requires.columns (c.in_ok-block.ensures.told b has.is has.long) now.2, now.3)
           );
     }) c.keep.ensures.changed
 

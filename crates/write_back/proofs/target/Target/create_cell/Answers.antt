@@ -5,6 +5,7 @@ use Rattle.dted_records.specs.Places.{needed_of, record_of}
 use Rattle.write_back.specs.Columns.{cell_of}
 use Rattle.write_back.specs.Pieces.{AreBytes}
 use Rattle.write_back.specs.declared.forms.Writer.TheVariants.{Dted}
+use Rattle.write_back.proofs.Known.{known_new}
 use Rattle.write_back.proofs.Made.{made, cell_zero, shows}
 use Rattle.write_back.proofs.Sheets.{told_by}
 use Rattle.write_back.proofs.Zeros.{new_cell, new_long}
@@ -19,7 +20,9 @@ returns-in-Ok-clause-target g c =
     let small : AreBytes (vec_items c.args.front) = subst AreBytes c.as_slice.ensures.value d.small in
     made (Dted (cell_of c.args.head.now (vec_items c.args.front))) _ _ c.in_ok-pool.pool c.args.capacity _ _ _ _ (vec_items c.args.front ++ replicate (needed_of c.args.head.now - length (vec_items c.args.front)) 0) (ap Dted c.in-Ok.ensures.cell) valid c.in_ok-pool.ensures.empty
     len (d.len ∙ c.needed_len.ensures.value) (new_long h (vec_items c.args.front) len small) (new_cell h (vec_items c.args.front) len small)
-    (λ m e. d.front m (sym d.names ∙ e) ∙ ap (λ (l : List ℕ). Some (l ++ replicate (c.needed_len.result - length l) 0)) c.as_slice.ensures.value ∙ ap (λ n. Some (vec_items c.args.front ++ replicate (n - length (vec_items c.args.front)) 0)) c.needed_len.ensures.value)
+    (λ m e. known_new (Dted (cell_of c.args.head.now (vec_items c.args.front))) _ _ _ (vec_items c.args.front ++ replicate (needed_of c.args.head.now - length (vec_items c.args.front)) 0) (ap Dted c.in-Ok.ensures.cell)
+    (d.front m (sym d.names ∙ e) ∙ ap (λ (l : List ℕ). Some (l ++ replicate (c.needed_len.result - length l) 0)) c.as_slice.ensures.value ∙ ap (λ n. Some (vec_items c.args.front ++ replicate (n - length (vec_items c.args.front)) 0)) c.needed_len.ensures.value)
+    (λ k u v place. cell_zero c.args.head.now (vec_items c.args.front) len small k v u place))
     refl
 
 pub returns-in-Ok-clause-zeros : goal.returns-in-Ok-clause-zeros
@@ -29,5 +32,7 @@ returns-in-Ok-clause-zeros g c = λ some.
     let len : length (vec_items c.args.front) ≡ record_of c.args.head.now 0 = omega (arith, ap length c.as_slice.ensures.value, c.as_slice.ensures.len, c.requires.front) in
     let small : AreBytes (vec_items c.args.front) = subst AreBytes c.as_slice.ensures.value d.small in
     shows (Dted (cell_of c.args.head.now (vec_items c.args.front))) _ c.in_ok-pool.pool c.args.capacity _ (vec_items c.args.front ++ replicate (needed_of c.args.head.now - length (vec_items c.args.front)) 0) (ap Dted c.in-Ok.ensures.cell) c.in_ok-pool.ensures.empty
+    (known_new (Dted (cell_of c.args.head.now (vec_items c.args.front))) _ _ _ (vec_items c.args.front ++ replicate (needed_of c.args.head.now - length (vec_items c.args.front)) 0) (ap Dted c.in-Ok.ensures.cell)
     (d.front m.0 m.1 ∙ ap (λ (l : List ℕ). Some (l ++ replicate (c.needed_len.result - length l) 0)) c.as_slice.ensures.value ∙ ap (λ n. Some (vec_items c.args.front ++ replicate (n - length (vec_items c.args.front)) 0)) c.needed_len.ensures.value)
+    (λ k u v place. cell_zero c.args.head.now (vec_items c.args.front) len small k v u place))
     (cell_zero c.args.head.now (vec_items c.args.front) len small)

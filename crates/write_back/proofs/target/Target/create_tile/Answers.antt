@@ -2,6 +2,7 @@ use Rattle.std.proofs.Common.{◌≡◌, ◌*◌, replicate, ap, sym, subst, ref
 use Rattle.std.proofs.lemmas.List.{length-replicate}
 use Rattle.block_cache.specs.Entries.{IsPool}
 use Rattle.write_back.specs.declared.forms.Writer.TheVariants.{Hgt}
+use Rattle.write_back.proofs.Known.{known_new}
 use Rattle.write_back.proofs.Made.{made, shows, tile_zero}
 use Rattle.write_back.proofs.Sheets.{told_by}
 use Rattle.write_back.proofs.Zeros.{zeros_small}
@@ -13,9 +14,10 @@ returns-clause-target g c =
     let d = c.in_ok-draft.ensures in
     made (Hgt c.args.side) _ _ c.in_ok-pool.pool c.args.capacity _ _ _ _ (replicate (2 * (c.args.side * c.args.side)) 0) (ap Hgt c.in_ok-writer.ensures.side) valid c.in_ok-pool.ensures.empty
     c.requires.side d.len (length-replicate (2 * (c.args.side * c.args.side)) 0) (zeros_small (2 * (c.args.side * c.args.side)))
-    (λ m e. d.zeros m (sym d.names ∙ e)) refl
+    (λ m e. known_new (Hgt c.args.side) _ _ _ (replicate (2 * (c.args.side * c.args.side)) 0) (ap Hgt c.in_ok-writer.ensures.side) (d.zeros m (sym d.names ∙ e)) (tile_zero c.args.side)) refl
 
 pub returns-clause-zeros : goal.returns-clause-zeros
 returns-clause-zeros g c = λ some.
     let m = told_by (g.F.Folder.names c.args.folder.now) some in
-    shows (Hgt c.args.side) _ c.in_ok-pool.pool c.args.capacity _ (replicate (2 * (c.args.side * c.args.side)) 0) (ap Hgt c.in_ok-writer.ensures.side) c.in_ok-pool.ensures.empty (c.in_ok-draft.ensures.zeros m.0 m.1) (tile_zero c.args.side)
+    shows (Hgt c.args.side) _ c.in_ok-pool.pool c.args.capacity _ (replicate (2 * (c.args.side * c.args.side)) 0) (ap Hgt c.in_ok-writer.ensures.side) c.in_ok-pool.ensures.empty
+    (known_new (Hgt c.args.side) _ _ _ (replicate (2 * (c.args.side * c.args.side)) 0) (ap Hgt c.in_ok-writer.ensures.side) (c.in_ok-draft.ensures.zeros m.0 m.1) (tile_zero c.args.side)) (tile_zero c.args.side)
