@@ -88,13 +88,21 @@ fn check_band(met: &Met, target: u32, wanted: &Wanted) -> Result<(), WalkFault>
     Ok(())
 }
 
+// Whether the samples of the band that a source names have at most 32 bits.
+fn names_narrow(met: &Met, target: u32, wanted: &Wanted) -> bool
+    requires number { number_of met.now.datasets wanted.now.name ≡ Some target }
+    ensures narrow { result ≡ is_narrow_band (band_named (dataset_named met.now.datasets wanted.now.name) wanted.now.band) }
+{
+    met.is_narrow(target, wanted.band)
+}
+
 // Whether a source takes the samples of the band that it names: those that it scales, or has a table for, have at
 // most 32 bits.
 fn takes_samples(met: &Met, target: u32, wanted: &Wanted) -> bool
     requires number { number_of met.now.datasets wanted.now.name ≡ Some target }
     ensures takes { result ≡ (wanted.now.plain || is_narrow_band (band_named (dataset_named met.now.datasets wanted.now.name) wanted.now.band)) }
 {
-    wanted.plain || met.is_narrow(target, wanted.band)
+    wanted.plain || names_narrow(met, target, wanted)
 }
 
 // A mosaic, whose number this is, that doesn't take the samples of what its source names isn't one that is read.
