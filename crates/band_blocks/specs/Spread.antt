@@ -1,4 +1,4 @@
--- Samples of a block that are copied to places that stand apart.
+-- Samples that are copied to places that stand apart: those of a block, or into one.
 use Rattle.std.specs.Prelude.{◌≡◌, ◌<◌, ◌+◌, ◌*◌, ℕ, ℤ, pos, List, length, get_or}
 
 -- none of n places that stand so far apart from `start` on

@@ -14,7 +14,8 @@ ghost use Rattle.band_blocks.specs.Blocks.{block_view, IsPacked, AreIn, written,
 ghost use Rattle.band_blocks.specs.Spread.{IsSpread};
 
 use crate::cell::{
-    Cell, clamp_cells, copy_cells, decode_cells, encode_cells, set_cell, spread_cells, write_cells,
+    Cell, clamp_cells, copy_cells, decode_cells, encode_cells, scatter_cells, set_cell,
+    spread_cells, write_cells,
 };
 use crate::int16::{decode_elevations, decode_items, encode_elevations, encode_items};
 use dted_records::DtedHead;
@@ -241,6 +242,26 @@ impl Block {
             Cells::Ints16(cells) => return write_cells(cells, at, samples),
             Cells::UInts32(cells) => return write_cells(cells, at, samples),
             Cells::Ints32(cells) => return write_cells(cells, at, samples),
+        }
+    }
+
+    /// Puts samples, which are in the range of the block's type, at places that stand `stride` apart, the first
+    /// of them at `at`. All other places stay.
+    pub fn write_spread(&mut self, at: u32, stride: u32, samples: &[Sample])
+        requires some { 0 < stride }
+        requires room { (i : ℕ) → i < length samples.now → at + i * stride < length self.old.samples }
+        requires range { AreIn self.old.kind samples.now }
+        ensures kind { self.new.kind ≡ self.old.kind }
+        ensures spread { IsSpread samples.now 0 (length samples.now) at stride self.old.samples self.new.samples }
+    {
+        let at = at as usize;
+        let stride = stride as usize;
+        match &mut self.cells {
+            Cells::Bytes(cells) => return scatter_cells(cells, at, stride, samples),
+            Cells::UInts16(cells) => return scatter_cells(cells, at, stride, samples),
+            Cells::Ints16(cells) => return scatter_cells(cells, at, stride, samples),
+            Cells::UInts32(cells) => return scatter_cells(cells, at, stride, samples),
+            Cells::Ints32(cells) => return scatter_cells(cells, at, stride, samples),
         }
     }
 
