@@ -29,5 +29,5 @@ pub mod States
 pub mod Taken
 pub mod Transposed
 pub mod TileNames
-pub mod ZeroBytes
+pub mod Woven
 pub mod Zeros
