@@ -1,4 +1,4 @@
--- Samples that are copied to places that stand apart: those of a block, or into one.
+-- Samples of a block that are copied to places that stand apart.
 use Rattle.std.specs.Prelude.{◌≡◌, ◌<◌, ◌+◌, ◌*◌, ℕ, ℤ, pos, List, length, get_or}
 
 -- none of n places that stand so far apart from `start` on

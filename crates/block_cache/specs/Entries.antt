@@ -1,12 +1,11 @@
 -- What a contract sees of a pool: its entries, the most recently used first, and how many there may be.
-use Rattle.std.specs.Prelude.{◌≡◌, ℕ, ℤ, ◌-◌, ◌≤◌, ◌<◌, List, [], ◌∷◌, length, take, Bool, true, Option, Some, None, slice_get, cond, option_map, is_some}
+use Rattle.std.specs.Prelude.{ℕ, ℤ, ◌-◌, ◌≤◌, ◌<◌, List, [], ◌∷◌, length, take, Bool, true, Option, Some, None, slice_get, cond, option_map, is_some}
 use Rattle.std.specs.List.{IsDistinct}
 use Rattle.std.specs.Map.{lookup, lookup_entry, remove_entry, keys_of, set_value}
 use Rattle.std.specs.Option.{option_map_or, option_or}
 use Rattle.band_blocks.specs.declared.key.BlockKey.{BlockKey}
 use Rattle.band_blocks.specs.Blocks.{BlockView, block_view, written}
 use Rattle.band_blocks.specs.Keys.{same_key}
-use Rattle.band_blocks.specs.Spread.{IsSpread}
 use Rattle.block_cache.specs.declared.pool.Entry.{Entry}
 use Rattle.block_cache.specs.declared.pool.Evicted.{Evicted}
 
@@ -54,13 +53,6 @@ patched_block at samples block = block_view block.kind (written at samples block
 -- the key's entry gets the block, is dirty, and goes to the front
 abbrev pub patched : BlockKey → BlockView → List (BlockKey × Entry) → List (BlockKey × Entry)
 patched key block entries = set_value (same_key key) (moved_to_front key entries) (entry_of block true)
-
--- a held block has samples at places that stand so far apart, and elsewhere those that it had; it is dirty, and at the front
-pub record IsSpreadInto (key : BlockKey) (at stride : ℕ) (samples : List ℤ) (e : Entry) (old new : PoolView) : Type 0 where
-  pub block : BlockView
-  pub kind : block.kind ≡ e.block.kind
-  pub spread : IsSpread samples 0 (length samples) at stride e.block.samples block.samples
-  pub is : new ≡ pool_view (patched key block old.entries) old.capacity
 
 -- a dirty entry that is taken out, and the entries before it
 pub record Taken : Type 0 where

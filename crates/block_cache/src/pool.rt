@@ -2,8 +2,9 @@ ghost use Rattle.std.specs.Prelude.{◌≡◌, ◌≤◌, ◌<◌, ◌-◌, ◌+
 ghost use Rattle.std.specs.Borrow.{sem};
 ghost use Rattle.std.specs.Option.{option_copied};
 ghost use Rattle.band_blocks.specs.Blocks.{AreIn};
-ghost use Rattle.block_cache.specs.Entries.{pool_view, entry_of, entry_dropped, patched_block, held_at, moved_to_front, admitted, dropped, patched, IsPool, IsSpreadInto, last_dirty, left_by};
+ghost use Rattle.block_cache.specs.Entries.{pool_view, entry_of, entry_dropped, patched_block, held_at, moved_to_front, admitted, dropped, patched, IsPool, last_dirty, left_by};
 ghost use Rattle.block_cache.specs.PoolLends.{ends_as};
+ghost use Rattle.block_cache.specs.Spreads.{IsSpreadInto};
 
 use band_blocks::{Block, BlockKey};
 use geotransform::Sample;

@@ -85,7 +85,7 @@ seen_sample h b k x y = ap (λ p. sample_at h (drop p b)) (seen_place h.layout h
 -- a pixel stands in a block
 raw_plane : (l : Layout) (bands k : ℕ) → k < bands → plane_of (is_woven l) k < planes_by l bands
 raw_plane Bil bands k less = less
-raw_plane Bip bands k less = omega arith
+raw_plane Bip bands k less = (let one : 0 < 1 = omega arith in one)
 raw_plane Bsq bands k less = less
 
 raw_spot : (l : Layout) (width bands k x y : ℕ) → k < bands → x < width → spot_of false (is_woven l) bands k x y < spots_by l width bands
@@ -93,7 +93,8 @@ raw_spot Bil width bands k x y band column = column
 raw_spot Bip width bands k x y band column =
     let more : suc x * bands ≤ width * bands = mul-le-mul_right bands column in
     let e : suc x * bands ≡ x * bands + bands = grind arith in
-    omega arith
+    let r : x * bands + k < width * bands = omega arith in
+    r
 raw_spot Bsq width bands k x y band column = column
 
 pub spot_is : (w : Writer) (k x y : ℕ) → IsPixel w k x y → IsSpot w (plane_of (cut_of w).woven k) (spot_of (cut_of w).by_columns (cut_of w).woven (bands_in w) k x y) (block_of (cut_of w).by_columns x y)
@@ -103,21 +104,22 @@ spot_is (Dted c) k x y is = record { band = is.band; spot = is.line; block = is.
 
 -- the pixels of a band from a column on stand in a line
 raw_lane : (l : Layout) (width bands band x n i : ℕ) → band < bands → x + n ≤ width → i < n → (lane_in (is_woven l) bands band x).start + i * (lane_in (is_woven l) bands band x).stride < spots_by l width bands
-raw_lane Bil width bands band x n i less within below = omega arith
+raw_lane Bil width bands band x n i less within below = (let r : x + i * 1 < width = omega arith in r)
 raw_lane Bip width bands band x n i less within below =
     let more : suc (x + i) * bands ≤ width * bands = mul-le-mul_right bands (omega arith) in
     let e : suc (x + i) * bands ≡ x * bands + i * bands + bands = grind arith in
-    omega arith
-raw_lane Bsq width bands band x n i less within below = omega arith
+    let r : x * bands + band + i * bands < width * bands = omega arith in
+    r
+raw_lane Bsq width bands band x n i less within below = (let r : x + i * 1 < width = omega arith in r)
 
 pub lane_room : (w : Writer) (band x n : ℕ) → (cut_of w).by_columns ≡ false → band < bands_in w → x + n ≤ width_of w → (i : ℕ) → i < n → (lane_of w band x).start + i * (lane_of w band x).stride < (cut_of w).spots
 lane_room (Raw h) band x n lines less within i below = raw_lane h.layout h.size.w h.bands band x n i less within below
-lane_room (Hgt side) band x n lines less within i below = omega arith
+lane_room (Hgt side) band x n lines less within i below = (let r : x + i * 1 < side = omega arith in r)
 lane_room (Dted c) band x n lines less within i below = absurd (let clash : true ≡ false = lines in cc)
 
 raw_band : (l : Layout) (bands band x : ℕ) → band < bands → (lane_in (is_woven l) bands band x).band < planes_by l bands
 raw_band Bil bands band x less = less
-raw_band Bip bands band x less = omega arith
+raw_band Bip bands band x less = (let one : 0 < 1 = omega arith in one)
 raw_band Bsq bands band x less = less
 
 pub lane_band : (w : Writer) (band x : ℕ) → band < bands_in w → (lane_of w band x).band < (cut_of w).bands
@@ -126,8 +128,8 @@ lane_band (Hgt side) band x less = less
 lane_band (Dted c) band x less = less
 
 lane_by : (woven : Bool) (bands band x : ℕ) → band < bands → 0 < (lane_in woven bands band x).stride
-lane_by true bands band x less = omega arith
-lane_by false bands band x less = omega arith
+lane_by true bands band x less = (let r : 0 < bands = omega arith in r)
+lane_by false bands band x less = (let one : 0 < 1 = omega arith in one)
 
 pub lane_some : (w : Writer) (band x : ℕ) → band < bands_in w → 0 < (lane_of w band x).stride
 lane_some w band x less = lane_by (cut_of w).woven (bands_in w) band x less
@@ -182,6 +184,15 @@ pub columns_cut : (w : Writer) → (cut_of w).by_columns ≡ true → AreColumns
 columns_cut (Raw h) columns = absurd (let clash : false ≡ true = columns in cc)
 columns_cut (Hgt side) columns = absurd (let clash : false ≡ true = columns in cc)
 columns_cut (Dted c) columns = record { bands = refl; blocks = refl; spots = refl }
+
+-- a band whose lines are its own, or those of all bands, is one of the raster
+plane_by : (l : Layout) (bands k : ℕ) → 0 < bands → k < planes_by l bands → k < bands
+plane_by Bil bands k some less = less
+plane_by Bip bands k some less = omega arith
+plane_by Bsq bands k some less = less
+
+pub plane_within : (h : Head) (k : ℕ) → IsHead h → k < planes_of h → k < h.bands
+plane_within h k is less = plane_by h.layout h.bands k is.bands.0 less
 
 -- the place of a band's sample of a pixel is below 2^30
 pub woven_bound : (width bands : ℕ) → width ≤ 4194304 → bands ≤ 256 → width * bands ≤ 1073741824

@@ -1,6 +1,7 @@
 use Rattle.std.proofs.Common.{◌≡◌, ◌∙◌, ◌<◌, ◌+◌, ◌*◌, map, get_or, length, rules, arith, pos, to_z, of_z}
 use mir.Syntax.{w128}
-use Rattle.band_blocks.proofs.Spread.{spread_none, scatter_more}
+use Rattle.band_blocks.proofs.Scatter.{scatter_more}
+use Rattle.band_blocks.proofs.Spread.{spread_none}
 use Rattle.band_blocks.proofs.cell.scatter_cells.Goals as goal
 
 pub loop-i-init : goal.loop-i-init

@@ -2,7 +2,7 @@ use Rattle.std.proofs.Common.{◌≡◌, ◌<◌, ap, ◌∙◌, sym, subst, pos
 use Rattle.geotransform.specs.declared.types.PixelType.TheVariants.{Byte, UInt16, Int16, UInt32, Int32}
 use Rattle.band_blocks.specs.Spread.{IsSpread}
 use Rattle.band_blocks.specs.Views.{cells_view, ArePacked}
-use Rattle.band_blocks.proofs.Spread.{scatter_kind, scatter_packed, scatter_shown}
+use Rattle.band_blocks.proofs.Scatter.{scatter_kind, scatter_packed, scatter_shown}
 use Rattle.band_blocks.proofs.block.Block.write_spread.Goals as goal
 
 pub invariant_of-self : goal.invariant_of-self

@@ -1,5 +1,6 @@
 use Rattle.std.proofs.Common.{◌≡◌, refl, ap, sym, ◌∙◌}
-use Rattle.block_cache.specs.Entries.{PoolView, held_at, IsSpreadInto}
+use Rattle.block_cache.specs.Entries.{PoolView, held_at}
+use Rattle.block_cache.specs.Spreads.{IsSpreadInto}
 use Rattle.write_back.specs.Overlay.{line_key, IsLineSet}
 use Rattle.write_back.specs.Seen.{known_in}
 use Rattle.write_back.specs.State.{store_state}
