@@ -199,3 +199,8 @@ pub woven_bound : (width bands : ℕ) → width ≤ 4194304 → bands ≤ 256 �
 woven_bound width bands wide few =
     let a : width * bands ≤ 4194304 * bands = mul-le-mul_right bands wide in
     omega arith
+
+pub woven_some : (width bands : ℕ) → 0 < width → 0 < bands → 0 < width * bands
+woven_some width bands wide some =
+    let a : 1 * bands ≤ width * bands = mul-le-mul_right bands wide in
+    omega arith
