@@ -12,8 +12,8 @@ use band_blocks::{Block, BlockKey, Row};
 use geotransform::{PixelType, Sample, Size, holds};
 use outside::Folder;
 
-/// How a raster is cut into blocks: lines of a band, columns, or lines of all bands, which stand pixel by pixel there. The
-/// blocks of lines of all bands are those of one band.
+/// How a raster is cut into blocks: lines of a band, columns, or lines of all bands, which then stand pixel by pixel
+/// and are the blocks of one band.
 #[derive(Clone, Copy)]
 pub(crate) struct Shape {
     pub(crate) kind: PixelType,

@@ -1,5 +1,5 @@
-// A pool of lines over a draft: a line that the pool drops is written, and one that it lacks is read back. Where bands lie
-// pixel by pixel, a line is one of all bands.
+// A pool of lines over a draft: a line that the pool drops is written, and one that it lacks is read back. Where bands
+// lie pixel by pixel, a line is one of all bands.
 ghost use Rattle.std.specs.Prelude.{◌≡◌, ◌<◌, ◌≤◌, ◌+◌, ◌*◌, [], ℕ, List, length, get_or, pos, Some, None, true, false, OnOk, IfOk};
 ghost use Rattle.outside.specs.Causes.{HasCause};
 ghost use Rattle.band_blocks.specs.Spread.{IsSpread};
@@ -30,8 +30,8 @@ pub(crate) struct Store<F: Folder> {
     pub(crate) spare: Option<Block>,
 }
 
-/// Where samples are put: a band, a place in a block of it, how far apart they stand from there on, and the block. Bands,
-/// places and blocks count from 0.
+/// Where samples are put: a band, a place in a block of it, how far apart they stand from there on, and the block.
+/// Bands, places and blocks count from 0.
 #[derive(Clone, Copy)]
 struct Spot {
     band: u32,

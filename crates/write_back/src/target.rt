@@ -56,8 +56,8 @@ impl<F: Folder> Model for Target<F> {
 
 impl<F: Folder> Target<F> {
     /// Drafts for raw data of this head, in which nothing but samples stands, and its header. All samples are 0. The
-    /// pool is empty and holds 1 to 65,536 blocks, each a line of a band, or of all bands where they lie pixel by pixel.
-    /// After a refusal no draft is left.
+    /// pool is empty and holds 1 to 65,536 blocks, each a line of a band, or of all bands where they lie pixel by
+    /// pixel. After a refusal no draft is left.
     pub(crate) fn create_raw(
         alloc: Global,
         folder: &mut F,

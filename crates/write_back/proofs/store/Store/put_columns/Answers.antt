@@ -19,7 +19,7 @@ put-requires-clause-range g c κs within =
     subst (λ v. AreHeld v run) (sym c.loop-x.invariant.head) (subst (AreHeld w) (sym line) (column_held w c.args.samples.now c.args.rect.w c.loop-x.x c.args.rect.h c.loop-x-test.true c.requires.size c.requires.range))
 
 pub put-requires-clause-room : goal.put-requires-clause-room
-put-requires-clause-room g c i less =
+put-requires-clause-room g c κs within i less =
     let from = (c.loop-x.x - c.turn_to-held.result.first) * c.args.rect.h in
     let run = take (from + c.args.rect.h - from) (drop from c.turn_to-held.new.group) in
     let line : run ≡ column_in c.args.samples.now c.args.rect.w c.loop-x.x c.args.rect.h =
