@@ -108,7 +108,7 @@ in_run s n i less =
 
 -- bytes of n samples hold them one behind the other
 pub plain_holds : (h p : Head) (bytes : List ℕ) (n : ℕ) → p ≡ plain_of h → length bytes ≡ n * sample_len h.kind → Holds p bytes n
-plain_holds h p bytes n is len = subst (λ (q : Head). Holds q bytes n) (sym is) (λ some. (let fits = in_run (sample_len h.kind) n (n - 1) (omega arith) in omega arith))
+plain_holds h p bytes n is len = subst (λ (q : Head). Holds q bytes n) (sym is) (λ some. (let fits = in_run (sample_len h.kind) n (n - 1) (omega arith) in let r : (n - 1) * sample_len h.kind + sample_len h.kind ≤ length bytes = omega arith in r))
 
 -- a sample of a line stands so many samples behind another one
 behind : (h : Head) (band x y i : ℕ) → spot_place h band (x + i) y ≡ spot_place h band x y + i * sample_len h.kind

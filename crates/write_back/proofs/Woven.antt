@@ -69,7 +69,7 @@ spots_apart h k u v m w z is one other first second =
     let e = position_back h.layout h k u v one.band in
     let f = position_back h.layout h m w z other.band in
     let same = apart h (band_back h.layout h.bands k u) (column_back h.layout h.bands u) v (band_back h.layout h.bands m w) (column_back h.layout h.bands w) z is
-        (place_back h.layout h k u v is.bands.0 one.band one.spot one.line) (place_back h.layout h m w z is.bands.0 other.band other.spot other.line) (omega arith) (omega arith) in
+    (place_back h.layout h k u v is.bands.0 one.band one.spot one.line) (place_back h.layout h m w z is.bands.0 other.band other.spot other.line) (omega arith) (omega arith) in
     let both = same_spot h.layout h.bands k u m w one.band other.band same.band same.column in
     record { band = both.0; column = both.1; line = same.line }
 
