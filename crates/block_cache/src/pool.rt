@@ -154,13 +154,7 @@ impl Pool {
     /// Puts samples, which are in the range of the block's type, into a held block at places that stand
     /// `stride` apart, the first of them at `at`. The entry becomes dirty and the most recently used. `false`
     /// exactly where the key isn't held, and nothing changes then.
-    pub fn patch_spread(
-        &mut self,
-        key: &BlockKey,
-        at: u32,
-        stride: u32,
-        samples: &[Sample],
-    ) -> bool
+    pub fn patch_spread(&mut self, key: &BlockKey, at: u32, stride: u32, samples: &[Sample]) -> bool
         requires some { 0 < stride }
         requires within { IfSome (held_at key.now self.old.entries) (λ e. (i : ℕ) → i < length samples.now → at + i * stride < length e.block.samples) }
         requires range { IfSome (held_at key.now self.old.entries) (λ e. AreIn e.block.kind samples.now) }
