@@ -209,6 +209,20 @@ impl Block {
         of_cells!(&mut self.cells, packed => packed.write_run(at, samples))
     }
 
+    /// Puts samples, which are in the range of the block's type, at places that stand `stride` apart, the first
+    /// of them at `at`. All other places stay.
+    pub fn write_spread(&mut self, at: u32, stride: u32, samples: &[Sample])
+        requires some { 0 < stride }
+        requires room { (i : ℕ) → i < length samples.now → at + i * stride < length self.old.samples }
+        requires range { AreIn self.old.kind samples.now }
+        ensures kind { self.new.kind ≡ self.old.kind }
+        ensures spread { IsSpread samples.now 0 (length samples.now) at stride self.old.samples self.new.samples }
+    {
+        let at = at as usize;
+        let stride = stride as usize;
+        of_cells!(&mut self.cells, packed => packed.write_spread(at, stride, samples))
+    }
+
     /// Reads so many samples, which stand a stride apart in the bytes of raw data of the block's type,
     /// into the places from `at` on.
     pub fn decode(&mut self, head: &RawHead, bytes: &[u8], at: u32, count: u32)

@@ -12,7 +12,8 @@ ghost use Rattle.band_blocks.specs.Blocks.{block_view, IsPacked, AreIn, written,
 ghost use Rattle.band_blocks.specs.Spread.{IsSpread};
 
 use crate::cell::{
-    Cell, clamp_cells, copy_cells, decode_cells, encode_cells, set_cell, spread_cells, write_cells,
+    Cell, clamp_cells, copy_cells, decode_cells, encode_cells, scatter_cells, set_cell,
+    spread_cells, write_cells,
 };
 use crate::int16::{decode_elevations, decode_items, encode_elevations, encode_items};
 use dted_records::DtedHead;
@@ -135,6 +136,16 @@ impl<T: Cell> Packed<T> {
         ensures samples { self.new ≡ written at samples.now self.old }
     {
         write_cells(&mut self.cells, at, samples);
+    }
+
+    // Puts samples at places that stand `stride` apart, the first of them at `at`. All other places stay.
+    pub(crate) fn write_spread(&mut self, at: usize, stride: usize, samples: &[Sample])
+        requires some { 0 < stride }
+        requires room { (i : ℕ) → i < length samples.now → at + i * stride < length self.old }
+        requires range { AreIn T.kind samples.now }
+        ensures spread { IsSpread samples.now 0 (length samples.now) at stride self.old self.new }
+    {
+        scatter_cells(&mut self.cells, at, stride, samples);
     }
 
     // Reads so many samples of raw data into the places from `at` on.

@@ -1,9 +1,10 @@
-ghost use Rattle.std.specs.Prelude.{◌≡◌, ◌≤◌, ◌<◌, ◌-◌, ◌+◌, [], length, Some, None, true, IfOk, OnOk, OnErr, IfErr, IfSome, IsSome, IsOk, is_some, option_map, slice_get};
+ghost use Rattle.std.specs.Prelude.{◌≡◌, ◌≤◌, ◌<◌, ◌-◌, ◌+◌, ◌*◌, ℕ, [], length, Some, None, true, IfOk, OnOk, OnErr, IfErr, IfSome, IsSome, IsOk, is_some, option_map, slice_get};
 ghost use Rattle.std.specs.Borrow.{sem};
 ghost use Rattle.std.specs.Option.{option_copied};
 ghost use Rattle.band_blocks.specs.Blocks.{AreIn};
 ghost use Rattle.block_cache.specs.Entries.{pool_view, entry_of, entry_dropped, patched_block, held_at, moved_to_front, admitted, dropped, patched, IsPool, last_dirty, left_by};
 ghost use Rattle.block_cache.specs.PoolLends.{ends_as};
+ghost use Rattle.block_cache.specs.Spreads.{IsSpreadInto};
 
 use band_blocks::{Block, BlockKey};
 use geotransform::Sample;
@@ -148,6 +149,26 @@ impl Pool {
             }
             None => return false,
         }
+    }
+
+    /// Puts samples, which are in the range of the block's type, into a held block at places that stand
+    /// `stride` apart, the first of them at `at`. The entry becomes dirty and the most recently used. `false`
+    /// exactly where the key isn't held, and nothing changes then.
+    pub fn patch_spread(&mut self, key: &BlockKey, at: u32, stride: u32, samples: &[Sample]) -> bool
+        requires some { 0 < stride }
+        requires within { IfSome (held_at key.now self.old.entries) (λ e. (i : ℕ) → i < length samples.now → at + i * stride < length e.block.samples) }
+        requires range { IfSome (held_at key.now self.old.entries) (λ e. AreIn e.block.kind samples.now) }
+        ensures held { result ≡ is_some (held_at key.now self.old.entries) }
+        ensures absent { held_at key.now self.old.entries ≡ None → self.new ≡ self.old }
+        ensures patched { IfSome (held_at key.now self.old.entries) (λ e. IsSpreadInto key.now at stride samples.now e self.old self.new) }
+        ensures valid { IsPool self.new }
+    {
+        let Some(entry) = self.cache.get_mut(key) else {
+            return false;
+        };
+        entry.block.write_spread(at, stride, samples);
+        entry.dirty = true;
+        true
     }
 
     /// Takes entries out, from the one that was used longest ago on, until a dirty one is out, which

@@ -12,7 +12,7 @@ use crate::tiles::TILE;
 use esri_hdr::Layout;
 use geotransform::Sample;
 use outside::{Failing, Method, Tally};
-use std::alloc::Global;
+use std::alloc::{AllocError, Global};
 use std::test::*;
 use write_back::TargetFault;
 
@@ -53,6 +53,16 @@ const LINES: [Window; 4] = [
     (1, (0, 1), (3, 1), 6),
     (1, (0, 0), (3, 1), 9),
     (0, (0, 0), (3, 2), 12),
+];
+
+// One line of each band, and then the next.
+const LINE_BY_LINE: [Window; 6] = [
+    (0, (0, 0), (3, 1), 0),
+    (1, (0, 0), (3, 1), 3),
+    (2, (0, 0), (3, 1), 6),
+    (2, (0, 1), (3, 1), 9),
+    (0, (0, 1), (3, 1), 12),
+    (1, (0, 1), (3, 1), 15),
 ];
 
 // All bands in columns.
@@ -102,9 +112,10 @@ fn ended(
 }
 
 // What is written in blocks, its windows, and how many blocks there are.
-const ALL: [(Asked, &[Window], u16); 6] = [
+const ALL: [(Asked, &[Window], u16); 7] = [
     (BANDS, &COLUMNS, 6),
     (BANDS_BIP, &COLUMNS, 6),
+    (BANDS_BIP, &COLUMNS, 2),
     (BANDS_BSQ, &COLUMNS, 6),
     (LONG, &LONG_PARTS, 2),
     (TILE, &TILE_PARTS, 1201),
@@ -170,6 +181,33 @@ fn whole_lines_are_not_read_back(rt: HostRuntime) -> Result<(), Fail> {
     Ok(())
 }
 
+// What is written in blocks of all bands, its windows, and a pool that holds each line until all its bands are there.
+const WOVEN: [(Asked, &[Window], u16); 3] = [
+    (BANDS_BIP, &LINES, 2),
+    (BANDS_BIP, &COLUMNS, 2),
+    (BANDS_BIP, &LINE_BY_LINE, 1),
+];
+
+// The first of these that reads its draft, or how many there are.
+fn first_back(alloc: Global) -> Result<usize, Fail> {
+    let failing = Failing::Of(Method::DraftRead, 1);
+    let samples = samples_in(alloc, (0, 100), 100)?;
+    let samples = samples.as_slice();
+    for (at, (asked, windows, blocks)) in WOVEN.iter().enumerate() {
+        let story = Story { windows, samples };
+        if ended(alloc, asked, story, *blocks, failing)? != Ended::Closed {
+            return Ok(at);
+        }
+    }
+    Ok(WOVEN.len())
+}
+
+#[test]
+fn lines_of_all_bands_are_not_read_back(rt: HostRuntime) -> Result<(), Fail> {
+    assert_eq!(rt; first_back(rt.alloc())?, WOVEN.len());
+    Ok(())
+}
+
 // How often an output's draft is written, where it is closed.
 fn writes(
     alloc: Global,
@@ -195,7 +233,7 @@ type Row<'a> = (Asked, &'a [Window], u16, u64, &'a [u64]);
 // once more for each time that another one comes. A window writes at most the blocks that it meets, and none of a pool
 // of all blocks; `close` at most the blocks of the pool. A line of 65,000 bytes takes at most three calls, any other
 // block one.
-const MOST: [Row; 9] = [
+const MOST: [Row; 12] = [
     (BANDS, &LINES, 1, 6, &[2, 1, 1, 2, 1]),
     (BANDS, &LINES, 6, 6, &[0, 0, 0, 0, 6]),
     (BANDS_BSQ, &LINES, 1, 6, &[2, 1, 1, 2, 1]),
@@ -203,6 +241,9 @@ const MOST: [Row; 9] = [
     (BANDS, &COLUMNS, 6, 6, &[0, 0, 0, 0, 6]),
     (BANDS_BIP, &COLUMNS, 1, 8, &[2, 2, 2, 2, 1]),
     (BANDS_BIP, &COLUMNS, 6, 6, &[0, 0, 0, 0, 6]),
+    (BANDS_BIP, &COLUMNS, 2, 2, &[0, 0, 0, 0, 2]),
+    (BANDS_BIP, &LINES, 2, 2, &[0, 0, 0, 0, 2]),
+    (BANDS_BIP, &LINE_BY_LINE, 1, 2, &[0, 0, 0, 1, 0, 0, 1]),
     (LONG, &LONG_LINES, 1, 6, &[3, 3, 3]),
     (LONG, &LONG_PARTS, 2, 6, &[0, 0, 0, 6]),
 ];
@@ -301,6 +342,43 @@ fn tiles_and_cells_are_written_within_the_bound(rt: HostRuntime) -> Result<(), F
         first_beyond(rt.alloc(), &MOST_OF_FORMS)?,
         MOST_OF_FORMS.len()
     );
+    Ok(())
+}
+
+// 256 bands of one column and two lines, pixel by pixel.
+const DEEP: Asked = Asked {
+    text: "<VRTDataset rasterXSize=\"1\" rasterYSize=\"2\">\
+        <VRTRasterBand dataType=\"Byte\"></VRTRasterBand></VRTDataset>",
+    bands: &[1; 256],
+    ..BANDS_BIP
+};
+
+// So many windows of these lines, one for each band and then for each band below.
+fn deep_windows(alloc: Global, count: u16, lines: u16) -> Result<Vec<Window>, AllocError> {
+    let mut windows = Vec::new(alloc);
+    for at in 0..count {
+        windows.push((at % 256, (0, at / 256), (1, lines), at))?;
+    }
+    Ok(windows)
+}
+
+// Whether both lines of all bands are written once, and none is read, through a pool of so many blocks.
+fn is_written_once(alloc: Global, count: u16, lines: u16, capacity: u16) -> Result<bool, Fail> {
+    let windows = deep_windows(alloc, count, lines)?;
+    let samples = samples_in(alloc, (0, 100), 1000)?;
+    let story = Story {
+        windows: windows.as_slice(),
+        samples: samples.as_slice(),
+    };
+    let failing = Failing::Of(Method::DraftRead, 1);
+    let unread = ended(alloc, &DEEP, story, capacity, failing)? == Ended::Closed;
+    Ok(unread && writes(alloc, &DEEP, story, capacity)? == Some(2))
+}
+
+#[test]
+fn lines_of_all_bands_are_written_once(rt: HostRuntime) -> Result<(), Fail> {
+    assert!(rt; is_written_once(rt.alloc(), 256, 2, 2)?);
+    assert!(rt; is_written_once(rt.alloc(), 512, 1, 1)?);
     Ok(())
 }
 
@@ -429,7 +507,7 @@ const AGAIN: [Window; 2] = [(0, (0, 0), (1, 2), 0), (0, (1, 0), (1, 1), 2)];
 // Two columns in part, and the first one once more.
 const CELL_AGAIN: [Window; 2] = [(0, (0, 0), (2, 1), 0), (0, (0, 1), (1, 1), 2)];
 
-// Both lines of the first band, and then those of the second one, which leave for one another and in `close`.
+// Both lines of the first band, and then those of the second one, for which each comes back.
 const SECOND: [Window; 2] = [(0, (0, 0), (3, 2), 0), (1, (0, 0), (3, 2), 6)];
 
 const FIRST: [Window; 1] = [(0, (0, 0), (3, 2), 0)];
@@ -438,14 +516,12 @@ const FIRST_PART: [Window; 1] = [(0, (1, 0), (1, 2), 0)];
 
 const LOST: Ended = Ended::Refused(TargetFault::FolderFault, true);
 
-const UNPUBLISHED: Ended = Ended::NotClosed(0, TargetFault::FolderFault);
-
 /// What is written through a pool of one block, its windows, and how it ends where its first read fails, its second
 /// one, and so on.
 type Read<'a> = (Asked, &'a [Window], &'a [Ended]);
 
-// A block that wasn't written before isn't read, and one that was is read where it comes back. Where samples of other
-// bands stand between those of a line, they are read before it leaves, if one of them was written before.
+// A block that wasn't written before isn't read, and one that was is read where it comes back. Where bands lie pixel by
+// pixel a line comes back for each of them that comes later.
 const READS: [Read; 12] = [
     (BANDS, &APART, &[Ended::Closed]),
     (BANDS_BSQ, &APART, &[Ended::Closed]),
@@ -455,10 +531,10 @@ const READS: [Read; 12] = [
     (BANDS_BSQ, &AGAIN, &[LOST, Ended::Closed]),
     (TILE, &AGAIN, &[LOST, Ended::Closed]),
     (CELL, &CELL_AGAIN, &[LOST, Ended::Closed]),
-    (BANDS_BIP, &AGAIN, &[LOST]),
+    (BANDS_BIP, &AGAIN, &[LOST, Ended::Closed]),
     (BANDS_BIP, &FIRST, &[Ended::Closed]),
     (BANDS_BIP, &FIRST_PART, &[Ended::Closed]),
-    (BANDS_BIP, &SECOND, &[LOST, UNPUBLISHED, Ended::Closed]),
+    (BANDS_BIP, &SECOND, &[LOST, LOST, Ended::Closed]),
 ];
 
 // Whether an output ends so where each of its reads fails in turn.

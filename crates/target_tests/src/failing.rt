@@ -110,6 +110,27 @@ const PAIR_CALLS: [Call; 17] = [
     (Method::ReadAt, 1, 4),
 ];
 
+// Where bands lie pixel by pixel, both bands' part of a line is put into the block that is held.
+const PAIR_BIP_CALLS: [Call; 17] = [
+    (Method::Create, 1, 0),
+    (Method::Grow, 1, 0),
+    (Method::Create, 2, 0),
+    (Method::Append, 1, 0),
+    (Method::Create, 3, 4),
+    (Method::Grow, 2, 4),
+    (Method::Append, 2, 4),
+    (Method::DraftRead, 1, 1),
+    (Method::WriteAt, 1, 1),
+    (Method::WriteAt, 5, 1),
+    (Method::WriteAt, 6, 2),
+    (Method::WriteAt, 7, 4),
+    (Method::Publish, 1, 2),
+    (Method::Publish, 2, 3),
+    (Method::Publish, 3, 4),
+    (Method::Open, 1, 4),
+    (Method::ReadAt, 1, 4),
+];
+
 // The head of a cell is added before its draft grows.
 const CELL_CALLS: [Call; 14] = [
     (Method::Create, 1, 0),
@@ -161,6 +182,7 @@ const SQUARE_CALLS: [Call; 11] = [
 // The calls of an output of a form.
 fn calls_of(form: Form) -> &'static [Call] {
     match form {
+        Form::Raw(Layout::Bip) => &PAIR_BIP_CALLS,
         Form::Raw(_) => &PAIR_CALLS,
         Form::Cell => &CELL_CALLS,
         Form::Tile => &TILE_CALLS,

@@ -1,6 +1,6 @@
 -- What a line of raw data or of a tile is as a block.
 use Rattle.std.proofs.Common.{◌≡◌, ℕ, suc, ℤ, pos, ◌+◌, ◌*◌, ◌<◌, ◌≤◌, ◌⊎◌, inl, inr, ⊎_elim, true, List, [], ◌∷◌, get_or, length, map, take, drop, sym, ap, ◌∙◌, subst, refl, arith, zero-add, length-append}
-use Rattle.std.specs.Prelude.{Bool, Option, Some, Result, Ok, Err, OnOk}
+use Rattle.std.specs.Prelude.{Option, Some, Result, Ok, Err, OnOk}
 use Rattle.std.specs.List.{All, list_all, range_with_len}
 use Rattle.std.proofs.lemmas.List.Sums.{AllPass-from_list_all}
 use Rattle.std.specs.Int.{w16, cast_signed}
@@ -13,7 +13,6 @@ use Rattle.outside.specs.Outside.{put_at, Written}
 use Rattle.geotransform.specs.Types.{is_in}
 use Rattle.geotransform.specs.declared.types.PixelType.TheVariants.{Int16}
 use Rattle.esri_hdr.specs.Head.{Head}
-use Rattle.interleaved_raw.specs.Raw.{IsPlace, row_of, raw_at}
 use Rattle.hgt_tiles.specs.Samples.{hgt_at, line_of, row_bytes, sample_bytes}
 use Rattle.lists_and_answers.specs.Places.{StandsAt}
 use Rattle.hgt_tiles.proofs.Rows.{row_again, row_stands, sample_bytes_len}
@@ -21,21 +20,20 @@ use Rattle.band_blocks.specs.declared.key.BlockKey.{BlockKey}
 use Rattle.write_back.specs.declared.forms.Writer.{Writer}
 use Rattle.write_back.specs.declared.forms.Writer.TheVariants.{Raw, Hgt}
 use Rattle.band_blocks.specs.Blocks.{BlockView}
-use Rattle.write_back.specs.Forms.{cut_of, IsSpot, holds, needed_of, AreHeld, IsFormed}
+use Rattle.write_back.specs.Forms.{IsSpot, holds, needed_of, AreHeld, IsFormed}
 use Rattle.write_back.specs.Overlay.{line_key, held_in, IsBlockWritten, IsLine}
-use Rattle.write_back.specs.Pieces.{AreBytes, IsClear, IsRunWritten}
-use Rattle.write_back.specs.Unwritten.{IsBlank}
+use Rattle.write_back.specs.Pieces.{spot_at, spots_from, spots_of, AreBytes, IsLineSpot, IsRunWritten}
 use Rattle.write_back.proofs.Lines.{line_is}
 use Rattle.write_back.proofs.Runs.{put_len, put_small, put_stands, put_below, put_past}
 
 pub range_same : (f g : ℕ → ℤ) (n : ℕ) → ((i : ℕ) → i < n → f i ≡ g i) → map f (range_with_len 0 n) ≡ map g (range_with_len 0 n)
 range_same f g n same = fill_by_all g (map f (range_with_len 0 n)) n (pos 0) (length-map-range_with_len f 0 n) (λ k below. get_or-map-range_with_len f 0 n k k (pos 0) below (zero-add k) ∙ same k below)
 
-pub place_of : (h : Head) (k u v : ℕ) → IsSpot (Raw h) k u v → IsPlace h k u v
-place_of h k u v spot = record { band = spot.band; column = spot.spot; line = spot.block }
+pub place_of : (h : Head) (k u v : ℕ) → IsSpot (Raw h) k u v → IsLineSpot h k u v
+place_of h k u v spot = record { band = spot.band; spot = spot.spot; line = spot.block }
 
 -- a whole line that was written is a block that was written
-pub raw_written : (h : Head) (key : BlockKey) (line : List ℤ) (b c : List ℕ) → key.dataset ≡ 0 → IsRunWritten h key.band key.block 0 h.size.w line b c → IsBlockWritten (Raw h) key line b c
+pub raw_written : (h : Head) (key : BlockKey) (line : List ℤ) (b c : List ℕ) → key.dataset ≡ 0 → IsRunWritten h key.band key.block 0 (spots_of h) line b c → IsBlockWritten (Raw h) key line b c
 raw_written h key line b c file put = record {
   len = put.len;
   formed = put.small;
@@ -45,23 +43,21 @@ raw_written h key line b c file put = record {
   stays = λ v less was. tt;
 }
 
-module _ {E : Type 0} (h : Head) (key : BlockKey) (block : BlockView) (old new : Option (List ℕ)) (blank : Bool) where
+module _ {E : Type 0} (h : Head) (key : BlockKey) (block : BlockView) (old new : Option (List ℕ)) where
   raw_done : (r : Result (Unit {0}) E) → IsLine (Raw h) key block
-      → OnOk r ((b : List ℕ) → old ≡ Some b → length b ≡ needed_of (Raw h) → (blank ≡ true → IsClear h key.band 0 key.block b) → (c : List ℕ) × (new ≡ Some c) × IsRunWritten h key.band key.block 0 h.size.w block.samples b c)
-      → OnOk r ((b : List ℕ) → old ≡ Some b → length b ≡ needed_of (Raw h) → IsFormed (Raw h) b → (blank ≡ true → (k : ℕ) → k < (cut_of (Raw h)).bands → IsBlank (Raw h) b k key.block) → (c : List ℕ) × (new ≡ Some c) × IsBlockWritten (Raw h) key block.samples b c)
+      → OnOk r ((b : List ℕ) → old ≡ Some b → length b ≡ needed_of (Raw h) → (c : List ℕ) × (new ≡ Some c) × IsRunWritten h key.band key.block 0 (spots_of h) block.samples b c)
+      → OnOk r ((b : List ℕ) → old ≡ Some b → length b ≡ needed_of (Raw h) → IsFormed (Raw h) b → (c : List ℕ) × (new ≡ Some c) × IsBlockWritten (Raw h) key block.samples b c)
   raw_done (Err e) line put = put
-  raw_done (Ok x) line put = λ b told long formed zeros.
-      let now = put b told long (λ is. record { small = formed; zeros = λ k u place after. zeros is k place.band u place.column }) in
-      (now.0, now.1, raw_written h key block.samples b now.0 line.dataset_is now.2)
+  raw_done (Ok x) line put = λ b told long formed. (let now = put b told long in (now.0, now.1, raw_written h key block.samples b now.0 line.dataset_is now.2))
 
   pub raw_block : (w : Writer) (r : Result (Unit {0}) E) → w ≡ Raw h → IsLine w key block
-      → OnOk r ((b : List ℕ) → old ≡ Some b → length b ≡ needed_of (Raw h) → (blank ≡ true → IsClear h key.band 0 key.block b) → (c : List ℕ) × (new ≡ Some c) × IsRunWritten h key.band key.block 0 h.size.w block.samples b c)
-      → OnOk r ((b : List ℕ) → old ≡ Some b → length b ≡ needed_of w → IsFormed w b → (blank ≡ true → (k : ℕ) → k < (cut_of w).bands → IsBlank w b k key.block) → (c : List ℕ) × (new ≡ Some c) × IsBlockWritten w key block.samples b c)
-  raw_block w r is line put = subst (λ v. OnOk r ((b : List ℕ) → old ≡ Some b → length b ≡ needed_of v → IsFormed v b → (blank ≡ true → (k : ℕ) → k < (cut_of v).bands → IsBlank v b k key.block) → (c : List ℕ) × (new ≡ Some c) × IsBlockWritten v key block.samples b c)) (sym is)
+      → OnOk r ((b : List ℕ) → old ≡ Some b → length b ≡ needed_of (Raw h) → (c : List ℕ) × (new ≡ Some c) × IsRunWritten h key.band key.block 0 (spots_of h) block.samples b c)
+      → OnOk r ((b : List ℕ) → old ≡ Some b → length b ≡ needed_of w → IsFormed w b → (c : List ℕ) × (new ≡ Some c) × IsBlockWritten w key block.samples b c)
+  raw_block w r is line put = subst (λ v. OnOk r ((b : List ℕ) → old ≡ Some b → length b ≡ needed_of v → IsFormed v b → (c : List ℕ) × (new ≡ Some c) × IsBlockWritten v key block.samples b c)) (sym is)
       (raw_done r (subst (λ v. IsLine v key block) is line) put)
 
-pub raw_row : (h : Head) (b : List ℕ) (band y : ℕ) → row_of h b band 0 y h.size.w ≡ held_in (Raw h) b band y
-raw_row h b band y = range_same (λ i. raw_at h b band (0 + i) y) (λ i. raw_at h b band i y) h.size.w (λ i less. ap (λ j. raw_at h b band j y) (zero-add i))
+pub raw_row : (h : Head) (b : List ℕ) (band y : ℕ) → spots_from h b band 0 y (spots_of h) ≡ held_in (Raw h) b band y
+raw_row h b band y = range_same (λ i. spot_at h b band (0 + i) y) (λ i. spot_at h b band i y) (spots_of h) (λ i less. ap (λ j. spot_at h b band j y) (zero-add i))
 
 -- a part whose bytes are the same
 pub same_part : (n p : ℕ) (b c : List ℕ) → p + n ≤ length b → length c ≡ length b → ((i : ℕ) → i < n → get_or c (p + i) 0 ≡ get_or b (p + i) 0) → take n (drop p c) ≡ take n (drop p b)

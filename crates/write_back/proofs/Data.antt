@@ -11,6 +11,7 @@ use Rattle.interleaved_raw.specs.Raw.{position_by, position_of, sample_bytes, Is
 use Rattle.write_back.specs.declared.forms.Writer.TheVariants.{Raw}
 use Rattle.write_back.specs.Files.{HasSamples, IsTight, IsTightBy, band_by, column_by, line_by, raw_bytes}
 use Rattle.write_back.proofs.Spelled.{spelled}
+use Rattle.write_back.proofs.Woven.{seen_sample}
 use Rattle.interleaved_raw.proofs.Order.{ends_within}
 
 chunks_from : (s k n : ℕ) (b : List ℕ) (f : ℕ → List ℕ) → length b ≡ (k + n) * s → ((i : ℕ) → i < k + n → take s (drop (i * s) b) ≡ f i) → drop (k * s) b ≡ flat_map f (range_with_len k n)
@@ -146,5 +147,5 @@ data_is h samples met b is tight has =
     let len = has.len in
     ap (λ m. take (sample_len h.kind) (drop m b)) (sym at)
     ∙ spelled h b (position_of h (band_by h.layout h i) (column_by h.layout h i) (line_by h.layout h i)) has.formed (omega arith)
-    ∙ ap (sample_bytes h) (has.each (band_by h.layout h i) (column_by h.layout h i) (line_by h.layout h i) (record { band = place.band; spot = place.column; block = place.line }))
+    ∙ ap (sample_bytes h) (sym (seen_sample h b (band_by h.layout h i) (column_by h.layout h i) (line_by h.layout h i)) ∙ has.each (band_by h.layout h i) (column_by h.layout h i) (line_by h.layout h i) (record { band = place.band; column = place.column; line = place.line }))
     ))

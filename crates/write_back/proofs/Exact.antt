@@ -70,7 +70,7 @@ tile_is side samples met b has =
     let long : length b ≡ side * (2 * side) = has.len ∙ (let g : 2 * (side * side) ≡ side * (2 * side) = grind arith in g) in
     chunks (2 * side) side b (λ y. row_bytes (map (λ x. hgt_at side b x y) (range_with_len 0 side))) long (λ y less. tile_line side b y has.formed has.len less)
     ∙ flat_same (λ y. row_bytes (map (λ x. hgt_at side b x y) (range_with_len 0 side))) (λ y. row_bytes (line_at samples side y)) 0 side
-    (λ y less. ap row_bytes (range_same (λ x. hgt_at side b x y) (λ x. samples 0 x y) side (λ x column. has.each 0 x y (record { band = omega arith; spot = column; block = omega arith }))))
+    (λ y less. ap row_bytes (range_same (λ x. hgt_at side b x y) (λ x. samples 0 x y) side (λ x column. has.each 0 x y (record { band = omega arith; column = column; line = omega arith }))))
 
 -- a cell's bytes, where each column was met
 pub cell_is : (c : Cell) (samples : ℕ → ℕ → ℕ → ℤ) (met : ℕ → ℕ → Type 0) (b : List ℕ) → HasSamples (Dted c) samples met b → ((x : ℕ) → x < c.head.lines → met 0 x) → b ≡ cell_bytes c samples
@@ -87,4 +87,4 @@ cell_is c samples met b has all =
     ∙ formed.whole x less (has.begun 0 x (omega arith) less (all x less))
     ))
     ∙ flat_same (λ x. record_bytes x (column_of c.head b x)) (λ x. record_bytes x (column_at samples c.head.points x)) 0 c.head.lines
-    (λ x less. ap (record_bytes x) (range_same (λ y. dted_at c.head b x y) (λ y. samples 0 x y) c.head.points (λ y row. has.each 0 x y (record { band = omega arith; spot = row; block = omega arith })))))
+    (λ x less. ap (record_bytes x) (range_same (λ y. dted_at c.head b x y) (λ y. samples 0 x y) c.head.points (λ y row. has.each 0 x y (record { band = omega arith; column = omega arith; line = row })))))

@@ -26,8 +26,9 @@ pub mod Runs
 pub mod Sheets
 pub mod Spelled
 pub mod States
+pub mod Steps
 pub mod Taken
 pub mod Transposed
 pub mod TileNames
-pub mod ZeroBytes
+pub mod Woven
 pub mod Zeros

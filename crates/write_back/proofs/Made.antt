@@ -4,7 +4,7 @@ use Rattle.std.proofs.lemmas.List.{length-replicate}
 use Rattle.outside.specs.Outside.{Files}
 use Rattle.geotransform.specs.Geo.{IsRaster}
 use Rattle.block_cache.specs.Entries.{PoolView, IsPool, pool_view}
-use Rattle.esri_hdr.specs.Head.{Head}
+use Rattle.esri_hdr.specs.Head.{Head, IsHead}
 use Rattle.interleaved_raw.specs.Raw as raw
 use Rattle.dted_records.specs.Head as dted
 use Rattle.dted_records.specs.Places as cell
@@ -12,10 +12,10 @@ use Rattle.write_back.specs.declared.forms.Writer.{Writer}
 use Rattle.write_back.specs.declared.forms.Writer.TheVariants.{Raw, Hgt, Dted}
 use Rattle.write_back.specs.declared.rows.GridForm.{GridForm}
 use Rattle.write_back.specs.Columns.{Cell, cell_of}
-use Rattle.write_back.specs.Forms.{needed_of, under, IsFormed, IsPixel, seen}
+use Rattle.write_back.specs.Forms.{bands_in, block_of, cut_of, needed_of, plane_of, spot_of, under, IsFormed, IsSpot}
 use Rattle.write_back.specs.Grids.{front_of, grid_in, HasRows}
 use Rattle.write_back.specs.Overlay.{overlay}
-use Rattle.write_back.specs.Pieces.{AreBytes}
+use Rattle.write_back.specs.Pieces.{spot_place, AreBytes}
 use Rattle.write_back.specs.State.{IsRight}
 use Rattle.write_back.specs.View.{Blocks, Rows, TargetView, shown_on, IsIn}
 use Rattle.write_back.specs.Files.{header_text, HasHeader, IsBlockForm, IsTarget}
@@ -23,6 +23,7 @@ use Rattle.write_back.proofs.Blocks.{place_of}
 use Rattle.write_back.proofs.GridRows.{row_value}
 use Rattle.write_back.proofs.Sheets.{pixel_of}
 use Rattle.write_back.proofs.Taken.{empty_sound, empty_kept}
+use Rattle.write_back.proofs.Woven.{spot_ends, spot_is}
 use Rattle.write_back.proofs.Zeros.{zero_sample, zero_tile, zeros_small, new_cell, new_long, new_point}
 
 -- a target of blocks as a contract sees it
@@ -43,18 +44,18 @@ made w v told pool capacity draft len name header bytes same valid empty form lo
 })
 
 -- and shows what the draft's bytes hold
-pub shows : (w v : Writer) (pool : PoolView) (capacity : ℕ) (draft : Option (List ℕ)) (bytes : List ℕ) → v ≡ w → pool ≡ pool_view [] capacity → draft ≡ Some bytes → ((k x y : ℕ) → IsPixel w k x y → seen w (under w bytes) k x y ≡ pos 0) → (k x y : ℕ) → IsIn (Blocks v) k x y → shown_on (Blocks v) pool draft k x y ≡ pos 0
+pub shows : (w v : Writer) (pool : PoolView) (capacity : ℕ) (draft : Option (List ℕ)) (bytes : List ℕ) → v ≡ w → pool ≡ pool_view [] capacity → draft ≡ Some bytes → ((k u n : ℕ) → IsSpot w k u n → under w bytes k u n ≡ pos 0) → (k x y : ℕ) → IsIn (Blocks v) k x y → shown_on (Blocks v) pool draft k x y ≡ pos 0
 shows w v pool capacity draft bytes same empty is none = subst (λ u. (k x y : ℕ) → IsIn (Blocks u) k x y → shown_on (Blocks u) pool draft k x y ≡ pos 0) (sym same)
-    (λ k x y place. ap (λ (p : PoolView). shown_on (Blocks w) p draft k x y) empty ∙ ap (λ d. shown_on (Blocks w) (pool_view [] capacity) d k x y) is ∙ none k x y (pixel_of w k x y place))
+    (λ k x y place. ap (λ (p : PoolView). shown_on (Blocks w) p draft k x y) empty ∙ ap (λ d. shown_on (Blocks w) (pool_view [] capacity) d k x y) is ∙ none (plane_of (cut_of w).woven k) (spot_of (cut_of w).by_columns (cut_of w).woven (bands_in w) k x y) (block_of (cut_of w).by_columns x y) (spot_is w k x y (pixel_of w k x y place)))
 
-pub raw_zero : (h : Head) (n : ℕ) → n ≡ raw.needed_of h → (k x y : ℕ) → IsPixel (Raw h) k x y → seen (Raw h) (under (Raw h) (replicate n 0)) k x y ≡ pos 0
-raw_zero h n is k x y place = ap (λ m. seen (Raw h) (under (Raw h) (replicate m 0)) k x y) is ∙ zero_sample h k x y (place_of h k x y place)
+pub raw_zero : (h : Head) (n : ℕ) → IsHead h → n ≡ raw.needed_of h → (k u v : ℕ) → IsSpot (Raw h) k u v → under (Raw h) (replicate n 0) k u v ≡ pos 0
+raw_zero h n is long k u v spot = zero_sample h n (spot_place h k u v) (let last = spot_ends h k u v is (place_of h k u v spot) in omega arith)
 
-pub tile_zero : (side : ℕ) → (k x y : ℕ) → IsPixel (Hgt side) k x y → seen (Hgt side) (under (Hgt side) (replicate (2 * (side * side)) 0)) k x y ≡ pos 0
-tile_zero side k x y place = zero_tile side x y place.spot place.block
+pub tile_zero : (side : ℕ) → (k u v : ℕ) → IsSpot (Hgt side) k u v → under (Hgt side) (replicate (2 * (side * side)) 0) k u v ≡ pos 0
+tile_zero side k u v spot = zero_tile side u v spot.spot spot.block
 
-pub cell_zero : (h : dted.Head) (front : List ℕ) → length front ≡ cell.record_of h 0 → AreBytes front → (k x y : ℕ) → IsPixel (Dted (cell_of h front)) k x y → seen (Dted (cell_of h front)) (under (Dted (cell_of h front)) (front ++ replicate (cell.needed_of h - length front) 0)) k x y ≡ pos 0
-cell_zero h front len small k x y place = new_point h front len small x y place.block place.spot
+pub cell_zero : (h : dted.Head) (front : List ℕ) → length front ≡ cell.record_of h 0 → AreBytes front → (k u v : ℕ) → IsSpot (Dted (cell_of h front)) k u v → under (Dted (cell_of h front)) (front ++ replicate (cell.needed_of h - length front) 0) k u v ≡ pos 0
+cell_zero h front len small k u v spot = new_point h front len small v u spot.block spot.spot
 
 -- a grid of which no line is written
 abbrev pub grid_at : GridForm → PoolView → Option (List ℕ) → ℕ → List ℕ → TargetView

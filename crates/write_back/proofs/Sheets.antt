@@ -8,7 +8,7 @@ use Rattle.outside.specs.Outside.{Files}
 use Rattle.block_cache.specs.Entries.{PoolView, pool_view}
 use Rattle.write_back.specs.declared.forms.Writer.{Writer}
 use Rattle.write_back.specs.declared.forms.Writer.TheVariants.{Raw, Hgt, Dted}
-use Rattle.write_back.specs.Forms.{cut_of, seen, IsPixel, IsSpot, spot_of, block_of, most_calls}
+use Rattle.write_back.specs.Forms.{bands_in, cut_of, seen, IsPixel, most_calls}
 use Rattle.write_back.specs.Overlay.{overlay, AreSame, IsOverlaid, IsWindow, Stays, WasMet}
 use Rattle.write_back.specs.State.{StoreState, AreMet, Changes, HasDraft, IsRight, IsSound, Serves, lines_met}
 use Rattle.write_back.specs.View.{Output, Blocks, Rows, SheetView, all_blocks, calls_of, columns_of, is_writable, shown_on, seen_in, AreWritable, Finishes, IsIn, IsMetOn, IsNext, Keeps, Meets, Puts}
@@ -27,24 +27,9 @@ pub told_by : {T : Type 0} (o : Option T) → IsSome o → (m : T) × (o ≡ Som
 told_by None some = absurd (let clash : false ≡ true = some in cc)
 told_by (Some m) some = (m, refl)
 
--- a pixel of an output is one of its blocks, and the other way round
-spot_by : (w : Writer) (b : Bool) (k x y : ℕ) → k < (cut_of w).bands → x < cond b (cut_of w).blocks (cut_of w).spots → y < cond b (cut_of w).spots (cut_of w).blocks → IsSpot w k (spot_of b x y) (block_of b x y)
-spot_by w true k x y band column line = record { band = band; spot = line; block = column }
-spot_by w false k x y band column line = record { band = band; spot = column; block = line }
-
+-- a pixel of an output
 pub pixel_of : (w : Writer) (k x y : ℕ) → IsIn (Blocks w) k x y → IsPixel w k x y
-pixel_of w k x y is = spot_by w (cut_of w).by_columns k x y is.band is.column is.line
-
-column_by : (w : Writer) (b : Bool) (k x y : ℕ) → IsSpot w k (spot_of b x y) (block_of b x y) → x < cond b (cut_of w).blocks (cut_of w).spots
-column_by w true k x y spot = spot.block
-column_by w false k x y spot = spot.spot
-
-line_by : (w : Writer) (b : Bool) (k x y : ℕ) → IsSpot w k (spot_of b x y) (block_of b x y) → y < cond b (cut_of w).spots (cut_of w).blocks
-line_by w true k x y spot = spot.spot
-line_by w false k x y spot = spot.block
-
-pub in_of : (w : Writer) (k x y : ℕ) → IsPixel w k x y → IsIn (Blocks w) k x y
-in_of w k x y is = record { band = is.band; column = column_by w (cut_of w).by_columns k x y is; line = line_by w (cut_of w).by_columns k x y is }
+pixel_of w k x y is = record { band = is.band; column = is.column; line = is.line }
 
 pub window_in : (w : Writer) (band : ℕ) (rect : Rect) (samples : List ℤ) (old new : ℕ → ℕ → ℕ → ℤ) → IsOverlaid (IsPixel w) band rect samples old new → IsOverlaid (IsIn (Blocks w)) band rect samples old new
 window_in w band rect samples old new set = record { inside = set.inside; outside = λ k x y place apart_from. set.outside k x y (pixel_of w k x y place) apart_from }
@@ -88,7 +73,7 @@ module _ (w : Writer) where
       subst (λ k. WasMet w t.pool.entries c k x) none (subst (λ v. WasMet w t.pool.entries c band v) e (met.each has.0 c has.1 is (x - rect.x) (omega arith)))
 
 -- what a window meets, by the parts of a sheet that it needs
-pub meets_of : (w : Writer) (P : (ℕ → ℕ → ℕ → ℤ) → (ℕ → ℕ → ℕ → ℤ) → Type 0) (band : ℕ) (rect : Rect) (s t : StoreState) (old new : SheetView) → IsRight w s.told s.len s.draft s.pool → Changes w P s t → IsSome s.told → band < (cut_of w).bands
+pub meets_of : (w : Writer) (P : (ℕ → ℕ → ℕ → ℤ) → (ℕ → ℕ → ℕ → ℤ) → Type 0) (band : ℕ) (rect : Rect) (s t : StoreState) (old new : SheetView) → IsRight w s.told s.len s.draft s.pool → Changes w P s t → IsSome s.told → band < bands_in w
     → ((cut_of w).by_columns ≡ true → AreMet w band rect.x rect.w s t) → old.pool ≡ s.pool → old.draft ≡ s.draft → new.pool ≡ t.pool → new.draft ≡ t.draft → Meets (Blocks w) rect old new
 meets_of (Raw h) P band rect s t old new right changed some less met a b c d = record { stays = λ x column was e is. inl tt; here = λ high x left inside e is. inl tt }
 meets_of (Hgt side) P band rect s t old new right changed some less met a b c d = record { stays = λ x column was e is. inl tt; here = λ high x left inside e is. inl tt }
@@ -145,7 +130,7 @@ module _ (w : Writer) where
     calls = calls_apart (most_calls w) s.calls t.calls s.writes t.writes a.writes a.calls;
   }
 
-  pub blocks_put : (band : ℕ) (rect : Rect) (samples : List ℤ) (s t : StoreState) → IsRight w s.told s.len s.draft s.pool → band < (cut_of w).bands → t.told ≡ s.told → Changes w (IsWindow w band rect samples) s t → ((cut_of w).by_columns ≡ true → AreMet w band rect.x rect.w s t)
+  pub blocks_put : (band : ℕ) (rect : Rect) (samples : List ℤ) (s t : StoreState) → IsRight w s.told s.len s.draft s.pool → band < bands_in w → t.told ≡ s.told → Changes w (IsWindow w band rect samples) s t → ((cut_of w).by_columns ≡ true → AreMet w band rect.x rect.w s t)
       → Puts band rect samples s.told t.told (blocks_at s) (blocks_at t)
   blocks_put band rect samples s t right less told changed met = record {
     right = right_after w (IsWindow w band rect samples) s t right told changed;
@@ -170,7 +155,7 @@ kept_of w w' rect s t old new is now same a =
     subst (λ v. Keeps rect v new s.told t.told s.reads t.reads s.calls t.calls s.writes t.writes) is
     (subst (λ v. Keeps rect (blocks_at w s) v s.told t.told s.reads t.reads s.calls t.calls s.writes t.writes) (ap (λ u. blocks_at u t) (sym same) ∙ now) (blocks_kept w rect s t a))
 
-pub put_of : (w w' : Writer) (band : ℕ) (rect : Rect) (samples : List ℤ) (s t : StoreState) (old new : SheetView) → blocks_at w s ≡ old → blocks_at w' t ≡ new → w' ≡ w → IsRight w s.told s.len s.draft s.pool → band < (cut_of w).bands → t.told ≡ s.told
+pub put_of : (w w' : Writer) (band : ℕ) (rect : Rect) (samples : List ℤ) (s t : StoreState) (old new : SheetView) → blocks_at w s ≡ old → blocks_at w' t ≡ new → w' ≡ w → IsRight w s.told s.len s.draft s.pool → band < bands_in w → t.told ≡ s.told
     → Changes w (IsWindow w band rect samples) s t → ((cut_of w).by_columns ≡ true → AreMet w band rect.x rect.w s t) → Puts band rect samples s.told t.told old new
 put_of w w' band rect samples s t old new is now same right less told changed met =
     subst (λ v. Puts band rect samples s.told t.told v new) is

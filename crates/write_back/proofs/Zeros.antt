@@ -16,8 +16,7 @@ use Rattle.std.proofs.Math.Nat.{mul-le-mul_right}
 use Rattle.byteorder.specs.Endian.{big_number}
 use Rattle.hgt_tiles.specs.Samples.{hgt_at}
 use Rattle.esri_hdr.specs.Head.{Head, sample_len}
-use Rattle.interleaved_raw.specs.Raw.{position_of, needed_of, raw_at, value_of, number_in, IsPlace}
-use Rattle.interleaved_raw.proofs.Order.{ends_within}
+use Rattle.interleaved_raw.specs.Raw.{sample_at, value_of, number_in}
 
 zero_value : (kind : PixelType) (big : Bool) → value_of kind (number_in big (sample_len kind) (replicate (sample_len kind) 0)) ≡ pos 0
 zero_value Byte true = refl
@@ -37,11 +36,10 @@ zero_value UInt64 false = refl
 zero_value Int64 true = refl
 zero_value Int64 false = refl
 
-pub zero_sample : (h : Head) (k x y : ℕ) → IsPlace h k x y → raw_at h (replicate (needed_of h) 0) k x y ≡ pos 0
-zero_sample h k x y place =
-    let last = ends_within h k x y place in
+pub zero_sample : (h : Head) (n at : ℕ) → at + sample_len h.kind ≤ n → sample_at h (drop at (replicate n 0)) ≡ pos 0
+zero_sample h n at within =
     ap (λ (l : List ℕ). value_of h.kind (number_in h.big (sample_len h.kind) l))
-    (ap (take (sample_len h.kind)) (drop-replicate (position_of h k x y) (needed_of h) 0) ∙ take-replicate (sample_len h.kind) (needed_of h - position_of h k x y) 0 (omega arith))
+    (ap (take (sample_len h.kind)) (drop-replicate at n 0) ∙ take-replicate (sample_len h.kind) (n - at) 0 (omega arith))
     ∙ zero_value h.kind h.big
 
 -- zeros are bytes

@@ -1,56 +1,97 @@
--- How the lines of a raw file are written: in pieces, through room that is used again.
-use Rattle.std.specs.Prelude.{◌≡◌, ◌⊎◌, get_or, replicate, ℕ, ℤ, pos, length, ◌+◌, ◌-◌, ◌*◌, ◌/◌, ◌<◌, ◌≤◌, Bool, true, List}
+-- How the lines of a raw file are written: in pieces, through room that is used again. A line is one of a band, or of all
+-- bands where they stand pixel by pixel.
+use Rattle.std.specs.Prelude.{◌≡◌, get_or, ℕ, ℤ, pos, length, map, drop, ◌+◌, ◌-◌, ◌*◌, ◌/◌, ◌<◌, ◌≤◌, Bool, true, false, List, None, if◌then◌else◌}
+use Rattle.std.specs.List.{range_with_len}
+use Rattle.esri_hdr.specs.declared.parts.Layout.{Layout}
+use Rattle.esri_hdr.specs.declared.parts.Layout.TheVariants.{Bil, Bip, Bsq}
 use Rattle.esri_hdr.specs.Head.{Head, sample_len}
-use Rattle.interleaved_raw.specs.Raw.{stride_of, raw_at, IsPlace}
-use Rattle.lists_and_answers.specs.Places.{StandsAt}
+use Rattle.interleaved_raw.specs.Raw.{position_of, sample_at, stride_of}
 use Rattle.hgt_tiles.specs.Places.{IsSide}
 use Rattle.catalog.specs.Places.{steps_over}
+use Rattle.write_back.specs.declared.writer.Lane.{Lane}
+
+-- whether the samples of all bands of a line stand pixel by pixel
+abbrev pub is_woven : Layout → Bool
+is_woven Bil = false
+is_woven Bip = true
+is_woven Bsq = false
+
+-- how many bands have lines of their own: all, or one whose lines are those of all bands
+abbrev pub planes_by : Layout → ℕ → ℕ
+planes_by Bil bands = bands
+planes_by Bip bands = 1
+planes_by Bsq bands = bands
+
+abbrev pub planes_of : Head → ℕ
+planes_of h = planes_by h.layout h.bands
+
+-- the samples of such a line
+abbrev pub spots_by : Layout → ℕ → ℕ → ℕ
+spots_by Bil width bands = width
+spots_by Bip width bands = width * bands
+spots_by Bsq width bands = width
+
+abbrev pub spots_of : Head → ℕ
+spots_of h = spots_by h.layout h.size.w h.bands
+
+-- where the samples of a band from a column on stand in the line that holds them
+abbrev pub lane_in : Bool → ℕ → ℕ → ℕ → Lane
+lane_in woven bands band x = if woven then record { band = 0; start = x * bands + band; stride = bands } else record { band = band; start = x; stride = 1 }
+
+-- the place of a sample of such a line: nothing stands between one and the next
+abbrev pub spot_place : Head → ℕ → ℕ → ℕ → ℕ
+spot_place h band spot y = position_of h band 0 y + spot * sample_len h.kind
+
+-- the sample that a file holds there
+abbrev pub spot_at : Head → List ℕ → ℕ → ℕ → ℕ → ℤ
+spot_at h bytes band spot y = sample_at h (drop (spot_place h band spot y) bytes)
+
+-- n samples of a line of a file from one on
+abbrev pub spots_from : Head → List ℕ → ℕ → ℕ → ℕ → ℕ → List ℤ
+spots_from h file band x y n = map (λ i. spot_at h file band (x + i) y) (range_with_len 0 n)
+
+-- a head of one pixel of one band, whose samples are written as those of another one
+abbrev pub plain_of : Head → Head
+plain_of h = record { size = record { w = 1; h = 1 }; bands = 1; kind = h.kind; big = h.big; layout = Bsq; skip = 0; band_row = sample_len h.kind; total_row = sample_len h.kind; gap = 0; nodata = None; geo = None }
 
 -- the bytes from the first byte of a line of a band to its last
 abbrev pub span_of : Head → ℕ
 span_of h = (h.size.w - 1) * stride_of h + sample_len h.kind
 
--- the most calls in which a line of a band of raw data is written
+-- the most calls in which a line is written, of a band or of all bands
 abbrev pub line_calls : Head → ℕ
 line_calls h = span_of h / 32768 + 2
 
 -- room for the bytes of pieces of so many samples of a line
 pub record FitsHead (h : Head) (step bytes : ℕ) : Type 0 where
   pub some : 0 < step
-  pub within : step ≤ h.size.w
-  pub few : steps_over step h.size.w ≤ line_calls h
-  pub bytes_fit : bytes ≡ (step - 1) * stride_of h + sample_len h.kind
-
--- bytes that stand in a draft from a place on, where anything else stands between the samples of a line
-abbrev pub HasBetween : Head → List ℕ → List ℕ → ℕ → Type 0
-HasBetween h draft bytes at = (stride_of h ≡ sample_len h.kind) ⊎ StandsAt draft bytes at
-
--- what a line's samples are put between: what stands in a draft, or zeros where the line is blank
-abbrev pub HasAround : Bool → Head → List ℕ → List ℕ → ℕ → Type 0
-HasAround blank h draft bytes at = HasBetween h draft bytes at ⊎ ((blank ≡ true) × (bytes ≡ replicate (length bytes) 0))
+  pub within : step ≤ spots_of h
+  pub few : steps_over step (spots_of h) ≤ line_calls h
+  pub bytes_fit : bytes ≡ step * sample_len h.kind
 
 -- each number of a list is one of a byte
 abbrev pub AreBytes : List ℕ → Type 0
 AreBytes bytes = (i : ℕ) → get_or bytes i 0 < 256
 
--- a pixel of a line of a band, in n columns from x on
+-- a sample of a line of a band, one of n from x on
 pub record IsInRun (band y x n k u v : ℕ) : Type 0 where
   pub band_is : k ≡ band
   pub line_is : v ≡ y
   pub left : x ≤ u
   pub right : u < x + n
 
--- the draft got n samples of a line of a band from column x on, and every other sample stays
+-- a sample of a line of a raster
+pub record IsLineSpot (h : Head) (k u v : ℕ) : Type 0 where
+  pub band : k < planes_of h
+  pub spot : u < spots_of h
+  pub line : v < h.size.h
+
+-- the draft got n samples of a line from x on, and every other sample stays
 pub record IsRunWritten (h : Head) (band y x n : ℕ) (line : List ℤ) (old new : List ℕ) : Type 0 where
   pub len : length new ≡ length old
   pub small : AreBytes old → AreBytes new
-  pub here : (u : ℕ) → x ≤ u → u < x + n → raw_at h new band u y ≡ get_or line u (pos 0)
-  pub others : (k u v : ℕ) → IsPlace h k u v → (IsInRun band y x n k u v → ⊥) → raw_at h new k u v ≡ raw_at h old k u v
-
--- all samples of a line are 0, but for the first x of a band
-pub record IsClear (h : Head) (band x y : ℕ) (bytes : List ℕ) : Type 0 where
-  pub small : AreBytes bytes
-  pub zeros : (k u : ℕ) → IsPlace h k u y → (k ≡ band → x ≤ u) → raw_at h bytes k u y ≡ pos 0
+  pub here : (u : ℕ) → x ≤ u → u < x + n → spot_at h new band u y ≡ get_or line u (pos 0)
+  pub others : (k u v : ℕ) → IsLineSpot h k u v → (IsInRun band y x n k u v → ⊥) → spot_at h new k u v ≡ spot_at h old k u v
 
 -- room for the bytes of a line of a tile
 pub record FitsSide (side bytes : ℕ) : Type 0 where

@@ -9,7 +9,7 @@ use Rattle.write_back.specs.declared.fault.TargetFault.{TargetFault}
 use Rattle.write_back.specs.declared.forms.Writer.{Writer}
 use Rattle.write_back.specs.declared.forms.Writer.TheVariants.{Raw, Hgt, Dted}
 use Rattle.write_back.specs.declared.rows.GridForm.{GridForm}
-use Rattle.write_back.specs.Forms.{cut_of, holds, most_calls, width_of, height_of, seen}
+use Rattle.write_back.specs.Forms.{bands_in, holds, most_calls, width_of, height_of, seen}
 use Rattle.write_back.specs.Grids.{HasRows, grid_in}
 use Rattle.write_back.specs.Overlay.{IsOverlaid, WasMet, overlay}
 use Rattle.write_back.specs.State.{IsRight, IsSound, lines_met, lines_of}
@@ -47,7 +47,7 @@ target_of s header fault = record { output = s.output; pool = s.pool; draft = s.
 
 -- the bands, the columns and the lines
 abbrev pub bands_of : Output → ℕ
-bands_of (Blocks w) = (cut_of w).bands
+bands_of (Blocks w) = bands_in w
 bands_of (Rows g) = 1
 
 abbrev pub columns_of : Output → ℕ

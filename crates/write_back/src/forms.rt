@@ -1,19 +1,19 @@
 // What differs between the outputs that are written through a pool of blocks.
-ghost use Rattle.std.specs.Prelude.{◌≡◌, ◌<◌, ◌≤◌, ◌+◌, ◌*◌, ◌^◌, ℕ, List, length, Some, true, OnOk};
+ghost use Rattle.std.specs.Prelude.{◌≡◌, ◌<◌, ◌≤◌, ◌+◌, ◌*◌, ◌^◌, ℕ, List, length, Some, OnOk};
 ghost use Rattle.outside.specs.Causes.{HasCause};
-ghost use Rattle.write_back.specs.Forms.{cut_of, height_of, holds, most_calls, needed_of, width_of, IsFormed};
+ghost use Rattle.write_back.specs.Forms.{bands_in, cut_of, height_of, holds, lane_of, most_calls, needed_of, width_of, IsFormed};
 ghost use Rattle.write_back.specs.Overlay.{held_in, line_key, IsBlockWritten, IsLine};
-ghost use Rattle.write_back.specs.Unwritten.{IsBlank};
 
 use crate::TargetFault;
 use crate::cells::ColumnWriter;
 use crate::tiles::TileWriter;
-use crate::writer::LineWriter;
+use crate::writer::{Lane, LineWriter, is_woven, line_bands, line_len};
 use band_blocks::{Block, BlockKey, Row};
 use geotransform::{PixelType, Sample, Size, holds};
 use outside::Folder;
 
-/// How a raster is cut into blocks: lines, or columns.
+/// How a raster is cut into blocks: lines of a band, columns, or lines of all bands, which then stand pixel by pixel
+/// and are the blocks of one band.
 #[derive(Clone, Copy)]
 pub(crate) struct Shape {
     pub(crate) kind: PixelType,
@@ -21,12 +21,13 @@ pub(crate) struct Shape {
     pub(crate) spots: u32,
     pub(crate) blocks: u32,
     pub(crate) by_columns: bool,
+    pub(crate) woven: bool,
 }
 
 /// What writes and reads the blocks of an output.
 #[derive(Drop)]
 pub(crate) enum Writer {
-    /// Raw data, a line of a band a block.
+    /// Raw data, a line of a band a block, or a line of all bands where they lie pixel by pixel.
     Raw(LineWriter),
     /// A tile, a line a block.
     Hgt(TileWriter),
@@ -38,7 +39,7 @@ impl Writer {
     // How the raster is cut.
     pub(crate) fn shape(&self) -> Shape
         ensures shape { result ≡ cut_of self.now }
-        ensures spots { result.spots ≤ 4194304 }
+        ensures spots { result.spots ≤ 1073741824 }
         ensures blocks { result.blocks < 2 ^ 32 }
     {
         match self {
@@ -46,10 +47,11 @@ impl Writer {
                 let head = lines.head();
                 Shape {
                     kind: head.kind,
-                    bands: head.bands,
-                    spots: head.size.w,
+                    bands: line_bands(&head),
+                    spots: line_len(&head),
                     blocks: head.size.h,
                     by_columns: false,
+                    woven: is_woven(head.layout),
                 }
             }
             Writer::Hgt(tile) => {
@@ -60,6 +62,7 @@ impl Writer {
                     spots: side,
                     blocks: side,
                     by_columns: false,
+                    woven: false,
                 }
             }
             Writer::Dted(cell) => {
@@ -70,8 +73,35 @@ impl Writer {
                     spots: head.points,
                     blocks: head.lines,
                     by_columns: true,
+                    woven: false,
                 }
             }
+        }
+    }
+
+    // The number of bands.
+    pub(crate) fn bands(&self) -> u32
+        ensures bands { result ≡ bands_in self.now }
+    {
+        match self {
+            Writer::Raw(lines) => lines.head().bands,
+            Writer::Hgt(_) | Writer::Dted(_) => 1,
+        }
+    }
+
+    // Where the pixels of a band from a column on stand in the block of a line.
+    pub(crate) fn lane(&self, band: u32, x: u32) -> Lane
+        requires band { band < bands_in self.now }
+        requires column { x < width_of self.now }
+        ensures lane { result ≡ lane_of self.now band x }
+    {
+        match self {
+            Writer::Raw(lines) => lines.lane(band, x),
+            Writer::Hgt(_) | Writer::Dted(_) => Lane {
+                band,
+                start: x,
+                stride: 1,
+            },
         }
     }
 
@@ -104,19 +134,18 @@ impl Writer {
         }
     }
 
-    // Writes a block into the draft. The block of each band may be blank there: then nothing is read first.
+    // Writes a block into the draft.
     pub(crate) fn write_block<F: Folder>(
         &mut self,
         folder: &mut F,
         draft: &mut F::Draft,
         key: BlockKey,
         block: &Block,
-        blank: bool,
     ) -> Result<(), TargetFault>
         requires line { IsLine self.old key block.now }
         requires long { F.draft_len draft.old ≡ needed_of self.old }
         ensures same { self.new ≡ self.old }
-        ensures told { OnOk result ((b : List ℕ) → F.draft_bytes draft.old ≡ Some b → length b ≡ needed_of self.old → IsFormed self.old b → (blank ≡ true → (k : ℕ) → k < (cut_of self.old).bands → IsBlank self.old b k key.block) → (c : List ℕ) × (F.draft_bytes draft.new ≡ Some c) × IsBlockWritten self.old key block.now.samples b c) }
+        ensures told { OnOk result ((b : List ℕ) → F.draft_bytes draft.old ≡ Some b → length b ≡ needed_of self.old → IsFormed self.old b → (c : List ℕ) × (F.draft_bytes draft.new ≡ Some c) × IsBlockWritten self.old key block.now.samples b c) }
         ensures len { OnOk result (F.draft_len draft.new ≡ F.draft_len draft.old) }
         ensures name { F.draft_name draft.new ≡ F.draft_name draft.old }
         ensures names { F.names folder.new ≡ F.names folder.old }
@@ -131,7 +160,7 @@ impl Writer {
                     band: key.band,
                     y: key.block as u32,
                 };
-                lines.write_line(folder, draft, row, block, blank)
+                lines.write_line(folder, draft, row, block)
             }
             Writer::Hgt(tile) => {
                 let _side = tile.side();

@@ -43,7 +43,7 @@ impl<F: Folder> Sheet<F> {
         ensures { result ≡ bands_of self.now.output }
     {
         match &self.kind {
-            Kind::Blocks(store) => store.writer.shape().bands,
+            Kind::Blocks(store) => store.writer.bands(),
             Kind::Rows(_) => 1,
         }
     }

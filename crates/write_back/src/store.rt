@@ -1,10 +1,11 @@
-// A pool of lines over a draft: a line that the pool drops is written, and one that it lacks is read back.
+// A pool of lines over a draft: a line that the pool drops is written, and one that it lacks is read back. Where bands
+// lie pixel by pixel, a line is one of all bands.
 ghost use Rattle.std.specs.Prelude.{◌≡◌, ◌<◌, ◌≤◌, ◌+◌, ◌*◌, [], ℕ, List, length, get_or, pos, Some, None, true, false, OnOk, IfOk};
 ghost use Rattle.outside.specs.Causes.{HasCause};
-ghost use Rattle.band_blocks.specs.Blocks.{written};
+ghost use Rattle.band_blocks.specs.Spread.{IsSpread};
 ghost use Rattle.block_cache.specs.Entries.{held_at};
-ghost use Rattle.write_back.specs.Forms.{cut_of, needed_of, most_calls, AreHeld, IsFormed, IsSpot, width_of, height_of};
-ghost use Rattle.write_back.specs.Overlay.{IsLine, IsOverlaid, IsWindow, IsLineSet, AreSame, HoldsDirty, IsBlockWritten, held_in, line_rect, line_key};
+ghost use Rattle.write_back.specs.Forms.{bands_in, cut_of, needed_of, most_calls, AreHeld, IsFormed, width_of, height_of};
+ghost use Rattle.write_back.specs.Overlay.{IsLine, IsPut, IsWindow, IsLineSet, AreSame, HoldsDirty, IsBlockWritten, held_in, line_key};
 ghost use Rattle.write_back.specs.Seen.{known_in};
 ghost use Rattle.write_back.specs.State.{AreMet, Changes, IsSound, Serves, lines_met, store_state};
 
@@ -29,11 +30,13 @@ pub(crate) struct Store<F: Folder> {
     pub(crate) spare: Option<Block>,
 }
 
-/// Where samples are put: a band, a place in a block of it, and the block. All count from 0.
+/// Where samples are put: a band, a place in a block of it, how far apart they stand from there on, and the block.
+/// Bands, places and blocks count from 0.
 #[derive(Clone, Copy)]
 struct Spot {
     band: u32,
     x: u32,
+    stride: u32,
     y: u32,
 }
 
@@ -90,12 +93,8 @@ impl<F: Folder> Store<F> {
         ensures cause { HasCause TargetFault.FolderFault (F.faults folder.old) (F.faults folder.new) result }
     {
         writes.tick();
-        let shape = self.writer.shape();
-        let number = key.block as u32;
-        let blank = self.written.is_blank(shape.bands, number);
-        self.written.mark(key.band, number);
-        self.writer
-            .write_block(folder, &mut self.draft, key, block, blank)
+        self.written.mark(key.band, key.block as u32);
+        self.writer.write_block(folder, &mut self.draft, key, block)
     }
 
     // Writes a line that left the pool into the draft.
@@ -188,25 +187,24 @@ impl<F: Folder> Store<F> {
             .read_block(folder, &mut self.draft, band, y, block)
     }
 
-    // The line of a band with these samples from a column on, and the draft's elsewhere.
+    // A block with these samples from a place on, and the draft's elsewhere.
     fn line_with(
         &mut self,
         alloc: Global,
         folder: &mut F,
-        band: u32,
-        x: u32,
-        y: u32,
+        spot: Spot,
         samples: &[Sample],
     ) -> Result<Block, TargetFault>
         requires long { F.draft_len self.old.draft ≡ needed_of self.old.writer }
-        requires band { band < (cut_of self.old.writer).bands }
-        requires line { y < (cut_of self.old.writer).blocks }
-        requires columns { x + length samples.now ≤ (cut_of self.old.writer).spots }
+        requires band { spot.band < (cut_of self.old.writer).bands }
+        requires line { spot.y < (cut_of self.old.writer).blocks }
+        requires some { 0 < spot.stride }
+        requires room { (i : ℕ) → i < length samples.now → spot.x + i * spot.stride < (cut_of self.old.writer).spots }
         requires range { AreHeld self.old.writer samples.now }
         ensures head { self.new.writer ≡ self.old.writer }
         ensures pool { self.new.pool ≡ self.old.pool }
-        ensures line { IfOk result (λ block. IsLine self.old.writer (line_key band y) block) }
-        ensures told { (b : List ℕ) → known_in F.draft_bytes self.old ≡ Some b → length b ≡ needed_of self.old.writer → IfOk result (λ block. block.samples ≡ written x samples.now (held_in self.old.writer b band y)) }
+        ensures line { IfOk result (λ block. IsLine self.old.writer (line_key spot.band spot.y) block) }
+        ensures told { (b : List ℕ) → known_in F.draft_bytes self.old ≡ Some b → length b ≡ needed_of self.old.writer → IfOk result (λ block. IsSpread samples.now 0 (length samples.now) spot.x spot.stride (held_in self.old.writer b spot.band spot.y) block.samples) }
         ensures bytes { known_in F.draft_bytes self.new ≡ known_in F.draft_bytes self.old }
         ensures len { F.draft_len self.new.draft ≡ F.draft_len self.old.draft }
         ensures name { F.draft_name self.new.draft ≡ F.draft_name self.old.draft }
@@ -217,16 +215,16 @@ impl<F: Folder> Store<F> {
     {
         let shape = self.writer.shape();
         let mut block = room_for(alloc, self.spare.take(), shape.kind, shape.spots)?;
-        if samples.len() == shape.spots as usize {
+        if spot.stride == 1 && samples.len() == shape.spots as usize {
             block.write_run(0, samples);
             return Ok(block);
         }
-        self.fetch(folder, band, y, &mut block)?;
-        block.write_run(x, samples);
+        self.fetch(folder, spot.band, spot.y, &mut block)?;
+        block.write_spread(spot.x, spot.stride, samples);
         Ok(block)
     }
 
-    // Puts samples into a line of a band from a column on.
+    // Puts samples into a block from a place on.
     fn put<L: Ledger>(
         &mut self,
         alloc: Global,
@@ -239,11 +237,12 @@ impl<F: Folder> Store<F> {
         requires long { F.draft_len self.old.draft ≡ needed_of self.old.writer }
         requires band { spot.band < (cut_of self.old.writer).bands }
         requires line { spot.y < (cut_of self.old.writer).blocks }
-        requires columns { spot.x + length samples.now ≤ (cut_of self.old.writer).spots }
+        requires some { 0 < spot.stride }
+        requires room { (i : ℕ) → i < length samples.now → spot.x + i * spot.stride < (cut_of self.old.writer).spots }
         requires range { AreHeld self.old.writer samples.now }
         ensures head { self.new.writer ≡ self.old.writer }
         ensures serves { Serves self.old.writer 1 0 (store_state (F.names folder.old) self.old.pool (known_in F.draft_bytes self.old) (F.draft_len self.old.draft) (F.draft_name self.old.draft) (F.faults folder.old) (F.read_calls folder.old) (F.write_calls folder.old) writes.old) (store_state (F.names folder.new) self.new.pool (known_in F.draft_bytes self.new) (F.draft_len self.new.draft) (F.draft_name self.new.draft) (F.faults folder.new) (F.read_calls folder.new) (F.write_calls folder.new) writes.new) }
-        ensures changed { OnOk result (Changes self.old.writer (IsOverlaid (IsSpot self.old.writer) spot.band (line_rect spot.x spot.y (length samples.now)) samples.now) (store_state (F.names folder.old) self.old.pool (known_in F.draft_bytes self.old) (F.draft_len self.old.draft) (F.draft_name self.old.draft) (F.faults folder.old) (F.read_calls folder.old) (F.write_calls folder.old) writes.old) (store_state (F.names folder.new) self.new.pool (known_in F.draft_bytes self.new) (F.draft_len self.new.draft) (F.draft_name self.new.draft) (F.faults folder.new) (F.read_calls folder.new) (F.write_calls folder.new) writes.new)) }
+        ensures changed { OnOk result (Changes self.old.writer (IsPut self.old.writer spot.band spot.x spot.stride spot.y samples.now) (store_state (F.names folder.old) self.old.pool (known_in F.draft_bytes self.old) (F.draft_len self.old.draft) (F.draft_name self.old.draft) (F.faults folder.old) (F.read_calls folder.old) (F.write_calls folder.old) writes.old) (store_state (F.names folder.new) self.new.pool (known_in F.draft_bytes self.new) (F.draft_len self.new.draft) (F.draft_name self.new.draft) (F.faults folder.new) (F.read_calls folder.new) (F.write_calls folder.new) writes.new)) }
         ensures dirty { OnOk result (HoldsDirty self.new.pool.entries (line_key spot.band spot.y)) }
         ensures cause { HasCause TargetFault.FolderFault (F.faults folder.old) (F.faults folder.new) result }
     {
@@ -252,10 +251,10 @@ impl<F: Folder> Store<F> {
             band: spot.band,
             block: spot.y as u64,
         };
-        if self.pool.patch(&key, spot.x, samples) {
+        if self.pool.patch_spread(&key, spot.x, spot.stride, samples) {
             return Ok(());
         }
-        let block = self.line_with(alloc, folder, spot.band, spot.x, spot.y, samples)?;
+        let block = self.line_with(alloc, folder, spot, samples)?;
         self.keep(folder, key, block, writes)
     }
 
@@ -270,11 +269,12 @@ impl<F: Folder> Store<F> {
         writes: &mut Steps<L>,
     ) -> Result<(), TargetFault>
         requires rows { (cut_of self.old.writer).by_columns ≡ false }
+        requires wide { 0 < rect.w }
         requires sound { IsSound self.old.writer self.old.pool }
         requires long { F.draft_len self.old.draft ≡ needed_of self.old.writer }
-        requires band { band < (cut_of self.old.writer).bands }
-        requires across { rect.x + rect.w ≤ (cut_of self.old.writer).spots }
-        requires down { rect.y + rect.h ≤ (cut_of self.old.writer).blocks }
+        requires band { band < bands_in self.old.writer }
+        requires across { rect.x + rect.w ≤ width_of self.old.writer }
+        requires down { rect.y + rect.h ≤ height_of self.old.writer }
         requires size { length samples.now ≡ rect.w * rect.h }
         requires range { AreHeld self.old.writer samples.now }
         ensures head { self.new.writer ≡ self.old.writer }
@@ -283,13 +283,15 @@ impl<F: Folder> Store<F> {
         ensures cause { HasCause TargetFault.FolderFault (F.faults folder.old) (F.faults folder.new) result }
     {
         let _shape = self.writer.shape();
+        let lane = self.writer.lane(band, rect.x);
         let width = rect.w as usize;
         for row in 0..rect.h {
             let from = row as usize * width;
             let line = &samples[from..from + width];
             let spot = Spot {
-                band,
-                x: rect.x,
+                band: lane.band,
+                x: lane.start,
+                stride: lane.stride,
                 y: rect.y + row,
             };
             self.put(alloc, folder, spot, line, writes)?;
@@ -333,6 +335,7 @@ impl<F: Folder> Store<F> {
             let spot = Spot {
                 band,
                 x: rect.y,
+                stride: 1,
                 y: rect.x + x,
             };
             self.put(alloc, folder, spot, line, writes)?;
@@ -354,7 +357,7 @@ impl<F: Folder> Store<F> {
         requires high { 0 < rect.h }
         requires sound { IsSound self.old.writer self.old.pool }
         requires long { F.draft_len self.old.draft ≡ needed_of self.old.writer }
-        requires band { band < (cut_of self.old.writer).bands }
+        requires band { band < bands_in self.old.writer }
         requires across { rect.x + rect.w ≤ width_of self.old.writer }
         requires down { rect.y + rect.h ≤ height_of self.old.writer }
         requires size { length samples.now ≡ rect.w * rect.h }

@@ -23,7 +23,7 @@ use crate::sheet::{Kind, Sheet};
 use crate::store::Store;
 use crate::tiles::TileWriter;
 use crate::unwritten::Written;
-use crate::writer::LineWriter;
+use crate::writer::{LineWriter, line_bands};
 use crate::{CloseFault, TargetFault};
 use ascii_grid::write_head;
 use block_cache::Pool;
@@ -56,7 +56,8 @@ impl<F: Folder> Model for Target<F> {
 
 impl<F: Folder> Target<F> {
     /// Drafts for raw data of this head, in which nothing but samples stands, and its header. All samples are 0. The
-    /// pool is empty and holds 1 to 65,536 blocks, each a line of a band. After a refusal no draft is left.
+    /// pool is empty and holds 1 to 65,536 blocks, each a line of a band, or of all bands where they lie pixel by
+    /// pixel. After a refusal no draft is left.
     pub(crate) fn create_raw(
         alloc: Global,
         folder: &mut F,
@@ -83,7 +84,7 @@ impl<F: Folder> Target<F> {
         let _bands = head.bands;
         let pool = Pool::new(alloc, capacity)?;
         let writer = LineWriter::new(alloc, head)?;
-        let written = Written::new(alloc, head.bands, head.size.h)?;
+        let written = Written::new(alloc, line_bands(head), head.size.h)?;
         let header_name = name.header(alloc)?;
         let mut text = Vec::new(alloc);
         write(head, &mut text)?;

@@ -56,18 +56,6 @@ impl Written {
         }
     }
 
-    // Whether no block of this number was written in the first so many bands.
-    pub(crate) fn is_blank(&self, bands: u32, block: u32) -> bool
-        ensures none { result ≡ true → (k : ℕ) → k < bands → is_written self.now k block ≡ false }
-    {
-        for band in 0..bands {
-            if self.is_written(band, block) {
-                return false;
-            }
-        }
-        true
-    }
-
     // A block of a band was written.
     pub(crate) fn mark(&mut self, band: u32, block: u32)
         ensures here { is_written self.new band block ≡ true }

@@ -1,7 +1,5 @@
-use Rattle.std.proofs.Common.{◌≡◌, arith, ap, ◌∙◌}
-use Rattle.write_back.specs.declared.forms.Shape.{Shape}
+use Rattle.std.proofs.Common.{◌≡◌, ap, ◌∙◌}
 use Rattle.write_back.specs.declared.forms.Writer.{Writer}
-use Rattle.write_back.specs.Forms.{cut_of}
 use Rattle.write_back.specs.Unwritten.{known}
 use Rattle.write_back.proofs.Known.{known_of, known_written}
 use Rattle.write_back.proofs.Runs.{on_ok}
@@ -10,10 +8,9 @@ use Rattle.write_back.proofs.store.Store.write_out.Goals as goal
 pub returns-clause-written : goal.returns-clause-written
 returns-clause-written g c =
     let w = c.args.self.now.writer in
-    let bands : c.shape-shape.result.bands ≡ (cut_of c.args.self.now.writer).bands = ap (λ (s : Shape). s.bands) c.shape-shape.ensures.shape in
     on_ok c.write_block.result _ _ (λ told b is long formed. (
     let had = known_of w c.args.self.now.written (g.F.Folder.draft_bytes c.args.self.now.draft) b is in
-    let now = told b had.0 long formed (λ blank k band u spot. had.1 k c.args.key.block band c.requires.line.line (c.is_blank-blank.ensures.none blank k (omega (arith, bands, band))) u spot) in (
+    let now = told b had.0 long formed in (
       now.0,
       ap (λ (v : Writer). known v c.mark.new.self (g.F.Folder.draft_bytes c.write_block.new.draft)) c.write_block.ensures.same
           ∙ known_written w c.args.self.now.written c.mark.new.self c.args.key c.args.block.now.samples (g.F.Folder.draft_bytes c.write_block.new.draft) b now.0 had.1 c.mark.ensures.here c.mark.ensures.others now.2 now.1,

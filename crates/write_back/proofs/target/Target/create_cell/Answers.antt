@@ -22,7 +22,7 @@ returns-in-Ok-clause-target g c =
     len (d.len ∙ c.needed_len.ensures.value) (new_long h (vec_items c.args.front) len small) (new_cell h (vec_items c.args.front) len small)
     (λ m e. known_new (Dted (cell_of c.args.head.now (vec_items c.args.front))) _ _ _ (vec_items c.args.front ++ replicate (needed_of c.args.head.now - length (vec_items c.args.front)) 0) (ap Dted c.in-Ok.ensures.cell)
     (d.front m (sym d.names ∙ e) ∙ ap (λ (l : List ℕ). Some (l ++ replicate (c.needed_len.result - length l) 0)) c.as_slice.ensures.value ∙ ap (λ n. Some (vec_items c.args.front ++ replicate (n - length (vec_items c.args.front)) 0)) c.needed_len.ensures.value)
-    (λ k u v place. cell_zero c.args.head.now (vec_items c.args.front) len small k v u place))
+    (cell_zero c.args.head.now (vec_items c.args.front) len small))
     refl
 
 pub returns-in-Ok-clause-zeros : goal.returns-in-Ok-clause-zeros
@@ -34,5 +34,5 @@ returns-in-Ok-clause-zeros g c = λ some.
     shows (Dted (cell_of c.args.head.now (vec_items c.args.front))) _ c.in_ok-pool.pool c.args.capacity _ (vec_items c.args.front ++ replicate (needed_of c.args.head.now - length (vec_items c.args.front)) 0) (ap Dted c.in-Ok.ensures.cell) c.in_ok-pool.ensures.empty
     (known_new (Dted (cell_of c.args.head.now (vec_items c.args.front))) _ _ _ (vec_items c.args.front ++ replicate (needed_of c.args.head.now - length (vec_items c.args.front)) 0) (ap Dted c.in-Ok.ensures.cell)
     (d.front m.0 m.1 ∙ ap (λ (l : List ℕ). Some (l ++ replicate (c.needed_len.result - length l) 0)) c.as_slice.ensures.value ∙ ap (λ n. Some (vec_items c.args.front ++ replicate (n - length (vec_items c.args.front)) 0)) c.needed_len.ensures.value)
-    (λ k u v place. cell_zero c.args.head.now (vec_items c.args.front) len small k v u place))
+    (cell_zero c.args.head.now (vec_items c.args.front) len small))
     (cell_zero c.args.head.now (vec_items c.args.front) len small)

@@ -19,7 +19,7 @@ returns-in-Ok-clause-target g c =
     let long = c.needed_len.ensures.value in
     made (Raw c.args.head.now) _ _ c.in_ok-pool.pool c.args.capacity _ _ _ _ (replicate c.needed_len.result 0) (ap Raw c.in_ok-writer.ensures.head) valid c.in_ok-pool.ensures.empty
     (subst IsHead c.head.view_is c.head.invariant, c.requires.tight) (d.len ∙ long) (length-replicate c.needed_len.result 0 ∙ long) (zeros_small c.needed_len.result)
-    (λ m e. known_new (Raw c.args.head.now) _ _ _ (replicate c.needed_len.result 0) (ap Raw c.in_ok-writer.ensures.head) (d.zeros m (sym d.names ∙ sym t.names ∙ e)) (raw_zero c.args.head.now c.needed_len.result c.needed_len.ensures.value)) (
+    (λ m e. known_new (Raw c.args.head.now) _ _ _ (replicate c.needed_len.result 0) (ap Raw c.in_ok-writer.ensures.head) (d.zeros m (sym d.names ∙ sym t.names ∙ e)) (raw_zero c.args.head.now c.needed_len.result (subst IsHead c.head.view_is c.head.invariant) c.needed_len.ensures.value)) (
       (g.F.Folder.draft_bytes c.in-Ok.header, g.F.Folder.draft_name c.in-Ok.header),
       refl,
       t.name ∙ c.in_ok-header_name.ensures.header ∙ ap header_of (sym d.name),
@@ -31,4 +31,4 @@ returns-in-Ok-clause-zeros g c = λ some.
     let m = told_by (g.F.Folder.names c.args.folder.now) some in
     let d = c.in_ok-draft.ensures in
     shows (Raw c.args.head.now) _ c.in_ok-pool.pool c.args.capacity _ (replicate c.needed_len.result 0) (ap Raw c.in_ok-writer.ensures.head) c.in_ok-pool.ensures.empty
-    (known_new (Raw c.args.head.now) _ _ _ (replicate c.needed_len.result 0) (ap Raw c.in_ok-writer.ensures.head) (d.zeros m.0 m.1) (raw_zero c.args.head.now c.needed_len.result c.needed_len.ensures.value)) (raw_zero c.args.head.now c.needed_len.result c.needed_len.ensures.value)
+    (known_new (Raw c.args.head.now) _ _ _ (replicate c.needed_len.result 0) (ap Raw c.in_ok-writer.ensures.head) (d.zeros m.0 m.1) (raw_zero c.args.head.now c.needed_len.result (subst IsHead c.head.view_is c.head.invariant) c.needed_len.ensures.value)) (raw_zero c.args.head.now c.needed_len.result (subst IsHead c.head.view_is c.head.invariant) c.needed_len.ensures.value)
