@@ -30,7 +30,6 @@ pub(crate) struct Packed<T: Cell> {
 
 impl<T: Cell> Model for Packed<T> {
     ghost use Rattle.std.specs.Prelude.{List, ℤ, map};
-
     ghost use Rattle.band_blocks.specs.Blocks.{block_view, IsPacked};
 
     ghost Value = { List ℤ };

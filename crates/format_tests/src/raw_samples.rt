@@ -76,10 +76,7 @@ const KINDS: [(&[u8], i128); 13] = [
         b"NROWS 1\nNCOLS 1\nNBITS 64\nBYTEORDER M\nPIXELTYPE SIGNEDINT\n",
         -422_208_161_771_392,
     ),
-    (
-        b"NROWS 1\nNCOLS 1\nNBITS 64\n",
-        9_228_015_274_484_104_959,
-    ),
+    (b"NROWS 1\nNCOLS 1\nNBITS 64\n", 9_228_015_274_484_104_959),
     (
         b"NROWS 1\nNCOLS 1\nNBITS 64\nPIXELTYPE SIGNEDINT\n",
         -9_218_728_799_225_446_657,

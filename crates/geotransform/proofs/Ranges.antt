@@ -1,5 +1,5 @@
 -- Lemmas on the ranges of the types, and on the bytes of their samples.
-use Rattle.std.proofs.Common.{◌≡◌, ◌×◌, ℤ, ◌<◌, ◌≤◌, ◌^◌, true, refl, arith, pos, negsuc, unsigned_abs}
+use Rattle.std.proofs.Common.{◌≡◌, ℤ, ◌<◌, ◌≤◌, ◌^◌, true, refl, arith, pos, negsuc, unsigned_abs}
 use Rattle.std.specs.Int.{w128}
 use mir.Val.{SFits}
 use Rattle.std.proofs.lemmas.Int.{ints}

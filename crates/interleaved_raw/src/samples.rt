@@ -53,7 +53,6 @@ fn bits_in(head: &RawHead, bytes: &[u8]) -> u64
 }
 
 /// The sample at the front of the bytes, in the head's byte order and type.
-#[tactic(auto, using(crate::proofs::Order::sample_stands))]
 pub fn decode_sample(head: &RawHead, bytes: &[u8]) -> Sample
     requires enough { sample_len head.now.kind ≤ length bytes.now }
     ensures value { result ≡ sample_at head.now bytes.now }

@@ -169,7 +169,11 @@ const CLAMPED: [(PixelType, [Sample; 2]); 8] = [
 
 // Whether samples beyond the range of a type become these.
 fn clamps(alloc: Global, kind: PixelType, wanted: [Sample; 2]) -> Result<bool, AllocError> {
-    let block = Block::pack_clamped(alloc, kind, &[-20_000_000_000_000_000_000, 20_000_000_000_000_000_000])?;
+    let block = Block::pack_clamped(
+        alloc,
+        kind,
+        &[-20_000_000_000_000_000_000, 20_000_000_000_000_000_000],
+    )?;
     Ok(block.kind() == kind && pair_at(&block, 0) == Some(wanted))
 }
 

@@ -7,11 +7,17 @@ use std::test::*;
 const ONES: [u8; 8] = [255; 8];
 
 // The least and the greatest number of 64 bits with a sign and without one, in either order.
-const SIGNED_LITTLE: [u8; 16] = [0, 0, 0, 0, 0, 0, 0, 128, 255, 255, 255, 255, 255, 255, 255, 127];
+const SIGNED_LITTLE: [u8; 16] = [
+    0, 0, 0, 0, 0, 0, 0, 128, 255, 255, 255, 255, 255, 255, 255, 127,
+];
 
-const SIGNED_BIG: [u8; 16] = [128, 0, 0, 0, 0, 0, 0, 0, 127, 255, 255, 255, 255, 255, 255, 255];
+const SIGNED_BIG: [u8; 16] = [
+    128, 0, 0, 0, 0, 0, 0, 0, 127, 255, 255, 255, 255, 255, 255, 255,
+];
 
-const UNSIGNED: [u8; 16] = [0, 0, 0, 0, 0, 0, 0, 0, 255, 255, 255, 255, 255, 255, 255, 255];
+const UNSIGNED: [u8; 16] = [
+    0, 0, 0, 0, 0, 0, 0, 0, 255, 255, 255, 255, 255, 255, 255, 255,
+];
 
 // Pixels of 8 and of 64 bits, mosaics over them, and mosaics that scale them.
 static FILES: [FileOf<'static>; 33] = [
@@ -183,18 +189,8 @@ static VALUES: [Row<'static>; 22] = [
         "9223372036854775807\n9223372036854775807\n127\n",
         "",
     ),
-    (
-        "gdallocationinfo -valonly eight.vrt 0 0",
-        0,
-        "-256\n",
-        "",
-    ),
-    (
-        "gdallocationinfo -valonly third.vrt 1 0",
-        0,
-        "-254\n",
-        "",
-    ),
+    ("gdallocationinfo -valonly eight.vrt 0 0", 0, "-256\n", ""),
+    ("gdallocationinfo -valonly third.vrt 1 0", 0, "-254\n", ""),
     (
         "gdalinfo n.bil",
         0,
@@ -429,7 +425,12 @@ NODATA         18446744073709551615
     (
         &[
             ("gdal_translate -q n.bil t.vrt", 0, "", ""),
-            ("gdallocationinfo -valonly t.vrt 1 0", 0, "9223372036854775807\n", ""),
+            (
+                "gdallocationinfo -valonly t.vrt 1 0",
+                0,
+                "9223372036854775807\n",
+                "",
+            ),
         ],
         &[(
             "t.vrt",
