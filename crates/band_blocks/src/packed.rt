@@ -41,12 +41,12 @@ impl<T: Cell> Model for Packed<T> {
 
 impl<T: Cell> Packed<T> {
     // So many samples that are 0. It is refused where memory is.
-    #[tactic(auto, using(crate::proofs::Cells::map_zeros, crate::proofs::Cells::zeros_in))]
+    #[tactic(auto, using(crate::proofs::Cells::zeros_in))]
     pub(crate) fn zeros(alloc: Global, len: usize) -> Result<Self, AllocError>
         requires few { len < 2 ^ 32 }
         ensures zeros { IfOk result (λ p. p ≡ replicate len (pos 0)) }
     {
-        let cells = vec![in alloc; T::zero(); len]?;
+        let cells = T::zeros(alloc, len)?;
         Ok(Packed { cells })
     }
 
@@ -64,6 +64,7 @@ impl<T: Cell> Packed<T> {
         ensures kind { result ≡ T.kind }
         ensures valid { IsPacked (block_view T.kind self.now) }
     {
+        let _ = &self.cells;
         T::kind()
     }
 
@@ -107,6 +108,7 @@ impl<T: Cell> Packed<T> {
         ensures samples { out.new ≡ run_of at (length out.old) self.now }
         ensures range { AreIn T.kind out.new }
     {
+        let _ = &self.cells;
         let end = at + out.len();
         copy_cells(&self.cells[at..end], out);
     }
@@ -166,6 +168,7 @@ impl<T: Cell> Packed<T> {
         ensures samples { map (sample_of head.now bytes.new) (range_with_len 0 count) ≡ run_of at count self.now }
         ensures others { (j : ℕ) → IsBetween head.now count j → get_or bytes.new j 0 ≡ get_or bytes.old j 0 }
     {
+        let _ = &self.cells;
         let end = at + count;
         encode_cells(head, &self.cells[at..end], bytes);
     }

@@ -30,5 +30,6 @@ pub mod Steps
 pub mod Taken
 pub mod Transposed
 pub mod TileNames
+pub mod Windows
 pub mod Woven
 pub mod Zeros

@@ -11,3 +11,4 @@ pub mod State
 pub mod Turned
 pub mod Unwritten
 pub mod View
+pub mod Windows

@@ -14,7 +14,8 @@ ghost use Rattle.outside.specs.Outside.{Files};
 ghost use Rattle.write_back.specs.Files.{files_of, with_files, IsTight};
 ghost use Rattle.write_back.specs.Plans.{output_of, IsNamedFor};
 ghost use Rattle.write_back.specs.Reading.{AreSamplesOf, HasFiles, IsDecoded, IsReadable};
-ghost use Rattle.write_back.specs.View.{Output, bands_of, columns_of, is_writable, rows_of};
+ghost use Rattle.write_back.specs.View.{Output, bands_of, columns_of, is_writable, rows_of, IsIn};
+ghost use Rattle.write_back.specs.Windows.{Window, sample_of_last, AreWritten};
 
 /// In raw data of a plain head, as translations write it, nothing but samples stands.
 pub fn plain_heads_are_tight()
@@ -42,4 +43,10 @@ pub fn outputs_hold_pixels()
 pub fn outputs_decode()
     ensures held { (m : Files) (name : List ℕ) (p : Planned) (o : Output) (samples : ℕ → ℕ → ℕ → ℤ) → output_of p ≡ Some o → IsNamedFor p name → HasFiles (with_files (files_of o name samples) m) (files_of o name samples) }
     ensures decoded { (m : Files) (verify : Bool) (name : List ℕ) (p : Planned) (o : Output) (samples : ℕ → ℕ → ℕ → ℤ) → IsPlan p → output_of p ≡ Some o → IsReadable p name → AreSamplesOf o samples → HasFiles m (files_of o name samples) → IsDecoded m verify name p samples }
+{}
+
+/// After any list of windows that were written one after another, each pixel of an output shows the sample of the last
+/// window that covered it, else 0. So a list of windows has one raster.
+pub fn windows_show_the_last()
+    ensures last { (o : Output) (windows : List Window) (raster : ℕ → ℕ → ℕ → ℤ) → AreWritten o windows raster → (k x y : ℕ) → IsIn o k x y → raster k x y ≡ sample_of_last windows k x y }
 {}

@@ -93,6 +93,8 @@ impl<F: Folder> Store<F> {
         ensures cause { HasCause TargetFault.FolderFault (F.faults folder.old) (F.faults folder.new) result }
     {
         writes.tick();
+        // This call is made for the proof: it says that a block's number fits.
+        let _shape = self.writer.shape();
         self.written.mark(key.band, key.block as u32);
         self.writer.write_block(folder, &mut self.draft, key, block)
     }

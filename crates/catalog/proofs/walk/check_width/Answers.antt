@@ -8,8 +8,8 @@ pub returns-then-takes_samples-clause-told : goal.returns-then-takes_samples-cla
 returns-then-takes_samples-clause-told c = λ d at.
     ap (λ b. cond b (Ok tt) (Err (Malformed d.head.name (bad.Vrt vrt.Unsupported)))) (sym c.takes_samples.ensures.takes ∙ c.if-takes_samples.true)
 
-pub returns-in_ok-try_clone-clause-told : goal.returns-in_ok-try_clone-clause-told
-returns-in_ok-try_clone-clause-told c = λ d at.
+pub returns-clause-told : goal.returns-clause-told
+returns-clause-told c = λ d at.
     let named = c.name.ensures.name d at in
     inr (ap (λ b. cond b (Ok tt) (Err (Malformed d.head.name (bad.Vrt vrt.Unsupported)))) (sym c.takes_samples.ensures.takes ∙ c.if-takes_samples.false)
     ∙ ap (λ n. Err (Malformed n (bad.Vrt vrt.Unsupported))) (sym (c.in_ok-try_clone.ensures.same ∙ named)))

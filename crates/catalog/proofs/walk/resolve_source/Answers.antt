@@ -33,7 +33,7 @@ returns-in-Ok-clause-band c = λ w.
 pub returns-in-Ok-clause-kept : goal.returns-in-Ok-clause-kept
 returns-in-Ok-clause-kept c = λ w.
     let same : c.get-source.result.now ≡ w.value = some_is (sym c.get-source.ensures.item ∙ ap (λ (b : BandValue). slice_get b.sources c.args.at.source) (c.behind-met.view_is ∙ c.band.ensures.band w.of) ∙ w.source_at) in
-    c.is_plain-in-Ok.ensures.plain ∙ ap is_plain same
+    c.is_plain.ensures.plain ∙ ap is_plain same
 
 pub returns-in-Err-TooLong-clause-told : goal.returns-in-Err-TooLong-clause-told
 returns-in-Err-TooLong-clause-told c = λ w.

@@ -1,5 +1,5 @@
-use Rattle.std.proofs.Common.{◌≡◌, Some, sym}
-use Rattle.block_cache.specs.Entries.{held_at}
+use Rattle.std.proofs.Common.{◌≡◌, Some, ap, sym}
+use Rattle.block_cache.specs.Entries.{held_at, patched, pool_view}
 use Rattle.block_cache.proofs.Kept.{patched_keeps}
 use Rattle.block_cache.proofs.pool.Pool.patch.Goals as goal
 
@@ -18,3 +18,8 @@ invariant_of-self c = patched_keeps c.args.key.now c.write_run.new.self c.self.i
 
 pub returns-in-Some-clause-valid : goal.returns-in-Some-clause-valid
 returns-in-Some-clause-valid c = patched_keeps c.args.key.now c.write_run.new.self c.self.inside.cache.entries c.self.inside.cache.cap c.self.invariant
+
+pub returns-in-Some-clause-patched : goal.returns-in-Some-clause-patched
+returns-in-Some-clause-patched c =
+    let e : held_at c.args.key.now c.args.self.now.entries ≡ Some c.in-Some.entry.now = rw (← c.self.view_is) (sym c.in-Some.ensures.value) in
+    rw (e, ← c.self.view_is) (ap (λ b. pool_view (patched c.args.key.now b c.self.inside.cache.entries) c.self.inside.cache.cap) c.write_run.ensures.samples)

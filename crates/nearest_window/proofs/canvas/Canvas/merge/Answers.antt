@@ -1,4 +1,5 @@
-use Rattle.std.proofs.Common.{◌≡◌, ◌∙◌, ◌++◌, ℕ, ◌≤◌, List, ℤ, sym, ap, subst, refl, true, pos, take, drop, length}
+use Rattle.std.proofs.Common.{◌≡◌, ◌∙◌, ◌++◌, ◌+◌, ◌-◌, ◌*◌, ℕ, ◌≤◌, List, ℤ, sym, ap, subst, refl, true, pos, take, drop, length, arith}
+use Rattle.std.proofs.Math.Nat.{mul-le-mul_right, mul_comm}
 use Rattle.std.specs.Prelude.{is_some, slice_index_or}
 use Rattle.std.proofs.Math.Seq.{take-append_seam}
 use Rattle.nearest_window.specs.Canvases.{filled_with, IsMerged}
@@ -7,6 +8,14 @@ use Rattle.nearest_window.proofs.canvas.Canvas.merge.Goals as goal
 
 whole : (len : ℕ) (ys xs : List ℤ) → length ys ≡ len → take len (ys ++ drop (length ys) xs) ≡ ys
 whole len ys xs e = ap (λ m. take m (ys ++ drop (length ys) xs)) (sym e) ∙ take-append_seam ys (drop (length ys) xs)
+
+below : (a w h size : ℕ) → a ≤ h → size ≡ w * h → a * w ≤ size
+below a w h size less e = subst (λ n. a * w ≤ n) (mul_comm h w ∙ sym e) (mul-le-mul_right w less)
+
+pub take_rows-requires-clause-low : goal.take_rows-requires-clause-low
+take_rows-requires-clause-low c =
+    let part = c.requires.part in
+    below _ c.args.self.now.rect.w c.args.self.now.rect.h _ (omega arith) (ap length c.as_mut_slice.ensures.value ∙ c.requires.size)
 
 pub returns-clause-canvas : goal.returns-clause-canvas
 returns-clause-canvas c =

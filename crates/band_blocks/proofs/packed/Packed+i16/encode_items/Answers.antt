@@ -1,7 +1,7 @@
 use Rattle.std.proofs.Common.{◌≡◌, ◌∙◌, ap, sym}
 use Rattle.std.proofs.lemmas.List.{map-id}
 use Rattle.hgt_tiles.specs.Samples.{row_bytes}
-use Rattle.band_blocks.proofs.packed.Packed.encode_items.Goals as goal
+use Rattle.band_blocks.proofs.packed.Packed+i16.encode_items.Goals as goal
 
 pub returns : goal.returns
 returns c =

@@ -6,7 +6,7 @@ use Rattle.geotransform.specs.declared.types.PixelType.TheVariants.{Int16}
 use Rattle.dted_records.specs.Records.{elevation_in}
 use Rattle.dted_records.proofs.Columns.{column_stands}
 use Rattle.band_blocks.proofs.Cells.{shown_packed, shown_list}
-use Rattle.band_blocks.proofs.packed.Packed.decode_record.Goals as goal
+use Rattle.band_blocks.proofs.packed.Packed+i16.decode_record.Goals as goal
 
 pub invariant_of-self : goal.invariant_of-self
 invariant_of-self c =

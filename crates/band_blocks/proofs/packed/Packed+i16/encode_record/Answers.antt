@@ -2,7 +2,7 @@ use Rattle.std.proofs.Common.{◌≡◌, ◌∙◌, ap, sym, subst}
 use Rattle.std.specs.List.{All}
 use Rattle.std.proofs.lemmas.List.{map-id}
 use Rattle.dted_records.specs.Written.{IsElevation, record_bytes}
-use Rattle.band_blocks.proofs.packed.Packed.encode_record.Goals as goal
+use Rattle.band_blocks.proofs.packed.Packed+i16.encode_record.Goals as goal
 
 pub encode_elevations-requires-clause-range : goal.encode_elevations-requires-clause-range
 encode_elevations-requires-clause-range c =

@@ -5,7 +5,7 @@ use Rattle.geotransform.specs.declared.types.PixelType.TheVariants.{Int16}
 use Rattle.hgt_tiles.specs.Samples.{item_of, row_of}
 use Rattle.hgt_tiles.proofs.Rows.{row_stands}
 use Rattle.band_blocks.proofs.Cells.{shown_packed, shown_list}
-use Rattle.band_blocks.proofs.packed.Packed.decode_items.Goals as goal
+use Rattle.band_blocks.proofs.packed.Packed+i16.decode_items.Goals as goal
 
 pub invariant_of-self : goal.invariant_of-self
 invariant_of-self c =
