@@ -123,6 +123,10 @@ refused_by bands m n p q e = ap (λ (b : Bool). if b then Ok bands else Err Limi
 passed_by : (bands : List BandValue) (m n : ℕ) → length bands ≡ m → source_count bands ≡ n → is_few m n ≡ true → bands_within bands ≡ Ok bands
 passed_by bands m n p q e = ap (λ (b : Bool). if b then Ok bands else Err Limit) (counted bands m n p q ∙ e)
 
+-- what a test that holds says
+at_most : (k high : ℕ) → nat_le k high ≡ true → k ≤ high
+at_most k high e = grind (arith, nat_tests)
+
 fits_by : (bands : List BandValue) (m n : ℕ) → length bands ≡ m → source_count bands ≡ n → is_few m n ≡ true → 0 < m → FitsDocument bands
 fits_by bands m n p q e some =
     let parts = both (nat_le m 256) (nat_le n 262144) e in

@@ -6,7 +6,7 @@ use std::alloc::{AllocError, Global};
 use std::test::*;
 
 // One row for each rule, in the order in which they are checked: a header, and the fault's number.
-const REFUSED: [(&str, u8); 46] = [
+const REFUSED: [(&str, u8); 48] = [
     ("", 1),
     ("NROWS 2", 1),
     ("NCOLS 0", 1),
