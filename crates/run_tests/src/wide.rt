@@ -19,8 +19,8 @@ const UNSIGNED: [u8; 16] = [
     0, 0, 0, 0, 0, 0, 0, 0, 255, 255, 255, 255, 255, 255, 255, 255,
 ];
 
-// Pixels of 8 and of 64 bits, mosaics over them, and mosaics that scale them.
-static FILES: [FileOf<'static>; 33] = [
+// The ends of each type, mosaics over them, and mosaics that scale them.
+static FILES: [FileOf<'static>; 44] = [
     ("u.bsq", &ONES),
     ("u.hdr", b"NROWS 1\nNCOLS 1\nNBITS 64\n"),
     ("s.bsq", &ONES),
@@ -78,6 +78,26 @@ static FILES: [FileOf<'static>; 33] = [
         "ends.vrt",
         b"<VRTDataset rasterXSize='2' rasterYSize='1'><VRTRasterBand dataType='Int64'><SimpleSource><SourceFilename>sl.bil</SourceFilename></SimpleSource></VRTRasterBand><VRTRasterBand dataType='UInt64'><SimpleSource><SourceFilename>ub.bsq</SourceFilename></SimpleSource></VRTRasterBand><VRTRasterBand dataType='Int8'><SimpleSource><SourceFilename>ii.bil</SourceFilename></SimpleSource></VRTRasterBand></VRTDataset>",
     ),
+    ("b8.bil", &[0, 255]),
+    ("b8.hdr", b"NROWS 1\nNCOLS 2\n"),
+    ("u16.bil", &[0, 0, 255, 255]),
+    ("u16.hdr", b"NROWS 1\nNCOLS 2\nNBITS 16\n"),
+    ("i16.bil", &[0, 128, 255, 127]),
+    (
+        "i16.hdr",
+        b"NROWS 1\nNCOLS 2\nNBITS 16\nPIXELTYPE SIGNEDINT\n",
+    ),
+    ("u32.bil", &[0, 0, 0, 0, 255, 255, 255, 255]),
+    ("u32.hdr", b"NROWS 1\nNCOLS 2\nNBITS 32\n"),
+    ("i32.bil", &[0, 0, 0, 128, 255, 255, 255, 127]),
+    (
+        "i32.hdr",
+        b"NROWS 1\nNCOLS 2\nNBITS 32\nPIXELTYPE SIGNEDINT\n",
+    ),
+    (
+        "five.vrt",
+        b"<VRTDataset rasterXSize='2' rasterYSize='1'><VRTRasterBand dataType='Byte'><SimpleSource><SourceFilename>b8.bil</SourceFilename></SimpleSource></VRTRasterBand><VRTRasterBand dataType='UInt16'><SimpleSource><SourceFilename>u16.bil</SourceFilename></SimpleSource></VRTRasterBand><VRTRasterBand dataType='Int16'><SimpleSource><SourceFilename>i16.bil</SourceFilename></SimpleSource></VRTRasterBand><VRTRasterBand dataType='UInt32'><SimpleSource><SourceFilename>u32.bil</SourceFilename></SimpleSource></VRTRasterBand><VRTRasterBand dataType='Int32'><SimpleSource><SourceFilename>i32.bil</SourceFilename></SimpleSource></VRTRasterBand></VRTDataset>",
+    ),
     (
         "cut.vrt",
         b"<VRTDataset rasterXSize='2' rasterYSize='1'><VRTRasterBand dataType='UInt64'><SimpleSource><SourceFilename>ends.vrt</SourceFilename></SimpleSource></VRTRasterBand><VRTRasterBand dataType='Int64'><SimpleSource><SourceFilename>ends.vrt</SourceFilename><SourceBand>2</SourceBand></SimpleSource></VRTRasterBand><VRTRasterBand dataType='Int8'><SimpleSource><SourceFilename>ends.vrt</SourceFilename></SimpleSource></VRTRasterBand></VRTDataset>",
@@ -117,7 +137,7 @@ static FILES: [FileOf<'static>; 33] = [
     ),
 ];
 
-static VALUES: [Row<'static>; 22] = [
+static VALUES: [Row<'static>; 24] = [
     (
         "gdallocationinfo -valonly u.bsq 0 0",
         0,
@@ -175,6 +195,18 @@ static VALUES: [Row<'static>; 22] = [
         "gdallocationinfo -valonly --blocks 1 ends.vrt 1 0",
         0,
         "9223372036854775807\n18446744073709551615\n127\n",
+        "",
+    ),
+    (
+        "gdallocationinfo -valonly --blocks 1 five.vrt 0 0",
+        0,
+        "0\n0\n-32768\n0\n-2147483648\n",
+        "",
+    ),
+    (
+        "gdallocationinfo -valonly --blocks 1 five.vrt 1 0",
+        0,
+        "255\n65535\n32767\n4294967295\n2147483647\n",
         "",
     ),
     (
