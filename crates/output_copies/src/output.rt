@@ -61,7 +61,7 @@ fn copier_for<F: Folder, L: Ledger, W: Ledger>(
 {
     let reader = StripReader::new(translation, writing.workers, writing.blocks, loads)?;
     let writes = Steps::open(writes);
-    let rows = strip_height(translation, writing.workers);
+    let rows = strip_height(translation, writing.workers, writing.blocks);
     let quiet = writing.quiet;
     Ok(Copier {
         reader,

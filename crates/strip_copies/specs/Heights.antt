@@ -1,6 +1,8 @@
 -- How many lines are copied at a time.
-use Rattle.std.specs.Prelude.{ℕ, ◌*◌, ◌/◌, min, Bool, true, false, List, if◌then◌else◌}
+use Rattle.std.specs.Prelude.{ℕ, ◌*◌, ◌/◌, min, nat_lt, not, ◌&&◌, Bool, true, false, List, length, if◌then◌else◌}
 use Rattle.std.specs.List.{list_any}
+use Rattle.esri_hdr.specs.declared.parts.Layout.{Layout}
+use Rattle.esri_hdr.specs.declared.parts.Layout.TheVariants.{Bil, Bip, Bsq}
 use Rattle.catalog.specs.Drivers.{Dataset}
 use Rattle.catalog.specs.declared.kind.Kind.{Kind}
 use Rattle.catalog.specs.declared.kind.Kind.TheVariants as kinds
@@ -55,6 +57,17 @@ most_lines workers cat driver = if is_tall cat driver then 4194304 else (if has_
 abbrev pub strip_height : ℕ → ℕ → ℕ
 strip_height most width = min most (4194304 / width)
 
--- the lines of an output that so many workers copy at a time
-abbrev pub lines_copied : ℕ → List Dataset → Planned → ℕ
-lines_copied workers cat p = min (strip_height (most_lines workers cat p.driver) p.size.w) p.size.h
+-- the lines of raw data hold several bands, pixel by pixel
+abbrev pub is_woven : Layout → ℕ → Bool
+is_woven Bil bands = false
+is_woven Bip bands = nat_lt 1 bands
+is_woven Bsq bands = false
+
+-- the most lines of which none leaves a pool of so many blocks before all of its bands are written; cells are read in strips as
+-- tall as they can be all the same
+abbrev pub lines_held : ℕ → List Dataset → Planned → ℕ
+lines_held blocks cat p = if is_woven p.layout (length p.bands) && not (is_tall cat p.driver) then blocks else 4194304
+
+-- the lines of an output that so many workers copy at a time, where so many blocks are held of what is written
+abbrev pub lines_copied : ℕ → ℕ → List Dataset → Planned → ℕ
+lines_copied workers blocks cat p = min (min (strip_height (most_lines workers cat p.driver) p.size.w) p.size.h) (lines_held blocks cat p)

@@ -1,12 +1,13 @@
 // How many lines are copied at a time.
 ghost use Rattle.std.specs.Prelude.{◌≡◌, ◌<◌, ◌≤◌, ◌*◌, Some, length, slice_get};
 ghost use Rattle.catalog.specs.Drivers.{Dataset};
-ghost use Rattle.strip_copies.specs.Heights.{has_blocks, is_cell, is_cut_in, is_mosaic, is_tall, lane_count, lines_copied, most_lines, strip_height};
+ghost use Rattle.strip_copies.specs.Heights.{has_blocks, is_cell, is_cut_in, is_mosaic, is_tall, is_woven, lane_count, lines_copied, lines_held, most_lines, strip_height};
 
 use crate::reading::Translation;
 use catalog::{Catalog, Kind};
+use esri_hdr::Layout;
 use lane_teams::WorkerCount;
-use translate_plan::Driver;
+use translate_plan::{Driver, Plan};
 
 /// How a dataset's blocks lie, where they are taller than a line.
 #[derive(Clone, Copy)]
@@ -116,14 +117,40 @@ pub fn most_lines(translation: &Translation, workers: WorkerCount) -> u32
     }
 }
 
-/// How many lines of the output so many workers copy at a time: those of a strip, or all that there are.
-pub fn strip_height(translation: &Translation, workers: WorkerCount) -> u32
-    ensures height { result ≡ lines_copied workers translation.now.cat translation.now.plan }
+// Whether the lines of an output hold several bands, pixel by pixel.
+fn is_woven(plan: &Plan) -> bool
+    ensures woven { result ≡ is_woven plan.now.layout (length plan.now.bands) }
+{
+    match plan.layout {
+        Layout::Bip => 1 < plan.count(),
+        Layout::Bil | Layout::Bsq => false,
+    }
+}
+
+// The most lines of which none leaves a pool of so many blocks before all of its bands are written, where strips aren't
+// as tall as they can be.
+fn lines_held(translation: &Translation, blocks: u32) -> u32
+    requires some { 1 ≤ blocks }
+    ensures lines { result ≡ lines_held blocks translation.now.cat translation.now.plan }
+    ensures some { 1 ≤ result }
+{
+    if is_woven(&translation.plan) && !is_tall(translation) {
+        blocks
+    } else {
+        4_194_304
+    }
+}
+
+/// How many lines of the output so many workers copy at a time: those of a strip, or all that there are; but no more than
+/// the blocks that are held of it, where each of its lines holds several bands and has to be written once for all of them.
+pub fn strip_height(translation: &Translation, workers: WorkerCount, blocks: u32) -> u32
+    requires some { 1 ≤ blocks }
+    ensures height { result ≡ lines_copied workers blocks translation.now.cat translation.now.plan }
     ensures some { 1 ≤ result }
     ensures bound { translation.now.plan.size.w * result ≤ 4194304 }
 {
     let plan = &translation.plan;
     plan.rules();
-    let lines = height_of(most_lines(translation, workers), plan.size.w);
-    lines.min(plan.size.h)
+    let lines = height_of(most_lines(translation, workers), plan.size.w).min(plan.size.h);
+    lines.min(lines_held(translation, blocks))
 }

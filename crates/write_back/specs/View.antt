@@ -19,7 +19,8 @@ pub data Output : Type 0 where
   Blocks : Writer → Output
   Rows : GridForm → Output
 
--- an output's data: what is written, the pool, the draft's bytes where they are told, and its length and name, and the lines of a grid that were written
+-- An output's data: what is written, the pool, the draft's bytes, its length and its name, and the lines of a grid that were written. The bytes are
+-- none where the draft doesn't tell them, or where they tell a sample other than 0 of a block that wasn't written since the draft was made.
 pub record SheetView : Type 0 where
   pub output : Output
   pub pool : PoolView

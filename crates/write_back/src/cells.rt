@@ -63,6 +63,7 @@ impl ColumnWriter {
         ensures head { result ≡ self.now.head }
         ensures valid { IsHead self.now.head }
     {
+        // This read is made for the proof: it says what holds of every head.
         let _lines = self.head.lines;
         self.head
     }
@@ -163,6 +164,7 @@ fn put_record<F: Folder>(
     ensures calls { F.write_calls folder.new ≡ one_more (F.write_calls folder.old) }
     ensures cause { HasCause TargetFault.FolderFault (F.faults folder.old) (F.faults folder.new) result }
 {
+    // This read is made for the proof: it says what holds of every head.
     let _lines = head.lines;
     block.encode_record(x, bytes);
     put_bytes(folder, draft, head.record_at(x), bytes)

@@ -155,6 +155,7 @@ impl Writer {
     {
         match self {
             Writer::Raw(lines) => {
+                // This call is made for the proof: it says that a line's number fits.
                 let _head = lines.head();
                 let row = Row {
                     band: key.band,
@@ -163,10 +164,12 @@ impl Writer {
                 lines.write_line(folder, draft, row, block)
             }
             Writer::Hgt(tile) => {
+                // This call is made for the proof: it says that a line's number fits.
                 let _side = tile.side();
                 tile.write_line(folder, draft, key.block as u32, block)
             }
             Writer::Dted(cell) => {
+                // This call is made for the proof: it says that a column's number fits.
                 let _head = cell.head();
                 cell.write_column(folder, draft, key.block as u32, block)
             }

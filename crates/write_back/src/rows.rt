@@ -69,6 +69,7 @@ impl<F: Folder> RowStore<F> {
         ensures one { writes.new ≡ writes.old + 1 }
         ensures cause { HasCause TargetFault.FolderFault (F.faults folder.old) (F.faults folder.new) result }
     {
+        // This read is made for the proof: it says that the number of lines fits.
         let _height = self.form.size.h;
         writes.tick();
         self.text.clear();

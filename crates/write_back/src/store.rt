@@ -123,7 +123,8 @@ impl<F: Folder> Store<F> {
         self.write_out(folder, key, &block, writes)
     }
 
-    // Keeps a line that isn't held. The line that a full pool drops for it is written, where it isn't yet, and is spare.
+    // Keeps a line that isn't held. The line that a full pool drops for it is written, and is spare: no held line was
+    // written since samples were put into it.
     fn keep<L: Ledger>(
         &mut self,
         folder: &mut F,
@@ -144,10 +145,6 @@ impl<F: Folder> Store<F> {
         match self.pool.admit(key, block, true) {
             Ok(None) => Ok(()),
             Ok(Some(last)) => {
-                if !last.dirty {
-                    self.spare = Some(last.block);
-                    return Ok(());
-                }
                 let written = self.write_out(folder, last.key, &last.block, writes);
                 self.spare = Some(last.block);
                 written
@@ -284,6 +281,7 @@ impl<F: Folder> Store<F> {
         ensures changed { OnOk result (Changes self.old.writer (IsWindow self.old.writer band rect samples.now) (store_state (F.names folder.old) self.old.pool (known_in F.draft_bytes self.old) (F.draft_len self.old.draft) (F.draft_name self.old.draft) (F.faults folder.old) (F.read_calls folder.old) (F.write_calls folder.old) writes.old) (store_state (F.names folder.new) self.new.pool (known_in F.draft_bytes self.new) (F.draft_len self.new.draft) (F.draft_name self.new.draft) (F.faults folder.new) (F.read_calls folder.new) (F.write_calls folder.new) writes.new)) }
         ensures cause { HasCause TargetFault.FolderFault (F.faults folder.old) (F.faults folder.new) result }
     {
+        // This call is made for the proof: it says that a block's number fits.
         let _shape = self.writer.shape();
         let lane = self.writer.lane(band, rect.x);
         let width = rect.w as usize;
@@ -325,6 +323,7 @@ impl<F: Folder> Store<F> {
         ensures met { OnOk result (AreMet self.old.writer band rect.x rect.w (store_state (F.names folder.old) self.old.pool (known_in F.draft_bytes self.old) (F.draft_len self.old.draft) (F.draft_name self.old.draft) (F.faults folder.old) (F.read_calls folder.old) (F.write_calls folder.old) writes.old) (store_state (F.names folder.new) self.new.pool (known_in F.draft_bytes self.new) (F.draft_len self.new.draft) (F.draft_name self.new.draft) (F.faults folder.new) (F.read_calls folder.new) (F.write_calls folder.new) writes.new)) }
         ensures cause { HasCause TargetFault.FolderFault (F.faults folder.old) (F.faults folder.new) result }
     {
+        // This call is made for the proof: it says that a block's number fits.
         let _shape = self.writer.shape();
         let most = group_width(rect);
         let mut room = vec![in alloc; 0i128; most as usize * rect.h as usize]?;

@@ -81,6 +81,7 @@ impl<F: Folder> Target<F> {
         ensures calls { F.write_calls folder.new ≡ F.write_calls folder.old }
         ensures cause { HasCause TargetFault.FolderFault (F.faults folder.old) (F.faults folder.new) result }
     {
+        // This read is made for the proof: it says what holds of every head.
         let _bands = head.bands;
         let pool = Pool::new(alloc, capacity)?;
         let writer = LineWriter::new(alloc, head)?;
