@@ -1,4 +1,4 @@
-use Rattle.std.proofs.Common.{◌≡◌, ◌≤◌, arith}
+use Rattle.std.proofs.Common.{arith}
 use Rattle.write_back.proofs.Published.{if_refused}
 use Rattle.write_back.proofs.drafts.publish_all.Goals as goal
 
