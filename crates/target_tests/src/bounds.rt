@@ -1,7 +1,7 @@
 // How often a draft is written and read: never in a window where the pool has room for all blocks, and whole lines are
 // never read back. A target's counter of written blocks has no bytes in a run: what a run shows of it are the calls
 // that write the blocks, and those that add lines to a grid.
-use crate::cells::CELL;
+use crate::cells::{CELL, CELL_ONE, CELL_TWO};
 use crate::fixtures::{
     Asked, Ended, Form, Order, Story, Window, folder_of, ordered, tried, written,
 };
@@ -47,6 +47,27 @@ const LONG: Asked = Asked {
     ..BANDS
 };
 
+// Two lines of three bands, pixel by pixel: 72,000 bytes, of which one takes at most four calls, in bytes, in pairs of
+// bytes and in eights.
+const WIDE: Asked = Asked {
+    text: "<VRTDataset rasterXSize=\"24000\" rasterYSize=\"2\">\
+        <VRTRasterBand dataType=\"Byte\"></VRTRasterBand></VRTDataset>",
+    bands: &[1, 1, 1],
+    ..BANDS_BIP
+};
+
+const WIDE_PAIRS: Asked = Asked {
+    text: "<VRTDataset rasterXSize=\"12000\" rasterYSize=\"2\">\
+        <VRTRasterBand dataType=\"Int16\"></VRTRasterBand></VRTDataset>",
+    ..WIDE
+};
+
+const WIDE_EIGHTS: Asked = Asked {
+    text: "<VRTDataset rasterXSize=\"3000\" rasterYSize=\"2\">\
+        <VRTRasterBand dataType=\"UInt64\"></VRTRasterBand></VRTDataset>",
+    ..WIDE
+};
+
 // All bands in whole lines, the last one first.
 const LINES: [Window; 4] = [
     (2, (0, 0), (3, 2), 0),
@@ -73,6 +94,35 @@ const COLUMNS: [Window; 4] = [
     (2, (1, 0), (1, 2), 4),
 ];
 
+// Whole lines of all bands, one band after another.
+const WIDE_LINES: [Window; 3] = [
+    (0, (0, 0), (24_000, 2), 0),
+    (1, (0, 0), (24_000, 2), 1),
+    (2, (0, 0), (24_000, 2), 2),
+];
+
+const PAIR_LINES: [Window; 3] = [
+    (0, (0, 0), (12_000, 2), 0),
+    (1, (0, 0), (12_000, 2), 1),
+    (2, (0, 0), (12_000, 2), 2),
+];
+
+const EIGHT_LINES: [Window; 3] = [
+    (0, (0, 0), (3_000, 2), 0),
+    (1, (0, 0), (3_000, 2), 1),
+    (2, (0, 0), (3_000, 2), 2),
+];
+
+// One line of each band, and then the next.
+const WIDE_LINE_BY_LINE: [Window; 6] = [
+    (0, (0, 0), (24_000, 1), 0),
+    (1, (0, 0), (24_000, 1), 1),
+    (2, (0, 0), (24_000, 1), 2),
+    (2, (0, 1), (24_000, 1), 3),
+    (0, (0, 1), (24_000, 1), 4),
+    (1, (0, 1), (24_000, 1), 5),
+];
+
 const TILE_LINES: [Window; 3] = [
     (0, (0, 0), (1201, 2), 0),
     (0, (0, 2), (1201, 1), 100),
@@ -82,6 +132,30 @@ const TILE_LINES: [Window; 3] = [
 const TILE_PARTS: [Window; 2] = [(0, (0, 0), (1, 40), 0), (0, (1, 0), (1200, 2), 0)];
 
 const CELL_PARTS: [Window; 2] = [(0, (0, 0), (121, 2), 0), (0, (40, 2), (3, 119), 0)];
+
+const PARTS_ONE: [Window; 2] = [(0, (0, 0), (201, 2), 0), (0, (40, 2), (3, 1199), 0)];
+
+const PARTS_TWO: [Window; 2] = [(0, (0, 0), (601, 2), 0), (0, (40, 2), (3, 3599), 0)];
+
+// Whole columns, and some of them once more.
+const CELL_COLUMNS: [Window; 4] = [
+    (0, (0, 0), (2, 121), 0),
+    (0, (119, 0), (2, 121), 100),
+    (0, (1, 0), (2, 121), 200),
+    (0, (0, 0), (121, 121), 300),
+];
+
+const COLUMNS_ONE: [Window; 3] = [
+    (0, (0, 0), (2, 1201), 0),
+    (0, (199, 0), (2, 1201), 100),
+    (0, (1, 0), (2, 1201), 200),
+];
+
+const COLUMNS_TWO: [Window; 3] = [
+    (0, (0, 0), (2, 3601), 0),
+    (0, (599, 0), (2, 3601), 100),
+    (0, (1, 0), (2, 3601), 200),
+];
 
 const SQUARE_LINES: [Window; 2] = [(0, (0, 0), (2, 1), 0), (0, (0, 1), (2, 1), 2)];
 
@@ -112,14 +186,17 @@ fn ended(
 }
 
 // What is written in blocks, its windows, and how many blocks there are.
-const ALL: [(Asked, &[Window], u16); 7] = [
+const ALL: [(Asked, &[Window], u16); 10] = [
     (BANDS, &COLUMNS, 6),
     (BANDS_BIP, &COLUMNS, 6),
     (BANDS_BIP, &COLUMNS, 2),
     (BANDS_BSQ, &COLUMNS, 6),
     (LONG, &LONG_PARTS, 2),
+    (WIDE, &WIDE_LINES, 2),
     (TILE, &TILE_PARTS, 1201),
     (CELL, &CELL_PARTS, 121),
+    (CELL_ONE, &PARTS_ONE, 201),
+    (CELL_TWO, &PARTS_TWO, 601),
 ];
 
 // The first of these of which a window writes to the draft through a pool of all blocks, or how many there are.
@@ -143,12 +220,15 @@ fn a_pool_of_all_blocks_is_written_at_the_end(rt: HostRuntime) -> Result<(), Fai
     Ok(())
 }
 
-// Outputs in whole lines.
-const WHOLE: [(Asked, &[Window]); 5] = [
+// Outputs in whole lines, and cells in whole columns.
+const WHOLE: [(Asked, &[Window]); 8] = [
     (BANDS, &LINES),
     (BANDS_BSQ, &LINES),
     (LONG, &LONG_LINES),
     (TILE, &TILE_LINES),
+    (CELL, &CELL_COLUMNS),
+    (CELL_ONE, &COLUMNS_ONE),
+    (CELL_TWO, &COLUMNS_TWO),
     (SQUARE, &SQUARE_LINES),
 ];
 
@@ -182,16 +262,20 @@ fn whole_lines_are_not_read_back(rt: HostRuntime) -> Result<(), Fail> {
 }
 
 // What is written in blocks of all bands, its windows, and a pool that holds each line until all its bands are there.
-const WOVEN: [(Asked, &[Window], u16); 3] = [
+const WOVEN: [(Asked, &[Window], u16); 7] = [
     (BANDS_BIP, &LINES, 2),
     (BANDS_BIP, &COLUMNS, 2),
     (BANDS_BIP, &LINE_BY_LINE, 1),
+    (WIDE, &WIDE_LINES, 2),
+    (WIDE, &WIDE_LINE_BY_LINE, 1),
+    (WIDE_PAIRS, &PAIR_LINES, 2),
+    (WIDE_EIGHTS, &EIGHT_LINES, 2),
 ];
 
 // The first of these that reads its draft, or how many there are.
 fn first_back(alloc: Global) -> Result<usize, Fail> {
     let failing = Failing::Of(Method::DraftRead, 1);
-    let samples = samples_in(alloc, (0, 100), 100)?;
+    let samples = samples_in(alloc, (0, 100), MOST_SAMPLES)?;
     let samples = samples.as_slice();
     for (at, (asked, windows, blocks)) in WOVEN.iter().enumerate() {
         let story = Story { windows, samples };
@@ -231,9 +315,9 @@ type Row<'a> = (Asked, &'a [Window], u16, u64, &'a [u64]);
 
 // All that is written of a pool of all blocks are the blocks that the windows meet; of a pool of one block there is one
 // once more for each time that another one comes. A window writes at most the blocks that it meets, and none of a pool
-// of all blocks; `close` at most the blocks of the pool. A line of 65,000 bytes takes at most three calls, any other
-// block one.
-const MOST: [Row; 12] = [
+// of all blocks; `close` at most the blocks of the pool. A line of 65,000 bytes takes at most three calls, one of 72,000
+// at most four, any other block one.
+const MOST: [Row; 20] = [
     (BANDS, &LINES, 1, 6, &[2, 1, 1, 2, 1]),
     (BANDS, &LINES, 6, 6, &[0, 0, 0, 0, 6]),
     (BANDS_BSQ, &LINES, 1, 6, &[2, 1, 1, 2, 1]),
@@ -242,18 +326,29 @@ const MOST: [Row; 12] = [
     (BANDS_BIP, &COLUMNS, 1, 8, &[2, 2, 2, 2, 1]),
     (BANDS_BIP, &COLUMNS, 6, 6, &[0, 0, 0, 0, 6]),
     (BANDS_BIP, &COLUMNS, 2, 2, &[0, 0, 0, 0, 2]),
+    (BANDS_BIP, &LINES, 1, 4, &[2, 1, 1, 2, 1]),
     (BANDS_BIP, &LINES, 2, 2, &[0, 0, 0, 0, 2]),
     (BANDS_BIP, &LINE_BY_LINE, 1, 2, &[0, 0, 0, 1, 0, 0, 1]),
+    (BANDS_BIP, &LINE_BY_LINE, 2, 2, &[0, 0, 0, 0, 0, 0, 2]),
     (LONG, &LONG_LINES, 1, 6, &[3, 3, 3]),
     (LONG, &LONG_PARTS, 2, 6, &[0, 0, 0, 6]),
+    (WIDE, &WIDE_LINES, 1, 24, &[8, 8, 8, 4]),
+    (WIDE, &WIDE_LINES, 2, 8, &[0, 0, 0, 8]),
+    (WIDE, &WIDE_LINE_BY_LINE, 1, 8, &[0, 0, 0, 4, 0, 0, 4]),
+    (WIDE_PAIRS, &PAIR_LINES, 1, 24, &[8, 8, 8, 4]),
+    (WIDE_PAIRS, &PAIR_LINES, 2, 8, &[0, 0, 0, 8]),
+    (WIDE_EIGHTS, &EIGHT_LINES, 2, 8, &[0, 0, 0, 8]),
 ];
 
-const MOST_OF_FORMS: [Row; 5] = [
+const MOST_OF_FORMS: [Row; 8] = [
     (TILE, &TILE_LINES, 1, 4, &[2, 1, 1, 1]),
     (TILE, &TILE_PARTS, 1, 42, &[40, 2, 1]),
     (TILE, &TILE_PARTS, 1201, 40, &[0, 0, 40]),
     (CELL, &CELL_PARTS, 1, 124, &[121, 3, 1]),
     (CELL, &CELL_PARTS, 121, 121, &[0, 0, 121]),
+    (CELL, &CELL_COLUMNS, 1, 127, &[2, 2, 2, 121, 1]),
+    (CELL_ONE, &PARTS_ONE, 1, 204, &[201, 3, 1]),
+    (CELL_ONE, &PARTS_ONE, 201, 201, &[0, 0, 201]),
 ];
 
 // The first so many of an output's windows, or all of them.
@@ -516,46 +611,78 @@ const FIRST_PART: [Window; 1] = [(0, (1, 0), (1, 2), 0)];
 
 const LOST: Ended = Ended::Refused(TargetFault::FolderFault, true);
 
-/// What is written through a pool of one block, its windows, and how it ends where its first read fails, its second
-/// one, and so on.
-type Read<'a> = (Asked, &'a [Window], &'a [Ended]);
+/// What is written, its windows, and how often it is read through a pool of one block, of two and of three.
+type Read<'a> = (Asked, &'a [Window], [(u16, u64); 3]);
+
+const NEVER: [(u16, u64); 3] = [(1, 0), (2, 0), (3, 0)];
+
+const ONCE: [(u16, u64); 3] = [(1, 1), (2, 0), (3, 0)];
 
 // A block that wasn't written before isn't read, and one that was is read where it comes back. Where bands lie pixel by
 // pixel a line comes back for each of them that comes later.
-const READS: [Read; 12] = [
-    (BANDS, &APART, &[Ended::Closed]),
-    (BANDS_BSQ, &APART, &[Ended::Closed]),
-    (TILE, &TILE_APART, &[Ended::Closed]),
-    (CELL, &CELL_APART, &[Ended::Closed]),
-    (BANDS, &AGAIN, &[LOST, Ended::Closed]),
-    (BANDS_BSQ, &AGAIN, &[LOST, Ended::Closed]),
-    (TILE, &AGAIN, &[LOST, Ended::Closed]),
-    (CELL, &CELL_AGAIN, &[LOST, Ended::Closed]),
-    (BANDS_BIP, &AGAIN, &[LOST, Ended::Closed]),
-    (BANDS_BIP, &FIRST, &[Ended::Closed]),
-    (BANDS_BIP, &FIRST_PART, &[Ended::Closed]),
-    (BANDS_BIP, &SECOND, &[LOST, LOST, Ended::Closed]),
+const READS: [Read; 18] = [
+    (BANDS, &APART, NEVER),
+    (BANDS_BSQ, &APART, NEVER),
+    (TILE, &TILE_APART, NEVER),
+    (CELL, &CELL_APART, NEVER),
+    (BANDS, &AGAIN, ONCE),
+    (BANDS_BSQ, &AGAIN, ONCE),
+    (TILE, &AGAIN, ONCE),
+    (CELL, &CELL_AGAIN, ONCE),
+    (CELL_ONE, &CELL_AGAIN, ONCE),
+    (CELL_TWO, &CELL_AGAIN, ONCE),
+    (BANDS_BIP, &AGAIN, ONCE),
+    (BANDS_BIP, &FIRST, NEVER),
+    (BANDS_BIP, &FIRST_PART, NEVER),
+    (BANDS_BIP, &SECOND, [(1, 2), (2, 0), (3, 0)]),
+    (BANDS_BIP, &APART, [(1, 4), (2, 0), (3, 0)]),
+    (BANDS_BIP, &COLUMNS, [(1, 6), (2, 0), (3, 0)]),
+    (BANDS, &COLUMNS, [(1, 2), (2, 2), (3, 2)]),
+    (BANDS_BSQ, &COLUMNS, [(1, 2), (2, 2), (3, 2)]),
 ];
 
-// Whether an output ends so where each of its reads fails in turn.
-fn is_ended(alloc: Global, asked: &Asked, story: Story<'_>, ends: &[Ended]) -> Result<bool, Fail> {
+// Whether an output is lost where one of so many reads fails, and ends where the next one would.
+fn is_read(
+    alloc: Global,
+    asked: &Asked,
+    story: Story<'_>,
+    capacity: u16,
+    reads: u64,
+) -> Result<bool, Fail> {
     let mut all = true;
-    for (at, end) in ends.iter().enumerate() {
-        let failing = Failing::Of(Method::DraftRead, (at as u64).saturating_add(1));
-        if ended(alloc, asked, story, 1, failing)? != *end {
+    for at in 0..reads.saturating_add(1) {
+        let failing = Failing::Of(Method::DraftRead, at.saturating_add(1));
+        let end = if at < reads { LOST } else { Ended::Closed };
+        if ended(alloc, asked, story, capacity, failing)? != end {
             all = false;
         }
     }
     Ok(all)
 }
 
-// The first of these that ends otherwise, or how many there are.
+// Whether an output is read so often at each of some capacities.
+fn each_is_read(
+    alloc: Global,
+    asked: &Asked,
+    story: Story<'_>,
+    each: &[(u16, u64)],
+) -> Result<bool, Fail> {
+    let mut all = true;
+    for (capacity, reads) in each {
+        if !is_read(alloc, asked, story, *capacity, *reads)? {
+            all = false;
+        }
+    }
+    Ok(all)
+}
+
+// The first of these that is read more or less often, or how many there are.
 fn first_otherwise(alloc: Global) -> Result<usize, Fail> {
     let samples = samples_in(alloc, (0, 100), 400)?;
     let samples = samples.as_slice();
-    for (at, (asked, windows, ends)) in READS.iter().enumerate() {
+    for (at, (asked, windows, each)) in READS.iter().enumerate() {
         let story = Story { windows, samples };
-        if !is_ended(alloc, asked, story, ends)? {
+        if !each_is_read(alloc, asked, story, each)? {
             return Ok(at);
         }
     }

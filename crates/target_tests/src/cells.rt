@@ -1,4 +1,4 @@
-// Cells of level 0: their bytes at each capacity, written by lines and by columns and patched once more.
+// Cells of each level: their bytes at each capacity, written by lines and by columns and patched once more.
 use crate::fixtures::{Asked, Ended, Form, Order, Story, Window, folder_of, ordered, written};
 use crate::pixels::{ELEVATIONS, meets_column, number_of, pixel, samples_in};
 use geotransform::Sample;
@@ -10,7 +10,7 @@ pub const CELL: Asked = Asked {
     text: "<VRTDataset rasterXSize=\"121\" rasterYSize=\"121\">\
         <GeoTransform>-0.0041666666666667, 0.0083333333333333, 0, 1.0041666666666667, 0, -0.0083333333333333</GeoTransform>\
         <VRTRasterBand dataType=\"Int16\"></VRTRasterBand></VRTDataset>",
-    form: Form::Cell,
+    form: Form::Cell(0),
     name: "out.dt0",
     bands: &[],
     seen: None,
@@ -18,16 +18,37 @@ pub const CELL: Asked = Asked {
     kind: None,
 };
 
-/// The columns, and the lines.
+/// The cell of level 1 between 80 and 81 degrees north, where there are six lines to a column, and the meridian and one
+/// degree east.
+pub const CELL_ONE: Asked = Asked {
+    text: "<VRTDataset rasterXSize=\"201\" rasterYSize=\"1201\">\
+        <GeoTransform>-0.0025, 0.005, 0, 81.0004166666666667, 0, -0.0008333333333333</GeoTransform>\
+        <VRTRasterBand dataType=\"Int16\"></VRTRasterBand></VRTDataset>",
+    form: Form::Cell(1),
+    name: "out.dt1",
+    ..CELL
+};
+
+/// The cell of level 2 between 80 and 81 degrees south, and the meridian and one degree west.
+pub const CELL_TWO: Asked = Asked {
+    text: "<VRTDataset rasterXSize=\"601\" rasterYSize=\"3601\">\
+        <GeoTransform>-1.0008333333333333, 0.0016666666666667, 0, -79.9998611111111111, 0, -0.0002777777777778</GeoTransform>\
+        <VRTRasterBand dataType=\"Int16\"></VRTRasterBand></VRTDataset>",
+    form: Form::Cell(2),
+    name: "out.dt2",
+    ..CELL
+};
+
+/// The columns, and the lines, of a cell of level 0.
 const SIDE: u16 = 121;
 
-/// The bytes in front of the records, and those of one.
+/// The bytes in front of the records.
 const FRONT: usize = 3428;
 
-const RECORD: usize = 254;
+/// The parts of a cell's head, and the number of blanks behind each.
+type Parts = [(&'static [u8], usize); 5];
 
-// The parts of a cell's head, and the number of blanks behind each.
-const PARTS: [(&[u8], usize); 5] = [
+const PARTS: Parts = [
     (b"UHL10000000E0000000N03000300NA  U", 14),
     (b"012101210", 24),
     (b"DSIU", 55),
@@ -35,13 +56,56 @@ const PARTS: [(&[u8], usize); 5] = [
     (b"ACC", 2697),
 ];
 
-fn front(alloc: Global) -> Result<Vec<u8>, AllocError> {
+// Steps of 18 and of 3 seconds.
+const PARTS_ONE: Parts = [
+    (b"UHL10000000E0800000N01800030NA  U", 14),
+    (b"020112010", 24),
+    (b"DSIU", 55),
+    (b"DTED1", 584),
+    (b"ACC", 2697),
+];
+
+// Steps of 6 seconds and of one.
+const PARTS_TWO: Parts = [
+    (b"UHL10010000W0810000S00600010NA  U", 14),
+    (b"060136010", 24),
+    (b"DSIU", 55),
+    (b"DTED2", 584),
+    (b"ACC", 2697),
+];
+
+fn front(alloc: Global, parts: &Parts) -> Result<Vec<u8>, AllocError> {
     let mut bytes = Vec::new(alloc);
-    for (part, blanks) in PARTS {
+    for (part, blanks) in parts {
         bytes.extend_from_slice(part)?;
-        bytes.resize(bytes.len().saturating_add(blanks), b' ')?;
+        bytes.resize(bytes.len().saturating_add(*blanks), b' ')?;
     }
     Ok(bytes)
+}
+
+/// What is asked for, the columns, the lines, and the parts of the head.
+type Cell = (Asked, u16, u16, Parts);
+
+const ZERO: Cell = (CELL, SIDE, SIDE, PARTS);
+
+const ONE: Cell = (CELL_ONE, 201, 1201, PARTS_ONE);
+
+const TWO: Cell = (CELL_TWO, 601, 3601, PARTS_TWO);
+
+/// What a file is to show: its head, its columns and lines, and the windows that were written.
+#[derive(Clone, Copy)]
+struct Shown<'a> {
+    front: &'a [u8],
+    columns: u16,
+    lines: u16,
+    story: Story<'a>,
+}
+
+// The bytes of a record of so many points.
+fn record_len(lines: u16) -> usize
+    ensures len { result ≡ 12 + 2 * lines }
+{
+    12 + 2 * lines as usize
 }
 
 // Sign and magnitude, in 16 bits.
@@ -54,13 +118,13 @@ fn signed(elevation: Sample) -> Sample {
 }
 
 // The point of a record, counted from the south, is the pixel of its column.
-fn is_point(record: &[u8], story: Story<'_>, x: u8, point: u8) -> bool {
+fn is_point(record: &[u8], shown: Shown<'_>, x: u16, point: u16) -> bool {
     let at = 8 + 2 * point as usize;
-    if point > 120 || record.len() != RECORD {
+    if point >= shown.lines || record.len() != record_len(shown.lines) {
         return false;
     }
-    let y = 120 - point as u16;
-    number_of(&record[at..at + 2]) as Sample == signed(pixel(story, (0, x as u16, y)))
+    let y = shown.lines - 1 - point;
+    number_of(&record[at..at + 2]) as Sample == signed(pixel(shown.story, (0, x, y)))
 }
 
 fn sum_of(bytes: &[u8]) -> u64 {
@@ -73,91 +137,100 @@ fn sum_of(bytes: &[u8]) -> u64 {
 
 // Whether a record ends with the sum of all bytes before it.
 fn ends_with_sum(record: &[u8]) -> bool {
-    if record.len() != RECORD {
+    if record.len() < 4 {
         return false;
     }
-    let (summed, sum) = record.split_at(250);
+    let (summed, sum) = record.split_at(record.len() - 4);
     number_of(sum) == sum_of(summed)
 }
 
+// Whether a record begins with its mark, and its column as block count and as longitude count.
+fn begins_with_column(record: &[u8], x: u16) -> bool {
+    record.len() >= 8
+        && record[0] == 170
+        && number_of(&record[1..4]) == x as u64
+        && number_of(&record[4..6]) == x as u64
+        && record[6..8] == [0, 0]
+}
+
 // Whether a record begins with its column, holds the pixels of it, and ends with its sum.
-fn is_record(record: &[u8], story: Story<'_>, x: u8) -> bool {
-    record.len() == RECORD
-        && record[..8] == [170, 0, 0, x, 0, x, 0, 0]
-        && (0..121u8).all(|point| is_point(record, story, x, point))
+fn is_record(record: &[u8], shown: Shown<'_>, x: u16) -> bool {
+    begins_with_column(record, x)
+        && (0..shown.lines).all(|point| is_point(record, shown, x, point))
         && ends_with_sum(record)
 }
 
-fn record_in(bytes: &[u8], x: u8) -> Option<&[u8]> {
-    let from = FRONT + RECORD * x as usize;
-    if from + RECORD > bytes.len() {
-        return None;
-    }
-    Some(&bytes[from..from + RECORD])
+// The bytes in front of a column's record.
+fn bytes_before(lines: u16, x: u16) -> usize {
+    record_len(lines)
+        .saturating_mul(x as usize)
+        .saturating_add(FRONT)
+}
+
+fn record_in(bytes: &[u8], lines: u16, x: u16) -> Option<&[u8]> {
+    let from = bytes_before(lines, x);
+    bytes.get(from..from.saturating_add(record_len(lines)))
 }
 
 // Whether a column that a window meets has its record, and another one zeros.
-fn is_column(record: &[u8], story: Story<'_>, x: u8) -> bool {
-    if story
+fn is_column(record: &[u8], shown: Shown<'_>, x: u16) -> bool {
+    if shown
+        .story
         .windows
         .iter()
-        .any(|window| meets_column(window, x as u16))
+        .any(|window| meets_column(window, x))
     {
-        is_record(record, story, x)
+        is_record(record, shown, x)
     } else {
         record.iter().all(|byte| *byte == 0)
     }
 }
 
-fn has_record(bytes: &[u8], story: Story<'_>, x: u8) -> bool {
-    match record_in(bytes, x) {
+fn has_record(bytes: &[u8], shown: Shown<'_>, x: u16) -> bool {
+    match record_in(bytes, shown.lines, x) {
         None => false,
-        Some(record) => is_column(record, story, x),
+        Some(record) => is_column(record, shown, x),
     }
 }
 
-// Whether a cell of the whole length begins with its head.
-fn has_front(bytes: &[u8], front: &[u8]) -> bool {
-    if bytes.len() != 34_162 {
-        return false;
-    }
-    let (head, _) = bytes.split_at(FRONT);
-    head == front
-}
-
-// Whether these are the bytes of a cell: the head, and the records of all columns.
-fn is_cell(bytes: &[u8], front: &[u8], story: Story<'_>) -> bool {
-    has_front(bytes, front) && (0..121u8).all(|x| has_record(bytes, story, x))
+// Whether these are the bytes of a cell: its length, the head, and the records of all columns.
+fn is_cell(bytes: &[u8], shown: Shown<'_>) -> bool {
+    bytes.len() == bytes_before(shown.lines, shown.columns)
+        && bytes.get(..FRONT) == Some(shown.front)
+        && (0..shown.columns).all(|x| has_record(bytes, shown, x))
 }
 
 // Whether the windows of a cell end as its file at a capacity.
-fn is_written(
-    alloc: Global,
-    order: &Order,
-    front: &[u8],
-    capacity: u16,
-    story: Story<'_>,
-) -> Result<bool, Fail> {
+fn is_written(alloc: Global, order: &Order, capacity: u16, shown: Shown<'_>) -> Result<bool, Fail> {
     let mut folder = folder_of(alloc, &[], &[])?;
-    let closed = written(alloc, &mut folder, order, capacity, story) == Ended::Closed;
+    let closed = written(alloc, &mut folder, order, capacity, shown.story) == Ended::Closed;
     Ok(match folder.bytes(&order.name) {
         None => false,
-        Some(bytes) => closed && is_cell(bytes, front, story),
+        Some(bytes) => closed && is_cell(bytes, shown),
     })
 }
 
 // Whether a cell of these windows has its bytes at each of some capacities.
-fn each_is_written(alloc: Global, windows: &[Window]) -> Result<bool, Fail> {
-    let order = ordered(alloc, &CELL)?;
-    let front = front(alloc)?;
+fn each_is_written(
+    alloc: Global,
+    (asked, columns, lines, parts): &Cell,
+    windows: &[Window],
+) -> Result<bool, Fail> {
+    let order = ordered(alloc, asked)?;
+    let front = front(alloc, parts)?;
     let samples = samples_in(alloc, ELEVATIONS, 20_000)?;
-    let story = Story {
-        windows,
-        samples: samples.as_slice(),
+    let shown = Shown {
+        front: front.as_slice(),
+        columns: *columns,
+        lines: *lines,
+        story: Story {
+            windows,
+            samples: samples.as_slice(),
+        },
     };
     let mut all = true;
     for capacity in [1, 2, 3, 121] {
-        if !is_written(alloc, &order, front.as_slice(), capacity, story)? {
+        if !is_written(alloc, &order, capacity, shown)? {
             all = false;
         }
     }
@@ -198,14 +271,14 @@ fn by_columns(alloc: Global) -> Result<Vec<Window>, AllocError> {
 #[test]
 fn cells_are_written_by_lines(rt: HostRuntime) -> Result<(), Fail> {
     let windows = by_lines(rt.alloc())?;
-    assert!(rt; each_is_written(rt.alloc(), windows.as_slice())?);
+    assert!(rt; each_is_written(rt.alloc(), &ZERO, windows.as_slice())?);
     Ok(())
 }
 
 #[test]
 fn cells_are_written_by_columns(rt: HostRuntime) -> Result<(), Fail> {
     let windows = by_columns(rt.alloc())?;
-    assert!(rt; each_is_written(rt.alloc(), windows.as_slice())?);
+    assert!(rt; each_is_written(rt.alloc(), &ZERO, windows.as_slice())?);
     Ok(())
 }
 
@@ -227,7 +300,45 @@ const APART: [Window; 11] = [
 
 #[test]
 fn columns_that_no_window_meets_are_zeros(rt: HostRuntime) -> Result<(), Fail> {
-    assert!(rt; each_is_written(rt.alloc(), &APART)?);
+    assert!(rt; each_is_written(rt.alloc(), &ZERO, &APART)?);
+    Ok(())
+}
+
+// The south-east corner, whole columns, a line, a part of it and of a column, a column, and a point of that column.
+const WINDOWS_ONE: [Window; 6] = [
+    (0, (200, 1200), (1, 1), 0),
+    (0, (7, 0), (2, 1201), 1),
+    (0, (0, 600), (201, 1), 2500),
+    (0, (8, 595), (5, 11), 3000),
+    (0, (100, 0), (1, 1201), 4000),
+    (0, (100, 3), (1, 1), 9),
+];
+
+// The same of the larger level, and no window meets columns 90 to 254, 261 to 299 and 302 to 599.
+const WINDOWS_TWO: [Window; 6] = [
+    (0, (600, 3600), (1, 1), 0),
+    (0, (255, 0), (2, 3601), 1),
+    (0, (0, 1800), (90, 1), 8000),
+    (0, (256, 3590), (5, 11), 9000),
+    (0, (0, 0), (1, 3601), 10_000),
+    (0, (300, 3599), (2, 2), 3),
+];
+
+const LEVELS: [(Cell, &[Window]); 2] = [(ONE, &WINDOWS_ONE), (TWO, &WINDOWS_TWO)];
+
+// The first of these cells that isn't that of its windows, or how many there are.
+fn first_unwritten(alloc: Global) -> Result<usize, Fail> {
+    for (at, (cell, windows)) in LEVELS.iter().enumerate() {
+        if !each_is_written(alloc, cell, windows)? {
+            return Ok(at);
+        }
+    }
+    Ok(LEVELS.len())
+}
+
+#[test]
+fn cells_of_the_other_levels_are_those_of_their_windows(rt: HostRuntime) -> Result<(), Fail> {
+    assert_eq!(rt; first_unwritten(rt.alloc())?, LEVELS.len());
     Ok(())
 }
 
@@ -240,14 +351,20 @@ fn ends_null(alloc: Global, capacity: u16) -> Result<bool, Fail> {
         windows: &[(0, (0, 0), (121, 121), 0)],
         samples: samples.as_slice(),
     };
-    let front = front(alloc)?;
+    let front = front(alloc, &PARTS)?;
+    let shown = Shown {
+        front: front.as_slice(),
+        columns: SIDE,
+        lines: SIDE,
+        story,
+    };
     let mut folder = folder_of(alloc, &[], &[])?;
     let closed = written(alloc, &mut folder, &order, capacity, story) == Ended::Closed;
     Ok(match folder.bytes(&order.name) {
         None => false,
         Some(bytes) => {
             closed
-                && is_cell(bytes, front.as_slice(), story)
+                && is_cell(bytes, shown)
                 && bytes.len() == 34_162
                 && bytes[3676..3682] == [0xff, 0xff, 0, 0, 2, 0xa8]
         }

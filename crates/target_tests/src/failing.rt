@@ -1,5 +1,5 @@
 // Each call of a folder that fails in turn: what is answered, what the names hold, and that no draft is left open.
-use crate::cells::CELL;
+use crate::cells::{CELL, CELL_ONE, CELL_TWO};
 use crate::fixtures::{
     Asked, Ended, File, Form, Order, Story, Window, folder_of, has_all, ordered, written,
 };
@@ -58,12 +58,14 @@ const SQUARE_WINDOWS: [Window; 2] = [(0, (0, 0), (2, 1), 0), (0, (0, 1), (2, 1),
 const SAMPLES: [Sample; 8] = [1, 2, 3, 4, 5, 6, 7, 8];
 
 // What the names hold before.
-const OLD: [File; 7] = [
+const OLD: [File; 9] = [
     ("out.bil", b"old data"),
     ("out.bip", b"old data"),
     ("out.bsq", b"old data"),
     ("out.hdr", b"old header"),
     ("out.dt0", b"old cell"),
+    ("out.dt1", b"old cell"),
+    ("out.dt2", b"old cell"),
     ("N00E000.hgt", b"old tile"),
     ("h.asc", b"old grid"),
 ];
@@ -84,123 +86,170 @@ const BSQ_FILES: [File; 2] = [
     ("out.hdr", b"old header"),
 ];
 
-/// A method, the number of the call of it that fails, and how far an output comes then: to its target (0), to its
-/// windows (1), to its first file (2), to its second one (3), to its end since there is no such call (4).
-type Call = (Method, u64, u8);
+/// A method, the number of the call of it that fails, and how far an output comes then through a pool of one block, of
+/// two and of three: to its target (0), to its windows (1), to its first file (2), to its second one (3), to its end
+/// since there is no such call (4).
+type Call = (Method, u64, [u8; 3]);
 
 // Through a pool of one block, each time that another block comes the held one is written, and the last one in
-// `close`.
-const PAIR_CALLS: [Call; 17] = [
-    (Method::Create, 1, 0),
-    (Method::Grow, 1, 0),
-    (Method::Create, 2, 0),
-    (Method::Append, 1, 0),
-    (Method::Create, 3, 4),
-    (Method::Grow, 2, 4),
-    (Method::Append, 2, 4),
-    (Method::DraftRead, 1, 1),
-    (Method::WriteAt, 1, 1),
-    (Method::WriteAt, 6, 1),
-    (Method::WriteAt, 7, 2),
-    (Method::WriteAt, 8, 4),
-    (Method::Publish, 1, 2),
-    (Method::Publish, 2, 3),
-    (Method::Publish, 3, 4),
-    (Method::Open, 1, 4),
-    (Method::ReadAt, 1, 4),
+// `close`; a larger pool writes the block that was used longest ago. Of the four blocks, a pool of two drops the first
+// two of the first band and then one of the second band, and a pool of three the first one alone.
+const PAIR_CALLS: [Call; 23] = [
+    (Method::Create, 1, [0, 0, 0]),
+    (Method::Grow, 1, [0, 0, 0]),
+    (Method::Create, 2, [0, 0, 0]),
+    (Method::Append, 1, [0, 0, 0]),
+    (Method::Create, 3, [4, 4, 4]),
+    (Method::Grow, 2, [4, 4, 4]),
+    (Method::Append, 2, [4, 4, 4]),
+    (Method::DraftRead, 1, [1, 4, 4]),
+    (Method::DraftRead, 2, [1, 4, 4]),
+    (Method::DraftRead, 3, [4, 4, 4]),
+    (Method::WriteAt, 1, [1, 1, 1]),
+    (Method::WriteAt, 2, [1, 1, 2]),
+    (Method::WriteAt, 3, [1, 1, 2]),
+    (Method::WriteAt, 4, [1, 2, 2]),
+    (Method::WriteAt, 5, [1, 2, 4]),
+    (Method::WriteAt, 6, [1, 4, 4]),
+    (Method::WriteAt, 7, [2, 4, 4]),
+    (Method::WriteAt, 8, [4, 4, 4]),
+    (Method::Publish, 1, [2, 2, 2]),
+    (Method::Publish, 2, [3, 3, 3]),
+    (Method::Publish, 3, [4, 4, 4]),
+    (Method::Open, 1, [4, 4, 4]),
+    (Method::ReadAt, 1, [4, 4, 4]),
 ];
 
-// Where bands lie pixel by pixel, both bands' part of a line is put into the block that is held.
-const PAIR_BIP_CALLS: [Call; 17] = [
-    (Method::Create, 1, 0),
-    (Method::Grow, 1, 0),
-    (Method::Create, 2, 0),
-    (Method::Append, 1, 0),
-    (Method::Create, 3, 4),
-    (Method::Grow, 2, 4),
-    (Method::Append, 2, 4),
-    (Method::DraftRead, 1, 1),
-    (Method::WriteAt, 1, 1),
-    (Method::WriteAt, 5, 1),
-    (Method::WriteAt, 6, 2),
-    (Method::WriteAt, 7, 4),
-    (Method::Publish, 1, 2),
-    (Method::Publish, 2, 3),
-    (Method::Publish, 3, 4),
-    (Method::Open, 1, 4),
-    (Method::ReadAt, 1, 4),
+// Where bands lie pixel by pixel, both bands' part of a line is put into the block that is held. There are two blocks.
+const PAIR_BIP_CALLS: [Call; 24] = [
+    (Method::Create, 1, [0, 0, 0]),
+    (Method::Grow, 1, [0, 0, 0]),
+    (Method::Create, 2, [0, 0, 0]),
+    (Method::Append, 1, [0, 0, 0]),
+    (Method::Create, 3, [4, 4, 4]),
+    (Method::Grow, 2, [4, 4, 4]),
+    (Method::Append, 2, [4, 4, 4]),
+    (Method::DraftRead, 1, [1, 4, 4]),
+    (Method::DraftRead, 2, [1, 4, 4]),
+    (Method::DraftRead, 3, [1, 4, 4]),
+    (Method::DraftRead, 4, [1, 4, 4]),
+    (Method::DraftRead, 5, [4, 4, 4]),
+    (Method::WriteAt, 1, [1, 2, 2]),
+    (Method::WriteAt, 2, [1, 2, 2]),
+    (Method::WriteAt, 3, [1, 4, 4]),
+    (Method::WriteAt, 4, [1, 4, 4]),
+    (Method::WriteAt, 5, [1, 4, 4]),
+    (Method::WriteAt, 6, [2, 4, 4]),
+    (Method::WriteAt, 7, [4, 4, 4]),
+    (Method::Publish, 1, [2, 2, 2]),
+    (Method::Publish, 2, [3, 3, 3]),
+    (Method::Publish, 3, [4, 4, 4]),
+    (Method::Open, 1, [4, 4, 4]),
+    (Method::ReadAt, 1, [4, 4, 4]),
 ];
 
-// The head of a cell is added before its draft grows.
-const CELL_CALLS: [Call; 14] = [
-    (Method::Create, 1, 0),
-    (Method::Append, 1, 0),
-    (Method::Grow, 1, 0),
-    (Method::Create, 2, 4),
-    (Method::Append, 2, 4),
-    (Method::Grow, 2, 4),
-    (Method::DraftRead, 1, 1),
-    (Method::WriteAt, 1, 1),
-    (Method::WriteAt, 2, 1),
-    (Method::WriteAt, 3, 2),
-    (Method::WriteAt, 4, 4),
-    (Method::Publish, 1, 2),
-    (Method::Publish, 2, 4),
-    (Method::Open, 1, 4),
+// The head of a cell is added before its draft grows. Its windows meet two columns.
+const CELL_CALLS: [Call; 15] = [
+    (Method::Create, 1, [0, 0, 0]),
+    (Method::Append, 1, [0, 0, 0]),
+    (Method::Grow, 1, [0, 0, 0]),
+    (Method::Create, 2, [4, 4, 4]),
+    (Method::Append, 2, [4, 4, 4]),
+    (Method::Grow, 2, [4, 4, 4]),
+    (Method::DraftRead, 1, [1, 4, 4]),
+    (Method::DraftRead, 2, [4, 4, 4]),
+    (Method::WriteAt, 1, [1, 2, 2]),
+    (Method::WriteAt, 2, [1, 2, 2]),
+    (Method::WriteAt, 3, [2, 4, 4]),
+    (Method::WriteAt, 4, [4, 4, 4]),
+    (Method::Publish, 1, [2, 2, 2]),
+    (Method::Publish, 2, [4, 4, 4]),
+    (Method::Open, 1, [4, 4, 4]),
 ];
 
-const TILE_CALLS: [Call; 12] = [
-    (Method::Create, 1, 0),
-    (Method::Grow, 1, 0),
-    (Method::Create, 2, 4),
-    (Method::Grow, 2, 4),
-    (Method::Append, 1, 4),
-    (Method::WriteAt, 1, 1),
-    (Method::WriteAt, 2, 1),
-    (Method::WriteAt, 3, 2),
-    (Method::WriteAt, 4, 4),
-    (Method::Publish, 1, 2),
-    (Method::Publish, 2, 4),
-    (Method::Open, 1, 4),
+// The windows meet three lines, each of them once in a row.
+const TILE_CALLS: [Call; 13] = [
+    (Method::Create, 1, [0, 0, 0]),
+    (Method::Grow, 1, [0, 0, 0]),
+    (Method::Create, 2, [4, 4, 4]),
+    (Method::Grow, 2, [4, 4, 4]),
+    (Method::Append, 1, [4, 4, 4]),
+    (Method::DraftRead, 1, [4, 4, 4]),
+    (Method::WriteAt, 1, [1, 1, 2]),
+    (Method::WriteAt, 2, [1, 2, 2]),
+    (Method::WriteAt, 3, [2, 2, 2]),
+    (Method::WriteAt, 4, [4, 4, 4]),
+    (Method::Publish, 1, [2, 2, 2]),
+    (Method::Publish, 2, [4, 4, 4]),
+    (Method::Open, 1, [4, 4, 4]),
 ];
 
 // A grid's head and lines are added as they come.
 const SQUARE_CALLS: [Call; 11] = [
-    (Method::Create, 1, 0),
-    (Method::Append, 1, 0),
-    (Method::Create, 2, 4),
-    (Method::Append, 2, 1),
-    (Method::Append, 3, 1),
-    (Method::Append, 4, 4),
-    (Method::Grow, 1, 4),
-    (Method::DraftRead, 1, 4),
-    (Method::WriteAt, 1, 4),
-    (Method::Publish, 1, 2),
-    (Method::Publish, 2, 4),
+    (Method::Create, 1, [0, 0, 0]),
+    (Method::Append, 1, [0, 0, 0]),
+    (Method::Create, 2, [4, 4, 4]),
+    (Method::Append, 2, [1, 1, 1]),
+    (Method::Append, 3, [1, 1, 1]),
+    (Method::Append, 4, [4, 4, 4]),
+    (Method::Grow, 1, [4, 4, 4]),
+    (Method::DraftRead, 1, [4, 4, 4]),
+    (Method::WriteAt, 1, [4, 4, 4]),
+    (Method::Publish, 1, [2, 2, 2]),
+    (Method::Publish, 2, [4, 4, 4]),
 ];
 
-// The calls of an output of a form.
-fn calls_of(form: Form) -> &'static [Call] {
+/// What is asked for, its windows, its calls, and what the names hold where the data is published and the header isn't; a
+/// file that has no header is never published alone.
+type Case = (
+    Asked,
+    &'static [Window],
+    &'static [Call],
+    &'static [File<'static>],
+);
+
+fn case_of(form: Form) -> Case {
     match form {
-        Form::Raw(Layout::Bip) => &PAIR_BIP_CALLS,
-        Form::Raw(_) => &PAIR_CALLS,
-        Form::Cell => &CELL_CALLS,
-        Form::Tile => &TILE_CALLS,
-        Form::Grid => &SQUARE_CALLS,
+        Form::Raw(Layout::Bil) => (PAIR, &PAIR_WINDOWS, &PAIR_CALLS, &BIL_FILES),
+        Form::Raw(Layout::Bip) => (PAIR_BIP, &PAIR_WINDOWS, &PAIR_BIP_CALLS, &BIP_FILES),
+        Form::Raw(Layout::Bsq) => (PAIR_BSQ, &PAIR_WINDOWS, &PAIR_CALLS, &BSQ_FILES),
+        Form::Cell(0) => (CELL, &CELL_WINDOWS, &CELL_CALLS, &[]),
+        Form::Cell(1) => (CELL_ONE, &CELL_WINDOWS, &CELL_CALLS, &[]),
+        Form::Cell(_) => (CELL_TWO, &CELL_WINDOWS, &CELL_CALLS, &[]),
+        Form::Tile => (TILE, &TILE_WINDOWS, &TILE_CALLS, &[]),
+        Form::Grid => (SQUARE, &SQUARE_WINDOWS, &SQUARE_CALLS, &[]),
     }
 }
 
-/// What is asked for, its windows, and what the names hold where the data is published and the header isn't; a file
-/// that has no header is never published alone.
-type Row<'a> = (Asked, &'a [Window], &'a [File<'a>]);
+/// A form, the blocks of the pool, and the stages that are reached where the calls fail one after another: the windows
+/// are none of them where the pool holds all that they meet.
+type Row<'a> = (Form, u16, &'a [u8]);
 
-const ROWS: [Row; 6] = [
-    (PAIR, &PAIR_WINDOWS, &BIL_FILES),
-    (PAIR_BIP, &PAIR_WINDOWS, &BIP_FILES),
-    (PAIR_BSQ, &PAIR_WINDOWS, &BSQ_FILES),
-    (CELL, &CELL_WINDOWS, &[]),
-    (TILE, &TILE_WINDOWS, &[]),
-    (SQUARE, &SQUARE_WINDOWS, &[]),
+const ROWS: [Row; 24] = [
+    (Form::Raw(Layout::Bil), 1, &[0, 1, 2, 3, 4]),
+    (Form::Raw(Layout::Bil), 2, &[0, 1, 2, 3, 4]),
+    (Form::Raw(Layout::Bil), 3, &[0, 1, 2, 3, 4]),
+    (Form::Raw(Layout::Bip), 1, &[0, 1, 2, 3, 4]),
+    (Form::Raw(Layout::Bip), 2, &[0, 2, 3, 4]),
+    (Form::Raw(Layout::Bip), 3, &[0, 2, 3, 4]),
+    (Form::Raw(Layout::Bsq), 1, &[0, 1, 2, 3, 4]),
+    (Form::Raw(Layout::Bsq), 2, &[0, 1, 2, 3, 4]),
+    (Form::Raw(Layout::Bsq), 3, &[0, 1, 2, 3, 4]),
+    (Form::Cell(0), 1, &[0, 1, 2, 4]),
+    (Form::Cell(0), 2, &[0, 2, 4]),
+    (Form::Cell(0), 3, &[0, 2, 4]),
+    (Form::Cell(1), 1, &[0, 1, 2, 4]),
+    (Form::Cell(1), 2, &[0, 2, 4]),
+    (Form::Cell(1), 3, &[0, 2, 4]),
+    (Form::Cell(2), 1, &[0, 1, 2, 4]),
+    (Form::Cell(2), 2, &[0, 2, 4]),
+    (Form::Cell(2), 3, &[0, 2, 4]),
+    (Form::Tile, 1, &[0, 1, 2, 4]),
+    (Form::Tile, 2, &[0, 1, 2, 4]),
+    (Form::Tile, 3, &[0, 2, 4]),
+    (Form::Grid, 1, &[0, 1, 2, 4]),
+    (Form::Grid, 2, &[0, 1, 2, 4]),
+    (Form::Grid, 3, &[0, 1, 2, 4]),
 ];
 
 // How far an output came: to its target, to its windows, to its first file, to its second one, to its end.
@@ -222,11 +271,12 @@ fn is_left(alloc: Global, folder: &MemFolder, stage: u8, published: &[File]) -> 
     Ok(held && folder.faults() == 1 && folder.drafts() == 0)
 }
 
-// How far an output comes where this call fails through a pool of one block, and that it leaves all as it is to be;
-// the last stage where no call fails.
+// How far an output comes where this call fails through a pool of so many blocks, and that it leaves all as it is to
+// be; the last stage where no call fails.
 fn stage_at(
     alloc: Global,
     order: &Order,
+    capacity: u16,
     windows: &[Window],
     published: &[File],
     failing: Failing,
@@ -236,7 +286,7 @@ fn stage_at(
         windows,
         samples: &SAMPLES,
     };
-    let stage = stage_of(written(alloc, &mut folder, order, 1, story));
+    let stage = stage_of(written(alloc, &mut folder, order, capacity, story));
     match stage {
         Some(4) => Ok(if folder.faults() == 0 { stage } else { None }),
         Some(at) => Ok(if is_left(alloc, &folder, at, published)? {
@@ -248,18 +298,33 @@ fn stage_at(
     }
 }
 
+// Where a stage stands among those that are reached, behind the last one or there once more.
+fn place_of(stages: &[u8], reached: usize, stage: Option<u8>) -> Option<usize> {
+    let next = reached.saturating_add(1);
+    if stage.is_none() {
+        None
+    } else if stages.get(reached).copied() == stage {
+        Some(reached)
+    } else if stages.get(next).copied() == stage {
+        Some(next)
+    } else {
+        None
+    }
+}
+
 // Where the calls fail one after another, the stages come in their order and none is left out; the first of the
 // calls that fails otherwise, or None.
-fn wrong_call(alloc: Global, (asked, windows, published): Row<'_>) -> Result<Option<u64>, Fail> {
+fn wrong_call(alloc: Global, (form, capacity, stages): Row<'_>) -> Result<Option<u64>, Fail> {
+    let (asked, windows, _, published) = case_of(form);
     let order = ordered(alloc, &asked)?;
-    let last = if published.is_empty() { 2 } else { 3 };
     let mut reached = 0;
     for call in 1..1000u64 {
-        let stage = stage_at(alloc, &order, windows, published, Failing::Call(call))?;
-        match stage {
-            Some(4) => return Ok(if reached == last { None } else { Some(call) }),
-            Some(at) if at == reached || at == reached.saturating_add(1) => reached = at,
-            _ => return Ok(Some(call)),
+        let failing = Failing::Call(call);
+        let stage = stage_at(alloc, &order, capacity, windows, published, failing)?;
+        match place_of(stages, reached, stage) {
+            None => return Ok(Some(call)),
+            Some(_) if stage == Some(4) => return Ok(None),
+            Some(place) => reached = place,
         }
     }
     Ok(Some(1000))
@@ -281,13 +346,25 @@ fn each_call_may_fail(rt: HostRuntime) -> Result<(), Fail> {
     Ok(())
 }
 
+// The stage of a call through a pool of so many blocks.
+fn stage_in(stages: [u8; 3], capacity: u16) -> Option<u8> {
+    match capacity {
+        1 => Some(stages[0]),
+        2 => Some(stages[1]),
+        3 => Some(stages[2]),
+        _ => None,
+    }
+}
+
 // The first of an output's calls whose failing leads elsewhere, or None.
-fn wrong_method(alloc: Global, (asked, windows, published): Row<'_>) -> Result<Option<Call>, Fail> {
+fn wrong_method(alloc: Global, (form, capacity, _): Row<'_>) -> Result<Option<Call>, Fail> {
+    let (asked, windows, calls, published) = case_of(form);
     let order = ordered(alloc, &asked)?;
-    for (method, number, stage) in calls_of(asked.form) {
+    for (method, number, stages) in calls {
         let failing = Failing::Of(*method, *number);
-        if stage_at(alloc, &order, windows, published, failing)? != Some(*stage) {
-            return Ok(Some((*method, *number, *stage)));
+        let stage = stage_at(alloc, &order, capacity, windows, published, failing)?;
+        if stage.is_none() || stage != stage_in(*stages, capacity) {
+            return Ok(Some((*method, *number, *stages)));
         }
     }
     Ok(None)

@@ -21,8 +21,8 @@ use write_back::{CloseFault, Target, TargetFault};
 #[derive(Clone, Copy)]
 pub enum Form {
     Raw(Layout),
-    /// A DTED cell of level 0.
-    Cell,
+    /// A DTED cell of this level, from 0 to 2.
+    Cell(u8),
     Tile,
     Grid,
 }
@@ -75,7 +75,9 @@ fn driver_of(form: Form) -> Driver
 {
     match form {
         Form::Raw(_) => Driver::EHdr,
-        Form::Cell => Driver::Dted { level: 0 },
+        Form::Cell(level) => Driver::Dted {
+            level: level.min(2) as u32,
+        },
         Form::Tile => Driver::SrtmHgt,
         Form::Grid => Driver::AaiGrid,
     }
@@ -84,7 +86,7 @@ fn driver_of(form: Form) -> Driver
 fn layout_of(form: Form) -> Layout {
     match form {
         Form::Raw(layout) => layout,
-        Form::Cell | Form::Tile | Form::Grid => Layout::Bil,
+        Form::Cell(_) | Form::Tile | Form::Grid => Layout::Bil,
     }
 }
 
@@ -215,6 +217,8 @@ fn is_named_for(plan: &Plan, name: &Name) -> bool
     match name.extension() {
         Some(Ext::Bil | Ext::Bip | Ext::Bsq) => matches!(&plan.driver, Driver::EHdr),
         Some(Ext::Dt0) => matches!(&plan.driver, Driver::Dted { level: 0 }),
+        Some(Ext::Dt1) => matches!(&plan.driver, Driver::Dted { level: 1 }),
+        Some(Ext::Dt2) => matches!(&plan.driver, Driver::Dted { level: 2 }),
         Some(Ext::Hgt) => matches!(&plan.driver, Driver::SrtmHgt),
         Some(Ext::Asc | Ext::Grd) => matches!(&plan.driver, Driver::AaiGrid),
         _ => false,
