@@ -1,4 +1,6 @@
 // Cells of each level: their bytes at each capacity, written by lines and by columns and patched once more.
+ghost use Rattle.std.specs.Prelude.{◌≡◌, ◌+◌, ◌*◌};
+
 use crate::fixtures::{Asked, Ended, Form, Order, Story, Window, folder_of, ordered, written};
 use crate::pixels::{ELEVATIONS, meets_column, number_of, pixel, samples_in};
 use geotransform::Sample;
