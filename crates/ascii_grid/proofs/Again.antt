@@ -83,7 +83,7 @@ word_tokens (x ∷ xs) tail at s t =
 
 -- values
 
-value_from : (at : ℕ) (text ds : List ℕ) (negative : Bool) → sign_at text ≡ (negative, ds) → AreDigits ds → 0 < length ds → length text ≤ 64 → is_value (signed negative (number ds)) ≡ true → value_in at text ≡ Ok (signed negative (number ds))
+pub value_from : (at : ℕ) (text ds : List ℕ) (negative : Bool) → sign_at text ≡ (negative, ds) → AreDigits ds → 0 < length ds → length text ≤ 64 → is_value (signed negative (number ds)) ≡ true → value_in at text ≡ Ok (signed negative (number ds))
 unfolding value_in
 value_from at text ds negative sign digits some short int =
     let parts : digits_at (sign_at text).1 ≡ (ds, []) = ap (λ s. digits_at s.1) sign ∙ ap digits_at (sym (append-nil ds)) ∙ digits_again ds [] digits refl in
@@ -93,16 +93,6 @@ value_from at text ds negative sign digits some short int =
     let value : whole_value text ≡ signed negative (number ds) = ap (λ b. signed b (number (digits_at (sign_at text).1).0)) (ap (λ s. s.0) sign) ∙ ap (λ p. signed negative (number p.0)) parts in
     let pick : Bool → ℤ → Result ℤ GridFault = λ a v. cond a (cond (is_value v) (Ok v) (Err Limit)) (cond (is_decimal text) (Err (NotInteger at)) (Err (BadToken at))) in
     ap (λ a. pick a (whole_value text)) whole ∙ ap (pick true) value ∙ ap (λ b. cond b (Ok (signed negative (number ds))) (Err Limit)) int
-
-small_value : (n : ℕ) → n < 2147483648 → is_value (pos n) ≡ true
-small_value n small = grind (arith, nat_tests, ints)
-
--- digits alone that write a small number
-pub digits_value : (at : ℕ) (text : List ℕ) → AreDigits text → 0 < length text → length text ≤ 64 → number text < 2147483648 → value_in at text ≡ Ok (pos (number text))
-digits_value at text digits some short small =
-    let sign : sign_at text ≡ (false, text) = ap sign_at (sym (append-nil text)) ∙ sign_none text [] digits some ∙ ap (λ (x : List ℕ). (false, x)) (append-nil text) in
-    let int : is_value (pos (number text)) ≡ true = small_value (number text) small in
-    value_from at text text false sign digits some short int
 
 small_pos : (n : ℕ) → is_value (pos n) ≡ true → n < 2 ^ 31
 small_pos n int = grind (arith, nat_tests, ints)

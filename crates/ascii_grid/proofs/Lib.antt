@@ -11,4 +11,5 @@ pub mod RowValues
 pub mod Writes
 pub mod Again
 mod Computes
+pub mod Fronts
 pub mod Runs

@@ -54,6 +54,10 @@ is_whole_text text = let w = digits_at (sign_at text).1 in nat_le (length text) 
 abbrev pub whole_value : List ℕ → ℤ
 whole_value text = signed (sign_at text).0 (number (digits_at (sign_at text).1).0)
 
+-- whether a text is a value of the body
+abbrev pub has_value : List ℕ → Bool
+has_value text = is_whole_text text && is_value (whole_value text)
+
 -- the value of a token of the body
 unfoldable pub value_in : ℕ → List ℕ → Result ℤ GridFault
 value_in at text =

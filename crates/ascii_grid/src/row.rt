@@ -7,8 +7,7 @@ ghost use Rattle.ascii_grid.specs.Row.{value_or_zero, put, reading, row_ended, r
 
 use crate::open::Open;
 use crate::tokens::{dark_len, is_white};
-use crate::values::value_in;
-use geotransform::Sample;
+use crate::values::{value_at, value_in};
 use std::marker::Model;
 
 /// What was read of a row so far: how many samples are filled, the token that is open, and whether an
@@ -45,7 +44,7 @@ impl RowState {
 
     // Reads a byte.
     #[tactic(auto, unfolding(crate::specs::Row::row_byte))]
-    fn add(&mut self, c: u8, out: &mut [Sample])
+    fn add(&mut self, c: u8, out: &mut [i32])
         requires { self.old.filled ≤ length out.old }
         ensures fed { reading self.new out.new ≡ row_byte (reading self.old out.old) c }
         ensures over { self.new.over ≡ self.old.over }
@@ -60,8 +59,9 @@ impl RowState {
         self.held.pass();
     }
 
-    // Reads a whole token, where none is open, and a byte of white space behind it.
-    fn add_whole(&mut self, token: &[u8], out: &mut [Sample])
+    // Reads a whole token of this value, where none is open, and a byte of white space behind it.
+    fn add_whole(&mut self, token: &[u8], value: i32, out: &mut [i32])
+        requires value { value ≡ value_or_zero token.now }
         requires filled { self.old.filled ≤ length out.old }
         requires some { 0 < length token.now }
         requires few { length token.now ≤ 64 }
@@ -72,13 +72,13 @@ impl RowState {
         ensures room { self.new.filled ≤ length out.new }
         ensures size { length out.new ≡ length out.old }
     {
-        self.filled = put(token, self.filled, out);
+        self.filled = put_value(value, self.filled, out);
         self.held.pass_token(token.len());
     }
 
     // Reads the first of these bytes: a whole token with the white space behind it, where none is open,
     // else one byte. How many it read.
-    fn add_part(&mut self, bytes: &[u8], out: &mut [Sample]) -> usize
+    fn add_part(&mut self, bytes: &[u8], out: &mut [i32]) -> usize
         requires filled { self.old.filled ≤ length out.old }
         requires some { 0 < length bytes.now }
         ensures some { 0 < result }
@@ -89,9 +89,14 @@ impl RowState {
         ensures size { length out.new ≡ length out.old }
     {
         if !self.held.is_open() {
+            if let Some((n, value)) = value_at(bytes) {
+                self.add_whole(&bytes[..n], value, out);
+                return n + 1;
+            }
             let n = dark_len(bytes);
             if n > 0 && n <= 64 && n < bytes.len() {
-                self.add_whole(&bytes[..n], out);
+                let token = &bytes[..n];
+                self.add_whole(token, value_or_zero(token), out);
                 return n + 1;
             }
         }
@@ -100,7 +105,7 @@ impl RowState {
     }
 
     // Reads the bytes of a piece.
-    fn take(&mut self, bytes: &[u8], out: &mut [Sample])
+    fn take(&mut self, bytes: &[u8], out: &mut [i32])
         requires { self.old.filled ≤ length out.old }
         ensures fed { reading self.new out.new ≡ row_fed (reading self.old out.old) bytes.now }
         ensures over { self.new.over ≡ self.old.over }
@@ -121,7 +126,7 @@ impl RowState {
     }
 
     // Ends the row.
-    fn close(&mut self, out: &mut [Sample])
+    fn close(&mut self, out: &mut [i32])
         requires { self.old.filled ≤ length out.old }
         ensures row { out.new ≡ padded (row_ended (reading self.old out.old)) }
         ensures over { self.new.over ≡ true }
@@ -137,7 +142,7 @@ impl RowState {
 
     // Reads a piece.
     #[tactic(auto, using(crate::proofs::Rows::fills_more, crate::proofs::Rows::counted))]
-    fn read(&mut self, bytes: &[u8], out: &mut [Sample]) -> bool
+    fn read(&mut self, bytes: &[u8], out: &mut [i32]) -> bool
         requires { self.old.filled ≤ length out.old }
         ensures fills { (text : List ℕ) → Fills self.old out.old text → 0 < length bytes.now → Fills self.new out.new (text ++ bytes.now) }
         ensures row { (text : List ℕ) → Fills self.old out.old text → result ≡ true → out.new ≡ row_of (length out.new) (text ++ bytes.now) }
@@ -167,7 +172,7 @@ impl RowState {
 ///
 /// False exactly where no piece so far was empty and fewer tokens than `out` has places have ended in
 /// these pieces; a token ends at the white space behind it. It takes no memory.
-pub fn decode_more(state: &mut RowState, bytes: &[u8], out: &mut [Sample]) -> bool
+pub fn decode_more(state: &mut RowState, bytes: &[u8], out: &mut [i32]) -> bool
     requires room { state.old.filled ≤ length out.old }
     // what was read goes on with these bytes
     ensures fills { (text : List ℕ) → Fills state.old out.old text → 0 < length bytes.now → Fills state.new out.new (text ++ bytes.now) }
@@ -189,29 +194,39 @@ pub fn decode_more(state: &mut RowState, bytes: &[u8], out: &mut [Sample]) -> bo
 }
 
 // The value of a token, 0 where it has none.
-fn value_or_zero(text: &[u8]) -> Sample
+fn value_or_zero(text: &[u8]) -> i32
     ensures { result ≡ value_or_zero text.now }
 {
     value_in(0, text).unwrap_or(0)
 }
 
-// Puts the value of a token into the row, where there is room.
-fn put(token: &[u8], filled: usize, out: &mut [Sample]) -> usize
+// Puts a value into the row, where there is room.
+fn put_value(value: i32, filled: usize, out: &mut [i32]) -> usize
     requires { filled ≤ length out.old }
-    ensures row { record { filled = result; out = out.new } ≡ put (record { filled = filled; out = out.old }) token.now }
+    ensures row { (token : List ℕ) → value ≡ value_or_zero token → record { filled = result; out = out.new } ≡ put (record { filled = filled; out = out.old }) token }
     ensures room { result ≤ length out.new }
     ensures size { length out.new ≡ length out.old }
 {
     if filled < out.len() {
-        out[filled] = value_or_zero(token);
+        out[filled] = value;
         filled + 1
     } else {
         filled
     }
 }
 
+// Puts the value of a token into the row, where there is room.
+fn put(token: &[u8], filled: usize, out: &mut [i32]) -> usize
+    requires { filled ≤ length out.old }
+    ensures row { record { filled = result; out = out.new } ≡ put (record { filled = filled; out = out.old }) token.now }
+    ensures room { result ≤ length out.new }
+    ensures size { length out.new ≡ length out.old }
+{
+    put_value(value_or_zero(token), filled, out)
+}
+
 // Puts the value of the open token into the row, where there is one and there is room.
-fn ended(held: &Open, filled: usize, out: &mut [Sample]) -> usize
+fn ended(held: &Open, filled: usize, out: &mut [i32]) -> usize
     requires { filled ≤ length out.old }
     ensures row { record { filled = result; out = out.new } ≡ row_ended (record { held = held.now; row = record { filled = filled; out = out.old } }) }
     ensures room { result ≤ length out.new }
@@ -225,7 +240,7 @@ fn ended(held: &Open, filled: usize, out: &mut [Sample]) -> usize
 }
 
 // Fills the rest with 0.
-fn pad(filled: usize, out: &mut [Sample])
+fn pad(filled: usize, out: &mut [i32])
     requires { filled ≤ length out.old }
     ensures { out.new ≡ padded (record { filled = filled; out = out.old }) }
 {

@@ -4,6 +4,7 @@ ghost use Rattle.lists_and_answers.specs.Answers.{Gives};
 ghost use Rattle.ascii_grid.specs.Faults.{IsMemory};
 ghost use Rattle.ascii_grid.specs.Grid.{grid_head, head_with, IsHead};
 ghost use Rattle.ascii_grid.specs.Tokens.{is_white};
+ghost use Rattle.ascii_grid.specs.Values.{has_value};
 ghost use Rattle.ascii_grid.specs.declared.parts.Stage.TheVariants.{AtKey};
 ghost use Rattle.lists_and_answers.specs.Places.{StandsAt};
 ghost use Rattle.ascii_grid.specs.Scan.{State, then_byte, fed, start, Reaches, answer_of, grid_after, IsAt, with_read, ended, body_closed, closed, Reads, IsFaultOf, HasScanned, IsFaultIn};
@@ -13,8 +14,9 @@ use crate::head::{GridHead, Starts};
 use crate::keys::shape_of;
 use crate::open::Open;
 use crate::parts::{Found, Shape, Stage};
-use crate::steps::{add_token, needed};
+use crate::steps::{add_number, add_token, needed};
 use crate::tokens::{dark_len, is_white};
+use crate::values::value_at;
 use geotransform::Size;
 use lists_and_answers::Items;
 use std::alloc::Global;
@@ -113,6 +115,26 @@ impl Scanner {
         }
     }
 
+    // Takes a whole token that has a value, where none is open, and a byte of white space behind it.
+    fn add_number(&mut self, token: &[u8])
+        requires some { 0 < length token.now }
+        requires few { length token.now ≤ 64 }
+        requires dark { (k : ℕ) → k < length token.now → is_white (get_or token.now k 0) ≡ false }
+        requires value { has_value token.now ≡ true }
+        requires closed { (s : State) → self.old ≡ Ok s → s.held.text ≡ [] }
+        ensures state { (c : ℕ) → is_white c ≡ true → Reaches self.new (fed self.old (token.now ++ c ∷ [])) }
+        ensures stays { (f : GridFault) → self.old ≡ Err f → self.new ≡ Err f }
+    {
+        if self.fault.is_some() {
+            return;
+        }
+        let at = self.held.place();
+        match add_number(&mut self.stage, &mut self.rows, at, token) {
+            Ok(()) => self.held.pass_token(token.len()),
+            Err(fault) => self.fault = Some(fault),
+        }
+    }
+
     // Takes the first of these bytes: a whole token with the white space behind it, where none is open,
     // else one byte. How many it took.
     fn add_part(&mut self, bytes: &[u8]) -> usize
@@ -123,6 +145,10 @@ impl Scanner {
         ensures stays { (f : GridFault) → self.old ≡ Err f → self.new ≡ Err f }
     {
         if self.fault.is_none() && !self.held.is_open() {
+            if let Some((n, _)) = value_at(bytes) {
+                self.add_number(&bytes[..n]);
+                return n + 1;
+            }
             let n = dark_len(bytes);
             if n > 0 && n <= 64 && n < bytes.len() {
                 self.add_whole(&bytes[..n]);

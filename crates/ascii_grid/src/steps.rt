@@ -1,6 +1,7 @@
 // What a token changes.
-ghost use Rattle.std.specs.Prelude.{◌≡◌, ◌≤◌, ◌<◌, ◌+◌, ◌*◌, ◌^◌, ◌++◌, ◌==◌, [], ◌∷◌, if◌then◌else◌, IfOk, IfErr, OnOk, OnErr};
+ghost use Rattle.std.specs.Prelude.{◌≡◌, ℕ, true, List, ◌≤◌, ◌<◌, ◌+◌, ◌*◌, ◌^◌, ◌++◌, ◌==◌, [], ◌∷◌, if◌then◌else◌, IfOk, IfErr, OnOk, OnErr};
 ghost use Rattle.ascii_grid.specs.Tokens.{Token};
+ghost use Rattle.ascii_grid.specs.Values.{has_value};
 ghost use Rattle.ascii_grid.specs.Faults.{IsMemory};
 ghost use Rattle.ascii_grid.specs.declared.parts.Stage.TheVariants.{AtKey, InBody};
 ghost use Rattle.ascii_grid.specs.Scan.{Reaches, IsBody, IsAt, add_token, with_rows, with_read};
@@ -68,6 +69,29 @@ fn add_value(
     Ok(())
 }
 
+// Counts a token of the body that has a value, of which `n` were read; it is in column `x`.
+#[tactic(auto, unfolding(crate::specs::Scan::step, crate::specs::Scan::body_step), using(crate::proofs::Bodies::body_next, crate::proofs::Fronts::counted))]
+fn count_value(
+    shape: &Shape,
+    n: &mut u64,
+    x: &mut u32,
+    rows: &mut Starts,
+    at: u64,
+) -> Result<(), GridFault>
+    requires { IsBody shape.now n.old x.old rows.old }
+    ensures read { (text : List ℕ) → has_value text ≡ true → Reaches (with_read result (record { stage = InBody shape.now n.new x.new; rows = rows.new })) (add_token (record { stage = InBody shape.now n.old x.old; rows = rows.old }) (record { at = at; text = text })) }
+    ensures keeps { IsBody shape.now n.new x.new rows.new }
+    ensures same { OnErr result (rows.new ≡ rows.old) }
+{
+    if *n == needed(shape) {
+        return Err(GridFault::TooMany(at));
+    }
+    begin_row(*x, rows, at)?;
+    *n += 1;
+    *x = column_after(shape, *x);
+    Ok(())
+}
+
 // What a token in a key's place says: a key, or the first value of the body.
 #[tactic(auto, unfolding(crate::specs::Scan::step), using(crate::proofs::Bodies::body_begins))]
 fn after_key(found: Found, rows: &mut Starts, at: u64, text: &[u8]) -> Result<Stage, GridFault>
@@ -123,6 +147,25 @@ pub fn add_token(
 {
     if let Stage::InBody(shape, n, x) = stage {
         return add_value(shape, n, x, rows, at, text);
+    }
+    add_any(stage, rows, at, text)
+}
+
+/// Reads a token that has a value, without looking at it where it is one of the body.
+#[tactic(auto, unfolding(crate::specs::Scan::step))]
+pub fn add_number(
+    stage: &mut Stage,
+    rows: &mut Starts,
+    at: u64,
+    text: &[u8],
+) -> Result<(), GridFault>
+    requires at { IsAt stage.old rows.old }
+    requires value { has_value text.now ≡ true }
+    ensures read { Reaches (with_read result (record { stage = stage.new; rows = rows.new })) (add_token (record { stage = stage.old; rows = rows.old }) (record { at = at; text = text.now })) }
+    ensures keeps { IsAt stage.new rows.new }
+{
+    if let Stage::InBody(shape, n, x) = stage {
+        return count_value(shape, n, x, rows, at);
     }
     add_any(stage, rows, at, text)
 }

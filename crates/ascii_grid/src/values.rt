@@ -1,14 +1,17 @@
 // What a token says.
-ghost use Rattle.std.specs.Prelude.{◌≡◌, ◌≤◌, ◌<◌, true, length, IfSome, ◌+◌, ◌-◌, ◌*◌, ◌==◌, min, Some, None, if◌then◌else◌};
+ghost use Rattle.std.specs.Prelude.{◌≡◌, ◌≤◌, ◌<◌, ℕ, ℤ, true, false, length, take, get_or, IfSome, ◌+◌, ◌-◌, ◌*◌, ◌==◌, min, Some, None, if◌then◌else◌};
 ghost use Rattle.std.specs.List.{list_all};
 ghost use Rattle.std.specs.Char.{is_ascii_digit};
 ghost use Rattle.geotransform.specs.Decimal.{number, signed};
-ghost use Rattle.ascii_grid.specs.Values.{is_same, is_body_start, side_in, coordinate_in, step_in, when_value, nodata_in, is_whole_end, value_in, is_value};
+ghost use Rattle.ascii_grid.specs.Values.{is_same, is_body_start, side_in, coordinate_in, step_in, when_value, nodata_in, is_whole_end, value_in, is_value, has_value};
+ghost use Rattle.ascii_grid.specs.Tokens.{is_white};
+ghost use Rattle.ascii_grid.specs.Row.{value_or_zero};
 
 use crate::faults::GridFault;
 use crate::parts::{Coordinate, Side, Step, Value};
+use crate::tokens::is_white;
 use geotransform::decimal::{digits_at, sign_at};
-use geotransform::{PixelType, Sample, holds, is_decimal, read_decimal, read_number, read_whole};
+use geotransform::{PixelType, holds, is_decimal, read_decimal, read_number, read_whole};
 
 /// Whether two texts differ at most in the case of ASCII letters.
 pub fn is_same(a: &[u8], b: &[u8]) -> bool
@@ -127,48 +130,24 @@ fn capped(digits: &[u8]) -> u64
 }
 
 // The number with this sign and these digits, where it is one of the band.
-fn signed_value(negative: bool, digits: &[u8]) -> Option<Sample>
+fn signed_value(negative: bool, digits: &[u8]) -> Option<i32>
     ensures { result ≡ (if is_value (signed negative (number digits.now)) then Some (signed negative (number digits.now)) else None) }
 {
-    let n = capped(digits) as i128;
+    let n = capped(digits) as i64;
     if negative && n <= 2_147_483_648 {
-        Some(-n)
+        Some(-n as i32)
     } else if !negative && n <= 2_147_483_647 {
-        Some(n)
+        Some(n as i32)
     } else {
         None
     }
 }
 
-// The number that a text of digits alone writes, where it is small and its text short.
-fn plain_number(text: &[u8]) -> Option<u32>
-    ensures digits { IfSome result (λ n. list_all is_ascii_digit text.now ≡ true) }
-    ensures value { IfSome result (λ n. n ≡ number text.now) }
-    ensures small { IfSome result (λ n. n < 2147483648) }
-    ensures some { IfSome result (λ n. 0 < length text.now) }
-    ensures short { IfSome result (λ n. length text.now ≤ 64) }
-{
-    if text.is_empty() || text.len() > 64 {
-        return None;
-    }
-    let mut n = 0u32;
-    for c in text {
-        if !c.is_ascii_digit() || n > 200_000_000 {
-            return None;
-        }
-        n = n * 10 + u32::from(*c - b'0');
-    }
-    Some(n)
-}
-
 /// The value of a token of the body.
 #[tactic(auto, unfolding(crate::specs::Values::value_in))]
-pub fn value_in(at: u64, text: &[u8]) -> Result<Sample, GridFault>
+pub fn value_in(at: u64, text: &[u8]) -> Result<i32, GridFault>
     ensures { result ≡ value_in at text.now }
 {
-    if let Some(n) = plain_number(text) {
-        return Ok(n as Sample);
-    }
     let (negative, rest) = sign_at(text);
     let (digits, end) = digits_at(rest);
     if text.len() <= 64 && !digits.is_empty() && is_whole_end(end) {
@@ -177,5 +156,91 @@ pub fn value_in(at: u64, text: &[u8]) -> Result<Sample, GridFault>
         Err(GridFault::NotInteger(at))
     } else {
         Err(GridFault::BadToken(at))
+    }
+}
+
+// How many bytes the digits in front take, and the number that they write. It ends in front of a digit where
+// the number might grow past Int32.
+fn digits_in(bytes: &[u8]) -> (usize, u32)
+    ensures within { result.0 ≤ length bytes.now }
+    ensures digits { list_all is_ascii_digit (take result.0 bytes.now) ≡ true }
+    ensures value { result.1 ≡ number (take result.0 bytes.now) }
+    ensures small { result.1 ≤ 2000000009 }
+{
+    let mut n = 0u32;
+    for i in 0..bytes.len() {
+        let c = bytes[i];
+        if !c.is_ascii_digit() || n > 200_000_000 {
+            return (i, n);
+        }
+        n = n * 10 + u32::from(c - b'0');
+    }
+    (bytes.len(), n)
+}
+
+// The digits in front, where they are a number below 2^31 and white space stands behind them: how many they
+// are, and the number.
+fn number_at(bytes: &[u8]) -> Option<(usize, u32)>
+    ensures some { IfSome result (λ r. 0 < r.0) }
+    ensures few { IfSome result (λ r. r.0 ≤ 60) }
+    ensures within { IfSome result (λ r. r.0 < length bytes.now) }
+    ensures digits { IfSome result (λ r. list_all is_ascii_digit (take r.0 bytes.now) ≡ true) }
+    ensures value { IfSome result (λ r. r.1 ≡ number (take r.0 bytes.now)) }
+    ensures small { IfSome result (λ r. r.1 < 2147483648) }
+    ensures white { IfSome result (λ r. is_white (get_or bytes.now r.0 0) ≡ true) }
+{
+    let (n, value) = digits_in(bytes);
+    if n > 0 && n <= 60 && n < bytes.len() && is_white(bytes[n]) {
+        Some((n, value))
+    } else {
+        None
+    }
+}
+
+// A number below 2^31 with this sign.
+fn signed_number(negative: bool, n: u32) -> i32
+    requires { n < 2147483648 }
+    ensures { result ≡ signed negative n }
+{
+    let n = n as i32;
+    if negative { -n } else { n }
+}
+
+// So of a minus and the digits behind it: how many bytes they have, and their value.
+fn minus_at(bytes: &[u8]) -> Option<(usize, i32)>
+    requires first { 0 < length bytes.now }
+    requires minus { get_or bytes.now 0 0 ≡ 45 }
+    ensures some { IfSome result (λ r. 0 < r.0) }
+    ensures few { IfSome result (λ r. r.0 ≤ 64) }
+    ensures within { IfSome result (λ r. r.0 < length bytes.now) }
+    ensures dark { IfSome result (λ r. (k : ℕ) → k < r.0 → is_white (get_or bytes.now k 0) ≡ false) }
+    ensures white { IfSome result (λ r. is_white (get_or bytes.now r.0 0) ≡ true) }
+    ensures has { IfSome result (λ r. has_value (take r.0 bytes.now) ≡ true) }
+    ensures value { IfSome result (λ r. r.1 ≡ value_or_zero (take r.0 bytes.now)) }
+{
+    match number_at(&bytes[1..]) {
+        Some((n, value)) => Some((n + 1, signed_number(true, value))),
+        None => None,
+    }
+}
+
+/// The token in front, where it is digits, or a minus and digits, that write a value of the body, and white
+/// space stands behind it: how many bytes it has, and its value.
+#[tactic(auto, using(crate::proofs::Fronts::front_dark, crate::proofs::Fronts::plain_has, crate::proofs::Fronts::plain_value))]
+pub fn value_at(bytes: &[u8]) -> Option<(usize, i32)>
+    ensures some { IfSome result (λ r. 0 < r.0) }
+    ensures few { IfSome result (λ r. r.0 ≤ 64) }
+    ensures within { IfSome result (λ r. r.0 < length bytes.now) }
+    ensures dark { IfSome result (λ r. (k : ℕ) → k < r.0 → is_white (get_or bytes.now k 0) ≡ false) }
+    ensures white { IfSome result (λ r. is_white (get_or bytes.now r.0 0) ≡ true) }
+    ensures has { IfSome result (λ r. has_value (take r.0 bytes.now) ≡ true) }
+    ensures value { IfSome result (λ r. r.1 ≡ value_or_zero (take r.0 bytes.now)) }
+{
+    if bytes.len() > 0 && bytes[0] == b'-' {
+        return minus_at(bytes);
+    }
+    match number_at(bytes) {
+        Some((n, value)) => Some((n, signed_number(false, value))),
+        None => None,
     }
 }
