@@ -2,7 +2,7 @@
 ghost use Rattle.std.specs.Prelude.{◌≡◌, ◌≤◌, ◌<◌, ◌+◌, ◌*◌, ◌^◌, ℕ, List, length, map, replicate, pos, true, IfOk, get_or, slice_index_or, slice_set};
 ghost use Rattle.std.specs.List.{range_with_len, All};
 ghost use Rattle.geotransform.specs.Types.{is_in, clamp};
-ghost use Rattle.geotransform.specs.declared.types.PixelType.TheVariants.{Int16};
+ghost use Rattle.geotransform.specs.declared.types.PixelType.TheVariants.{Int16, Int32};
 ghost use Rattle.interleaved_raw.specs.Raw.{run_of as sample_of, bytes_at, sample_bytes, Holds, IsBetween};
 ghost use Rattle.lists_and_answers.specs.Places.{StandsAt};
 ghost use Rattle.dted_records.specs.Places.{record_len, record_of};
@@ -85,6 +85,17 @@ impl Block {
         let mut block = Block::new(alloc, kind, samples.len() as u32)?;
         block.write_run(0, samples);
         Ok(block)
+    }
+
+    // A block of Int32 whose samples these cells are.
+    pub(crate) fn of_ints(cells: Vec<i32>) -> Block
+        requires few { length cells.items < 2 ^ 32 }
+        requires range { AreIn Int32 cells.items }
+        ensures samples { result ≡ block_view Int32 cells.items }
+    {
+        Block {
+            cells: Cells::Ints32(cells),
+        }
     }
 
     // Puts as many samples as the block has, each clamped to the range of its type.

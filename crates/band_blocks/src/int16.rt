@@ -1,13 +1,15 @@
 // The elevations of records and the samples of tiles, read straight into cells of 16 bits and written from them.
-ghost use Rattle.std.specs.Prelude.{◌≡◌, ◌<◌, ◌≤◌, ◌+◌, ◌*◌, length, map, true};
+ghost use Rattle.std.specs.Prelude.{◌≡◌, ◌<◌, ◌≤◌, ◌+◌, ◌*◌, ℕ, List, length, map, true};
 ghost use Rattle.std.specs.List.{range_with_len, All};
 ghost use Rattle.byteorder.specs.Endian.{big_bytes};
 ghost use Rattle.geotransform.specs.Types.{is_in};
 ghost use Rattle.geotransform.specs.declared.types.PixelType.TheVariants.{Int16};
-ghost use Rattle.dted_records.specs.Places.{record_len};
-ghost use Rattle.dted_records.specs.Records.{elevation, elevation_in, two_at};
+ghost use Rattle.dted_records.specs.Head as dted;
+ghost use Rattle.dted_records.specs.Places.{record_len, record_of};
+ghost use Rattle.dted_records.specs.Records.{dted_at, elevation, elevation_in, point_of, two_at};
 ghost use Rattle.dted_records.specs.Written.{IsElevation, bits_of, elevation_bytes, front_bytes, points_bytes, record_bytes, summed_bytes};
-ghost use Rattle.hgt_tiles.specs.Samples.{item_of, row_bytes, row_of, sample_bytes};
+ghost use Rattle.hgt_tiles.specs.Samples.{hgt_at, item_of, row_bytes, row_of, sample_bytes};
+ghost use Rattle.lists_and_answers.specs.Places.{StandsAt};
 ghost use Rattle.band_blocks.specs.Blocks.{AreIn};
 
 use byteorder::{BigEndian, ByteOrder};
@@ -44,6 +46,15 @@ fn elevation_at(head: &DtedHead, bytes: &[u8], y: usize) -> i16
     elevation(two_at(bytes, 8 + 2 * point))
 }
 
+// The elevation that two bytes give, which is that of a column and a line where they stand at its place.
+pub(crate) fn single_elevation(bytes: &[u8]) -> i16
+    requires two { length bytes.now ≡ 2 }
+    ensures file { (h : dted.Head) (file : List ℕ) (x y : ℕ) → StandsAt file bytes.now (record_of h x + point_of h y) → result ≡ dted_at h file x y }
+    ensures range { is_in Int16 result ≡ true }
+{
+    elevation(two_at(bytes, 0))
+}
+
 // Reads the elevations of a record, from north to south, into as many cells.
 pub(crate) fn decode_elevations(head: &DtedHead, bytes: &[u8], cells: &mut [i16])
     requires len { length bytes.now ≡ record_len head.now }
@@ -64,6 +75,15 @@ fn item_at(bytes: &[u8], i: usize) -> i16
 {
     let at = i * 2;
     BigEndian::read_i16(&bytes[at..at + 2])
+}
+
+// The sample that two bytes give, which is that of a column and a line where they stand at its place.
+pub(crate) fn single_item(bytes: &[u8]) -> i16
+    requires two { length bytes.now ≡ 2 }
+    ensures file { (side : ℕ) (file : List ℕ) (x y : ℕ) → StandsAt file bytes.now (2 * (y * side + x)) → result ≡ hgt_at side file x y }
+    ensures range { is_in Int16 result ≡ true }
+{
+    item_at(bytes, 0)
 }
 
 // Reads the samples of a tile, two bytes each, into as many cells.
