@@ -1,14 +1,14 @@
 // The bands of an output.
 use crate::asking::{Inside, Out, Seen, Word};
 use crate::plans::{Row, Want, wrong_row};
-use crate::sources::THREE;
+use crate::sources::Source;
 use geotransform::{PixelType, PlanFault};
 use std::test::*;
 
 /// Types, NODATA and places of bands: Byte with 9, Int16 with -5, UInt16 with 9.
 const BANDS: [Row<'static>; 14] = [
     (
-        THREE,
+        Source::Three,
         (
             Out::Raw,
             "o.bil",
@@ -30,7 +30,7 @@ const BANDS: [Row<'static>; 14] = [
         ),
     ),
     (
-        THREE,
+        Source::Three,
         (
             Out::Raw,
             "o.bil",
@@ -48,7 +48,7 @@ const BANDS: [Row<'static>; 14] = [
         ),
     ),
     (
-        THREE,
+        Source::Three,
         (
             Out::Raw,
             "o.bil",
@@ -66,7 +66,7 @@ const BANDS: [Row<'static>; 14] = [
         ),
     ),
     (
-        THREE,
+        Source::Three,
         (
             Out::Raw,
             "o.bil",
@@ -84,7 +84,7 @@ const BANDS: [Row<'static>; 14] = [
         ),
     ),
     (
-        THREE,
+        Source::Three,
         (
             Out::Raw,
             "o.bil",
@@ -98,7 +98,7 @@ const BANDS: [Row<'static>; 14] = [
         Want::Planned((5, 1), (0, 0, 5, 1), &[(1, PixelType::Int16, Some(-5))]),
     ),
     (
-        THREE,
+        Source::Three,
         (
             Out::Raw,
             "o.bil",
@@ -119,7 +119,7 @@ const BANDS: [Row<'static>; 14] = [
         ),
     ),
     (
-        THREE,
+        Source::Three,
         (
             Out::Raw,
             "o.bil",
@@ -141,7 +141,7 @@ const BANDS: [Row<'static>; 14] = [
         ),
     ),
     (
-        THREE,
+        Source::Three,
         (
             Out::Raw,
             "o.bil",
@@ -163,7 +163,7 @@ const BANDS: [Row<'static>; 14] = [
         ),
     ),
     (
-        THREE,
+        Source::Three,
         (
             Out::Raw,
             "o.bil",
@@ -184,7 +184,7 @@ const BANDS: [Row<'static>; 14] = [
         ),
     ),
     (
-        THREE,
+        Source::Three,
         (
             Out::Mosaic,
             "o.vrt",
@@ -206,7 +206,7 @@ const BANDS: [Row<'static>; 14] = [
         ),
     ),
     (
-        THREE,
+        Source::Three,
         (
             Out::Mosaic,
             "o.vrt",
@@ -228,7 +228,7 @@ const BANDS: [Row<'static>; 14] = [
         ),
     ),
     (
-        THREE,
+        Source::Three,
         (
             Out::Mosaic,
             "o.vrt",
@@ -246,7 +246,7 @@ const BANDS: [Row<'static>; 14] = [
         ),
     ),
     (
-        THREE,
+        Source::Three,
         (
             Out::Grid,
             "o.asc",
@@ -260,7 +260,7 @@ const BANDS: [Row<'static>; 14] = [
         Want::Planned((5, 1), (0, 0, 5, 1), &[(1, PixelType::Int16, Some(-5))]),
     ),
     (
-        THREE,
+        Source::Three,
         (
             Out::Raw,
             "o.bil",

@@ -1,17 +1,17 @@
 // The headers of raw data that is planned.
 use crate::asking::{Ask, Inside, Out, Seen, Word, head, options};
-use crate::sources::{FIVE, PLACED};
+use crate::sources::{Source, text_of};
 use esri_hdr::write;
 use std::alloc::{AllocError, Global};
 use std::test::*;
 use translate_plan::{Driver, Plan, plan};
 
-/// The text of the source, what is asked for, and the header.
-type Row<'a> = (&'a str, Ask<'a>, &'a [u8]);
+/// The source, what is asked for, and the header.
+type Row<'a> = (Source, Ask<'a>, &'a [u8]);
 
 const HEADERS: [Row<'static>; 2] = [
     (
-        FIVE,
+        Source::Five,
         (
             Out::Raw,
             "o.bil",
@@ -27,7 +27,7 @@ const HEADERS: [Row<'static>; 2] = [
         PIXELTYPE      UNSIGNEDINT\nNODATA         9\n",
     ),
     (
-        PLACED,
+        Source::Placed,
         (
             Out::Raw,
             "o.bil",
@@ -56,18 +56,18 @@ fn is_written(alloc: Global, plan: &Plan, wanted: &[u8]) -> Result<bool, AllocEr
 }
 
 fn row_holds(alloc: Global, row: Row<'_>) -> Result<bool, Fail> {
-    let (text, ask, wanted) = row;
+    let (source, ask, wanted) = row;
     let options = options(alloc, ask)?;
-    let head = head(alloc, text)?;
+    let head = head(alloc, text_of(source))?;
     match plan(&options, &head) {
         Ok(plan) => Ok(is_written(alloc, &plan, wanted)?),
         Err(_) => Ok(false),
     }
 }
 
-fn wrong_row(alloc: Global) -> Result<Option<usize>, Fail> {
-    for at in 0..HEADERS.len() {
-        if !row_holds(alloc, HEADERS[at])? {
+fn wrong_row(alloc: Global, rows: &[Row<'_>]) -> Result<Option<usize>, Fail> {
+    for at in 0..rows.len() {
+        if !row_holds(alloc, rows[at])? {
             return Ok(Some(at));
         }
     }
@@ -76,6 +76,6 @@ fn wrong_row(alloc: Global) -> Result<Option<usize>, Fail> {
 
 #[test]
 fn heads_of_raw_data(rt: HostRuntime) -> Result<(), Fail> {
-    assert_eq!(rt; wrong_row(rt.alloc())?, None);
+    assert_eq!(rt; wrong_row(rt.alloc(), &HEADERS)?, None);
     Ok(())
 }

@@ -1,14 +1,14 @@
 // Which types and which NODATA the formats hold.
 use crate::asking::{Inside, Out, Seen, Word};
 use crate::plans::{Row, Want, wrong_row};
-use crate::sources::{CELL, FIVE, THREE, TILE, WIDE};
+use crate::sources::Source;
 use geotransform::{PixelType, PlanFault};
 use std::test::*;
 
 /// Types and NODATA that are asked for.
 const NUMBERS: [Row<'static>; 20] = [
     (
-        CELL,
+        Source::Cell,
         (
             Out::Cell(0),
             "o.dt0",
@@ -26,7 +26,7 @@ const NUMBERS: [Row<'static>; 20] = [
         ),
     ),
     (
-        CELL,
+        Source::Cell,
         (
             Out::Cell(0),
             "o.dt0",
@@ -40,7 +40,7 @@ const NUMBERS: [Row<'static>; 20] = [
         Want::Refused(PlanFault::Unfit),
     ),
     (
-        TILE,
+        Source::Tile,
         (
             Out::Tile,
             "N00E000.hgt",
@@ -54,7 +54,7 @@ const NUMBERS: [Row<'static>; 20] = [
         Want::Refused(PlanFault::Unfit),
     ),
     (
-        CELL,
+        Source::Cell,
         (
             Out::Cell(0),
             "o.dt0",
@@ -68,7 +68,7 @@ const NUMBERS: [Row<'static>; 20] = [
         Want::Refused(PlanFault::Unfit),
     ),
     (
-        CELL,
+        Source::Cell,
         (
             Out::Cell(0),
             "o.dt0",
@@ -82,7 +82,7 @@ const NUMBERS: [Row<'static>; 20] = [
         Want::Refused(PlanFault::Unfit),
     ),
     (
-        CELL,
+        Source::Cell,
         (
             Out::Cell(0),
             "o.dt0",
@@ -100,7 +100,7 @@ const NUMBERS: [Row<'static>; 20] = [
         ),
     ),
     (
-        TILE,
+        Source::Tile,
         (
             Out::Tile,
             "N00E000.hgt",
@@ -114,7 +114,7 @@ const NUMBERS: [Row<'static>; 20] = [
         Want::Refused(PlanFault::Unfit),
     ),
     (
-        TILE,
+        Source::Tile,
         (
             Out::Tile,
             "N00E000.hgt",
@@ -128,7 +128,7 @@ const NUMBERS: [Row<'static>; 20] = [
         Want::Refused(PlanFault::Unfit),
     ),
     (
-        TILE,
+        Source::Tile,
         (
             Out::Tile,
             "N00E000.hgt",
@@ -146,7 +146,7 @@ const NUMBERS: [Row<'static>; 20] = [
         ),
     ),
     (
-        WIDE,
+        Source::Wide,
         (
             Out::Grid,
             "o.asc",
@@ -160,7 +160,7 @@ const NUMBERS: [Row<'static>; 20] = [
         Want::Refused(PlanFault::Unfit),
     ),
     (
-        WIDE,
+        Source::Wide,
         (
             Out::Grid,
             "o.asc",
@@ -174,7 +174,7 @@ const NUMBERS: [Row<'static>; 20] = [
         Want::Planned((5, 1), (0, 0, 5, 1), &[(0, PixelType::Int32, None)]),
     ),
     (
-        FIVE,
+        Source::Five,
         (
             Out::Grid,
             "o.asc",
@@ -188,7 +188,7 @@ const NUMBERS: [Row<'static>; 20] = [
         Want::Refused(PlanFault::Unfit),
     ),
     (
-        WIDE,
+        Source::Wide,
         (
             Out::Raw,
             "o.bil",
@@ -206,7 +206,7 @@ const NUMBERS: [Row<'static>; 20] = [
         ),
     ),
     (
-        FIVE,
+        Source::Five,
         (
             Out::Raw,
             "o.bil",
@@ -220,7 +220,7 @@ const NUMBERS: [Row<'static>; 20] = [
         Want::Refused(PlanFault::Unfit),
     ),
     (
-        FIVE,
+        Source::Five,
         (
             Out::Raw,
             "o.bil",
@@ -234,7 +234,7 @@ const NUMBERS: [Row<'static>; 20] = [
         Want::Planned((5, 1), (0, 0, 5, 1), &[(0, PixelType::Byte, Some(255))]),
     ),
     (
-        FIVE,
+        Source::Five,
         (
             Out::Raw,
             "o.bil",
@@ -248,7 +248,7 @@ const NUMBERS: [Row<'static>; 20] = [
         Want::Refused(PlanFault::Unfit),
     ),
     (
-        FIVE,
+        Source::Five,
         (
             Out::Raw,
             "o.bil",
@@ -262,7 +262,7 @@ const NUMBERS: [Row<'static>; 20] = [
         Want::Planned((5, 1), (0, 0, 5, 1), &[(0, PixelType::Int16, Some(-1))]),
     ),
     (
-        FIVE,
+        Source::Five,
         (
             Out::Raw,
             "o.bil",
@@ -276,7 +276,7 @@ const NUMBERS: [Row<'static>; 20] = [
         Want::Refused(PlanFault::Unfit),
     ),
     (
-        THREE,
+        Source::Three,
         (
             Out::Mosaic,
             "o.vrt",
@@ -290,7 +290,7 @@ const NUMBERS: [Row<'static>; 20] = [
         Want::Refused(PlanFault::Unfit),
     ),
     (
-        THREE,
+        Source::Three,
         (
             Out::Mosaic,
             "o.vrt",

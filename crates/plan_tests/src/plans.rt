@@ -1,5 +1,6 @@
 // What is planned, beside what is to be.
 use crate::asking::{Ask, head, options};
+use crate::sources::{Source, text_of};
 use geotransform::{PixelType, PlanFault, Sample};
 use std::alloc::Global;
 use std::test::*;
@@ -54,13 +55,13 @@ fn agrees(planned: Result<Plan, PlanFault>, want: Want<'_>) -> bool {
     }
 }
 
-/// The text of the source, what is asked for, and what is planned.
-pub type Row<'a> = (&'a str, Ask<'a>, Want<'a>);
+/// The source, what is asked for, and what is planned.
+pub type Row<'a> = (Source, Ask<'a>, Want<'a>);
 
 fn row_holds(alloc: Global, row: Row<'_>) -> Result<bool, Fail> {
-    let (text, ask, want) = row;
+    let (source, ask, want) = row;
     let options = options(alloc, ask)?;
-    let head = head(alloc, text)?;
+    let head = head(alloc, text_of(source))?;
     Ok(agrees(plan(&options, &head), want))
 }
 

@@ -1,14 +1,14 @@
 // Which rasters the formats hold.
 use crate::asking::{Inside, Out, Seen, Word};
 use crate::plans::{Row, Want, wrong_row};
-use crate::sources::{CELL, EAST, FAR, NORTH, NORTHWARD, SMALL, TILE, TWO, WESTWARD};
+use crate::sources::Source;
 use geotransform::{PixelType, PlanFault};
 use std::test::*;
 
 /// Rasters by their geotransform and size, and the names of tiles.
 const RASTERS: [Row<'static>; 33] = [
     (
-        WESTWARD,
+        Source::Westward,
         (
             Out::Raw,
             "o.bil",
@@ -22,7 +22,7 @@ const RASTERS: [Row<'static>; 33] = [
         Want::Refused(PlanFault::Unfit),
     ),
     (
-        NORTHWARD,
+        Source::Northward,
         (
             Out::Raw,
             "o.bil",
@@ -36,7 +36,7 @@ const RASTERS: [Row<'static>; 33] = [
         Want::Refused(PlanFault::Unfit),
     ),
     (
-        WESTWARD,
+        Source::Westward,
         (
             Out::Grid,
             "o.asc",
@@ -50,7 +50,7 @@ const RASTERS: [Row<'static>; 33] = [
         Want::Refused(PlanFault::Unfit),
     ),
     (
-        NORTHWARD,
+        Source::Northward,
         (
             Out::Grid,
             "o.asc",
@@ -64,7 +64,7 @@ const RASTERS: [Row<'static>; 33] = [
         Want::Refused(PlanFault::Unfit),
     ),
     (
-        WESTWARD,
+        Source::Westward,
         (
             Out::Mosaic,
             "o.vrt",
@@ -78,7 +78,7 @@ const RASTERS: [Row<'static>; 33] = [
         Want::Planned((2, 2), (0, 0, 2, 2), &[(0, PixelType::Byte, None)]),
     ),
     (
-        NORTHWARD,
+        Source::Northward,
         (
             Out::Mosaic,
             "o.vrt",
@@ -92,7 +92,7 @@ const RASTERS: [Row<'static>; 33] = [
         Want::Planned((2, 2), (0, 0, 2, 2), &[(0, PixelType::Byte, None)]),
     ),
     (
-        SMALL,
+        Source::Small,
         (
             Out::Raw,
             "o.bil",
@@ -106,7 +106,7 @@ const RASTERS: [Row<'static>; 33] = [
         Want::Planned((2, 1), (0, 0, 1, 1), &[(0, PixelType::Byte, None)]),
     ),
     (
-        SMALL,
+        Source::Small,
         (
             Out::Raw,
             "o.bil",
@@ -120,7 +120,7 @@ const RASTERS: [Row<'static>; 33] = [
         Want::Refused(PlanFault::Unfit),
     ),
     (
-        SMALL,
+        Source::Small,
         (
             Out::Raw,
             "o.bil",
@@ -134,7 +134,7 @@ const RASTERS: [Row<'static>; 33] = [
         Want::Refused(PlanFault::Unfit),
     ),
     (
-        SMALL,
+        Source::Small,
         (
             Out::Grid,
             "o.asc",
@@ -148,7 +148,7 @@ const RASTERS: [Row<'static>; 33] = [
         Want::Refused(PlanFault::Unfit),
     ),
     (
-        SMALL,
+        Source::Small,
         (
             Out::Grid,
             "o.asc",
@@ -162,7 +162,7 @@ const RASTERS: [Row<'static>; 33] = [
         Want::Planned((2, 1), (0, 0, 1, 1), &[(0, PixelType::Byte, None)]),
     ),
     (
-        SMALL,
+        Source::Small,
         (
             Out::Mosaic,
             "o.vrt",
@@ -176,7 +176,7 @@ const RASTERS: [Row<'static>; 33] = [
         Want::Refused(PlanFault::Limit),
     ),
     (
-        EAST,
+        Source::East,
         (
             Out::Raw,
             "o.bil",
@@ -190,7 +190,7 @@ const RASTERS: [Row<'static>; 33] = [
         Want::Refused(PlanFault::Unfit),
     ),
     (
-        EAST,
+        Source::East,
         (
             Out::Grid,
             "o.asc",
@@ -204,7 +204,7 @@ const RASTERS: [Row<'static>; 33] = [
         Want::Planned((1, 1), (0, 0, 1, 1), &[(0, PixelType::Byte, None)]),
     ),
     (
-        EAST,
+        Source::East,
         (
             Out::Mosaic,
             "o.vrt",
@@ -218,7 +218,7 @@ const RASTERS: [Row<'static>; 33] = [
         Want::Planned((1, 1), (0, 0, 1, 1), &[(0, PixelType::Byte, None)]),
     ),
     (
-        NORTH,
+        Source::North,
         (
             Out::Raw,
             "o.bil",
@@ -232,7 +232,7 @@ const RASTERS: [Row<'static>; 33] = [
         Want::Refused(PlanFault::Unfit),
     ),
     (
-        NORTH,
+        Source::North,
         (
             Out::Grid,
             "o.asc",
@@ -246,7 +246,7 @@ const RASTERS: [Row<'static>; 33] = [
         Want::Planned((1, 1), (0, 0, 1, 1), &[(0, PixelType::Byte, None)]),
     ),
     (
-        FAR,
+        Source::Far,
         (
             Out::Raw,
             "o.bil",
@@ -260,7 +260,7 @@ const RASTERS: [Row<'static>; 33] = [
         Want::Planned((1, 1), (0, 0, 1, 1), &[(0, PixelType::Byte, None)]),
     ),
     (
-        CELL,
+        Source::Cell,
         (
             Out::Cell(0),
             "o.dt0",
@@ -278,7 +278,7 @@ const RASTERS: [Row<'static>; 33] = [
         ),
     ),
     (
-        CELL,
+        Source::Cell,
         (
             Out::Cell(1),
             "o.dt1",
@@ -292,7 +292,7 @@ const RASTERS: [Row<'static>; 33] = [
         Want::Refused(PlanFault::Unfit),
     ),
     (
-        CELL,
+        Source::Cell,
         (
             Out::Cell(0),
             "o.dt0",
@@ -306,7 +306,7 @@ const RASTERS: [Row<'static>; 33] = [
         Want::Refused(PlanFault::Unfit),
     ),
     (
-        CELL,
+        Source::Cell,
         (
             Out::Cell(0),
             "o.dt0",
@@ -320,7 +320,7 @@ const RASTERS: [Row<'static>; 33] = [
         Want::Refused(PlanFault::Unfit),
     ),
     (
-        CELL,
+        Source::Cell,
         (
             Out::Tile,
             "N00E000.hgt",
@@ -334,7 +334,7 @@ const RASTERS: [Row<'static>; 33] = [
         Want::Refused(PlanFault::Unfit),
     ),
     (
-        TWO,
+        Source::Two,
         (
             Out::Cell(0),
             "o.dt0",
@@ -348,7 +348,7 @@ const RASTERS: [Row<'static>; 33] = [
         Want::Refused(PlanFault::Unfit),
     ),
     (
-        TWO,
+        Source::Two,
         (
             Out::Tile,
             "N00E000.hgt",
@@ -362,7 +362,7 @@ const RASTERS: [Row<'static>; 33] = [
         Want::Refused(PlanFault::Unfit),
     ),
     (
-        TWO,
+        Source::Two,
         (
             Out::Grid,
             "o.asc",
@@ -376,7 +376,7 @@ const RASTERS: [Row<'static>; 33] = [
         Want::Planned((2, 2), (0, 0, 2, 2), &[(0, PixelType::Int32, None)]),
     ),
     (
-        TILE,
+        Source::Tile,
         (
             Out::Tile,
             "N00E000.hgt",
@@ -394,7 +394,7 @@ const RASTERS: [Row<'static>; 33] = [
         ),
     ),
     (
-        TILE,
+        Source::Tile,
         (
             Out::Tile,
             "n00e000.hgt",
@@ -412,7 +412,7 @@ const RASTERS: [Row<'static>; 33] = [
         ),
     ),
     (
-        TILE,
+        Source::Tile,
         (
             Out::Tile,
             "a/N00e000.hgt",
@@ -430,7 +430,7 @@ const RASTERS: [Row<'static>; 33] = [
         ),
     ),
     (
-        TILE,
+        Source::Tile,
         (
             Out::Tile,
             "N00E001.hgt",
@@ -444,7 +444,7 @@ const RASTERS: [Row<'static>; 33] = [
         Want::Refused(PlanFault::Unfit),
     ),
     (
-        TILE,
+        Source::Tile,
         (
             Out::Tile,
             "N00E000x.hgt",
@@ -458,7 +458,7 @@ const RASTERS: [Row<'static>; 33] = [
         Want::Refused(PlanFault::Unfit),
     ),
     (
-        TILE,
+        Source::Tile,
         (
             Out::Tile,
             "N00E000.hgt.hgt",
@@ -472,7 +472,7 @@ const RASTERS: [Row<'static>; 33] = [
         Want::Refused(PlanFault::Unfit),
     ),
     (
-        TILE,
+        Source::Tile,
         (
             Out::Cell(1),
             "o.dt1",

@@ -1,7 +1,7 @@
 // Windows between places, and which check refuses first.
 use crate::asking::{Inside, Out, Seen, Word};
 use crate::plans::{Row, Want, wrong_row};
-use crate::sources::{FAR, FIVE, PAIR, TEN};
+use crate::sources::Source;
 use geotransform::{PixelType, PlanFault};
 use std::test::*;
 
@@ -14,7 +14,7 @@ const ALL_ONES: [u8; 256] = [1; 256];
 /// more than one check refuses.
 const PLACES: [Row<'static>; 28] = [
     (
-        TEN,
+        Source::Ten,
         (
             Out::Raw,
             "o.bil",
@@ -28,7 +28,7 @@ const PLACES: [Row<'static>; 28] = [
         Want::Planned((3, 2), (2, 2, 3, 2), &[(0, PixelType::Byte, None)]),
     ),
     (
-        TEN,
+        Source::Ten,
         (
             Out::Raw,
             "o.bil",
@@ -42,7 +42,7 @@ const PLACES: [Row<'static>; 28] = [
         Want::Planned((3, 2), (1, 2, 3, 2), &[(0, PixelType::Byte, None)]),
     ),
     (
-        TEN,
+        Source::Ten,
         (
             Out::Raw,
             "o.bil",
@@ -56,7 +56,7 @@ const PLACES: [Row<'static>; 28] = [
         Want::Planned((3, 2), (2, 2, 3, 2), &[(0, PixelType::Byte, None)]),
     ),
     (
-        TEN,
+        Source::Ten,
         (
             Out::Raw,
             "o.bil",
@@ -70,7 +70,7 @@ const PLACES: [Row<'static>; 28] = [
         Want::Planned((3, 2), (1, 1, 3, 2), &[(0, PixelType::Byte, None)]),
     ),
     (
-        TEN,
+        Source::Ten,
         (
             Out::Raw,
             "o.bil",
@@ -84,7 +84,7 @@ const PLACES: [Row<'static>; 28] = [
         Want::Planned((3, 2), (0, 0, 3, 2), &[(0, PixelType::Byte, None)]),
     ),
     (
-        TEN,
+        Source::Ten,
         (
             Out::Raw,
             "o.bil",
@@ -98,7 +98,7 @@ const PLACES: [Row<'static>; 28] = [
         Want::Planned((2, 1), (0, 0, 2, 1), &[(0, PixelType::Byte, None)]),
     ),
     (
-        TEN,
+        Source::Ten,
         (
             Out::Raw,
             "o.bil",
@@ -112,7 +112,7 @@ const PLACES: [Row<'static>; 28] = [
         Want::Planned((2, 1), (-2, -1, 2, 1), &[(0, PixelType::Byte, None)]),
     ),
     (
-        TEN,
+        Source::Ten,
         (
             Out::Raw,
             "o.bil",
@@ -126,7 +126,7 @@ const PLACES: [Row<'static>; 28] = [
         Want::Refused(PlanFault::EmptyWindow),
     ),
     (
-        TEN,
+        Source::Ten,
         (
             Out::Raw,
             "o.bil",
@@ -140,7 +140,7 @@ const PLACES: [Row<'static>; 28] = [
         Want::Refused(PlanFault::EmptyWindow),
     ),
     (
-        TEN,
+        Source::Ten,
         (
             Out::Raw,
             "o.bil",
@@ -154,7 +154,7 @@ const PLACES: [Row<'static>; 28] = [
         Want::Refused(PlanFault::Limit),
     ),
     (
-        TEN,
+        Source::Ten,
         (
             Out::Raw,
             "o.bil",
@@ -168,7 +168,7 @@ const PLACES: [Row<'static>; 28] = [
         Want::Refused(PlanFault::Outside),
     ),
     (
-        FIVE,
+        Source::Five,
         (
             Out::Raw,
             "o.bil",
@@ -182,7 +182,7 @@ const PLACES: [Row<'static>; 28] = [
         Want::Refused(PlanFault::NoGeo),
     ),
     (
-        FIVE,
+        Source::Five,
         (
             Out::Raw,
             "o.bil",
@@ -196,7 +196,7 @@ const PLACES: [Row<'static>; 28] = [
         Want::Refused(PlanFault::NoBand(2)),
     ),
     (
-        FIVE,
+        Source::Five,
         (
             Out::Raw,
             "o.bil",
@@ -210,7 +210,7 @@ const PLACES: [Row<'static>; 28] = [
         Want::Refused(PlanFault::NoBand(7)),
     ),
     (
-        FIVE,
+        Source::Five,
         (
             Out::Raw,
             "o.bil",
@@ -224,7 +224,7 @@ const PLACES: [Row<'static>; 28] = [
         Want::Refused(PlanFault::EmptyWindow),
     ),
     (
-        FIVE,
+        Source::Five,
         (
             Out::Raw,
             "o.bil",
@@ -238,7 +238,7 @@ const PLACES: [Row<'static>; 28] = [
         Want::Refused(PlanFault::Outside),
     ),
     (
-        PAIR,
+        Source::Pair,
         (
             Out::Cell(0),
             "o.dt0",
@@ -252,7 +252,7 @@ const PLACES: [Row<'static>; 28] = [
         Want::Refused(PlanFault::EmptyWindow),
     ),
     (
-        PAIR,
+        Source::Pair,
         (
             Out::Cell(0),
             "o.dt0",
@@ -266,7 +266,7 @@ const PLACES: [Row<'static>; 28] = [
         Want::Refused(PlanFault::BandCount),
     ),
     (
-        PAIR,
+        Source::Pair,
         (
             Out::Tile,
             "N00E000.hgt",
@@ -280,7 +280,7 @@ const PLACES: [Row<'static>; 28] = [
         Want::Refused(PlanFault::BandCount),
     ),
     (
-        PAIR,
+        Source::Pair,
         (
             Out::Grid,
             "o.asc",
@@ -294,7 +294,7 @@ const PLACES: [Row<'static>; 28] = [
         Want::Refused(PlanFault::BandCount),
     ),
     (
-        PAIR,
+        Source::Pair,
         (
             Out::Grid,
             "o.asc",
@@ -308,7 +308,7 @@ const PLACES: [Row<'static>; 28] = [
         Want::Planned((5, 1), (0, 0, 5, 1), &[(1, PixelType::Byte, None)]),
     ),
     (
-        FIVE,
+        Source::Five,
         (
             Out::Raw,
             "o.bil",
@@ -322,7 +322,7 @@ const PLACES: [Row<'static>; 28] = [
         Want::Refused(PlanFault::Limit),
     ),
     (
-        FIVE,
+        Source::Five,
         (
             Out::Cell(0),
             "o.dt0",
@@ -336,7 +336,7 @@ const PLACES: [Row<'static>; 28] = [
         Want::Refused(PlanFault::Limit),
     ),
     (
-        FIVE,
+        Source::Five,
         (
             Out::Cell(0),
             "o.dt0",
@@ -350,7 +350,7 @@ const PLACES: [Row<'static>; 28] = [
         Want::Refused(PlanFault::BandCount),
     ),
     (
-        FIVE,
+        Source::Five,
         (
             Out::Cell(0),
             "o.dt0",
@@ -364,7 +364,7 @@ const PLACES: [Row<'static>; 28] = [
         Want::Refused(PlanFault::NoGeo),
     ),
     (
-        FIVE,
+        Source::Five,
         (
             Out::Tile,
             "N00E000.hgt",
@@ -378,7 +378,7 @@ const PLACES: [Row<'static>; 28] = [
         Want::Refused(PlanFault::NoGeo),
     ),
     (
-        FAR,
+        Source::Far,
         (
             Out::Raw,
             "o.bil",
@@ -392,7 +392,7 @@ const PLACES: [Row<'static>; 28] = [
         Want::Refused(PlanFault::Limit),
     ),
     (
-        FAR,
+        Source::Far,
         (
             Out::Cell(0),
             "o.dt0",

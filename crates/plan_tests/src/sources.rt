@@ -1,13 +1,54 @@
 // The sources of plans, as documents without sources of their own.
 
+/// A source, as tables name it: a table that has a long text in each of its rows takes long to be proved.
+#[derive(Clone, Copy)]
+pub enum Source {
+    Five,
+    Pair,
+    Three,
+    Wide,
+    Ten,
+    Two,
+    Placed,
+    Westward,
+    Northward,
+    Small,
+    East,
+    North,
+    Far,
+    Cell,
+    Tile,
+}
+
+/// The text of a source.
+pub fn text_of(source: Source) -> &'static str {
+    match source {
+        Source::Five => FIVE,
+        Source::Pair => PAIR,
+        Source::Three => THREE,
+        Source::Wide => WIDE,
+        Source::Ten => TEN,
+        Source::Two => TWO,
+        Source::Placed => PLACED,
+        Source::Westward => WESTWARD,
+        Source::Northward => NORTHWARD,
+        Source::Small => SMALL,
+        Source::East => EAST,
+        Source::North => NORTH,
+        Source::Far => FAR,
+        Source::Cell => CELL,
+        Source::Tile => TILE,
+    }
+}
+
 /// Five columns and one line of bytes.
-pub const FIVE: &str = "<VRTDataset rasterXSize=\"5\" rasterYSize=\"1\">\
+const FIVE: &str = "<VRTDataset rasterXSize=\"5\" rasterYSize=\"1\">\
     <VRTRasterBand dataType=\"Byte\">\
     </VRTRasterBand>\
     </VRTDataset>";
 
 /// The same with two bands.
-pub const PAIR: &str = "<VRTDataset rasterXSize=\"5\" rasterYSize=\"1\">\
+const PAIR: &str = "<VRTDataset rasterXSize=\"5\" rasterYSize=\"1\">\
     <VRTRasterBand dataType=\"Byte\">\
     </VRTRasterBand>\
     <VRTRasterBand dataType=\"Byte\">\
@@ -28,21 +69,21 @@ pub const THREE: &str = "<VRTDataset rasterXSize=\"5\" rasterYSize=\"1\">\
     </VRTDataset>";
 
 /// A band of UInt32 with its greatest number as NODATA.
-pub const WIDE: &str = "<VRTDataset rasterXSize=\"5\" rasterYSize=\"1\">\
+const WIDE: &str = "<VRTDataset rasterXSize=\"5\" rasterYSize=\"1\">\
     <VRTRasterBand dataType=\"UInt32\">\
     <NoDataValue>4294967295</NoDataValue>\
     </VRTRasterBand>\
     </VRTDataset>";
 
 /// Ten columns and lines of one unit, whose upper left corner is (0, 10).
-pub const TEN: &str = "<VRTDataset rasterXSize=\"10\" rasterYSize=\"10\">\
+const TEN: &str = "<VRTDataset rasterXSize=\"10\" rasterYSize=\"10\">\
     <GeoTransform>0,1,0,10,0,-1</GeoTransform>\
     <VRTRasterBand dataType=\"Byte\">\
     </VRTRasterBand>\
     </VRTDataset>";
 
 /// Two columns and lines of two units.
-pub const TWO: &str = "<VRTDataset rasterXSize=\"2\" rasterYSize=\"2\">\
+const TWO: &str = "<VRTDataset rasterXSize=\"2\" rasterYSize=\"2\">\
     <GeoTransform>9,2,0,23,0,-2</GeoTransform>\
     <VRTRasterBand dataType=\"Int32\">\
     </VRTRasterBand>\
@@ -55,49 +96,49 @@ pub const PLACED: &str = "<VRTDataset rasterXSize=\"2\" rasterYSize=\"3\">\
     <VRTRasterBand dataType=\"Int16\"></VRTRasterBand></VRTDataset>";
 
 /// Columns that go west.
-pub const WESTWARD: &str = "<VRTDataset rasterXSize=\"2\" rasterYSize=\"2\">\
+const WESTWARD: &str = "<VRTDataset rasterXSize=\"2\" rasterYSize=\"2\">\
     <GeoTransform>0,-1,0,0,0,-1</GeoTransform>\
     <VRTRasterBand dataType=\"Byte\">\
     </VRTRasterBand>\
     </VRTDataset>";
 
 /// Lines that go north.
-pub const NORTHWARD: &str = "<VRTDataset rasterXSize=\"2\" rasterYSize=\"2\">\
+const NORTHWARD: &str = "<VRTDataset rasterXSize=\"2\" rasterYSize=\"2\">\
     <GeoTransform>0,1,0,0,0,1</GeoTransform>\
     <VRTRasterBand dataType=\"Byte\">\
     </VRTRasterBand>\
     </VRTDataset>";
 
 /// A pixel with the least sides of 16 places.
-pub const SMALL: &str = "<VRTDataset rasterXSize=\"1\" rasterYSize=\"1\">\
+const SMALL: &str = "<VRTDataset rasterXSize=\"1\" rasterYSize=\"1\">\
     <GeoTransform>0,0.0000000000000001,0,0,0,-0.0000000000000001</GeoTransform>\
     <VRTRasterBand dataType=\"Byte\">\
     </VRTRasterBand>\
     </VRTDataset>";
 
 /// A pixel whose corner is a quarter of a unit within the limit of places, and whose centre is past it.
-pub const EAST: &str = "<VRTDataset rasterXSize=\"1\" rasterYSize=\"1\">\
+const EAST: &str = "<VRTDataset rasterXSize=\"1\" rasterYSize=\"1\">\
     <GeoTransform>999999999999.75,1,0,0,0,-1</GeoTransform>\
     <VRTRasterBand dataType=\"Byte\">\
     </VRTRasterBand>\
     </VRTDataset>";
 
 /// The same at the other end, along the lines.
-pub const NORTH: &str = "<VRTDataset rasterXSize=\"1\" rasterYSize=\"1\">\
+const NORTH: &str = "<VRTDataset rasterXSize=\"1\" rasterYSize=\"1\">\
     <GeoTransform>0,1,0,-999999999999.75,0,-1</GeoTransform>\
     <VRTRasterBand dataType=\"Byte\">\
     </VRTRasterBand>\
     </VRTDataset>";
 
 /// A pixel whose corner is a unit within the limit of places.
-pub const FAR: &str = "<VRTDataset rasterXSize=\"1\" rasterYSize=\"1\">\
+const FAR: &str = "<VRTDataset rasterXSize=\"1\" rasterYSize=\"1\">\
     <GeoTransform>999999999999,1,0,0,0,-1</GeoTransform>\
     <VRTRasterBand dataType=\"Byte\">\
     </VRTRasterBand>\
     </VRTDataset>";
 
 /// The posts of a cell of level 0.
-pub const CELL: &str = "<VRTDataset rasterXSize=\"121\" rasterYSize=\"121\">\
+const CELL: &str = "<VRTDataset rasterXSize=\"121\" rasterYSize=\"121\">\
     <GeoTransform>-0.0041666666666667,0.0083333333333333,0,1.0041666666666667,0,-0.0083333333333333</GeoTransform>\
     <VRTRasterBand dataType=\"Int16\">\
     <NoDataValue>-9999</NoDataValue>\
@@ -105,7 +146,7 @@ pub const CELL: &str = "<VRTDataset rasterXSize=\"121\" rasterYSize=\"121\">\
     </VRTDataset>";
 
 /// The posts of a cell of level 1, which is a tile too.
-pub const TILE: &str = "<VRTDataset rasterXSize=\"1201\" rasterYSize=\"1201\">\
+const TILE: &str = "<VRTDataset rasterXSize=\"1201\" rasterYSize=\"1201\">\
     <GeoTransform>-0.0004166666666667,0.0008333333333333,0,1.0004166666666667,0,-0.0008333333333333</GeoTransform>\
     <VRTRasterBand dataType=\"Int16\">\
     </VRTRasterBand>\

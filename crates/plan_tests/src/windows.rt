@@ -1,14 +1,14 @@
 // Windows in pixels, and sizes of outputs.
 use crate::asking::{Inside, Out, Seen, Word};
 use crate::plans::{Row, Want, wrong_row};
-use crate::sources::FIVE;
+use crate::sources::Source;
 use geotransform::{PixelType, PlanFault};
 use std::test::*;
 
 /// Windows and sizes of a source of five columns and one line.
 const WINDOWS: [Row<'static>; 43] = [
     (
-        FIVE,
+        Source::Five,
         (
             Out::Raw,
             "o.bil",
@@ -22,7 +22,7 @@ const WINDOWS: [Row<'static>; 43] = [
         Want::Planned((5, 1), (0, 0, 5, 1), &[(0, PixelType::Byte, None)]),
     ),
     (
-        FIVE,
+        Source::Five,
         (
             Out::Raw,
             "o.bil",
@@ -36,7 +36,7 @@ const WINDOWS: [Row<'static>; 43] = [
         Want::Planned((2, 1), (0, 0, 5, 1), &[(0, PixelType::Byte, None)]),
     ),
     (
-        FIVE,
+        Source::Five,
         (
             Out::Raw,
             "o.bil",
@@ -50,7 +50,7 @@ const WINDOWS: [Row<'static>; 43] = [
         Want::Refused(PlanFault::EmptyWindow),
     ),
     (
-        FIVE,
+        Source::Five,
         (
             Out::Raw,
             "o.bil",
@@ -64,7 +64,7 @@ const WINDOWS: [Row<'static>; 43] = [
         Want::Planned((10, 2), (0, 0, 5, 1), &[(0, PixelType::Byte, None)]),
     ),
     (
-        FIVE,
+        Source::Five,
         (
             Out::Raw,
             "o.bil",
@@ -78,7 +78,7 @@ const WINDOWS: [Row<'static>; 43] = [
         Want::Planned((10, 2), (0, 0, 5, 1), &[(0, PixelType::Byte, None)]),
     ),
     (
-        FIVE,
+        Source::Five,
         (
             Out::Raw,
             "o.bil",
@@ -92,7 +92,7 @@ const WINDOWS: [Row<'static>; 43] = [
         Want::Planned((10, 2), (0, 0, 5, 1), &[(0, PixelType::Byte, None)]),
     ),
     (
-        FIVE,
+        Source::Five,
         (
             Out::Raw,
             "o.bil",
@@ -106,7 +106,7 @@ const WINDOWS: [Row<'static>; 43] = [
         Want::Planned((2, 1), (0, 0, 5, 1), &[(0, PixelType::Byte, None)]),
     ),
     (
-        FIVE,
+        Source::Five,
         (
             Out::Raw,
             "o.bil",
@@ -120,7 +120,7 @@ const WINDOWS: [Row<'static>; 43] = [
         Want::Planned((2, 1), (0, 0, 5, 1), &[(0, PixelType::Byte, None)]),
     ),
     (
-        FIVE,
+        Source::Five,
         (
             Out::Raw,
             "o.bil",
@@ -134,7 +134,7 @@ const WINDOWS: [Row<'static>; 43] = [
         Want::Refused(PlanFault::EmptyWindow),
     ),
     (
-        FIVE,
+        Source::Five,
         (
             Out::Raw,
             "o.bil",
@@ -148,7 +148,7 @@ const WINDOWS: [Row<'static>; 43] = [
         Want::Refused(PlanFault::EmptyWindow),
     ),
     (
-        FIVE,
+        Source::Five,
         (
             Out::Raw,
             "o.bil",
@@ -162,7 +162,7 @@ const WINDOWS: [Row<'static>; 43] = [
         Want::Refused(PlanFault::EmptyWindow),
     ),
     (
-        FIVE,
+        Source::Five,
         (
             Out::Raw,
             "o.bil",
@@ -176,7 +176,7 @@ const WINDOWS: [Row<'static>; 43] = [
         Want::Planned((3, 1), (0, 0, 5, 2), &[(0, PixelType::Byte, None)]),
     ),
     (
-        FIVE,
+        Source::Five,
         (
             Out::Raw,
             "o.bil",
@@ -190,7 +190,7 @@ const WINDOWS: [Row<'static>; 43] = [
         Want::Planned((3, 1), (0, 0, 5, 2), &[(0, PixelType::Byte, None)]),
     ),
     (
-        FIVE,
+        Source::Five,
         (
             Out::Raw,
             "o.bil",
@@ -204,7 +204,7 @@ const WINDOWS: [Row<'static>; 43] = [
         Want::Refused(PlanFault::EmptyWindow),
     ),
     (
-        FIVE,
+        Source::Five,
         (
             Out::Raw,
             "o.bil",
@@ -218,7 +218,7 @@ const WINDOWS: [Row<'static>; 43] = [
         Want::Planned((4_194_304, 1), (0, 0, 5, 1), &[(0, PixelType::Byte, None)]),
     ),
     (
-        FIVE,
+        Source::Five,
         (
             Out::Raw,
             "o.bil",
@@ -232,7 +232,7 @@ const WINDOWS: [Row<'static>; 43] = [
         Want::Planned((1, 4_194_304), (0, 0, 5, 1), &[(0, PixelType::Byte, None)]),
     ),
     (
-        FIVE,
+        Source::Five,
         (
             Out::Raw,
             "o.bil",
@@ -246,7 +246,7 @@ const WINDOWS: [Row<'static>; 43] = [
         Want::Refused(PlanFault::Limit),
     ),
     (
-        FIVE,
+        Source::Five,
         (
             Out::Raw,
             "o.bil",
@@ -260,7 +260,7 @@ const WINDOWS: [Row<'static>; 43] = [
         Want::Refused(PlanFault::Limit),
     ),
     (
-        FIVE,
+        Source::Five,
         (
             Out::Raw,
             "o.bil",
@@ -274,7 +274,7 @@ const WINDOWS: [Row<'static>; 43] = [
         Want::Refused(PlanFault::Limit),
     ),
     (
-        FIVE,
+        Source::Five,
         (
             Out::Raw,
             "o.bil",
@@ -288,7 +288,7 @@ const WINDOWS: [Row<'static>; 43] = [
         Want::Refused(PlanFault::EmptyWindow),
     ),
     (
-        FIVE,
+        Source::Five,
         (
             Out::Raw,
             "o.bil",
@@ -302,7 +302,7 @@ const WINDOWS: [Row<'static>; 43] = [
         Want::Planned((4, 1), (3, 0, 4, 1), &[(0, PixelType::Byte, None)]),
     ),
     (
-        FIVE,
+        Source::Five,
         (
             Out::Raw,
             "o.bil",
@@ -316,7 +316,7 @@ const WINDOWS: [Row<'static>; 43] = [
         Want::Refused(PlanFault::Outside),
     ),
     (
-        FIVE,
+        Source::Five,
         (
             Out::Raw,
             "o.bil",
@@ -330,7 +330,7 @@ const WINDOWS: [Row<'static>; 43] = [
         Want::Planned((4, 1), (3, 0, 4, 1), &[(0, PixelType::Byte, None)]),
     ),
     (
-        FIVE,
+        Source::Five,
         (
             Out::Raw,
             "o.bil",
@@ -344,7 +344,7 @@ const WINDOWS: [Row<'static>; 43] = [
         Want::Refused(PlanFault::Outside),
     ),
     (
-        FIVE,
+        Source::Five,
         (
             Out::Raw,
             "o.bil",
@@ -358,7 +358,7 @@ const WINDOWS: [Row<'static>; 43] = [
         Want::Planned((1, 1), (5, 0, 1, 1), &[(0, PixelType::Byte, None)]),
     ),
     (
-        FIVE,
+        Source::Five,
         (
             Out::Raw,
             "o.bil",
@@ -372,7 +372,7 @@ const WINDOWS: [Row<'static>; 43] = [
         Want::Planned((1, 1), (4, 0, 1, 1), &[(0, PixelType::Byte, None)]),
     ),
     (
-        FIVE,
+        Source::Five,
         (
             Out::Raw,
             "o.bil",
@@ -386,7 +386,7 @@ const WINDOWS: [Row<'static>; 43] = [
         Want::Refused(PlanFault::Outside),
     ),
     (
-        FIVE,
+        Source::Five,
         (
             Out::Raw,
             "o.bil",
@@ -400,7 +400,7 @@ const WINDOWS: [Row<'static>; 43] = [
         Want::Refused(PlanFault::Outside),
     ),
     (
-        FIVE,
+        Source::Five,
         (
             Out::Raw,
             "o.bil",
@@ -414,7 +414,7 @@ const WINDOWS: [Row<'static>; 43] = [
         Want::Refused(PlanFault::Outside),
     ),
     (
-        FIVE,
+        Source::Five,
         (
             Out::Raw,
             "o.bil",
@@ -428,7 +428,7 @@ const WINDOWS: [Row<'static>; 43] = [
         Want::Refused(PlanFault::Outside),
     ),
     (
-        FIVE,
+        Source::Five,
         (
             Out::Raw,
             "o.bil",
@@ -442,7 +442,7 @@ const WINDOWS: [Row<'static>; 43] = [
         Want::Planned((2, 1), (-1, 0, 2, 1), &[(0, PixelType::Byte, None)]),
     ),
     (
-        FIVE,
+        Source::Five,
         (
             Out::Raw,
             "o.bil",
@@ -456,7 +456,7 @@ const WINDOWS: [Row<'static>; 43] = [
         Want::Refused(PlanFault::Outside),
     ),
     (
-        FIVE,
+        Source::Five,
         (
             Out::Raw,
             "o.bil",
@@ -470,7 +470,7 @@ const WINDOWS: [Row<'static>; 43] = [
         Want::Refused(PlanFault::Outside),
     ),
     (
-        FIVE,
+        Source::Five,
         (
             Out::Raw,
             "o.bil",
@@ -484,7 +484,7 @@ const WINDOWS: [Row<'static>; 43] = [
         Want::Refused(PlanFault::Outside),
     ),
     (
-        FIVE,
+        Source::Five,
         (
             Out::Raw,
             "o.bil",
@@ -498,7 +498,7 @@ const WINDOWS: [Row<'static>; 43] = [
         Want::Refused(PlanFault::EmptyWindow),
     ),
     (
-        FIVE,
+        Source::Five,
         (
             Out::Raw,
             "o.bil",
@@ -512,7 +512,7 @@ const WINDOWS: [Row<'static>; 43] = [
         Want::Refused(PlanFault::EmptyWindow),
     ),
     (
-        FIVE,
+        Source::Five,
         (
             Out::Raw,
             "o.bil",
@@ -526,7 +526,7 @@ const WINDOWS: [Row<'static>; 43] = [
         Want::Refused(PlanFault::EmptyWindow),
     ),
     (
-        FIVE,
+        Source::Five,
         (
             Out::Raw,
             "o.bil",
@@ -540,7 +540,7 @@ const WINDOWS: [Row<'static>; 43] = [
         Want::Refused(PlanFault::Limit),
     ),
     (
-        FIVE,
+        Source::Five,
         (
             Out::Raw,
             "o.bil",
@@ -554,7 +554,7 @@ const WINDOWS: [Row<'static>; 43] = [
         Want::Refused(PlanFault::Limit),
     ),
     (
-        FIVE,
+        Source::Five,
         (
             Out::Raw,
             "o.bil",
@@ -572,7 +572,7 @@ const WINDOWS: [Row<'static>; 43] = [
         ),
     ),
     (
-        FIVE,
+        Source::Five,
         (
             Out::Raw,
             "o.bil",
@@ -590,7 +590,7 @@ const WINDOWS: [Row<'static>; 43] = [
         ),
     ),
     (
-        FIVE,
+        Source::Five,
         (
             Out::Raw,
             "o.bil",
@@ -604,7 +604,7 @@ const WINDOWS: [Row<'static>; 43] = [
         Want::Refused(PlanFault::Limit),
     ),
     (
-        FIVE,
+        Source::Five,
         (
             Out::Raw,
             "o.bil",
