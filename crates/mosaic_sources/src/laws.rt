@@ -5,9 +5,10 @@ ghost use Rattle.geotransform.specs.Types.{is_in};
 ghost use Rattle.geotransform.specs.declared.types.PixelType.{PixelType};
 ghost use Rattle.geotransform.specs.declared.types.Size.{Size};
 ghost use Rattle.vrt_profile.specs.Values.{SourceValue};
-ghost use Rattle.vrt_profile.specs.Cover.{Axis, axis_at};
+ghost use Rattle.vrt_profile.specs.Cover.{Axis, axis_at, cover_of};
 ghost use Rattle.vrt_profile.specs.Value.{given_of, last_given, takes_kind};
 ghost use Rattle.mosaic_sources.specs.Pixels.{IsPixel, IsPixelOf};
+ghost use Rattle.mosaic_sources.specs.Rows.{covers_line};
 
 /// Each sample of each type is a pixel that a source takes.
 pub fn samples_are_pixels()
@@ -24,4 +25,9 @@ pub fn columns_rise()
 /// What a further source behind all others gives counts before what they give.
 pub fn last_counts()
     ensures last { (sources : List SourceValue) → (source : SourceValue) → (number : ℕ) → (target : Size) → (sizes : ℕ → Size) → (pixels : ℕ → ℕ → ℕ → ℤ) → (x : ℕ) → (y : ℕ) → last_given (sources ++ source ∷ []) number target sizes pixels x y ≡ option_or (given_of source target (sizes (number + length sources)) (pixels (number + length sources)) x y) (last_given sources number target sizes pixels x y) }
+{}
+
+/// A source that covers a pixel covers its line.
+pub fn covers_lines()
+    ensures line { (source : SourceValue) → (target : Size) → (size : Size) → (x : ℕ) → (y : ℕ) → (place : ℕ × ℕ) → cover_of source target size x y ≡ Some place → covers_line source target y ≡ true }
 {}
