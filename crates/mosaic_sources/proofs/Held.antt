@@ -3,6 +3,7 @@ use Rattle.std.proofs.Common.{◌≡◌, ℕ, zero, suc, ◌+◌, ◌-◌, ◌<�
 use Rattle.std.specs.List.{Contains, All, count_by}
 use Rattle.std.specs.List.Sorted.{IsStrictlyIncreasing, IsNonDecreasingBy}
 use Rattle.std.proofs.lemmas.Bool.{cases_lt}
+use Rattle.std.proofs.lemmas.List.{get_or_default}
 use Rattle.std.proofs.lemmas.Bool.Decides.{nat_tests}
 use Rattle.std.proofs.lemmas.List.Kept.{AllPairs-from_increasing}
 use Rattle.std.proofs.lemmas.List.Sums.{sum_by-cons, count_by-le-length}
@@ -47,6 +48,12 @@ le_true a b h = grind (arith, nat_tests)
 pub le_false : (a b : ℕ) → b < a → nat_le a b ≡ false
 le_false a b h = grind (arith, nat_tests)
 
+pub from_le : (a b : ℕ) → nat_le a b ≡ true → a ≤ b
+from_le a b h = grind (arith, nat_tests)
+
+pub from_not_le : (a b : ℕ) → nat_le a b ≡ false → b < a
+from_not_le a b h = grind (arith, nat_tests)
+
 one_rises : (x a b : ℕ) → a ≤ b → cond (nat_le x a) 1 0 ≤ cond (nat_le x b) 1 0
 one_rises x a b h = ⊎_elim
     (λ (l : a < x). let e = none_at (λ c. nat_le c a) x (le_false x a l) in omega (arith, e))
@@ -66,6 +73,22 @@ ends_at (x ∷ xs) y a zero less is l =
     omega (arith, count_cons (λ c. nat_le c y) x xs, count_cons (λ c. nat_le c a) x xs, before, behind, stretch_rises xs y a (omega arith))
 ends_at (x ∷ xs) y a (suc k) less is l =
     omega (arith, count_cons (λ c. nat_le c y) x xs, count_cons (λ c. nat_le c a) x xs, one_rises x y a (omega arith), ends_at xs y a k (omega arith) is l)
+
+-- as many stretches are behind a line as cuts are at or above it
+pub stretch_at : (cuts : List ℕ) (i z : ℕ) → i ≤ length cuts → ((k d : ℕ) → k < i → get_or cuts k d ≤ z) → ((k d : ℕ) → i ≤ k → k < length cuts → z < get_or cuts k d) → stretch_of cuts z ≡ i
+stretch_at cuts i z within before behind = count_in_front (λ c. nat_le c z) cuts i within (λ k d from less. le_true _ _ (before k d less)) (λ k d from less. le_false _ _ (behind k d from less))
+
+-- up to the next cut the stretch is that of a line
+pub same_before_cut : (cuts : List ℕ) (i y z : ℕ) → IsStrictlyIncreasing cuts → i < length cuts → ((k d : ℕ) → k < i → get_or cuts k d ≤ y) → y ≤ z → z < get_or cuts i 0 → stretch_of cuts z ≡ i
+same_before_cut cuts i y z rising less before from below = stretch_at cuts i z (omega arith)
+    (λ k d l. let e = before k d l in omega (arith, e))
+    (λ k d l short. let e = rising_keeps cuts rising i k d l short in let f : get_or cuts i 0 ≡ get_or cuts i d = get_or_default cuts i 0 d less in omega (arith, e, f))
+
+-- behind the last cut there is one stretch
+pub same_at_end : (cuts : List ℕ) (i y z : ℕ) → i ≤ length cuts → length cuts ≤ i → ((k d : ℕ) → k < i → get_or cuts k d ≤ y) → y ≤ z → stretch_of cuts z ≡ i
+same_at_end cuts i y z within end before from = stretch_at cuts i z within
+    (λ k d l. let e = before k d l in omega (arith, e))
+    (λ k d l short. absurd (omega (arith, l, short, end)))
 
 -- a line before a cut is in an earlier stretch
 pub stretch_ends : (cuts : List ℕ) (y a : ℕ) → Contains cuts a → y < a → stretch_of cuts y < stretch_of cuts a

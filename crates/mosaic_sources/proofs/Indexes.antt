@@ -37,4 +37,5 @@ is_index sources size spans cuts lists each rising inner changes few are = recor
       sym (each (y - 1) before) ∙ list_stays cuts size.h spans lists are y less other ∙ each y less;
   count = are.count;
   stretches = omega (arith, are.count, few);
+  none = are.none;
 }

@@ -9,3 +9,4 @@ pub mod Held
 pub mod Listed
 pub mod Indexes
 mod OfLines
+mod Skipped

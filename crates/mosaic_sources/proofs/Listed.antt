@@ -4,7 +4,7 @@ use Rattle.std.specs.List.{All, sum_by, range_with_len}
 use Rattle.std.proofs.lemmas.Bool.{cases_lt}
 use Rattle.std.proofs.lemmas.List.{ext_get_or}
 use Rattle.std.proofs.lemmas.List.FromFn.{get_or-map-range_with_len, length-map-range_with_len, sum_by-map-range_with_len_more}
-use Rattle.std.proofs.lemmas.List.Sums.{sum_by-cons}
+use Rattle.std.proofs.lemmas.List.Sums.{sum_by-cons, sum_by-le}
 use Rattle.mosaic_sources.specs.Rows.{passing_from, stretch_of, list_by, most_listed}
 use Rattle.mosaic_sources.specs.Stretches.{is_in_span, holding_lines, held_by, IsWithinCount, AreListsOf}
 use Rattle.mosaic_sources.specs.declared.spans.Span.{Span}
@@ -87,9 +87,14 @@ lists_are spans m lists size each = ext_get_or [] lists (lists_to spans 0 m) (si
 pub count_of_lists : (spans : List Span) (m : ℕ) → length (lists_to spans 0 m) ≡ m
 count_of_lists spans m = length-map-range_with_len (held_from spans 0) 0 m
 
+-- spans that end at 0 hold nothing
+pub flat_hold_none : (spans : List Span) → All (λ s. s.end ≡ 0) spans → held_by spans ≡ 0
+flat_hold_none spans h = let few = sum_by-le (λ (s : Span). s.end - s.first) 0 spans (λ k d less. let e = h k d less in omega (arith, e)) in omega (arith, few)
+
 -- the lists of stretches are those of lines
-pub by_lines : (cuts : List ℕ) (height : ℕ) (spans stretches : List Span) → ((y : ℕ) → y < height → holding_lines stretches (stretch_of cuts y) ≡ holding_lines spans y) → AreListsOf cuts height spans (lists_to stretches 0 (length cuts + 1))
-by_lines cuts height spans stretches held = record {
+pub by_lines : (cuts : List ℕ) (height : ℕ) (spans stretches : List Span) → ((y : ℕ) → y < height → holding_lines stretches (stretch_of cuts y) ≡ holding_lines spans y) → All (IsWithinCount (length cuts + 1)) stretches → (height ≡ 0 → All (λ s. s.end ≡ 0) stretches) → AreListsOf cuts height spans (lists_to stretches 0 (length cuts + 1))
+by_lines cuts height spans stretches held within none = record {
   count = count_of_lists stretches (length cuts + 1);
   lists = λ y less. get_or-map-range_with_len (held_from stretches 0) 0 (length cuts + 1) (stretch_of cuts y) (stretch_of cuts y) [] (let w = stretch_within cuts y in omega (arith, w)) (omega arith) ∙ held y less;
+  none = λ flat. listed_is stretches 0 (length cuts + 1) within ∙ flat_hold_none stretches (none flat);
 }

@@ -1,5 +1,6 @@
 -- The numbers of the items that pass a test.
 use Rattle.std.proofs.Common.{◌≡◌, ℕ, zero, suc, ◌+◌, ◌<◌, ◌≤◌, List, [], ◌∷◌, ◌++◌, length, get_or, take, Bool, true, false, cond, refl, sym, ap, ◌∙◌, arith}
+use Rattle.std.specs.List.{Contains}
 use Rattle.std.proofs.lemmas.List.{take_more, length-take-le}
 use Rattle.mosaic_sources.specs.Rows.{passing_from}
 
@@ -57,3 +58,30 @@ pub tests_agree : {A : Type 0} (p q : A → Bool) (xs : List A) (number : ℕ) �
 tests_agree p q [] number e k d less = absurd (omega arith)
 tests_agree p q (x ∷ xs) number e zero d less = (agree_first p q x xs number e).0
 tests_agree p q (x ∷ xs) number e (suc k) d less = tests_agree p q xs (suc number) (agree_first p q x xs number e).1 k d (omega arith)
+
+-- an item whose number isn't listed doesn't pass
+first_unlisted : (t : Bool) (number v : ℕ) (rest : List ℕ) → v ≡ number → (Contains (cond t (number ∷ rest) rest) v → ⊥) → t ≡ false
+first_unlisted true number v rest e no = absurd (no (0, omega arith, sym e))
+first_unlisted false number v rest e no = refl
+
+rest_unlisted : (t : Bool) (number v : ℕ) (rest : List ℕ) → (Contains (cond t (number ∷ rest) rest) v → ⊥) → Contains rest v → ⊥
+rest_unlisted true number v rest no there = no (suc there.0, omega (arith, there.1), there.2)
+rest_unlisted false number v rest no there = no there
+
+pub unlisted : {A : Type 0} (p : A → Bool) (xs : List A) (number v k : ℕ) (d : A) → v ≡ number + k → k < length xs → (Contains (passing_from p xs number) v → ⊥) → p (get_or xs k d) ≡ false
+unlisted p [] number v k d e less no = absurd (omega arith)
+unlisted p (x ∷ xs) number v zero d e less no = first_unlisted (p x) number v (passing_from p xs (suc number)) (omega (arith, e)) no
+unlisted p (x ∷ xs) number v (suc k) d e less no = unlisted p xs (suc number) v k d (omega (arith, e)) (omega arith) (rest_unlisted (p x) number v (passing_from p xs (suc number)) no)
+
+-- each number that is listed is that of an item
+below_at : (number v end : ℕ) (rest : List ℕ) (k : ℕ) → number < end → (Contains rest v → v < end) → k < length (number ∷ rest) → get_or (number ∷ rest) k v ≡ v → v < end
+below_at number v end rest zero low rest_low less is = omega (arith, is, low)
+below_at number v end rest (suc k) low rest_low less is = rest_low (k, omega (arith, less), is)
+
+below_if : (t : Bool) (number v end : ℕ) (rest : List ℕ) → number < end → (Contains rest v → v < end) → Contains (cond t (number ∷ rest) rest) v → v < end
+below_if true number v end rest low rest_low there = below_at number v end rest there.0 low rest_low there.1 there.2
+below_if false number v end rest low rest_low there = rest_low there
+
+pub listed_below : {A : Type 0} (p : A → Bool) (xs : List A) (number v : ℕ) → Contains (passing_from p xs number) v → v < number + length xs
+listed_below p [] number v there = absurd (omega (arith, there.1))
+listed_below p (x ∷ xs) number v there = below_if (p x) number v (number + suc (length xs)) (passing_from p xs (suc number)) (omega arith) (λ h. let e = listed_below p xs (suc number) v h in omega (arith, e)) there

@@ -47,16 +47,17 @@ listed r = sum_by length r.lists
 abbrev pub most_listed : ℕ
 most_listed = 4194304
 
--- there is one stretch more than there are cuts, and their number is a u32
-pub record IsRows (r : Rows) : Type 0 where
-  pub rising : IsStrictlyIncreasing r.cuts
-  pub lists : length r.lists ≡ length r.cuts + 1
-  pub few : length r.lists < 2 ^ 32
-
 -- a line below the first
 pub record IsInner (height : ℕ) (cut : ℕ) : Type 0 where
   pub low : 0 < cut
   pub high : cut < height
+
+-- the cuts are lines, there is one stretch more than there are cuts, and their number is a u32
+pub record IsRows (r : Rows) : Type 0 where
+  pub rising : IsStrictlyIncreasing r.cuts
+  pub inner : All (IsInner r.height) r.cuts
+  pub lists : length r.lists ≡ length r.cuts + 1
+  pub few : length r.lists < 2 ^ 32
 
 -- The index of a band's sources over a mosaic of this size. Its cuts are exactly the lines whose list isn't that of the
 -- line before, so there is one list for each stretch of lines on which the list is the same.
@@ -69,3 +70,4 @@ pub record IsIndexOf (sources : List SourceValue) (size : Size) (r : Rows) : Typ
   pub same : (y : ℕ) → 0 < y → y < size.h → ¬ Contains r.cuts y → covering_lines sources size (y - 1) ≡ covering_lines sources size y
   pub count : length r.lists ≡ length r.cuts + 1
   pub stretches : length r.lists ≤ 2 * length sources + 1
+  pub none : size.h ≡ 0 → listed r ≡ 0

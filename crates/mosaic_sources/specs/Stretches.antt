@@ -35,7 +35,8 @@ pub record IsWithinCount (count : ℕ) (s : Span) : Type 0 where
 abbrev pub held_by : List Span → ℕ
 held_by spans = sum_by (λ s. s.end - s.first) spans
 
--- For each stretch between cuts, the numbers of the spans that hold its lines.
+-- For each stretch between cuts, the numbers of the spans that hold its lines; none where there is no line.
 pub record AreListsOf (cuts : List ℕ) (height : ℕ) (spans : List Span) (kept : List (List ℕ)) : Type 0 where
   pub count : length kept ≡ length cuts + 1
   pub lists : (y : ℕ) → y < height → list_by cuts kept y ≡ holding_lines spans y
+  pub none : height ≡ 0 → sum_by length kept ≡ 0

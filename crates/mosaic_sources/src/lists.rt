@@ -65,11 +65,7 @@ fn add_between(lists: &mut Vec<RowList>, span: Span, number: u32) -> Result<(), 
 }
 
 // For each of `count` stretches, the numbers of the spans of stretches that hold it, in order.
-fn lists_of(
-    alloc: Global,
-    stretches: &[Span],
-    count: usize,
-) -> Result<Vec<RowList>, AllocError>
+fn lists_of(alloc: Global, stretches: &[Span], count: usize) -> Result<Vec<RowList>, AllocError>
     requires few { length stretches.now ≤ 262144 }
     requires within { All (IsWithinCount count) stretches.now }
     ensures count { IfOk result (λ v. length v.items ≡ count) }
@@ -95,6 +91,7 @@ pub fn lists_within(
     requires short { length cuts.now ≤ 2 * length spans.now }
     requires rising { IsStrictlyIncreasing cuts.now }
     requires edges { All (HasEdges cuts.now height) spans.now }
+    requires ends { All (λ s. s.end ≤ height) spans.now }
     ensures lists { IfOk result (λ o. IfSome o (λ v. AreListsOf cuts.now height spans.now v.items)) }
     ensures short { IfOk result (λ o. IfSome o (λ v. sum_by length v.items ≤ most_listed)) }
     ensures long { IfOk result (λ o. o ≡ None → (lists : List (List ℕ)) × (AreListsOf cuts.now height spans.now lists × (most_listed < sum_by length lists))) }

@@ -9,4 +9,5 @@ invariant-loop-span l = record {
   count : length l.stretches.items ≡ l.span-index;
   within : All (IsWithinCount (length l.cuts + 1)) l.stretches.items;
   held : (y : ℕ) → y < l.height → holding_lines l.stretches.items (stretch_of l.cuts y) ≡ holding_lines (take l.span-index l.spans) y;
+  none : l.height ≡ 0 → All (λ s. s.end ≡ 0) l.stretches.items;
 }
