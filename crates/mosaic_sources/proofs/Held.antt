@@ -145,6 +145,10 @@ none_held s y h = ⊎_elim
     (λ (l : s.first ≤ y). let e : s.end ≤ y = omega arith in and_false_right _ _ (lt_false _ _ e))
     (cases_lt y s.first)
 
+-- where no line is, a span has none
+pub flat : (spans : List Span) (i : ℕ) (d : Span) (height : ℕ) → All (λ s. s.end ≤ height) spans → i < length spans → height ≡ 0 → (get_or spans i d).end ≤ (get_or spans i d).first
+flat spans i d height h less none = let e = h i d less in omega (arith, e, none)
+
 -- further cuts change nothing of what is there
 pub edges_kept : (xs ys : List ℕ) (height : ℕ) (s : Span) → ((x : ℕ) → Contains xs x → Contains ys x) → HasEdges xs height s → HasEdges ys height s
 edges_kept xs ys height s kept h = record { first = λ a b. kept s.first (h.first a b); end = λ a b. kept s.end (h.end a b) }

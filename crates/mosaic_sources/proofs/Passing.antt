@@ -61,17 +61,17 @@ tests_agree p q (x ∷ xs) number e (suc k) d less = tests_agree p q xs (suc num
 
 -- an item whose number isn't listed doesn't pass
 first_unlisted : (t : Bool) (number v : ℕ) (rest : List ℕ) → v ≡ number → (Contains (cond t (number ∷ rest) rest) v → ⊥) → t ≡ false
-first_unlisted true number v rest e no = absurd (no (0, omega arith, sym e))
-first_unlisted false number v rest e no = refl
+first_unlisted true number v rest e other = absurd (other (0, omega arith, sym e))
+first_unlisted false number v rest e other = refl
 
 rest_unlisted : (t : Bool) (number v : ℕ) (rest : List ℕ) → (Contains (cond t (number ∷ rest) rest) v → ⊥) → Contains rest v → ⊥
-rest_unlisted true number v rest no there = no (suc there.0, omega (arith, there.1), there.2)
-rest_unlisted false number v rest no there = no there
+rest_unlisted true number v rest other there = other (suc there.0, omega (arith, there.1), there.2)
+rest_unlisted false number v rest other there = other there
 
 pub unlisted : {A : Type 0} (p : A → Bool) (xs : List A) (number v k : ℕ) (d : A) → v ≡ number + k → k < length xs → (Contains (passing_from p xs number) v → ⊥) → p (get_or xs k d) ≡ false
-unlisted p [] number v k d e less no = absurd (omega arith)
-unlisted p (x ∷ xs) number v zero d e less no = first_unlisted (p x) number v (passing_from p xs (suc number)) (omega (arith, e)) no
-unlisted p (x ∷ xs) number v (suc k) d e less no = unlisted p xs (suc number) v k d (omega (arith, e)) (omega arith) (rest_unlisted (p x) number v (passing_from p xs (suc number)) no)
+unlisted p [] number v k d e less other = absurd (omega arith)
+unlisted p (x ∷ xs) number v zero d e less other = first_unlisted (p x) number v (passing_from p xs (suc number)) (omega (arith, e)) other
+unlisted p (x ∷ xs) number v (suc k) d e less other = unlisted p xs (suc number) v k d (omega (arith, e)) (omega arith) (rest_unlisted (p x) number v (passing_from p xs (suc number)) other)
 
 -- each number that is listed is that of an item
 below_at : (number v end : ℕ) (rest : List ℕ) (k : ℕ) → number < end → (Contains rest v → v < end) → k < length (number ∷ rest) → get_or (number ∷ rest) k v ≡ v → v < end
