@@ -1,4 +1,4 @@
-use Rattle.std.proofs.Common.{◌≡◌, ℕ, ◌<◌, ◌≤◌, ◌++◌, [], ◌∷◌, ◌&&◌, length, nat_le, nat_lt, cond, get_or}
+use Rattle.std.proofs.Common.{◌≡◌, ℕ, ◌<◌, ◌++◌, [], ◌∷◌, ◌&&◌, length, nat_le, nat_lt, cond, get_or}
 use Rattle.mosaic_sources.proofs.lists.add_between.Given as goal
 
 abbrev pub invariant-loop-at : goal.invariant-loop-at

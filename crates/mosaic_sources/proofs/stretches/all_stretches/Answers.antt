@@ -1,4 +1,4 @@
-use Rattle.std.proofs.Common.{arith, ap, ◌≡◌, ◌∙◌, ◌+◌, length, length-append, ◌∷◌, []}
+use Rattle.std.proofs.Common.{arith, ap, ◌≡◌, ◌+◌, length, length-append, ◌∷◌, []}
 use Rattle.std.proofs.lemmas.List.Elements.{All-push}
 use Rattle.mosaic_sources.specs.declared.spans.Span.{Span}
 use Rattle.mosaic_sources.specs.Rows.{stretch_of}
