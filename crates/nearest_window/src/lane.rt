@@ -585,6 +585,7 @@ impl<F: Folder> Lane<F> {
         requires lines { lines.first + lines.count ≤ picture.now.height }
         requires some { 0 < lines.count }
         ensures part { IfSome result (λ r. IsLonePart cat.now picture.now r.piece r.band.now r.piece.rect) }
+        ensures area { IfSome result (λ r. IsAreaOf picture.now r.piece.area) }
         ensures columns { IfSome result (λ r. (r.piece.area.column ≡ 0) × (r.piece.area.columns ≡ picture.now.width)) }
         ensures lines { IfSome result (λ r. (r.piece.area.line ≡ lines.first) × (r.piece.area.lines ≡ lines.count)) }
     {

@@ -259,11 +259,6 @@ paint_pieces-returns-clause-painted g t c =
     let all : c.loop-column.column ≡ c.args.picture.now.width = omega arith in
     subst (λ n. IsShown (g.F.Folder.names c.loop-column.folder) c.args.cat.now c.args.picture.now 0 n c.args.lines.first c.args.out.now c.loop-column.out) all before.painted
 
-pub paint_band-fill-requires-clause-key : goal.paint_band-fill-requires-clause-key
-paint_band-fill-requires-clause-key g t c κs within =
-    let part = rw c.in-Some.is at c.wide_rows.ensures.part in
-    part.mosaic
-
 pub paint_band-returns-in-Some-clause-painted : goal.paint_band-returns-in-Some-clause-painted
 paint_band-returns-in-Some-clause-painted g t c = λ m e.
     let part = rw c.in-Some.is at c.wide_rows.ensures.part in
@@ -272,8 +267,8 @@ paint_band-returns-in-Some-clause-painted g t c = λ m e.
     let made = c.in_ok-block.ensures.block in
     let rows = c.requires.rows in
     let p = c.args.picture.now in
-    let area = c.in-Some.area in
-    let painted = rect_shown m c.args.cat.now c.in-Some.key.dataset c.in-Some.key.band c.in-Some.rect p area.column area.columns area.line area.lines c.in_ok-block.block c.args.out.now c.paint_rows.new.out part.dataset_is part.band_is part.across part.down (made.content m e) c.requires.picture.picture.some (omega arith) c.paint_rows.ensures.painted in
+    let area = c.in-Some.rows.piece.area in
+    let painted = rect_shown m c.args.cat.now c.in-Some.rows.piece.key.dataset c.in-Some.rows.piece.key.band c.in-Some.rows.piece.rect p area.column area.columns area.line area.lines c.in_ok-block.block c.args.out.now c.paint_rows.new.out part.dataset_is part.band_is part.across part.down (made.content m e) c.requires.picture.picture.some (omega arith) c.paint_rows.ensures.painted in
     subst (λ n. IsPainted (in_columns p.stride (p.to + 0) (p.to + 0 + n) (shown m c.args.cat.now p 0 c.args.lines.first)) c.args.out.now c.paint_rows.new.out) columns.1
     (subst (λ n. IsPainted (in_columns p.stride (p.to + 0) (p.to + 0 + area.columns) (shown m c.args.cat.now p 0 n)) c.args.out.now c.paint_rows.new.out) lines.0
     (subst (λ n. IsPainted (in_columns p.stride (p.to + n) (p.to + n + area.columns) (shown m c.args.cat.now p n area.line)) c.args.out.now c.paint_rows.new.out) columns.0 painted))
@@ -285,8 +280,8 @@ paint_band-returns-in-Some-clause-typed g t c =
     let made = c.in_ok-block.ensures.block in
     let p = c.args.picture.now in
     subst (λ n. IsTyped c.args.cat.now p 0 n c.args.out.now c.paint_rows.new.out) columns.1
-    (subst (λ n. IsTyped c.args.cat.now p n c.in-Some.area.columns c.args.out.now c.paint_rows.new.out) columns.0
-    (rect_typed c.args.cat.now p c.in-Some.rows.piece c.in-Some.rect made.dataset c.in_ok-block.block c.args.out.now c.paint_rows.new.out part.dataset_is part.band_is made.in_range made.shape c.paint_rows.ensures.painted))
+    (subst (λ n. IsTyped c.args.cat.now p n c.in-Some.rows.piece.area.columns c.args.out.now c.paint_rows.new.out) columns.0
+    (rect_typed c.args.cat.now p c.in-Some.rows.piece c.in-Some.rows.piece.rect made.dataset c.in_ok-block.block c.args.out.now c.paint_rows.new.out part.dataset_is part.band_is made.in_range made.shape c.paint_rows.ensures.painted))
 
 pub paint_block-returns-in-Some-clause-painted : goal.paint_block-returns-in-Some-clause-painted
 paint_block-returns-in-Some-clause-painted g t c = λ m e.
