@@ -268,7 +268,9 @@ paint_band-returns-in-Some-clause-painted g t c = λ m e.
     let rows = c.requires.rows in
     let p = c.args.picture.now in
     let area = c.in-Some.rows.piece.area in
-    let painted = rect_shown m c.args.cat.now c.in-Some.rows.piece.key.dataset c.in-Some.rows.piece.key.band c.in-Some.rows.piece.rect p area.column area.columns area.line area.lines c.in_ok-block.block c.args.out.now c.paint_rows.new.out part.dataset_is part.band_is part.across part.down (made.content m e) c.requires.picture.picture.some (omega arith) c.paint_rows.ensures.painted in
+    let high : area.lines * p.stride ≡ c.args.lines.count * p.stride = ap (λ n. n * p.stride) lines.1 in
+    let size : length c.args.out.now ≤ area.lines * p.stride = omega arith in
+    let painted = rect_shown m c.args.cat.now c.in-Some.rows.piece.key.dataset c.in-Some.rows.piece.key.band c.in-Some.rows.piece.rect p area.column area.columns area.line area.lines c.in_ok-block.block c.args.out.now c.paint_rows.new.out part.dataset_is part.band_is part.across part.down (made.content m e) c.requires.picture.picture.some size c.paint_rows.ensures.painted in
     subst (λ n. IsPainted (in_columns p.stride (p.to + 0) (p.to + 0 + n) (shown m c.args.cat.now p 0 c.args.lines.first)) c.args.out.now c.paint_rows.new.out) columns.1
     (subst (λ n. IsPainted (in_columns p.stride (p.to + 0) (p.to + 0 + area.columns) (shown m c.args.cat.now p 0 n)) c.args.out.now c.paint_rows.new.out) lines.0
     (subst (λ n. IsPainted (in_columns p.stride (p.to + n) (p.to + n + area.columns) (shown m c.args.cat.now p n area.line)) c.args.out.now c.paint_rows.new.out) columns.0 painted))
