@@ -19,6 +19,8 @@ mod raw_samples;
 #[cfg(test)]
 mod reading_documents;
 #[cfg(test)]
+mod rows;
+#[cfg(test)]
 mod sources;
 #[cfg(test)]
 mod tiles;

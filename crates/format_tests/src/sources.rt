@@ -6,7 +6,7 @@ use std::test::*;
 use vrt_profile::{Document, Source, VrtBand, VrtFault, read};
 
 /// A document whose band has these sources.
-fn document(alloc: Global, sources: &[u8]) -> Result<Option<Document>, Fail> {
+pub fn document(alloc: Global, sources: &[u8]) -> Result<Option<Document>, Fail> {
     let mut text: Vec<u8> = Vec::new(alloc);
     text.extend_from_slice(b"<VRTDataset rasterXSize='3' rasterYSize='1'>")?;
     text.extend_from_slice(b"<VRTRasterBand dataType='Int16'><NoDataValue>-1</NoDataValue>")?;

@@ -4,3 +4,9 @@ pub mod Runs
 pub mod Following
 mod Beside
 mod Computes
+pub mod Passing
+pub mod Held
+pub mod Listed
+pub mod Indexes
+mod OfLines
+mod Skipped

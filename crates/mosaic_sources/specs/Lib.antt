@@ -1,2 +1,4 @@
 pub mod Axes
 pub mod Pixels
+pub mod Rows
+pub mod Stretches

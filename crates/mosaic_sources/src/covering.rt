@@ -3,8 +3,11 @@ ghost use Rattle.std.specs.Prelude.{◌≡◌, ℕ, ℤ, pos, ◌+◌, ◌+ℤ�
 ghost use Rattle.geotransform.specs.declared.types.Size.{Size};
 ghost use Rattle.vrt_profile.specs.Values.{million};
 ghost use Rattle.vrt_profile.specs.Cover.{centre, part_of, columns_of, lines_of, cover_of};
+ghost use Rattle.mosaic_sources.specs.Rows.{covers_line};
+ghost use Rattle.mosaic_sources.specs.Stretches.{is_in_span};
 
 use crate::axis::Axis;
+use crate::spans::{Span, mosaic_part};
 use geotransform::{Rect, Size};
 use vrt_profile::{MicroRect, Source};
 
@@ -99,6 +102,16 @@ pub fn cover(source: &Source, target: Size, size: Size, x: u32, y: u32) -> Optio
     let column = columns(source, target, size).at(size.w, x)?;
     let line = lines(source, target, size).at(size.h, y)?;
     Some((column, line))
+}
+
+/// The lines of a mosaic of this size that a source covers.
+#[tactic(auto, unfolding(crate::specs::Rows::covers_line))]
+pub fn line_span(source: &Source, size: Size) -> Span
+    ensures within { result.end ≤ size.h }
+    ensures covered { (y : ℕ) → y < size.h → covers_line source.now size y ≡ is_in_span result y }
+{
+    let part = lines_in(source.dst, size);
+    mosaic_part(part.start, part.length, size.h)
 }
 
 // Whether none of `count` columns from `first` on has its centre in a part of the mosaic; the same for lines.

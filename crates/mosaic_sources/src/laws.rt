@@ -1,13 +1,15 @@
 // What follows from the definitions.
-ghost use Rattle.std.specs.Prelude.{◌≡◌, ℕ, ℤ, pos, ◌<ℤ◌, ◌≤◌, ◌+◌, List, [], ◌∷◌, ◌++◌, length, Some, true};
+ghost use Rattle.std.specs.Prelude.{◌≡◌, ℕ, ℤ, pos, ◌<ℤ◌, ◌≤◌, ◌+◌, List, [], ◌∷◌, ◌++◌, length, drop, slice_get, Some, None, true, ◌<◌};
+ghost use Rattle.std.specs.List.{Contains};
 ghost use Rattle.std.specs.Option.{option_or};
 ghost use Rattle.geotransform.specs.Types.{is_in};
 ghost use Rattle.geotransform.specs.declared.types.PixelType.{PixelType};
 ghost use Rattle.geotransform.specs.declared.types.Size.{Size};
 ghost use Rattle.vrt_profile.specs.Values.{SourceValue};
-ghost use Rattle.vrt_profile.specs.Cover.{Axis, axis_at};
+ghost use Rattle.vrt_profile.specs.Cover.{Axis, axis_at, cover_of};
 ghost use Rattle.vrt_profile.specs.Value.{given_of, last_given, takes_kind};
 ghost use Rattle.mosaic_sources.specs.Pixels.{IsPixel, IsPixelOf};
+ghost use Rattle.mosaic_sources.specs.Rows.{covering_lines, covers_line};
 
 /// Each sample of each type is a pixel that a source takes.
 pub fn samples_are_pixels()
@@ -24,4 +26,21 @@ pub fn columns_rise()
 /// What a further source behind all others gives counts before what they give.
 pub fn last_counts()
     ensures last { (sources : List SourceValue) → (source : SourceValue) → (number : ℕ) → (target : Size) → (sizes : ℕ → Size) → (pixels : ℕ → ℕ → ℕ → ℤ) → (x : ℕ) → (y : ℕ) → last_given (sources ++ source ∷ []) number target sizes pixels x y ≡ option_or (given_of source target (sizes (number + length sources)) (pixels (number + length sources)) x y) (last_given sources number target sizes pixels x y) }
+{}
+
+/// A source that covers a pixel covers its line.
+pub fn covers_lines()
+    ensures line { (source : SourceValue) → (target : Size) → (size : Size) → (x : ℕ) → (y : ℕ) → (place : ℕ × ℕ) → cover_of source target size x y ≡ Some place → covers_line source target y ≡ true }
+{}
+
+/// A line's list has the numbers of sources alone, and a source that isn't in it gives nothing there.
+pub fn unlisted_give_none()
+    ensures below { (sources : List SourceValue) → (number : ℕ) → (target : Size) → (y : ℕ) → Contains (covering_lines sources target y) number → number < length sources }
+    ensures none { (sources : List SourceValue) → (source : SourceValue) → (number : ℕ) → (target : Size) → (size : Size) → (x : ℕ) → (y : ℕ) → slice_get sources number ≡ Some source → ¬ Contains (covering_lines sources target y) number → cover_of source target size x y ≡ None }
+{}
+
+/// What is given from a source on is what is given from a later one on, where no source between is in the line's
+/// list.
+pub fn unlisted_are_skipped()
+    ensures skipped { (sources : List SourceValue) → (from : ℕ) → (to : ℕ) → (target : Size) → (sizes : ℕ → Size) → (pixels : ℕ → ℕ → ℕ → ℤ) → (x : ℕ) → (y : ℕ) → from ≤ to → to ≤ length sources → ((n : ℕ) → from ≤ n → n < to → ¬ Contains (covering_lines sources target y) n) → last_given (drop from sources) from target sizes pixels x y ≡ last_given (drop to sources) to target sizes pixels x y }
 {}
