@@ -21,7 +21,9 @@ use crate::asking::{Asked, asked_of};
 use crate::canvas::{Canvas, is_wanted};
 use crate::missed::Missed;
 use crate::paint::paint_rows;
-use crate::parts::{Part, cost_of, part_of, pixel_rect};
+use crate::parts::{
+    Part, Rows, cost_of, has_cells, is_straight, part_of, pixel_rect, rows_end, rows_of,
+};
 use crate::picture::Picture;
 use crate::places::Span;
 use crate::taking::taking_of;
@@ -46,6 +48,9 @@ const ALONE: u64 = 131_072;
 
 const TIMES_ITS_OWN: u64 = 8;
 
+// A window of so many pixels makes no blocks of mosaics, as long as it may fill pixels so: as many as such a block has.
+const WIDE: usize = 16_384;
+
 /// A pool of blocks and a list of open files, through which pixels of files and of mosaics are read.
 #[derive(Drop)]
 pub struct Lane<F: Folder> {
@@ -55,6 +60,8 @@ pub struct Lane<F: Folder> {
     made: Pool,
     // So many pixels may still be filled in this call before blocks are made in place of parts.
     left: u64,
+    // Whether this call paints parts in place of blocks even where the pool has room.
+    is_wide: bool,
     missed: Missed,
 }
 
@@ -107,6 +114,7 @@ impl<F: Folder> Lane<F> {
             files,
             made,
             left: 0,
+            is_wide: false,
             missed: Missed::new(capacity),
         })
     }
@@ -119,11 +127,12 @@ impl<F: Folder> Lane<F> {
     }
 
     // Begins a call that gives so many pixels.
-    fn begin(&mut self, pixels: usize)
+    fn begin(&mut self, cat: &Catalog, pixels: usize)
         ensures same { self.new ≡ self.old }
     {
         let more = (pixels as u64).saturating_mul(TIMES_ITS_OWN);
         self.left = more.saturating_add(ALONE);
+        self.is_wide = pixels >= WIDE && !has_cells(cat);
     }
 
     // Counts the pixels of a rectangle that is filled.
@@ -417,7 +426,32 @@ impl<F: Folder> Lane<F> {
         Ok(())
     }
 
-    // Paints a picture over its rows, one row of blocks after the other.
+    // Whether all columns of lines of a picture are filled at a time: the call's window is large and may still paint
+    // pixels without blocks, and nothing is scaled.
+    fn goes_wide(&self, picture: &Picture) -> bool {
+        if !self.is_wide {
+            return false;
+        }
+        if self.left == 0 {
+            return false;
+        }
+        is_straight(picture)
+    }
+
+    // The end of the lines of a picture from `line` on, before `end`, that are painted at a time.
+    fn end_of(&self, picture: &Picture, line: u32, end: u32) -> u32
+        requires some { 0 < picture.now.width }
+        requires order { line < end }
+        ensures above { line < result }
+        ensures below { result ≤ end }
+    {
+        if !self.goes_wide(picture) {
+            return end;
+        }
+        rows_end(picture, line, end)
+    }
+
+    // Paints a picture over its rows, one row of blocks after the other, or fewer lines at a time.
     #[cycle(read)]
     fn paint_picture<L: Ledger>(
         &mut self,
@@ -441,9 +475,10 @@ impl<F: Folder> Lane<F> {
         let mut line = 0;
         while line < picture.height {
             let rect = block_around(cat, picture, 0, line).rect;
-            let end = picture
+            let last = picture
                 .lines
                 .run_end(line, picture.height, rect.y, rect.y + rect.h);
+            let end = self.end_of(picture, line, last);
             let lines = Span {
                 first: line,
                 count: end - line,
@@ -456,9 +491,44 @@ impl<F: Folder> Lane<F> {
         Ok(())
     }
 
-    // Paints lines of a picture that lie in one row of blocks, one block after the other.
+    // Paints lines of a picture that lie in one row of blocks, all columns at a time or one block after the other.
     #[cycle(read)]
     fn paint_band<L: Ledger>(
+        &mut self,
+        alloc: Global,
+        cat: &Catalog,
+        folder: &mut F,
+        picture: &Picture,
+        lines: Span,
+        out: &mut [Sample],
+        loads: &mut Steps<L>,
+    ) -> Result<(), LoadFault>
+        requires ready { IsReady F.Folder folder.old cat.now self.old }
+        requires picture { IsPictureOf cat.now picture.now }
+        requires lines { lines.first + lines.count ≤ picture.now.height }
+        requires some { 0 < lines.count }
+        requires band { IsBandOf cat.now picture.now lines.first lines.count }
+        requires rows { length out.old ≡ lines.count * picture.now.stride }
+        ensures serves { Served F.Folder cat.now result folder.old self.old loads.old folder.new self.new loads.new }
+        ensures cause { HasCause LoadFault.FolderFault (F.faults folder.old) (F.faults folder.new) result }
+        ensures changed { IfErr result (TellsChangeIn cat.now) }
+        ensures never { WhereTold F.Folder folder.old (λ _. IfErr result IsUnchanged) }
+        ensures painted { OnOk result (IsShown (F.names folder.new) cat.now picture.now 0 picture.now.width lines.first out.old out.new) }
+        ensures typed { OnOk result (IsTyped cat.now picture.now 0 picture.now.width out.old out.new) }
+    {
+        if let Some(rows) = self.wide_rows(cat, picture, lines) {
+            let Rows { band, piece } = rows;
+            let Piece { key, rect, area } = piece;
+            let block = self.fill(alloc, cat, folder, key, band, rect, loads)?;
+            paint_rows(&block, rect, picture, area, out);
+            return Ok(());
+        }
+        self.paint_pieces(alloc, cat, folder, picture, lines, out, loads)
+    }
+
+    // Paints lines of a picture that lie in one row of blocks, one block after the other.
+    #[cycle(read)]
+    fn paint_pieces<L: Ledger>(
         &mut self,
         alloc: Global,
         cat: &Catalog,
@@ -500,15 +570,40 @@ impl<F: Folder> Lane<F> {
         Ok(())
     }
 
-    // The part of a block that is painted without the block: that of a mosaic, where no block is held and the pool
-    // has no room for it, as long as the call may paint pixels so.
+    // Whether no blocks of mosaics are made: the call may still paint pixels without them, and the pool has no room
+    // for them, or the call's window is large, so that they wouldn't be used again.
+    fn is_alone(&self) -> bool {
+        if self.left == 0 {
+            return false;
+        }
+        self.is_wide || self.is_full()
+    }
+
+    // All columns of some lines of a picture, where they are filled at a time.
+    fn wide_rows<'a>(&self, cat: &'a Catalog, picture: &Picture, lines: Span) -> Option<Rows<'a>>
+        requires picture { IsPictureOf cat.now picture.now }
+        requires lines { lines.first + lines.count ≤ picture.now.height }
+        requires some { 0 < lines.count }
+        ensures part { IfSome result (λ r. IsLonePart cat.now picture.now r.piece r.band.now r.piece.rect) }
+        ensures area { IfSome result (λ r. IsAreaOf picture.now r.piece.area) }
+        ensures columns { IfSome result (λ r. (r.piece.area.column ≡ 0) × (r.piece.area.columns ≡ picture.now.width)) }
+        ensures lines { IfSome result (λ r. (r.piece.area.line ≡ lines.first) × (r.piece.area.lines ≡ lines.count)) }
+    {
+        if !self.goes_wide(picture) {
+            return None;
+        }
+        rows_of(cat, picture, lines)
+    }
+
+    // The part of a block that is painted without the block: that of a mosaic, where no block is held and none is
+    // made.
     fn lone_part<'a>(&self, cat: &'a Catalog, picture: &Picture, piece: Piece) -> Option<Part<'a>>
         requires picture { IsPictureOf cat.now picture.now }
         requires piece { IsPartOf cat.now picture.now piece }
         requires area { IsAreaOf picture.now piece.area }
         ensures part { IfSome result (λ p. IsLonePart cat.now picture.now piece p.band.now p.rect) }
     {
-        if self.left == 0 || !self.is_full() || self.holds(&piece.key) {
+        if !self.is_alone() || self.holds(&piece.key) {
             return None;
         }
         part_of(cat, picture, piece)
@@ -575,7 +670,7 @@ impl<F: Folder> Lane<F> {
         ensures painted { OnOk result (IsShown (F.names folder.new) cat.now picture.now 0 picture.now.width 0 out.old out.new) }
         ensures typed { OnOk result (AreTyped cat.now picture.now (picture.now.height * picture.now.stride) out.new) }
     {
-        self.begin(out.len());
+        self.begin(cat, out.len());
         self.paint_picture(alloc, cat, folder, picture, out, loads)
     }
 }

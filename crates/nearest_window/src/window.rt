@@ -67,7 +67,8 @@ impl<F: Folder> Lane<F> {
     /// made of the blocks of its sources, through every nesting, and takes memory for its samples until it
     /// is whole. Where the pool is full, any part of such a block is made without the block, until the call
     /// has filled 131,072 pixels and eight times its own; from then on whole blocks are made, and up to
-    /// 1,024 of them are kept beside the pool.
+    /// 1,024 of them are kept beside the pool. So is each part of a window of 16,384 pixels or more in a catalog
+    /// without a cell, in a pool with room too, and what isn't scaled is filled in lines of the whole width.
     ///
     /// FolderFault comes only where the folder's count rose, Memory freely. Changed comes only where a
     /// file was opened again and had another length than the walk found, or was absent: never over a

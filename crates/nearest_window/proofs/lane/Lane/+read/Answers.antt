@@ -79,7 +79,7 @@ fill-paint-requires g t c =
     let walked : (m : Files) → g.F.Folder.names c.loop-key.folder ≡ Some m → IsWalked m c.args.cat.now = λ m e. c.requires.ready.walked m (sym told ∙ e) in
     let item : slice_get c.args.band.now.sources (c.loop-key.number - 1) ≡ Some c.get-source.result.now = ap (λ (l : List SourceValue). slice_get l (c.loop-key.number - 1)) (sym (ap (λ (b : BandValue). b.sources) c.band.view_is)) ∙ c.get-source.ensures.item in
     let source : IsSourceOf c.args.cat.now c.args.key (c.loop-key.number - 1) c.get-source.result.now = record { dataset = k.dataset; in_range = k.in_range; source = source_stands c.args.cat.now c.args.key c.args.band.now k (c.loop-key.number - 1) c.get-source.result.now item } in
-    let fall : 6 * height_at c.args.cat.now c.args.key.dataset < t = (let m : 6 * height_at c.args.cat.now c.args.key.dataset + 1 ≡ t = c.decreases in omega arith) in
+    let fall : 7 * height_at c.args.cat.now c.args.key.dataset < t = (let m : 7 * height_at c.args.cat.now c.args.key.dataset + 1 ≡ t = c.decreases in omega arith) in
     let within : (d : Dataset) → slice_get c.args.cat.now c.args.key.dataset ≡ Some d → IsWithin c.loop-key.canvas.rect d.head.size = λ d at. subst (λ r. IsWithin r d.head.size) (sym before.rect) (c.requires.within d at) in
     let canvas = before.canvas in
     let ready : IsReady g.F.Folder c.loop-key.folder c.args.cat.now c.loop-key.self = record { right = right; walked = walked } in
@@ -151,45 +151,49 @@ pub paint_picture-paint_band-requires-clause-ready : goal.paint_picture-paint_ba
 paint_picture-paint_band-requires-clause-ready g t c κs within =
     ready_then g.F.Folder c.args.cat.now 0 c.args.folder.now c.loop-line.folder c.args.self.now c.loop-line.self c.args.loads.now c.loop-line.loads c.requires.ready c.loop-line.invariant.serves
 
-pub paint_band-paint_block-requires-clause-ready : goal.paint_band-paint_block-requires-clause-ready
-paint_band-paint_block-requires-clause-ready g t c κs within =
+pub paint_pieces-paint_block-requires-clause-ready : goal.paint_pieces-paint_block-requires-clause-ready
+paint_pieces-paint_block-requires-clause-ready g t c κs within =
     ready_then g.F.Folder c.args.cat.now 0 c.args.folder.now c.loop-column.folder c.args.self.now c.loop-column.self c.args.loads.now c.loop-column.loads c.requires.ready c.loop-column.invariant.serves
 
 pub paint_picture-paint_band-requires-clause-band : goal.paint_picture-paint_band-requires-clause-band
 paint_picture-paint_band-requires-clause-band g t c κs within d at k low high =
     in_row c.args.cat.now c.args.picture.now 0 c.loop-line.line c.block_around.result.key c.block_around.result.rect c.block_around.ensures.around d at (place_at c.args.picture.now.lines k)
-    (c.run_end-end.ensures.low k low (omega arith)) (c.run_end-end.ensures.edge k low (omega arith))
+    (c.run_end-last.ensures.low k low (let near = c.end_of-end.ensures.below in omega arith)) (c.run_end-last.ensures.edge k low (let near = c.end_of-end.ensures.below in omega arith))
 
 pub paint_picture-paint_band-requires-clause-rows : goal.paint_picture-paint_band-requires-clause-rows
 paint_picture-paint_band-requires-clause-rows g t c κs within =
-    let below = c.run_end-end.ensures.below in
-    let above = c.run_end-end.ensures.above in
+    let far = c.run_end-last.ensures.below in
+    let near = c.end_of-end.ensures.below in
+    let below : c.end_of-end.result ≤ c.args.picture.now.height = omega arith in
+    let above = c.end_of-end.ensures.above in
     let kept = c.loop-line.auto.out in
     let rows = c.requires.rows in
-    let big : c.run_end-end.result * c.args.picture.now.stride ≤ c.args.picture.now.height * c.args.picture.now.stride = mul-le-mul below (omega arith) in
-    part_length c.args.picture.now.stride c.loop-line.line c.run_end-end.result c.loop-line.out (omega arith) (omega arith)
+    let big : c.end_of-end.result * c.args.picture.now.stride ≤ c.args.picture.now.height * c.args.picture.now.stride = mul-le-mul below (omega arith) in
+    part_length c.args.picture.now.stride c.loop-line.line c.end_of-end.result c.loop-line.out (omega arith) (omega arith)
 
 pub paint_picture-loop-line-preserved : goal.paint_picture-loop-line-preserved
 paint_picture-loop-line-preserved g t c =
     let before = c.loop-line.invariant in
     let o = c.in_ok-paint_band.ensures in
-    let below = c.run_end-end.ensures.below in
-    let above = c.run_end-end.ensures.above in
+    let far = c.run_end-last.ensures.below in
+    let near = c.end_of-end.ensures.below in
+    let below : c.end_of-end.result ≤ c.args.picture.now.height = omega arith in
+    let above = c.end_of-end.ensures.above in
     let kept = c.loop-line.auto.out in
     let rows = c.requires.rows in
-    let sum : c.loop-line.line + (c.run_end-end.result - c.loop-line.line) ≡ c.run_end-end.result = omega arith in
-    let big : c.run_end-end.result * c.args.picture.now.stride ≤ c.args.picture.now.height * c.args.picture.now.stride = mul-le-mul below (omega arith) in
-    let there : (c.loop-line.line + (c.run_end-end.result - c.loop-line.line)) * c.args.picture.now.stride ≤ length c.loop-line.out = (let e : (c.loop-line.line + (c.run_end-end.result - c.loop-line.line)) * c.args.picture.now.stride ≡ c.run_end-end.result * c.args.picture.now.stride = ap (λ n. n * c.args.picture.now.stride) sum in omega arith) in
+    let sum : c.loop-line.line + (c.end_of-end.result - c.loop-line.line) ≡ c.end_of-end.result = omega arith in
+    let big : c.end_of-end.result * c.args.picture.now.stride ≤ c.args.picture.now.height * c.args.picture.now.stride = mul-le-mul below (omega arith) in
+    let there : (c.loop-line.line + (c.end_of-end.result - c.loop-line.line)) * c.args.picture.now.stride ≤ length c.loop-line.out = (let e : (c.loop-line.line + (c.end_of-end.result - c.loop-line.line)) * c.args.picture.now.stride ≡ c.end_of-end.result * c.args.picture.now.stride = ap (λ n. n * c.args.picture.now.stride) sum in omega arith) in
     record {
       serves = serves_trans g.F.Folder.file_bytes g.F.Folder.file_len c.args.cat.now 0 _ _ _ before.serves o.serves;
       below = below;
-      painted = subst (λ n. (m : Files) → g.F.Folder.names c.paint_band.new.folder ≡ Some m → IsPainted (first (n * c.args.picture.now.stride) (in_columns c.args.picture.now.stride (c.args.picture.now.to + 0) (c.args.picture.now.to + 0 + c.args.picture.now.width) (shown m c.args.cat.now c.args.picture.now 0 0))) c.args.out.now (put_mid (c.loop-line.line * c.args.picture.now.stride) (c.run_end-end.result * c.args.picture.now.stride - c.loop-line.line * c.args.picture.now.stride) c.loop-line.out c.paint_band.new.out)) sum
-          (bands_more (g.F.Folder.names c.loop-line.folder) (g.F.Folder.names c.paint_band.new.folder) c.args.cat.now c.args.picture.now c.loop-line.line (c.run_end-end.result - c.loop-line.line) (c.loop-line.line * c.args.picture.now.stride) (c.run_end-end.result * c.args.picture.now.stride) c.args.out.now c.loop-line.out c.paint_band.new.out
+      painted = subst (λ n. (m : Files) → g.F.Folder.names c.paint_band.new.folder ≡ Some m → IsPainted (first (n * c.args.picture.now.stride) (in_columns c.args.picture.now.stride (c.args.picture.now.to + 0) (c.args.picture.now.to + 0 + c.args.picture.now.width) (shown m c.args.cat.now c.args.picture.now 0 0))) c.args.out.now (put_mid (c.loop-line.line * c.args.picture.now.stride) (c.end_of-end.result * c.args.picture.now.stride - c.loop-line.line * c.args.picture.now.stride) c.loop-line.out c.paint_band.new.out)) sum
+          (bands_more (g.F.Folder.names c.loop-line.folder) (g.F.Folder.names c.paint_band.new.folder) c.args.cat.now c.args.picture.now c.loop-line.line (c.end_of-end.result - c.loop-line.line) (c.loop-line.line * c.args.picture.now.stride) (c.end_of-end.result * c.args.picture.now.stride) c.args.out.now c.loop-line.out c.paint_band.new.out
           o.serves.told refl (ap (λ n. n * c.args.picture.now.stride) (sym sum)) c.requires.picture.picture.some there before.painted o.painted);
-      typed = subst (λ n. AreTyped c.args.cat.now c.args.picture.now (n * c.args.picture.now.stride) (put_mid (c.loop-line.line * c.args.picture.now.stride) (c.run_end-end.result * c.args.picture.now.stride - c.loop-line.line * c.args.picture.now.stride) c.loop-line.out c.paint_band.new.out)) sum
-          (rows_typed c.args.cat.now c.args.picture.now c.loop-line.line (c.run_end-end.result - c.loop-line.line) (c.loop-line.line * c.args.picture.now.stride) (c.run_end-end.result * c.args.picture.now.stride) c.loop-line.out c.paint_band.new.out
+      typed = subst (λ n. AreTyped c.args.cat.now c.args.picture.now (n * c.args.picture.now.stride) (put_mid (c.loop-line.line * c.args.picture.now.stride) (c.end_of-end.result * c.args.picture.now.stride - c.loop-line.line * c.args.picture.now.stride) c.loop-line.out c.paint_band.new.out)) sum
+          (rows_typed c.args.cat.now c.args.picture.now c.loop-line.line (c.end_of-end.result - c.loop-line.line) (c.loop-line.line * c.args.picture.now.stride) (c.end_of-end.result * c.args.picture.now.stride) c.loop-line.out c.paint_band.new.out
           refl (ap (λ n. n * c.args.picture.now.stride) (sym sum)) c.requires.picture.picture.some there
-          (part_length c.args.picture.now.stride c.loop-line.line c.run_end-end.result c.loop-line.out (omega arith) (omega arith)) before.typed o.typed);
+          (part_length c.args.picture.now.stride c.loop-line.line c.end_of-end.result c.loop-line.out (omega arith) (omega arith)) before.typed o.typed);
     }
 
 pub paint_picture-returns-clause-typed : goal.paint_picture-returns-clause-typed
@@ -210,8 +214,8 @@ paint_picture-returns-clause-painted g t c = λ m e.
     let long : length c.args.out.now ≤ c.loop-line.line * c.args.picture.now.stride = (let e : c.loop-line.line * c.args.picture.now.stride ≡ c.args.picture.now.height * c.args.picture.now.stride = ap (λ n. n * c.args.picture.now.stride) all in omega arith) in
     painted_whole _ (c.loop-line.line * c.args.picture.now.stride) c.args.out.now c.loop-line.out long (before.painted m e)
 
-pub paint_band-paint_block-requires-clause-piece : goal.paint_band-paint_block-requires-clause-piece
-paint_band-paint_block-requires-clause-piece g t c κs within =
+pub paint_pieces-paint_block-requires-clause-piece : goal.paint_pieces-paint_block-requires-clause-piece
+paint_pieces-paint_block-requires-clause-piece g t c κs within =
     let around = c.block_around.ensures.around in
     record {
       dataset = around.dataset;
@@ -224,8 +228,8 @@ paint_band-paint_block-requires-clause-piece g t c κs within =
           (c.requires.band around.dataset (around_at c.args.cat.now c.args.picture.now c.loop-column.column c.args.lines.first c.block_around.result.key c.block_around.result.rect around) k low high);
     }
 
-pub paint_band-loop-column-preserved : goal.paint_band-loop-column-preserved
-paint_band-loop-column-preserved g t c =
+pub paint_pieces-loop-column-preserved : goal.paint_pieces-loop-column-preserved
+paint_pieces-loop-column-preserved g t c =
     let before = c.loop-column.invariant in
     let o = c.in_ok-paint_block.ensures in
     let above = c.run_end-end.ensures.above in
@@ -239,21 +243,47 @@ paint_band-loop-column-preserved g t c =
           (typed_more c.args.cat.now c.args.picture.now c.loop-column.column (c.run_end-end.result - c.loop-column.column) c.args.out.now c.loop-column.out c.paint_block.new.out before.typed o.typed);
     }
 
-pub paint_band-returns-clause-typed : goal.paint_band-returns-clause-typed
-paint_band-returns-clause-typed g t c =
+pub paint_pieces-returns-clause-typed : goal.paint_pieces-returns-clause-typed
+paint_pieces-returns-clause-typed g t c =
     let before = c.loop-column.invariant in
     let test = c.loop-column-test.false in
     let below = before.below in
     let all : c.loop-column.column ≡ c.args.picture.now.width = omega arith in
     subst (λ n. IsTyped c.args.cat.now c.args.picture.now 0 n c.args.out.now c.loop-column.out) all before.typed
 
-pub paint_band-returns-clause-painted : goal.paint_band-returns-clause-painted
-paint_band-returns-clause-painted g t c =
+pub paint_pieces-returns-clause-painted : goal.paint_pieces-returns-clause-painted
+paint_pieces-returns-clause-painted g t c =
     let before = c.loop-column.invariant in
     let test = c.loop-column-test.false in
     let below = before.below in
     let all : c.loop-column.column ≡ c.args.picture.now.width = omega arith in
     subst (λ n. IsShown (g.F.Folder.names c.loop-column.folder) c.args.cat.now c.args.picture.now 0 n c.args.lines.first c.args.out.now c.loop-column.out) all before.painted
+
+pub paint_band-returns-in-Some-clause-painted : goal.paint_band-returns-in-Some-clause-painted
+paint_band-returns-in-Some-clause-painted g t c = λ m e.
+    let part = rw c.in-Some.is at c.wide_rows.ensures.part in
+    let columns = rw c.in-Some.is at c.wide_rows.ensures.columns in
+    let lines = rw c.in-Some.is at c.wide_rows.ensures.lines in
+    let made = c.in_ok-block.ensures.block in
+    let rows = c.requires.rows in
+    let p = c.args.picture.now in
+    let area = c.in-Some.rows.piece.area in
+    let high : area.lines * p.stride ≡ c.args.lines.count * p.stride = ap (λ n. n * p.stride) lines.1 in
+    let size : length c.args.out.now ≤ area.lines * p.stride = omega arith in
+    let painted = rect_shown m c.args.cat.now c.in-Some.rows.piece.key.dataset c.in-Some.rows.piece.key.band c.in-Some.rows.piece.rect p area.column area.columns area.line area.lines c.in_ok-block.block c.args.out.now c.paint_rows.new.out part.dataset_is part.band_is part.across part.down (made.content m e) c.requires.picture.picture.some size c.paint_rows.ensures.painted in
+    subst (λ n. IsPainted (in_columns p.stride (p.to + 0) (p.to + 0 + n) (shown m c.args.cat.now p 0 c.args.lines.first)) c.args.out.now c.paint_rows.new.out) columns.1
+    (subst (λ n. IsPainted (in_columns p.stride (p.to + 0) (p.to + 0 + area.columns) (shown m c.args.cat.now p 0 n)) c.args.out.now c.paint_rows.new.out) lines.0
+    (subst (λ n. IsPainted (in_columns p.stride (p.to + n) (p.to + n + area.columns) (shown m c.args.cat.now p n area.line)) c.args.out.now c.paint_rows.new.out) columns.0 painted))
+
+pub paint_band-returns-in-Some-clause-typed : goal.paint_band-returns-in-Some-clause-typed
+paint_band-returns-in-Some-clause-typed g t c =
+    let part = rw c.in-Some.is at c.wide_rows.ensures.part in
+    let columns = rw c.in-Some.is at c.wide_rows.ensures.columns in
+    let made = c.in_ok-block.ensures.block in
+    let p = c.args.picture.now in
+    subst (λ n. IsTyped c.args.cat.now p 0 n c.args.out.now c.paint_rows.new.out) columns.1
+    (subst (λ n. IsTyped c.args.cat.now p n c.in-Some.rows.piece.area.columns c.args.out.now c.paint_rows.new.out) columns.0
+    (rect_typed c.args.cat.now p c.in-Some.rows.piece c.in-Some.rows.piece.rect made.dataset c.in_ok-block.block c.args.out.now c.paint_rows.new.out part.dataset_is part.band_is made.in_range made.shape c.paint_rows.ensures.painted))
 
 pub paint_block-returns-in-Some-clause-painted : goal.paint_block-returns-in-Some-clause-painted
 paint_block-returns-in-Some-clause-painted g t c = λ m e.
