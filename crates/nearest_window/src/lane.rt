@@ -22,7 +22,7 @@ use crate::canvas::{Canvas, is_wanted};
 use crate::missed::Missed;
 use crate::paint::paint_rows;
 use crate::parts::{
-    Part, Rows, cost_of, has_cells, is_straight, part_of, pixel_rect, rows_end, rows_of,
+    Part, Rows, cost_of, has_cells, has_large_sources, is_straight, part_of, pixel_rect, rows_end, rows_of,
 };
 use crate::picture::Picture;
 use crate::places::Span;
@@ -439,13 +439,14 @@ impl<F: Folder> Lane<F> {
     }
 
     // The end of the lines of a picture from `line` on, before `end`, that are painted at a time.
-    fn end_of(&self, picture: &Picture, line: u32, end: u32) -> u32
+    fn end_of(&self, cat: &Catalog, picture: &Picture, key: BlockKey, line: u32, end: u32) -> u32
+        requires key { IsKey cat.now key }
         requires some { 0 < picture.now.width }
         requires order { line < end }
         ensures above { line < result }
         ensures below { result ≤ end }
     {
-        if !self.goes_wide(picture) {
+        if !self.goes_wide(picture) || !has_large_sources(cat, key) {
             return end;
         }
         rows_end(picture, line, end)
@@ -474,11 +475,11 @@ impl<F: Folder> Lane<F> {
     {
         let mut line = 0;
         while line < picture.height {
-            let rect = block_around(cat, picture, 0, line).rect;
+            let Around { key, rect } = block_around(cat, picture, 0, line);
             let last = picture
                 .lines
                 .run_end(line, picture.height, rect.y, rect.y + rect.h);
-            let end = self.end_of(picture, line, last);
+            let end = self.end_of(cat, picture, key, line, last);
             let lines = Span {
                 first: line,
                 count: end - line,
