@@ -19,3 +19,6 @@ mod Windows
 mod Naming
 mod Ranges
 mod Spread
+mod Indexes
+mod Skips
+mod Wanted
