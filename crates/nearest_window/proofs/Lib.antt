@@ -19,6 +19,6 @@ mod Windows
 mod Naming
 mod Ranges
 mod Spread
-mod Indexes
+mod Counted
 mod Skips
-mod Wanted
+mod Needed

@@ -1,7 +1,7 @@
 -- Sources that aren't wanted may be skipped.
 use Rattle.std.proofs.Common.{◌≡◌, ◌⊎◌, ℕ, ◌+◌, ◌-◌, ◌<◌, ◌≤◌, List, length, get_or, Option, true, false, cond, refl, sym, ap, ◌∙◌, subst, arith, ⊎_elim, nat_lt, slice_index, option_map}
 use Rattle.std.specs.List.{AllPairs, Contains}
-use Rattle.std.proofs.Grind.{nat_tests}
+use Rattle.std.proofs.lemmas.Bool.Decides.{nat_tests}
 use Rattle.std.proofs.lemmas.Bool.{cases_lt}
 use Rattle.std.proofs.lemmas.List.{get_or_default}
 use Rattle.std.proofs.lemmas.List.Kept.{AllPairs-from_increasing}

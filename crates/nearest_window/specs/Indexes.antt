@@ -27,5 +27,5 @@ kept_behind others kept = if nat_le (all_listed others + listed_of kept) most_li
 
 -- the numbers that all lists have together are counted, and aren't too many
 pub record AreCounted (kept : List Kept) (count : ℕ) : Type 0 where
-  pub count : count ≡ all_listed kept
+  pub all : count ≡ all_listed kept
   pub short : count ≤ most_listed

@@ -60,6 +60,20 @@ fn is_of(kept: &Kept, dataset: u32, band: u32) -> bool
     kept.dataset == dataset && kept.band == band
 }
 
+// The first of these that is this band.
+fn find_in(bands: &[Kept], dataset: u32, band: u32) -> Option<&Kept>
+    ensures found { IfSome result (λ k. Contains bands.now k.now) }
+    ensures same { IfSome result (λ k. is_of k.now dataset band ≡ true) }
+    ensures none { result ≡ None → All (λ k. is_of k dataset band ≡ false) bands.now }
+{
+    for kept in bands {
+        if is_of(kept, dataset, band) {
+            return Some(kept);
+        }
+    }
+    None
+}
+
 impl Indexes {
     /// No band is indexed. It takes no memory.
     pub fn new(alloc: Global) -> Indexes
@@ -84,12 +98,7 @@ impl Indexes {
         ensures same { IfSome result (λ k. is_of k.now dataset band ≡ true) }
         ensures none { result ≡ None → All (λ k. is_of k dataset band ≡ false) self.now }
     {
-        for kept in &self.kept {
-            if is_of(kept, dataset, band) {
-                return Some(kept);
-            }
-        }
-        None
+        find_in(self.kept.as_slice(), dataset, band)
     }
 
     // A band as it is kept: without its index where all lists would have too many numbers together.

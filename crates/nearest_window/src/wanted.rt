@@ -17,7 +17,7 @@ use vrt_profile::Sources;
 #[derive(Drop)]
 pub enum Wanted {
     /// So many, from the first on.
-    All(u32),
+    All(usize),
     /// These.
     Listed(Vec<u32>),
 }
@@ -90,12 +90,11 @@ pub fn listed_in(alloc: Global, index: &RowIndex, rect: Rect) -> Result<Vec<u32>
     Ok(numbers)
 }
 
-/// All sources of a band, of which there are less than 2^32.
+/// All sources of a band.
 pub fn all_of(sources: &Sources) -> Wanted
-    requires few { length sources.now < 2 ^ 32 }
     ensures all { (size : Size) → (rect : Rect) → IsWanted sources.now size rect (numbers_of result) }
 {
-    Wanted::All(sources.len() as u32)
+    Wanted::All(sources.len())
 }
 
 /// The sources that a rectangle of a mosaic's band needs: those in the lists of its lines, or all where the
@@ -107,7 +106,6 @@ pub fn wanted_of(
     size: Size,
     rect: Rect,
 ) -> Result<Wanted, AllocError>
-    requires few { length sources.now < 2 ^ 32 }
     requires within { rect.y + rect.h ≤ size.h }
     requires index { IfSome kept.now.index (IsIndexOf sources.now size) }
     ensures wanted { IfOk result (λ w. IsWanted sources.now size rect (numbers_of w)) }
@@ -124,19 +122,19 @@ impl Wanted {
         ensures count { result ≡ length (numbers_of self.now) }
     {
         match self {
-            Wanted::All(count) => *count as usize,
+            Wanted::All(count) => *count,
             Wanted::Listed(numbers) => numbers.len(),
         }
     }
 
     /// The number of the source at a place.
-    pub fn at(&self, k: usize) -> u32
+    pub fn at(&self, k: usize) -> usize
         requires there { k < length (numbers_of self.now) }
         ensures number { result ≡ slice_index (numbers_of self.now) k }
     {
         match self {
-            Wanted::All(_) => k as u32,
-            Wanted::Listed(numbers) => numbers[k],
+            Wanted::All(_) => k,
+            Wanted::Listed(numbers) => numbers[k] as usize,
         }
     }
 }

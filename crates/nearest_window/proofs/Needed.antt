@@ -1,8 +1,10 @@
 -- The sources that are wanted.
-use Rattle.std.proofs.Common.{◌≡◌, ℕ, ◌+◌, ◌<◌, ◌≤◌, List, length, get_or, refl, sym, ap, ◌∙◌, arith, subst}
+use Rattle.std.proofs.Common.{ℕ, ◌+◌, ◌<◌, ◌≤◌, List, length, get_or, refl, sym, ap, ◌∙◌, ◌++◌, ◌≡◌, arith, subst, nat_le, true, ⊎_elim}
 use Rattle.std.specs.List.{All, Contains, range_with_len}
 use Rattle.std.specs.List.Sorted.{IsStrictlyIncreasing}
-use Rattle.std.proofs.lemmas.List.Elements.{All-weaker}
+use Rattle.std.proofs.lemmas.Bool.{cases_lt}
+use Rattle.std.proofs.lemmas.Bool.Decides.{nat_tests}
+use Rattle.std.proofs.lemmas.List.Elements.{All-append, All-contains_itself, All-weaker, Contains-append_left, Contains-append_right}
 use Rattle.std.proofs.lemmas.List.FromFn.{length-range_with_len, get_or-range_with_len}
 use Rattle.geotransform.specs.declared.types.Rect.{Rect}
 use Rattle.geotransform.specs.declared.types.Size.{Size}
@@ -34,3 +36,24 @@ listed_wanted sources size rect r numbers index within rising all from = record 
   below = All-weaker (IsListedIn r rect) (λ (n : ℕ). n < length sources) (λ n there. listed_there sources n size there.line (subst (λ (l : List ℕ). Contains l n) (index.lists there.line (omega (arith, there.within.bottom, within))) there.listed)) numbers from;
   listed = λ y at n there. all n (record { line = y; within = at; listed = subst (λ (l : List ℕ). Contains l n) (sym (index.lists y (omega (arith, at.bottom, within)))) there });
 }
+
+pub within_end : (a b : ℕ) → nat_le a b ≡ true → a ≤ b
+within_end a b h = grind (arith, nat_tests)
+
+-- the list of one stretch more
+pub gathered_all : (r : Rows) (low y next : ℕ) (old more new : List ℕ) → new ≡ old ++ more → more ≡ list_at r y → ((z : ℕ) → low ≤ z → z < y → (n : ℕ) → Contains (list_at r z) n → Contains old n) → ((z : ℕ) → y ≤ z → z < next → list_at r z ≡ list_at r y)
+    → (z : ℕ) → low ≤ z → z < next → (n : ℕ) → Contains (list_at r z) n → Contains new n
+gathered_all r low y next old more new added is before same z from below n there = subst (λ (l : List ℕ). Contains l n) (sym added) (⊎_elim
+    (λ (l : z < y). Contains-append_left old more n (before z from l n there))
+    (λ (l : y ≤ z). Contains-append_right old more n (subst (λ (l : List ℕ). Contains l n) (same z l below ∙ sym is) there))
+    (cases_lt z y))
+
+pub line_from : (r : Rows) (rect : Rect) (y : ℕ) (list : List ℕ) → IsLineOf rect y → list ≡ list_at r y → All (IsListedIn r rect) list
+line_from r rect y list at is = All-weaker (Contains list) (IsListedIn r rect) (λ n there. record { line = y; within = at; listed = subst (λ (l : List ℕ). Contains l n) is there }) list (All-contains_itself list)
+
+pub gathered_from : (r : Rows) (rect : Rect) (y : ℕ) (old more new : List ℕ) → new ≡ old ++ more → more ≡ list_at r y → IsLineOf rect y → All (IsListedIn r rect) old → All (IsListedIn r rect) new
+gathered_from r rect y old more new added is at before = subst (All (IsListedIn r rect)) (sym added) (All-append (IsListedIn r rect) old more before (line_from r rect y more at is))
+
+-- the list of the only stretch
+pub line_all : (r : Rows) (rect : Rect) (y : ℕ) (list : List ℕ) → list ≡ list_at r y → ((z : ℕ) → IsLineOf rect z → list_at r z ≡ list_at r y) → (n : ℕ) → IsListedIn r rect n → Contains list n
+line_all r rect y list is same n there = subst (λ (l : List ℕ). Contains l n) (same there.line there.within ∙ sym is) there.listed

@@ -1,6 +1,6 @@
 -- How many numbers the kept indexes have together.
 use Rattle.std.proofs.Common.{◌≡◌, ℕ, ◌+◌, ◌<◌, ◌≤◌, List, [], ◌∷◌, ◌++◌, Bool, true, false, cond, refl, sym, ap, ◌∙◌, arith, ⊎_elim, nat_le, subst}
-use Rattle.std.proofs.Grind.{nat_tests}
+use Rattle.std.proofs.lemmas.Bool.Decides.{nat_tests}
 use Rattle.std.proofs.lemmas.Bool.{cases_lt}
 use Rattle.std.proofs.lemmas.List.Sums.{sum_by_push}
 use Rattle.mosaic_sources.specs.Rows.{most_listed}
@@ -19,9 +19,9 @@ from_test a b h = grind (arith, nat_tests)
 pub counted_more : (old new : List Kept) (kept more : Kept) (count added : ℕ) → AreCounted old count → more ≡ kept_behind old kept → new ≡ old ++ more ∷ [] → added ≡ listed_of more → AreCounted new (count + added)
 counted_more old new kept more count added before is pushed same =
     let total = ap all_listed pushed ∙ sum_by_push listed_of old more in
-    let short = behind_short (nat_le (all_listed old + listed_of kept) most_listed) (all_listed old) kept (from_test _ _) (subst (λ (n : ℕ). n ≤ most_listed) before.count before.short) in
+    let short = behind_short (nat_le (all_listed old + listed_of kept) most_listed) (all_listed old) kept (from_test _ _) (subst (λ (n : ℕ). n ≤ most_listed) before.all before.short) in
     let this : listed_of more ≡ listed_of (kept_behind old kept) = ap listed_of is in
     record {
-      count = omega (arith, total, before.count, same);
-      short = omega (arith, before.count, same, this, short);
+      all = omega (arith, total, before.all, same);
+      short = omega (arith, before.all, same, this, short);
     }
