@@ -4,7 +4,7 @@ use Rattle.std.specs.List.{All, Contains, range_with_len}
 use Rattle.std.specs.List.Sorted.{IsStrictlyIncreasing}
 use Rattle.std.proofs.lemmas.Bool.{cases_lt}
 use Rattle.std.proofs.lemmas.Bool.Decides.{nat_tests}
-use Rattle.std.proofs.lemmas.List.Elements.{All-append, All-contains_itself, All-weaker, Contains-append_left, Contains-append_right}
+use Rattle.std.proofs.lemmas.List.Elements.{All-append, All-contains, All-contains_itself, All-weaker, Contains-append_left, Contains-append_right}
 use Rattle.std.proofs.lemmas.List.FromFn.{length-range_with_len, get_or-range_with_len}
 use Rattle.geotransform.specs.declared.types.Rect.{Rect}
 use Rattle.geotransform.specs.declared.types.Size.{Size}
@@ -14,16 +14,21 @@ use Rattle.mosaic_sources.proofs.OfLines.{listed_there}
 use Rattle.mosaic_sources.proofs.Passing.{rises}
 use Rattle.nearest_window.specs.Wanted.{IsLineOf, IsListedIn, IsWanted}
 
+-- the number at a place of all
+pub number_at : (count k d : ℕ) → k < count → get_or (range_with_len 0 count) k d ≡ k
+number_at count k d less = let e : 0 + k ≡ k = omega arith in get_or-range_with_len 0 count k d less ∙ e
+
 -- all sources are enough
 pub every_wanted : (sources : List SourceValue) (count : ℕ) (size : Size) (rect : Rect) → count ≡ length sources → IsWanted sources size rect (range_with_len 0 count)
-every_wanted sources count size rect is = record {
-  rising = λ k less. let n = length-range_with_len 0 count in omega (arith, less, n, get_or-range_with_len 0 count k 0 (omega (arith, less, n)), get_or-range_with_len 0 count (k + 1) 0 (omega (arith, less, n)));
-  below = λ k d less. let n = length-range_with_len 0 count in omega (arith, less, n, is, get_or-range_with_len 0 count k d (omega (arith, less, n)));
-  listed = λ y at number there.
-      let low = listed_there sources number size y there in
-      let n = length-range_with_len 0 count in
-      (number, omega (arith, low, n, is), get_or-range_with_len 0 count number number (omega (arith, low, is)));
-}
+every_wanted sources count size rect is =
+    let n = length-range_with_len 0 count in
+    record {
+      rising = λ k less. omega (arith, number_at count k 0 (omega (arith, less, n)), number_at count (k + 1) 0 (omega (arith, less, n)));
+      below = λ k d less. omega (arith, less, n, is, number_at count k d (omega (arith, less, n)));
+      listed = λ y at number there.
+          let low = listed_there sources number size y there in
+          (number, omega (arith, low, n, is), number_at count number number (omega (arith, low, is)));
+    }
 
 -- the lists of an index rise
 pub lists_rise : (sources : List SourceValue) (size : Size) (r : Rows) → IsIndexOf sources size r → (y : ℕ) → y < r.height → IsStrictlyIncreasing (list_at r y)
@@ -57,3 +62,7 @@ gathered_from r rect y old more new added is at before = subst (All (IsListedIn 
 -- the list of the only stretch
 pub line_all : (r : Rows) (rect : Rect) (y : ℕ) (list : List ℕ) → list ≡ list_at r y → ((z : ℕ) → IsLineOf rect z → list_at r z ≡ list_at r y) → (n : ℕ) → IsListedIn r rect n → Contains list n
 line_all r rect y list is same n there = subst (λ (l : List ℕ). Contains l n) (same there.line there.within ∙ sym is) there.listed
+
+-- sorted, the numbers are still in the lists
+pub sorted_from : (r : Rows) (rect : Rect) (old new : List ℕ) → All (IsListedIn r rect) old → ((n : ℕ) → Contains new n → Contains old n) → All (IsListedIn r rect) new
+sorted_from r rect old new before from = All-weaker (Contains new) (IsListedIn r rect) (λ n there. All-contains (IsListedIn r rect) old n before (from n there)) new (All-contains_itself new)

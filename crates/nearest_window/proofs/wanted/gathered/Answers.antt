@@ -11,8 +11,8 @@ loop-y-preserved c =
     let new = c.extend_from_slice.new.self.items in
     let added = c.in_ok-extend_from_slice.ensures.items in
     record {
-      low = omega (arith, before.low, c.stretch_end.ensures.behind);
-      all = gathered_all index c.args.rect.y y c.stretch_end.result old c.at.result.now new added c.at.ensures.list before.all c.stretch_end.ensures.same;
+      low = omega (arith, before.low, c.stretch_end-y.ensures.behind);
+      all = gathered_all index c.args.rect.y y c.stretch_end-y.result old c.at.result.now new added c.at.ensures.list before.all c.stretch_end-y.ensures.same;
       from = gathered_from index c.args.rect y old c.at.result.now new added c.at.ensures.list (record { top = before.low; bottom = c.loop-y-test.true }) before.from;
     }
 
