@@ -19,6 +19,5 @@ mod Windows
 mod Naming
 mod Ranges
 mod Spread
-mod Counted
 mod Skips
 mod Needed

@@ -1,5 +1,5 @@
 -- The sources that are wanted.
-use Rattle.std.proofs.Common.{ℕ, ◌+◌, ◌<◌, ◌≤◌, List, length, get_or, refl, sym, ap, ◌∙◌, ◌++◌, ◌≡◌, arith, subst, nat_le, true, ⊎_elim}
+use Rattle.std.proofs.Common.{ℕ, ◌+◌, ◌<◌, ◌≤◌, List, length, get_or, sym, ◌∙◌, ◌++◌, ◌≡◌, arith, subst, nat_le, true, ⊎_elim}
 use Rattle.std.specs.List.{All, Contains, range_with_len}
 use Rattle.std.specs.List.Sorted.{IsStrictlyIncreasing}
 use Rattle.std.proofs.lemmas.Bool.{cases_lt}
@@ -9,7 +9,7 @@ use Rattle.std.proofs.lemmas.List.FromFn.{length-range_with_len, get_or-range_wi
 use Rattle.geotransform.specs.declared.types.Rect.{Rect}
 use Rattle.geotransform.specs.declared.types.Size.{Size}
 use Rattle.vrt_profile.specs.Values.{SourceValue}
-use Rattle.mosaic_sources.specs.Rows.{Rows, IsIndexOf, covering_lines, list_at}
+use Rattle.mosaic_sources.specs.Rows.{Rows, IsIndexOf, list_at}
 use Rattle.mosaic_sources.proofs.OfLines.{listed_there}
 use Rattle.mosaic_sources.proofs.Passing.{rises}
 use Rattle.nearest_window.specs.Wanted.{IsLineOf, IsListedIn, IsWanted}

@@ -1,6 +1,7 @@
 -- Sources that aren't wanted may be skipped.
-use Rattle.std.proofs.Common.{◌≡◌, ◌⊎◌, ℕ, ◌+◌, ◌-◌, ◌<◌, ◌≤◌, List, length, get_or, Option, true, false, cond, refl, sym, ap, ◌∙◌, subst, arith, ⊎_elim, nat_lt, slice_index, option_map}
-use Rattle.std.specs.List.{AllPairs, Contains}
+use Rattle.std.proofs.Common.{◌≡◌, ◌⊎◌, ℕ, ◌+◌, ◌-◌, ◌<◌, ◌≤◌, List, length, Option, true, false, cond, sym, ap, ◌∙◌, subst, arith, ⊎_elim, nat_lt, slice_index, option_map, inr, ◌*◌}
+use Rattle.std.specs.Prelude.{is_some}
+use Rattle.std.specs.List.{Contains}
 use Rattle.std.proofs.lemmas.Bool.Decides.{nat_tests}
 use Rattle.std.proofs.lemmas.Bool.{cases_lt}
 use Rattle.std.proofs.lemmas.List.{get_or_default}
@@ -12,8 +13,9 @@ use Rattle.catalog.specs.Drivers.{Dataset}
 use Rattle.catalog.specs.Pixels.{target_size, target_pixel}
 use Rattle.mosaic_sources.proofs.Skipped.{skipped}
 use Rattle.nearest_window.specs.declared.canvas.Canvas.{Canvas}
-use Rattle.nearest_window.specs.Canvases.{AreTaken}
+use Rattle.nearest_window.specs.Canvases.{AreTaken, stands}
 use Rattle.nearest_window.specs.Wanted.{IsWanted, bound}
+use Rattle.nearest_window.proofs.Sources.{all_taken}
 
 less_true : (a b : ℕ) → a < b → nat_lt a b ≡ true
 less_true a b h = grind (arith, nat_tests)
@@ -27,6 +29,15 @@ bound_here numbers k sources less = ap (λ t. cond t (slice_index numbers k) (le
 
 pub bound_behind : (numbers : List ℕ) (k : ℕ) (sources : List SourceValue) → length numbers ≤ k → bound numbers k sources ≡ length sources
 bound_behind numbers k sources end = ap (λ t. cond t (slice_index numbers k) (length sources)) (less_false k (length numbers) end)
+
+module _ (told : Option Files) (cat : List Dataset) (d : Dataset) (band : ℕ) (sources : List SourceValue) (numbers : List ℕ) (c : Canvas) where
+  -- behind the last wanted number: behind the last source
+  pub taken_end : AreTaken told cat d band (length sources) sources c → AreTaken told cat d band (bound numbers (length numbers) sources) sources c
+  taken_end taken = subst (λ (n : ℕ). AreTaken told cat d band n sources c) (sym (bound_behind numbers (length numbers) sources (omega arith))) taken
+
+  -- from the number at a place on
+  pub taken_here : (k : ℕ) → k < length numbers → AreTaken told cat d band (slice_index numbers k) sources c → AreTaken told cat d band (bound numbers k sources) sources c
+  taken_here k less taken = subst (λ (n : ℕ). AreTaken told cat d band n sources c) (sym (bound_here numbers k sources less)) taken
 
 module _ (told : Option Files) (cat : List Dataset) (d : Dataset) (band : ℕ) (sources : List SourceValue) (numbers : List ℕ) (c : Canvas) (wanted : IsWanted sources d.head.size c.rect numbers) where
   -- where no number from one on up to another is wanted
@@ -80,10 +91,9 @@ module _ (told : Option Files) (cat : List Dataset) (d : Dataset) (band : ℕ) (
       (λ n low high there. let p = place_of n there in let e = bound_le 0 p.0 (omega arith) p.1 in absurd (omega (arith, e, high, p.2)))
       taken
 
-  -- behind the last wanted number: behind the last source
-  pub taken_end : AreTaken told cat d band (length sources) sources c → AreTaken told cat d band (bound numbers (length numbers) sources) sources c
-  taken_end taken = subst (λ (n : ℕ). AreTaken told cat d band n sources c) (sym (bound_behind numbers (length numbers) sources (omega arith))) taken
-
-  -- from the number at a place on
-  pub taken_here : (k : ℕ) → k < length numbers → AreTaken told cat d band (slice_index numbers k) sources c → AreTaken told cat d band (bound numbers k sources) sources c
-  taken_here k less taken = subst (λ (n : ℕ). AreTaken told cat d band n sources c) (sym (bound_here numbers k sources less)) taken
+  -- where no number is left, or nothing is open, all sources are taken
+  pub taken_done : (left : ℕ) → AreTaken told cat d band (bound numbers left sources) sources c → (left ≡ 0) ⊎ ((k : ℕ) → k < c.rect.w * c.rect.h → is_some (stands c.samples.items k) ≡ true) → AreTaken told cat d band 0 sources c
+  taken_done left taken done = ⊎_elim
+      (λ (none : left ≡ 0). taken_first (subst (λ (n : ℕ). AreTaken told cat d band (bound numbers n sources) sources c) none taken))
+      (λ (filled : (k : ℕ) → k < c.rect.w * c.rect.h → is_some (stands c.samples.items k) ≡ true). all_taken told cat d band (bound numbers left sources) sources c taken (inr filled))
+      done

@@ -7,7 +7,7 @@ use Rattle.nearest_window.proofs.indexes.find_in.Goals as goal
 pub loop-kept-preserved : goal.loop-kept-preserved
 loop-kept-preserved c =
     All-more (λ k. is_of k c.args.dataset c.args.band ≡ false) c.args.bands.now c.loop-kept.kept-index c.kept-item.result c.loop-kept-test.true c.loop-kept.invariant
-    (ap (λ k. is_of k c.args.dataset c.args.band) c.kept-item.is ∙ (sym c.is_of.ensures.same ∙ c.if-is_of.false))
+    (sym (ap (λ k. is_of k c.args.dataset c.args.band) c.kept-item.is) ∙ (sym c.is_of.ensures.same ∙ c.if-is_of.false))
 
 pub returns-clause-none : goal.returns-clause-none
 returns-clause-none c = λ none. All-same (λ k. is_of k c.args.dataset c.args.band ≡ false) _ _ (sym (take_all c.loop-kept.kept-index c.args.bands.now c.loop-kept-test.false)) c.loop-kept.invariant
