@@ -1,5 +1,4 @@
 use Rattle.nearest_window.proofs.Needed.{every_wanted}
-use Rattle.nearest_window.proofs.Skips.{taken_behind, taken_first, taken_end, taken_here, taken_done}
 use Rattle.nearest_window.proofs.wanted.all_of.Goals as goal
 
 pub returns : goal.returns
