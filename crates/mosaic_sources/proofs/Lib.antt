@@ -8,5 +8,5 @@ pub mod Passing
 pub mod Held
 pub mod Listed
 pub mod Indexes
-mod OfLines
-mod Skipped
+pub mod OfLines
+pub mod Skipped

@@ -1,8 +1,11 @@
 -- The numbers of the items that pass a test.
-use Rattle.std.proofs.Common.{◌≡◌, ℕ, zero, suc, ◌+◌, ◌<◌, ◌≤◌, List, [], ◌∷◌, ◌++◌, length, get_or, take, Bool, true, false, cond, refl, sym, ap, ◌∙◌, arith}
+use Rattle.std.proofs.Common.{◌≡◌, ℕ, zero, suc, ◌+◌, ◌<◌, ◌≤◌, List, [], ◌∷◌, ◌++◌, length, get_or, take, Bool, true, false, cond, refl, sym, ap, ◌∙◌, subst, arith}
 use Rattle.std.specs.List.{Contains}
+use Rattle.std.specs.List.Sorted.{IsStrictlyIncreasing}
 use Rattle.std.proofs.lemmas.List.{take_more, length-take-le}
-use Rattle.mosaic_sources.specs.Rows.{passing_from}
+use Rattle.geotransform.specs.declared.types.Size.{Size}
+use Rattle.vrt_profile.specs.Values.{SourceValue}
+use Rattle.mosaic_sources.specs.Rows.{passing_from, covering_lines, covers_line}
 
 -- one item more
 push_cases : (t u : Bool) (number : ℕ) (xs ys zs : List ℕ) → zs ≡ cond u (xs ++ ys) xs → cond t (number ∷ zs) zs ≡ cond u (cond t (number ∷ xs) xs ++ ys) (cond t (number ∷ xs) xs)
@@ -85,3 +88,24 @@ below_if false number v end rest low rest_low there = rest_low there
 pub listed_below : {A : Type 0} (p : A → Bool) (xs : List A) (number v : ℕ) → Contains (passing_from p xs number) v → v < number + length xs
 listed_below p [] number v there = absurd (omega (arith, there.1))
 listed_below p (x ∷ xs) number v there = below_if (p x) number v (number + suc (length xs)) (passing_from p xs (suc number)) (omega arith) (λ h. let e = listed_below p xs (suc number) v h in omega (arith, e)) there
+
+-- the numbers rise
+rises_on : (number m : ℕ) (more : List ℕ) → suc number ≤ m → IsStrictlyIncreasing (m ∷ more) → IsStrictlyIncreasing (number ∷ m ∷ more)
+rises_on number m more low h zero less = omega (arith, low)
+rises_on number m more low h (suc k) less =
+    let here : k + 1 ≡ suc k = omega arith in
+    let next : suc k + 1 ≡ suc (suc k) = omega arith in
+    let e : get_or (m ∷ more) k 0 < get_or (m ∷ more) (k + 1) 0 = h k (omega (arith, less)) in
+    subst (λ (i : ℕ). get_or (m ∷ more) k 0 < get_or (number ∷ m ∷ more) i 0) (sym next) (subst (λ (i : ℕ). get_or (m ∷ more) k 0 < get_or (m ∷ more) i 0) here e)
+
+rises_if : (t : Bool) (number : ℕ) (rest : List ℕ) → ((m : ℕ) (more : List ℕ) → m ∷ more ≡ rest → suc number ≤ m) → IsStrictlyIncreasing rest → IsStrictlyIncreasing (cond t (number ∷ rest) rest)
+rises_if false number rest high h = h
+rises_if true number [] high h = λ k less. absurd (omega (arith, less))
+rises_if true number (m ∷ more) high h = rises_on number m more (high m more refl) h
+
+rises_from : {A : Type 0} (p : A → Bool) (xs : List A) (number : ℕ) → IsStrictlyIncreasing (passing_from p xs number)
+rises_from p [] number = λ k less. absurd (omega (arith, less))
+rises_from p (x ∷ xs) number = rises_if (p x) number (passing_from p xs (suc number)) (λ m more e. head_above p xs (suc number) m more e) (rises_from p xs (suc number))
+
+pub rises : (sources : List SourceValue) → (target : Size) → (y : ℕ) → IsStrictlyIncreasing (covering_lines sources target y)
+rises sources target y = rises_from (λ s. covers_line s target y) sources 0

@@ -52,12 +52,14 @@ pub record IsInner (height : ℕ) (cut : ℕ) : Type 0 where
   pub low : 0 < cut
   pub high : cut < height
 
--- the cuts are lines, there is one stretch more than there are cuts, and their number is a u32
+-- the cuts are lines, there is one stretch more than there are cuts, and the numbers of stretches and of listed numbers
+-- are u32
 pub record IsRows (r : Rows) : Type 0 where
   pub rising : IsStrictlyIncreasing r.cuts
   pub inner : All (IsInner r.height) r.cuts
   pub lists : length r.lists ≡ length r.cuts + 1
   pub few : length r.lists < 2 ^ 32
+  pub short : listed r ≤ most_listed
 
 -- The index of a band's sources over a mosaic of this size. Its cuts are exactly the lines whose list isn't that of the
 -- line before, so there is one list for each stretch of lines on which the list is the same.

@@ -1,6 +1,7 @@
 // What follows from the definitions.
 ghost use Rattle.std.specs.Prelude.{◌≡◌, ℕ, ℤ, pos, ◌<ℤ◌, ◌≤◌, ◌+◌, List, [], ◌∷◌, ◌++◌, length, drop, slice_get, Some, None, true, ◌<◌};
 ghost use Rattle.std.specs.List.{Contains};
+ghost use Rattle.std.specs.List.Sorted.{IsStrictlyIncreasing};
 ghost use Rattle.std.specs.Option.{option_or};
 ghost use Rattle.geotransform.specs.Types.{is_in};
 ghost use Rattle.geotransform.specs.declared.types.PixelType.{PixelType};
@@ -43,4 +44,9 @@ pub fn unlisted_give_none()
 /// list.
 pub fn unlisted_are_skipped()
     ensures skipped { (sources : List SourceValue) → (from : ℕ) → (to : ℕ) → (target : Size) → (sizes : ℕ → Size) → (pixels : ℕ → ℕ → ℕ → ℤ) → (x : ℕ) → (y : ℕ) → from ≤ to → to ≤ length sources → ((n : ℕ) → from ≤ n → n < to → ¬ Contains (covering_lines sources target y) n) → last_given (drop from sources) from target sizes pixels x y ≡ last_given (drop to sources) to target sizes pixels x y }
+{}
+
+/// The numbers of a line's list rise.
+pub fn lists_rise()
+    ensures rising { (sources : List SourceValue) → (target : Size) → (y : ℕ) → IsStrictlyIncreasing (covering_lines sources target y) }
 {}

@@ -18,7 +18,7 @@ mod stretches;
 pub use axis::Axis;
 pub use covering::{columns, cover, lines, misses};
 pub use laws::{
-    columns_rise, covers_lines, last_counts, samples_are_pixels, unlisted_are_skipped,
+    columns_rise, covers_lines, last_counts, lists_rise, samples_are_pixels, unlisted_are_skipped,
     unlisted_give_none,
 };
 pub use pixel::{keeps_pixels, value};

@@ -103,3 +103,15 @@ pub fn lists_within(
     }
     Ok(Some(lists_of(alloc, stretches.as_slice(), count)?))
 }
+
+/// How many numbers the lists have together.
+pub fn numbers_of(lists: &[RowList]) -> u32
+    requires short { sum_by length lists.now ≤ most_listed }
+    ensures total { result ≡ sum_by length lists.now }
+{
+    let mut total = 0;
+    for list in lists {
+        total += list.len() as u32;
+    }
+    total
+}

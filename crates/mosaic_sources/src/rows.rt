@@ -3,7 +3,7 @@ ghost use Rattle.std.specs.Prelude.{◌≡◌, ℕ, ◌<◌, ◌≤◌, IfOk, If
 ghost use Rattle.mosaic_sources.specs.Rows.{IsIndexOf, Rows, list_at, listed, most_listed};
 
 use crate::cuts::{cuts_of, spans_of};
-use crate::lists::lists_within;
+use crate::lists::{lists_within, numbers_of};
 use crate::row_list::RowList;
 use crate::stretches::{stretch_end, stretch_of};
 use geotransform::Size;
@@ -75,5 +75,12 @@ impl RowIndex {
         ensures count { result ≡ length self.now.lists }
     {
         self.lists.len() as u32
+    }
+    /// How many numbers all lists have together.
+    pub fn numbers(&self) -> u32
+        ensures count { result ≡ listed self.now }
+        ensures short { result ≤ most_listed }
+    {
+        numbers_of(self.lists.as_slice())
     }
 }

@@ -19,3 +19,5 @@ mod Windows
 mod Naming
 mod Ranges
 mod Spread
+mod Skips
+mod Needed

@@ -1,8 +1,10 @@
 pub mod Canvases
 pub mod Heights
+pub mod Indexes
 pub mod Lanes
 pub mod Painted
 pub mod Pictures
 pub mod Right
 pub mod Shown
 pub mod Taken
+pub mod Wanted

@@ -3,6 +3,7 @@
 
 mod asking;
 mod canvas;
+mod indexes;
 mod lane;
 mod laws;
 mod merging;
@@ -13,6 +14,7 @@ mod picture;
 mod places;
 mod taking;
 mod targets;
+mod wanted;
 mod window;
 
 pub use lane::Lane;
