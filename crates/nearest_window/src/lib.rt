@@ -3,6 +3,7 @@
 
 mod asking;
 mod canvas;
+mod indexes;
 mod lane;
 mod laws;
 mod merging;
