@@ -1,6 +1,7 @@
 -- Lanes over a catalog that grows.
-use Rattle.std.proofs.Common.{◌≡◌, ◌∙◌, sym, ℕ, zero, suc, List, [], ◌∷◌, ◌++◌, Option, Some}
+use Rattle.std.proofs.Common.{◌≡◌, ◌∙◌, sym, ℕ, zero, suc, ◌<◌, List, [], ◌∷◌, ◌++◌, length, length-append, Option, Some, arith}
 use Rattle.std.specs.Prelude.{slice_get}
+use Rattle.std.proofs.lemmas.List.Elements.{All-weaker}
 use Rattle.outside.specs.Outside.{Files}
 use Rattle.catalog.specs.Drivers.{Dataset}
 use Rattle.catalog.specs.Walk.{IsCatalog}
@@ -9,7 +10,8 @@ use Rattle.band_blocks.specs.declared.key.BlockKey.{BlockKey}
 use Rattle.band_blocks.specs.Blocks.{BlockView}
 use Rattle.block_cache.specs.Entries.{PoolView}
 use Rattle.band_blocks.specs.Contents.{IsBlock}
-use Rattle.nearest_window.specs.Right.{IsRight}
+use Rattle.nearest_window.specs.declared.indexes.Kept.{Kept}
+use Rattle.nearest_window.specs.Right.{IsIndexIn, IsRight}
 
 still_there : (cat more : List Dataset) (id : ℕ) (d : Dataset) → slice_get cat id ≡ Some d → slice_get (cat ++ more) id ≡ Some d
 still_there [] more id d at = cc
@@ -24,11 +26,23 @@ block_stays told cat more key block valid is = record {
   content = λ m e. is.content m e ∙ sym (more_block m cat more key.dataset key.band key.block is.dataset valid is.in_range.at);
 }
 
-pub right_stays : {File : Type 0} (bytes : File → Option (List ℕ)) (len : File → ℕ) (told : Option Files) (cat more : List Dataset) (pool : PoolView) (files : List (ℕ × File)) (made : PoolView) → IsCatalog cat → IsRight bytes len told cat pool files made → IsRight bytes len told (cat ++ more) pool files made
-right_stays bytes len told cat more pool files made valid right = record {
+was_there : (cat more : List Dataset) (id : ℕ) (d : Dataset) → id < length cat → slice_get (cat ++ more) id ≡ Some d → slice_get cat id ≡ Some d
+was_there [] more id d known at = absurd (omega arith)
+was_there (c ∷ cat) more zero d known at = at
+was_there (c ∷ cat) more (suc id) d known at = was_there cat more id d (omega arith) at
+
+index_stays : (cat more : List Dataset) (kept : Kept) → IsIndexIn cat kept → IsIndexIn (cat ++ more) kept
+index_stays cat more kept is = record {
+  known = let known = is.known in let both = length-append cat more in omega arith;
+  index = λ d v b at. is.index d v b (was_there cat more kept.dataset d is.known at);
+}
+
+pub right_stays : {File : Type 0} (bytes : File → Option (List ℕ)) (len : File → ℕ) (told : Option Files) (cat more : List Dataset) (pool : PoolView) (files : List (ℕ × File)) (made : PoolView) (indexes : List Kept) → IsCatalog cat → IsRight bytes len told cat pool files made indexes → IsRight bytes len told (cat ++ more) pool files made indexes
+right_stays bytes len told cat more pool files made indexes valid right = record {
   valid = right.valid;
   blocks = λ key entry held. block_stays told cat more key entry.block valid (right.blocks key entry held);
   good = λ n f kept. let g = right.good n f kept in record { dataset = g.dataset; at = still_there cat more n g.dataset g.at; is_file = g.is_file; length = g.length; content = g.content };
   made_valid = right.made_valid;
   remembered = λ key entry held. block_stays told cat more key entry.block valid (right.remembered key entry held);
+  listed = All-weaker (IsIndexIn cat) (IsIndexIn (cat ++ more)) (λ kept is. index_stays cat more kept is) indexes right.listed;
 }

@@ -9,6 +9,7 @@ use Rattle.band_blocks.specs.Keys.{IsKeyOf}
 use Rattle.band_blocks.specs.Open.{AreGood}
 use Rattle.block_cache.specs.declared.pool.Entry.{Entry}
 use Rattle.block_cache.specs.Entries.{PoolView, moved_to_front, admitted, held_at, IsPool, pool_view}
+use Rattle.nearest_window.specs.declared.indexes.Kept.{Kept}
 use Rattle.nearest_window.specs.Right.{AreBlocks, IsReady, IsRight, LaneState, lane_state, Serves, slack_of, state_of}
 use Rattle.nearest_window.specs.Lanes.{IsKept, IsUsed, LaneView, lane_view}
 use Rattle.outside.specs.declared.folder.Folder.{Ghosts}
@@ -16,7 +17,7 @@ use Rattle.nearest_window.proofs.Keys.{length_moved, are_blocks_moved, are_block
 use Rattle.nearest_window.proofs.Counting.{room_for_one}
 
 module _ {File : Type 0} (bytes : File → Option (List ℕ)) (len : File → ℕ) (cat : List Dataset) where
-  pub serves_refl : (s : LaneState File) → IsRight bytes len s.told cat s.pool s.files s.made → Serves bytes len cat 0 s s
+  pub serves_refl : (s : LaneState File) → IsRight bytes len s.told cat s.pool s.files s.made s.indexes → Serves bytes len cat 0 s s
   serves_refl s r = record { right = r; told = refl; writes = refl; capacity = refl; faults = omega arith; loads = omega arith; reads = omega arith; held = omega arith; bound = λ _. omega arith }
 
   pub serves_trans : (k : ℕ) (s t u : LaneState File) → Serves bytes len cat 0 s t → Serves bytes len cat k t u → Serves bytes len cat k s u
@@ -45,10 +46,10 @@ module _ {File : Type 0} (bytes : File → Option (List ℕ)) (len : File → �
     bound = λ h. let p = a.bound h in omega arith;
   }
 
-  pub serves_moved : (told : Option Files) (p : PoolView) (fs : List (ℕ × File)) (b : PoolView) (f r w l : ℕ) (k : BlockKey) → IsRight bytes len told cat p fs b → IsPool (pool_view (moved_to_front k p.entries) p.capacity)
-      → Serves bytes len cat 0 (lane_state told p fs b f r w l) (lane_state told (pool_view (moved_to_front k p.entries) p.capacity) fs b f r w l)
-  serves_moved told p fs b f r w l k right valid = let e = length_moved k p.entries in record {
-    right = record { valid = valid; blocks = are_blocks_moved told cat k p.entries right.blocks; good = right.good; made_valid = right.made_valid; remembered = right.remembered };
+  pub serves_moved : (told : Option Files) (p : PoolView) (fs : List (ℕ × File)) (b : PoolView) (i : List Kept) (f r w l : ℕ) (k : BlockKey) → IsRight bytes len told cat p fs b i → IsPool (pool_view (moved_to_front k p.entries) p.capacity)
+      → Serves bytes len cat 0 (lane_state told p fs b i f r w l) (lane_state told (pool_view (moved_to_front k p.entries) p.capacity) fs b i f r w l)
+  serves_moved told p fs b i f r w l k right valid = let e = length_moved k p.entries in record {
+    right = record { valid = valid; blocks = are_blocks_moved told cat k p.entries right.blocks; good = right.good; made_valid = right.made_valid; remembered = right.remembered; listed = right.listed };
     told = refl;
     writes = refl;
     capacity = refl;
@@ -59,10 +60,10 @@ module _ {File : Type 0} (bytes : File → Option (List ℕ)) (len : File → �
     bound = λ _. omega arith;
   }
 
-  serves_admitted : (told : Option Files) (p : PoolView) (fs : List (ℕ × File)) (b : PoolView) (f r w l : ℕ) (k : BlockKey) (e : Entry) → IsRight bytes len told cat p fs b → IsBlock told cat k e.block → IsPool (pool_view (admitted p.capacity k e p.entries) p.capacity)
-      → Serves bytes len cat 0 (lane_state told p fs b f r w l) (lane_state told (pool_view (admitted p.capacity k e p.entries) p.capacity) fs b f r w l)
-  serves_admitted told p fs b f r w l k e right new valid = let more = length_admitted p.capacity k e p.entries right.valid.within right.valid.some in record {
-    right = record { valid = valid; blocks = are_blocks_admitted told cat p.capacity k e p.entries new right.blocks; good = right.good; made_valid = right.made_valid; remembered = right.remembered };
+  serves_admitted : (told : Option Files) (p : PoolView) (fs : List (ℕ × File)) (b : PoolView) (i : List Kept) (f r w l : ℕ) (k : BlockKey) (e : Entry) → IsRight bytes len told cat p fs b i → IsBlock told cat k e.block → IsPool (pool_view (admitted p.capacity k e p.entries) p.capacity)
+      → Serves bytes len cat 0 (lane_state told p fs b i f r w l) (lane_state told (pool_view (admitted p.capacity k e p.entries) p.capacity) fs b i f r w l)
+  serves_admitted told p fs b i f r w l k e right new valid = let more = length_admitted p.capacity k e p.entries right.valid.within right.valid.some in record {
+    right = record { valid = valid; blocks = are_blocks_admitted told cat p.capacity k e p.entries new right.blocks; good = right.good; made_valid = right.made_valid; remembered = right.remembered; listed = right.listed };
     told = refl;
     writes = refl;
     capacity = refl;
@@ -74,10 +75,10 @@ module _ {File : Type 0} (bytes : File → Option (List ℕ)) (len : File → �
   }
 
   -- what is remembered changes, and the pool doesn't
-  serves_beside : (told : Option Files) (p : PoolView) (fs : List (ℕ × File)) (b b' : PoolView) (f r w l : ℕ) → IsRight bytes len told cat p fs b → IsPool b' → AreBlocks told cat b'.entries
-      → Serves bytes len cat 0 (lane_state told p fs b f r w l) (lane_state told p fs b' f r w l)
-  serves_beside told p fs b b' f r w l right valid blocks = record {
-    right = record { valid = right.valid; blocks = right.blocks; good = right.good; made_valid = valid; remembered = blocks };
+  serves_beside : (told : Option Files) (p : PoolView) (fs : List (ℕ × File)) (b b' : PoolView) (i : List Kept) (f r w l : ℕ) → IsRight bytes len told cat p fs b i → IsPool b' → AreBlocks told cat b'.entries
+      → Serves bytes len cat 0 (lane_state told p fs b i f r w l) (lane_state told p fs b' i f r w l)
+  serves_beside told p fs b b' i f r w l right valid blocks = record {
+    right = record { valid = right.valid; blocks = right.blocks; good = right.good; made_valid = valid; remembered = blocks; listed = right.listed };
     told = refl;
     writes = refl;
     capacity = refl;
@@ -89,36 +90,36 @@ module _ {File : Type 0} (bytes : File → Option (List ℕ)) (len : File → �
   }
 
   -- a block is used, in the pool or beside it
-  pub serves_used : (told : Option Files) (p q : LaneView File) (f n w l : ℕ) (k : BlockKey) (P : Entry → Type 0) → IsRight bytes len told cat p.pool p.files p.made → IsUsed k P p q → IsPool q.pool → IsPool q.made
-      → Serves bytes len cat 0 (lane_state told p.pool p.files p.made f n w l) (lane_state told q.pool q.files q.made f n w l)
+  pub serves_used : (told : Option Files) (p q : LaneView File) (f n w l : ℕ) (k : BlockKey) (P : Entry → Type 0) → IsRight bytes len told cat p.pool p.files p.made p.indexes → IsUsed k P p q → IsPool q.pool → IsPool q.made
+      → Serves bytes len cat 0 (lane_state told p.pool p.files p.made p.indexes f n w l) (lane_state told q.pool q.files q.made q.indexes f n w l)
   serves_used told p q f n w l k P right used valid made_valid = elim used [
     | inl u ↦
-        subst (λ (q : LaneView File). Serves bytes len cat 0 (lane_state told p.pool p.files p.made f n w l) (lane_state told q.pool q.files q.made f n w l)) (sym u.1)
-        (serves_moved told p.pool p.files p.made f n w l k right (subst (λ (q : LaneView File). IsPool q.pool) u.1 valid))
+        subst (λ (q : LaneView File). Serves bytes len cat 0 (lane_state told p.pool p.files p.made p.indexes f n w l) (lane_state told q.pool q.files q.made q.indexes f n w l)) (sym u.1)
+        (serves_moved told p.pool p.files p.made p.indexes f n w l k right (subst (λ (q : LaneView File). IsPool q.pool) u.1 valid))
     | inr u ↦
-        subst (λ (q : LaneView File). Serves bytes len cat 0 (lane_state told p.pool p.files p.made f n w l) (lane_state told q.pool q.files q.made f n w l)) (sym u.1)
-        (serves_beside told p.pool p.files p.made (pool_view (moved_to_front k p.made.entries) p.made.capacity) f n w l right (subst (λ (q : LaneView File). IsPool q.made) u.1 made_valid) (are_blocks_moved told cat k p.made.entries right.remembered))
+        subst (λ (q : LaneView File). Serves bytes len cat 0 (lane_state told p.pool p.files p.made p.indexes f n w l) (lane_state told q.pool q.files q.made q.indexes f n w l)) (sym u.1)
+        (serves_beside told p.pool p.files p.made (pool_view (moved_to_front k p.made.entries) p.made.capacity) p.indexes f n w l right (subst (λ (q : LaneView File). IsPool q.made) u.1 made_valid) (are_blocks_moved told cat k p.made.entries right.remembered))
   ]
 
-  serves_kept : (told : Option Files) (p q : LaneView File) (f n w l : ℕ) (k : BlockKey) (e : Entry) → IsRight bytes len told cat p.pool p.files p.made → IsBlock told cat k e.block → IsKept k e p q → IsPool q.pool → IsPool q.made
-      → Serves bytes len cat 0 (lane_state told p.pool p.files p.made f n w l) (lane_state told q.pool q.files q.made f n w l)
+  serves_kept : (told : Option Files) (p q : LaneView File) (f n w l : ℕ) (k : BlockKey) (e : Entry) → IsRight bytes len told cat p.pool p.files p.made p.indexes → IsBlock told cat k e.block → IsKept k e p q → IsPool q.pool → IsPool q.made
+      → Serves bytes len cat 0 (lane_state told p.pool p.files p.made p.indexes f n w l) (lane_state told q.pool q.files q.made q.indexes f n w l)
   serves_kept told p q f n w l k e right new kept valid made_valid = elim kept [
     | inl u ↦
-        subst (λ (q : LaneView File). Serves bytes len cat 0 (lane_state told p.pool p.files p.made f n w l) (lane_state told q.pool q.files q.made f n w l)) (sym u)
-        (serves_admitted told p.pool p.files p.made f n w l k e right new (subst (λ (q : LaneView File). IsPool q.pool) u valid))
+        subst (λ (q : LaneView File). Serves bytes len cat 0 (lane_state told p.pool p.files p.made p.indexes f n w l) (lane_state told q.pool q.files q.made q.indexes f n w l)) (sym u)
+        (serves_admitted told p.pool p.files p.made p.indexes f n w l k e right new (subst (λ (q : LaneView File). IsPool q.pool) u valid))
     | inr u ↦
-        subst (λ (q : LaneView File). Serves bytes len cat 0 (lane_state told p.pool p.files p.made f n w l) (lane_state told q.pool q.files q.made f n w l)) (sym u)
-        (serves_beside told p.pool p.files p.made (pool_view (admitted p.made.capacity k e p.made.entries) p.made.capacity) f n w l right (subst (λ (q : LaneView File). IsPool q.made) u made_valid) (are_blocks_admitted told cat p.made.capacity k e p.made.entries new right.remembered))
+        subst (λ (q : LaneView File). Serves bytes len cat 0 (lane_state told p.pool p.files p.made p.indexes f n w l) (lane_state told q.pool q.files q.made q.indexes f n w l)) (sym u)
+        (serves_beside told p.pool p.files p.made (pool_view (admitted p.made.capacity k e p.made.entries) p.made.capacity) p.indexes f n w l right (subst (λ (q : LaneView File). IsPool q.made) u made_valid) (are_blocks_admitted told cat p.made.capacity k e p.made.entries new right.remembered))
   ]
 
   -- a block of a mosaic is kept, or memory was refused
-  pub serves_keep : {T E : Type 0} (r : Result T E) (told : Option Files) (p q : LaneView File) (f n w l : ℕ) (k : BlockKey) (e : Entry) → IsRight bytes len told cat p.pool p.files p.made → IsBlock told cat k e.block
+  pub serves_keep : {T E : Type 0} (r : Result T E) (told : Option Files) (p q : LaneView File) (f n w l : ℕ) (k : BlockKey) (e : Entry) → IsRight bytes len told cat p.pool p.files p.made p.indexes → IsBlock told cat k e.block
       → OnOk r (IsKept k e p q) → OnErr r (q ≡ p) → IsPool q.pool → IsPool q.made
-      → Serves bytes len cat (slack_of r) (lane_state told p.pool p.files p.made f n w l) (lane_state told q.pool q.files q.made f n w l)
+      → Serves bytes len cat (slack_of r) (lane_state told p.pool p.files p.made p.indexes f n w l) (lane_state told q.pool q.files q.made q.indexes f n w l)
   serves_keep (Ok v) told p q f n w l k e right new kept refused valid made_valid = serves_kept told p q f n w l k e right new kept valid made_valid
   serves_keep (Err d) told p q f n w l k e right new kept refused valid made_valid =
-      subst (λ (q : LaneView File). Serves bytes len cat 1 (lane_state told p.pool p.files p.made f n w l) (lane_state told q.pool q.files q.made f n w l)) (sym refused)
-      (serves_slack (lane_state told p.pool p.files p.made f n w l) (lane_state told p.pool p.files p.made f n w l) (serves_refl (lane_state told p.pool p.files p.made f n w l) right))
+      subst (λ (q : LaneView File). Serves bytes len cat 1 (lane_state told p.pool p.files p.made p.indexes f n w l) (lane_state told q.pool q.files q.made q.indexes f n w l)) (sym refused)
+      (serves_slack (lane_state told p.pool p.files p.made p.indexes f n w l) (lane_state told p.pool p.files p.made p.indexes f n w l) (serves_refl (lane_state told p.pool p.files p.made p.indexes f n w l) right))
 
   are_blocks_told : (told told' : Option Files) (es : List (BlockKey × Entry)) → told' ≡ told → AreBlocks told cat es → AreBlocks told' cat es
   are_blocks_told told told' es e h = subst (λ t. AreBlocks t cat es) (sym e) h
@@ -127,10 +128,10 @@ module _ {File : Type 0} (bytes : File → Option (List ℕ)) (len : File → �
   one_load n n' l h = let e : most_calls cat * (l + 1) ≡ most_calls cat * l + most_calls cat = grind arith in omega arith
 
   -- a load was refused
-  pub serves_refused : (told told' : Option Files) (p : PoolView) (fs fs' : List (ℕ × File)) (b : PoolView) (f f' n n' w w' l : ℕ) → IsRight bytes len told cat p fs b → told' ≡ told → w' ≡ w → AreGood bytes len told' cat fs' → f ≤ f' → n' ≤ n + most_calls cat
-      → Serves bytes len cat 1 (lane_state told p fs b f n w l) (lane_state told' p fs' b f' n' w' (l + 1))
-  serves_refused told told' p fs fs' b f f' n n' w w' l right same unwritten good faults reads = record {
-    right = record { valid = right.valid; blocks = are_blocks_told told told' p.entries same right.blocks; good = good; made_valid = right.made_valid; remembered = are_blocks_told told told' b.entries same right.remembered };
+  pub serves_refused : (told told' : Option Files) (p : PoolView) (fs fs' : List (ℕ × File)) (b : PoolView) (i : List Kept) (f f' n n' w w' l : ℕ) → IsRight bytes len told cat p fs b i → told' ≡ told → w' ≡ w → AreGood bytes len told' cat fs' → f ≤ f' → n' ≤ n + most_calls cat
+      → Serves bytes len cat 1 (lane_state told p fs b i f n w l) (lane_state told' p fs' b i f' n' w' (l + 1))
+  serves_refused told told' p fs fs' b i f f' n n' w w' l right same unwritten good faults reads = record {
+    right = record { valid = right.valid; blocks = are_blocks_told told told' p.entries same right.blocks; good = good; made_valid = right.made_valid; remembered = are_blocks_told told told' b.entries same right.remembered; listed = right.listed };
     told = same;
     writes = unwritten;
     capacity = refl;
@@ -142,11 +143,11 @@ module _ {File : Type 0} (bytes : File → Option (List ℕ)) (len : File → �
   }
 
   -- a pixel was read by itself, while the pool was full
-  pub serves_alone : (k : ℕ) (told told' : Option Files) (p : PoolView) (fs fs' : List (ℕ × File)) (b : PoolView) (f f' n n' w w' l : ℕ) (key : BlockKey) (d : Dataset) → IsRight bytes len told cat p fs b → IsKeyOf cat key d → held_at key p.entries ≡ None → p.capacity ≤ length p.entries
+  pub serves_alone : (k : ℕ) (told told' : Option Files) (p : PoolView) (fs fs' : List (ℕ × File)) (b : PoolView) (i : List Kept) (f f' n n' w w' l : ℕ) (key : BlockKey) (d : Dataset) → IsRight bytes len told cat p fs b i → IsKeyOf cat key d → held_at key p.entries ≡ None → p.capacity ≤ length p.entries
       → told' ≡ told → w' ≡ w → AreGood bytes len told' cat fs' → f ≤ f' → n' ≤ n + most_calls cat
-      → Serves bytes len cat k (lane_state told p fs b f n w l) (lane_state told' p fs' b f' n' w' (l + 1))
-  serves_alone k told told' p fs fs' b f f' n n' w w' l key d right key_of absent full same unwritten good faults reads = record {
-    right = record { valid = right.valid; blocks = are_blocks_told told told' p.entries same right.blocks; good = good; made_valid = right.made_valid; remembered = are_blocks_told told told' b.entries same right.remembered };
+      → Serves bytes len cat k (lane_state told p fs b i f n w l) (lane_state told' p fs' b i f' n' w' (l + 1))
+  serves_alone k told told' p fs fs' b i f f' n n' w w' l key d right key_of absent full same unwritten good faults reads = record {
+    right = record { valid = right.valid; blocks = are_blocks_told told told' p.entries same right.blocks; good = good; made_valid = right.made_valid; remembered = are_blocks_told told told' b.entries same right.remembered; listed = right.listed };
     told = same;
     writes = unwritten;
     capacity = refl;
@@ -158,14 +159,14 @@ module _ {File : Type 0} (bytes : File → Option (List ℕ)) (len : File → �
   }
 
   -- a file's block was loaded, and then kept, or memory was refused
-  pub serves_load : {T E : Type 0} (r : Result T E) (told told' : Option Files) (p : PoolView) (fs fs' : List (ℕ × File)) (b : PoolView) (q : LaneView File) (f f' n n' w w' l : ℕ) (k : BlockKey) (d : Dataset) (e : Entry)
-      → IsRight bytes len told cat p fs b → IsKeyOf cat k d → held_at k p.entries ≡ None
+  pub serves_load : {T E : Type 0} (r : Result T E) (told told' : Option Files) (p : PoolView) (fs fs' : List (ℕ × File)) (b : PoolView) (i : List Kept) (q : LaneView File) (f f' n n' w w' l : ℕ) (k : BlockKey) (d : Dataset) (e : Entry)
+      → IsRight bytes len told cat p fs b i → IsKeyOf cat k d → held_at k p.entries ≡ None
       → told' ≡ told → w' ≡ w → AreGood bytes len told' cat fs' → f ≤ f' → n' ≤ n + most_calls cat → IsBlock told' cat k e.block
-      → OnOk r (q ≡ lane_view (pool_view (admitted p.capacity k e p.entries) p.capacity) fs' b) → OnErr r (q ≡ lane_view p fs' b) → IsPool q.pool
-      → Serves bytes len cat (slack_of r) (lane_state told p fs b f n w l) (lane_state told' q.pool q.files q.made f' n' w' (l + 1))
-  serves_load (Ok v) told told' p fs fs' b q f f' n n' w w' l k d e right key absent same unwritten good faults reads new kept refused valid =
-      subst (λ (q : LaneView File). Serves bytes len cat 0 (lane_state told p fs b f n w l) (lane_state told' q.pool q.files q.made f' n' w' (l + 1))) (sym kept) (record {
-        right = record { valid = subst (λ (q : LaneView File). IsPool q.pool) kept valid; blocks = are_blocks_admitted told' cat p.capacity k e p.entries new (are_blocks_told told told' p.entries same right.blocks); good = good; made_valid = right.made_valid; remembered = are_blocks_told told told' b.entries same right.remembered };
+      → OnOk r (q ≡ lane_view (pool_view (admitted p.capacity k e p.entries) p.capacity) fs' b i) → OnErr r (q ≡ lane_view p fs' b i) → IsPool q.pool
+      → Serves bytes len cat (slack_of r) (lane_state told p fs b i f n w l) (lane_state told' q.pool q.files q.made q.indexes f' n' w' (l + 1))
+  serves_load (Ok v) told told' p fs fs' b i q f f' n n' w w' l k d e right key absent same unwritten good faults reads new kept refused valid =
+      subst (λ (q : LaneView File). Serves bytes len cat 0 (lane_state told p fs b i f n w l) (lane_state told' q.pool q.files q.made q.indexes f' n' w' (l + 1))) (sym kept) (record {
+        right = record { valid = subst (λ (q : LaneView File). IsPool q.pool) kept valid; blocks = are_blocks_admitted told' cat p.capacity k e p.entries new (are_blocks_told told told' p.entries same right.blocks); good = good; made_valid = right.made_valid; remembered = are_blocks_told told told' b.entries same right.remembered; listed = right.listed };
         told = same;
         writes = unwritten;
         capacity = refl;
@@ -175,8 +176,8 @@ module _ {File : Type 0} (bytes : File → Option (List ℕ)) (len : File → �
         held = length_admitted p.capacity k e p.entries right.valid.within right.valid.some;
         bound = λ h. let room = room_for_one told cat k d p right.valid right.blocks key absent in let m = length_admitted_new p.capacity k e p.entries absent (omega arith) in omega arith;
       })
-  serves_load (Err d') told told' p fs fs' b q f f' n n' w w' l k d e right key absent same unwritten good faults reads new kept refused valid =
-      subst (λ (q : LaneView File). Serves bytes len cat 1 (lane_state told p fs b f n w l) (lane_state told' q.pool q.files q.made f' n' w' (l + 1))) (sym refused) (serves_refused told told' p fs fs' b f f' n n' w w' l right same unwritten good faults reads)
+  serves_load (Err d') told told' p fs fs' b i q f f' n n' w w' l k d e right key absent same unwritten good faults reads new kept refused valid =
+      subst (λ (q : LaneView File). Serves bytes len cat 1 (lane_state told p fs b i f n w l) (lane_state told' q.pool q.files q.made q.indexes f' n' w' (l + 1))) (sym refused) (serves_refused told told' p fs fs' b i f f' n n' w w' l right same unwritten good faults reads)
 
 -- a lane that was ready is ready after what served
 pub ready_then : {F File Draft : Type 0} (calls : Ghosts F File Draft) (cat : List Dataset) (slack : ℕ) (folder folder' : F) (lane lane' : LaneView File) (loads loads' : ℕ) → IsReady calls folder cat lane

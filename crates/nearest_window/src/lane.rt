@@ -19,10 +19,12 @@ ghost use Rattle.nearest_window.specs.Taken.{place_at};
 
 use crate::asking::{Asked, asked_of};
 use crate::canvas::{Canvas, is_wanted};
+use crate::indexes::Indexes;
 use crate::missed::Missed;
 use crate::paint::paint_rows;
 use crate::parts::{
-    Part, Rows, cost_of, has_cells, has_large_sources, is_straight, part_of, pixel_rect, rows_end, rows_of,
+    Part, Rows, cost_of, has_cells, has_large_sources, is_straight, part_of, pixel_rect, rows_end,
+    rows_of,
 };
 use crate::picture::Picture;
 use crate::places::Span;
@@ -58,6 +60,8 @@ pub struct Lane<F: Folder> {
     files: OpenFiles<F>,
     // Blocks of mosaics that were made while the pool was full.
     made: Pool,
+    // Indexes of the sources of mosaics' bands by lines.
+    indexes: Indexes,
     // So many pixels may still be filled in this call before blocks are made in place of parts.
     left: u64,
     // Whether this call paints parts in place of blocks even where the pool has room.
@@ -91,7 +95,7 @@ impl<F: Folder> Model for Lane<F> {
 
     ghost Value = { LaneView F.File };
 
-    ghost view = { λ l. lane_view l.pool l.files l.made };
+    ghost view = { λ l. lane_view l.pool l.files l.made l.indexes };
 }
 
 impl<F: Folder> Lane<F> {
@@ -99,8 +103,8 @@ impl<F: Folder> Lane<F> {
     pub fn new(alloc: Global, capacity: u32) -> Result<Lane<F>, AllocError>
         requires some { 1 ≤ capacity }
         requires few { capacity ≤ 65536 }
-        ensures empty { IfOk result (λ lane. lane ≡ lane_view (pool_view [] capacity) [] (pool_view [] 1024)) }
-        ensures right { IfOk result (λ lane. (told : _) (cat : List Dataset) → IsRight F.file_bytes F.file_len told cat lane.pool lane.files lane.made) }
+        ensures empty { IfOk result (λ lane. lane ≡ lane_view (pool_view [] capacity) [] (pool_view [] 1024) []) }
+        ensures right { IfOk result (λ lane. (told : _) (cat : List Dataset) → IsRight F.file_bytes F.file_len told cat lane.pool lane.files lane.made lane.indexes) }
         ensures fresh { IfOk result (λ lane. IsFresh F.Folder lane) }
     {
         let pool = Pool::new(alloc, capacity)?;
@@ -113,6 +117,7 @@ impl<F: Folder> Lane<F> {
             pool,
             files,
             made,
+            indexes: Indexes::new(alloc),
             left: 0,
             is_wide: false,
             missed: Missed::new(capacity),
@@ -163,7 +168,7 @@ impl<F: Folder> Lane<F> {
 
     // Keeps a block in the pool.
     fn keep(&mut self, key: BlockKey, block: Block) -> Result<(), LoadFault>
-        ensures kept { OnOk result (self.new ≡ lane_view (pool_view (admitted (room_of self.old) key (entry_of block false) self.old.pool.entries) (room_of self.old)) self.old.files self.old.made) }
+        ensures kept { OnOk result (self.new ≡ lane_view (pool_view (admitted (room_of self.old) key (entry_of block false) self.old.pool.entries) (room_of self.old)) self.old.files self.old.made self.old.indexes) }
         ensures refused { OnErr result (self.new ≡ self.old) }
         ensures memory { IfErr result (λ e. e ≡ LoadFault.Memory) }
         ensures valid { IsPool self.new.pool }
@@ -176,7 +181,7 @@ impl<F: Folder> Lane<F> {
 
     // Keeps a block of a mosaic beside the pool.
     fn remember(&mut self, key: BlockKey, block: Block) -> Result<(), LoadFault>
-        ensures kept { OnOk result (self.new ≡ lane_view self.old.pool self.old.files (pool_view (admitted self.old.made.capacity key (entry_of block false) self.old.made.entries) self.old.made.capacity)) }
+        ensures kept { OnOk result (self.new ≡ lane_view self.old.pool self.old.files (pool_view (admitted self.old.made.capacity key (entry_of block false) self.old.made.entries) self.old.made.capacity) self.old.indexes) }
         ensures refused { OnErr result (self.new ≡ self.old) }
         ensures memory { IfErr result (λ e. e ≡ LoadFault.Memory) }
         ensures valid { IsPool self.new.made }
