@@ -9,7 +9,7 @@ use band_blocks::Steps;
 use catalog::{Catalog, open_all};
 use geotransform::{Rect, Sample, Size};
 use nearest_window::{Lane, Window};
-use outside::{CalmFolder, Folder, Name, Never};
+use outside::{CalmFolder, Folder, Name, Never, Tally};
 use std::alloc::Global;
 use std::marker::Brand;
 use std::sync::ledger::{Blank, Ledger};
@@ -173,12 +173,14 @@ fn drawn(alloc: Global) -> Result<CalmFolder, Fail> {
     Ok(folder)
 }
 
-// A rectangle of the dataset of an image, which has this number in the catalog.
+// A rectangle of the dataset of an image, which has this number in the catalog, and how many of its pixels are asked
+// for one by one.
 #[derive(Clone, Copy)]
 struct Wanted {
     image: Image,
     dataset: u32,
     rect: Rect,
+    points: u32,
 }
 
 // How many pixels a rectangle has.
@@ -236,7 +238,7 @@ fn has_pixels(image: Image, rect: Rect, samples: &[Sample]) -> bool {
     true
 }
 
-// Whether a lane gives pixels of a rectangle as the image has them, one by one, each 211 places behind the last.
+// Whether a lane gives pixels of a rectangle as the image has them, one by one, each 827 places behind the last.
 fn has_points<F: Folder, L: Ledger>(
     alloc: Global,
     lane: &mut Lane<F>,
@@ -248,8 +250,8 @@ fn has_points<F: Folder, L: Ledger>(
     requires dataset { wanted.dataset < length cat.now }
     requires ready { IsReady F.Folder folder.old cat.now lane.old }
 {
-    for step in 0..78 {
-        let (x, y) = place_of(wanted.rect, step * 211);
+    for step in 0..wanted.points {
+        let (x, y) = place_of(wanted.rect, step.saturating_mul(827));
         let rect = Rect { x, y, w: 1, h: 1 };
         let one = Wanted { rect, ..wanted };
         let mut out = [-1; 1];
@@ -301,6 +303,7 @@ fn is_drawn_in<F: Folder>(
     folder: &mut F,
     row: Row,
     capacity: u32,
+    points: u32,
 ) -> Result<bool, Fail>
     requires room { 1 ≤ capacity }
     requires few { capacity ≤ 65536 }
@@ -315,31 +318,36 @@ fn is_drawn_in<F: Folder>(
         return Ok(false);
     }
     let rect = Rect { x, y, w, h };
-    let wanted = Wanted { image, dataset, rect };
+    let wanted = Wanted {
+        image,
+        dataset,
+        rect,
+        points,
+    };
     is_drawn::<F, Brand>(alloc, &cat, folder, wanted, capacity, Blank::new(1))
 }
 
-const ROWS: [Row<'static>; 12] = [
-    (Image::One, "one.vrt", (0, 0, 131, 127)),
+const ROWS_OF_ONE: [Row<'static>; 2] = [
     (Image::One, "one.vrt", (301, 53, 131, 127)),
     (Image::One, "one.vrt", (190, 3, 17, 997)),
-    (Image::One, "one.vrt", (0, 91, 1100, 15)),
-    (Image::Two, "two.vrt", (77, 33, 517, 41)),
-    (Image::Two, "two.vrt", (301, 53, 131, 127)),
-    (Image::Two, "two.vrt", (190, 3, 17, 997)),
-    (Image::Two, "two.vrt", (0, 91, 1100, 15)),
-    (Image::Three, "three.vrt", (77, 33, 517, 41)),
+];
+
+const ROWS_OF_TWO: [Row<'static>; 2] = [
+    (Image::Two, "two.vrt", (0, 0, 131, 127)),
+    (Image::Two, "two.vrt", (77, 93, 517, 33)),
+];
+
+const ROWS_OF_THREE: [Row<'static>; 2] = [
     (Image::Three, "three.vrt", (301, 53, 131, 127)),
-    (Image::Three, "three.vrt", (190, 3, 17, 997)),
     (Image::Three, "three.vrt", (0, 91, 1100, 15)),
 ];
 
-// The first of the rows and the capacity at which a pixel is wrong.
-fn first_undrawn(alloc: Global) -> Result<Option<(usize, u32)>, Fail> {
+// The first of the rows, and the capacity, at which a pixel is wrong.
+fn first_undrawn(alloc: Global, rows: &[Row]) -> Result<Option<(usize, u32)>, Fail> {
     let mut folder = drawn(alloc)?;
-    for (at, row) in ROWS.iter().enumerate() {
+    for (at, row) in rows.iter().enumerate() {
         for capacity in [1, 2, 3, 64, 1000] {
-            if !is_drawn_in(alloc, &mut folder, *row, capacity)? {
+            if !is_drawn_in(alloc, &mut folder, *row, capacity, 20)? {
                 return Ok(Some((at, capacity)));
             }
         }
@@ -348,7 +356,46 @@ fn first_undrawn(alloc: Global) -> Result<Option<(usize, u32)>, Fail> {
 }
 
 #[test]
-fn large_windows_have_the_pixels_of_their_points(rt: HostRuntime) -> Result<(), Fail> {
-    assert!(rt; first_undrawn(rt.alloc())?.is_none());
+fn large_windows_of_files_have_their_pixels(rt: HostRuntime) -> Result<(), Fail> {
+    assert!(rt; first_undrawn(rt.alloc(), &ROWS_OF_ONE)?.is_none());
+    Ok(())
+}
+
+#[test]
+fn large_windows_of_a_mosaic_have_its_pixels(rt: HostRuntime) -> Result<(), Fail> {
+    assert!(rt; first_undrawn(rt.alloc(), &ROWS_OF_TWO)?.is_none());
+    Ok(())
+}
+
+#[test]
+fn large_windows_of_mosaics_in_mosaics_have_their_pixels(rt: HostRuntime) -> Result<(), Fail> {
+    assert!(rt; first_undrawn(rt.alloc(), &ROWS_OF_THREE)?.is_none());
+    Ok(())
+}
+
+// 14 lines of this one are filled at a time, then one. Each of them shows a line of each source.
+const LINES: Row<'static> = (Image::One, "one.vrt", (0, 91, 1100, 15));
+
+// No source lies in this one.
+const EMPTY: Row<'static> = (Image::One, "one.vrt", (0, 400, 1100, 15));
+
+// How many reads the walk and a window take, through a pool of one block; None where a pixel is wrong.
+fn reads_of(alloc: Global, row: Row) -> Result<Option<u64>, Fail> {
+    let mut folder = Tally::new(drawn(alloc)?);
+    let drawn = is_drawn_in(alloc, &mut folder, row, 1, 0)?;
+    Ok(if drawn { Some(folder.reads()) } else { None })
+}
+
+// How many reads a window takes beside those of the walk.
+fn reads_beside_the_walk(alloc: Global, row: Row) -> Result<Option<u64>, Fail> {
+    match (reads_of(alloc, row)?, reads_of(alloc, EMPTY)?) {
+        (Some(all), Some(walk)) => return Ok(Some(all.saturating_sub(walk))),
+        _ => return Ok(None),
+    }
+}
+
+#[test]
+fn a_large_window_reads_each_line_once(rt: HostRuntime) -> Result<(), Fail> {
+    assert!(rt; reads_beside_the_walk(rt.alloc(), LINES)? == Some(45));
     Ok(())
 }
