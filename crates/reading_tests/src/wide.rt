@@ -207,15 +207,25 @@ fn is_filled<F: Folder, L: Ledger>(
 {
     let Wanted { dataset, rect, .. } = wanted;
     let Size { w, h } = cat.head(dataset).size;
-    let Rect { x: left, y: top, w: width, h: height } = rect;
+    let Rect {
+        x: left,
+        y: top,
+        w: width,
+        h: height,
+    } = rect;
     if left > w || top > h || width > w - left || height > h - top {
         return false;
     }
     if out.len() as u64 != count_of(rect) {
         return false;
     }
-    let window = Window { dataset, band: 0, rect };
-    lane.read_window(alloc, cat, folder, window, out, loads).is_ok()
+    let window = Window {
+        dataset,
+        band: 0,
+        rect,
+    };
+    lane.read_window(alloc, cat, folder, window, out, loads)
+        .is_ok()
 }
 
 // The column and the line of a pixel of a rectangle, in rows from its corner on.
