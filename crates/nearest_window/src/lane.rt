@@ -137,6 +137,7 @@ impl<F: Folder> Lane<F> {
     {
         let more = (pixels as u64).saturating_mul(TIMES_ITS_OWN);
         self.left = more.saturating_add(ALONE);
+        // A catalog is only looked through for a large window.
         self.is_wide = pixels >= WIDE && !has_cells(cat);
     }
 
@@ -431,27 +432,27 @@ impl<F: Folder> Lane<F> {
         Ok(())
     }
 
-    // Whether all columns of lines of a picture are filled at a time: the call's window is large and may still paint
-    // pixels without blocks, and nothing is scaled.
-    fn goes_wide(&self, picture: &Picture) -> bool {
-        if !self.is_wide {
+    // Whether all columns of lines of a picture are filled at a time, from this line on: the call's window is large
+    // and may still paint pixels without blocks, nothing is scaled, and the sources are large.
+    fn goes_wide(&self, cat: &Catalog, picture: &Picture, line: u32) -> bool
+        requires picture { IsPictureOf cat.now picture.now }
+        requires line { line < picture.now.height }
+    {
+        if !self.is_wide || self.left == 0 {
             return false;
         }
-        if self.left == 0 {
-            return false;
-        }
-        is_straight(picture)
+        is_straight(picture) && has_large_sources(cat, picture, line)
     }
 
     // The end of the lines of a picture from `line` on, before `end`, that are painted at a time.
-    fn end_of(&self, cat: &Catalog, picture: &Picture, key: BlockKey, line: u32, end: u32) -> u32
-        requires key { IsKey cat.now key }
-        requires some { 0 < picture.now.width }
+    fn end_of(&self, cat: &Catalog, picture: &Picture, line: u32, end: u32) -> u32
+        requires picture { IsPictureOf cat.now picture.now }
         requires order { line < end }
+        requires there { end ≤ picture.now.height }
         ensures above { line < result }
         ensures below { result ≤ end }
     {
-        if !self.goes_wide(picture) || !has_large_sources(cat, key) {
+        if !self.goes_wide(cat, picture, line) {
             return end;
         }
         rows_end(picture, line, end)
@@ -480,11 +481,11 @@ impl<F: Folder> Lane<F> {
     {
         let mut line = 0;
         while line < picture.height {
-            let Around { key, rect } = block_around(cat, picture, 0, line);
+            let rect = block_around(cat, picture, 0, line).rect;
             let last = picture
                 .lines
                 .run_end(line, picture.height, rect.y, rect.y + rect.h);
-            let end = self.end_of(cat, picture, key, line, last);
+            let end = self.end_of(cat, picture, line, last);
             let lines = Span {
                 first: line,
                 count: end - line,
@@ -595,7 +596,7 @@ impl<F: Folder> Lane<F> {
         ensures columns { IfSome result (λ r. (r.piece.area.column ≡ 0) × (r.piece.area.columns ≡ picture.now.width)) }
         ensures lines { IfSome result (λ r. (r.piece.area.line ≡ lines.first) × (r.piece.area.lines ≡ lines.count)) }
     {
-        if !self.goes_wide(picture) {
+        if !self.goes_wide(cat, picture, lines.first) {
             return None;
         }
         rows_of(cat, picture, lines)

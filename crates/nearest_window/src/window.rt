@@ -63,12 +63,14 @@ impl<F: Folder> Lane<F> {
     ///
     /// Each block of a file that isn't held is loaded, which ticks `loads` once. Where the pool is full, a single
     /// pixel of a file that isn't a grid is read by itself in place of its block, which ticks `loads` once, too,
-    /// unless the block was missed so before. A block of a mosaic is
-    /// made of the blocks of its sources, through every nesting, and takes memory for its samples until it
-    /// is whole. Where the pool is full, any part of such a block is made without the block, until the call
-    /// has filled 131,072 pixels and eight times its own; from then on whole blocks are made, and up to
-    /// 1,024 of them are kept beside the pool. So is each part of a window of 16,384 pixels or more in a catalog
-    /// without a cell, in a pool with room too, and what isn't scaled is filled in lines of the whole width.
+    /// unless the block was missed so before. A block of a mosaic is made of the blocks of its sources, through
+    /// every nesting, and takes memory for its samples until it is whole.
+    ///
+    /// Where the pool is full, or the window has 16,384 pixels or more and the catalog no cell, only those pixels
+    /// of a mosaic's block are made that are shown, and the block isn't kept. In such a window, what is shown
+    /// unscaled of a mosaic of 512 x 512 pixels or more for each source is made in lines of the whole width. Once
+    /// the call has made 131,072 pixels and eight times its own, whole blocks are made and kept, up to 1,024 of
+    /// them beside a full pool.
     ///
     /// FolderFault comes only where the folder's count rose, Memory freely. Changed comes only where a
     /// file was opened again and had another length than the walk found, or was absent: never over a

@@ -28,4 +28,6 @@ mod short_calls;
 #[cfg(test)]
 mod walks;
 #[cfg(test)]
+mod wide;
+#[cfg(test)]
 mod windows;
