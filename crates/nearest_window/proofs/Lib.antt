@@ -17,5 +17,6 @@ mod Sources
 mod Steps
 mod Windows
 mod Naming
+mod Pixels
 mod Ranges
 mod Spread

@@ -11,6 +11,7 @@ mod paint;
 mod parts;
 mod picture;
 mod places;
+mod recalled;
 mod taking;
 mod targets;
 mod window;
