@@ -17,6 +17,7 @@ mod Sources
 mod Steps
 mod Windows
 mod Naming
+mod Pixels
 mod Ranges
 mod Spread
 mod Skips

@@ -12,6 +12,7 @@ mod paint;
 mod parts;
 mod picture;
 mod places;
+mod recalled;
 mod taking;
 mod targets;
 mod wanted;
