@@ -22,7 +22,8 @@ use crate::canvas::{Canvas, is_wanted};
 use crate::missed::Missed;
 use crate::paint::paint_rows;
 use crate::parts::{
-    Part, Rows, cost_of, has_cells, has_large_sources, is_straight, part_of, pixel_rect, rows_end, rows_of,
+    Part, Rows, cost_of, has_cells, has_large_sources, is_straight, part_of, pixel_rect, rows_end,
+    rows_of,
 };
 use crate::picture::Picture;
 use crate::places::Span;
