@@ -8,6 +8,8 @@ mod blocks;
 #[cfg(test)]
 mod calls;
 #[cfg(test)]
+mod depths;
+#[cfg(test)]
 mod disk;
 #[cfg(test)]
 mod fakes;
