@@ -33,24 +33,60 @@ const LEFT: &[u8] = b"<DstRect xOff=\"-5\" yOff=\"-2\" xSize=\"24\" ySize=\"24\"
 const UP: &[u8] = b"<DstRect xOff=\"3\" yOff=\"-7\" xSize=\"24\" ySize=\"24\"/>";
 
 const SHAPES: [Shape; 12] = [
-    Shape { places: &[WHOLE, WHOLE], tested: false },
-    Shape { places: &[WHOLE, WHOLE], tested: true },
-    Shape { places: &[WHOLE, WHOLE, WHOLE], tested: false },
-    Shape { places: &[WHOLE, WHOLE, WHOLE], tested: true },
-    Shape { places: &[WHOLE, WHOLE, WHOLE, WHOLE], tested: false },
-    Shape { places: &[WHOLE, WHOLE, WHOLE, WHOLE], tested: true },
-    Shape { places: &[LEFT, RIGHT], tested: false },
-    Shape { places: &[LEFT, RIGHT], tested: true },
-    Shape { places: &[LEFT, WHOLE, RIGHT], tested: false },
-    Shape { places: &[LEFT, WHOLE, RIGHT], tested: true },
-    Shape { places: &[LEFT, WHOLE, RIGHT, UP], tested: false },
-    Shape { places: &[LEFT, WHOLE, RIGHT, UP], tested: true },
+    Shape {
+        places: &[WHOLE, WHOLE],
+        tested: false,
+    },
+    Shape {
+        places: &[WHOLE, WHOLE],
+        tested: true,
+    },
+    Shape {
+        places: &[WHOLE, WHOLE, WHOLE],
+        tested: false,
+    },
+    Shape {
+        places: &[WHOLE, WHOLE, WHOLE],
+        tested: true,
+    },
+    Shape {
+        places: &[WHOLE, WHOLE, WHOLE, WHOLE],
+        tested: false,
+    },
+    Shape {
+        places: &[WHOLE, WHOLE, WHOLE, WHOLE],
+        tested: true,
+    },
+    Shape {
+        places: &[LEFT, RIGHT],
+        tested: false,
+    },
+    Shape {
+        places: &[LEFT, RIGHT],
+        tested: true,
+    },
+    Shape {
+        places: &[LEFT, WHOLE, RIGHT],
+        tested: false,
+    },
+    Shape {
+        places: &[LEFT, WHOLE, RIGHT],
+        tested: true,
+    },
+    Shape {
+        places: &[LEFT, WHOLE, RIGHT, UP],
+        tested: false,
+    },
+    Shape {
+        places: &[LEFT, WHOLE, RIGHT, UP],
+        tested: true,
+    },
 ];
 
 // The mosaics, from the first to the last, and the file that the last one names.
 const NAMES: [&str; 17] = [
-    "m0.vrt", "m1.vrt", "m2.vrt", "m3.vrt", "m4.vrt", "m5.vrt", "m6.vrt", "m7.vrt", "m8.vrt", "m9.vrt", "m10.vrt",
-    "m11.vrt", "m12.vrt", "m13.vrt", "m14.vrt", "m15.vrt", "last.bil",
+    "m0.vrt", "m1.vrt", "m2.vrt", "m3.vrt", "m4.vrt", "m5.vrt", "m6.vrt", "m7.vrt", "m8.vrt",
+    "m9.vrt", "m10.vrt", "m11.vrt", "m12.vrt", "m13.vrt", "m14.vrt", "m15.vrt", "last.bil",
 ];
 
 // All datasets together have so many pixels.
@@ -84,7 +120,9 @@ fn document(alloc: Global, below: &str, shape: Shape) -> Result<Vec<u8>, Fail> {
     let mut text = Vec::new(alloc);
     push_all(
         &mut text,
-        &[b"<VRTDataset rasterXSize=\"24\" rasterYSize=\"24\"><VRTRasterBand dataType=\"Byte\"><NoDataValue>255</NoDataValue>"],
+        &[
+            b"<VRTDataset rasterXSize=\"24\" rasterYSize=\"24\"><VRTRasterBand dataType=\"Byte\"><NoDataValue>255</NoDataValue>",
+        ],
     )?;
     for place in shape.places.iter() {
         push_source(&mut text, below, place, shape.tested)?;
@@ -108,9 +146,24 @@ fn nested(alloc: Global, shape: Shape) -> Result<CalmFolder, Fail> {
 
 // Two points, and a window.
 const RECTS: [Rect; 3] = [
-    Rect { x: 3, y: 20, w: 1, h: 1 },
-    Rect { x: 21, y: 4, w: 1, h: 1 },
-    Rect { x: 1, y: 2, w: 20, h: 18 },
+    Rect {
+        x: 3,
+        y: 20,
+        w: 1,
+        h: 1,
+    },
+    Rect {
+        x: 21,
+        y: 4,
+        w: 1,
+        h: 1,
+    },
+    Rect {
+        x: 1,
+        y: 2,
+        w: 20,
+        h: 18,
+    },
 ];
 
 // How many pixels a rectangle has.
@@ -141,7 +194,10 @@ fn is_blank<F: Folder, L: Ledger>(
     }
     let mut out = vec![in alloc; -1i128; count_of(rect) as usize]?;
     let samples = out.as_mut_slice();
-    if lane.read_window(alloc, cat, folder, window, samples, loads).is_err() {
+    if lane
+        .read_window(alloc, cat, folder, window, samples, loads)
+        .is_err()
+    {
         return Ok(false);
     }
     Ok(samples.iter().all(|sample| *sample == 255))
@@ -168,7 +224,11 @@ fn are_blank<F: Folder, L: Ledger>(
     let mut loads: Steps<L> = Steps::open(blank);
     let mut all = true;
     for rect in RECTS {
-        let window = Window { dataset, band: 0, rect };
+        let window = Window {
+            dataset,
+            band: 0,
+            rect,
+        };
         let blank = is_blank(alloc, &mut lane, cat, folder, window, &mut loads);
         all = all && blank.is_ok_and(|blank| blank);
     }
@@ -220,6 +280,9 @@ fn depth_multiplies_no_reads(rt: HostRuntime) -> Result<(), Fail> {
     let alone = first_unbounded(rt.alloc(), 1)?;
     let some = first_unbounded(rt.alloc(), 64)?;
     let all = first_unbounded(rt.alloc(), 1000)?;
-    assert!(rt; alone == 12 && some == 12 && all == 12, "shapes {alone}, {some} and {all}");
+    assert!(rt;
+        alone == 12 && some == 12 && all == 12,
+        "shapes {alone}, {some} and {all}"
+    );
     Ok(())
 }

@@ -1,6 +1,7 @@
 // An example of the libraries without the program: reads the first band of a raster in windows of whole lines, and prints
 // how many pixels it has and their sum. The words are the raster, the lines of a window, and how many blocks are held.
 #![tactic(auto)]
+
 ghost use Rattle.std.specs.Prelude.{◌≡◌, ◌≤◌, ◌<◌, ◌*◌, length};
 ghost use Rattle.outside.specs.Reading.{WhereTold};
 ghost use Rattle.catalog.specs.Walk.{IsWalked};
@@ -54,7 +55,9 @@ fn number_of(word: &str) -> Option<u32> {
         if !byte.is_ascii_digit() {
             return None;
         }
-        number = number.saturating_mul(10).saturating_add((*byte - b'0') as u32);
+        number = number
+            .saturating_mul(10)
+            .saturating_add((*byte - b'0') as u32);
     }
     Some(number)
 }
@@ -160,7 +163,12 @@ fn add_all<F: Folder, L: Ledger>(
 }
 
 // Opens a raster and reads it.
-fn sum_of_job<F: Folder, L: Ledger>(alloc: Global, folder: &mut F, job: &Job, blank: Blank) -> Option<Sum>
+fn sum_of_job<F: Folder, L: Ledger>(
+    alloc: Global,
+    folder: &mut F,
+    job: &Job,
+    blank: Blank,
+) -> Option<Sum>
     requires name { blank.name ≡ L.name }
     requires parts { blank.parts ≡ L.parts }
     requires some { 0 < blank.parts }
@@ -208,7 +216,12 @@ fn run(rt: &HostRuntime) -> Option<bool> {
     let job = job_of(alloc, words.as_slice())?;
     let system: Result<HostRuntime, AllocError> = rt.clone();
     let mut folder = DiskFolder::new(system.ok()?, process::id(rt.process()), alloc);
-    let sum = sum_of_job::<DiskFolder<HostRuntime>, Brand>(alloc, &mut folder, &job, Blank::new(1))?;
+    let sum = sum_of_job::<DiskFolder<HostRuntime>, Brand>(
+        alloc,
+        &mut folder,
+        &job,
+        Blank::new(1),
+    )?;
     let mut out = StdSink::new(rt.stdout());
     Some(print(&mut out, sum))
 }
