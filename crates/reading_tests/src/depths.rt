@@ -6,7 +6,7 @@ ghost use Rattle.nearest_window.specs.Right.{IsReady};
 
 use band_blocks::Steps;
 use catalog::{Catalog, open_all};
-use geotransform::{Rect, Size};
+use geotransform::{Rect, Sample, Size};
 use lists_and_answers::push_all;
 use nearest_window::{Lane, Window};
 use outside::{CalmFolder, Folder, Name, Never, Tally};
@@ -99,7 +99,7 @@ fn push_source(text: &mut Vec<u8>, below: &str, place: &[u8], tested: bool) -> R
     } else {
         (b"SimpleSource>", b"")
     };
-    let parts: [&[u8]; 10] = [
+    let parts: [&[u8]; 9] = [
         b"<",
         kind,
         b"<SourceFilename relativeToVRT=\"1\">",
@@ -109,25 +109,22 @@ fn push_source(text: &mut Vec<u8>, below: &str, place: &[u8], tested: bool) -> R
         test,
         b"</",
         kind,
-        b"",
     ];
-    push_all(text, &parts)?;
+    push_all(&parts, text)?;
     Ok(())
 }
 
+// What stands before the sources of a document.
+const OPENING: &[u8] =
+    b"<VRTDataset rasterXSize=\"24\" rasterYSize=\"24\"><VRTRasterBand dataType=\"Byte\"><NoDataValue>255</NoDataValue>";
+
 // The document of a mosaic.
 fn document(alloc: Global, below: &str, shape: Shape) -> Result<Vec<u8>, Fail> {
-    let mut text = Vec::new(alloc);
-    push_all(
-        &mut text,
-        &[
-            b"<VRTDataset rasterXSize=\"24\" rasterYSize=\"24\"><VRTRasterBand dataType=\"Byte\"><NoDataValue>255</NoDataValue>",
-        ],
-    )?;
+    let mut text = Vec::from_slice(alloc, OPENING)?;
     for place in shape.places.iter() {
         push_source(&mut text, below, place, shape.tested)?;
     }
-    push_all(&mut text, &[b"</VRTRasterBand></VRTDataset>"])?;
+    text.extend_from_slice(b"</VRTRasterBand></VRTDataset>")?;
     Ok(text)
 }
 
@@ -181,7 +178,7 @@ fn is_blank<F: Folder, L: Ledger>(
     folder: &mut F,
     window: Window,
     loads: &mut Steps<L>,
-) -> Result<bool, Fail>
+) -> bool
     requires dataset { window.dataset < length cat.now }
     requires ready { IsReady F.Folder folder.old cat.now lane.old }
     ensures ready { IsReady F.Folder folder.new cat.now lane.new }
@@ -190,17 +187,31 @@ fn is_blank<F: Folder, L: Ledger>(
     let Size { w, h } = cat.head(window.dataset).size;
     let rect = window.rect;
     if rect.x > w || rect.y > h || rect.w > w - rect.x || rect.h > h - rect.y {
-        return Ok(false);
+        return false;
     }
-    let mut out = vec![in alloc; -1i128; count_of(rect) as usize]?;
-    let samples = out.as_mut_slice();
+    let count = count_of(rect);
+    if count > 360 {
+        return false;
+    }
+    let mut room = [-1; 360];
+    let out = &mut room[..count as usize];
     if lane
-        .read_window(alloc, cat, folder, window, samples, loads)
+        .read_window(alloc, cat, folder, window, out, loads)
         .is_err()
     {
-        return Ok(false);
+        return false;
     }
-    Ok(samples.iter().all(|sample| *sample == 255))
+    are_255(out)
+}
+
+// Whether each sample is 255.
+fn are_255(samples: &[Sample]) -> bool {
+    for sample in samples {
+        if *sample != 255 {
+            return false;
+        }
+    }
+    true
 }
 
 // Whether all rectangles are read by a new lane of this capacity, and hold nothing but 255.
@@ -222,17 +233,17 @@ fn are_blank<F: Folder, L: Ledger>(
 {
     let mut lane = Lane::new(alloc, capacity)?;
     let mut loads: Steps<L> = Steps::open(blank);
-    let mut all = true;
     for rect in RECTS {
         let window = Window {
             dataset,
             band: 0,
             rect,
         };
-        let blank = is_blank(alloc, &mut lane, cat, folder, window, &mut loads);
-        all = all && blank.is_ok_and(|blank| blank);
+        if !is_blank(alloc, &mut lane, cat, folder, window, &mut loads) {
+            return Ok(false);
+        }
     }
-    Ok(all)
+    Ok(true)
 }
 
 // The same of the first mosaic.
