@@ -7,7 +7,6 @@ ghost use Rattle.nearest_window.specs.Right.{IsReady};
 use band_blocks::Steps;
 use catalog::{Catalog, open_all};
 use geotransform::{Rect, Sample, Size};
-use lists_and_answers::push_all;
 use nearest_window::{Lane, Window};
 use outside::{CalmFolder, Folder, Name, Never, Tally};
 use std::alloc::Global;
@@ -92,25 +91,27 @@ const NAMES: [&str; 17] = [
 // All datasets together have so many pixels.
 const ALL_PIXELS: u64 = 17 * 24 * 24;
 
+// What stands before the name of a source's dataset, and behind it, and behind its rectangle.
+const SIMPLE: [&[u8]; 3] = [
+    b"<SimpleSource><SourceFilename relativeToVRT=\"1\">",
+    b"</SourceFilename><SrcRect xOff=\"0\" yOff=\"0\" xSize=\"24\" ySize=\"24\"/>",
+    b"</SimpleSource>",
+];
+
+const COMPLEX: [&[u8]; 3] = [
+    b"<ComplexSource><SourceFilename relativeToVRT=\"1\">",
+    b"</SourceFilename><SrcRect xOff=\"0\" yOff=\"0\" xSize=\"24\" ySize=\"24\"/>",
+    b"<NODATA>255</NODATA></ComplexSource>",
+];
+
 // Adds a source to a document.
 fn push_source(text: &mut Vec<u8>, below: &str, place: &[u8], tested: bool) -> Result<(), Fail> {
-    let (kind, test): (&[u8], &[u8]) = if tested {
-        (b"ComplexSource>", b"<NODATA>255</NODATA>")
-    } else {
-        (b"SimpleSource>", b"")
-    };
-    let parts: [&[u8]; 9] = [
-        b"<",
-        kind,
-        b"<SourceFilename relativeToVRT=\"1\">",
-        below.as_bytes(),
-        b"</SourceFilename><SrcRect xOff=\"0\" yOff=\"0\" xSize=\"24\" ySize=\"24\"/>",
-        place,
-        test,
-        b"</",
-        kind,
-    ];
-    push_all(&parts, text)?;
+    let parts = if tested { COMPLEX } else { SIMPLE };
+    text.extend_from_slice(parts[0])?;
+    text.extend_from_slice(below.as_bytes())?;
+    text.extend_from_slice(parts[1])?;
+    text.extend_from_slice(place)?;
+    text.extend_from_slice(parts[2])?;
     Ok(())
 }
 
