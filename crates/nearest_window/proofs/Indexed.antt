@@ -1,5 +1,5 @@
 -- The indexes of bands that are kept are those of their bands.
-use Rattle.std.proofs.Common.{◌≡◌, ℕ, Bool, true, false, cond, ◌++◌, List, [], ◌∷◌, length, Option, Some, sym, ap, ◌∙◌, subst, arith, nat_le, ◌+◌}
+use Rattle.std.proofs.Common.{◌≡◌, ℕ, Bool, true, false, cond, ◌++◌, List, [], ◌∷◌, length, Option, Some, Result, Ok, Err, OnOk, OnErr, sym, ap, ◌∙◌, subst, arith, nat_le, ◌+◌}
 use Rattle.std.specs.Prelude.{slice_get, IfSome, option_map}
 use Rattle.std.specs.List.{All}
 use Rattle.std.proofs.lemmas.Bool.Decides.{nat_tests}
@@ -58,3 +58,8 @@ module _ (cat : List Dataset) where
   pub right_behind : (old new : List Kept) (kept : Kept) → new ≡ old ++ kept_behind old kept ∷ [] → All (IsIndexIn cat) old → IsIndexIn cat kept → All (IsIndexIn cat) new
   right_behind old new kept is before right = subst (All (IsIndexIn cat)) (sym is)
       (All-append (IsIndexIn cat) old (kept_behind old kept ∷ []) before (All-cons (IsIndexIn cat) (kept_behind old kept) [] (right_without (nat_le (all_listed old + listed_of kept) most_listed) kept right) (All-nil (IsIndexIn cat))))
+
+  -- one more band is kept, or memory was refused
+  pub right_put : {T E : Type 0} (r : Result T E) (old new : List Kept) (kept : Kept) → OnOk r (new ≡ old ++ kept_behind old kept ∷ []) → OnErr r (new ≡ old) → All (IsIndexIn cat) old → IsIndexIn cat kept → All (IsIndexIn cat) new
+  right_put (Ok x) old new kept ok err before right = right_behind old new kept ok before right
+  right_put (Err e) old new kept ok err before right = subst (All (IsIndexIn cat)) (sym err) before
