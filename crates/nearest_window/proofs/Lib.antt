@@ -8,6 +8,7 @@ mod Covers
 mod Filled
 mod Fills
 mod Growth
+mod Indexed
 mod Keys
 mod Mosaics
 mod Merged

@@ -1,5 +1,6 @@
 -- How the service of a lane goes on from call to call.
 use Rattle.std.proofs.Common.{◌≡◌, inl, inr, ℕ, ◌+◌, ◌*◌, ◌≤◌, List, Option, None, length, refl, sym, ◌∙◌, subst, arith, Result, Ok, Err, OnOk, OnErr}
+use Rattle.std.specs.List.{All}
 use Rattle.outside.specs.Outside.{Files}
 use Rattle.catalog.specs.Drivers.{Dataset}
 use Rattle.catalog.specs.Blocks.{all_blocks}
@@ -10,7 +11,7 @@ use Rattle.band_blocks.specs.Open.{AreGood}
 use Rattle.block_cache.specs.declared.pool.Entry.{Entry}
 use Rattle.block_cache.specs.Entries.{PoolView, moved_to_front, admitted, held_at, IsPool, pool_view}
 use Rattle.nearest_window.specs.declared.indexes.Kept.{Kept}
-use Rattle.nearest_window.specs.Right.{AreBlocks, IsReady, IsRight, LaneState, lane_state, Serves, slack_of, state_of}
+use Rattle.nearest_window.specs.Right.{AreBlocks, IsIndexIn, IsReady, IsRight, LaneState, lane_state, Serves, slack_of, state_of}
 use Rattle.nearest_window.specs.Lanes.{IsKept, IsUsed, LaneView, lane_view}
 use Rattle.outside.specs.declared.folder.Folder.{Ghosts}
 use Rattle.nearest_window.proofs.Keys.{length_moved, are_blocks_moved, are_blocks_admitted, length_admitted, length_admitted_new}
@@ -88,6 +89,22 @@ module _ {File : Type 0} (bytes : File → Option (List ℕ)) (len : File → �
     held = omega arith;
     bound = λ _. omega arith;
   }
+
+  -- the indexes change, and nothing else does
+  pub serves_indexed : (told : Option Files) (p q : LaneView File) (f n w l : ℕ) → IsRight bytes len told cat p.pool p.files p.made p.indexes → q ≡ lane_view p.pool p.files p.made q.indexes → All (IsIndexIn cat) q.indexes
+      → Serves bytes len cat 0 (lane_state told p.pool p.files p.made p.indexes f n w l) (lane_state told q.pool q.files q.made q.indexes f n w l)
+  serves_indexed told p q f n w l right same listed =
+      subst (λ (q : LaneView File). Serves bytes len cat 0 (lane_state told p.pool p.files p.made p.indexes f n w l) (lane_state told q.pool q.files q.made q.indexes f n w l)) (sym same) (record {
+        right = record { valid = right.valid; blocks = right.blocks; good = right.good; made_valid = right.made_valid; remembered = right.remembered; listed = listed };
+        told = refl;
+        writes = refl;
+        capacity = refl;
+        faults = omega arith;
+        loads = omega arith;
+        reads = omega arith;
+        held = omega arith;
+        bound = λ _. omega arith;
+      })
 
   -- a block is used, in the pool or beside it
   pub serves_used : (told : Option Files) (p q : LaneView File) (f n w l : ℕ) (k : BlockKey) (P : Entry → Type 0) → IsRight bytes len told cat p.pool p.files p.made p.indexes → IsUsed k P p q → IsPool q.pool → IsPool q.made

@@ -1,6 +1,7 @@
 // A lane: a pool of blocks and open files, through which windows of pixels are read.
 ghost use Rattle.std.specs.Prelude.{◌≡◌, ⊤, ℕ, ◌+◌, ◌*◌, ◌^◌, ◌<◌, ◌≤◌, List, [], Some, None, length, IfErr, IfOk, OnOk, OnErr, IfSome, IsSome, is_some, false, true, slice_get};
 ghost use Rattle.std.specs.Option.{IsSomeAnd};
+ghost use Rattle.std.specs.List.{All};
 ghost use Rattle.outside.specs.Causes.{HasCause};
 ghost use Rattle.outside.specs.Reading.{WhereTold};
 ghost use Rattle.catalog.specs.Drivers.{Dataset};
@@ -13,13 +14,15 @@ ghost use Rattle.nearest_window.specs.Canvases.{IsCanvas, IsSourceTaken};
 ghost use Rattle.nearest_window.specs.Lanes.{IsHeldWith, IsKept, IsUsed, LaneView, lane_view, held_in, room_of};
 ghost use Rattle.nearest_window.specs.Painted.{IsPainted, in_columns};
 ghost use Rattle.nearest_window.specs.Pictures.{IsPicture, from_block};
-ghost use Rattle.nearest_window.specs.Right.{IsFresh, IsPartBlock, IsReady, IsRight, IsFileKey, IsMosaicKey, Served, TellsChangeIn};
+ghost use Rattle.nearest_window.specs.Right.{IsFresh, IsIndexIn, IsPartBlock, IsReady, IsRight, IsFileKey, IsMosaicKey, Served, TellsChangeIn};
 ghost use Rattle.nearest_window.specs.Shown.{AreTyped, IsAreaOf, IsPictureOf, IsShown, IsTyped, IsBandOf, IsPartOf, IsLonePart, IsSourceOf};
 ghost use Rattle.nearest_window.specs.Taken.{place_at};
+ghost use Rattle.nearest_window.specs.Wanted.{IsWanted, numbers_of};
 
 use crate::asking::{Asked, asked_of};
 use crate::canvas::{Canvas, is_wanted};
 use crate::indexes::Indexes;
+use crate::indexing::wanted_in;
 use crate::missed::Missed;
 use crate::paint::paint_rows;
 use crate::parts::{
@@ -30,6 +33,7 @@ use crate::picture::Picture;
 use crate::places::Span;
 use crate::taking::taking_of;
 use crate::targets::{Area, Around, Numbered, Piece, band_of, block_around, kind_of, mosaic_rect};
+use crate::wanted::Wanted;
 use band_blocks::{
     Block, BlockKey, LoadFault, OpenFiles, PixelKey, Steps, has_places, load_block, load_sample,
 };
@@ -350,8 +354,27 @@ impl<F: Folder> Lane<F> {
         }
     }
 
+    // The sources of a mosaic's band that are asked for a rectangle of it. It is refused where memory is.
+    fn wanted(
+        &mut self,
+        alloc: Global,
+        cat: &Catalog,
+        key: BlockKey,
+        band: &VrtBand,
+        rect: Rect,
+    ) -> Result<Wanted, AllocError>
+        requires listed { All (IsIndexIn cat.now) self.old.indexes }
+        requires key { IsMosaicKey cat.now key band.now }
+        requires within { (d : Dataset) → slice_get cat.now key.dataset ≡ Some d → IsWithin rect d.head.size }
+        ensures same { self.new ≡ lane_view self.old.pool self.old.files self.old.made self.new.indexes }
+        ensures listed { All (IsIndexIn cat.now) self.new.indexes }
+        ensures wanted { (d : Dataset) → slice_get cat.now key.dataset ≡ Some d → IfOk result (λ w. IsWanted band.now.sources d.head.size rect (numbers_of w)) }
+    {
+        wanted_in(&mut self.indexes, alloc, cat, key, band, rect)
+    }
+
     // The samples of a rectangle of a mosaic's band, made of the blocks of its sources: from the last to the
-    // first each is asked for what is still open, until nothing is.
+    // first each that the rectangle may need is asked for what is still open, until nothing is.
     #[cycle(read)]
     fn fill<L: Ledger>(
         &mut self,
@@ -378,10 +401,12 @@ impl<F: Folder> Lane<F> {
         let _count = cat.count();
         band.rules();
         self.spend(rect);
+        let wanted = self.wanted(alloc, cat, key, band, rect)?;
         let mut canvas = Canvas::of(alloc, rect, band.kind);
-        let mut number = band.sources.len();
-        while is_wanted(number, &canvas) {
-            number -= 1;
+        let mut left = wanted.len();
+        while is_wanted(left, &canvas) {
+            left -= 1;
+            let number = wanted.at(left);
             let source = band.sources.get(number);
             let numbered = Numbered {
                 key,

@@ -4,6 +4,7 @@
 mod asking;
 mod canvas;
 mod indexes;
+mod indexing;
 mod lane;
 mod laws;
 mod merging;

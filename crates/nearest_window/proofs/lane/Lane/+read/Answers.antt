@@ -1,6 +1,7 @@
-use Rattle.std.proofs.Common.{◌≡◌, List, ◌+◌, ◌-◌, ◌*◌, ◌<◌, ◌≤◌, ◌++◌, Some, refl, sym, ap, ◌∙◌, subst, arith, rules, length, take, drop, pos, false, to_z, of_z}
-use Rattle.std.specs.Prelude.{slice_get, unwrap_or}
+use Rattle.std.proofs.Common.{◌≡◌, ℕ, List, ◌+◌, ◌-◌, ◌*◌, ◌^◌, ◌<◌, ◌≤◌, ◌++◌, Some, refl, sym, ap, ◌∙◌, subst, arith, rules, length, take, drop, pos, false, to_z, of_z}
+use Rattle.std.specs.Prelude.{slice_get, slice_index, unwrap_or}
 use Rattle.std.specs.List.{All}
+use Rattle.std.proofs.lemmas.Option.{slice_get_within}
 use Rattle.mosaic_sources.specs.Pixels.{IsPixelOf}
 use Rattle.std.proofs.Math.Nat.{mul-le-mul, mul_comm}
 use Rattle.std.proofs.Math.Seq.{take-append_seam}
@@ -14,18 +15,21 @@ use Rattle.catalog.specs.Walk.{IsWalked}
 use Rattle.catalog.specs.Places.{IsWithin}
 use Rattle.block_cache.specs.Entries.{entry_of}
 use Rattle.nearest_window.specs.Heights.{height_at}
-use Rattle.nearest_window.specs.Right.{IsReady, Serves, slack_of, state_of}
+use Rattle.nearest_window.specs.Right.{IsIndexIn, IsReady, Serves, slack_of, state_of}
 use Rattle.nearest_window.specs.Painted.{IsPainted, first, in_columns}
 use Rattle.nearest_window.specs.Pictures.{from_block}
 use Rattle.nearest_window.specs.Taken.{place_at, TakesPixel}
 use Rattle.nearest_window.specs.Shown.{shown, AreTyped, IsTyped, IsShown, IsSourceOf}
 use Rattle.nearest_window.proofs.Alone.{alone_in}
 use Rattle.nearest_window.proofs.Keys.{held_made}
-use Rattle.nearest_window.proofs.Steps.{ready_then, serves_refl, serves_trans, serves_keep, serves_used}
+use Rattle.nearest_window.proofs.Steps.{ready_then, serves_indexed, serves_slack, serves_trans, serves_keep, serves_used}
 use Rattle.nearest_window.proofs.Shown.{held_sized, rect_shown, used_shown}
 use Rattle.nearest_window.specs.Canvases.{AreTaken, IsPackedOf, IsTaken}
 use Rattle.nearest_window.proofs.Mosaics.{source_stands, whole_block}
-use Rattle.nearest_window.proofs.Sources.{none_taken, not_wanted, taken_more, source_taken, source_unasked, all_taken, packed_part}
+use Rattle.nearest_window.proofs.Sources.{none_taken, not_wanted, taken_more, source_taken, source_unasked, packed_part}
+use Rattle.nearest_window.specs.Lanes.{lane_view}
+use Rattle.nearest_window.specs.Wanted.{IsWanted, bound, numbers_of}
+use Rattle.nearest_window.proofs.Skips.{taken_end, taken_here, taken_behind, taken_done}
 use Rattle.nearest_window.proofs.Fills.{columns_more, bands_more, part_length}
 use Rattle.nearest_window.proofs.Painted.{painted_whole}
 use Rattle.nearest_window.proofs.Ranges.{pixels_near, rect_typed, used_typed, rows_typed, typed_more}
@@ -49,25 +53,44 @@ hold-returns-in-Some-clause-serves g t c =
 pub hold-returns-in-Some-clause-held : goal.hold-returns-in-Some-clause-held
 hold-returns-in-Some-clause-held g t c = held_made c.keep_made.result c.fill.new.self c.keep_made.new.self c.args.key (entry_of c.in_ok-block-in-Some.block false) c.keep_made.ensures.kept
 
+pub fill-wanted-requires-clause-listed : goal.fill-wanted-requires-clause-listed
+fill-wanted-requires-clause-listed g t c κs within =
+    subst (λ lane. All (IsIndexIn c.args.cat.now) lane.indexes) (sym c.spend.ensures.same) c.requires.ready.right.listed
+
+pub fill-returns-in_err-wanted-clause-serves : goal.fill-returns-in_err-wanted-clause-serves
+fill-returns-in_err-wanted-clause-serves g t c =
+    let same = subst (λ lane. c.wanted.new.self ≡ lane_view lane.pool lane.files lane.made c.wanted.new.self.indexes) c.spend.ensures.same c.wanted.ensures.same in
+    let one : slack_of c.from_residual.result ≡ 1 = search rules in
+    rw one
+    (serves_slack g.F.Folder.file_bytes g.F.Folder.file_len c.args.cat.now (state_of g.F.Folder c.args.folder.now c.args.self.now c.args.loads.now) (state_of g.F.Folder c.args.folder.now c.wanted.new.self c.args.loads.now)
+    (serves_indexed g.F.Folder.file_bytes g.F.Folder.file_len c.args.cat.now (g.F.Folder.names c.args.folder.now) c.args.self.now c.wanted.new.self (g.F.Folder.faults c.args.folder.now) (g.F.Folder.read_calls c.args.folder.now) (g.F.Folder.write_calls c.args.folder.now) c.args.loads.now c.requires.ready.right same c.wanted.ensures.listed))
+
 pub fill-loop-key-init : goal.fill-loop-key-init
 fill-loop-key-init g t c =
-    let count : c.len-number.result ≡ length c.args.band.now.sources = c.len-number.ensures.count ∙ ap (λ (b : BandValue). length b.sources) c.band.view_is in
+    let same = subst (λ lane. c.wanted.new.self ≡ lane_view lane.pool lane.files lane.made c.wanted.new.self.indexes) c.spend.ensures.same c.wanted.ensures.same in
+    let count = c.len-left.ensures.count in
+    let numbers : List ℕ = numbers_of c.in_ok-wanted.wanted in
     record {
-      serves = subst (λ lane. Serves g.F.Folder.file_bytes g.F.Folder.file_len c.args.cat.now 0 (state_of g.F.Folder c.args.folder.now c.args.self.now c.args.loads.now) (state_of g.F.Folder c.args.folder.now lane c.args.loads.now)) (sym c.spend.ensures.same)
-          (serves_refl g.F.Folder.file_bytes g.F.Folder.file_len c.args.cat.now (state_of g.F.Folder c.args.folder.now c.args.self.now c.args.loads.now) c.requires.ready.right);
+      serves = serves_indexed g.F.Folder.file_bytes g.F.Folder.file_len c.args.cat.now (g.F.Folder.names c.args.folder.now) c.args.self.now c.wanted.new.self (g.F.Folder.faults c.args.folder.now) (g.F.Folder.read_calls c.args.folder.now) (g.F.Folder.write_calls c.args.folder.now) c.args.loads.now c.requires.ready.right same c.wanted.ensures.listed;
       canvas = c.of-canvas.ensures.canvas;
       rect = c.of-canvas.ensures.rect;
       kind = c.of-canvas.ensures.kind ∙ ap (λ (b : BandValue). b.kind) c.band.view_is;
+      wanted = c.in_ok-wanted.ensures.wanted;
       below = omega arith;
-      taken = λ d at. none_taken (g.F.Folder.names c.args.folder.now) c.args.cat.now d c.args.key.band c.args.band.now.sources c.len-number.result c.of-canvas.result (omega arith) c.of-canvas.ensures.open;
+      taken = λ d at. subst (λ n. AreTaken (g.F.Folder.names c.args.folder.now) c.args.cat.now d c.args.key.band (bound numbers n c.args.band.now.sources) c.args.band.now.sources c.of-canvas.result) (sym count)
+          (taken_end (g.F.Folder.names c.args.folder.now) c.args.cat.now d c.args.key.band c.args.band.now.sources numbers c.of-canvas.result
+          (none_taken (g.F.Folder.names c.args.folder.now) c.args.cat.now d c.args.key.band c.args.band.now.sources (length c.args.band.now.sources) c.of-canvas.result (omega arith) c.of-canvas.ensures.open));
     }
 
 pub fill-get-source-requires : goal.fill-get-source-requires
 fill-get-source-requires g t c =
-    let some : 0 < c.loop-key.number = c.is_wanted.ensures.some c.loop-key-test.true in
+    let some : 0 < c.loop-key.left = c.is_wanted.ensures.some c.loop-key-test.true in
     let low = c.loop-key.invariant.below in
-    let bound : c.loop-key.number - 1 < length c.args.band.now.sources = omega arith in
-    let inner : c.loop-key.number - 1 < length c.band.inside.sources = subst (λ n. c.loop-key.number - 1 < n) (sym (ap (λ (b : BandValue). length b.sources) c.band.view_is)) bound in
+    let wanted = c.loop-key.invariant.wanted c.requires.key.dataset c.requires.key.in_range.at in
+    let less : c.loop-key.left - 1 < length (numbers_of c.loop-key.wanted-1) = omega arith in
+    let there = wanted.below (c.loop-key.left - 1) 0 less in
+    let bound : c.at-number.result < length c.args.band.now.sources = subst (λ n. n < length c.args.band.now.sources) (sym c.at-number.ensures.number) there in
+    let inner : c.at-number.result < length c.band.inside.sources = subst (λ n. c.at-number.result < n) (sym (ap (λ (b : BandValue). length b.sources) c.band.view_is)) bound in
     search (rules, bound, inner)
 
 pub fill-paint-requires : goal.fill-paint-requires
@@ -77,30 +100,40 @@ fill-paint-requires g t c =
     let right = before.serves.right in
     let told = before.serves.told in
     let walked : (m : Files) → g.F.Folder.names c.loop-key.folder ≡ Some m → IsWalked m c.args.cat.now = λ m e. c.requires.ready.walked m (sym told ∙ e) in
-    let item : slice_get c.args.band.now.sources (c.loop-key.number - 1) ≡ Some c.get-source.result.now = ap (λ (l : List SourceValue). slice_get l (c.loop-key.number - 1)) (sym (ap (λ (b : BandValue). b.sources) c.band.view_is)) ∙ c.get-source.ensures.item in
-    let source : IsSourceOf c.args.cat.now c.args.key (c.loop-key.number - 1) c.get-source.result.now = record { dataset = k.dataset; in_range = k.in_range; source = source_stands c.args.cat.now c.args.key c.args.band.now k (c.loop-key.number - 1) c.get-source.result.now item } in
+    let item : slice_get c.args.band.now.sources c.at-number.result ≡ Some c.get-source.result.now = ap (λ (l : List SourceValue). slice_get l c.at-number.result) (sym (ap (λ (b : BandValue). b.sources) c.band.view_is)) ∙ c.get-source.ensures.item in
+    let few : c.at-number.result < 2 ^ 32 = (let p = slice_get_within c.args.band.now.sources c.at-number.result c.get-source.result.now item in omega (arith, p, c.requires.sources)) in
+    let source : IsSourceOf c.args.cat.now c.args.key c.at-number.result c.get-source.result.now = record { dataset = k.dataset; in_range = k.in_range; source = source_stands c.args.cat.now c.args.key c.args.band.now k c.at-number.result c.get-source.result.now item } in
     let fall : 7 * height_at c.args.cat.now c.args.key.dataset < t = (let m : 7 * height_at c.args.cat.now c.args.key.dataset + 1 ≡ t = c.decreases in omega arith) in
     let within : (d : Dataset) → slice_get c.args.cat.now c.args.key.dataset ≡ Some d → IsWithin c.loop-key.canvas.rect d.head.size = λ d at. subst (λ r. IsWithin r d.head.size) (sym before.rect) (c.requires.within d at) in
     let canvas = before.canvas in
     let ready : IsReady g.F.Folder c.loop-key.folder c.args.cat.now c.loop-key.self = record { right = right; walked = walked } in
-    search (rules, fall, ready, source, within, canvas)
+    search (rules, fall, ready, source, within, canvas, few)
 
 pub fill-loop-key-preserved : goal.fill-loop-key-preserved
 fill-loop-key-preserved g t c =
     let k = c.requires.key in
     let before = c.loop-key.invariant in
     let o = c.in_ok-paint.ensures in
-    let some : 0 < c.loop-key.number = c.is_wanted.ensures.some c.loop-key-test.true in
-    let same : c.loop-key.number - 1 + 1 ≡ c.loop-key.number = omega arith in
-    let item : slice_get c.args.band.now.sources (c.loop-key.number - 1) ≡ Some c.get-source.result.now = ap (λ (l : List SourceValue). slice_get l (c.loop-key.number - 1)) (sym (ap (λ (b : BandValue). b.sources) c.band.view_is)) ∙ c.get-source.ensures.item in
+    let some : 0 < c.loop-key.left = c.is_wanted.ensures.some c.loop-key-test.true in
+    let low = before.below in
+    let less : c.loop-key.left - 1 < length (numbers_of c.loop-key.wanted-1) = omega arith in
+    let is : c.at-number.result ≡ slice_index (numbers_of c.loop-key.wanted-1) (c.loop-key.left - 1) = c.at-number.ensures.number in
+    let item : slice_get c.args.band.now.sources c.at-number.result ≡ Some c.get-source.result.now = ap (λ (l : List SourceValue). slice_get l c.at-number.result) (sym (ap (λ (b : BandValue). b.sources) c.band.view_is)) ∙ c.get-source.ensures.item in
     record {
       serves = serves_trans g.F.Folder.file_bytes g.F.Folder.file_len c.args.cat.now 0 _ _ _ before.serves o.serves;
       canvas = o.canvas;
       rect = (o.taken k.dataset k.in_range.at).rect ∙ before.rect;
       kind = (o.taken k.dataset k.in_range.at).kind ∙ before.kind;
-      below = (let low = before.below in omega arith);
-      taken = λ d at. taken_more (g.F.Folder.names c.loop-key.folder) c.args.cat.now d c.args.key.band c.args.band.now.sources (g.F.Folder.names c.paint.new.folder) (c.loop-key.number - 1) c.get-source.result.now c.loop-key.canvas c.paint.new.canvas o.serves.told item
-          (subst (λ n. AreTaken (g.F.Folder.names c.loop-key.folder) c.args.cat.now d c.args.key.band n c.args.band.now.sources c.loop-key.canvas) (sym same) (before.taken d at)) (o.taken d at);
+      wanted = before.wanted;
+      below = omega arith;
+      taken = λ d at.
+          let wanted = subst (λ r. IsWanted c.args.band.now.sources d.head.size r (numbers_of c.loop-key.wanted-1)) (sym before.rect) (before.wanted d at) in
+          taken_here (g.F.Folder.names c.paint.new.folder) c.args.cat.now d c.args.key.band c.args.band.now.sources (numbers_of c.loop-key.wanted-1) c.paint.new.canvas (c.loop-key.left - 1) less
+          (subst (λ n. AreTaken (g.F.Folder.names c.paint.new.folder) c.args.cat.now d c.args.key.band n c.args.band.now.sources c.paint.new.canvas) is
+          (taken_more (g.F.Folder.names c.loop-key.folder) c.args.cat.now d c.args.key.band c.args.band.now.sources (g.F.Folder.names c.paint.new.folder) c.at-number.result c.get-source.result.now c.loop-key.canvas c.paint.new.canvas o.serves.told item
+          (subst (λ n. AreTaken (g.F.Folder.names c.loop-key.folder) c.args.cat.now d c.args.key.band (n + 1) c.args.band.now.sources c.loop-key.canvas) (sym is)
+          (taken_behind (g.F.Folder.names c.loop-key.folder) c.args.cat.now d c.args.key.band c.args.band.now.sources (numbers_of c.loop-key.wanted-1) c.loop-key.canvas wanted c.loop-key.left some low (before.taken d at)))
+          (o.taken d at)));
     }
 
 pub fill-returns-clause-block : goal.fill-returns-clause-block
@@ -109,8 +142,9 @@ fill-returns-clause-block g t c =
     let before = c.loop-key.invariant in
     let done = not_wanted c.is_wanted.result _ c.loop-key-test.false c.is_wanted.ensures.done in
     let nodata : to_z w128 (of_z w128 c.unwrap_or.result) ≡ unwrap_or c.args.band.now.nodata (pos 0) = (let n : to_z w128 (of_z w128 c.unwrap_or.result) ≡ c.unwrap_or.result = search rules in n ∙ c.unwrap_or.ensures ∙ ap (λ (b : BandValue). unwrap_or b.nodata (pos 0)) c.band.view_is) in
+    let wanted = subst (λ r. IsWanted c.args.band.now.sources k.dataset.head.size r (numbers_of c.loop-key.wanted-1)) (sym before.rect) (before.wanted k.dataset k.in_range.at) in
     packed_part (g.F.Folder.names c.loop-key.folder) c.args.cat.now c.args.key c.args.band.now k c.args.rect c.loop-key.canvas c.in_ok-block.block c.count-count.ensures.valid c.rules.ensures.rules (c.requires.within k.dataset k.in_range.at).columns before.rect before.kind
-    (all_taken (g.F.Folder.names c.loop-key.folder) c.args.cat.now k.dataset c.args.key.band c.loop-key.number c.args.band.now.sources c.loop-key.canvas (before.taken k.dataset k.in_range.at) done)
+    (taken_done (g.F.Folder.names c.loop-key.folder) c.args.cat.now k.dataset c.args.key.band c.args.band.now.sources (numbers_of c.loop-key.wanted-1) c.loop-key.canvas wanted c.loop-key.left (before.taken k.dataset k.in_range.at) done)
     (subst (λ v. IsPackedOf c.loop-key.canvas v c.in_ok-block.block) nodata c.in_ok-block.ensures.packed) c.len-len.ensures.valid
 
 pub paint-paint_picture-requires-clause-rows : goal.paint-paint_picture-requires-clause-rows
