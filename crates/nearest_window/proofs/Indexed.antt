@@ -1,18 +1,17 @@
 -- The indexes of bands that are kept are those of their bands.
-use Rattle.std.proofs.Common.{◌≡◌, ℕ, Bool, true, false, cond, ◌++◌, List, [], ◌∷◌, length, Option, Some, Result, Ok, Err, OnOk, OnErr, sym, ap, ◌∙◌, subst, arith, nat_le, ◌+◌}
+use Rattle.std.proofs.Common.{◌≡◌, ℕ, ◌+◌, Bool, true, false, cond, ◌++◌, List, [], ◌∷◌, Some, Result, Ok, Err, OnOk, OnErr, sym, ap, ◌∙◌, subst, arith, nat_le}
 use Rattle.std.specs.Prelude.{slice_get, IfSome, option_map}
 use Rattle.std.specs.List.{All}
 use Rattle.std.proofs.lemmas.Bool.Decides.{nat_tests}
 use Rattle.std.proofs.lemmas.List.Elements.{All-append, All-cons, All-nil}
-use Rattle.vrt_profile.specs.Values.{BandValue, DocumentValue}
-use Rattle.mosaic_sources.specs.Rows.{Rows, IsIndexOf, listed, most_listed}
+use Rattle.vrt_profile.specs.Values.{BandValue}
+use Rattle.mosaic_sources.specs.Rows.{IsIndexOf, most_listed}
 use Rattle.catalog.specs.Dataset.{DatasetHead}
 use Rattle.catalog.specs.Drivers.{Dataset, document_of}
 use Rattle.band_blocks.specs.declared.key.BlockKey.{BlockKey}
 use Rattle.nearest_window.specs.declared.indexes.Kept.{Kept}
 use Rattle.nearest_window.specs.Indexes.{all_listed, is_of, kept_behind, listed_of, without_index}
 use Rattle.nearest_window.specs.Right.{IsIndexIn, IsMosaicKey}
-use Rattle.nearest_window.proofs.Blocks.{known}
 
 pub of_dataset : (kept : Kept) (dataset band : ℕ) → is_of kept dataset band ≡ true → kept.dataset ≡ dataset
 of_dataset kept dataset band h = grind (arith, nat_tests)
@@ -32,22 +31,6 @@ module _ (cat : List Dataset) (key : BlockKey) (band : BandValue) (mosaic : IsMo
       (ap (slice_get cat) (of_dataset kept key.dataset key.band same) ∙ at)
       (subst (λ (d : Dataset). document_of d.content ≡ Some mosaic.document) e mosaic.content)
       (ap (slice_get mosaic.document.bands) (of_band kept key.dataset key.band same) ∙ mosaic.band_at)
-
-  -- a band with the index of its sources is right
-  pub right_index : (kept : Kept) (h : DatasetHead) → kept.dataset ≡ key.dataset → kept.band ≡ key.band → option_map (λ (d : Dataset). d.head) (slice_get cat key.dataset) ≡ Some h → IfSome kept.index (IsIndexOf band.sources h.size) → IsIndexIn cat kept
-  right_index kept h dataset_is band_is head index = record {
-    known = subst (λ (n : ℕ). n < length cat) (sym dataset_is) (known cat key.dataset mosaic.dataset mosaic.in_range.at);
-    index = λ d v b at content there.
-        let a : slice_get cat key.dataset ≡ Some d = ap (slice_get cat) (sym dataset_is) ∙ at in
-        let e : mosaic.dataset ≡ d = (let a' = mosaic.in_range.at in cc) in
-        let c : document_of d.content ≡ Some mosaic.document = subst (λ (d : Dataset). document_of d.content ≡ Some mosaic.document) e mosaic.content in
-        let w : mosaic.document ≡ v = cc in
-        let f : slice_get v.bands key.band ≡ Some band = subst (λ (v : DocumentValue). slice_get v.bands key.band ≡ Some band) w mosaic.band_at in
-        let g : slice_get v.bands key.band ≡ Some b = ap (slice_get v.bands) (sym band_is) ∙ there in
-        let n : band ≡ b = cc in
-        subst (λ (b : BandValue). IfSome kept.index (IsIndexOf b.sources d.head.size)) n
-        (subst (λ (h : DatasetHead). IfSome kept.index (IsIndexOf band.sources h.size)) (head_is cat key.dataset d h a head) index);
-  }
 
 module _ (cat : List Dataset) where
   right_without : (b : Bool) (kept : Kept) → IsIndexIn cat kept → IsIndexIn cat (cond b kept (without_index kept))

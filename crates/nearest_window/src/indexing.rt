@@ -29,12 +29,7 @@ fn is_indexed(sources: &Sources) -> bool
 }
 
 // A band with the index of its sources. It is refused where memory is.
-fn kept_of(
-    alloc: Global,
-    cat: &Catalog,
-    key: BlockKey,
-    band: &VrtBand,
-) -> Result<Kept, AllocError>
+fn kept_of(alloc: Global, cat: &Catalog, key: BlockKey, band: &VrtBand) -> Result<Kept, AllocError>
     requires key { IsMosaicKey cat.now key band.now }
     requires few { length band.now.sources ≤ 262144 }
     ensures index { IfOk result (IsIndexIn cat.now) }
