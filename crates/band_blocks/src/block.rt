@@ -20,9 +20,9 @@ use geotransform::{PixelType, Sample};
 use std::alloc::{AllocError, Global};
 use std::marker::Model;
 
-// The cells of a block, by their type.
+/// The cells of a block, by their type.
 #[derive(Drop)]
-enum Cells {
+pub(crate) enum Cells {
     Bytes(Packed<u8>),
     Ints8(Packed<i8>),
     UInts16(Packed<u16>),
@@ -70,7 +70,7 @@ fn zero_cells(alloc: Global, kind: PixelType, len: usize) -> Result<Cells, Alloc
 /// 2^32 samples, and each of them is in the range of the type.
 #[derive(Drop)]
 pub struct Block {
-    cells: Cells,
+    pub(crate) cells: Cells,
 }
 
 impl Model for Block {

@@ -25,7 +25,7 @@ use std::marker::Model;
 /// Below 2^32 samples of the type of a cell.
 #[derive(Drop)]
 pub(crate) struct Packed<T: Cell> {
-    cells: Vec<T>,
+    pub(crate) cells: Vec<T>,
 }
 
 impl<T: Cell> Model for Packed<T> {
