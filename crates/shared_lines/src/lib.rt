@@ -4,7 +4,9 @@
 mod laws;
 mod lines;
 mod scene;
+mod sizes;
 
 pub use laws::lines_stay_right;
 pub use lines::Lines;
 pub use scene::Scene;
+pub use sizes::zeros_for;
