@@ -105,9 +105,10 @@ const ROWS: [Row<'static>; 7] = [
 
 // The key of the block of a place, where there is one.
 #[tactic(auto, using(band_blocks::proofs::Loads::key_in))]
-fn key_of(cat: &Catalog, (dataset, band, line): Place) -> Option<BlockKey>
+fn key_of(cat: &Catalog, place: Place) -> Option<BlockKey>
     ensures key { IfSome result (IsKey cat.now) }
 {
+    let (dataset, band, line) = place;
     if dataset >= cat.count() {
         return None;
     }
