@@ -241,7 +241,10 @@ fn first_wrong<F: Folder>(
     requires none { F.names folder.now ≡ None }
 {
     for (at, (count, steps)) in rows.iter().enumerate() {
-        if *count == 0 || *count > 65536 || !all_go::<F, Brand>(alloc, cat, folder, *count, steps)? {
+        if *count == 0
+            || *count > 65536
+            || !all_go::<F, Brand>(alloc, cat, folder, *count, steps)?
+        {
             return Ok(at);
         }
     }
@@ -263,7 +266,8 @@ fn datasets(alloc: Global) -> Result<Catalog, Fail> {
     }
     let mut cat = Catalog::new(alloc);
     for name in ["a.bil", "b.bil"] {
-        if open_all(alloc, &mut cat, &mut folder, &Name::read(alloc, name)?, false).is_err() {
+        let name = Name::read(alloc, name)?;
+        if open_all(alloc, &mut cat, &mut folder, &name, false).is_err() {
             return Err("the walk was refused".into());
         }
     }

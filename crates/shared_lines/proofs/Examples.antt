@@ -21,13 +21,13 @@ blocks_share = refl
 used_once : (told : Option Files) (cat : List Dataset) (block : BlockView) → IsBlock told cat (key_at 1) block
     → Leads told cat 2 (opening 2) (at_one take ∷ at_one (put (key_at 1) block) ∷ at_one (look (key_at 1) block) ∷ at_one leave ∷ []) (empty ∷ held (key_at 1) block 0 ∷ [])
 used_once told cat block is = (
-    empty ∷ taken ∷ [],
-    record { line = empty; next = taken; here = refl; changes = refl; after = refl },
-    empty ∷ held (key_at 1) block 0 ∷ [],
-    record { line = taken; next = held (key_at 1) block 0; here = refl; changes = ((is, refl), refl); after = refl },
-    empty ∷ held (key_at 1) block 1 ∷ [],
-    record { line = held (key_at 1) block 0; next = held (key_at 1) block 1; here = refl; changes = (refl, refl, omega arith, refl); after = refl },
-    empty ∷ held (key_at 1) block 0 ∷ [],
-    record { line = held (key_at 1) block 1; next = held (key_at 1) block 0; here = refl; changes = refl; after = refl },
-    refl,
-  )
+  empty ∷ taken ∷ [],
+  record { line = empty; next = taken; here = refl; changes = refl; after = refl },
+  empty ∷ held (key_at 1) block 0 ∷ [],
+  record { line = taken; next = held (key_at 1) block 0; here = refl; changes = ((is, refl), refl); after = refl },
+  empty ∷ held (key_at 1) block 1 ∷ [],
+  record { line = held (key_at 1) block 0; next = held (key_at 1) block 1; here = refl; changes = (refl, refl, omega arith, refl); after = refl },
+  empty ∷ held (key_at 1) block 0 ∷ [],
+  record { line = held (key_at 1) block 1; next = held (key_at 1) block 0; here = refl; changes = refl; after = refl },
+  refl,
+)
