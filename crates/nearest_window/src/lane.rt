@@ -434,7 +434,7 @@ impl<F: Folder> Lane<F> {
         ensures cause { HasCause LoadFault.FolderFault (F.faults folder.old) (F.faults folder.new) result }
         ensures changed { IfErr result (TellsChangeIn cat.now) }
         ensures never { WhereTold F.Folder folder.old (λ _. IfErr result IsUnchanged) }
-        ensures block { IfOk result (λ b. IsPartBlock (F.names folder.new) cat.now key part.rect b) }
+        ensures block { IfOk result (λ b. IsPartBlock (F.names folder.new) cat.now key part.entry.rect b) }
     {
         if let Some(block) = self.recall(alloc, cat, key, part.rect) {
             return Ok(block);
