@@ -55,7 +55,7 @@ const TIMES_ITS_OWN: u64 = 8;
 // A window of so many pixels makes no blocks of mosaics, as long as it may fill pixels so: as many as such a block has.
 const WIDE: usize = 16_384;
 
-// A call that has filled so many pixels remembers single ones.
+// Once a call has filled so many pixels, the samples of single ones are remembered.
 const BEFORE_PIXELS: u64 = 4_096;
 
 /// A pool of blocks and a list of open files, through which pixels of files and of mosaics are read.
