@@ -47,7 +47,7 @@ IsDone t = t.answer ≡ Ok tt
 
 module _ {F File Draft : Type 0} (calls : Ghosts F File Draft) (told : Option Files) (cat : List Dataset) where
   abbrev pub IsRightLane : LaneView File → Type 0
-  IsRightLane lane = IsRight calls.file_bytes calls.file_len told cat lane.pool lane.files lane.made lane.indexes
+  IsRightLane lane = IsRight calls.file_bytes calls.file_len told cat lane.pool lane.files lane.made lane.indexes lane.recalled
 
   abbrev pub IsTurnOf : Turn F File Draft → Type 0
   IsTurnOf t = IsTurn told cat (calls.names t.view) (calls.faults t.view) (calls.write_calls t.view) t.answer

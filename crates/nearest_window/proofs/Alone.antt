@@ -1,6 +1,6 @@
 -- Pixels that are read by themselves.
-use Rattle.std.proofs.Common.{◌≡◌, ◌∙◌, ap, sym, subst, ℕ, ℤ, pos, ◌+◌, ◌*◌, ◌/◌, ◌%◌, ◌<◌, ◌≤◌, List, [], ◌∷◌, get_or, Option, Some, true, arith}
-use Rattle.std.specs.Prelude.{slice_get, option_map}
+use Rattle.std.proofs.Common.{◌≡◌, ◌⊎◌, inl, inr, ◌∙◌, ap, sym, subst, refl, Contains, ℕ, ℤ, pos, ◌+◌, ◌*◌, ◌/◌, ◌%◌, ◌<◌, ◌≤◌, List, [], ◌∷◌, get_or, Option, Some, true, arith}
+use Rattle.std.specs.Prelude.{slice_get, slice_index_or, option_map}
 use Rattle.std.specs.List.{All}
 use Rattle.std.proofs.lemmas.Nat.{mod_below, div-add-mod'}
 use Rattle.geotransform.specs.Types.{is_in}
@@ -11,12 +11,14 @@ use Rattle.catalog.specs.Drivers.{Dataset}
 use Rattle.catalog.specs.Pixels.{pixel_of}
 use Rattle.catalog.specs.Places.{row_by_row, IsWithin}
 use Rattle.band_blocks.specs.declared.key.BlockKey.{BlockKey}
+use Rattle.band_blocks.specs.declared.key.PixelKey.{PixelKey}
 use Rattle.band_blocks.specs.Blocks.{BlockView, block_view}
 use Rattle.band_blocks.specs.Keys.{IsKeyOf}
 use Rattle.nearest_window.specs.declared.picture.Picture.{Picture}
 use Rattle.nearest_window.specs.declared.places.Places.{Places}
 use Rattle.nearest_window.specs.declared.targets.Piece.{Piece}
-use Rattle.nearest_window.specs.Right.{IsPartBlock}
+use Rattle.nearest_window.specs.Lanes.{pixel_at}
+use Rattle.nearest_window.specs.Right.{AreRecalled, IsPartBlock, IsRecalled}
 use Rattle.nearest_window.specs.Shown.{IsAreaOf, IsPartOf, IsPictureOf}
 use Rattle.nearest_window.specs.Taken.{place_at}
 use Rattle.nearest_window.proofs.Blocks.{same_item}
@@ -53,6 +55,47 @@ pixel_block told cat key d rect kind v block key_of narrow low kind_is range con
       shape = record { kind = kind_is; count = count; range = one_in kind v range };
       content = λ m e. one_row (pixel_of m cat key.dataset key.band) rect v narrow low (content m e);
     })
+
+-- a remembered sample is of its band's type
+pub recalled_in : (told : Option Files) (cat : List Dataset) (key : PixelKey) (d : Dataset) (kind : PixelType) (v : ℤ) → slice_get cat key.dataset ≡ Some d
+    → option_map (λ b. b.kind) (slice_get d.head.bands key.band) ≡ Some kind → IsRecalled told cat key v → is_in kind v ≡ true
+recalled_in told cat key d kind v at kind_is is =
+    let same : is.dataset ≡ d = same_item cat key.dataset is.dataset d is.at at in
+    let there : option_map (λ b. b.kind) (slice_get d.head.bands key.band) ≡ Some is.kind = subst (λ (x : Dataset). option_map (λ b. b.kind) (slice_get x.head.bands key.band) ≡ Some is.kind) same is.kind_is in
+    let kinds : is.kind ≡ kind = same_some is.kind kind (sym there ∙ kind_is) in
+    subst (λ k. is_in k v ≡ true) kinds is.range
+  where
+    same_some : (a b : PixelType) → Some a ≡ Some b → a ≡ b
+    same_some a b e = cc
+
+-- the block of a pixel whose sample is remembered
+pub recalled_block : (told : Option Files) (cat : List Dataset) (key : BlockKey) (d : Dataset) (rect : Rect) (kind : PixelType) (v : ℤ) (block : BlockView) → IsKeyOf cat key d → rect.w ≡ 1 → rect.h ≡ 1
+    → option_map (λ b. b.kind) (slice_get d.head.bands key.band) ≡ Some kind → IsRecalled told cat (pixel_at key rect) v → block ≡ block_view kind (v ∷ []) → IsPartBlock told cat key rect block
+recalled_block told cat key d rect kind v block key_of narrow low kind_is is made =
+    pixel_block told cat key d rect kind v block key_of narrow low kind_is (recalled_in told cat (pixel_at key rect) d kind v key_of.at kind_is is) is.content made
+
+-- the sample of a block of one pixel may be remembered
+pub part_recalled : (told : Option Files) (cat : List Dataset) (key : BlockKey) (rect : Rect) (block : BlockView) → rect.w ≡ 1 → rect.h ≡ 1 → IsPartBlock told cat key rect block → IsRecalled told cat (pixel_at key rect) (slice_index_or block.samples 0 (pos 0))
+part_recalled told cat key rect block narrow low is =
+    let product : rect.w * rect.h ≡ 1 * rect.h = ap (λ n. n * rect.h) narrow in
+    let count = is.shape.count in
+    record {
+      dataset = is.dataset;
+      at = is.in_range.at;
+      kind = block.kind;
+      kind_is = is.shape.kind;
+      range = is.shape.range 0 (pos 0) (omega arith);
+      content = λ m e. ap (λ l. slice_index_or l 0 (pos 0)) (is.content m e ∙ sym (one_row (pixel_of m cat key.dataset key.band) rect (pixel_of m cat key.dataset key.band rect.x rect.y) narrow low refl));
+    }
+
+-- samples stay right where that of such a block is put in
+pub are_recalled_put : (told : Option Files) (cat : List Dataset) (key : BlockKey) (rect : Rect) (block : BlockView) (old new : List (PixelKey × ℤ)) → rect.w ≡ 1 → rect.h ≡ 1 → IsPartBlock told cat key rect block
+    → ((k : PixelKey) → (v : ℤ) → Contains new (k, v) → Contains old (k, v) ⊎ ((k ≡ pixel_at key rect) × (v ≡ slice_index_or block.samples 0 (pos 0))))
+    → AreRecalled told cat old → AreRecalled told cat new
+are_recalled_put told cat key rect block old new narrow low is kept right k v there = elim (kept k v there) [
+  | inl was ↦ right k v was
+  | inr put ↦ subst (λ s. IsRecalled told cat k s) (sym put.1) (subst (λ j. IsRecalled told cat j (slice_index_or block.samples 0 (pos 0))) (sym put.0) (part_recalled told cat key rect block narrow low is))
+]
 
 -- the only column of a picture, or its only line, in the rectangle of its pixel
 pub alone_in : (places : Places) (n w width first count : ℕ) → n ≡ place_at places first → w ≡ 1 → width ≡ 1 → first + count ≤ width → (k : ℕ) → first ≤ k → k < first + count → (n ≤ place_at places k) × (place_at places k < n + w)

@@ -1,17 +1,18 @@
 -- Lanes over a catalog that grows.
-use Rattle.std.proofs.Common.{◌≡◌, ◌∙◌, sym, ℕ, zero, suc, ◌<◌, List, [], ◌∷◌, ◌++◌, length, length-append, Option, Some, arith}
+use Rattle.std.proofs.Common.{◌≡◌, ◌∙◌, sym, ℕ, ℤ, zero, suc, ◌<◌, List, [], ◌∷◌, ◌++◌, length, length-append, Option, Some, arith}
 use Rattle.std.specs.Prelude.{slice_get}
 use Rattle.std.proofs.lemmas.List.Elements.{All-weaker}
 use Rattle.outside.specs.Outside.{Files}
 use Rattle.catalog.specs.Drivers.{Dataset}
 use Rattle.catalog.specs.Walk.{IsCatalog}
-use Rattle.catalog.proofs.PixelLaws.{more_block}
+use Rattle.catalog.proofs.PixelLaws.{more_block, more_is_same}
 use Rattle.band_blocks.specs.declared.key.BlockKey.{BlockKey}
+use Rattle.band_blocks.specs.declared.key.PixelKey.{PixelKey}
 use Rattle.band_blocks.specs.Blocks.{BlockView}
 use Rattle.block_cache.specs.Entries.{PoolView}
 use Rattle.band_blocks.specs.Contents.{IsBlock}
 use Rattle.nearest_window.specs.declared.indexes.Kept.{Kept}
-use Rattle.nearest_window.specs.Right.{IsIndexIn, IsRight}
+use Rattle.nearest_window.specs.Right.{IsIndexIn, IsRecalled, IsRight}
 
 still_there : (cat more : List Dataset) (id : ℕ) (d : Dataset) → slice_get cat id ≡ Some d → slice_get (cat ++ more) id ≡ Some d
 still_there [] more id d at = cc
@@ -37,12 +38,23 @@ index_stays cat more kept is = record {
   index = λ d v b at. is.index d v b (was_there cat more kept.dataset d is.known at);
 }
 
-pub right_stays : {File : Type 0} (bytes : File → Option (List ℕ)) (len : File → ℕ) (told : Option Files) (cat more : List Dataset) (pool : PoolView) (files : List (ℕ × File)) (made : PoolView) (indexes : List Kept) → IsCatalog cat → IsRight bytes len told cat pool files made indexes → IsRight bytes len told (cat ++ more) pool files made indexes
-right_stays bytes len told cat more pool files made indexes valid right = record {
+recalled_stays : (told : Option Files) (cat more : List Dataset) (key : PixelKey) (sample : ℤ) → IsCatalog cat → IsRecalled told cat key sample → IsRecalled told (cat ++ more) key sample
+recalled_stays told cat more key sample valid is = record {
+  dataset = is.dataset;
+  at = still_there cat more key.dataset is.dataset is.at;
+  kind = is.kind;
+  kind_is = is.kind_is;
+  range = is.range;
+  content = λ m e. is.content m e ∙ sym (more_is_same m cat more key.dataset key.band key.x key.y is.dataset valid is.at);
+}
+
+pub right_stays : {File : Type 0} (bytes : File → Option (List ℕ)) (len : File → ℕ) (told : Option Files) (cat more : List Dataset) (pool : PoolView) (files : List (ℕ × File)) (made : PoolView) (indexes : List Kept) (recalled : List (PixelKey × ℤ)) → IsCatalog cat → IsRight bytes len told cat pool files made indexes recalled → IsRight bytes len told (cat ++ more) pool files made indexes recalled
+right_stays bytes len told cat more pool files made indexes recalled valid right = record {
   valid = right.valid;
   blocks = λ key entry held. block_stays told cat more key entry.block valid (right.blocks key entry held);
   good = λ n f kept. let g = right.good n f kept in record { dataset = g.dataset; at = still_there cat more n g.dataset g.at; is_file = g.is_file; length = g.length; content = g.content };
   made_valid = right.made_valid;
   remembered = λ key entry held. block_stays told cat more key entry.block valid (right.remembered key entry held);
   listed = All-weaker (IsIndexIn cat) (IsIndexIn (cat ++ more)) (λ kept is. index_stays cat more kept is) indexes right.listed;
+  pixels = λ key sample there. recalled_stays told cat more key sample valid (right.pixels key sample there);
 }

@@ -163,6 +163,6 @@ held_made (Ok x) p q k e kept = elim kept [
 held_made (Err x) p q k e kept = tt
 
 -- the same of the pool alone
-pub held_kept : {T E File : Type 0} (r : Result T E) (p q : LaneView File) (k : BlockKey) (e : Entry) → OnOk r (q ≡ lane_view (pool_view (admitted p.pool.capacity k e p.pool.entries) p.pool.capacity) p.files p.made p.indexes) → OnOk r (IsHeldWith k q (λ _. ⊤))
+pub held_kept : {T E File : Type 0} (r : Result T E) (p q : LaneView File) (k : BlockKey) (e : Entry) → OnOk r (q ≡ lane_view (pool_view (admitted p.pool.capacity k e p.pool.entries) p.pool.capacity) p.files p.made p.indexes p.recalled) → OnOk r (IsHeldWith k q (λ _. ⊤))
 held_kept {T} {E} (Ok x) p q k e kept = held_made {T = T} {E = E} (Ok x) p q k e (inl kept)
 held_kept {T} {E} (Err x) p q k e kept = tt

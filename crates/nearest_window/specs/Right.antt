@@ -1,5 +1,7 @@
 -- When a lane is right for a catalog and a folder, and what a call does to a lane.
-use Rattle.std.specs.Prelude.{◌≡◌, ℕ, ◌+◌, ◌*◌, ◌<◌, ◌≤◌, List, All, length, Option, Some, None, IfSome, Contains, Result, Ok, Err, slice_get}
+use Rattle.std.specs.Prelude.{◌≡◌, ℕ, ℤ, true, ◌+◌, ◌*◌, ◌<◌, ◌≤◌, List, All, length, Option, Some, None, IfSome, Contains, Result, Ok, Err, option_map, slice_get}
+use Rattle.geotransform.specs.Types.{is_in}
+use Rattle.geotransform.specs.declared.types.PixelType.{PixelType}
 use Rattle.geotransform.specs.declared.types.Rect.{Rect}
 use Rattle.outside.specs.Outside.{Files}
 use Rattle.outside.specs.Reading.{WhereTold}
@@ -12,6 +14,7 @@ use Rattle.catalog.specs.Pixels.{pixel_of}
 use Rattle.catalog.specs.Places.{row_by_row}
 use Rattle.catalog.specs.Walk.{IsWalked}
 use Rattle.band_blocks.specs.declared.key.BlockKey.{BlockKey}
+use Rattle.band_blocks.specs.declared.key.PixelKey.{PixelKey}
 use Rattle.band_blocks.specs.Blocks.{BlockView}
 use Rattle.band_blocks.specs.Contents.{IsBlock, IsOfBand, most_calls}
 use Rattle.band_blocks.specs.Keys.{IsKeyOf}
@@ -35,24 +38,38 @@ pub record IsPartBlock (told : Option Files) (cat : List Dataset) (key : BlockKe
 abbrev pub AreBlocks : Option Files → List Dataset → List (BlockKey × Entry) → Type 0
 AreBlocks told cat entries = (key : BlockKey) (entry : Entry) → Contains entries (key, entry) → IsBlock told cat key entry.block
 
+-- the sample is of the type of its pixel's band, and over a folder that tells its files it is the pixel's
+pub record IsRecalled (told : Option Files) (cat : List Dataset) (key : PixelKey) (sample : ℤ) : Type 0 where
+  pub dataset : Dataset
+  pub at : slice_get cat key.dataset ≡ Some dataset
+  pub kind : PixelType
+  pub kind_is : option_map (λ band. band.kind) (slice_get dataset.head.bands key.band) ≡ Some kind
+  pub range : is_in kind sample ≡ true
+  pub content : (m : Files) → told ≡ Some m → sample ≡ pixel_of m cat key.dataset key.band key.x key.y
+
+-- each remembered sample is that of its pixel
+abbrev pub AreRecalled : Option Files → List Dataset → List (PixelKey × ℤ) → Type 0
+AreRecalled told cat recalled = (key : PixelKey) (sample : ℤ) → Contains recalled (key, sample) → IsRecalled told cat key sample
+
 -- the kept index, if there is one, is that of the sources of its band of its dataset, which is one of the catalog
 pub record IsIndexIn (cat : List Dataset) (kept : Kept) : Type 0 where
   pub known : kept.dataset < length cat
   pub index : (d : Dataset) (v : DocumentValue) (b : BandValue) → slice_get cat kept.dataset ≡ Some d → document_of d.content ≡ Some v → slice_get v.bands kept.band ≡ Some b → IfSome kept.index (IsIndexOf b.sources d.head.size)
 
--- a lane's pool, its open files, what it remembers beside the pool and its indexes are right
-pub record IsRight {File : Type 0} (bytes : File → Option (List ℕ)) (len : File → ℕ) (told : Option Files) (cat : List Dataset) (pool : PoolView) (files : List (ℕ × File)) (made : PoolView) (indexes : List Kept) : Type 0 where
+-- a lane's pool, its open files, what it remembers beside the pool, its indexes and its remembered samples are right
+pub record IsRight {File : Type 0} (bytes : File → Option (List ℕ)) (len : File → ℕ) (told : Option Files) (cat : List Dataset) (pool : PoolView) (files : List (ℕ × File)) (made : PoolView) (indexes : List Kept) (recalled : List (PixelKey × ℤ)) : Type 0 where
   pub valid : IsPool pool
   pub blocks : AreBlocks told cat pool.entries
   pub good : AreGood bytes len told cat files
   pub made_valid : IsPool made
   pub remembered : AreBlocks told cat made.entries
   pub listed : All (IsIndexIn cat) indexes
+  pub pixels : AreRecalled told cat recalled
 
 -- The lane is ready for a catalog and a folder: what it holds is right for both, and over a folder that tells its files
 -- the catalog was walked over them.
 pub record IsReady {F File Draft : Type 0} (calls : Ghosts F File Draft) (folder : F) (cat : List Dataset) (lane : LaneView File) : Type 0 where
-  pub right : IsRight calls.file_bytes calls.file_len (calls.names folder) cat lane.pool lane.files lane.made lane.indexes
+  pub right : IsRight calls.file_bytes calls.file_len (calls.names folder) cat lane.pool lane.files lane.made lane.indexes lane.recalled
   pub walked : WhereTold calls folder (λ m. IsWalked m cat)
 
 -- the lane is ready for each folder and each catalog that was walked over it
@@ -66,19 +83,20 @@ pub record LaneState (File : Type 0) : Type 0 where
   pub files : List (ℕ × File)
   pub made : PoolView
   pub indexes : List Kept
+  pub recalled : List (PixelKey × ℤ)
   pub faults : ℕ
   pub reads : ℕ
   pub writes : ℕ
   pub loads : ℕ
 
-abbrev pub lane_state : {File : Type 0} → Option Files → PoolView → List (ℕ × File) → PoolView → List Kept → ℕ → ℕ → ℕ → ℕ → LaneState File
-lane_state told pool files made indexes faults reads writes loads = record { told = told; pool = pool; files = files; made = made; indexes = indexes; faults = faults; reads = reads; writes = writes; loads = loads }
+abbrev pub lane_state : {File : Type 0} → Option Files → PoolView → List (ℕ × File) → PoolView → List Kept → List (PixelKey × ℤ) → ℕ → ℕ → ℕ → ℕ → LaneState File
+lane_state told pool files made indexes recalled faults reads writes loads = record { told = told; pool = pool; files = files; made = made; indexes = indexes; recalled = recalled; faults = faults; reads = reads; writes = writes; loads = loads }
 
 -- What each call does to a lane. It is right afterwards, and the folder's files and count of writes are as before. No
 -- load takes more reads than the most that a block of the catalog needs. With room for all blocks, each load but the
 -- slack makes one more block held.
 pub record Serves {File : Type 0} (bytes : File → Option (List ℕ)) (len : File → ℕ) (cat : List Dataset) (slack : ℕ) (before after : LaneState File) : Type 0 where
-  pub right : IsRight bytes len after.told cat after.pool after.files after.made after.indexes
+  pub right : IsRight bytes len after.told cat after.pool after.files after.made after.indexes after.recalled
   pub told : after.told ≡ before.told
   pub writes : after.writes ≡ before.writes
   pub capacity : after.pool.capacity ≡ before.pool.capacity
@@ -95,7 +113,7 @@ slack_of (Err e) = 1
 
 -- a lane with a folder and a count of loads
 abbrev pub state_of : {F File Draft : Type 0} → Ghosts F File Draft → F → LaneView File → ℕ → LaneState File
-state_of calls folder lane loads = lane_state (calls.names folder) lane.pool lane.files lane.made lane.indexes (calls.faults folder) (calls.read_calls folder) (calls.write_calls folder) loads
+state_of calls folder lane loads = lane_state (calls.names folder) lane.pool lane.files lane.made lane.indexes lane.recalled (calls.faults folder) (calls.read_calls folder) (calls.write_calls folder) loads
 
 -- what a call does to a lane, its folder and its count of loads, by its answer
 abbrev pub Served : {F File Draft T E : Type 0} → Ghosts F File Draft → List Dataset → Result T E → F → LaneView File → ℕ → F → LaneView File → ℕ → Type 0

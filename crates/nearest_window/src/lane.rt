@@ -1,8 +1,9 @@
 // A lane: a pool of blocks and open files, through which windows of pixels are read.
-ghost use Rattle.std.specs.Prelude.{◌≡◌, ⊤, ℕ, ◌+◌, ◌*◌, ◌^◌, ◌<◌, ◌≤◌, List, [], Some, None, length, IfErr, IfOk, OnOk, OnErr, IfSome, IsSome, is_some, false, true, slice_get};
+ghost use Rattle.std.specs.Prelude.{◌≡◌, ⊤, ℕ, Option, ◌+◌, ◌*◌, ◌^◌, ◌<◌, ◌≤◌, List, [], Some, None, length, IfErr, IfOk, OnOk, OnErr, IfSome, IsSome, is_some, false, true, slice_get};
 ghost use Rattle.std.specs.Option.{IsSomeAnd};
 ghost use Rattle.std.specs.List.{All};
 ghost use Rattle.outside.specs.Causes.{HasCause};
+ghost use Rattle.outside.specs.Outside.{Files};
 ghost use Rattle.outside.specs.Reading.{WhereTold};
 ghost use Rattle.catalog.specs.Drivers.{Dataset};
 ghost use Rattle.catalog.specs.Places.{IsWithin};
@@ -11,10 +12,10 @@ ghost use Rattle.band_blocks.specs.Open.{IsUnchanged};
 ghost use Rattle.band_blocks.specs.Samples.{IsDirect};
 ghost use Rattle.block_cache.specs.Entries.{pool_view, entry_of, held_at, moved_to_front, admitted, IsPool};
 ghost use Rattle.nearest_window.specs.Canvases.{IsCanvas, IsSourceTaken};
-ghost use Rattle.nearest_window.specs.Lanes.{IsHeldWith, IsKept, IsUsed, LaneView, lane_view, held_in, room_of};
+ghost use Rattle.nearest_window.specs.Lanes.{IsHeldWith, IsKept, IsUsed, LaneView, lane_view, held_in, pixel_at, room_of};
 ghost use Rattle.nearest_window.specs.Painted.{IsPainted, in_columns};
 ghost use Rattle.nearest_window.specs.Pictures.{IsPicture, from_block};
-ghost use Rattle.nearest_window.specs.Right.{IsFresh, IsIndexIn, IsPartBlock, IsReady, IsRight, IsFileKey, IsMosaicKey, Served, TellsChangeIn};
+ghost use Rattle.nearest_window.specs.Right.{AreRecalled, IsFresh, IsIndexIn, IsPartBlock, IsReady, IsRight, IsFileKey, IsMosaicKey, Served, TellsChangeIn};
 ghost use Rattle.nearest_window.specs.Shown.{AreTyped, IsAreaOf, IsPictureOf, IsShown, IsTyped, IsBandOf, IsPartOf, IsLonePart, IsSourceOf};
 ghost use Rattle.nearest_window.specs.Taken.{place_at};
 ghost use Rattle.nearest_window.specs.Wanted.{IsWanted, numbers_of};
@@ -31,6 +32,7 @@ use crate::parts::{
 };
 use crate::picture::Picture;
 use crate::places::Span;
+use crate::recalled::Recalled;
 use crate::taking::taking_of;
 use crate::targets::{Area, Around, Numbered, Piece, band_of, block_around, kind_of, mosaic_rect};
 use crate::wanted::Wanted;
@@ -47,15 +49,18 @@ use std::sync::ledger::Ledger;
 use vrt_profile::VrtBand;
 
 // At most so many blocks of mosaics are remembered beside a full pool.
-const MOST_MADE: u32 = 1024;
+const MOST_MADE: u32 = 4096;
 
 // So many pixels a window may fill before it makes blocks in place of parts, besides eight times its own.
 const ALONE: u64 = 131_072;
 
 const TIMES_ITS_OWN: u64 = 8;
 
-// A window of so many pixels makes no blocks of mosaics, as long as it may fill pixels so: as many as such a block has.
+// A window of so many pixels, as many as a block has, makes no blocks of mosaics while it may fill pixels so.
 const WIDE: usize = 16_384;
+
+// Once a call has filled so many pixels, the samples of single ones are remembered.
+const BEFORE_PIXELS: u64 = 4_096;
 
 /// A pool of blocks and a list of open files, through which pixels of files and of mosaics are read.
 #[derive(Drop)]
@@ -66,6 +71,10 @@ pub struct Lane<F: Folder> {
     made: Pool,
     // Indexes of the sources of mosaics' bands by lines.
     indexes: Indexes,
+    // Samples of pixels of mosaics that were made by themselves.
+    recalled: Recalled,
+    // So many pixels this call might fill at first before blocks are made in place of parts.
+    first: u64,
     // So many pixels may still be filled in this call before blocks are made in place of parts.
     left: u64,
     // Whether this call paints parts in place of blocks even where the pool has room.
@@ -93,13 +102,25 @@ fn paint_from(pool: &mut Pool, picture: &Picture, piece: Piece, out: &mut [Sampl
     let _held = pool.held();
 }
 
+// The first pixel of a rectangle of the band that a block is of.
+fn pixel_at(key: BlockKey, rect: Rect) -> PixelKey
+    ensures pixel { result ≡ pixel_at key rect }
+{
+    PixelKey {
+        dataset: key.dataset,
+        band: key.band,
+        x: rect.x,
+        y: rect.y,
+    }
+}
+
 impl<F: Folder> Model for Lane<F> {
     ghost use Rattle.nearest_window.specs.Canvases.{IsCanvas, IsSourceTaken};
     ghost use Rattle.nearest_window.specs.Lanes.{LaneView, lane_view};
 
     ghost Value = { LaneView F.File };
 
-    ghost view = { λ l. lane_view l.pool l.files l.made l.indexes };
+    ghost view = { λ l. lane_view l.pool l.files l.made l.indexes l.recalled };
 }
 
 impl<F: Folder> Lane<F> {
@@ -107,13 +128,14 @@ impl<F: Folder> Lane<F> {
     pub fn new(alloc: Global, capacity: u32) -> Result<Lane<F>, AllocError>
         requires some { 1 ≤ capacity }
         requires few { capacity ≤ 65536 }
-        ensures empty { IfOk result (λ lane. lane ≡ lane_view (pool_view [] capacity) [] (pool_view [] 1024) []) }
-        ensures right { IfOk result (λ lane. (told : _) (cat : List Dataset) → IsRight F.file_bytes F.file_len told cat lane.pool lane.files lane.made lane.indexes) }
+        ensures empty { IfOk result (λ lane. lane ≡ lane_view (pool_view [] capacity) [] (pool_view [] 4096) [] []) }
+        ensures right { IfOk result (λ lane. (told : _) (cat : List Dataset) → IsRight F.file_bytes F.file_len told cat lane.pool lane.files lane.made lane.indexes lane.recalled) }
         ensures fresh { IfOk result (λ lane. IsFresh F.Folder lane) }
     {
         let pool = Pool::new(alloc, capacity)?;
         let made = Pool::new(alloc, MOST_MADE)?;
         let files = OpenFiles::new(alloc)?;
+        let recalled = Recalled::new(alloc)?;
         // These calls are made for the proof: they say what holds of every pool.
         let _held = pool.held();
         let _made = made.held();
@@ -122,6 +144,8 @@ impl<F: Folder> Lane<F> {
             files,
             made,
             indexes: Indexes::new(alloc),
+            recalled,
+            first: 0,
             left: 0,
             is_wide: false,
             missed: Missed::new(capacity),
@@ -140,7 +164,8 @@ impl<F: Folder> Lane<F> {
         ensures same { self.new ≡ self.old }
     {
         let more = (pixels as u64).saturating_mul(TIMES_ITS_OWN);
-        self.left = more.saturating_add(ALONE);
+        self.first = more.saturating_add(ALONE);
+        self.left = self.first;
         // A catalog is only looked through for a large window.
         self.is_wide = pixels >= WIDE && !has_cells(cat);
     }
@@ -173,7 +198,7 @@ impl<F: Folder> Lane<F> {
 
     // Keeps a block in the pool.
     fn keep(&mut self, key: BlockKey, block: Block) -> Result<(), LoadFault>
-        ensures kept { OnOk result (self.new ≡ lane_view (pool_view (admitted (room_of self.old) key (entry_of block false) self.old.pool.entries) (room_of self.old)) self.old.files self.old.made self.old.indexes) }
+        ensures kept { OnOk result (self.new ≡ lane_view (pool_view (admitted (room_of self.old) key (entry_of block false) self.old.pool.entries) (room_of self.old)) self.old.files self.old.made self.old.indexes self.old.recalled) }
         ensures refused { OnErr result (self.new ≡ self.old) }
         ensures memory { IfErr result (λ e. e ≡ LoadFault.Memory) }
         ensures valid { IsPool self.new.pool }
@@ -186,7 +211,7 @@ impl<F: Folder> Lane<F> {
 
     // Keeps a block of a mosaic beside the pool.
     fn remember(&mut self, key: BlockKey, block: Block) -> Result<(), LoadFault>
-        ensures kept { OnOk result (self.new ≡ lane_view self.old.pool self.old.files (pool_view (admitted self.old.made.capacity key (entry_of block false) self.old.made.entries) self.old.made.capacity) self.old.indexes) }
+        ensures kept { OnOk result (self.new ≡ lane_view self.old.pool self.old.files (pool_view (admitted self.old.made.capacity key (entry_of block false) self.old.made.entries) self.old.made.capacity) self.old.indexes self.old.recalled) }
         ensures refused { OnErr result (self.new ≡ self.old) }
         ensures memory { IfErr result (λ e. e ≡ LoadFault.Memory) }
         ensures valid { IsPool self.new.made }
@@ -323,6 +348,45 @@ impl<F: Folder> Lane<F> {
         Ok(Block::pack(alloc, kind, &[sample])?)
     }
 
+    // Whether the sample of a rectangle is remembered: it is one pixel, and this call has filled many already.
+    fn remembers(&self, rect: Rect) -> bool
+        ensures narrow { result ≡ true → rect.w ≡ 1 }
+        ensures low { result ≡ true → rect.h ≡ 1 }
+    {
+        if rect.w != 1 || rect.h != 1 {
+            return false;
+        }
+        self.first.saturating_sub(self.left) >= BEFORE_PIXELS
+    }
+
+    // The block of a rectangle of one pixel whose sample is remembered.
+    fn recall(&self, alloc: Global, cat: &Catalog, key: BlockKey, rect: Rect) -> Option<Block>
+        requires key { IsKey cat.now key }
+        requires recalled { (told : Option Files) × AreRecalled told cat.now self.now.recalled }
+        ensures block { IfSome result (λ b. (told : Option Files) → AreRecalled told cat.now self.now.recalled → IsPartBlock told cat.now key rect b) }
+    {
+        if !self.remembers(rect) {
+            return None;
+        }
+        let sample = self.recalled.find(pixel_at(key, rect))?;
+        match Block::pack(alloc, kind_of(cat, key), &[sample]) {
+            Ok(block) => Some(block),
+            Err(_) => None,
+        }
+    }
+
+    // Remembers the sample of a rectangle of one pixel, where memory isn't refused.
+    fn note(&mut self, key: BlockKey, rect: Rect, block: &Block)
+        requires count { length block.now.samples ≡ rect.w * rect.h }
+        ensures same { self.new ≡ lane_view self.old.pool self.old.files self.old.made self.old.indexes self.new.recalled }
+        ensures pixels { (told : Option Files) → (cat : List Dataset) → IsPartBlock told cat key rect block.now → AreRecalled told cat self.old.recalled → AreRecalled told cat self.new.recalled }
+    {
+        if !self.remembers(rect) {
+            return;
+        }
+        let _put = self.recalled.put(pixel_at(key, rect), block.get(0));
+    }
+
     // Sees that the block of a key is held.
     #[cycle(read)]
     fn hold<L: Ledger>(
@@ -366,15 +430,45 @@ impl<F: Folder> Lane<F> {
         requires listed { All (IsIndexIn cat.now) self.old.indexes }
         requires key { IsMosaicKey cat.now key band.now }
         requires within { (d : Dataset) → slice_get cat.now key.dataset ≡ Some d → IsWithin rect d.head.size }
-        ensures same { self.new ≡ lane_view self.old.pool self.old.files self.old.made self.new.indexes }
+        ensures same { self.new ≡ lane_view self.old.pool self.old.files self.old.made self.new.indexes self.old.recalled }
         ensures listed { All (IsIndexIn cat.now) self.new.indexes }
         ensures wanted { (d : Dataset) → slice_get cat.now key.dataset ≡ Some d → IfOk result (λ w. IsWanted band.now.sources d.head.size rect (numbers_of w)) }
     {
         wanted_in(&mut self.indexes, alloc, cat, key, band, rect)
     }
 
-    // The samples of a rectangle of a mosaic's band, made of the blocks of its sources: from the last to the
-    // first each that the rectangle may need is asked for what is still open, until nothing is.
+    // The samples of a part of a mosaic's block. Those of single pixels are remembered.
+    #[cycle(read)]
+    fn part_block<L: Ledger>(
+        &mut self,
+        alloc: Global,
+        cat: &Catalog,
+        folder: &mut F,
+        key: BlockKey,
+        part: Part,
+        loads: &mut Steps<L>,
+    ) -> Result<Block, LoadFault>
+        requires ready { IsReady F.Folder folder.old cat.now self.old }
+        requires key { IsMosaicKey cat.now key part.band.now }
+        requires sources { length part.band.now.sources < 2 ^ 32 }
+        requires within { (d : Dataset) → slice_get cat.now key.dataset ≡ Some d → IsWithin part.rect d.head.size }
+        requires few { part.rect.w * part.rect.h < 2 ^ 32 }
+        ensures serves { Served F.Folder cat.now result folder.old self.old loads.old folder.new self.new loads.new }
+        ensures cause { HasCause LoadFault.FolderFault (F.faults folder.old) (F.faults folder.new) result }
+        ensures changed { IfErr result (TellsChangeIn cat.now) }
+        ensures never { WhereTold F.Folder folder.old (λ _. IfErr result IsUnchanged) }
+        ensures block { IfOk result (λ b. IsPartBlock (F.names folder.new) cat.now key part.entry.rect b) }
+    {
+        if let Some(block) = self.recall(alloc, cat, key, part.rect) {
+            return Ok(block);
+        }
+        let block = self.fill(alloc, cat, folder, key, part.band, part.rect, loads)?;
+        self.note(key, part.rect, &block);
+        Ok(block)
+    }
+
+    // The samples of a rectangle of a mosaic's band: from the last to the first each source that the rectangle may
+    // need is asked for what is still open, until nothing is.
     #[cycle(read)]
     fn fill<L: Ledger>(
         &mut self,
@@ -666,9 +760,8 @@ impl<F: Folder> Lane<F> {
         ensures typed { OnOk result (IsTyped cat.now picture.now piece.area.column piece.area.columns out.old out.new) }
     {
         if let Some(part) = self.lone_part(cat, picture, piece) {
-            let Part { band, rect } = part;
-            let block = self.fill(alloc, cat, folder, piece.key, band, rect, loads)?;
-            paint_rows(&block, rect, picture, piece.area, out);
+            let block = self.part_block(alloc, cat, folder, piece.key, part, loads)?;
+            paint_rows(&block, part.rect, picture, piece.area, out);
             return Ok(());
         }
         if self.is_jump(cat, picture, piece) {

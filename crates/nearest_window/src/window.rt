@@ -69,8 +69,8 @@ impl<F: Folder> Lane<F> {
     /// Where the pool is full, or the window has 16,384 pixels or more and the catalog no cell, only those pixels
     /// of a mosaic's block are made that are shown, and the block isn't kept. In such a window, what is shown
     /// unscaled of a mosaic of 512 x 512 pixels or more for each source is made in lines of the whole width. Once
-    /// the call has made 131,072 pixels and eight times its own, whole blocks are made and kept, up to 1,024 of
-    /// them beside a full pool.
+    /// the call has made 131,072 pixels and eight times its own, whole blocks are made and kept, up to 4,096 of
+    /// them beside a full pool. Once it has made 4,096 pixels, up to 16,384 single ones of mosaics are remembered.
     ///
     /// FolderFault comes only where the folder's count rose, Memory freely. Changed comes only where a
     /// file was opened again and had another length than the walk found, or was absent: never over a

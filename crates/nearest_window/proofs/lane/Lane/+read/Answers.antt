@@ -22,7 +22,7 @@ use Rattle.nearest_window.specs.Taken.{place_at, TakesPixel}
 use Rattle.nearest_window.specs.Shown.{shown, AreTyped, IsTyped, IsShown, IsSourceOf}
 use Rattle.nearest_window.proofs.Alone.{alone_in}
 use Rattle.nearest_window.proofs.Keys.{held_made}
-use Rattle.nearest_window.proofs.Steps.{ready_then, serves_indexed, serves_slack, serves_trans, serves_keep, serves_used}
+use Rattle.nearest_window.proofs.Steps.{ready_then, serves_indexed, serves_refl, serves_slack, serves_trans, serves_keep, serves_noted, serves_used}
 use Rattle.nearest_window.proofs.Shown.{held_sized, rect_shown, used_shown}
 use Rattle.nearest_window.specs.Canvases.{AreTaken, IsPackedOf, IsTaken}
 use Rattle.nearest_window.proofs.Mosaics.{source_stands, whole_block}
@@ -53,13 +53,33 @@ hold-returns-in-Some-clause-serves g t c =
 pub hold-returns-in-Some-clause-held : goal.hold-returns-in-Some-clause-held
 hold-returns-in-Some-clause-held g t c = held_made c.keep_made.result c.fill.new.self c.keep_made.new.self c.args.key (entry_of c.in_ok-block-in-Some.block false) c.keep_made.ensures.kept
 
+pub part_block-recall-requires-clause-recalled : goal.part_block-recall-requires-clause-recalled
+part_block-recall-requires-clause-recalled g t c κs within = (g.F.Folder.names c.args.folder.now, c.requires.ready.right.pixels)
+
+pub part_block-note-requires-clause-count : goal.part_block-note-requires-clause-count
+part_block-note-requires-clause-count g t c κs within = c.in_ok-block.ensures.block.shape.count
+
+pub part_block-returns-in-Some-clause-serves : goal.part_block-returns-in-Some-clause-serves
+part_block-returns-in-Some-clause-serves g t c = serves_refl g.F.Folder.file_bytes g.F.Folder.file_len c.args.cat.now (state_of g.F.Folder c.args.folder.now c.args.self.now c.args.loads.now) c.requires.ready.right
+
+pub part_block-returns-in-Some-clause-block : goal.part_block-returns-in-Some-clause-block
+part_block-returns-in-Some-clause-block g t c = (rw c.in-Some.is at c.recall.ensures.block) (g.F.Folder.names c.args.folder.now) c.requires.ready.right.pixels
+
+pub part_block-returns-clause-serves : goal.part_block-returns-clause-serves
+part_block-returns-clause-serves g t c =
+    let filled = c.in_ok-block.ensures.serves in
+    let told = g.F.Folder.names c.fill.new.folder in
+    let pixels = c.note.ensures.pixels told c.args.cat.now c.in_ok-block.ensures.block filled.right.pixels in
+    serves_trans g.F.Folder.file_bytes g.F.Folder.file_len c.args.cat.now 0 _ _ _ filled
+    (serves_noted g.F.Folder.file_bytes g.F.Folder.file_len c.args.cat.now told c.fill.new.self c.note.new.self (g.F.Folder.faults c.fill.new.folder) (g.F.Folder.read_calls c.fill.new.folder) (g.F.Folder.write_calls c.fill.new.folder) c.fill.new.loads filled.right c.note.ensures.same pixels)
+
 pub fill-wanted-requires-clause-listed : goal.fill-wanted-requires-clause-listed
 fill-wanted-requires-clause-listed g t c κs within =
     subst (λ lane. All (IsIndexIn c.args.cat.now) lane.indexes) (sym c.spend.ensures.same) c.requires.ready.right.listed
 
 pub fill-returns-in_err-wanted-clause-serves : goal.fill-returns-in_err-wanted-clause-serves
 fill-returns-in_err-wanted-clause-serves g t c =
-    let same = subst (λ lane. c.wanted.new.self ≡ lane_view lane.pool lane.files lane.made c.wanted.new.self.indexes) c.spend.ensures.same c.wanted.ensures.same in
+    let same = subst (λ lane. c.wanted.new.self ≡ lane_view lane.pool lane.files lane.made c.wanted.new.self.indexes lane.recalled) c.spend.ensures.same c.wanted.ensures.same in
     let one : slack_of c.from_residual.result ≡ 1 = search rules in
     rw one
     (serves_slack g.F.Folder.file_bytes g.F.Folder.file_len c.args.cat.now (state_of g.F.Folder c.args.folder.now c.args.self.now c.args.loads.now) (state_of g.F.Folder c.args.folder.now c.wanted.new.self c.args.loads.now)
@@ -67,7 +87,7 @@ fill-returns-in_err-wanted-clause-serves g t c =
 
 pub fill-loop-key-init : goal.fill-loop-key-init
 fill-loop-key-init g t c =
-    let same = subst (λ lane. c.wanted.new.self ≡ lane_view lane.pool lane.files lane.made c.wanted.new.self.indexes) c.spend.ensures.same c.wanted.ensures.same in
+    let same = subst (λ lane. c.wanted.new.self ≡ lane_view lane.pool lane.files lane.made c.wanted.new.self.indexes lane.recalled) c.spend.ensures.same c.wanted.ensures.same in
     let count = c.len-left.ensures.count in
     let numbers : List ℕ = numbers_of c.in_ok-wanted.wanted in
     record {
