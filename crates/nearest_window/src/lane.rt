@@ -222,8 +222,7 @@ impl<F: Folder> Lane<F> {
         }
     }
 
-    // Keeps a block of a mosaic: in the pool while that isn't full, else beside it, so that it pushes no block
-    // of a file out.
+    // Keeps a block of a mosaic: in the pool while that isn't full, else beside it, where it pushes no file's out.
     fn keep_made(&mut self, key: BlockKey, block: Block) -> Result<(), LoadFault>
         requires valid { IsPool self.old.pool }
         requires made_valid { IsPool self.old.made }
@@ -239,8 +238,7 @@ impl<F: Folder> Lane<F> {
         self.keep(key, block)
     }
 
-    // Paints a piece of a picture over the rows of `out`, from the block that has its pixels, which is held in the
-    // pool or beside it.
+    // Paints a piece of a picture over the rows of `out`, from its block, which is held in the pool or beside it.
     #[tactic(auto, using(crate::proofs::Keys::found_there, crate::proofs::Keys::found_beside))]
     fn paint_held(&mut self, picture: &Picture, piece: Piece, out: &mut [Sample])
         requires held { IsHeldWith piece.key self.old (λ e. length e.block.samples ≡ piece.rect.w * piece.rect.h) }
