@@ -1,6 +1,6 @@
 // Windows of 16,384 pixels and more, of mosaics that have few sources for their size: their lines are filled in the
 // whole width.
-ghost use Rattle.std.specs.Prelude.{◌≡◌, ◌<◌, ◌≤◌, Some, length};
+ghost use Rattle.std.specs.Prelude.{◌≡◌, ◌*◌, ◌<◌, ◌≤◌, Some, length};
 ghost use Rattle.outside.specs.Outside.{Files};
 ghost use Rattle.catalog.specs.Walk.{IsWalked};
 ghost use Rattle.nearest_window.specs.Right.{IsReady};
