@@ -15,19 +15,29 @@ at_one kind = record { at = 1; kind = kind }
 
 -- blocks 1 and 5 share a line of four
 blocks_share : line_of 4 (key_at 1) ≡ line_of 4 (key_at 5)
+unfolding key_at
 blocks_share = refl
 
 -- a line is taken and written, looked at and left
 used_once : (told : Option Files) (cat : List Dataset) (block : BlockView) → IsBlock told cat (key_at 1) block
     → Leads told cat 2 (opening 2) (at_one take ∷ at_one (put (key_at 1) block) ∷ at_one (look (key_at 1) block) ∷ at_one leave ∷ []) (empty ∷ held (key_at 1) block 0 ∷ [])
+unfolding key_at
+
+unfolding at_one
 used_once told cat block is = (
   empty ∷ taken ∷ [],
   record { line = empty; next = taken; here = refl; changes = refl; after = refl },
-  empty ∷ held (key_at 1) block 0 ∷ [],
-  record { line = taken; next = held (key_at 1) block 0; here = refl; changes = ((is, refl), refl); after = refl },
-  empty ∷ held (key_at 1) block 1 ∷ [],
-  record { line = held (key_at 1) block 0; next = held (key_at 1) block 1; here = refl; changes = (refl, refl, omega arith, refl); after = refl },
-  empty ∷ held (key_at 1) block 0 ∷ [],
-  record { line = held (key_at 1) block 1; next = held (key_at 1) block 0; here = refl; changes = refl; after = refl },
-  refl,
+  (
+    empty ∷ held (key_at 1) block 0 ∷ [],
+    record { line = taken; next = held (key_at 1) block 0; here = refl; changes = ((is, refl), refl); after = refl },
+    (
+      empty ∷ held (key_at 1) block 1 ∷ [],
+      record { line = held (key_at 1) block 0; next = held (key_at 1) block 1; here = refl; changes = (refl, refl, omega arith, refl); after = refl },
+      (
+        empty ∷ held (key_at 1) block 0 ∷ [],
+        record { line = held (key_at 1) block 1; next = held (key_at 1) block 0; here = refl; changes = refl; after = refl },
+        refl,
+      ),
+    ),
+  ),
 )
