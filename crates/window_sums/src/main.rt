@@ -6,7 +6,6 @@ ghost use Rattle.std.specs.Prelude.{◌≡◌, ◌≤◌, ◌<◌, ◌*◌, leng
 ghost use Rattle.outside.specs.Reading.{WhereTold};
 ghost use Rattle.catalog.specs.Walk.{IsWalked};
 ghost use Rattle.nearest_window.specs.Right.{IsReady};
-ghost use Rattle.nearest_window.specs.Shown.{IsWindow};
 
 use band_blocks::Steps;
 use catalog::{Catalog, open_all};
@@ -102,7 +101,7 @@ fn count_of(width: u32, lines: u32) -> usize
     width as usize * lines as usize
 }
 
-// Adds the pixels of a window, which is read through a lane into room for it.
+// Adds the pixels of a window of a dataset, which is read through a lane into room for it.
 fn add_window<F: Folder, L: Ledger>(
     reader: &mut Reader<F, L>,
     cat: &Catalog,
@@ -111,10 +110,15 @@ fn add_window<F: Folder, L: Ledger>(
     total: Sum,
 ) -> Option<Sum>
     requires ready { IsReady F.Folder folder.old cat.now reader.old.lane }
-    requires window { IsWindow cat.now window }
+    requires known { window.dataset < length cat.now }
     ensures ready { IsReady F.Folder folder.new cat.now reader.new.lane }
 {
-    let count = count_of(window.rect.w, window.rect.h);
+    let Size { w, h } = cat.head(window.dataset).size;
+    let rect = window.rect;
+    if rect.x > w || rect.y > h || rect.w > w - rect.x || rect.h > h - rect.y {
+        return None;
+    }
+    let count = count_of(rect.w, rect.h);
     let mut room: Vec<Sample> = vec![in reader.alloc; 0; count].ok()?;
     let out = room.as_mut_slice();
     let lane = &mut reader.lane;
