@@ -21,9 +21,7 @@ blocks_share = refl
 -- a line is taken and written, looked at and left
 used_once : (told : Option Files) (cat : List Dataset) (block : BlockView) → IsBlock told cat (key_at 1) block
     → Leads told cat 2 (opening 2) (at_one take ∷ at_one (put (key_at 1) block) ∷ at_one (look (key_at 1) block) ∷ at_one leave ∷ []) (empty ∷ held (key_at 1) block 0 ∷ [])
-unfolding key_at
-
-unfolding at_one
+unfolding key_at at_one
 used_once told cat block is = (
   empty ∷ taken ∷ [],
   record { line = empty; next = taken; here = refl; changes = refl; after = refl },
