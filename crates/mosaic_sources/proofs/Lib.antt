@@ -1,6 +1,7 @@
 pub mod Numbers
 pub mod Tables
 pub mod Runs
+mod Examples
 pub mod Following
 mod Beside
 mod Computes
