@@ -177,16 +177,16 @@ fn is_blank<F: Folder, L: Ledger>(
     lane: &mut Lane<F>,
     cat: &Catalog,
     folder: &mut F,
-    window: Window,
+    dataset: u32,
+    rect: Rect,
     loads: &mut Steps<L>,
 ) -> bool
-    requires dataset { window.dataset < length cat.now }
+    requires dataset { dataset < length cat.now }
     requires ready { IsReady F.Folder folder.old cat.now lane.old }
     ensures ready { IsReady F.Folder folder.new cat.now lane.new }
     ensures names { F.names folder.new ≡ F.names folder.old }
 {
-    let Size { w, h } = cat.head(window.dataset).size;
-    let rect = window.rect;
+    let Size { w, h } = cat.head(dataset).size;
     if rect.x > w || rect.y > h || rect.w > w - rect.x || rect.h > h - rect.y {
         return false;
     }
@@ -194,6 +194,11 @@ fn is_blank<F: Folder, L: Ledger>(
     if count > 360 {
         return false;
     }
+    let window = Window {
+        dataset,
+        band: 0,
+        rect,
+    };
     let mut room = [-1; 360];
     let out = &mut room[..count as usize];
     if lane
@@ -235,12 +240,7 @@ fn are_blank<F: Folder, L: Ledger>(
     let mut lane = Lane::new(alloc, capacity)?;
     let mut loads: Steps<L> = Steps::open(blank);
     for rect in RECTS {
-        let window = Window {
-            dataset,
-            band: 0,
-            rect,
-        };
-        if !is_blank(alloc, &mut lane, cat, folder, window, &mut loads) {
+        if !is_blank(alloc, &mut lane, cat, folder, dataset, rect, &mut loads) {
             return Ok(false);
         }
     }
