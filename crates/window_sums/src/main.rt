@@ -24,6 +24,9 @@ const MOST_PIXELS: u32 = 4_194_304;
 // At most so many blocks are held.
 const MOST_BLOCKS: u32 = 65_536;
 
+// How much room is taken and given back at the start, in bytes: less than the 32 MiB past which nothing is learnt of it.
+const LARGE: usize = 25_165_824;
+
 // What is read, in windows of so many lines, with so many blocks.
 #[derive(Drop)]
 struct Job {
@@ -32,12 +35,13 @@ struct Job {
     blocks: u32,
 }
 
-// What windows are read through.
+// What windows are read through, and room for the pixels of the largest one.
 #[derive(Drop)]
 struct Reader<F: Folder, L: Ledger> {
     alloc: Global,
     lane: Lane<F>,
     loads: Steps<L>,
+    room: Vec<Sample>,
 }
 
 // How many pixels were read, and their sum.
@@ -85,11 +89,11 @@ fn lines_of(asked: u32, size: Size) -> u32
     asked.min(MOST_PIXELS / size.w.max(1)).max(1)
 }
 
-// The sum of samples.
+// The sum of samples, modulo 2^128, which no sum of a raster's samples reaches.
 fn sum_of(samples: &[Sample]) -> Sample {
     let mut sum: Sample = 0;
     for sample in samples {
-        sum = sum.saturating_add(*sample);
+        sum = sum.wrapping_add(*sample);
     }
     sum
 }
@@ -101,7 +105,7 @@ fn count_of(width: u32, lines: u32) -> usize
     width as usize * lines as usize
 }
 
-// Adds the pixels of a rectangle of the first band of a dataset, which is read through a lane into room for it.
+// Adds the pixels of a rectangle of the first band of a dataset, for which there is room.
 fn add_window<F: Folder, L: Ledger>(
     reader: &mut Reader<F, L>,
     cat: &Catalog,
@@ -124,16 +128,18 @@ fn add_window<F: Folder, L: Ledger>(
         rect,
     };
     let count = count_of(rect.w, rect.h);
-    let mut room: Vec<Sample> = vec![in reader.alloc; 0; count].ok()?;
-    let out = room.as_mut_slice();
+    if count > reader.room.len() {
+        return None;
+    }
+    let (out, _) = reader.room.as_mut_slice().split_at_mut(count);
     let lane = &mut reader.lane;
     match lane.read_window(reader.alloc, cat, folder, window, out, &mut reader.loads) {
         Ok(()) => {}
         Err(_) => return None,
     }
     Some(Sum {
-        pixels: total.pixels.saturating_add(room.len() as u64),
-        sum: total.sum.saturating_add(sum_of(room.as_slice())),
+        pixels: total.pixels.saturating_add(count as u64),
+        sum: total.sum.saturating_add(sum_of(out)),
     })
 }
 
@@ -184,8 +190,16 @@ fn sum_of_dataset<F: Folder, L: Ledger>(
     let Ok(lane) = Lane::new(alloc, job.blocks.clamp(1, MOST_BLOCKS)) else {
         return None;
     };
+    let size = cat.head(id).size;
+    let lines = lines_of(job.lines, size).min(size.h);
+    let room = vec![in alloc; 0; count_of(size.w, lines)].ok()?;
     let loads: Steps<L> = Steps::open(blank);
-    let mut reader = Reader { alloc, lane, loads };
+    let mut reader = Reader {
+        alloc,
+        lane,
+        loads,
+        room,
+    };
     add_all(&mut reader, cat, folder, id, job.lines)
 }
 
@@ -238,7 +252,14 @@ fn run(rt: &HostRuntime) -> Option<bool> {
     Some(print(&mut out, sum))
 }
 
+// Takes room and gives it back, untouched. The C library's allocator then keeps what blocks of up to this size give
+// back, in place of returning their pages to the system and asking for them again. Where it is refused, nothing is lost.
+fn keep_pages(alloc: Global) {
+    let _room: Result<Vec<u8>, AllocError> = Vec::with_capacity(alloc, LARGE);
+}
+
 fn main(rt: HostRuntime) -> ExitCode {
+    keep_pages(rt.alloc());
     match run(&rt) {
         Some(true) => ExitCode::SUCCESS,
         Some(false) => ExitCode::from(2),
