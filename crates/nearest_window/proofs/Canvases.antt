@@ -251,3 +251,46 @@ module _ (taking : Taking) (kind : PixelType) (pixels : List ℤ) (place : Place
       subst (λ m. IsMerged taking kind pixels place (row + 1) old (put_mid p m mid ys)) (sym d)
       (subst (λ m. IsMerged taking kind pixels place (row + 1) old (put_mid m place.columns mid ys)) (sym e)
       (row_more row old mid ys wide low before (subst (λ m. IsUnder taking kind pixels (row * place.columns) (mid_of m place.columns mid) ys) e (subst (λ m. IsUnder taking kind pixels (row * place.columns) (mid_of p m mid) ys) d here))))
+
+-- the first n places are open where they had a value
+pub record IsOpenedSoFar (value : ℤ) (n : ℕ) (old new : List ℤ) : Type 0 where
+  pub size : length new ≡ length old
+  pub below : (k : ℕ) → k < n → get_or new k (pos 0) ≡ cond (int_eq value (get_or old k (pos 0))) blank (get_or old k (pos 0))
+  pub above : (k : ℕ) → n ≤ k → get_or new k (pos 0) ≡ get_or old k (pos 0)
+
+same_number : (a b : ℤ) → a ≡ b → int_eq a b ≡ true
+same_number a b h = grind (arith, ints)
+
+pub opened_more : (value : ℤ) (i : ℕ) (old mid : List ℤ) → i < length mid → IsOpenedSoFar value i old mid → value ≡ get_or mid i (pos 0) → IsOpenedSoFar value (i + 1) old (slice_set mid i blank)
+opened_more value i old mid there before here = record {
+  size = length-set mid i blank ∙ before.size;
+  below = λ k p. elim (cases_lt k i) [
+    | inl q ↦ get_or-set_other mid i k blank (pos 0) (λ z. absurd (omega arith)) ∙ before.below k q
+    | inr q ↦
+        let same : k ≡ i = omega arith in
+        subst (λ n. get_or (slice_set mid i blank) n (pos 0) ≡ cond (int_eq value (get_or old n (pos 0))) blank (get_or old n (pos 0))) (sym same)
+        (get_or-set_same mid i blank (pos 0) there ∙ sym (ap (λ b. cond b blank (get_or old i (pos 0))) (same_number value (get_or old i (pos 0)) (here ∙ before.above i (omega arith)))))
+  ];
+  above = λ k p. get_or-set_other mid i k blank (pos 0) (λ z. absurd (omega arith)) ∙ before.above k (omega arith);
+}
+
+pub opened_same : (value : ℤ) (i : ℕ) (old mid : List ℤ) → IsOpenedSoFar value i old mid → int_eq value (get_or mid i (pos 0)) ≡ false → IsOpenedSoFar value (i + 1) old mid
+opened_same value i old mid before here = record {
+  size = before.size;
+  below = λ k p. elim (cases_lt k i) [
+    | inl q ↦ before.below k q
+    | inr q ↦
+        let same : k ≡ i = omega arith in
+        subst (λ n. get_or mid n (pos 0) ≡ cond (int_eq value (get_or old n (pos 0))) blank (get_or old n (pos 0))) (sym same)
+        (before.above i (omega arith) ∙ sym (ap (λ b. cond b blank (get_or old i (pos 0))) (ap (int_eq value) (sym (before.above i (omega arith))) ∙ here)))
+  ];
+  above = λ k p. before.above k (omega arith);
+}
+
+-- a pixel, or the mark in place of one that isn't taken
+pub opened_taken : (value v w : ℤ) → IsPixel v → w ≡ cond (int_eq value v) blank v → filled_with w ≡ cond (int_eq value v) None (Some v)
+opened_taken value v w h is = ap filled_with is ∙ on (int_eq value v)
+  where
+    on : (b : Bool) → filled_with (cond b blank v) ≡ cond b None (Some v)
+    on true = refl
+    on false = pixel_stands v h

@@ -121,41 +121,40 @@ packed_of c value began xs kind same size stood kept closed b packed = record {
   packed = packed ∙ ap (λ t. block_view t (map (clamp t) xs)) same;
 }
 
--- a canvas on which nothing was filled, and then all, by pixels as they are
+-- a canvas on which nothing was filled, and whose samples then were made of pixels
 
-module _ (c c' : Canvas) (taking : Taking) (pixels : List ℤ) (part : Rect) (canvas : IsCanvas c) (inside : IsInside c.rect part) (size : length pixels ≡ part.w * part.h) (near : All (TakesPixel taking) pixels) (none : c.samples.items ≡ []) (wide : part.w ≡ c.rect.w) (high : part.h ≡ c.rect.h)
-    (plain : taking ≡ takings.All) (same_rect : c'.rect ≡ c.rect) (same_kind : c'.kind ≡ c.kind) (samples : c'.samples.items ≡ pixels) (filled : c'.filled ≡ length pixels) where
+module _ (c c' : Canvas) (taking : Taking) (pixels : List ℤ) (part : Rect) (canvas : IsCanvas c) (inside : IsInside c.rect part) (size : length pixels ≡ part.w * part.h) (none : c.samples.items ≡ []) (wide : part.w ≡ c.rect.w) (high : part.h ≡ c.rect.h)
+    (same_rect : c'.rect ≡ c.rect) (same_kind : c'.kind ≡ c.kind) (kept : length c'.samples.items ≡ length pixels) where
   all_size : length pixels ≡ c.rect.w * c.rect.h
   all_size = size ∙ ap (λ n. n * part.h) wide ∙ ap (λ n. c.rect.w * n) high
 
-  pixel_at : (k : ℕ) → k < length pixels → stands pixels k ≡ Some (get_or pixels k (pos 0))
-  pixel_at k p = stands_there pixels k p ∙ pixel_stands (get_or pixels k (pos 0)) (any_pixel taking (get_or pixels k (pos 0)) (near k (pos 0) p))
-
-  pub swapped_canvas : IsCanvas c'
-  swapped_canvas = record {
-    size = inr (ap length samples ∙ all_size ∙ sym (ap (λ (r : Rect). r.w * r.h) same_rect));
+  pub made_canvas : c'.filled ≤ length c'.samples.items → ((k : ℕ) → k < c'.filled → is_some (filled_with (get_or c'.samples.items k (pos 0))) ≡ true) → IsCanvas c'
+  made_canvas within filled = record {
+    size = inr (kept ∙ all_size ∙ sym (ap (λ (r : Rect). r.w * r.h) same_rect));
     some = subst (λ (r : Rect). 0 < r.w) (sym same_rect) canvas.some;
     few = subst (λ (r : Rect). r.w * r.h < 2 ^ 32) (sym same_rect) canvas.few;
     within = subst (λ (r : Rect). c'.filled ≤ r.w * r.h) (sym same_rect) (let s = all_size in omega arith);
-    filled = λ k p. ap (λ xs. is_some (stands xs k)) samples ∙ ap is_some (pixel_at k (omega arith));
+    filled = λ k p. ap is_some (stands_there c'.samples.items k (omega arith)) ∙ filled k p;
   }
 
-  pub swapped_taken : IsTaken taking pixels part c c'
-  swapped_taken = record {
+  pub made_taken : ((k : ℕ) → k < length pixels → filled_with (get_or c'.samples.items k (pos 0)) ≡ taken_by taking (get_or pixels k (pos 0))) → IsTaken taking pixels part c c'
+  made_taken each = record {
     rect = same_rect;
     kind = same_kind;
     inside = λ x y at.
         let a = inside.left in let b = inside.right in let e = inside.top in let f = inside.bottom in
         let l = at.left in let r = at.right in let t = at.top in let z = at.bottom in
         let spot = mul-add-lt (y - c.rect.y) c.rect.w (x - c.rect.x) c.rect.h (omega arith) (omega arith) in
+        let here = subst (λ n. (y - c.rect.y) * c.rect.w + (x - c.rect.x) < n) (sym all_size) spot in
         let i : x - c.rect.x ≡ x - part.x = omega arith in
         let j : y - c.rect.y ≡ y - part.y = omega arith in
-        let new : stands_at c' x y ≡ Some (get_or pixels ((y - part.y) * part.w + (x - part.x)) (pos 0)) =
-        ap (λ (r : Rect). stands c'.samples.items ((y - r.y) * r.w + (x - r.x))) same_rect ∙ ap (λ xs. stands xs ((y - c.rect.y) * c.rect.w + (x - c.rect.x))) samples
-        ∙ pixel_at ((y - c.rect.y) * c.rect.w + (x - c.rect.x)) (subst (λ n. (y - c.rect.y) * c.rect.w + (x - c.rect.x) < n) (sym all_size) spot)
-        ∙ ap (λ n. Some (get_or pixels (n * c.rect.w + (x - c.rect.x)) (pos 0))) j ∙ ap (λ n. Some (get_or pixels ((y - part.y) * n + (x - c.rect.x)) (pos 0))) (sym wide) ∙ ap (λ n. Some (get_or pixels ((y - part.y) * part.w + n) (pos 0))) i in
+        let new : stands_at c' x y ≡ taken_by taking (get_or pixels ((y - part.y) * part.w + (x - part.x)) (pos 0)) =
+        ap (λ (r : Rect). stands c'.samples.items ((y - r.y) * r.w + (x - r.x))) same_rect
+        ∙ stands_there c'.samples.items ((y - c.rect.y) * c.rect.w + (x - c.rect.x)) (subst (λ n. (y - c.rect.y) * c.rect.w + (x - c.rect.x) < n) (sym kept) here)
+        ∙ each ((y - c.rect.y) * c.rect.w + (x - c.rect.x)) here
+        ∙ ap (λ n. taken_by taking (get_or pixels (n * c.rect.w + (x - c.rect.x)) (pos 0))) j ∙ ap (λ n. taken_by taking (get_or pixels ((y - part.y) * n + (x - c.rect.x)) (pos 0))) (sym wide) ∙ ap (λ n. taken_by taking (get_or pixels ((y - part.y) * part.w + n) (pos 0))) i in
         let old : stands_at c x y ≡ None = ap (λ xs. stands xs ((y - c.rect.y) * c.rect.w + (x - c.rect.x))) none ∙ open_replicate 0 ((y - c.rect.y) * c.rect.w + (x - c.rect.x)) in
-        ap (option_map (clamp c.kind)) (new ∙ sym (ap (λ t. taken_by t (get_or pixels ((y - part.y) * part.w + (x - part.x)) (pos 0))) plain) ∙ sym (ap (λ o. option_or o (taken_by taking (get_or pixels ((y - part.y) * part.w + (x - part.x)) (pos 0)))) old));
+        ap (option_map (clamp c.kind)) (new ∙ sym (ap (λ o. option_or o (taken_by taking (get_or pixels ((y - part.y) * part.w + (x - part.x)) (pos 0)))) old));
     outside = λ x y there out.
         let a = inside.left in let b = inside.right in let e = inside.top in let f = inside.bottom in
         let l = there.left in let r = there.right in let t = there.top in let z = there.bottom in

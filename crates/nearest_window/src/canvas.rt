@@ -1,9 +1,9 @@
 // Samples of a rectangle of a mosaic, which are filled from the last source to the first.
-ghost use Rattle.std.specs.Prelude.{◌≡◌, ◌⊎◌, ℕ, ◌+◌, ◌*◌, ◌<◌, ◌≤◌, ◌^◌, List, [], None, true, is_some, length, All, IfOk, OnOk, IsTrue};
-ghost use Rattle.nearest_window.specs.Canvases.{IsCanvas, IsInside, IsPackedOf, IsTaken, stands};
-ghost use Rattle.nearest_window.specs.Taken.{TakesPixel};
+ghost use Rattle.std.specs.Prelude.{◌≡◌, ◌⊎◌, ℕ, ◌+◌, ◌*◌, ◌<◌, ◌≤◌, ◌^◌, List, [], None, true, is_some, length, pos, slice_index_or, All, IfOk, OnOk, IsTrue};
+ghost use Rattle.nearest_window.specs.Canvases.{IsCanvas, IsInside, IsPackedOf, IsTaken, filled_with, stands};
+ghost use Rattle.nearest_window.specs.Taken.{TakesPixel, is_plain, taken_by};
 
-use crate::merging::{Place, close, filled_from, take_rows};
+use crate::merging::{Place, close, filled_from, make_samples, take_rows};
 use crate::taking::{BLANK, Taking};
 use band_blocks::Block;
 use geotransform::{PixelType, Rect, Sample};
@@ -97,12 +97,13 @@ impl Canvas {
         self.filled = filled_from(self.samples.as_slice(), self.filled);
     }
 
-    // Whether nothing is filled, and the pixels of the part are, as they are, all samples.
+    // Whether nothing is filled, and the pixels of the part, each of which is taken as it is, if it is taken, are all
+    // samples.
     fn takes_all(&self, taking: &Taking, part: Rect) -> bool
         ensures none { IsTrue result → self.now.samples.items ≡ [] }
         ensures wide { IsTrue result → part.w ≡ self.now.rect.w }
         ensures high { IsTrue result → part.h ≡ self.now.rect.h }
-        ensures plain { IsTrue result → taking.now ≡ Taking.All }
+        ensures plain { IsTrue result → is_plain taking.now ≡ true }
     {
         if !self.samples.is_empty() {
             return false;
@@ -115,20 +116,24 @@ impl Canvas {
         }
         match taking {
             Taking::All => return true,
-            Taking::Except(_) => return false,
+            Taking::Except(_) => return true,
             Taking::By(_) => return false,
         }
     }
 
-    // Makes pixels the samples, where there were none.
-    fn fill_by(&mut self, pixels: Vec<Sample>)
+    // Makes pixels the samples, in place, where there were none.
+    fn fill_by(&mut self, taking: &Taking, mut pixels: Vec<Sample>)
         requires none { self.old.samples.items ≡ [] }
+        requires plain { is_plain taking.now ≡ true }
+        requires near { All (TakesPixel taking.now) pixels.items }
         ensures rect { self.new.rect ≡ self.old.rect }
         ensures kind { self.new.kind ≡ self.old.kind }
-        ensures samples { self.new.samples.items ≡ pixels.items }
-        ensures filled { self.new.filled ≡ length pixels.items }
+        ensures size { length self.new.samples.items ≡ length pixels.items }
+        ensures samples { (k : ℕ) → k < length pixels.items → filled_with (slice_index_or self.new.samples.items k (pos 0)) ≡ taken_by taking.now (slice_index_or pixels.items k (pos 0)) }
+        ensures within { self.new.filled ≤ length self.new.samples.items }
+        ensures filled { (k : ℕ) → k < self.new.filled → is_some (filled_with (slice_index_or self.new.samples.items k (pos 0))) ≡ true }
     {
-        self.filled = pixels.len();
+        self.filled = make_samples(taking, pixels.as_mut_slice());
         self.samples = pixels;
     }
 
@@ -148,7 +153,7 @@ impl Canvas {
         ensures taken { OnOk result (IsTaken taking.now pixels.items part self.old self.new) }
     {
         if self.takes_all(taking, part) {
-            self.fill_by(pixels);
+            self.fill_by(taking, pixels);
             return Ok(());
         }
         self.begin(alloc)?;

@@ -1,7 +1,8 @@
 // Taking pixels where samples are open.
-ghost use Rattle.std.specs.Prelude.{◌≡◌, ℕ, ◌+◌, ◌*◌, ◌<◌, ◌≤◌, ◌^◌, length, All, true, is_some, unwrap_or, pos, slice_index_or};
-ghost use Rattle.nearest_window.specs.Canvases.{IsMerged, IsUnder, filled_with};
-ghost use Rattle.nearest_window.specs.Taken.{TakesPixel};
+ghost use Rattle.std.specs.Prelude.{◌≡◌, ℕ, ◌+◌, ◌*◌, ◌<◌, ◌≤◌, ◌^◌, length, All, true, is_some, unwrap_or, pos, slice_index_or, if◌then◌else◌};
+ghost use Rattle.std.specs.Ordering.{int_eq};
+ghost use Rattle.nearest_window.specs.Canvases.{IsMerged, IsUnder, blank, filled_with};
+ghost use Rattle.nearest_window.specs.Taken.{TakesPixel, is_plain, taken_by};
 
 use crate::taking::{BLANK, Taking};
 use geotransform::{PixelType, Sample};
@@ -65,6 +66,38 @@ pub fn filled_from(samples: &[Sample], known: usize) -> usize
         filled += 1;
     }
     filled
+}
+
+// Marks the samples that have this value as open.
+fn open_each(nodata: Sample, samples: &mut [Sample])
+    ensures size { length samples.new ≡ length samples.old }
+    ensures opened { (k : ℕ) → k < length samples.old → slice_index_or samples.new k (pos 0) ≡ (if int_eq nodata (slice_index_or samples.old k (pos 0)) then blank else slice_index_or samples.old k (pos 0)) }
+{
+    for at in 0..samples.len() {
+        if nodata == samples[at] {
+            samples[at] = BLANK;
+        }
+    }
+}
+
+/// Makes samples, in place, of pixels each of which is taken as it is, if it is taken: the mark of those that aren't.
+/// The result is how many are filled from the first on.
+pub fn make_samples(taking: &Taking, pixels: &mut [Sample]) -> usize
+    requires plain { is_plain taking.now ≡ true }
+    requires near { All (TakesPixel taking.now) pixels.old }
+    ensures size { length pixels.new ≡ length pixels.old }
+    ensures made { (k : ℕ) → k < length pixels.old → filled_with (slice_index_or pixels.new k (pos 0)) ≡ taken_by taking.now (slice_index_or pixels.old k (pos 0)) }
+    ensures within { result ≤ length pixels.new }
+    ensures filled { (k : ℕ) → k < result → is_some (filled_with (slice_index_or pixels.new k (pos 0))) ≡ true }
+{
+    match taking {
+        Taking::All => return pixels.len(),
+        Taking::Except(nodata) => {
+            open_each(*nodata, pixels);
+            return filled_from(pixels, 0);
+        }
+        Taking::By(_) => unreachable!(),
+    }
 }
 
 /// Puts a value where samples are open.
