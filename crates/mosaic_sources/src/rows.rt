@@ -1,5 +1,6 @@
 // An index of a band's sources by the lines of the mosaic.
 ghost use Rattle.std.specs.Prelude.{◌≡◌, ℕ, ◌<◌, ◌≤◌, IfOk, IfSome, None, length};
+ghost use Rattle.std.specs.List.{Contains};
 ghost use Rattle.mosaic_sources.specs.Rows.{IsIndexOf, Rows, list_at, listed, most_listed};
 
 use crate::cuts::{cuts_of, spans_of};
@@ -60,11 +61,13 @@ impl RowIndex {
         self.lists[stretch_of(self.cuts.as_slice(), y)].as_slice()
     }
 
-    /// The line at which the stretch of a line ends: up to there the list is the same.
+    /// The line at which the stretch of a line ends: up to there the list is the same, and there it changes, or the
+    /// lines end.
     pub fn stretch_end(&self, y: u32) -> u32
         requires there { y < self.now.height }
         ensures behind { y < result }
         ensures within { result ≤ self.now.height }
+        ensures ends { result < self.now.height → Contains self.now.cuts result }
         ensures same { (z : ℕ) → y ≤ z → z < result → list_at self.now z ≡ list_at self.now y }
     {
         stretch_end(self.cuts.as_slice(), y, self.height)

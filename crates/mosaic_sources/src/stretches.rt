@@ -1,6 +1,6 @@
 // The stretches of lines between cuts, by their numbers.
 ghost use Rattle.std.specs.Prelude.{◌≡◌, ℕ, ◌<◌, ◌≤◌, ◌+◌, ◌-◌, ◌*◌, IfOk, length, slice_index_or};
-ghost use Rattle.std.specs.List.{All};
+ghost use Rattle.std.specs.List.{All, Contains};
 ghost use Rattle.std.specs.List.Sorted.{IsStrictlyIncreasing};
 ghost use Rattle.mosaic_sources.specs.Stretches.{holding_lines, held_by, HasEdges, IsWithinCount, is_in_span};
 ghost use Rattle.mosaic_sources.specs.Rows.{IsInner};
@@ -20,13 +20,14 @@ pub fn stretch_of(cuts: &[u32], y: u32) -> usize
     cuts.partition_point(|cut| *cut <= y)
 }
 
-/// The line at which the stretch of a line ends.
+/// The line at which the stretch of a line ends: the first cut behind it, or the height.
 pub fn stretch_end(cuts: &[u32], y: u32, height: u32) -> u32
     requires rising { IsStrictlyIncreasing cuts.now }
     requires inner { All (IsInner height) cuts.now }
     requires there { y < height }
     ensures behind { y < result }
     ensures within { result ≤ height }
+    ensures ends { result < height → Contains cuts.now result }
     ensures same { (z : ℕ) → y ≤ z → z < result → rows.stretch_of cuts.now z ≡ rows.stretch_of cuts.now y }
 {
     let next = stretch_of(cuts, y);

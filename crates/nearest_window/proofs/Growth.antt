@@ -1,5 +1,5 @@
 -- Lanes over a catalog that grows.
-use Rattle.std.proofs.Common.{◌≡◌, ◌∙◌, sym, ℕ, ℤ, zero, suc, ◌<◌, List, [], ◌∷◌, ◌++◌, length, length-append, Option, Some, arith}
+use Rattle.std.proofs.Common.{◌≡◌, ◌∙◌, sym, ℕ, ℤ, zero, suc, List, [], ◌∷◌, ◌++◌, Option, Some}
 use Rattle.std.specs.Prelude.{slice_get}
 use Rattle.std.proofs.lemmas.List.Elements.{All-weaker}
 use Rattle.outside.specs.Outside.{Files}
@@ -27,15 +27,15 @@ block_stays told cat more key block valid is = record {
   content = λ m e. is.content m e ∙ sym (more_block m cat more key.dataset key.band key.block is.dataset valid is.in_range.at);
 }
 
-was_there : (cat more : List Dataset) (id : ℕ) (d : Dataset) → id < length cat → slice_get (cat ++ more) id ≡ Some d → slice_get cat id ≡ Some d
-was_there [] more id d known at = absurd (omega arith)
-was_there (c ∷ cat) more zero d known at = at
-was_there (c ∷ cat) more (suc id) d known at = was_there cat more id d (omega arith) at
-
 index_stays : (cat more : List Dataset) (kept : Kept) → IsIndexIn cat kept → IsIndexIn (cat ++ more) kept
 index_stays cat more kept is = record {
-  known = let known = is.known in let both = length-append cat more in omega arith;
-  index = λ d v b at. is.index d v b (was_there cat more kept.dataset d is.known at);
+  dataset = is.dataset;
+  at = still_there cat more kept.dataset is.dataset is.at;
+  document = is.document;
+  content = is.content;
+  band = is.band;
+  band_at = is.band_at;
+  index = is.index;
 }
 
 recalled_stays : (told : Option Files) (cat more : List Dataset) (key : PixelKey) (sample : ℤ) → IsCatalog cat → IsRecalled told cat key sample → IsRecalled told (cat ++ more) key sample

@@ -4,7 +4,7 @@ use Rattle.std.specs.Prelude.{slice_get, IfSome, option_map}
 use Rattle.std.specs.List.{All}
 use Rattle.std.proofs.lemmas.Bool.Decides.{nat_tests}
 use Rattle.std.proofs.lemmas.List.Elements.{All-append, All-cons, All-nil}
-use Rattle.vrt_profile.specs.Values.{BandValue}
+use Rattle.vrt_profile.specs.Values.{BandValue, DocumentValue}
 use Rattle.mosaic_sources.specs.Rows.{IsIndexOf, most_listed}
 use Rattle.catalog.specs.Dataset.{DatasetHead}
 use Rattle.catalog.specs.Drivers.{Dataset, document_of}
@@ -26,16 +26,29 @@ module _ (cat : List Dataset) (key : BlockKey) (band : BandValue) (mosaic : IsMo
   -- the index of a band that is kept is the band's
   pub kept_index : (kept : Kept) (d : Dataset) → slice_get cat key.dataset ≡ Some d → is_of kept key.dataset key.band ≡ true → IsIndexIn cat kept → IfSome kept.index (IsIndexOf band.sources d.head.size)
   kept_index kept d at same right =
-      let e : mosaic.dataset ≡ d = (let a = mosaic.in_range.at in cc) in
-      right.index d mosaic.document band
-      (ap (slice_get cat) (of_dataset kept key.dataset key.band same) ∙ at)
-      (subst (λ (d : Dataset). document_of d.content ≡ Some mosaic.document) e mosaic.content)
-      (ap (slice_get mosaic.document.bands) (of_band kept key.dataset key.band same) ∙ mosaic.band_at)
+      let mine : slice_get cat key.dataset ≡ Some right.dataset = ap (slice_get cat) (sym (of_dataset kept key.dataset key.band same)) ∙ right.at in
+      let dataset : right.dataset ≡ d = cc in
+      let its : mosaic.dataset ≡ right.dataset = (let a = mosaic.in_range.at in cc) in
+      let content : document_of right.dataset.content ≡ Some mosaic.document = subst (λ (d : Dataset). document_of d.content ≡ Some mosaic.document) its mosaic.content in
+      let document : right.document ≡ mosaic.document = (let a = right.content in cc) in
+      let there : slice_get mosaic.document.bands key.band ≡ Some right.band =
+      ap (slice_get mosaic.document.bands) (sym (of_band kept key.dataset key.band same)) ∙ subst (λ (v : DocumentValue). slice_get v.bands kept.band ≡ Some right.band) document right.band_at in
+      let bands : right.band ≡ band = (let a = mosaic.band_at in cc) in
+      subst (λ (b : BandValue). IfSome kept.index (IsIndexOf b.sources d.head.size)) bands
+      (subst (λ (d : Dataset). IfSome kept.index (IsIndexOf right.band.sources d.head.size)) dataset right.index)
 
 module _ (cat : List Dataset) where
   right_without : (b : Bool) (kept : Kept) → IsIndexIn cat kept → IsIndexIn cat (cond b kept (without_index kept))
   right_without true kept right = right
-  right_without false kept right = record { known = right.known; index = λ d v b at content there. tt }
+  right_without false kept right = record {
+    dataset = right.dataset;
+    at = right.at;
+    document = right.document;
+    content = right.content;
+    band = right.band;
+    band_at = right.band_at;
+    index = tt;
+  }
 
   -- one more band is kept
   pub right_behind : (old new : List Kept) (kept : Kept) → new ≡ old ++ kept_behind old kept ∷ [] → All (IsIndexIn cat) old → IsIndexIn cat kept → All (IsIndexIn cat) new

@@ -1,5 +1,5 @@
 -- When a lane is right for a catalog and a folder, and what a call does to a lane.
-use Rattle.std.specs.Prelude.{◌≡◌, ℕ, ℤ, true, ◌+◌, ◌*◌, ◌<◌, ◌≤◌, List, All, length, Option, Some, None, IfSome, Contains, Result, Ok, Err, option_map, slice_get}
+use Rattle.std.specs.Prelude.{◌≡◌, ℕ, ℤ, true, ◌+◌, ◌*◌, ◌≤◌, List, All, length, Option, Some, None, IfSome, Contains, Result, Ok, Err, option_map, slice_get}
 use Rattle.geotransform.specs.Types.{is_in}
 use Rattle.geotransform.specs.declared.types.PixelType.{PixelType}
 use Rattle.geotransform.specs.declared.types.Rect.{Rect}
@@ -51,10 +51,15 @@ pub record IsRecalled (told : Option Files) (cat : List Dataset) (key : PixelKey
 abbrev pub AreRecalled : Option Files → List Dataset → List (PixelKey × ℤ) → Type 0
 AreRecalled told cat recalled = (key : PixelKey) (sample : ℤ) → Contains recalled (key, sample) → IsRecalled told cat key sample
 
--- the kept index, if there is one, is that of the sources of its band of its dataset, which is one of the catalog
+-- The kept band is one of a mosaic of the catalog, and its index, if there is one, is that of the band's sources.
 pub record IsIndexIn (cat : List Dataset) (kept : Kept) : Type 0 where
-  pub known : kept.dataset < length cat
-  pub index : (d : Dataset) (v : DocumentValue) (b : BandValue) → slice_get cat kept.dataset ≡ Some d → document_of d.content ≡ Some v → slice_get v.bands kept.band ≡ Some b → IfSome kept.index (IsIndexOf b.sources d.head.size)
+  pub dataset : Dataset
+  pub at : slice_get cat kept.dataset ≡ Some dataset
+  pub document : DocumentValue
+  pub content : document_of dataset.content ≡ Some document
+  pub band : BandValue
+  pub band_at : slice_get document.bands kept.band ≡ Some band
+  pub index : IfSome kept.index (IsIndexOf band.sources dataset.head.size)
 
 -- a lane's pool, its open files, what it remembers beside the pool, its indexes and its remembered samples are right
 pub record IsRight {File : Type 0} (bytes : File → Option (List ℕ)) (len : File → ℕ) (told : Option Files) (cat : List Dataset) (pool : PoolView) (files : List (ℕ × File)) (made : PoolView) (indexes : List Kept) (recalled : List (PixelKey × ℤ)) : Type 0 where

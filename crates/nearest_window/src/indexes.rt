@@ -43,7 +43,7 @@ impl Model for Indexes {
 }
 
 // How many numbers the lists of a band's index have together.
-fn numbers_of(kept: &Kept) -> u32
+fn listed_of(kept: &Kept) -> u32
     ensures count { result ≡ listed_of kept.now }
     ensures short { result ≤ most_listed }
 {
@@ -105,7 +105,7 @@ impl Indexes {
     fn within(&self, kept: Kept) -> Kept
         ensures kept { result ≡ kept_behind self.now kept }
     {
-        if self.numbers + numbers_of(&kept) <= MOST_LISTED {
+        if self.numbers + listed_of(&kept) <= MOST_LISTED {
             return kept;
         }
         Kept {
@@ -122,7 +122,7 @@ impl Indexes {
         ensures err { OnErr result (self.new ≡ self.old) }
     {
         let kept = self.within(kept);
-        let count = numbers_of(&kept);
+        let count = listed_of(&kept);
         self.kept.push(kept)?;
         self.numbers += count;
         Ok(())

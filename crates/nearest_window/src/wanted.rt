@@ -42,6 +42,25 @@ fn copied(alloc: Global, index: &RowIndex, y: u32) -> Result<Vec<u32>, AllocErro
     Ok(numbers)
 }
 
+// Whether the lists that a rectangle's lines meet have at most so many numbers together.
+fn are_at_most(index: &RowIndex, rect: Rect, most: usize) -> bool
+    requires few { rect.y + rect.h < 2 ^ 32 }
+    requires within { rect.y + rect.h ≤ index.now.height }
+{
+    let mut left = most;
+    let end = rect.y + rect.h;
+    let mut y = rect.y;
+    while y < end {
+        let count = index.at(y).len();
+        if left < count {
+            return false;
+        }
+        left -= count;
+        y = index.stretch_end(y);
+    }
+    true
+}
+
 // The numbers in the lists of a rectangle's lines, one list after another.
 fn gathered(alloc: Global, index: &RowIndex, rect: Rect) -> Result<Vec<u32>, AllocError>
     requires few { rect.y + rect.h < 2 ^ 32 }
@@ -98,7 +117,8 @@ pub fn all_of(sources: &Sources) -> Wanted
 }
 
 /// The sources that a rectangle of a mosaic's band needs: those in the lists of its lines, or all where the
-/// band has no index. It is refused where memory is.
+/// band has no index, or where these lists have more numbers together than the band has sources. It is refused where
+/// memory is.
 pub fn wanted_of(
     alloc: Global,
     kept: &Kept,
@@ -110,10 +130,13 @@ pub fn wanted_of(
     requires index { IfSome kept.now.index (IsIndexOf sources.now size) }
     ensures wanted { IfOk result (λ w. IsWanted sources.now size rect (numbers_of w)) }
 {
-    match &kept.index {
-        None => Ok(all_of(sources)),
-        Some(index) => Ok(Wanted::Listed(listed_in(alloc, index, rect)?)),
+    let Some(index) = &kept.index else {
+        return Ok(all_of(sources));
+    };
+    if !are_at_most(index, rect, sources.len()) {
+        return Ok(all_of(sources));
     }
+    Ok(Wanted::Listed(listed_in(alloc, index, rect)?))
 }
 
 impl Wanted {

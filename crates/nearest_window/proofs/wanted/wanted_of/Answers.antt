@@ -9,11 +9,14 @@ listed_in-requires-clause-rising c =
     let index = subst (λ o. IfSome o (IsIndexOf c.args.sources.now c.args.size)) c.in-Some.is c.requires.index in
     lists_rise c.args.sources.now c.args.size c.in-Some.index index
 
-pub returns-in-None : goal.returns-in-None
-returns-in-None c = record { wanted = c.all_of.ensures.all c.args.size c.args.rect }
+pub returns-in_default : goal.returns-in_default
+returns-in_default c = record { wanted = c.all_of.ensures.all c.args.size c.args.rect }
 
-pub returns-in_ok-listed_in-in-Some : goal.returns-in_ok-listed_in-in-Some
-returns-in_ok-listed_in-in-Some c =
+pub returns-then-not-are_at_most : goal.returns-then-not-are_at_most
+returns-then-not-are_at_most c = record { wanted = c.all_of-then-not-are_at_most.ensures.all c.args.size c.args.rect }
+
+pub returns : goal.returns
+returns c =
     let index = subst (λ o. IfSome o (IsIndexOf c.args.sources.now c.args.size)) c.in-Some.is c.requires.index in
-    let made = c.in_ok-listed_in-in-Some.ensures in
-    record { wanted = listed_wanted c.args.sources.now c.args.size c.args.rect c.in-Some.index c.in_ok-listed_in-in-Some.field-0.items index c.requires.within made.rising made.all made.from }
+    let made = c.in_ok-listed_in.ensures in
+    record { wanted = listed_wanted c.args.sources.now c.args.size c.args.rect c.in-Some.index c.in_ok-listed_in.field-0.items index c.requires.within made.rising made.all made.from }
