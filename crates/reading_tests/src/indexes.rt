@@ -1,6 +1,6 @@
 // Bands of more than 16 sources: they are indexed by lines, and each line's list has to be the band's own, in the order of
 // the document.
-use crate::reads::{Job, Place, samples_of};
+use crate::reads::{Job, Picture, Place, shows};
 use geotransform::Sample;
 use outside::{CalmFolder, Name, Never};
 use std::alloc::Global;
@@ -75,13 +75,29 @@ fn shown(source: Source, x: u32, y: u32) -> Option<u8> {
     Some(sample(x - left, (centre - top) / 10))
 }
 
-// The pixel of a band: that of the last source that shows one, or 255.
-fn pixel(sources: &[Source], x: u32, y: u32) -> Sample {
+// That of the last source that shows a pixel, or 255.
+fn last_shown(sources: &[Source], x: u32, y: u32) -> u8 {
     let mut last = 255;
     for source in sources {
         last = shown(*source, x, y).unwrap_or(last);
     }
-    last as Sample
+    last
+}
+
+// The sources of two bands.
+#[derive(Clone, Copy)]
+struct Bands<'a> {
+    first: &'a [Source],
+    second: &'a [Source],
+}
+
+impl Picture for Bands<'_> {
+    fn pixel(&self, band: u32, x: u32, y: u32) -> Sample {
+        if band == 0 {
+            return last_shown(self.first, x, y) as Sample;
+        }
+        last_shown(self.second, x, y) as Sample
+    }
 }
 
 // The document's text of a source.
@@ -114,13 +130,13 @@ fn push_band(alloc: Global, text: &mut Vec<u8>, sources: &[Source]) -> Result<()
 }
 
 // The mosaic, of 168 columns in two blocks, the first of which no source meets, and 40 lines.
-fn document(alloc: Global) -> Result<Vec<u8>, Fail> {
+fn document(alloc: Global, bands: Bands) -> Result<Vec<u8>, Fail> {
     let mut text = Vec::from_slice(
         alloc,
         b"<VRTDataset rasterXSize=\"168\" rasterYSize=\"40\">",
     )?;
-    push_band(alloc, &mut text, &FIRST)?;
-    push_band(alloc, &mut text, &SECOND)?;
+    push_band(alloc, &mut text, bands.first)?;
+    push_band(alloc, &mut text, bands.second)?;
     text.extend_from_slice(b"</VRTDataset>")?;
     Ok(text)
 }
@@ -135,8 +151,8 @@ fn raw(alloc: Global) -> Result<Vec<u8>, Fail> {
 }
 
 // A folder that holds the mosaic and the file.
-fn folder_of(alloc: Global) -> Result<CalmFolder, Fail> {
-    let text = document(alloc)?;
+fn holding(alloc: Global, bands: Bands) -> Result<CalmFolder, Fail> {
+    let text = document(alloc, bands)?;
     let bytes = raw(alloc)?;
     let mut folder = CalmFolder::new(alloc, Never);
     folder.put(&Name::read(alloc, "m.vrt")?, text.as_slice())?;
@@ -166,48 +182,17 @@ const WINDOWS: [Place; 15] = [
     (0, (144, 16, 1, 1)),
 ];
 
-// Adds the pixels of a rectangle of a band.
-fn push_pixels(
-    wanted: &mut Vec<Sample>,
-    sources: &[Source],
-    (left, top, columns, lines): (u32, u32, u32, u32),
-) -> Result<(), Fail> {
-    let columns = columns.max(1);
-    for at in 0..columns.saturating_mul(lines) {
-        let x = left.saturating_add(at % columns);
-        let y = top.saturating_add(at / columns);
-        wanted.push(pixel(sources, x, y))?;
-    }
-    Ok(())
-}
-
-// The pixels of the windows.
-fn wanted_in(alloc: Global, windows: &[Place]) -> Result<Vec<Sample>, Fail> {
-    let bands: [&[Source]; 2] = [&FIRST, &SECOND];
-    let mut wanted = Vec::new(alloc);
-    for (band, rect) in windows.iter() {
-        push_pixels(&mut wanted, bands[(*band % 2) as usize], *rect)?;
-    }
-    Ok(wanted)
-}
-
-// Whether the windows have their pixels, read through a lane of this capacity.
-fn has_pixels(alloc: Global, wanted: &[Sample], capacity: u32) -> Result<bool, Fail> {
-    let mut folder = folder_of(alloc)?;
-    let job = Job {
-        name: "m.vrt",
-        capacity,
-        windows: &WINDOWS,
-    };
-    let samples = samples_of(alloc, &mut folder, job)?;
-    Ok(samples.as_slice() == wanted)
-}
-
-// The first capacity at which a pixel is wrong, or 0.
-fn first_wrong(alloc: Global) -> Result<u32, Fail> {
-    let wanted = wanted_in(alloc, &WINDOWS)?;
+// The first capacity at which the windows show something else, or 0.
+fn first_wrong(alloc: Global, bands: Bands, windows: &[Place]) -> Result<u32, Fail> {
+    let mut folder = holding(alloc, bands)?;
     for capacity in [1, 64, 1000] {
-        if !has_pixels(alloc, wanted.as_slice(), capacity)? {
+        let job = Job {
+            name: "m.vrt",
+            size: (168, 40),
+            capacity,
+            windows,
+        };
+        if !shows(alloc, &mut folder, job, &bands)? {
             return Ok(capacity);
         }
     }
@@ -216,7 +201,11 @@ fn first_wrong(alloc: Global) -> Result<u32, Fail> {
 
 #[test]
 fn indexed_bands_have_their_pixels(rt: HostRuntime) -> Result<(), Fail> {
-    let wrong = first_wrong(rt.alloc())?;
+    let bands = Bands {
+        first: &FIRST,
+        second: &SECOND,
+    };
+    let wrong = first_wrong(rt.alloc(), bands, &WINDOWS)?;
     assert!(rt; wrong == 0, "with {wrong} blocks");
     Ok(())
 }

@@ -1,6 +1,6 @@
 // Mosaics that name one another again and again, of which single pixels are asked: each of them is made once, and no
 // other pixel stands for it.
-use crate::reads::{Job, Place, samples_of};
+use crate::reads::{Job, Picture, Place, shows};
 use geotransform::Sample;
 use outside::{CalmFolder, Name, Never, Tally};
 use std::alloc::Global;
@@ -67,12 +67,27 @@ fn above(alloc: Global, below: &[u8]) -> Result<Vec<u8>, Fail> {
 }
 
 // The pixels of the first mosaic, behind its 128 columns.
-fn first(alloc: Global) -> Result<Vec<u8>, Fail> {
+#[derive(Drop)]
+struct First {
+    pixels: Vec<u8>,
+}
+
+impl Picture for First {
+    fn pixel(&self, _band: u32, x: u32, y: u32) -> Sample {
+        if x < 128 {
+            return 255;
+        }
+        let at = (y as usize).saturating_mul(24).saturating_add((x - 128) as usize);
+        *self.pixels.get(at).unwrap_or(&0) as Sample
+    }
+}
+
+fn first(alloc: Global) -> Result<First, Fail> {
     let mut pixels = raw(alloc)?;
     for _ in 1..NAMES.len() {
         pixels = above(alloc, pixels.as_slice())?;
     }
-    Ok(pixels)
+    Ok(First { pixels })
 }
 
 // Adds a source to a document.
@@ -141,36 +156,21 @@ const POINTS: [Place; 7] = [
     (0, (148, 20, 1, 1)),
 ];
 
-// The pixels of these points.
-fn wanted_in(alloc: Global, points: &[Place]) -> Result<Vec<Sample>, Fail> {
-    let pixels = first(alloc)?;
-    let mut wanted = Vec::new(alloc);
-    for (_, (x, y, _, _)) in points.iter() {
-        let at = (*x as usize % 128).saturating_add((*y as usize).saturating_mul(24));
-        let shown = if *x < 128 { 255 } else { *pixels.get(at).unwrap_or(&0) };
-        wanted.push(shown as Sample)?;
-    }
-    Ok(wanted)
-}
-
 // How many reads the walk and the points take, where they have their pixels.
 fn reads_of(alloc: Global) -> Result<Option<u64>, Fail> {
     let mut folder = Tally::new(nested(alloc)?);
+    let picture = first(alloc)?;
     let job = Job {
         name: "m0.vrt",
+        size: (152, 24),
         capacity: 1,
         windows: &POINTS,
     };
-    let samples = samples_of(alloc, &mut folder, job)?;
-    let wanted = wanted_in(alloc, &POINTS)?;
-    Ok(if samples.as_slice() == wanted.as_slice() {
-        Some(folder.reads())
-    } else {
-        None
-    })
+    let shown = shows(alloc, &mut folder, job, &picture)?;
+    Ok(if shown { Some(folder.reads()) } else { None })
 }
 
-// 43,046,721 paths lead from a pixel to the file, which has 576 of them. Each point asks for fewer than all.
+// 43,046,721 paths lead from a pixel to the file, which has 576 of them. No point asks for as many.
 #[test]
 fn pixels_that_many_paths_reach_are_their_own(rt: HostRuntime) -> Result<(), Fail> {
     let reads = reads_of(rt.alloc())?.unwrap_or(u64::MAX);

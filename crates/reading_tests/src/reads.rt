@@ -17,12 +17,19 @@ use std::test::*;
 /// A band, counted from 0, and a rectangle of it: a column, a line, and so many columns and lines.
 pub type Place = (u32, (u32, u32, u32, u32));
 
-/// Windows of the dataset of a name, and how many blocks the lane holds.
+/// Windows of the dataset of a name, how many columns and lines this has, and how many blocks the lane holds.
 #[derive(Clone, Copy)]
 pub struct Job<'a> {
     pub name: &'a str,
+    pub size: (u32, u32),
     pub capacity: u32,
     pub windows: &'a [Place],
+}
+
+/// What a dataset shows, by its definition.
+pub trait Picture {
+    /// The pixel of a band, counted from 0, in a column and a line.
+    fn pixel(&self, band: u32, x: u32, y: u32) -> Sample;
 }
 
 /// What stands for each sample of a window that a failed call of the folder refused.
@@ -180,9 +187,20 @@ fn read_through<F: Folder, L: Ledger>(
     Ok(())
 }
 
-/// Reads windows of the dataset of a name one after the other through a new lane, and puts their samples one behind the
-/// other. False where the walk is refused.
-pub fn read_into<F: Folder>(
+// Whether a dataset is of a catalog, and has this size.
+fn has_size(cat: &Catalog, dataset: u32, (w, h): (u32, u32)) -> bool
+    ensures known { result ≡ true → dataset < length cat.now }
+{
+    if dataset >= cat.count() {
+        return false;
+    }
+    let size = cat.head(dataset).size;
+    size.w == w && size.h == h
+}
+
+// Reads windows of the dataset of a name one after the other through a new lane, and puts their samples one behind the
+// other. False where the walk is refused, or the dataset has another size.
+fn read_into<F: Folder>(
     alloc: Global,
     folder: &mut F,
     job: Job,
@@ -193,15 +211,15 @@ pub fn read_into<F: Folder>(
     let Ok(dataset) = open_all(alloc, &mut cat, folder, &name, false) else {
         return Ok(false);
     };
-    if dataset >= cat.count() {
+    if !has_size(&cat, dataset, job.size) {
         return Ok(false);
     }
     read_through::<F, Brand>(alloc, &cat, folder, dataset, job, out, Blank::new(1))?;
     Ok(true)
 }
 
-/// How many pixels the windows have.
-pub fn count_in(windows: &[Place]) -> usize {
+// How many pixels windows have.
+fn count_in(windows: &[Place]) -> usize {
     let mut count = 0u64;
     for (_, rect) in windows.iter() {
         count = count.saturating_add(count_of(rect_of(*rect)));
@@ -209,11 +227,53 @@ pub fn count_in(windows: &[Place]) -> usize {
     count as usize
 }
 
-/// The samples of windows of the dataset of a name, one behind the other; none where the walk is refused.
+/// The samples of windows of the dataset of a name, one behind the other, or marks in their place. None where the walk is
+/// refused, or the dataset has another size.
 pub fn samples_of<F: Folder>(alloc: Global, folder: &mut F, job: Job) -> Result<Vec<Sample>, Fail> {
     let mut samples = vec![in alloc; REFUSED; count_in(job.windows)]?;
     if read_into(alloc, folder, job, samples.as_mut_slice())? {
         return Ok(samples);
     }
     Ok(Vec::new(alloc))
+}
+
+// Whether these are the samples of a picture in a window.
+fn are_pixels<P: Picture>(picture: &P, place: Place, samples: &[Sample]) -> bool {
+    let (band, (left, top, columns, _)) = place;
+    let columns = columns.max(1);
+    let mut at = 0u32;
+    for sample in samples {
+        let x = left.saturating_add(at % columns);
+        let y = top.saturating_add(at / columns);
+        if *sample != picture.pixel(band, x, y) {
+            return false;
+        }
+        at = at.saturating_add(1);
+    }
+    true
+}
+
+// Whether these are the samples of a picture in windows, one behind the other.
+fn are_shown<P: Picture>(picture: &P, windows: &[Place], samples: &[Sample]) -> bool {
+    let mut rest = samples;
+    for place in windows {
+        let count = count_of(rect_of(place.1)).min(rest.len() as u64);
+        let (front, behind) = rest.split_at(count as usize);
+        if !are_pixels(picture, *place, front) {
+            return false;
+        }
+        rest = behind;
+    }
+    samples.len() == count_in(windows)
+}
+
+/// Whether windows of the dataset of a name show a picture.
+pub fn shows<F: Folder, P: Picture>(
+    alloc: Global,
+    folder: &mut F,
+    job: Job,
+    picture: &P,
+) -> Result<bool, Fail> {
+    let samples = samples_of(alloc, folder, job)?;
+    Ok(are_shown(picture, job.windows, samples.as_slice()))
 }
