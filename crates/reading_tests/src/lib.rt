@@ -20,11 +20,17 @@ mod folders;
 #[cfg(test)]
 mod heads;
 #[cfg(test)]
+mod indexes;
+#[cfg(test)]
 mod loads;
 #[cfg(test)]
 mod names;
 #[cfg(test)]
+mod paths;
+#[cfg(test)]
 mod pools;
+#[cfg(test)]
+mod reads;
 #[cfg(test)]
 mod short_calls;
 #[cfg(test)]
