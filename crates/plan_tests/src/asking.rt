@@ -1,165 +1,242 @@
-// What words ask of a translation, as tables have it, and the heads of sources.
+// What words ask of a translation, and the heads of sources.
 ghost use Rattle.std.specs.Prelude.{◌≡◌, ◌<◌, ◌≤◌, All, IfOk, IfSome};
+ghost use Rattle.geotransform.specs.Decimal.{IsRead};
 ghost use Rattle.translate_plan.specs.Options.{IsDriver, IsWhole, IsView, IsOutSize, IsWord};
 
 use catalog::{Head, NodataWord, head_of};
 use esri_hdr::Layout;
 use geotransform::{PixelType, Ticks, read_decimal};
 use lists_and_answers::Items;
-use outside::{Listed, MemFolder, Name};
+use outside::{Ext, Listed, MemFolder, Name};
 use std::alloc::{AllocError, Global};
 use std::test::*;
 use translate_plan::{Driver, Numbers, OutSize, TranslateOptions, View};
 
-/// The format of the output.
-#[derive(Clone, Copy)]
-pub enum Out {
-    Raw,
-    /// A DTED cell of this level.
-    Cell(u8),
-    Tile,
-    Grid,
-    Mosaic,
+/// Files by their names, the first of which is that of a dataset.
+pub type Files<'a> = &'a [(&'a str, &'a str)];
+
+fn put(alloc: Global, folder: &mut MemFolder, name: &str, text: &str) -> Result<(), Fail> {
+    let name = Name::read(alloc, name)?;
+    folder.put(&name, text.as_bytes())?;
+    Ok(())
 }
 
-/// The window that is asked for.
-#[derive(Clone, Copy)]
-pub enum Seen<'a> {
-    All,
-    /// A column, a line, columns and lines.
-    Pixels(i32, i32, i32, i32),
-    /// The upper left and the lower right place.
-    Places(&'a str, &'a str, &'a str, &'a str),
+fn put_all(alloc: Global, folder: &mut MemFolder, files: Files<'_>) -> Result<(), Fail> {
+    for (name, text) in files {
+        put(alloc, folder, name, text)?;
+    }
+    Ok(())
 }
 
-/// The number of a side, and whether it is so many parts of a hundred.
-pub type Side = (u32, bool);
-
-/// What is asked for as NODATA.
-#[derive(Clone, Copy)]
-pub enum Word {
-    Nothing,
-    Remove,
-    Number(i64),
-    Unsigned(u64),
-}
-
-/// Where the window must lie.
-#[derive(Clone, Copy)]
-pub enum Inside {
-    Anywhere,
-    InPart,
-    Wholly,
-}
-
-/// The format, the name, the bands, the window, the size, NODATA, the type, and where the window must lie.
-pub type Ask<'a> = (
-    Out,
-    &'a str,
-    &'a [u8],
-    Seen<'a>,
-    Option<(Side, Side)>,
-    Word,
-    Option<PixelType>,
-    Inside,
-);
-
-/// The head of a mosaic with this text.
-pub fn head(alloc: Global, text: &str) -> Result<Head, Fail> {
+fn folder_of(alloc: Global, files: Files<'_>) -> Result<MemFolder, Fail> {
     let mut folder = MemFolder::new(alloc, Listed::new(Items::new(alloc)));
-    folder.put(&Name::read(alloc, "in.vrt")?, text.as_bytes())?;
-    let name = Name::read(alloc, "in.vrt")?;
+    put_all(alloc, &mut folder, files)?;
+    Ok(folder)
+}
+
+fn head_in(alloc: Global, folder: &mut MemFolder, name: &str) -> Result<Head, Fail> {
+    let name = Name::read(alloc, name)?;
     Ok(
-        head_of(alloc, &mut folder, &name, false)
+        head_of(alloc, folder, &name, false)
             .ok()
-            .ok_or("it is a mosaic")?,
+            .ok_or("it is a dataset")?,
     )
 }
 
-fn driver_of(out: Out) -> Driver
+fn first_name<'a>(files: Files<'a>) -> &'a str {
+    match files.first() {
+        Some((name, _)) => name,
+        None => "",
+    }
+}
+
+/// The head of the first of some files.
+pub fn head(alloc: Global, files: Files<'_>) -> Result<Head, Fail> {
+    let mut folder = folder_of(alloc, files)?;
+    head_in(alloc, &mut folder, first_name(files))
+}
+
+// What may be asked for behind the name of the output, whose ending is its format, and how many words it takes: the
+// numbers of the bands, or `257x1` for the first one so many times; a window by a column, a line and its sides, or by
+// its upper left and its lower right place; the sides of the output, in pixels or in parts of a hundred; NODATA, or
+// `none`; the type; and whether the window must lie in the raster in part, or wholly.
+const OPTIONS: [(&str, usize); 8] = [
+    (" bands ", 2),
+    (" window ", 5),
+    (" places ", 5),
+    (" size ", 3),
+    (" nodata ", 2),
+    (" type ", 2),
+    (" partly", 1),
+    (" wholly", 1),
+];
+
+fn behind<'a>(text: &'a str, option: &str) -> Option<&'a str> {
+    match text.split_once(option) {
+        Some((_, rest)) => Some(rest),
+        None => None,
+    }
+}
+
+fn first_word(text: &str) -> Option<&str> {
+    let mut words = text.split_ascii_whitespace();
+    words.next()
+}
+
+fn word_behind<'a>(text: &'a str, option: &str) -> Option<&'a str> {
+    first_word(behind(text, option)?)
+}
+
+// The name and the words of these options that are there.
+fn known_words(text: &str, options: &[(&str, usize)]) -> usize {
+    let mut count = 1usize;
+    for (option, words) in options {
+        if behind(text, option).is_some() {
+            count = count.saturating_add(*words);
+        }
+    }
+    count
+}
+
+// Whether a text has no other words.
+fn is_known(text: &str) -> bool {
+    text.split_ascii_whitespace().count() == known_words(text, &OPTIONS)
+}
+
+fn driver_of(name: &Name) -> Driver
     ensures { IsDriver result }
 {
-    match out {
-        Out::Raw => Driver::EHdr,
-        Out::Cell(level) => Driver::Dted {
-            level: (level % 3) as u32,
-        },
-        Out::Tile => Driver::SrtmHgt,
-        Out::Grid => Driver::AaiGrid,
-        Out::Mosaic => Driver::Vrt,
+    match name.extension() {
+        Some(Ext::Bil) => Driver::EHdr,
+        Some(Ext::Dt0) => Driver::Dted { level: 0 },
+        Some(Ext::Dt1) => Driver::Dted { level: 1 },
+        Some(Ext::Hgt) => Driver::SrtmHgt,
+        Some(Ext::Asc) => Driver::AaiGrid,
+        _ => Driver::Vrt,
     }
 }
 
-/// A number of up to nine digits, or 0 for another.
-fn whole(n: i32) -> i64
-    ensures { IsWhole result }
+// A number of up to nine digits.
+fn whole(word: Option<&str>) -> Option<i64>
+    ensures { IfSome result IsWhole }
 {
+    let n = word?.parse::<i32>().ok()?;
     if n > -1_000_000_000 && n < 1_000_000_000 {
-        n as i64
+        Some(n as i64)
     } else {
-        0
+        None
     }
 }
 
-fn pixels(x: i32, y: i32, w: i32, h: i32) -> View
-    ensures { IsView result }
-{
-    View::Pixels {
-        x: whole(x),
-        y: whole(y),
-        w: whole(w),
-        h: whole(h),
-    }
-}
-
-fn places(ulx: &str, uly: &str, lrx: &str, lry: &str) -> Option<View>
+fn pixels(text: &str) -> Option<View>
     ensures { IfSome result IsView }
 {
-    let ulx = read_decimal(ulx.as_bytes())?;
-    let uly = read_decimal(uly.as_bytes())?;
-    let lrx = read_decimal(lrx.as_bytes())?;
-    let lry = read_decimal(lry.as_bytes())?;
+    let mut words = text.split_ascii_whitespace();
+    let x = whole(words.next())?;
+    let y = whole(words.next())?;
+    let w = whole(words.next())?;
+    let h = whole(words.next())?;
+    Some(View::Pixels { x, y, w, h })
+}
+
+fn place(word: Option<&str>) -> Option<Ticks>
+    ensures { IfSome result IsRead }
+{
+    read_decimal(word?.as_bytes())
+}
+
+fn places(text: &str) -> Option<View>
+    ensures { IfSome result IsView }
+{
+    let mut words = text.split_ascii_whitespace();
+    let ulx = place(words.next())?;
+    let uly = place(words.next())?;
+    let lrx = place(words.next())?;
+    let lry = place(words.next())?;
     Some(View::Places { ulx, uly, lrx, lry })
 }
 
-fn view_of(seen: Seen<'_>) -> Option<View>
+fn view_of(ask: &str) -> Option<View>
     ensures { IfSome result IsView }
 {
-    match seen {
-        Seen::All => Some(View::Whole),
-        Seen::Pixels(x, y, w, h) => Some(pixels(x, y, w, h)),
-        Seen::Places(ulx, uly, lrx, lry) => places(ulx, uly, lrx, lry),
+    if let Some(window) = behind(ask, " window ") {
+        return pixels(window);
+    }
+    match behind(ask, " places ") {
+        Some(corners) => places(corners),
+        None => Some(View::Whole),
     }
 }
 
-fn side_of(side: Side) -> OutSize
-    ensures { IsOutSize result }
+fn count_of(text: &str) -> Option<u32> {
+    text.parse::<u32>().ok()
+}
+
+fn side_of(word: Option<&str>) -> Option<OutSize>
+    ensures { IfSome result IsOutSize }
 {
-    let (n, percent) = side;
-    if percent {
-        OutSize::Percent(n % 1_000_000_000)
-    } else {
-        OutSize::Count(n % 1_000_000_000)
+    let word = word?;
+    match word.strip_suffix('%') {
+        Some(parts) => Some(OutSize::Percent(count_of(parts)? % 1_000_000_000)),
+        None => Some(OutSize::Count(count_of(word)? % 1_000_000_000)),
     }
 }
 
-fn outsize_of(sides: Option<(Side, Side)>) -> Option<(OutSize, OutSize)>
+fn sides_of(text: &str) -> Option<(OutSize, OutSize)>
     ensures { IfSome result (λ s. IsOutSize s.0 × IsOutSize s.1) }
 {
-    match sides {
-        None => None,
-        Some((w, h)) => Some((side_of(w), side_of(h))),
+    let mut words = text.split_ascii_whitespace();
+    let w = side_of(words.next())?;
+    let h = side_of(words.next())?;
+    Some((w, h))
+}
+
+fn outsize_of(ask: &str) -> Option<Option<(OutSize, OutSize)>>
+    ensures { IfSome result (λ o. IfSome o (λ s. IsOutSize s.0 × IsOutSize s.1)) }
+{
+    match behind(ask, " size ") {
+        None => Some(None),
+        Some(sides) => Some(Some(sides_of(sides)?)),
     }
 }
 
-fn nodata_of(word: Word) -> NodataWord
-    ensures { IsWord result }
+fn number_of(word: &str) -> Option<NodataWord>
+    ensures { IfSome result IsWord }
 {
-    match word {
-        Word::Nothing => NodataWord::Absent,
-        Word::Remove => NodataWord::Remove,
-        Word::Number(n) => NodataWord::Number(n as i128),
-        Word::Unsigned(n) => NodataWord::Number(n as i128),
+    if let Ok(n) = word.parse::<i64>() {
+        return Some(NodataWord::Number(n as i128));
+    }
+    let n = word.parse::<u64>().ok()?;
+    Some(NodataWord::Number(n as i128))
+}
+
+fn nodata_of(ask: &str) -> Option<NodataWord>
+    ensures { IfSome result IsWord }
+{
+    match word_behind(ask, " nodata ") {
+        None => Some(NodataWord::Absent),
+        Some("none") => Some(NodataWord::Remove),
+        Some(word) => number_of(word),
+    }
+}
+
+fn kind_of(ask: &str) -> Option<Option<PixelType>> {
+    match word_behind(ask, " type ") {
+        None => Some(None),
+        Some(name) => Some(Some(PixelType::read_name(name.as_bytes(), false)?)),
+    }
+}
+
+/// The first band, once more than there may be bands.
+const ONES: [u8; 257] = [b'1'; 257];
+
+// The numbers of bands, of one digit each, with commas between them.
+fn bands_of(ask: &str) -> &[u8] {
+    match word_behind(ask, " bands ") {
+        None => &[],
+        Some("256x1") => &ONES[1..],
+        Some("257x1") => &ONES,
+        Some(word) => word.as_bytes(),
     }
 }
 
@@ -175,27 +252,58 @@ fn numbers_of(alloc: Global, bands: &[u8]) -> Result<Numbers, AllocError>
 {
     let mut numbers = Items::new(alloc);
     for band in bands {
-        add_number(&mut numbers, *band)?;
+        if *band != b',' {
+            add_number(&mut numbers, band.saturating_sub(b'0'))?;
+        }
     }
     Ok(numbers)
 }
 
-/// The options of what is asked for.
-pub fn options(alloc: Global, ask: Ask<'_>) -> Result<TranslateOptions, Fail> {
-    let (out, name, bands, seen, outsize, word, kind, inside) = ask;
-    let view = view_of(seen).ok_or("it is a window")?;
-    let out_name = Name::read(alloc, name)?;
-    let bands = numbers_of(alloc, bands)?;
-    Ok(TranslateOptions {
-        driver: driver_of(out),
-        layout: Layout::Bil,
-        out: out_name,
-        bands,
+// What is asked for beside the name and the bands.
+#[derive(Clone, Copy)]
+struct Settings {
+    view: View,
+    outsize: Option<(OutSize, OutSize)>,
+    nodata: NodataWord,
+    kind: Option<PixelType>,
+}
+
+fn settings_of(ask: &str) -> Option<Settings>
+    ensures view { IfSome result (λ s. IsView s.view) }
+    ensures outsize { IfSome result (λ s. IfSome s.outsize (λ o. IsOutSize o.0 × IsOutSize o.1)) }
+    ensures nodata { IfSome result (λ s. IsWord s.nodata) }
+{
+    let view = view_of(ask)?;
+    let outsize = outsize_of(ask)?;
+    let nodata = nodata_of(ask)?;
+    let kind = kind_of(ask)?;
+    if !is_known(ask) {
+        return None;
+    }
+    Some(Settings {
         view,
-        outsize: outsize_of(outsize),
-        nodata: nodata_of(word),
+        outsize,
+        nodata,
         kind,
-        epo: matches!(&inside, Inside::Wholly),
-        eco: matches!(&inside, Inside::InPart),
+    })
+}
+
+/// The options of the words that ask for them.
+pub fn options(alloc: Global, ask: &str) -> Result<TranslateOptions, Fail> {
+    let settings = settings_of(ask).ok_or("it is asked for")?;
+    let out = Name::read(alloc, first_word(ask).unwrap_or(""))?;
+    let bands = numbers_of(alloc, bands_of(ask))?;
+    let driver = driver_of(&out);
+    Ok(TranslateOptions {
+        driver,
+        layout: Layout::Bil,
+        out,
+        bands,
+        view: settings.view,
+        outsize: settings.outsize,
+        nodata: settings.nodata,
+        kind: settings.kind,
+        epo: behind(ask, " wholly").is_some(),
+        eco: behind(ask, " partly").is_some(),
     })
 }

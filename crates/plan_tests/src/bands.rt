@@ -1,282 +1,70 @@
 // The bands of an output.
-use crate::asking::{Inside, Out, Seen, Word};
-use crate::plans::{Row, Want, wrong_row};
-use crate::sources::THREE;
-use geotransform::{PixelType, PlanFault};
+use crate::plans::{Row, all_hold};
 use std::test::*;
 
-/// Types, NODATA and places of bands: Byte with 9, Int16 with -5, UInt16 with 9.
+// Types, NODATA and places of bands: Byte with 9, Int16 with -5, UInt16 with 9.
 const BANDS: [Row<'static>; 14] = [
     (
-        THREE,
-        (
-            Out::Raw,
-            "o.bil",
-            &[],
-            Seen::All,
-            None,
-            Word::Nothing,
-            None,
-            Inside::Anywhere,
-        ),
-        Want::Planned(
-            (5, 1),
-            (0, 0, 5, 1),
-            &[
-                (0, PixelType::Byte, None),
-                (1, PixelType::Byte, None),
-                (2, PixelType::Byte, None),
-            ],
-        ),
+        "three",
+        "o.bil",
+        "5 1 of 0 0 5 1: 0 Byte - 1 Byte - 2 Byte -",
     ),
     (
-        THREE,
-        (
-            Out::Raw,
-            "o.bil",
-            &[1, 3],
-            Seen::All,
-            None,
-            Word::Nothing,
-            None,
-            Inside::Anywhere,
-        ),
-        Want::Planned(
-            (5, 1),
-            (0, 0, 5, 1),
-            &[(0, PixelType::Byte, Some(9)), (2, PixelType::Byte, Some(9))],
-        ),
+        "three",
+        "o.bil bands 1,3",
+        "5 1 of 0 0 5 1: 0 Byte 9 2 Byte 9",
     ),
     (
-        THREE,
-        (
-            Out::Raw,
-            "o.bil",
-            &[2, 1],
-            Seen::All,
-            None,
-            Word::Nothing,
-            None,
-            Inside::Anywhere,
-        ),
-        Want::Planned(
-            (5, 1),
-            (0, 0, 5, 1),
-            &[(1, PixelType::Int16, None), (0, PixelType::Int16, None)],
-        ),
+        "three",
+        "o.bil bands 2,1",
+        "5 1 of 0 0 5 1: 1 Int16 - 0 Int16 -",
     ),
     (
-        THREE,
-        (
-            Out::Raw,
-            "o.bil",
-            &[3, 2],
-            Seen::All,
-            None,
-            Word::Nothing,
-            None,
-            Inside::Anywhere,
-        ),
-        Want::Planned(
-            (5, 1),
-            (0, 0, 5, 1),
-            &[(2, PixelType::UInt16, None), (1, PixelType::UInt16, None)],
-        ),
+        "three",
+        "o.bil bands 3,2",
+        "5 1 of 0 0 5 1: 2 UInt16 - 1 UInt16 -",
+    ),
+    ("three", "o.bil bands 2", "5 1 of 0 0 5 1: 1 Int16 -5"),
+    (
+        "three",
+        "o.bil bands 3,3",
+        "5 1 of 0 0 5 1: 2 UInt16 9 2 UInt16 9",
     ),
     (
-        THREE,
-        (
-            Out::Raw,
-            "o.bil",
-            &[2],
-            Seen::All,
-            None,
-            Word::Nothing,
-            None,
-            Inside::Anywhere,
-        ),
-        Want::Planned((5, 1), (0, 0, 5, 1), &[(1, PixelType::Int16, Some(-5))]),
+        "three",
+        "o.bil nodata 7",
+        "5 1 of 0 0 5 1: 0 Byte 7 1 Byte 7 2 Byte 7",
     ),
     (
-        THREE,
-        (
-            Out::Raw,
-            "o.bil",
-            &[3, 3],
-            Seen::All,
-            None,
-            Word::Nothing,
-            None,
-            Inside::Anywhere,
-        ),
-        Want::Planned(
-            (5, 1),
-            (0, 0, 5, 1),
-            &[
-                (2, PixelType::UInt16, Some(9)),
-                (2, PixelType::UInt16, Some(9)),
-            ],
-        ),
+        "three",
+        "o.bil nodata none",
+        "5 1 of 0 0 5 1: 0 Byte - 1 Byte - 2 Byte -",
     ),
     (
-        THREE,
-        (
-            Out::Raw,
-            "o.bil",
-            &[],
-            Seen::All,
-            None,
-            Word::Number(7),
-            None,
-            Inside::Anywhere,
-        ),
-        Want::Planned(
-            (5, 1),
-            (0, 0, 5, 1),
-            &[
-                (0, PixelType::Byte, Some(7)),
-                (1, PixelType::Byte, Some(7)),
-                (2, PixelType::Byte, Some(7)),
-            ],
-        ),
+        "three",
+        "o.bil bands 1,3 type Int16",
+        "5 1 of 0 0 5 1: 0 Int16 9 2 Int16 9",
     ),
     (
-        THREE,
-        (
-            Out::Raw,
-            "o.bil",
-            &[],
-            Seen::All,
-            None,
-            Word::Remove,
-            None,
-            Inside::Anywhere,
-        ),
-        Want::Planned(
-            (5, 1),
-            (0, 0, 5, 1),
-            &[
-                (0, PixelType::Byte, None),
-                (1, PixelType::Byte, None),
-                (2, PixelType::Byte, None),
-            ],
-        ),
+        "three",
+        "o.vrt",
+        "5 1 of 0 0 5 1: 0 Byte 9 1 Int16 -5 2 UInt16 9",
     ),
     (
-        THREE,
-        (
-            Out::Raw,
-            "o.bil",
-            &[1, 3],
-            Seen::All,
-            None,
-            Word::Nothing,
-            Some(PixelType::Int16),
-            Inside::Anywhere,
-        ),
-        Want::Planned(
-            (5, 1),
-            (0, 0, 5, 1),
-            &[
-                (0, PixelType::Int16, Some(9)),
-                (2, PixelType::Int16, Some(9)),
-            ],
-        ),
+        "three",
+        "o.vrt type UInt16",
+        "5 1 of 0 0 5 1: 0 UInt16 9 1 UInt16 - 2 UInt16 9",
     ),
     (
-        THREE,
-        (
-            Out::Mosaic,
-            "o.vrt",
-            &[],
-            Seen::All,
-            None,
-            Word::Nothing,
-            None,
-            Inside::Anywhere,
-        ),
-        Want::Planned(
-            (5, 1),
-            (0, 0, 5, 1),
-            &[
-                (0, PixelType::Byte, Some(9)),
-                (1, PixelType::Int16, Some(-5)),
-                (2, PixelType::UInt16, Some(9)),
-            ],
-        ),
+        "three",
+        "o.vrt bands 3,2 nodata none",
+        "5 1 of 0 0 5 1: 2 UInt16 - 1 Int16 -",
     ),
-    (
-        THREE,
-        (
-            Out::Mosaic,
-            "o.vrt",
-            &[],
-            Seen::All,
-            None,
-            Word::Nothing,
-            Some(PixelType::UInt16),
-            Inside::Anywhere,
-        ),
-        Want::Planned(
-            (5, 1),
-            (0, 0, 5, 1),
-            &[
-                (0, PixelType::UInt16, Some(9)),
-                (1, PixelType::UInt16, None),
-                (2, PixelType::UInt16, Some(9)),
-            ],
-        ),
-    ),
-    (
-        THREE,
-        (
-            Out::Mosaic,
-            "o.vrt",
-            &[3, 2],
-            Seen::All,
-            None,
-            Word::Remove,
-            None,
-            Inside::Anywhere,
-        ),
-        Want::Planned(
-            (5, 1),
-            (0, 0, 5, 1),
-            &[(2, PixelType::UInt16, None), (1, PixelType::Int16, None)],
-        ),
-    ),
-    (
-        THREE,
-        (
-            Out::Grid,
-            "o.asc",
-            &[2],
-            Seen::All,
-            None,
-            Word::Nothing,
-            None,
-            Inside::Anywhere,
-        ),
-        Want::Planned((5, 1), (0, 0, 5, 1), &[(1, PixelType::Int16, Some(-5))]),
-    ),
-    (
-        THREE,
-        (
-            Out::Raw,
-            "o.bil",
-            &[4],
-            Seen::All,
-            None,
-            Word::Nothing,
-            None,
-            Inside::Anywhere,
-        ),
-        Want::Refused(PlanFault::NoBand(4)),
-    ),
+    ("three", "o.asc bands 2", "5 1 of 0 0 5 1: 1 Int16 -5"),
+    ("three", "o.bil bands 4", "NoBand 4"),
 ];
 
 #[test]
 fn plans_bands(rt: HostRuntime) -> Result<(), Fail> {
-    assert_eq!(rt; wrong_row(rt.alloc(), &BANDS)?, None);
-    Ok(())
+    all_hold(&rt, rt.alloc(), &BANDS)
 }

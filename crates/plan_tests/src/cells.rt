@@ -2,6 +2,7 @@
 ghost use Rattle.std.specs.Prelude.{IfSome};
 ghost use Rattle.dted_records.specs.Fit.{IsPlain};
 
+use crate::plans::none_wrong;
 use dted_records::{DtedHead, fit};
 use geotransform::{GeoTransform, Size, Ticks};
 use std::test::*;
@@ -40,9 +41,9 @@ pub const STILL: Moved = Moved {
 
 /// So many whole degrees and half tenths of an arc second, and some ticks.
 fn place(degrees: i32, half_tenths: i32, ticks: i64) -> Option<Ticks> {
-    let whole = degrees as i128;
-    let part = half_tenths as i128;
-    Ticks::new(whole * DEGREE + part * HALF_TENTH + ticks as i128)
+    let whole = (degrees as i128).saturating_mul(DEGREE);
+    let part = (half_tenths as i128).saturating_mul(HALF_TENTH);
+    Ticks::new(whole.saturating_add(part).saturating_add(ticks as i128))
 }
 
 /// The geotransform of a raster whose pixels have the posts as their centres.
@@ -141,10 +142,10 @@ fn zone_holds(zone: Zone) -> bool {
     }
 }
 
-/// The first row that doesn't hold.
-fn wrong_zone() -> Option<usize> {
-    for at in 0..ZONES.len() {
-        if !zone_holds(ZONES[at]) {
+// The first row that doesn't hold.
+fn wrong_zone(zones: &[Zone]) -> Option<usize> {
+    for at in 0..zones.len() {
+        if !zone_holds(zones[at]) {
             return Some(at);
         }
     }
@@ -152,8 +153,8 @@ fn wrong_zone() -> Option<usize> {
 }
 
 #[test]
-fn columns_thin_out_to_the_poles(rt: HostRuntime) {
-    assert_eq!(rt; wrong_zone(), None);
+fn columns_thin_out_to_the_poles(rt: HostRuntime) -> Result<(), Fail> {
+    none_wrong(&rt, Ok(wrong_zone(&ZONES)))
 }
 
 /// The latitude, the width, the longitude step, the ticks by which it is moved east and north, by which its columns are
@@ -231,9 +232,9 @@ fn near_holds(near: Near) -> bool {
     }
 }
 
-fn wrong_place() -> Option<usize> {
-    for at in 0..NEAR.len() {
-        if !near_holds(NEAR[at]) {
+fn wrong_place(places: &[Near]) -> Option<usize> {
+    for at in 0..places.len() {
+        if !near_holds(places[at]) {
             return Some(at);
         }
     }
@@ -241,6 +242,6 @@ fn wrong_place() -> Option<usize> {
 }
 
 #[test]
-fn posts_are_within_a_thousandth(rt: HostRuntime) {
-    assert_eq!(rt; wrong_place(), None);
+fn posts_are_within_a_thousandth(rt: HostRuntime) -> Result<(), Fail> {
+    none_wrong(&rt, Ok(wrong_place(&NEAR)))
 }

@@ -1,19 +1,16 @@
 // The documents of plans of mosaics, byte for byte.
-use crate::asking::{Ask, Inside, Out, Seen, Word, options};
+use crate::asking::{Files, head, options};
+use crate::plans::none_wrong;
 use crate::sources::{PLACED, THREE};
-use catalog::{Head, head_of};
-use lists_and_answers::Items;
-use outside::{Listed, MemFolder, Name};
+use catalog::Head;
+use outside::Name;
 use std::alloc::{AllocError, Global};
 use std::test::*;
 use translate_plan::{Driver, Plan, document, plan};
 use vrt_profile::{Document, write};
 
-/// Files by their names, the first of which is that of the source.
-type Files<'a> = &'a [(&'a str, &'a str)];
-
-/// What a row shows, the files, what is asked for, and the text of the document.
-type Row<'a> = (&'a str, Files<'a>, Ask<'a>, &'a [u8]);
+/// The files, the first of which is the source, what is asked for, and the text of the document.
+type Row<'a> = (Files<'a>, &'a str, &'a [u8]);
 
 /// Five columns and one line of bytes.
 const FIVE_FILES: Files<'static> = &[("five.bil", "12345"), ("five.hdr", "NROWS 1\nNCOLS 5\n")];
@@ -100,103 +97,18 @@ const SRS_FILES: Files<'static> = &[(
     "<VRTDataset rasterXSize=\"1\" rasterYSize=\"1\"><SRS>a&lt;&amp;&gt;b</SRS><VRTRasterBand/></VRTDataset>",
 )];
 
+// Two of five columns, a window off the corner, two bands with NODATA, and sources in another folder and in one below.
 const DOCUMENTS: [Row<'static>; 5] = [
+    (FIVE_FILES, "w.vrt size 2 1", TWO_COLUMNS),
     (
-        "two of five columns",
-        FIVE_FILES,
-        (
-            Out::Mosaic,
-            "w.vrt",
-            &[],
-            Seen::All,
-            Some(((2, false), (1, false))),
-            Word::Nothing,
-            None,
-            Inside::Anywhere,
-        ),
-        TWO_COLUMNS,
-    ),
-    (
-        "a window off the corner",
         &[("placed.vrt", PLACED)],
-        (
-            Out::Mosaic,
-            "w.vrt",
-            &[2],
-            Seen::Pixels(-1, -2, 4, 5),
-            None,
-            Word::Nothing,
-            None,
-            Inside::Anywhere,
-        ),
+        "w.vrt bands 2 window -1 -2 4 5",
         OFF_THE_CORNER,
     ),
-    (
-        "two bands with NODATA",
-        &[("three.vrt", THREE)],
-        (
-            Out::Mosaic,
-            "w.vrt",
-            &[3, 2],
-            Seen::All,
-            None,
-            Word::Nothing,
-            None,
-            Inside::Anywhere,
-        ),
-        TWO_BANDS,
-    ),
-    (
-        "a source in another folder",
-        SRS_FILES,
-        (
-            Out::Mosaic,
-            "e/w.vrt",
-            &[],
-            Seen::All,
-            None,
-            Word::Nothing,
-            None,
-            Inside::Anywhere,
-        ),
-        OTHER_FOLDER,
-    ),
-    (
-        "a source in a folder below",
-        SRS_FILES,
-        (
-            Out::Mosaic,
-            "w.vrt",
-            &[],
-            Seen::All,
-            None,
-            Word::Nothing,
-            None,
-            Inside::Anywhere,
-        ),
-        FOLDER_BELOW,
-    ),
+    (&[("three.vrt", THREE)], "w.vrt bands 3,2", TWO_BANDS),
+    (SRS_FILES, "e/w.vrt", OTHER_FOLDER),
+    (SRS_FILES, "w.vrt", FOLDER_BELOW),
 ];
-
-fn put_all(alloc: Global, folder: &mut MemFolder, files: Files<'_>) -> Result<(), Fail> {
-    for (name, text) in files {
-        folder.put(&Name::read(alloc, name)?, text.as_bytes())?;
-    }
-    Ok(())
-}
-
-/// The head of the first of some files.
-fn head_of_first(alloc: Global, files: Files<'_>) -> Result<Head, Fail> {
-    let mut folder = MemFolder::new(alloc, Listed::new(Items::new(alloc)));
-    put_all(alloc, &mut folder, files)?;
-    let first = files.first().ok_or("it has a file")?;
-    let name = Name::read(alloc, first.0)?;
-    Ok(
-        head_of(alloc, &mut folder, &name, false)
-            .ok()
-            .ok_or("it is a dataset")?,
-    )
-}
 
 fn is_text(alloc: Global, document: &Document, wanted: &[u8]) -> Result<bool, AllocError> {
     let mut out = Vec::new(alloc);
@@ -218,21 +130,20 @@ fn is_shown(
     }
 }
 
-fn row_holds(alloc: Global, row: Row<'_>) -> Result<bool, Fail> {
-    let (_, files, ask, wanted) = row;
+fn row_holds(alloc: Global, (files, ask, wanted): Row<'_>) -> Result<bool, Fail> {
     let options = options(alloc, ask)?;
-    let head = head_of_first(alloc, files)?;
+    let head = head(alloc, files)?;
     match plan(&options, &head) {
         Ok(plan) => Ok(is_shown(alloc, &plan, &options.out, &head, wanted)?),
         Err(_) => Ok(false),
     }
 }
 
-/// The first row that doesn't hold.
-fn wrong_row(alloc: Global) -> Result<Option<&'static str>, Fail> {
-    for at in 0..DOCUMENTS.len() {
-        if !row_holds(alloc, DOCUMENTS[at])? {
-            return Ok(Some(DOCUMENTS[at].0));
+// The first row that doesn't hold.
+fn wrong_row(alloc: Global, rows: &[Row<'_>]) -> Result<Option<usize>, Fail> {
+    for at in 0..rows.len() {
+        if !row_holds(alloc, rows[at])? {
+            return Ok(Some(at));
         }
     }
     Ok(None)
@@ -240,6 +151,5 @@ fn wrong_row(alloc: Global) -> Result<Option<&'static str>, Fail> {
 
 #[test]
 fn documents_of_plans(rt: HostRuntime) -> Result<(), Fail> {
-    assert_eq!(rt; wrong_row(rt.alloc())?, None);
-    Ok(())
+    none_wrong(&rt, wrong_row(rt.alloc(), &DOCUMENTS))
 }

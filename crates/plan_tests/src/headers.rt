@@ -1,43 +1,24 @@
 // The headers of raw data that is planned.
-use crate::asking::{Ask, Inside, Out, Seen, Word, head, options};
-use crate::sources::{FIVE, PLACED};
+use crate::plans::{none_wrong, planned};
 use esri_hdr::write;
 use std::alloc::{AllocError, Global};
 use std::test::*;
-use translate_plan::{Driver, Plan, plan};
+use translate_plan::{Driver, Plan};
 
-/// The text of the source, what is asked for, and the header.
-type Row<'a> = (&'a str, Ask<'a>, &'a [u8]);
+/// The source, what is asked for, and the header.
+type Row<'a> = (&'a str, &'a str, &'a [u8]);
 
 const HEADERS: [Row<'static>; 2] = [
     (
-        FIVE,
-        (
-            Out::Raw,
-            "o.bil",
-            &[],
-            Seen::Pixels(3, 0, 4, 1),
-            None,
-            Word::Number(9),
-            None,
-            Inside::Anywhere,
-        ),
+        "five",
+        "o.bil window 3 0 4 1 nodata 9",
         b"BYTEORDER      I\nLAYOUT         BIL\nNROWS          1\nNCOLS          4\nNBANDS         1\n\
         NBITS          8\nSKIPBYTES      0\nBANDROWBYTES   4\nTOTALROWBYTES  4\nBANDGAPBYTES   0\n\
         PIXELTYPE      UNSIGNEDINT\nNODATA         9\n",
     ),
     (
-        PLACED,
-        (
-            Out::Raw,
-            "o.bil",
-            &[],
-            Seen::All,
-            None,
-            Word::Nothing,
-            None,
-            Inside::Anywhere,
-        ),
+        "placed",
+        "o.bil",
         b"BYTEORDER      I\nLAYOUT         BIL\nNROWS          3\nNCOLS          2\nNBANDS         2\n\
         NBITS          16\nSKIPBYTES      0\nBANDROWBYTES   4\nTOTALROWBYTES  8\nBANDGAPBYTES   0\n\
         PIXELTYPE      SIGNEDINT\nULXMAP         0.5\nULYMAP         9.75\nXDIM           1\nYDIM           0.5\n",
@@ -55,19 +36,16 @@ fn is_written(alloc: Global, plan: &Plan, wanted: &[u8]) -> Result<bool, AllocEr
     }
 }
 
-fn row_holds(alloc: Global, row: Row<'_>) -> Result<bool, Fail> {
-    let (text, ask, wanted) = row;
-    let options = options(alloc, ask)?;
-    let head = head(alloc, text)?;
-    match plan(&options, &head) {
+fn row_holds(alloc: Global, (source, ask, wanted): Row<'_>) -> Result<bool, Fail> {
+    match planned(alloc, source, ask)? {
         Ok(plan) => Ok(is_written(alloc, &plan, wanted)?),
         Err(_) => Ok(false),
     }
 }
 
-fn wrong_row(alloc: Global) -> Result<Option<usize>, Fail> {
-    for at in 0..HEADERS.len() {
-        if !row_holds(alloc, HEADERS[at])? {
+fn wrong_row(alloc: Global, rows: &[Row<'_>]) -> Result<Option<usize>, Fail> {
+    for at in 0..rows.len() {
+        if !row_holds(alloc, rows[at])? {
             return Ok(Some(at));
         }
     }
@@ -76,6 +54,5 @@ fn wrong_row(alloc: Global) -> Result<Option<usize>, Fail> {
 
 #[test]
 fn heads_of_raw_data(rt: HostRuntime) -> Result<(), Fail> {
-    assert_eq!(rt; wrong_row(rt.alloc())?, None);
-    Ok(())
+    none_wrong(&rt, wrong_row(rt.alloc(), &HEADERS))
 }

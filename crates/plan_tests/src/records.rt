@@ -4,6 +4,7 @@
 ghost use Rattle.dted_records.specs.Fit.{IsPlain};
 
 use crate::cells::{Posts, STILL, cell};
+use crate::plans::none_wrong;
 use dted_records::{DtedHead, encode_record, read_head, write_head};
 use geotransform::Size;
 use std::alloc::{AllocError, Global};
@@ -43,7 +44,7 @@ fn writes_zero() -> bool {
 }
 
 /// The number of the first line that is written otherwise.
-fn wrong_record() -> Option<u8> {
+fn wrong_record() -> Option<usize> {
     if !writes_from_south_to_north() {
         return Some(0);
     }
@@ -60,8 +61,8 @@ fn wrong_record() -> Option<u8> {
 }
 
 #[test]
-fn writes_records(rt: HostRuntime) {
-    assert_eq!(rt; wrong_record(), None);
+fn writes_records(rt: HostRuntime) -> Result<(), Fail> {
+    none_wrong(&rt, Ok(wrong_record()))
 }
 
 /// The level, the size, the posts, the first 80 bytes, and the level's name.
@@ -163,9 +164,9 @@ fn written_holds(alloc: Global, row: Written) -> Result<bool, AllocError> {
     }
 }
 
-fn wrong_head(alloc: Global) -> Result<Option<usize>, AllocError> {
-    for at in 0..WRITTEN.len() {
-        if !written_holds(alloc, WRITTEN[at])? {
+fn wrong_head(alloc: Global, rows: &[Written]) -> Result<Option<usize>, Fail> {
+    for at in 0..rows.len() {
+        if !written_holds(alloc, rows[at])? {
             return Ok(Some(at));
         }
     }
@@ -174,6 +175,5 @@ fn wrong_head(alloc: Global) -> Result<Option<usize>, AllocError> {
 
 #[test]
 fn writes_heads(rt: HostRuntime) -> Result<(), Fail> {
-    assert_eq!(rt; wrong_head(rt.alloc())?, None);
-    Ok(())
+    none_wrong(&rt, wrong_head(rt.alloc(), &WRITTEN))
 }
