@@ -1,4 +1,4 @@
-// What is asked of a mosaic, as tables have it.
+// What words ask of a mosaic.
 ghost use Rattle.std.specs.Prelude.{◌≡◌, IfOk, IfSome};
 ghost use Rattle.std.specs.List.{All};
 ghost use Rattle.geotransform.specs.Geo.{IsNear};
@@ -12,73 +12,65 @@ use outside::Name;
 use std::alloc::{AllocError, Global};
 use std::test::*;
 
-/// The size of the pixels, where none is given.
-#[derive(Clone, Copy)]
-pub enum Grain {
-    Highest,
-    Lowest,
-    Average,
+// What may be asked for behind the name of the document, and how many words it takes: the numbers of the bands; the
+// highest or the lowest resolution in place of the average, or the width and the height of the pixels; the least and the
+// greatest places; NODATA of the sources and that of the bands, or `none`; a band for each input; and that no input is
+// skipped.
+const OPTIONS: [(&str, usize); 9] = [
+    (" bands ", 2),
+    (" highest", 1),
+    (" lowest", 1),
+    (" steps ", 3),
+    (" extent ", 5),
+    (" srcnodata ", 2),
+    (" vrtnodata ", 2),
+    (" separate", 1),
+    (" strict", 1),
+];
+
+fn behind<'a>(text: &'a str, option: &str) -> Option<&'a str> {
+    match text.split_once(option) {
+        Some((_, rest)) => Some(rest),
+        None => None,
+    }
 }
 
-/// What is asked for as NODATA.
-#[derive(Clone, Copy)]
-pub enum Word {
-    Nothing,
-    Remove,
-    Number(i64),
+fn has(text: &str, option: &str) -> bool {
+    behind(text, option).is_some()
 }
 
-/// What is asked of a mosaic.
-#[derive(Clone, Copy)]
-pub struct Ask {
-    /// The name of the document.
-    pub out: &'static str,
-    pub bands: &'static [u8],
-    pub grain: Grain,
-    /// The width and the height of the pixels that are given, or nothing.
-    pub steps: &'static str,
-    /// The least and the greatest places that are given, or nothing.
-    pub extent: &'static str,
-    /// The NODATA of the sources.
-    pub source: Word,
-    /// The NODATA of the bands.
-    pub band: Word,
-    pub separate: bool,
-    pub strict: bool,
+fn first_word(text: &str) -> Option<&str> {
+    let mut words = text.split_ascii_whitespace();
+    words.next()
 }
 
-/// Nothing is asked for but a document.
-pub const PLAIN: Ask = Ask {
-    out: "m.vrt",
-    bands: &[],
-    grain: Grain::Average,
-    steps: "",
-    extent: "",
-    source: Word::Nothing,
-    band: Word::Nothing,
-    separate: false,
-    strict: false,
-};
+fn word_behind<'a>(text: &'a str, option: &str) -> Option<&'a str> {
+    first_word(behind(text, option)?)
+}
 
-/// A band for each input.
-pub const SEPARATE: Ask = Ask {
-    separate: true,
-    ..PLAIN
-};
+// The name and the words of these options that are there.
+fn known_words(text: &str, options: &[(&str, usize)]) -> usize {
+    let mut count = 1usize;
+    for (option, words) in options {
+        if has(text, option) {
+            count = count.saturating_add(*words);
+        }
+    }
+    count
+}
 
-/// No input is skipped.
-pub const STRICT: Ask = Ask {
-    strict: true,
-    ..PLAIN
-};
+// Whether a text has no other words.
+fn is_known(text: &str) -> bool {
+    text.split_ascii_whitespace().count() == known_words(text, &OPTIONS)
+}
 
-fn word_of(word: Word) -> NodataWord
-    ensures { IsWord result }
+fn word_of(word: Option<&str>) -> Option<NodataWord>
+    ensures { IfSome result IsWord }
 {
     match word {
-        Word::Nothing => NodataWord::Absent,
-        Word::Remove => NodataWord::Remove,
-        Word::Number(n) => NodataWord::Number(n as i128),
+        None => Some(NodataWord::Absent),
+        Some("none") => Some(NodataWord::Remove),
+        Some(number) => Some(NodataWord::Number(number.parse::<i64>().ok()? as i128)),
     }
 }
 
@@ -88,13 +80,15 @@ fn step_of(text: Option<&str>) -> Option<Ticks>
     read_decimal(text?.as_bytes())
 }
 
-fn grain_of(grain: Grain) -> Resolution
+fn grain_of(ask: &str) -> Resolution
     ensures { IsResolution result }
 {
-    match grain {
-        Grain::Highest => Resolution::Highest,
-        Grain::Lowest => Resolution::Lowest,
-        Grain::Average => Resolution::Average,
+    if has(ask, " highest") {
+        Resolution::Highest
+    } else if has(ask, " lowest") {
+        Resolution::Lowest
+    } else {
+        Resolution::Average
     }
 }
 
@@ -109,17 +103,23 @@ fn given(dx: Ticks, dy: Ticks) -> Option<Resolution>
     }
 }
 
-/// The size of the pixels: the given one, where there is one.
-fn resolution_of(grain: Grain, text: &str) -> Option<Resolution>
+fn given_in(text: &str) -> Option<Resolution>
     ensures { IfSome result IsResolution }
 {
-    if text.is_empty() {
-        return Some(grain_of(grain));
-    }
     let mut words = text.split_ascii_whitespace();
     let dx = step_of(words.next())?;
     let dy = step_of(words.next())?;
     given(dx, dy)
+}
+
+// The size of the pixels: the given one, where there is one.
+fn resolution_of(ask: &str) -> Option<Resolution>
+    ensures { IfSome result IsResolution }
+{
+    match behind(ask, " steps ") {
+        Some(steps) => given_in(steps),
+        None => Some(grain_of(ask)),
+    }
 }
 
 fn spanned(xmin: Ticks, ymin: Ticks, xmax: Ticks, ymax: Ticks) -> Option<Extent>
@@ -149,14 +149,14 @@ fn extent_in(text: &str) -> Option<Extent>
     spanned(xmin, ymin, xmax, ymax)
 }
 
-/// The extent, where one is given.
-fn extent_of(text: &str) -> Option<Option<Extent>>
+// The extent, where one is given.
+fn extent_of(ask: &str) -> Option<Option<Extent>>
     ensures { IfSome result (λ e. IfSome e IsExtent) }
 {
-    if text.is_empty() {
-        return Some(None);
+    match behind(ask, " extent ") {
+        None => Some(None),
+        Some(places) => Some(Some(extent_in(places)?)),
     }
-    Some(Some(extent_in(text)?))
 }
 
 fn add_number(numbers: &mut Numbers, band: u8) -> Result<(), AllocError>
@@ -171,25 +171,64 @@ fn numbers_of(alloc: Global, bands: &[u8]) -> Result<Numbers, AllocError>
 {
     let mut numbers = Items::new(alloc);
     for band in bands {
-        add_number(&mut numbers, *band)?;
+        if *band != b',' {
+            add_number(&mut numbers, band.saturating_sub(b'0'))?;
+        }
     }
     Ok(numbers)
 }
 
-/// The options of what is asked for.
-pub fn options(alloc: Global, ask: Ask) -> Result<BuildOptions, Fail> {
-    let resolution = resolution_of(ask.grain, ask.steps).ok_or("they are sizes of pixels")?;
-    let extent = extent_of(ask.extent).ok_or("it is an extent")?;
-    let out = Name::read(alloc, ask.out)?;
-    let bands = numbers_of(alloc, ask.bands)?;
+// The numbers of bands, of one digit each, with commas between them.
+fn bands_of(ask: &str) -> &[u8] {
+    match word_behind(ask, " bands ") {
+        Some(word) => word.as_bytes(),
+        None => &[],
+    }
+}
+
+// What is asked for beside the name and the bands.
+#[derive(Clone, Copy)]
+struct Settings {
+    resolution: Resolution,
+    extent: Option<Extent>,
+    source: NodataWord,
+    band: NodataWord,
+}
+
+fn settings_of(ask: &str) -> Option<Settings>
+    ensures resolution { IfSome result (λ s. IsResolution s.resolution) }
+    ensures extent { IfSome result (λ s. IfSome s.extent IsExtent) }
+    ensures source { IfSome result (λ s. IsWord s.source) }
+    ensures band { IfSome result (λ s. IsWord s.band) }
+{
+    let resolution = resolution_of(ask)?;
+    let extent = extent_of(ask)?;
+    let source = word_of(word_behind(ask, " srcnodata "))?;
+    let band = word_of(word_behind(ask, " vrtnodata "))?;
+    if !is_known(ask) {
+        return None;
+    }
+    Some(Settings {
+        resolution,
+        extent,
+        source,
+        band,
+    })
+}
+
+/// The options of the words that ask for them.
+pub fn options(alloc: Global, ask: &str) -> Result<BuildOptions, Fail> {
+    let settings = settings_of(ask).ok_or("it is asked for")?;
+    let out = Name::read(alloc, first_word(ask).unwrap_or(""))?;
+    let bands = numbers_of(alloc, bands_of(ask))?;
     Ok(BuildOptions {
         out,
         bands,
-        resolution,
-        extent,
-        src_nodata: word_of(ask.source),
-        vrt_nodata: word_of(ask.band),
-        separate: ask.separate,
-        strict: ask.strict,
+        resolution: settings.resolution,
+        extent: settings.extent,
+        src_nodata: settings.source,
+        vrt_nodata: settings.band,
+        separate: has(ask, " separate"),
+        strict: has(ask, " strict"),
     })
 }

@@ -1,10 +1,12 @@
 // Mosaics of inputs, as texts: a line for each skipped input, and then the document or lines of it; or the refusal.
-use crate::asking::{Ask, options};
+use crate::asking::options;
+use crate::inputs::folder;
 use buildvrt::{BuildFault, BuildOptions, Reason, Skipped, mosaic};
 use catalog::{Head, head_of};
 use lists_and_answers::{Items, push_all};
 use outside::{MemFolder, Name};
 use std::alloc::{AllocError, Global};
+use std::process::Abort;
 use std::test::*;
 use vrt_profile::{Document, write};
 
@@ -13,7 +15,7 @@ use vrt_profile::{Document, write};
 pub struct Case {
     pub what: &'static str,
     pub inputs: &'static str,
-    pub ask: Ask,
+    pub ask: &'static str,
     pub wanted: &'static str,
 }
 
@@ -26,10 +28,20 @@ fn head_in(alloc: Global, folder: &mut MemFolder, name: &str) -> Result<Head, Fa
     )
 }
 
+fn push_head(
+    alloc: Global,
+    folder: &mut MemFolder,
+    name: &str,
+    heads: &mut Items<Head>,
+) -> Result<(), Fail> {
+    heads.push(head_in(alloc, folder, name)?)?;
+    Ok(())
+}
+
 fn heads_in(alloc: Global, folder: &mut MemFolder, inputs: &str) -> Result<Items<Head>, Fail> {
     let mut heads = Items::new(alloc);
     for name in inputs.split_ascii_whitespace() {
-        heads.push(head_in(alloc, folder, name)?)?;
+        push_head(alloc, folder, name, &mut heads)?;
     }
     Ok(heads)
 }
@@ -133,12 +145,24 @@ fn push_mosaic(
     }
 }
 
-// Whether a case comes as it is to be.
-fn holds(alloc: Global, folder: &mut MemFolder, case: Case, fronts: &[&str]) -> Result<bool, Fail> {
+// Adds what comes of a case.
+fn push_case(
+    alloc: Global,
+    folder: &mut MemFolder,
+    case: Case,
+    fronts: &[&str],
+    out: &mut Vec<u8>,
+) -> Result<(), Fail> {
     let options = options(alloc, case.ask)?;
     let heads = heads_in(alloc, folder, case.inputs)?;
+    push_mosaic(alloc, heads.as_slice(), &options, fronts, out)?;
+    Ok(())
+}
+
+// Whether a case comes as it is to be.
+fn holds(alloc: Global, folder: &mut MemFolder, case: Case, fronts: &[&str]) -> Result<bool, Fail> {
     let mut out = Vec::new(alloc);
-    push_mosaic(alloc, heads.as_slice(), &options, fronts, &mut out)?;
+    push_case(alloc, folder, case, fronts, &mut out)?;
     Ok(out.as_slice() == case.wanted.as_bytes())
 }
 
@@ -156,4 +180,24 @@ pub fn wrong_case(
         }
     }
     Ok(None)
+}
+
+fn wrong_in(alloc: Global, cases: &[Case], fronts: &[&str]) -> Result<Option<&'static str>, Fail> {
+    wrong_case(alloc, &mut folder(alloc)?, cases, fronts)
+}
+
+/// Asserts that no case is wrong.
+pub fn none_wrong(rt: &impl Abort, wrong: Result<Option<&'static str>, Fail>) -> Result<(), Fail> {
+    assert_eq!(*rt; wrong?, None);
+    Ok(())
+}
+
+/// Asserts that cases over the datasets of all tests come as they are to be.
+pub fn all_come(
+    rt: &impl Abort,
+    alloc: Global,
+    cases: &[Case],
+    fronts: &[&str],
+) -> Result<(), Fail> {
+    none_wrong(rt, wrong_in(alloc, cases, fronts))
 }

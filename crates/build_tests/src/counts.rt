@@ -4,7 +4,7 @@ ghost use Rattle.std.specs.Prelude.{◌≡◌, IfOk};
 ghost use Rattle.std.specs.List.{All};
 ghost use Rattle.buildvrt.specs.Options.{IsBandNumber};
 
-use crate::asking::{PLAIN, SEPARATE, options};
+use crate::asking::options;
 use crate::inputs::folder;
 use buildvrt::{BuildFault, BuildOptions, Input, Numbers, mosaic_of_inputs};
 use catalog::{Head, head_of};
@@ -119,7 +119,11 @@ fn firsts(alloc: Global, count: usize) -> Result<Numbers, AllocError>
 }
 
 fn options_of(alloc: Global, count: Count) -> Result<BuildOptions, Fail> {
-    let ask = if count.separate { SEPARATE } else { PLAIN };
+    let ask = if count.separate {
+        "m.vrt separate"
+    } else {
+        "m.vrt"
+    };
     let plain = options(alloc, ask)?;
     let bands = firsts(alloc, count.chosen)?;
     Ok(BuildOptions { bands, ..plain })
@@ -179,10 +183,10 @@ fn count_holds(alloc: Global, count: Count) -> Result<bool, Fail> {
     Ok(comes(alloc, inputs.as_slice(), &options, count))
 }
 
-/// The first row that doesn't hold.
-fn wrong_count(alloc: Global) -> Result<Option<usize>, Fail> {
-    for at in 0..COUNTS.len() {
-        if !count_holds(alloc, COUNTS[at])? {
+// The first row that doesn't hold.
+fn wrong_count(alloc: Global, counts: &[Count]) -> Result<Option<usize>, Fail> {
+    for at in 0..counts.len() {
+        if !count_holds(alloc, counts[at])? {
             return Ok(Some(at));
         }
     }
@@ -191,6 +195,6 @@ fn wrong_count(alloc: Global) -> Result<Option<usize>, Fail> {
 
 #[test]
 fn counts_of_bands_and_sources(rt: HostRuntime) -> Result<(), Fail> {
-    assert_eq!(rt; wrong_count(rt.alloc())?, None);
+    assert_eq!(rt; wrong_count(rt.alloc(), &COUNTS)?, None);
     Ok(())
 }

@@ -1,8 +1,7 @@
 // The documents of mosaics, byte for byte.
-use crate::asking::{Ask, PLAIN, SEPARATE, STRICT};
-use crate::cases::{Case, wrong_case};
-use crate::inputs::folder;
-use outside::{MemFolder, Name};
+use crate::cases::{Case, all_come, none_wrong, wrong_case};
+use crate::inputs::{folder, put};
+use outside::MemFolder;
 use std::alloc::Global;
 use std::test::*;
 
@@ -10,11 +9,7 @@ static DOCUMENTS: [Case; 4] = [
     Case {
         what: "separate inputs, the first of which is left out",
         inputs: "one.vrt fine.vrt",
-        ask: Ask {
-            steps: "1 1",
-            extent: "4 0 6 2",
-            ..SEPARATE
-        },
+        ask: "m.vrt steps 1 1 extent 4 0 6 2 separate",
         wanted: "<VRTDataset rasterXSize=\"2\" rasterYSize=\"2\">
   <GeoTransform>4, 1, 0, 2, 0, -1</GeoTransform>
   <VRTRasterBand dataType=\"Byte\" band=\"1\">
@@ -33,10 +28,7 @@ static DOCUMENTS: [Case; 4] = [
     Case {
         what: "a coordinate system, and two chosen bands of one input",
         inputs: "x_pair.vrt",
-        ask: Ask {
-            bands: &[2, 1, 2],
-            ..PLAIN
-        },
+        ask: "m.vrt bands 2,1,2",
         wanted: "<VRTDataset rasterXSize=\"2\" rasterYSize=\"1\">
   <SRS>X&lt;1&gt;</SRS>
   <GeoTransform>2, 1, 0, 1, 0, -1</GeoTransform>
@@ -70,10 +62,7 @@ static DOCUMENTS: [Case; 4] = [
     Case {
         what: "inputs beside the document and in other folders",
         inputs: "d/c.vrt seven.vrt",
-        ask: Ask {
-            out: "d/m.vrt",
-            ..STRICT
-        },
+        ask: "d/m.vrt strict",
         wanted: "<VRTDataset rasterXSize=\"4\" rasterYSize=\"1\">
   <GeoTransform>2, 1, 0, 1, 0, -1</GeoTransform>
   <VRTRasterBand dataType=\"Byte\" band=\"1\">
@@ -97,10 +86,7 @@ static DOCUMENTS: [Case; 4] = [
     Case {
         what: "a document whose name begins at the root",
         inputs: "empty.vrt empty.vrt",
-        ask: Ask {
-            out: "/d/m.vrt",
-            ..PLAIN
-        },
+        ask: "/d/m.vrt",
         wanted: "<VRTDataset rasterXSize=\"2\" rasterYSize=\"1\">
   <SRS></SRS>
   <GeoTransform>0, 1, 0, 1, 0, -1</GeoTransform>
@@ -123,14 +109,9 @@ static DOCUMENTS: [Case; 4] = [
     },
 ];
 
-fn wrong(alloc: Global) -> Result<Option<&'static str>, Fail> {
-    wrong_case(alloc, &mut folder(alloc)?, &DOCUMENTS, &[])
-}
-
 #[test]
 fn documents(rt: HostRuntime) -> Result<(), Fail> {
-    assert_eq!(rt; wrong(rt.alloc())?, None);
-    Ok(())
+    all_come(&rt, rt.alloc(), &DOCUMENTS, &[])
 }
 
 // Two tiles that lie side by side, and a raster of two bands.
@@ -138,10 +119,7 @@ static TILES: [Case; 2] = [
     Case {
         what: "two tiles, and a raster that is skipped",
         inputs: "N00E000.hgt N00E001.hgt two.bil",
-        ask: Ask {
-            out: "out.vrt",
-            ..PLAIN
-        },
+        ask: "out.vrt",
         wanted: "two.bil bands
 <VRTDataset rasterXSize=\"2401\" rasterYSize=\"1201\">
   <GeoTransform>-0.0004166666666667, 0.0008333333333333, 0, 1.0004166666666667, 0, -0.0008333333333333</GeoTransform>
@@ -168,26 +146,26 @@ static TILES: [Case; 2] = [
     Case {
         what: "strictly",
         inputs: "N00E000.hgt N00E001.hgt two.bil",
-        ask: STRICT,
+        ask: "m.vrt strict",
         wanted: "strictly two.bil bands\n",
     },
 ];
 
 fn put_tiles(alloc: Global, folder: &mut MemFolder) -> Result<(), Fail> {
     let bytes = vec![in alloc; 0u8; 2_884_802]?;
-    folder.put(&Name::read(alloc, "N00E000.hgt")?, &bytes)?;
-    folder.put(&Name::read(alloc, "N00E001.hgt")?, &bytes)?;
-    Ok(())
+    put(alloc, folder, "N00E000.hgt", &bytes)?;
+    put(alloc, folder, "N00E001.hgt", &bytes)
 }
 
 // The raster has a place: its header says so.
 fn put_raster(alloc: Global, folder: &mut MemFolder) -> Result<(), Fail> {
-    folder.put(&Name::read(alloc, "two.bil")?, b"12")?;
-    folder.put(
-        &Name::read(alloc, "two.hdr")?,
+    put(alloc, folder, "two.bil", b"12")?;
+    put(
+        alloc,
+        folder,
+        "two.hdr",
         b"NROWS 1\nNCOLS 1\nNBANDS 2\nULXMAP 0\nULYMAP 0\n",
-    )?;
-    Ok(())
+    )
 }
 
 fn wrong_tile(alloc: Global) -> Result<Option<&'static str>, Fail> {
@@ -199,6 +177,5 @@ fn wrong_tile(alloc: Global) -> Result<Option<&'static str>, Fail> {
 
 #[test]
 fn two_tiles(rt: HostRuntime) -> Result<(), Fail> {
-    assert_eq!(rt; wrong_tile(rt.alloc())?, None);
-    Ok(())
+    none_wrong(&rt, wrong_tile(rt.alloc()))
 }

@@ -1,15 +1,12 @@
 // The grids of mosaics, the rectangles of their inputs, and their limits.
-use crate::asking::{Ask, Grain, PLAIN, SEPARATE};
-use crate::cases::{Case, wrong_case};
-use crate::inputs::folder;
-use std::alloc::Global;
+use crate::cases::{Case, all_come};
 use std::test::*;
 
 static GRIDS: [Case; 23] = [
     Case {
         what: "one input",
         inputs: "one.vrt",
-        ask: PLAIN,
+        ask: "m.vrt",
         wanted: "<VRTDataset rasterXSize=\"4\" rasterYSize=\"2\">
 <GeoTransform>0, 1, 0, 2, 0, -1</GeoTransform>
 <DstRect xOff=\"0\" yOff=\"0\" xSize=\"4\" ySize=\"2\"/>
@@ -18,7 +15,7 @@ static GRIDS: [Case; 23] = [
     Case {
         what: "the union of two places",
         inputs: "one.vrt west_and_south.vrt",
-        ask: PLAIN,
+        ask: "m.vrt",
         wanted: "<VRTDataset rasterXSize=\"7\" rasterYSize=\"10\">
 <GeoTransform>-3, 1, 0, 2, 0, -1</GeoTransform>
 <DstRect xOff=\"3\" yOff=\"0\" xSize=\"4\" ySize=\"2\"/>
@@ -28,10 +25,7 @@ static GRIDS: [Case; 23] = [
     Case {
         what: "highest",
         inputs: "one.vrt fine.vrt",
-        ask: Ask {
-            grain: Grain::Highest,
-            ..PLAIN
-        },
+        ask: "m.vrt highest",
         wanted: "<VRTDataset rasterXSize=\"12\" rasterYSize=\"4\">
 <GeoTransform>0, 0.5, 0, 2, 0, -0.5</GeoTransform>
 <DstRect xOff=\"0\" yOff=\"0\" xSize=\"8\" ySize=\"4\"/>
@@ -41,10 +35,7 @@ static GRIDS: [Case; 23] = [
     Case {
         what: "lowest",
         inputs: "one.vrt fine.vrt",
-        ask: Ask {
-            grain: Grain::Lowest,
-            ..PLAIN
-        },
+        ask: "m.vrt lowest",
         wanted: "<VRTDataset rasterXSize=\"6\" rasterYSize=\"2\">
 <GeoTransform>0, 1, 0, 2, 0, -1</GeoTransform>
 <DstRect xOff=\"0\" yOff=\"0\" xSize=\"4\" ySize=\"2\"/>
@@ -54,7 +45,7 @@ static GRIDS: [Case; 23] = [
     Case {
         what: "average",
         inputs: "one.vrt fine.vrt",
-        ask: PLAIN,
+        ask: "m.vrt",
         wanted: "<VRTDataset rasterXSize=\"8\" rasterYSize=\"3\">
 <GeoTransform>0, 0.75, 0, 2, 0, -0.75</GeoTransform>
 <DstRect xOff=\"0\" yOff=\"0\" xSize=\"5\" ySize=\"3\"/>
@@ -64,10 +55,7 @@ static GRIDS: [Case; 23] = [
     Case {
         what: "highest of each axis",
         inputs: "one.vrt flat.vrt",
-        ask: Ask {
-            grain: Grain::Highest,
-            ..PLAIN
-        },
+        ask: "m.vrt highest",
         wanted: "<VRTDataset rasterXSize=\"10\" rasterYSize=\"8\">
 <GeoTransform>0, 1, 0, 2, 0, -0.25</GeoTransform>
 <DstRect xOff=\"0\" yOff=\"0\" xSize=\"4\" ySize=\"8\"/>
@@ -77,10 +65,7 @@ static GRIDS: [Case; 23] = [
     Case {
         what: "lowest of each axis",
         inputs: "one.vrt flat.vrt",
-        ask: Ask {
-            grain: Grain::Lowest,
-            ..PLAIN
-        },
+        ask: "m.vrt lowest",
         wanted: "<VRTDataset rasterXSize=\"5\" rasterYSize=\"2\">
 <GeoTransform>0, 2, 0, 2, 0, -1</GeoTransform>
 <DstRect xOff=\"0\" yOff=\"0\" xSize=\"2\" ySize=\"2\"/>
@@ -90,7 +75,7 @@ static GRIDS: [Case; 23] = [
     Case {
         what: "average of each axis",
         inputs: "one.vrt flat.vrt",
-        ask: PLAIN,
+        ask: "m.vrt",
         wanted: "<VRTDataset rasterXSize=\"7\" rasterYSize=\"3\">
 <GeoTransform>0, 1.5, 0, 2, 0, -0.625</GeoTransform>
 <DstRect xOff=\"0\" yOff=\"0\" xSize=\"3\" ySize=\"3\"/>
@@ -100,10 +85,7 @@ static GRIDS: [Case; 23] = [
     Case {
         what: "given pixels",
         inputs: "one.vrt fine.vrt",
-        ask: Ask {
-            steps: "2 1",
-            ..PLAIN
-        },
+        ask: "m.vrt steps 2 1",
         wanted: "<VRTDataset rasterXSize=\"3\" rasterYSize=\"2\">
 <GeoTransform>0, 2, 0, 2, 0, -1</GeoTransform>
 <DstRect xOff=\"0\" yOff=\"0\" xSize=\"2\" ySize=\"2\"/>
@@ -113,10 +95,7 @@ static GRIDS: [Case; 23] = [
     Case {
         what: "a skipped input counts nowhere",
         inputs: "one.vrt small_int.vrt",
-        ask: Ask {
-            grain: Grain::Highest,
-            ..PLAIN
-        },
+        ask: "m.vrt highest",
         wanted: "small_int.vrt type
 <VRTDataset rasterXSize=\"4\" rasterYSize=\"2\">
 <GeoTransform>0, 1, 0, 2, 0, -1</GeoTransform>
@@ -126,7 +105,7 @@ static GRIDS: [Case; 23] = [
     Case {
         what: "a mean of three, and an offset before rounding",
         inputs: "three.vrt double.vrt double.vrt",
-        ask: PLAIN,
+        ask: "m.vrt",
         wanted: "<VRTDataset rasterXSize=\"5\" rasterYSize=\"4\">
 <GeoTransform>0, 1.6666666666666667, 0, 0, 0, -1.6666666666666667</GeoTransform>
 <DstRect xOff=\"0\" yOff=\"0\" xSize=\"2\" ySize=\"2\"/>
@@ -137,7 +116,7 @@ static GRIDS: [Case; 23] = [
     Case {
         what: "a mean of four at half a tick",
         inputs: "least.vrt least.vrt least.vrt twice_least.vrt",
-        ask: PLAIN,
+        ask: "m.vrt",
         wanted: "<VRTDataset rasterXSize=\"157\" rasterYSize=\"2\">
 <GeoTransform>0, 0.0000000000000001, 0, 0, 0, -0.0000000000000001</GeoTransform>
 <DstRect xOff=\"0\" yOff=\"0\" xSize=\"78\" ySize=\"1\"/>
@@ -149,10 +128,7 @@ static GRIDS: [Case; 23] = [
     Case {
         what: "an extent within",
         inputs: "one.vrt",
-        ask: Ask {
-            extent: "1 0 3 1",
-            ..PLAIN
-        },
+        ask: "m.vrt extent 1 0 3 1",
         wanted: "<VRTDataset rasterXSize=\"2\" rasterYSize=\"1\">
 <GeoTransform>1, 1, 0, 1, 0, -1</GeoTransform>
 <DstRect xOff=\"-1\" yOff=\"-1\" xSize=\"4\" ySize=\"2\"/>
@@ -161,10 +137,7 @@ static GRIDS: [Case; 23] = [
     Case {
         what: "an extent around",
         inputs: "one.vrt",
-        ask: Ask {
-            extent: "-2 -1 5 4",
-            ..PLAIN
-        },
+        ask: "m.vrt extent -2 -1 5 4",
         wanted: "<VRTDataset rasterXSize=\"7\" rasterYSize=\"5\">
 <GeoTransform>-2, 1, 0, 4, 0, -1</GeoTransform>
 <DstRect xOff=\"2\" yOff=\"2\" xSize=\"4\" ySize=\"2\"/>
@@ -173,10 +146,7 @@ static GRIDS: [Case; 23] = [
     Case {
         what: "an extent with halves",
         inputs: "one.vrt",
-        ask: Ask {
-            extent: "0.5 0 3 1.5",
-            ..PLAIN
-        },
+        ask: "m.vrt extent 0.5 0 3 1.5",
         wanted: "<VRTDataset rasterXSize=\"3\" rasterYSize=\"2\">
 <GeoTransform>0.5, 1, 0, 1.5, 0, -1</GeoTransform>
 <DstRect xOff=\"0\" yOff=\"0\" xSize=\"4\" ySize=\"2\"/>
@@ -185,10 +155,7 @@ static GRIDS: [Case; 23] = [
     Case {
         what: "an extent with less than halves",
         inputs: "one.vrt",
-        ask: Ask {
-            extent: "0.75 0 3 1.25",
-            ..PLAIN
-        },
+        ask: "m.vrt extent 0.75 0 3 1.25",
         wanted: "<VRTDataset rasterXSize=\"2\" rasterYSize=\"1\">
 <GeoTransform>0.75, 1, 0, 1.25, 0, -1</GeoTransform>
 <DstRect xOff=\"-1\" yOff=\"-1\" xSize=\"4\" ySize=\"2\"/>
@@ -197,10 +164,7 @@ static GRIDS: [Case; 23] = [
     Case {
         what: "an extent of less than half a pixel",
         inputs: "one.vrt",
-        ask: Ask {
-            extent: "0 1.75 0.25 2",
-            ..PLAIN
-        },
+        ask: "m.vrt extent 0 1.75 0.25 2",
         wanted: "<VRTDataset rasterXSize=\"1\" rasterYSize=\"1\">
 <GeoTransform>0, 1, 0, 2, 0, -1</GeoTransform>
 <DstRect xOff=\"0\" yOff=\"0\" xSize=\"4\" ySize=\"2\"/>
@@ -209,10 +173,7 @@ static GRIDS: [Case; 23] = [
     Case {
         what: "an input of less than half a pixel",
         inputs: "one.vrt",
-        ask: Ask {
-            steps: "100 100",
-            ..PLAIN
-        },
+        ask: "m.vrt steps 100 100",
         wanted: "<VRTDataset rasterXSize=\"1\" rasterYSize=\"1\">
 <GeoTransform>0, 100, 0, 2, 0, -100</GeoTransform>
 <DstRect xOff=\"0\" yOff=\"0\" xSize=\"1\" ySize=\"1\"/>
@@ -221,11 +182,7 @@ static GRIDS: [Case; 23] = [
     Case {
         what: "left out in the west",
         inputs: "one.vrt fine.vrt",
-        ask: Ask {
-            steps: "1 1",
-            extent: "4 0 6 2",
-            ..PLAIN
-        },
+        ask: "m.vrt steps 1 1 extent 4 0 6 2",
         wanted: "<VRTDataset rasterXSize=\"2\" rasterYSize=\"2\">
 <GeoTransform>4, 1, 0, 2, 0, -1</GeoTransform>
 <DstRect xOff=\"0\" yOff=\"0\" xSize=\"2\" ySize=\"2\"/>
@@ -234,10 +191,7 @@ static GRIDS: [Case; 23] = [
     Case {
         what: "left out in the east, and still part of the mean",
         inputs: "one.vrt fine.vrt",
-        ask: Ask {
-            extent: "0 0 4 2",
-            ..PLAIN
-        },
+        ask: "m.vrt extent 0 0 4 2",
         wanted: "<VRTDataset rasterXSize=\"5\" rasterYSize=\"3\">
 <GeoTransform>0, 0.75, 0, 2, 0, -0.75</GeoTransform>
 <DstRect xOff=\"0\" yOff=\"0\" xSize=\"5\" ySize=\"3\"/>
@@ -246,10 +200,7 @@ static GRIDS: [Case; 23] = [
     Case {
         what: "left out in the north",
         inputs: "one.vrt west_and_south.vrt",
-        ask: Ask {
-            extent: "-3 -8 4 0",
-            ..PLAIN
-        },
+        ask: "m.vrt extent -3 -8 4 0",
         wanted: "<VRTDataset rasterXSize=\"7\" rasterYSize=\"8\">
 <GeoTransform>-3, 1, 0, 0, 0, -1</GeoTransform>
 <DstRect xOff=\"0\" yOff=\"7\" xSize=\"1\" ySize=\"1\"/>
@@ -258,10 +209,7 @@ static GRIDS: [Case; 23] = [
     Case {
         what: "left out in the south",
         inputs: "one.vrt west_and_south.vrt",
-        ask: Ask {
-            extent: "-3 -7 4 2",
-            ..PLAIN
-        },
+        ask: "m.vrt extent -3 -7 4 2",
         wanted: "<VRTDataset rasterXSize=\"7\" rasterYSize=\"9\">
 <GeoTransform>-3, 1, 0, 2, 0, -1</GeoTransform>
 <DstRect xOff=\"3\" yOff=\"0\" xSize=\"4\" ySize=\"2\"/>
@@ -270,10 +218,7 @@ static GRIDS: [Case; 23] = [
     Case {
         what: "all are left out",
         inputs: "one.vrt",
-        ask: Ask {
-            extent: "10 0 12 2",
-            ..PLAIN
-        },
+        ask: "m.vrt extent 10 0 12 2",
         wanted: "<VRTDataset rasterXSize=\"2\" rasterYSize=\"2\">
 <GeoTransform>10, 1, 0, 2, 0, -1</GeoTransform>
 ",
@@ -284,7 +229,7 @@ static LIMITS: [Case; 17] = [
     Case {
         what: "the greatest sides",
         inputs: "origin.vrt last.vrt",
-        ask: PLAIN,
+        ask: "m.vrt",
         wanted: "<VRTDataset rasterXSize=\"4194304\" rasterYSize=\"4194304\">
 <GeoTransform>0, 1, 0, 0, 0, -1</GeoTransform>
 <DstRect xOff=\"0\" yOff=\"0\" xSize=\"1\" ySize=\"1\"/>
@@ -294,23 +239,19 @@ static LIMITS: [Case; 17] = [
     Case {
         what: "a column more",
         inputs: "origin.vrt far.vrt",
-        ask: PLAIN,
+        ask: "m.vrt",
         wanted: "limit\n",
     },
     Case {
         what: "a line more",
         inputs: "origin.vrt south.vrt",
-        ask: PLAIN,
+        ask: "m.vrt",
         wanted: "limit\n",
     },
     Case {
         what: "a given extent of the greatest width",
         inputs: "origin.vrt",
-        ask: Ask {
-            steps: "1 1",
-            extent: "0 -1 4194304.4 0",
-            ..PLAIN
-        },
+        ask: "m.vrt steps 1 1 extent 0 -1 4194304.4 0",
         wanted: "<VRTDataset rasterXSize=\"4194304\" rasterYSize=\"1\">
 <GeoTransform>0, 1, 0, 0, 0, -1</GeoTransform>
 <DstRect xOff=\"0\" yOff=\"0\" xSize=\"1\" ySize=\"1\"/>
@@ -319,42 +260,31 @@ static LIMITS: [Case; 17] = [
     Case {
         what: "a given extent of half a pixel more",
         inputs: "origin.vrt",
-        ask: Ask {
-            steps: "1 1",
-            extent: "0 -1 4194304.5 0",
-            ..PLAIN
-        },
+        ask: "m.vrt steps 1 1 extent 0 -1 4194304.5 0",
         wanted: "limit\n",
     },
     Case {
         what: "a given extent of a line more",
         inputs: "origin.vrt",
-        ask: Ask {
-            steps: "1 1",
-            extent: "0 -4194304.5 1 0",
-            ..PLAIN
-        },
+        ask: "m.vrt steps 1 1 extent 0 -4194304.5 1 0",
         wanted: "limit\n",
     },
     Case {
         what: "small pixels",
         inputs: "origin.vrt",
-        ask: Ask {
-            steps: "0.0000000000000001 1",
-            ..PLAIN
-        },
+        ask: "m.vrt steps 0.0000000000000001 1",
         wanted: "limit\n",
     },
     Case {
         what: "a west side that rounds to the limit of places",
         inputs: "at_the_end.bil",
-        ask: PLAIN,
+        ask: "m.vrt",
         wanted: "limit\n",
     },
     Case {
         what: "a west side that rounds to the last place",
         inputs: "near_the_end.bil",
-        ask: PLAIN,
+        ask: "m.vrt",
         wanted: "<VRTDataset rasterXSize=\"1\" rasterYSize=\"1\">
 <GeoTransform>-999999999999.9999999999999999, 0.0000000000000001, 0, 0.5, 0, -1</GeoTransform>
 <DstRect xOff=\"0\" yOff=\"0\" xSize=\"1\" ySize=\"1\"/>
@@ -363,17 +293,13 @@ static LIMITS: [Case; 17] = [
     Case {
         what: "a top that rounds to the limit of places",
         inputs: "at_the_top.bil",
-        ask: PLAIN,
+        ask: "m.vrt",
         wanted: "limit\n",
     },
     Case {
         what: "the widest rectangle",
         inputs: "wide.vrt",
-        ask: Ask {
-            steps: "1 1",
-            extent: "0 0 1 1",
-            ..PLAIN
-        },
+        ask: "m.vrt steps 1 1 extent 0 0 1 1",
         wanted: "<VRTDataset rasterXSize=\"1\" rasterYSize=\"1\">
 <GeoTransform>0, 1, 0, 1, 0, -1</GeoTransform>
 <DstRect xOff=\"0\" yOff=\"0\" xSize=\"8388608\" ySize=\"1\"/>
@@ -382,31 +308,19 @@ static LIMITS: [Case; 17] = [
     Case {
         what: "a wider rectangle",
         inputs: "wide.vrt",
-        ask: Ask {
-            steps: "0.9999999 1",
-            extent: "0 0 1 1",
-            ..PLAIN
-        },
+        ask: "m.vrt steps 0.9999999 1 extent 0 0 1 1",
         wanted: "limit\n",
     },
     Case {
         what: "a wider rectangle, separate",
         inputs: "wide.vrt",
-        ask: Ask {
-            steps: "0.9999999 1",
-            extent: "0 0 1 1",
-            ..SEPARATE
-        },
+        ask: "m.vrt steps 0.9999999 1 extent 0 0 1 1 separate",
         wanted: "limit\n",
     },
     Case {
         what: "a wider rectangle that is left out",
         inputs: "wide.vrt",
-        ask: Ask {
-            steps: "0.5 1",
-            extent: "-10 0 -9 1",
-            ..PLAIN
-        },
+        ask: "m.vrt steps 0.5 1 extent -10 0 -9 1",
         wanted: "<VRTDataset rasterXSize=\"2\" rasterYSize=\"1\">
 <GeoTransform>-10, 0.5, 0, 1, 0, -1</GeoTransform>
 ",
@@ -414,11 +328,7 @@ static LIMITS: [Case; 17] = [
     Case {
         what: "the highest rectangle",
         inputs: "tall.vrt",
-        ask: Ask {
-            steps: "1 1",
-            extent: "0 0 1 1",
-            ..PLAIN
-        },
+        ask: "m.vrt steps 1 1 extent 0 0 1 1",
         wanted: "<VRTDataset rasterXSize=\"1\" rasterYSize=\"1\">
 <GeoTransform>0, 1, 0, 1, 0, -1</GeoTransform>
 <DstRect xOff=\"0\" yOff=\"0\" xSize=\"1\" ySize=\"8388608\"/>
@@ -427,39 +337,25 @@ static LIMITS: [Case; 17] = [
     Case {
         what: "a higher rectangle",
         inputs: "tall.vrt",
-        ask: Ask {
-            steps: "1 0.9999999",
-            extent: "0 0 1 1",
-            ..PLAIN
-        },
+        ask: "m.vrt steps 1 0.9999999 extent 0 0 1 1",
         wanted: "limit\n",
     },
     Case {
         what: "a higher rectangle behind one that fits",
         inputs: "origin.vrt tall.vrt",
-        ask: Ask {
-            steps: "1 0.9999999",
-            extent: "0 -1 1 1",
-            ..PLAIN
-        },
+        ask: "m.vrt steps 1 0.9999999 extent 0 -1 1 1",
         wanted: "limit\n",
     },
 ];
 
 static PLACES: [&str; 3] = ["<VRTDataset", "<GeoTransform", "<DstRect"];
 
-fn wrong(alloc: Global, cases: &[Case]) -> Result<Option<&'static str>, Fail> {
-    wrong_case(alloc, &mut folder(alloc)?, cases, &PLACES)
-}
-
 #[test]
 fn grids(rt: HostRuntime) -> Result<(), Fail> {
-    assert_eq!(rt; wrong(rt.alloc(), &GRIDS)?, None);
-    Ok(())
+    all_come(&rt, rt.alloc(), &GRIDS, &PLACES)
 }
 
 #[test]
 fn limits(rt: HostRuntime) -> Result<(), Fail> {
-    assert_eq!(rt; wrong(rt.alloc(), &LIMITS)?, None);
-    Ok(())
+    all_come(&rt, rt.alloc(), &LIMITS, &PLACES)
 }

@@ -192,9 +192,23 @@ static FAR: [FileOf; 8] = [
     ),
 ];
 
+/// Puts a file into a folder.
+pub fn put(alloc: Global, folder: &mut MemFolder, name: &str, bytes: &[u8]) -> Result<(), Fail> {
+    let name = Name::read(alloc, name)?;
+    folder.put(&name, bytes)?;
+    Ok(())
+}
+
 fn put_all(alloc: Global, folder: &mut MemFolder, files: &[FileOf]) -> Result<(), Fail> {
     for (name, text) in files {
-        folder.put(&Name::read(alloc, name)?, text.as_bytes())?;
+        put(alloc, folder, name, text.as_bytes())?;
+    }
+    Ok(())
+}
+
+fn put_each(alloc: Global, folder: &mut MemFolder, lists: &[&[FileOf]]) -> Result<(), Fail> {
+    for files in lists {
+        put_all(alloc, folder, files)?;
     }
     Ok(())
 }
@@ -202,10 +216,10 @@ fn put_all(alloc: Global, folder: &mut MemFolder, files: &[FileOf]) -> Result<()
 /// A folder with these datasets.
 pub fn folder(alloc: Global) -> Result<MemFolder, Fail> {
     let mut folder = MemFolder::new(alloc, Listed::new(Items::new(alloc)));
-    put_all(alloc, &mut folder, &PLAIN)?;
-    put_all(alloc, &mut folder, &NAMED)?;
-    put_all(alloc, &mut folder, &MARKED)?;
-    put_all(alloc, &mut folder, &PLACED)?;
-    put_all(alloc, &mut folder, &FAR)?;
+    put_each(
+        alloc,
+        &mut folder,
+        &[&PLAIN, &NAMED, &MARKED, &PLACED, &FAR],
+    )?;
     Ok(folder)
 }

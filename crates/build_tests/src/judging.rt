@@ -1,35 +1,12 @@
 // Which inputs are skipped, and why: the bands of the documents, and their files.
-use crate::asking::{Ask, PLAIN, SEPARATE, STRICT};
-use crate::cases::{Case, wrong_case};
-use crate::inputs::folder;
-use std::alloc::Global;
+use crate::cases::{Case, all_come};
 use std::test::*;
-
-const FIRST: Ask = Ask {
-    bands: &[1],
-    ..PLAIN
-};
-
-const SECOND: Ask = Ask {
-    bands: &[2],
-    ..PLAIN
-};
-
-const TURNED: Ask = Ask {
-    bands: &[2, 1],
-    ..PLAIN
-};
-
-const THIRD: Ask = Ask {
-    bands: &[1, 3],
-    ..PLAIN
-};
 
 static SKIPPED: [Case; 27] = [
     Case {
         what: "none",
         inputs: "a.vrt b.vrt",
-        ask: PLAIN,
+        ask: "m.vrt",
         wanted: "<VRTRasterBand dataType=\"Byte\" band=\"1\">
 <SourceFilename relativeToVRT=\"1\">a.vrt</SourceFilename>
 <SourceFilename relativeToVRT=\"1\">b.vrt</SourceFilename>
@@ -38,7 +15,7 @@ static SKIPPED: [Case; 27] = [
     Case {
         what: "an input twice",
         inputs: "a.vrt a.vrt",
-        ask: STRICT,
+        ask: "m.vrt strict",
         wanted: "<VRTRasterBand dataType=\"Byte\" band=\"1\">
 <SourceFilename relativeToVRT=\"1\">a.vrt</SourceFilename>
 <SourceFilename relativeToVRT=\"1\">a.vrt</SourceFilename>
@@ -47,7 +24,7 @@ static SKIPPED: [Case; 27] = [
     Case {
         what: "no geotransform",
         inputs: "a.vrt placeless.vrt b.vrt",
-        ask: PLAIN,
+        ask: "m.vrt",
         wanted: "placeless.vrt geotransform
 <VRTRasterBand dataType=\"Byte\" band=\"1\">
 <SourceFilename relativeToVRT=\"1\">a.vrt</SourceFilename>
@@ -57,7 +34,7 @@ static SKIPPED: [Case; 27] = [
     Case {
         what: "columns that go west",
         inputs: "a.vrt west.vrt",
-        ask: PLAIN,
+        ask: "m.vrt",
         wanted: "west.vrt geotransform
 <VRTRasterBand dataType=\"Byte\" band=\"1\">
 <SourceFilename relativeToVRT=\"1\">a.vrt</SourceFilename>
@@ -66,7 +43,7 @@ static SKIPPED: [Case; 27] = [
     Case {
         what: "lines that go north",
         inputs: "north.vrt a.vrt",
-        ask: PLAIN,
+        ask: "m.vrt",
         wanted: "north.vrt geotransform
 <VRTRasterBand dataType=\"Byte\" band=\"1\">
 <SourceFilename relativeToVRT=\"1\">a.vrt</SourceFilename>
@@ -75,7 +52,7 @@ static SKIPPED: [Case; 27] = [
     Case {
         what: "another coordinate system",
         inputs: "x.vrt y.vrt x.vrt",
-        ask: PLAIN,
+        ask: "m.vrt",
         wanted: "y.vrt srs
 <VRTRasterBand dataType=\"Byte\" band=\"1\">
 <SourceFilename relativeToVRT=\"1\">x.vrt</SourceFilename>
@@ -85,7 +62,7 @@ static SKIPPED: [Case; 27] = [
     Case {
         what: "a coordinate system beside none",
         inputs: "a.vrt x.vrt",
-        ask: PLAIN,
+        ask: "m.vrt",
         wanted: "x.vrt srs
 <VRTRasterBand dataType=\"Byte\" band=\"1\">
 <SourceFilename relativeToVRT=\"1\">a.vrt</SourceFilename>
@@ -94,7 +71,7 @@ static SKIPPED: [Case; 27] = [
     Case {
         what: "no coordinate system beside an empty one",
         inputs: "empty.vrt a.vrt empty.vrt",
-        ask: PLAIN,
+        ask: "m.vrt",
         wanted: "a.vrt srs
 <VRTRasterBand dataType=\"Byte\" band=\"1\">
 <SourceFilename relativeToVRT=\"1\">empty.vrt</SourceFilename>
@@ -104,7 +81,7 @@ static SKIPPED: [Case; 27] = [
     Case {
         what: "a band more",
         inputs: "a.vrt two.vrt",
-        ask: PLAIN,
+        ask: "m.vrt",
         wanted: "two.vrt bands
 <VRTRasterBand dataType=\"Byte\" band=\"1\">
 <SourceFilename relativeToVRT=\"1\">a.vrt</SourceFilename>
@@ -113,7 +90,7 @@ static SKIPPED: [Case; 27] = [
     Case {
         what: "a band less",
         inputs: "two.vrt a.vrt",
-        ask: PLAIN,
+        ask: "m.vrt",
         wanted: "a.vrt bands
 <VRTRasterBand dataType=\"Byte\" band=\"1\">
 <SourceFilename relativeToVRT=\"1\">two.vrt</SourceFilename>
@@ -124,7 +101,7 @@ static SKIPPED: [Case; 27] = [
     Case {
         what: "other counts of bands, of which one is chosen",
         inputs: "a.vrt two.vrt byte_int.vrt",
-        ask: FIRST,
+        ask: "m.vrt bands 1",
         wanted: "<VRTRasterBand dataType=\"Byte\" band=\"1\">
 <SourceFilename relativeToVRT=\"1\">a.vrt</SourceFilename>
 <SourceFilename relativeToVRT=\"1\">two.vrt</SourceFilename>
@@ -134,7 +111,7 @@ static SKIPPED: [Case; 27] = [
     Case {
         what: "the first lacks the chosen band",
         inputs: "a.vrt two.vrt b.vrt",
-        ask: SECOND,
+        ask: "m.vrt bands 2",
         wanted: "a.vrt bands
 b.vrt bands
 <VRTRasterBand dataType=\"Byte\" band=\"1\">
@@ -144,13 +121,13 @@ b.vrt bands
     Case {
         what: "all lack one of the chosen bands",
         inputs: "two.vrt byte_int.vrt",
-        ask: THIRD,
+        ask: "m.vrt bands 1,3",
         wanted: "nothing\n",
     },
     Case {
         what: "another type",
         inputs: "a.vrt int.vrt",
-        ask: PLAIN,
+        ask: "m.vrt",
         wanted: "int.vrt type
 <VRTRasterBand dataType=\"Byte\" band=\"1\">
 <SourceFilename relativeToVRT=\"1\">a.vrt</SourceFilename>
@@ -159,7 +136,7 @@ b.vrt bands
     Case {
         what: "another type of the second band",
         inputs: "two.vrt byte_int.vrt",
-        ask: PLAIN,
+        ask: "m.vrt",
         wanted: "byte_int.vrt type
 <VRTRasterBand dataType=\"Byte\" band=\"1\">
 <SourceFilename relativeToVRT=\"1\">two.vrt</SourceFilename>
@@ -170,7 +147,7 @@ b.vrt bands
     Case {
         what: "another type of the chosen band",
         inputs: "two.vrt byte_int.vrt int_byte.vrt",
-        ask: SECOND,
+        ask: "m.vrt bands 2",
         wanted: "byte_int.vrt type
 <VRTRasterBand dataType=\"Byte\" band=\"1\">
 <SourceFilename relativeToVRT=\"1\">two.vrt</SourceFilename>
@@ -180,7 +157,7 @@ b.vrt bands
     Case {
         what: "types band by band, in the order that is chosen",
         inputs: "byte_int.vrt int_byte.vrt two.vrt byte_int.vrt",
-        ask: TURNED,
+        ask: "m.vrt bands 2,1",
         wanted: "int_byte.vrt type
 two.vrt type
 <VRTRasterBand dataType=\"Int16\" band=\"1\">
@@ -194,7 +171,7 @@ two.vrt type
     Case {
         what: "other types and counts, separate",
         inputs: "a.vrt int.vrt two.vrt ints.vrt",
-        ask: SEPARATE,
+        ask: "m.vrt separate",
         wanted: "<VRTRasterBand dataType=\"Byte\" band=\"1\">
 <SourceFilename relativeToVRT=\"1\">a.vrt</SourceFilename>
 <VRTRasterBand dataType=\"Int16\" band=\"2\">
@@ -208,7 +185,7 @@ two.vrt type
     Case {
         what: "places and coordinate systems, separate",
         inputs: "a.vrt placeless.vrt int.vrt x.vrt b.vrt",
-        ask: SEPARATE,
+        ask: "m.vrt separate",
         wanted: "placeless.vrt geotransform
 x.vrt srs
 <VRTRasterBand dataType=\"Byte\" band=\"1\">
@@ -222,7 +199,7 @@ x.vrt srs
     Case {
         what: "the reference is the first that isn't skipped",
         inputs: "lost.vrt north.vrt int.vrt a.vrt x.vrt int.vrt",
-        ask: PLAIN,
+        ask: "m.vrt",
         wanted: "lost.vrt geotransform
 north.vrt geotransform
 a.vrt type
@@ -235,7 +212,7 @@ x.vrt srs
     Case {
         what: "the first reason of several",
         inputs: "a.vrt lost.vrt other.vrt ints.vrt int.vrt",
-        ask: PLAIN,
+        ask: "m.vrt",
         wanted: "lost.vrt geotransform
 other.vrt srs
 ints.vrt bands
@@ -247,22 +224,19 @@ int.vrt type
     Case {
         what: "the first skipped input, strictly",
         inputs: "a.vrt b.vrt int.vrt placeless.vrt",
-        ask: STRICT,
+        ask: "m.vrt strict",
         wanted: "strictly int.vrt type\n",
     },
     Case {
         what: "the first of all, strictly",
         inputs: "two.vrt placeless.vrt",
-        ask: Ask {
-            strict: true,
-            ..THIRD
-        },
+        ask: "m.vrt bands 1,3 strict",
         wanted: "strictly two.vrt bands\n",
     },
     Case {
         what: "nothing is skipped, strictly",
         inputs: "x.vrt x.vrt",
-        ask: STRICT,
+        ask: "m.vrt strict",
         wanted: "<VRTRasterBand dataType=\"Byte\" band=\"1\">
 <SourceFilename relativeToVRT=\"1\">x.vrt</SourceFilename>
 <SourceFilename relativeToVRT=\"1\">x.vrt</SourceFilename>
@@ -271,31 +245,26 @@ int.vrt type
     Case {
         what: "all are skipped",
         inputs: "placeless.vrt west.vrt north.vrt",
-        ask: PLAIN,
+        ask: "m.vrt",
         wanted: "nothing\n",
     },
     Case {
         what: "no input",
         inputs: "",
-        ask: PLAIN,
+        ask: "m.vrt",
         wanted: "nothing\n",
     },
     Case {
         what: "no input, strictly",
         inputs: "",
-        ask: STRICT,
+        ask: "m.vrt strict",
         wanted: "nothing\n",
     },
 ];
 
 static LINES: [&str; 2] = ["<VRTRasterBand", "<SourceFilename"];
 
-fn wrong(alloc: Global) -> Result<Option<&'static str>, Fail> {
-    wrong_case(alloc, &mut folder(alloc)?, &SKIPPED, &LINES)
-}
-
 #[test]
 fn skipped_inputs(rt: HostRuntime) -> Result<(), Fail> {
-    assert_eq!(rt; wrong(rt.alloc())?, None);
-    Ok(())
+    all_come(&rt, rt.alloc(), &SKIPPED, &LINES)
 }
