@@ -1,3 +1,4 @@
+use crate::tables::none_wrong;
 use dted_records::head::{DtedFault, DtedHead};
 use dted_records::reading::read_head;
 use dted_records::records::{check_record, decode_record};
@@ -36,8 +37,10 @@ fn fault_of(bytes: &[u8]) -> u8 {
     }
 }
 
-// What is written at a place of the head of that file, how many bytes there are, and the fault's number.
-const HEADS: [(usize, &[u8], usize, u8); 36] = [
+/// What is written at a place of the head of that file, how many bytes there are, and the fault's number.
+type Head<'a> = (usize, &'a [u8], usize, u8);
+
+const HEADS: [Head<'static>; 36] = [
     (0, b"U", 3428, 0),
     (0, b"U", 3427, 3),
     (0, b"U", 80, 3),
@@ -76,33 +79,35 @@ const HEADS: [(usize, &[u8], usize, u8); 36] = [
     (728, b"ACCX", 3428, 0),
 ];
 
-// The number of the fault of so many bytes of the head of that file, where this is written at a place of it.
-fn head_fault(at: usize, text: &[u8], len: usize) -> u8 {
+// Whether so many bytes of the head of that file have this fault, where this is written at a place of it.
+fn is_judged((at, text, len, wanted): Head<'_>) -> bool {
     let mut bytes = [b' '; 3428];
     put_head(&mut bytes, 0);
     put(&mut bytes, at, text);
     let (front, _) = bytes.split_at(len.min(3428));
-    fault_of(front)
+    fault_of(front) == wanted
 }
 
-// The first of these heads that has another fault, or how many heads there are.
-fn first_misjudged() -> usize {
-    for (at, (at_byte, text, len, wanted)) in HEADS.iter().enumerate() {
-        if head_fault(*at_byte, text, *len) != *wanted {
-            return at;
+// The first of these heads that has another fault.
+fn first_misjudged(rows: &[Head<'_>]) -> Option<usize> {
+    for at in 0..rows.len() {
+        if !is_judged(rows[at]) {
+            return Some(at);
         }
     }
-    HEADS.len()
+    None
 }
 
 #[test]
 fn refuses_by_the_first_rule(rt: HostRuntime) {
-    let record = DtedFault::BadRecord(7).number();
-    assert_eq!(rt; (first_misjudged(), record), (HEADS.len(), 4));
+    none_wrong(&rt, first_misjudged(&HEADS));
+    assert!(rt; DtedFault::BadRecord(7).number() == 4);
 }
 
-// How many leading records there are, what they begin with, and the fault's number.
-const LEADING: [(u16, &[u8], u8); 5] = [
+/// How many leading records there are, what they begin with, and the fault's number.
+type Leading<'a> = (u16, &'a [u8], u8);
+
+const LEADING: [Leading<'static>; 5] = [
     (1, b"VOL", 0),
     (8, b"HDR", 0),
     (9, b"VOL", 1),
@@ -117,7 +122,7 @@ fn put_leading(out: &mut [u8], count: u16, word: &[u8]) {
 }
 
 // Whether a head behind so many records is read from there, or has this fault.
-fn skips(count: u16, word: &[u8], wanted: u8) -> bool {
+fn skips((count, word, wanted): Leading<'_>) -> bool {
     let mut bytes = [b' '; 4148];
     let skip = 80 * count.min(10);
     put_leading(&mut bytes, count, word);
@@ -128,19 +133,19 @@ fn skips(count: u16, word: &[u8], wanted: u8) -> bool {
     }
 }
 
-// The first of these that is skipped otherwise, or how many there are.
-fn first_unskipped() -> usize {
-    for (at, (count, word, wanted)) in LEADING.iter().enumerate() {
-        if !skips(*count, word, *wanted) {
-            return at;
+// The first of these that is skipped otherwise.
+fn first_unskipped(rows: &[Leading<'_>]) -> Option<usize> {
+    for at in 0..rows.len() {
+        if !skips(rows[at]) {
+            return Some(at);
         }
     }
-    LEADING.len()
+    None
 }
 
 #[test]
 fn skips_up_to_eight_records(rt: HostRuntime) {
-    assert_eq!(rt; first_unskipped(), LEADING.len());
+    none_wrong(&rt, first_unskipped(&LEADING));
 }
 
 /// Checks and reads a record where it has the head's length and `out` its points.
@@ -163,11 +168,13 @@ fn is_of_line(head: &DtedHead) -> bool {
         && step == (150_000_000_000_000, -150_000_000_000_000)
 }
 
-// The first and the last byte of the record, and whether its mark and its sum are right.
-const SUMS: [(u8, u8, bool); 3] = [(0xAA, 0xB2, true), (0xAA, 0xB3, false), (0xA9, 0xB1, false)];
+/// The first and the last byte of the record, and whether its mark and its sum are right.
+type Sum = (u8, u8, bool);
+
+const SUMS: [Sum; 3] = [(0xAA, 0xB2, true), (0xAA, 0xB3, false), (0xA9, 0xB1, false)];
 
 // Whether the record with these bytes has the line's values, and is as good as this.
-fn is_read(head: &DtedHead, first: u8, last: u8, good: bool) -> bool {
+fn is_read(head: &DtedHead, (first, last, good): Sum) -> bool {
     let mut record = RECORD;
     record[0] = first;
     record[19] = last;
@@ -175,14 +182,14 @@ fn is_read(head: &DtedHead, first: u8, last: u8, good: bool) -> bool {
     values(head, &record, &mut out) == Some(good) && out == [0, -32767, -5, 5]
 }
 
-// The first of these records that is read otherwise, or how many records there are.
-fn first_misread(head: &DtedHead) -> usize {
-    for (at, (first, last, good)) in SUMS.iter().enumerate() {
-        if !is_read(head, *first, *last, *good) {
-            return at;
+// The first of these records that is read otherwise.
+fn first_misread(head: &DtedHead, rows: &[Sum]) -> Option<usize> {
+    for at in 0..rows.len() {
+        if !is_read(head, rows[at]) {
+            return Some(at);
         }
     }
-    SUMS.len()
+    None
 }
 
 fn line() -> Option<DtedHead> {
@@ -191,29 +198,40 @@ fn line() -> Option<DtedHead> {
     read_head(&bytes).ok()
 }
 
-#[test]
-fn reads_from_north_to_south(rt: HostRuntime) -> Result<(), Fail> {
-    let head = line().ok_or("it is a head")?;
-    assert_eq!(rt;
-        (is_of_line(&head), first_misread(&head)),
-        (true, SUMS.len())
-    );
-    Ok(())
+// The first of these records that is read otherwise, or their number where the head isn't that of the line.
+fn first_of_line(rows: &[Sum]) -> Option<usize> {
+    match line() {
+        None => Some(rows.len()),
+        Some(head) => {
+            if is_of_line(&head) {
+                first_misread(&head, rows)
+            } else {
+                Some(rows.len())
+            }
+        }
+    }
 }
 
-// A head of as many lines and points as can be told.
-fn large() -> Option<DtedHead> {
+#[test]
+fn reads_from_north_to_south(rt: HostRuntime) {
+    none_wrong(&rt, first_of_line(&SUMS));
+}
+
+// Whether a head of as many lines and points as can be told needs the bytes of all records.
+fn is_large() -> bool {
     let mut bytes = [b' '; 3428];
     put_head(&mut bytes, 0);
     put(&mut bytes, 4, b"0703015W0335559S");
     put(&mut bytes, 47, b"99999999");
-    read_head(&bytes).ok()
+    match read_head(&bytes) {
+        Ok(head) => {
+            (head.lon, head.lat) == (-253815, -122159) && head.needed_len() == 200_083_418
+        }
+        Err(_) => false,
+    }
 }
 
 #[test]
-fn needs_the_bytes_of_all_records(rt: HostRuntime) -> Result<(), Fail> {
-    let head = large().ok_or("it is a head")?;
-    let corner = (head.lon, head.lat) == (-253815, -122159);
-    assert!(rt; corner && head.needed_len() == 200_083_418);
-    Ok(())
+fn needs_the_bytes_of_all_records(rt: HostRuntime) {
+    assert!(rt; is_large());
 }

@@ -1,3 +1,4 @@
+use crate::tables::{none_found, none_wrong};
 use ascii_grid::faults::GridFault;
 use ascii_grid::head::GridHead;
 use ascii_grid::row::{RowState, decode_more};
@@ -21,11 +22,11 @@ fn scan(alloc: Global, front: &[u8], back: &[u8]) -> Result<GridHead, GridFault>
     scanner.finish()
 }
 
-// The number and the place of the fault of a text, 0 and none where it is a grid.
-fn fault_of(alloc: Global, text: &[u8]) -> (u8, Option<u64>) {
+// Whether the number and the place of the fault of a text are these, 0 and none where it is a grid.
+fn is_judged(alloc: Global, (text, number, place): Fault<'_>) -> bool {
     match scan(alloc, text, b"") {
-        Ok(_) => (0, None),
-        Err(fault) => (fault.number(), fault.place()),
+        Ok(_) => number == 0 && place.is_none(),
+        Err(fault) => fault.number() == number && fault.place() == place,
     }
 }
 
@@ -43,9 +44,9 @@ fn is_scanned(alloc: Global, front: &[u8], back: &[u8]) -> bool {
 }
 
 // The first place at which the grid is cut and not scanned; None where there is none.
-fn first_unscanned(alloc: Global) -> Option<usize> {
-    for cut in 0..=GRID.len() {
-        let (front, back) = GRID.split_at(cut);
+fn first_unscanned(alloc: Global, text: &[u8]) -> Option<usize> {
+    for cut in 0..=text.len() {
+        let (front, back) = text.split_at(cut);
         if !is_scanned(alloc, front, back) {
             return Some(cut);
         }
@@ -56,7 +57,7 @@ fn first_unscanned(alloc: Global) -> Option<usize> {
 // The edges of the lower left pixel are half a pixel from its centre.
 #[test]
 fn scans_each_cut(rt: HostRuntime) {
-    assert_eq!(rt; first_unscanned(rt.alloc()), None);
+    none_wrong(&rt, first_unscanned(rt.alloc(), GRID));
 }
 
 // The geotransform of whole units.
@@ -68,8 +69,10 @@ fn units(n: i64) -> Option<Ticks> {
     Ticks::new((n as i128).checked_mul(Ticks::UNIT.get())?)
 }
 
-// A text, the number of its fault, 0 for none, and its place.
-const FAULTS: [(&[u8], u8, Option<u64>); 57] = [
+/// A text, the number of its fault, 0 for none, and its place.
+type Fault<'a> = (&'a [u8], u8, Option<u64>);
+
+const FAULTS: [Fault<'static>; 57] = [
     (b"", 1, None),
     (b" \n", 1, None),
     (b"ncols 1", 1, None),
@@ -269,28 +272,36 @@ const FAULTS: [(&[u8], u8, Option<u64>); 57] = [
     ),
 ];
 
-// The first of these texts that has another fault, or how many texts there are.
-fn first_misjudged(alloc: Global) -> usize {
-    for (at, (text, number, place)) in FAULTS.iter().enumerate() {
-        if fault_of(alloc, text) != (*number, *place) {
-            return at;
+// The first of these texts that has another fault.
+fn first_misjudged(alloc: Global, rows: &[Fault<'_>]) -> Option<usize> {
+    for at in 0..rows.len() {
+        if !is_judged(alloc, rows[at]) {
+            return Some(at);
         }
     }
-    FAULTS.len()
+    None
 }
 
 #[test]
 fn tells_faults(rt: HostRuntime) {
-    assert_eq!(rt; first_misjudged(rt.alloc()), FAULTS.len());
+    none_wrong(&rt, first_misjudged(rt.alloc(), &FAULTS));
 }
 
 const BROKEN: &[u8] = b"ncols 2\nnrows\t2\nxllcenter 10\nyllcenter 20\ncellsize 2\n1\t-2\n30 3.5\n";
 
+// Whether the fault of the text in two pieces is that of its last number.
+fn is_broken(alloc: Global, front: &[u8], back: &[u8]) -> bool {
+    match scan(alloc, front, back) {
+        Ok(_) => false,
+        Err(fault) => fault == GridFault::NotInteger(61),
+    }
+}
+
 // The first place at which the text is cut and has another fault; None where there is none.
-fn first_cut_fault(alloc: Global) -> Option<usize> {
-    for cut in 0..=BROKEN.len() {
-        let (front, back) = BROKEN.split_at(cut);
-        if scan(alloc, front, back).err() != Some(GridFault::NotInteger(61)) {
+fn first_cut_fault(alloc: Global, text: &[u8]) -> Option<usize> {
+    for cut in 0..=text.len() {
+        let (front, back) = text.split_at(cut);
+        if !is_broken(alloc, front, back) {
             return Some(cut);
         }
     }
@@ -300,7 +311,7 @@ fn first_cut_fault(alloc: Global) -> Option<usize> {
 // One cut at each place changes no fault.
 #[test]
 fn cuts_change_no_fault(rt: HostRuntime) {
-    assert_eq!(rt; first_cut_fault(rt.alloc()), None);
+    none_wrong(&rt, first_cut_fault(rt.alloc(), BROKEN));
 }
 
 // Whether a scanner takes so many zeros.
@@ -313,14 +324,13 @@ fn takes_zeros(scanner: &mut Scanner, zeros: u32) -> bool {
     true
 }
 
-// How many zeros a token begins with, and what comes of them and a 7.
-const TOKENS: [(u32, Result<(), GridFault>); 2] = [
-    (63, Ok(())),
-    (64, Err(GridFault::BadToken(51))),
-];
+/// How many zeros a token begins with, and what comes of them and a 7.
+type Token = (u32, Result<(), GridFault>);
+
+const TOKENS: [Token; 2] = [(63, Ok(())), (64, Err(GridFault::BadToken(51)))];
 
 // Whether that comes of a token of so many zeros and a 7.
-fn ends_in(alloc: Global, zeros: u32, wanted: Result<(), GridFault>) -> bool {
+fn ends_in(alloc: Global, (zeros, wanted): Token) -> bool {
     let mut scanner = Scanner::new(alloc);
     let _ = scanner.feed(HEAD);
     takes_zeros(&mut scanner, zeros)
@@ -329,19 +339,19 @@ fn ends_in(alloc: Global, zeros: u32, wanted: Result<(), GridFault>) -> bool {
         && scanner.finish().map(|_| ()) == wanted
 }
 
-// The first of these tokens that ends otherwise, or how many tokens there are.
-fn first_other_end(alloc: Global) -> usize {
-    for (at, (zeros, wanted)) in TOKENS.iter().enumerate() {
-        if !ends_in(alloc, *zeros, *wanted) {
-            return at;
+// The first of these tokens that ends otherwise.
+fn first_other_end(alloc: Global, rows: &[Token]) -> Option<usize> {
+    for at in 0..rows.len() {
+        if !ends_in(alloc, rows[at]) {
+            return Some(at);
         }
     }
-    TOKENS.len()
+    None
 }
 
 #[test]
 fn takes_64_bytes(rt: HostRuntime) {
-    assert_eq!(rt; first_other_end(rt.alloc()), TOKENS.len());
+    none_wrong(&rt, first_other_end(rt.alloc(), &TOKENS));
 }
 
 fn is_refused(alloc: Global) -> bool {
@@ -369,30 +379,32 @@ const NODATA: [(&[u8], Option<Sample>); 7] = [
 ];
 
 // Whether a grid has this NODATA.
-fn has_nodata(alloc: Global, text: &[u8], wanted: Option<Sample>) -> bool {
+fn has_nodata(alloc: Global, (text, wanted): (&[u8], Option<Sample>)) -> bool {
     match scan(alloc, HEAD, text) {
         Ok(head) => head.nodata == wanted,
         Err(_) => false,
     }
 }
 
-// The first of these grids that has another NODATA, or how many grids there are.
-fn first_of_other_nodata(alloc: Global) -> usize {
-    for (at, (text, wanted)) in NODATA.iter().enumerate() {
-        if !has_nodata(alloc, text, *wanted) {
-            return at;
+// The first of these grids that has another NODATA.
+fn first_of_other_nodata(alloc: Global, rows: &[(&[u8], Option<Sample>)]) -> Option<usize> {
+    for at in 0..rows.len() {
+        if !has_nodata(alloc, rows[at]) {
+            return Some(at);
         }
     }
-    NODATA.len()
+    None
 }
 
 #[test]
 fn reads_nodata(rt: HostRuntime) {
-    assert_eq!(rt; first_of_other_nodata(rt.alloc()), NODATA.len());
+    none_wrong(&rt, first_of_other_nodata(rt.alloc(), &NODATA));
 }
 
-// What stands behind HEAD, and the origin and the sizes in units.
-const PLACES: [(&[u8], (i64, i64, i64, i64)); 5] = [
+/// What stands behind HEAD, and the origin and the sizes in units.
+type Place<'a> = (&'a [u8], (i64, i64, i64, i64));
+
+const PLACES: [Place<'static>; 5] = [
     (b"7", (0, 1, 1, -1)),
     (b"dx 3 dy 4 7", (0, 1, 1, -1)),
     (b"cellsize 2 cellsize 4 xllcenter 5 7", (3, 4, 4, -4)),
@@ -404,26 +416,26 @@ const PLACES: [(&[u8], (i64, i64, i64, i64)); 5] = [
 ];
 
 // Whether a grid lies there.
-fn is_placed(alloc: Global, text: &[u8], (ox, oy, dx, dy): (i64, i64, i64, i64)) -> bool {
+fn is_placed(alloc: Global, (text, (ox, oy, dx, dy)): Place<'_>) -> bool {
     match scan(alloc, HEAD, text) {
         Ok(head) => Some(head.geo) == transform(ox, oy, dx, dy),
         Err(_) => false,
     }
 }
 
-// The first of these grids that lies elsewhere, or how many grids there are.
-fn first_misplaced(alloc: Global) -> usize {
-    for (at, (text, place)) in PLACES.iter().enumerate() {
-        if !is_placed(alloc, text, *place) {
-            return at;
+// The first of these grids that lies elsewhere.
+fn first_misplaced(alloc: Global, rows: &[Place<'_>]) -> Option<usize> {
+    for at in 0..rows.len() {
+        if !is_placed(alloc, rows[at]) {
+            return Some(at);
         }
     }
-    PLACES.len()
+    None
 }
 
 #[test]
 fn places_grids(rt: HostRuntime) {
-    assert_eq!(rt; first_misplaced(rt.alloc()), PLACES.len());
+    none_wrong(&rt, first_misplaced(rt.alloc(), &PLACES));
 }
 
 // Reads a row from bytes in two pieces and, where they end within it, an empty one.
@@ -434,13 +446,18 @@ fn read_row(front: &[u8], back: &[u8], out: &mut [i32]) {
     }
 }
 
+// Whether these bytes, cut at a place, give this row.
+fn is_row(rest: &[u8], cut: usize, wanted: [i32; 2]) -> bool {
+    let (front, back) = rest.split_at(cut.min(rest.len()));
+    let mut out = [9; 2];
+    read_row(front, back, &mut out);
+    out == wanted
+}
+
 // The first place at which these bytes are cut and give another row; None where there is none.
 fn first_miscut(rest: &[u8], wanted: [i32; 2]) -> Option<usize> {
     for cut in 1..rest.len() {
-        let (front, back) = rest.split_at(cut.min(rest.len()));
-        let mut out = [9; 2];
-        read_row(front, back, &mut out);
-        if out != wanted {
+        if !is_row(rest, cut, wanted) {
             return Some(cut);
         }
     }
@@ -450,13 +467,14 @@ fn first_miscut(rest: &[u8], wanted: [i32; 2]) -> Option<usize> {
 // The second piece isn't empty where it is asked for.
 #[test]
 fn reads_rows_of_each_cut(rt: HostRuntime) {
-    let first = first_miscut(&GRID[53..], [1, -2]);
-    let second = first_miscut(&GRID[58..], [30, 4]);
-    assert_eq!(rt; (first, second), (None, None));
+    none_wrong(&rt, first_miscut(&GRID[53..], [1, -2]));
+    none_wrong(&rt, first_miscut(&GRID[58..], [30, 4]));
 }
 
-// Two pieces of a row of three values, and what is read of them.
-const ROWS: [(&[u8], &[u8], [i32; 3]); 6] = [
+/// Two pieces of a row of three values, and what is read of them.
+type Pieces<'a> = (&'a [u8], &'a [u8], [i32; 3]);
+
+const ROWS: [Pieces<'static>; 6] = [
     (b"1 2 3", b"4 5", [1, 2, 34]),
     (b"1 2", b"", [1, 2, 0]),
     (b" \t1", b"\n", [1, 0, 0]),
@@ -465,43 +483,40 @@ const ROWS: [(&[u8], &[u8], [i32; 3]); 6] = [
     (b"", b"1 2 3 ", [0, 0, 0]),
 ];
 
-// What is read of a row of three values in two pieces.
-fn row_of(front: &[u8], back: &[u8]) -> [i32; 3] {
+// Whether that is read of a row in two pieces.
+fn is_read((front, back, wanted): Pieces<'_>) -> bool {
     let mut out = [9; 3];
     read_row(front, back, &mut out);
-    out
+    out == wanted
 }
 
-// The first of these rows of which something else is read, or how many rows there are.
-fn first_misread() -> usize {
-    for (at, (front, back, wanted)) in ROWS.iter().enumerate() {
-        if row_of(front, back) != *wanted {
-            return at;
+// The first of these rows of which something else is read.
+fn first_misread(rows: &[Pieces<'_>]) -> Option<usize> {
+    for at in 0..rows.len() {
+        if !is_read(rows[at]) {
+            return Some(at);
         }
     }
-    ROWS.len()
+    None
 }
 
 #[test]
 fn reads_rows(rt: HostRuntime) {
-    assert_eq!(rt; first_misread(), ROWS.len());
+    none_wrong(&rt, first_misread(&ROWS));
 }
 
-// The height of a pixel of a grid whose pixels are two units wide, the NODATA, and the head that is written. A grid
-// with no height lies nowhere.
-const HEADS: [(Option<i64>, Option<Sample>, &[u8]); 3] = [
+/// The height of a pixel of a grid whose pixels are two units wide, the NODATA, and the head that is written. A grid
+/// with no height lies nowhere.
+type Head<'a> = (Option<i64>, Option<Sample>, &'a [u8]);
+
+const HEADS: [Head<'static>; 3] = [
     (Some(-2), None, SAME),
     (Some(-3), Some(-7), OTHER),
     (None, None, NOWHERE),
 ];
 
 // Whether that is written of a head of two columns and two lines, which has a place where it has a height.
-fn is_written(
-    alloc: Global,
-    height: Option<i64>,
-    nodata: Option<Sample>,
-    wanted: &[u8],
-) -> Result<bool, AllocError> {
+fn is_written(alloc: Global, (height, nodata, wanted): Head<'_>) -> Result<bool, AllocError> {
     let geo = match height {
         Some(height) => transform(9, 23, 2, height),
         None => None,
@@ -511,20 +526,19 @@ fn is_written(
     Ok(geo.is_some() == height.is_some() && text.as_slice() == wanted)
 }
 
-// The first of these heads of which something else is written, or how many heads there are.
-fn first_miswritten(alloc: Global) -> Result<usize, AllocError> {
-    for (at, (height, nodata, wanted)) in HEADS.iter().enumerate() {
-        if !is_written(alloc, *height, *nodata, wanted)? {
-            return Ok(at);
+// The first of these heads of which something else is written.
+fn first_miswritten(alloc: Global, rows: &[Head<'_>]) -> Result<Option<usize>, AllocError> {
+    for at in 0..rows.len() {
+        if !is_written(alloc, rows[at])? {
+            return Ok(Some(at));
         }
     }
-    Ok(HEADS.len())
+    Ok(None)
 }
 
 #[test]
-fn writes_heads(rt: HostRuntime) -> Result<(), Fail> {
-    assert_eq!(rt; first_miswritten(rt.alloc())?, HEADS.len());
-    Ok(())
+fn writes_heads(rt: HostRuntime) {
+    none_found(&rt, first_miswritten(rt.alloc(), &HEADS));
 }
 
 const SAME: &[u8] =
@@ -556,10 +570,20 @@ fn is_grid(alloc: Global, text: &[u8], geo: &GeoTransform) -> bool {
     }
 }
 
+// 0 where another text is written of a grid, or it isn't read as that grid.
+fn first_other_grid(alloc: Global, wanted: &[u8]) -> Result<Option<usize>, AllocError> {
+    let Some(geo) = transform(9, 23, 2, -2) else {
+        return Ok(Some(0));
+    };
+    let text = written(alloc, &geo)?;
+    Ok(if text.as_slice() == wanted && is_grid(alloc, &text, &geo) {
+        None
+    } else {
+        Some(0)
+    })
+}
+
 #[test]
-fn writes_a_grid(rt: HostRuntime) -> Result<(), Fail> {
-    let geo = transform(9, 23, 2, -2).ok_or("it is near")?;
-    let text = written(rt.alloc(), &geo)?;
-    assert!(rt; text.as_slice() == WRITTEN && is_grid(rt.alloc(), &text, &geo));
-    Ok(())
+fn writes_a_grid(rt: HostRuntime) {
+    none_found(&rt, first_other_grid(rt.alloc(), WRITTEN));
 }

@@ -1,3 +1,4 @@
+use crate::tables::{none_found, none_wrong};
 use esri_hdr::parts::{HdrFault, Layout};
 use esri_hdr::reading::read;
 use esri_hdr::writing::write;
@@ -75,19 +76,26 @@ const REFUSED: [(&str, u8); 48] = [
     ("NROWS 2\x0cNCOLS 3", 1),
 ];
 
-// The first of these headers that has another fault, or how many headers there are.
-fn first_unrefused() -> usize {
-    for (at, (text, number)) in REFUSED.iter().enumerate() {
-        if read(text.as_bytes()).err().map(|fault| fault.number()) != Some(*number) {
-            return at;
+fn is_refused((text, number): (&str, u8)) -> bool {
+    match read(text.as_bytes()) {
+        Ok(_) => false,
+        Err(fault) => fault.number() == number,
+    }
+}
+
+// The first of these headers that has another fault.
+fn first_unrefused(rows: &[(&str, u8)]) -> Option<usize> {
+    for at in 0..rows.len() {
+        if !is_refused(rows[at]) {
+            return Some(at);
         }
     }
-    REFUSED.len()
+    None
 }
 
 #[test]
 fn refuses_by_each_rule(rt: HostRuntime) {
-    assert_eq!(rt; first_unrefused(), REFUSED.len());
+    none_wrong(&rt, first_unrefused(&REFUSED));
 }
 
 const ROW_OF_FOUR: &str = "BYTEORDER      I
@@ -196,7 +204,7 @@ const WRITTEN: [(&str, &str); 10] = [
 ];
 
 // Whether this is written of the head of a header.
-fn writes(alloc: Global, text: &str, wanted: &str) -> Result<bool, AllocError> {
+fn writes(alloc: Global, (text, wanted): (&str, &str)) -> Result<bool, AllocError> {
     let Ok(head) = read(text.as_bytes()) else {
         return Ok(false);
     };
@@ -205,29 +213,32 @@ fn writes(alloc: Global, text: &str, wanted: &str) -> Result<bool, AllocError> {
     Ok(out.as_slice() == wanted.as_bytes())
 }
 
-// The first of these headers of which something else is written, or how many headers there are.
-fn first_unwritten(alloc: Global) -> Result<usize, AllocError> {
-    for (at, (text, wanted)) in WRITTEN.iter().enumerate() {
-        if !writes(alloc, text, wanted)? {
-            return Ok(at);
+// The first of these headers of which something else is written.
+fn first_unwritten(alloc: Global, rows: &[(&str, &str)]) -> Result<Option<usize>, AllocError> {
+    for at in 0..rows.len() {
+        if !writes(alloc, rows[at])? {
+            return Ok(Some(at));
         }
     }
-    Ok(WRITTEN.len())
+    Ok(None)
 }
 
 #[test]
-fn writes_what_it_reads(rt: HostRuntime) -> Result<(), Fail> {
-    assert_eq!(rt; first_unwritten(rt.alloc())?, WRITTEN.len());
-    Ok(())
+fn writes_what_it_reads(rt: HostRuntime) {
+    none_found(&rt, first_unwritten(rt.alloc(), &WRITTEN));
 }
 
-fn kind_of(text: &str) -> Option<(PixelType, Option<i128>)> {
-    let head = read(text.as_bytes()).ok()?;
-    Some((head.kind, head.nodata))
+fn is_of_kind((text, kind, nodata): Typed<'_>) -> bool {
+    match read(text.as_bytes()) {
+        Ok(head) => head.kind == kind && head.nodata == nodata,
+        Err(_) => false,
+    }
 }
 
-// A header, the type of its samples and its NODATA.
-const KINDS: [(&str, PixelType, Option<i128>); 15] = [
+/// A header, the type of its samples and its NODATA.
+type Typed<'a> = (&'a str, PixelType, Option<i128>);
+
+const KINDS: [Typed<'static>; 15] = [
     (
         "NROWS 2\nNCOLS 3\nNBITS 16\nNODATA -1",
         PixelType::Int16,
@@ -301,28 +312,37 @@ const KINDS: [(&str, PixelType, Option<i128>); 15] = [
     ),
 ];
 
-// The first of these headers that has another type or NODATA, or how many headers there are.
-fn first_of_other_kind() -> usize {
-    for (at, (text, kind, nodata)) in KINDS.iter().enumerate() {
-        if kind_of(text) != Some((*kind, *nodata)) {
-            return at;
+// The first of these headers that has another type or NODATA.
+fn first_of_other_kind(rows: &[Typed<'_>]) -> Option<usize> {
+    for at in 0..rows.len() {
+        if !is_of_kind(rows[at]) {
+            return Some(at);
         }
     }
-    KINDS.len()
+    None
 }
 
 #[test]
 fn reads_types_and_no_data(rt: HostRuntime) {
-    assert_eq!(rt; first_of_other_kind(), KINDS.len());
+    none_wrong(&rt, first_of_other_kind(&KINDS));
 }
 
-fn layout_of(text: &str) -> Option<(Layout, u64, u64, u64)> {
-    let head = read(text.as_bytes()).ok()?;
-    Some((head.layout, head.band_row, head.total_row, head.gap))
+fn is_counted((text, (layout, band_row, total_row, gap)): Rows<'_>) -> bool {
+    match read(text.as_bytes()) {
+        Ok(head) => {
+            head.layout == layout
+                && head.band_row == band_row
+                && head.total_row == total_row
+                && head.gap == gap
+        }
+        Err(_) => false,
+    }
 }
 
-// A header, its layout, the bytes of a row of a band and of all bands, and the gap.
-const LAYOUTS: [(&str, (Layout, u64, u64, u64)); 3] = [
+/// A header, its layout, the bytes of a row of a band and of all bands, and the gap.
+type Rows<'a> = (&'a str, (Layout, u64, u64, u64));
+
+const LAYOUTS: [Rows<'static>; 3] = [
     (
         "NROWS 2\nNCOLS 3\nNBANDS 2\nBANDROWBYTES 5",
         (Layout::Bil, 5, 10, 0),
@@ -337,25 +357,36 @@ const LAYOUTS: [(&str, (Layout, u64, u64, u64)); 3] = [
     ),
 ];
 
-// The first of these headers whose rows are counted otherwise, or how many headers there are.
-fn first_of_other_layout() -> usize {
-    for (at, (text, wanted)) in LAYOUTS.iter().enumerate() {
-        if layout_of(text) != Some(*wanted) {
-            return at;
+// The first of these headers whose rows are counted otherwise.
+fn first_of_other_layout(rows: &[Rows<'_>]) -> Option<usize> {
+    for at in 0..rows.len() {
+        if !is_counted(rows[at]) {
+            return Some(at);
         }
     }
-    LAYOUTS.len()
+    None
 }
 
 #[test]
 fn counts_rows_by_layout(rt: HostRuntime) {
-    assert_eq!(rt; first_of_other_layout(), LAYOUTS.len());
+    none_wrong(&rt, first_of_other_layout(&LAYOUTS));
 }
 
 /// The numbers of the geotransform of a header, in ticks.
 fn places_of(text: &[u8]) -> Option<(i128, i128, i128, i128)> {
     let t = read(text).ok()?.transform()?;
     Some((t.ox.get(), t.oy.get(), t.dx.get(), t.dy.get()))
+}
+
+// Whether a header lies at 8.5 and 21 units, with pixels of 3 units and of one.
+fn has_place(text: &[u8]) -> bool {
+    places_of(text)
+        == Some((
+            1_530_000_000_000_000_000,
+            3_780_000_000_000_000_000,
+            540_000_000_000_000_000,
+            -180_000_000_000_000_000,
+        ))
 }
 
 // Whether this is a header with no geotransform.
@@ -368,34 +399,36 @@ fn has_no_place(text: &[u8]) -> bool {
 
 #[test]
 fn transforms(rt: HostRuntime) {
-    let unit = 180_000_000_000_000_000;
-    let placed = places_of(b"NROWS 2\nNCOLS 3\nULXMAP 10\nULYMAP 20.5\nXDIM 3");
-    let wanted = Some((unit * 17 / 2, 21 * unit, 3 * unit, -unit));
-    assert!(rt; placed == wanted && has_no_place(b"NROWS 2\nNCOLS 3\nULXMAP 10"));
+    assert!(rt;
+        has_place(b"NROWS 2\nNCOLS 3\nULXMAP 10\nULYMAP 20.5\nXDIM 3")
+            && has_no_place(b"NROWS 2\nNCOLS 3\nULXMAP 10")
+    );
 }
 
-// The fault of blanks as long as a header may be, with this behind them.
-fn fault_of_blanks(alloc: Global, end: &[u8]) -> Result<Option<HdrFault>, AllocError> {
+// Whether blanks as long as a header may be, with this behind them, have this fault.
+fn is_refused_behind_blanks(
+    alloc: Global,
+    (end, wanted): (&[u8], HdrFault),
+) -> Result<bool, AllocError> {
     let mut text = vec![in alloc; b' '; 1_048_576]?;
     text.extend_from_slice(end)?;
-    Ok(read(&text).err())
+    Ok(read(&text).err() == Some(wanted))
 }
 
 // What stands behind the blanks, and the fault.
 const ENDS: [(&[u8], HdrFault); 2] = [(b"", HdrFault::MissingKey), (b"\n", HdrFault::Limit)];
 
-// The first of these ends that has another fault, or how many ends there are.
-fn first_other_end(alloc: Global) -> Result<usize, AllocError> {
-    for (at, (end, wanted)) in ENDS.iter().enumerate() {
-        if fault_of_blanks(alloc, end)? != Some(*wanted) {
-            return Ok(at);
+// The first of these ends that has another fault.
+fn first_other_end(alloc: Global, rows: &[(&[u8], HdrFault)]) -> Result<Option<usize>, AllocError> {
+    for at in 0..rows.len() {
+        if !is_refused_behind_blanks(alloc, rows[at])? {
+            return Ok(Some(at));
         }
     }
-    Ok(ENDS.len())
+    Ok(None)
 }
 
 #[test]
-fn refuses_a_long_header(rt: HostRuntime) -> Result<(), Fail> {
-    assert_eq!(rt; first_other_end(rt.alloc())?, ENDS.len());
-    Ok(())
+fn refuses_a_long_header(rt: HostRuntime) {
+    none_found(&rt, first_other_end(rt.alloc(), &ENDS));
 }

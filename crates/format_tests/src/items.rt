@@ -1,3 +1,4 @@
+use crate::tables::holds;
 use lists_and_answers::Items;
 use std::alloc::{AllocError, Global};
 use std::test::*;
@@ -23,10 +24,13 @@ fn begins_empty(alloc: Global) -> bool {
     numbers.is_empty()
 }
 
+fn are_in_order(alloc: Global) -> Result<bool, AllocError> {
+    Ok(begins_empty(alloc) && has_numbers(&numbers(alloc)?))
+}
+
 #[test]
-fn numbers_in_order(rt: HostRuntime) -> Result<(), Fail> {
-    assert!(rt; begins_empty(rt.alloc()) && has_numbers(&numbers(rt.alloc())?));
-    Ok(())
+fn numbers_in_order(rt: HostRuntime) {
+    holds(&rt, are_in_order(rt.alloc()));
 }
 
 // Whether a list of one text has that text.
@@ -37,7 +41,6 @@ fn has_text(alloc: Global) -> Result<bool, AllocError> {
 }
 
 #[test]
-fn an_item_at_a_place(rt: HostRuntime) -> Result<(), Fail> {
-    assert!(rt; has_text(rt.alloc())?);
-    Ok(())
+fn an_item_at_a_place(rt: HostRuntime) {
+    holds(&rt, has_text(rt.alloc()));
 }

@@ -1,6 +1,7 @@
 ghost use Rattle.std.specs.Prelude.{◌<◌, ◌≤◌, ◌^◌, unsigned_abs};
 ghost use Rattle.geotransform.specs.Geo.{IsRaster};
 
+use crate::tables::{none_found, none_wrong};
 use geotransform::decimal::{
     is_decimal, is_negative_decimal, read_decimal, read_number, read_whole,
 };
@@ -187,7 +188,10 @@ const WHOLES: [(&str, Option<i128>); 32] = [
     ("12a", None),
 ];
 
-const FIXED: [(i128, u32, &str); 31] = [
+// A value, how many places are printed, and the text.
+type Fixed<'a> = (i128, u32, &'a str);
+
+const FIXED: [Fixed<'static>; 31] = [
     (-1, 3, "0.000"),
     (1, 0, "0"),
     (0, 0, "0"),
@@ -268,51 +272,67 @@ const SHORT: [(i128, &str); 20] = [
     ),
 ];
 
-// The first of these texts that is another decimal, or how many texts there are.
-fn first_misread() -> usize {
-    for (at, (text, ticks)) in DECIMALS.iter().enumerate() {
-        if read_decimal(text.as_bytes()).map(|value| value.get()) != *ticks {
-            return at;
-        }
+fn is_decimal_of((text, ticks): (&str, Option<i128>)) -> bool {
+    match read_decimal(text.as_bytes()) {
+        Some(value) => ticks == Some(value.get()),
+        None => ticks.is_none(),
     }
-    DECIMALS.len()
 }
 
-// The first of these texts that is another whole number, or how many texts there are.
-fn first_not_whole() -> usize {
-    for (at, (text, whole)) in WHOLES.iter().enumerate() {
-        if read_whole(text.as_bytes()) != *whole {
-            return at;
+// The first of these texts that is another decimal.
+fn first_misread(rows: &[(&str, Option<i128>)]) -> Option<usize> {
+    for at in 0..rows.len() {
+        if !is_decimal_of(rows[at]) {
+            return Some(at);
         }
     }
-    WHOLES.len()
+    None
+}
+
+fn is_whole((text, whole): (&str, Option<i128>)) -> bool {
+    read_whole(text.as_bytes()) == whole
+}
+
+// The first of these texts that is another whole number.
+fn first_not_whole(rows: &[(&str, Option<i128>)]) -> Option<usize> {
+    for at in 0..rows.len() {
+        if !is_whole(rows[at]) {
+            return Some(at);
+        }
+    }
+    None
 }
 
 #[test]
 fn reads_decimals(rt: HostRuntime) {
-    let first = (first_misread(), first_not_whole());
-    assert_eq!(rt; first, (DECIMALS.len(), WHOLES.len()));
+    none_wrong(&rt, first_misread(&DECIMALS));
+    none_wrong(&rt, first_not_whole(&WHOLES));
+}
+
+fn are_told() -> bool {
+    is_decimal(b"1e999")
+        && !is_decimal(b"5.")
+        && is_negative_decimal(b"-1e-999")
+        && !is_negative_decimal(b"-0.0e5")
 }
 
 #[test]
 fn tells_decimals(rt: HostRuntime) {
-    let told = (is_decimal(b"1e999"), is_decimal(b"5."));
-    let below = (
-        is_negative_decimal(b"-1e-999"),
-        is_negative_decimal(b"-0.0e5"),
-    );
-    assert_eq!(rt; (told, below), ((true, false), (true, false)));
+    assert!(rt; are_told());
+}
+
+// Whether the longest number is read, and none that is longer.
+fn are_read() -> bool {
+    read_number(b"000000000000000012") == Some(12) && read_number(b"0000000000000000012").is_none()
 }
 
 #[test]
 fn reads_numbers(rt: HostRuntime) {
-    let longest = read_number(b"000000000000000012");
-    let longer = read_number(b"0000000000000000012");
-    assert_eq!(rt; (longest, longer), (Some(12), None));
+    assert!(rt; are_read());
 }
 
 // Whether a value is printed so behind what stands, with so many places.
-fn is_printed(alloc: Global, value: i128, places: u32, text: &str) -> Result<bool, AllocError> {
+fn is_printed(alloc: Global, (value, places, text): Fixed<'_>) -> Result<bool, AllocError> {
     if places > 16 {
         return Ok(false);
     }
@@ -322,43 +342,41 @@ fn is_printed(alloc: Global, value: i128, places: u32, text: &str) -> Result<boo
     Ok(out.first() == Some(&b'=') && out.get(1..) == Some(text.as_bytes()))
 }
 
-// The first of these values that is printed otherwise, or how many values there are.
-fn first_misprinted(alloc: Global) -> Result<usize, AllocError> {
-    for (at, (value, places, text)) in FIXED.iter().enumerate() {
-        if !is_printed(alloc, *value, *places, text)? {
-            return Ok(at);
+// The first of these values that is printed otherwise.
+fn first_misprinted(alloc: Global, rows: &[Fixed<'_>]) -> Result<Option<usize>, AllocError> {
+    for at in 0..rows.len() {
+        if !is_printed(alloc, rows[at])? {
+            return Ok(Some(at));
         }
     }
-    Ok(FIXED.len())
+    Ok(None)
 }
 
 #[test]
-fn prints_decimals(rt: HostRuntime) -> Result<(), Fail> {
-    assert_eq!(rt; first_misprinted(rt.alloc())?, FIXED.len());
-    Ok(())
+fn prints_decimals(rt: HostRuntime) {
+    none_found(&rt, first_misprinted(rt.alloc(), &FIXED));
 }
 
 // Whether a value is printed so with as few places as serve.
-fn is_short(alloc: Global, value: i128, text: &str) -> Result<bool, AllocError> {
+fn is_short(alloc: Global, (value, text): (i128, &str)) -> Result<bool, AllocError> {
     let mut out = Vec::new(alloc);
     print_short(ticks(value), &mut out)?;
     Ok(out.as_slice() == text.as_bytes())
 }
 
-// The first of these values that is printed otherwise, or how many values there are.
-fn first_not_short(alloc: Global) -> Result<usize, AllocError> {
-    for (at, (value, text)) in SHORT.iter().enumerate() {
-        if !is_short(alloc, *value, text)? {
-            return Ok(at);
+// The first of these values that is printed otherwise.
+fn first_not_short(alloc: Global, rows: &[(i128, &str)]) -> Result<Option<usize>, AllocError> {
+    for at in 0..rows.len() {
+        if !is_short(alloc, rows[at])? {
+            return Ok(Some(at));
         }
     }
-    Ok(SHORT.len())
+    Ok(None)
 }
 
 #[test]
-fn prints_short_decimals(rt: HostRuntime) -> Result<(), Fail> {
-    assert_eq!(rt; first_not_short(rt.alloc())?, SHORT.len());
-    Ok(())
+fn prints_short_decimals(rt: HostRuntime) {
+    none_found(&rt, first_not_short(rt.alloc(), &SHORT));
 }
 
 /// So many ticks, or one unit, which no table expects in their place.
@@ -366,8 +384,10 @@ fn ticks(n: i128) -> Ticks {
     Ticks::new(n).unwrap_or(Ticks::UNIT)
 }
 
-// A type, its name, its name in another case, and the least and the greatest number of it.
-const KINDS: [(PixelType, &str, &str, Sample, Sample); 8] = [
+/// A type, its name, its name in another case, and the least and the greatest number of it.
+type Kind<'a> = (PixelType, &'a str, &'a str, Sample, Sample);
+
+const KINDS: [Kind<'static>; 8] = [
     (PixelType::Byte, "Byte", "bYTE", 0, 255),
     (PixelType::Int8, "Int8", "iNT8", -128, 127),
     (PixelType::UInt16, "UInt16", "uint16", 0, 65_535),
@@ -415,44 +435,42 @@ fn has_range(kind: PixelType, least: Sample, greatest: Sample) -> bool {
         && !holds(kind, greatest.saturating_add(1))
 }
 
-// The first of these types that has another name, or how many types there are.
-fn first_of_other_name() -> usize {
-    for (at, (kind, name, other_case, _, _)) in KINDS.iter().enumerate() {
-        if !has_name(*kind, name, other_case) {
-            return at;
-        }
-    }
-    KINDS.len()
+fn is_kind((kind, name, other_case, least, greatest): Kind<'_>) -> bool {
+    has_name(kind, name, other_case) && has_range(kind, least, greatest)
 }
 
-// The first of these types that has another range, or how many types there are.
-fn first_of_other_range() -> usize {
-    for (at, (kind, _, _, least, greatest)) in KINDS.iter().enumerate() {
-        if !has_range(*kind, *least, *greatest) {
-            return at;
+// The first of these types that has another name or another range.
+fn first_other_kind(rows: &[Kind<'_>]) -> Option<usize> {
+    for at in 0..rows.len() {
+        if !is_kind(rows[at]) {
+            return Some(at);
         }
     }
-    KINDS.len()
+    None
 }
 
 const NO_NAMES: [&str; 8] = [
     "", "byte ", "Float32", "UInt1", "UInt166", "UInt8", "Int 8", "Int644",
 ];
 
-// The first of these texts that is the name of a type, or how many texts there are.
-fn first_named() -> usize {
-    for (at, text) in NO_NAMES.iter().enumerate() {
-        if PixelType::read_name(text.as_bytes(), true).is_some() {
-            return at;
+fn is_no_name(text: &str) -> bool {
+    PixelType::read_name(text.as_bytes(), true).is_none()
+}
+
+// The first of these texts that is the name of a type.
+fn first_named(rows: &[&str]) -> Option<usize> {
+    for at in 0..rows.len() {
+        if !is_no_name(rows[at]) {
+            return Some(at);
         }
     }
-    NO_NAMES.len()
+    None
 }
 
 #[test]
 fn keeps_types(rt: HostRuntime) {
-    let first = (first_of_other_name(), first_of_other_range(), first_named());
-    assert_eq!(rt; first, (KINDS.len(), KINDS.len(), NO_NAMES.len()));
+    none_wrong(&rt, first_other_kind(&KINDS));
+    none_wrong(&rt, first_named(&NO_NAMES));
 }
 
 fn geo(ox: i128, oy: i128, dx: i128, dy: i128) -> Option<GeoTransform> {
@@ -512,17 +530,22 @@ fn bounds_places(rt: HostRuntime) {
     assert!(rt; are_bounded());
 }
 
-#[test]
-fn finds_places(rt: HostRuntime) -> Result<(), Fail> {
-    let geo = geo(
+// Whether places are found in a raster of the north-west.
+fn are_found() -> bool {
+    match geo(
         -18_000_000_000_000_000_000,
         16_200_000_000_000_000_000,
         1_499_999_999_999_400,
         -1_499_999_999_999_400,
-    )
-    .ok_or("it is near")?;
-    assert!(rt; has_corners(&geo) && locates(&geo));
-    Ok(())
+    ) {
+        Some(geo) => has_corners(&geo) && locates(&geo),
+        None => false,
+    }
+}
+
+#[test]
+fn finds_places(rt: HostRuntime) {
+    assert!(rt; are_found());
 }
 
 // Whether ticks are rounded to the nearest that have sixteen places, half away from zero.
@@ -594,5 +617,5 @@ fn are_cut() -> bool {
 
 #[test]
 fn cuts_windows(rt: HostRuntime) {
-    assert_eq!(rt; (are_windows(), are_cut()), (true, true));
+    assert!(rt; are_windows() && are_cut());
 }

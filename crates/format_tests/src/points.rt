@@ -1,65 +1,90 @@
+use crate::tables::{holds, none_found};
 use input_points::{Entry, LineKind, PointLines, Position, entries_of};
-use itoa::Buffer;
-use std::alloc::Global;
+use lists_and_answers::push_all;
+use std::alloc::{AllocError, Global};
 use std::test::*;
 
-fn number(n: i128) -> Result<Position, Fail> {
-    let mut digits = Buffer::new();
-    let number = Position::read(digits.format(n).as_bytes()).ok_or("it is small")?;
-    Ok(number)
+fn at(x: &[u8], y: &[u8]) -> Option<LineKind> {
+    Some(LineKind::Point(Position::read(x)?, Position::read(y)?))
 }
 
-fn at(x: i128, y: i128) -> Result<LineKind, Fail> {
-    Ok(LineKind::Point(number(x)?, number(y)?))
+// Adds what a line says, and tells whether its number is that of the last one.
+fn add(entry: Entry, out: &mut Vec<LineKind>) -> Result<bool, AllocError> {
+    out.push(entry.kind)?;
+    Ok(entry.line as usize == out.len())
 }
 
-// Adds what the lines of a piece say, up to one that ends the reading. They are numbered from 1.
-fn read_piece(reader: &mut PointLines, piece: &[u8], out: &mut Vec<LineKind>) -> Result<(), Fail> {
+// Adds what the lines of a piece say, up to one that ends the reading, and tells whether they are numbered from 1.
+fn read_piece(
+    reader: &mut PointLines,
+    piece: &[u8],
+    out: &mut Vec<LineKind>,
+) -> Result<bool, AllocError> {
     let mut left = piece;
     for _ in 0..=piece.len() {
         let (entry, used) = reader.next(left);
-        let Some(Entry { line, kind }) = entry else {
-            return Ok(());
+        let Some(entry) = entry else {
+            return Ok(true);
         };
-        out.push(kind)?;
-        if line as usize != out.len() {
-            return Err("another number")?;
+        if !add(entry, out)? {
+            return Ok(false);
         }
         left = &left[used..];
     }
-    Ok(())
+    Ok(true)
 }
 
-// What the lines of an input say that comes in two pieces, the first of so many bytes.
-fn read_cut(alloc: Global, input: &[u8], first: usize) -> Result<Vec<LineKind>, Fail> {
-    let (front, back) = input.split_at(first.min(input.len()));
-    let mut reader = PointLines::new(alloc)?;
-    let mut kinds = Vec::new(alloc);
-    read_piece(&mut reader, front, &mut kinds)?;
-    read_piece(&mut reader, back, &mut kinds)?;
-    if let Some(Entry { line, kind }) = reader.finish() {
-        kinds.push(kind)?;
-        if line as usize != kinds.len() {
-            return Err("another number")?;
-        }
+fn read_last(reader: PointLines, out: &mut Vec<LineKind>) -> Result<bool, AllocError> {
+    match reader.finish() {
+        Some(entry) => add(entry, out),
+        None => Ok(true),
     }
-    Ok(kinds)
+}
+
+// Adds what the lines of an input say that comes in two pieces, and tells whether they are numbered from 1.
+fn read_both(
+    mut reader: PointLines,
+    (front, back): (&[u8], &[u8]),
+    out: &mut Vec<LineKind>,
+) -> Result<bool, AllocError> {
+    let first = read_piece(&mut reader, front, out)?;
+    let second = read_piece(&mut reader, back, out)?;
+    Ok(read_last(reader, out)? && first && second)
+}
+
+// Whether an input that comes in two pieces, the first of so many bytes, has these lines.
+fn has_cut(
+    alloc: Global,
+    input: &[u8],
+    first: usize,
+    want: &[LineKind],
+) -> Result<bool, AllocError> {
+    let reader = PointLines::new(alloc)?;
+    let mut kinds = Vec::new(alloc);
+    let pieces = input.split_at(first.min(input.len()));
+    let numbered = read_both(reader, pieces, &mut kinds)?;
+    Ok(numbered && kinds.as_slice() == want)
 }
 
 // Whether the input has these lines, wherever it is cut.
-fn has_lines(alloc: Global, input: &[u8], want: &[LineKind]) -> Result<bool, Fail> {
+fn has_lines(alloc: Global, input: &[u8], want: &[LineKind]) -> Result<bool, AllocError> {
     for first in 0..=input.len() {
-        let kinds = read_cut(alloc, input, first)?;
-        if kinds.as_slice() != want {
+        if !has_cut(alloc, input, first, want)? {
             return Ok(false);
         }
     }
     Ok(true)
 }
 
+fn three() -> Option<[LineKind; 3]> {
+    Some([at(b"0", b"0")?, at(b"9", b"9")?, at(b"2", b"1")?])
+}
+
 // Whether three points are read, with a line that is none and one that is not reached.
-fn reads_three(alloc: Global) -> Result<bool, Fail> {
-    let [a, b, c] = [at(0, 0)?, at(9, 9)?, at(2, 1)?];
+fn reads_three(alloc: Global) -> Result<bool, AllocError> {
+    let Some([a, b, c]) = three() else {
+        return Ok(false);
+    };
     Ok(
         has_lines(alloc, b"0 0\n9 9\n2 1", &[a, b, c])?
             && has_lines(alloc, b"0 0\r\n\t9 \t 9.0\r\n 2 1e0 \n", &[a, b, c])?
@@ -68,16 +93,19 @@ fn reads_three(alloc: Global) -> Result<bool, Fail> {
 }
 
 // Whether lines that are blank are.
-fn reads_blanks(alloc: Global) -> Result<bool, Fail> {
+fn reads_blanks(alloc: Global) -> Result<bool, AllocError> {
+    let Some(point) = at(b"-1", b"2") else {
+        return Ok(false);
+    };
     let blank = LineKind::Blank;
-    let lines = [blank, blank, at(-1, 2)?, blank];
+    let lines = [blank, blank, point, blank];
     Ok(has_lines(alloc, b"\n \t\r\n-1 +2\n\n", &lines)? && has_lines(alloc, b"", &[])?)
 }
 
 #[test]
-fn points(rt: HostRuntime) -> Result<(), Fail> {
-    assert!(rt; reads_three(rt.alloc())? && reads_blanks(rt.alloc())?);
-    Ok(())
+fn points(rt: HostRuntime) {
+    holds(&rt, reads_three(rt.alloc()));
+    holds(&rt, reads_blanks(rt.alloc()));
 }
 
 const BAD: [&[u8]; 7] = [
@@ -90,39 +118,43 @@ const BAD: [&[u8]; 7] = [
     b"1,2\n",
 ];
 
-// The first of these inputs that isn't one bad line, or how many inputs there are.
-fn first_unrefused(alloc: Global) -> Result<usize, Fail> {
-    for (at, input) in BAD.iter().enumerate() {
-        if !has_lines(alloc, input, &[LineKind::Bad])? {
-            return Ok(at);
+fn is_bad(alloc: Global, input: &[u8]) -> Result<bool, AllocError> {
+    has_lines(alloc, input, &[LineKind::Bad])
+}
+
+// The first of these inputs that isn't one bad line.
+fn first_unrefused(alloc: Global, rows: &[&[u8]]) -> Result<Option<usize>, AllocError> {
+    for at in 0..rows.len() {
+        if !is_bad(alloc, rows[at])? {
+            return Ok(Some(at));
         }
     }
-    Ok(BAD.len())
+    Ok(None)
 }
 
 #[test]
-fn bad_lines(rt: HostRuntime) -> Result<(), Fail> {
-    assert_eq!(rt; first_unrefused(rt.alloc())?, BAD.len());
-    Ok(())
+fn bad_lines(rt: HostRuntime) {
+    none_found(&rt, first_unrefused(rt.alloc(), &BAD));
 }
 
 // A point behind so many blanks, with this end.
-fn wide(alloc: Global, blanks: usize, end: &[u8]) -> Result<Vec<u8>, Fail> {
-    let mut input = Vec::new(alloc);
-    for _ in 0..blanks {
-        input.push(b' ')?;
-    }
-    input.extend_from_slice(b"1 2")?;
-    input.extend_from_slice(end)?;
+fn wide(alloc: Global, blanks: usize, end: &[u8]) -> Result<Vec<u8>, AllocError> {
+    let mut input = vec![in alloc; b' '; blanks]?;
+    push_all(&[b"1 2", end], &mut input)?;
     Ok(input)
 }
 
 const CUTS: [usize; 7] = [0, 1, 4095, 4096, 4097, 4098, 5000];
 
-// Whether an input is this one line, cut at each of the places.
-fn is_line(alloc: Global, input: &[u8], want: LineKind) -> Result<bool, Fail> {
-    for first in CUTS {
-        if read_cut(alloc, input, first)?.as_slice() != [want].as_slice() {
+// Whether an input is this one line, cut at each of these places.
+fn is_line(
+    alloc: Global,
+    input: &[u8],
+    cuts: &[usize],
+    want: LineKind,
+) -> Result<bool, AllocError> {
+    for at in 0..cuts.len() {
+        if !has_cut(alloc, input, cuts[at], &[want])? {
             return Ok(false);
         }
     }
@@ -130,55 +162,67 @@ fn is_line(alloc: Global, input: &[u8], want: LineKind) -> Result<bool, Fail> {
 }
 
 // Whether a point behind so many blanks is this line.
-fn is_wide(alloc: Global, blanks: usize, end: &[u8], want: LineKind) -> Result<bool, Fail> {
+fn is_wide(alloc: Global, blanks: usize, end: &[u8], want: LineKind) -> Result<bool, AllocError> {
     let input = wide(alloc, blanks, end)?;
-    is_line(alloc, &input, want)
+    is_line(alloc, &input, &CUTS, want)
 }
 
 const ENDS: [&[u8]; 3] = [b"", b"\n", b"\r\n"];
 
-// The first of the ends with which the longest line isn't read, or a longer one is, or how many ends there are.
-fn first_unbounded(alloc: Global) -> Result<usize, Fail> {
-    let point = at(1, 2)?;
-    for (number, end) in ENDS.iter().enumerate() {
-        if !is_wide(alloc, 4093, end, point)? || !is_wide(alloc, 4094, end, LineKind::Bad)? {
-            return Ok(number);
+// Whether the longest line is read with this end, and a longer one isn't.
+fn is_bounded(alloc: Global, end: &[u8]) -> Result<bool, AllocError> {
+    let Some(point) = at(b"1", b"2") else {
+        return Ok(false);
+    };
+    Ok(is_wide(alloc, 4093, end, point)? && is_wide(alloc, 4094, end, LineKind::Bad)?)
+}
+
+// The first of the ends with which the longest line isn't read, or a longer one is.
+fn first_unbounded(alloc: Global, rows: &[&[u8]]) -> Result<Option<usize>, AllocError> {
+    for at in 0..rows.len() {
+        if !is_bounded(alloc, rows[at])? {
+            return Ok(Some(at));
         }
     }
-    Ok(ENDS.len())
+    Ok(None)
 }
 
 #[test]
-fn long_lines(rt: HostRuntime) -> Result<(), Fail> {
-    assert_eq!(rt; first_unbounded(rt.alloc())?, ENDS.len());
-    Ok(())
+fn long_lines(rt: HostRuntime) {
+    none_found(&rt, first_unbounded(rt.alloc(), &ENDS));
 }
 
 const PIECES: [&[u8]; 4] = [b"0 0\n9", b"", b" 9\r", b"\n2 1"];
 
-fn three_entries() -> Result<[Entry; 3], Fail> {
-    Ok([
+fn three_entries() -> Option<[Entry; 3]> {
+    let [first, second, third] = three()?;
+    Some([
         Entry {
             line: 1,
-            kind: at(0, 0)?,
+            kind: first,
         },
         Entry {
             line: 2,
-            kind: at(9, 9)?,
+            kind: second,
         },
         Entry {
             line: 3,
-            kind: at(2, 1)?,
+            kind: third,
         },
     ])
 }
 
+fn are_three(alloc: Global) -> Result<bool, AllocError> {
+    let Some(want) = three_entries() else {
+        return Ok(false);
+    };
+    Ok(entries_of(alloc, &PIECES)?.as_slice() == want.as_slice())
+}
+
 // Four pieces, one of them empty.
 #[test]
-fn in_pieces(rt: HostRuntime) -> Result<(), Fail> {
-    let want = three_entries()?;
-    assert!(rt; entries_of(rt.alloc(), &PIECES)?.as_slice() == want.as_slice());
-    Ok(())
+fn in_pieces(rt: HostRuntime) {
+    holds(&rt, are_three(rt.alloc()));
 }
 
 // Whether a line of more bytes than a line may have is refused before it ends, and nothing behind it is read.
@@ -194,8 +238,11 @@ fn refuses_early(mut reader: PointLines) -> bool {
         && reader.finish() == None
 }
 
+fn is_refused_early(alloc: Global) -> Result<bool, AllocError> {
+    Ok(refuses_early(PointLines::new(alloc)?))
+}
+
 #[test]
-fn refused_early(rt: HostRuntime) -> Result<(), Fail> {
-    assert!(rt; refuses_early(PointLines::new(rt.alloc())?));
-    Ok(())
+fn refused_early(rt: HostRuntime) {
+    holds(&rt, is_refused_early(rt.alloc()));
 }

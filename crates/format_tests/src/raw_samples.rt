@@ -1,8 +1,10 @@
+use crate::tables::{none_found, none_wrong};
 use esri_hdr::{RawHead, read, sample_len};
 use geotransform::holds;
 use interleaved_raw::places::{needed_len, position, stride};
 use interleaved_raw::samples::{decode_run, decode_sample, encode_run};
-use std::alloc::Global;
+use lists_and_answers::push_all;
+use std::alloc::{AllocError, Global};
 use std::test::*;
 
 /// The sample of a file in a band, a column and a line, where it has one.
@@ -19,15 +21,17 @@ fn sample_of(head: &RawHead, file: &[u8], band: u32, x: u32, y: u32) -> Option<i
 
 const TWO_BANDS: [u8; 12] = [1, 2, 3, 4, 5, 6, 7, 8, 9, 10, 11, 12];
 
-// A header of two bands of 3 x 2 bytes, and the last samples of the bands.
-const LAYOUTS: [(&[u8], i128, i128); 3] = [
+/// A header of two bands of 3 x 2 bytes, and the last samples of the bands.
+type Bands<'a> = (&'a [u8], i128, i128);
+
+const LAYOUTS: [Bands<'static>; 3] = [
     (b"NROWS 2\nNCOLS 3\nNBANDS 2\nLAYOUT BIL\n", 9, 12),
     (b"NROWS 2\nNCOLS 3\nNBANDS 2\nLAYOUT BIP\n", 11, 12),
     (b"NROWS 2\nNCOLS 3\nNBANDS 2\nLAYOUT BSQ\n", 6, 12),
 ];
 
 // Whether the bands of a header end with these samples.
-fn ends_with(text: &[u8], first: i128, second: i128) -> bool {
+fn ends_with((text, first, second): Bands<'_>) -> bool {
     let Ok(head) = read(text) else {
         return false;
     };
@@ -36,19 +40,19 @@ fn ends_with(text: &[u8], first: i128, second: i128) -> bool {
         && sample_of(&head, &TWO_BANDS, 1, 2, 1) == Some(second)
 }
 
-// The first of these headers whose bands end otherwise, or how many headers there are.
-fn first_of_other_layout() -> usize {
-    for (at, (text, first, second)) in LAYOUTS.iter().enumerate() {
-        if !ends_with(text, *first, *second) {
-            return at;
+// The first of these headers whose bands end otherwise.
+fn first_of_other_layout(rows: &[Bands<'_>]) -> Option<usize> {
+    for at in 0..rows.len() {
+        if !ends_with(rows[at]) {
+            return Some(at);
         }
     }
-    LAYOUTS.len()
+    None
 }
 
 #[test]
 fn finds_samples_by_layout(rt: HostRuntime) {
-    assert_eq!(rt; first_of_other_layout(), LAYOUTS.len());
+    none_wrong(&rt, first_of_other_layout(&LAYOUTS));
 }
 
 // A header of one pixel, and its sample in the bytes FF FE 80 01 00 7F 10 80.
@@ -83,31 +87,28 @@ const KINDS: [(&[u8], i128); 13] = [
     ),
 ];
 
-// The one sample of a header.
-fn pixel_of(text: &[u8]) -> Option<i128> {
-    let head = read(text).ok()?;
-    sample_of(
-        &head,
-        &[0xFF, 0xFE, 0x80, 0x01, 0x00, 0x7F, 0x10, 0x80],
-        0,
-        0,
-        0,
-    )
+// Whether this is the one sample of a header.
+fn has_pixel((text, wanted): (&[u8], i128)) -> bool {
+    let bytes = [0xFF, 0xFE, 0x80, 0x01, 0x00, 0x7F, 0x10, 0x80];
+    match read(text) {
+        Ok(head) => sample_of(&head, &bytes, 0, 0, 0) == Some(wanted),
+        Err(_) => false,
+    }
 }
 
-// The first of these headers that has another sample, or how many headers there are.
-fn first_of_other_kind() -> usize {
-    for (at, (text, wanted)) in KINDS.iter().enumerate() {
-        if pixel_of(text) != Some(*wanted) {
-            return at;
+// The first of these headers that has another sample.
+fn first_of_other_kind(rows: &[(&[u8], i128)]) -> Option<usize> {
+    for at in 0..rows.len() {
+        if !has_pixel(rows[at]) {
+            return Some(at);
         }
     }
-    KINDS.len()
+    None
 }
 
 #[test]
 fn reads_by_order_and_type(rt: HostRuntime) {
-    assert_eq!(rt; first_of_other_kind(), KINDS.len());
+    none_wrong(&rt, first_of_other_kind(&KINDS));
 }
 
 /// Writes a run where its samples are of the head's type and the bytes hold it.
@@ -129,20 +130,24 @@ fn write_run(head: &RawHead, samples: &[i128], bytes: &mut [u8]) -> bool {
 const BETWEEN: &[u8] =
     b"NROWS 1\nNCOLS 3\nNBANDS 2\nNBITS 16\nLAYOUT BIP\nBYTEORDER M\nPIXELTYPE SIGNEDINT";
 
-// What is written between bytes that are 7.
-fn written(text: &[u8], samples: &[i128]) -> Option<[u8; 11]> {
-    let head = read(text).ok()?;
+// Whether this is written between bytes that are 7.
+fn is_written(text: &[u8], samples: &[i128], wanted: &[u8]) -> bool {
+    let Ok(head) = read(text) else {
+        return false;
+    };
     let mut bytes = [7; 11];
-    if write_run(&head, samples, &mut bytes) {
-        return Some(bytes);
-    }
-    None
+    write_run(&head, samples, &mut bytes) && bytes.as_slice() == wanted
 }
 
 #[test]
 fn writes_between_what_stays(rt: HostRuntime) {
-    let wanted = [0xFF, 0xFE, 7, 7, 1, 0, 7, 7, 0x7F, 0xFF, 7];
-    assert!(rt; written(BETWEEN, &[-2, 256, 32767]) == Some(wanted));
+    assert!(rt;
+        is_written(
+            BETWEEN,
+            &[-2, 256, 32767],
+            &[0xFF, 0xFE, 7, 7, 1, 0, 7, 7, 0x7F, 0xFF, 7],
+        )
+    );
 }
 
 /// Reads a run where the bytes hold it.
@@ -157,24 +162,28 @@ fn read_run(head: &RawHead, bytes: &[u8], out: &mut [i128]) -> bool {
     true
 }
 
-// A line of a band that begins at a place of the bytes.
-fn line_from(text: &[u8], place: usize) -> Option<[i128; 3]> {
-    let head = read(text).ok()?;
+// Whether this is the line of a band that begins at a place of the bytes.
+fn is_line(text: &[u8], place: usize, wanted: &[i128]) -> bool {
+    let Ok(head) = read(text) else {
+        return false;
+    };
     let mut out = [0; 3];
-    if read_run(&head, TWO_BANDS.get(place..)?, &mut out) {
-        return Some(out);
+    match TWO_BANDS.get(place..) {
+        Some(rest) => read_run(&head, rest, &mut out) && out.as_slice() == wanted,
+        None => false,
     }
-    None
 }
 
 #[test]
 fn reads_a_run_of_a_band(rt: HostRuntime) {
-    let line = line_from(b"NROWS 2\nNCOLS 3\nNBANDS 2\nLAYOUT BIP", 7);
-    assert!(rt; line == Some([8, 10, 12]));
+    let header = b"NROWS 2\nNCOLS 3\nNBANDS 2\nLAYOUT BIP";
+    assert!(rt; is_line(header, 7, &[8, 10, 12]));
 }
 
-// A header without its layout and its order, and the least and the greatest number of its type.
-const ENDS: [(&str, [i128; 2]); 8] = [
+/// A header without its layout and its order, and the least and the greatest number of its type.
+type Ends<'a> = (&'a str, [i128; 2]);
+
+const ENDS: [Ends<'static>; 8] = [
     ("NBITS 8\n", [0, 255]),
     ("NBITS 8\nPIXELTYPE SIGNEDINT\n", [-128, 127]),
     ("NBITS 16\n", [0, 65_535]),
@@ -200,41 +209,49 @@ const FORMS: [&str; 6] = [
     "NROWS 1\nNCOLS 2\nNBANDS 2\nLAYOUT BSQ\nBYTEORDER M\n",
 ];
 
-// Whether what is written of two samples is read as they are.
-fn reads_again(alloc: Global, form: &str, kind: &str, ends: [i128; 2]) -> Result<bool, Fail> {
-    let mut text: Vec<u8> = Vec::new(alloc);
-    text.extend_from_slice(form.as_bytes())?;
-    text.extend_from_slice(kind.as_bytes())?;
-    let Ok(head) = read(&text) else {
-        return Ok(false);
+// Whether what is written of two samples with a header is read as they are.
+fn is_kept(text: &[u8], ends: &[i128]) -> bool {
+    let Ok(head) = read(text) else {
+        return false;
     };
     let mut bytes = [7; 24];
     let mut out = [0; 2];
-    Ok(write_run(&head, &ends, &mut bytes) && read_run(&head, &bytes, &mut out) && out == ends)
+    write_run(&head, ends, &mut bytes)
+        && read_run(&head, &bytes, &mut out)
+        && out.as_slice() == ends
 }
 
-// Whether the ends of a type are read as they were written in each layout and order.
-fn keeps_ends(alloc: Global, kind: &str, ends: [i128; 2]) -> Result<bool, Fail> {
-    for form in FORMS {
-        if !reads_again(alloc, form, kind, ends)? {
+fn reads_again(alloc: Global, form: &str, (kind, ends): Ends<'_>) -> Result<bool, AllocError> {
+    let mut text = Vec::new(alloc);
+    push_all(&[form.as_bytes(), kind.as_bytes()], &mut text)?;
+    Ok(is_kept(&text, &ends))
+}
+
+// Whether the ends of a type are read as they were written in each of these forms.
+fn keeps_all(alloc: Global, forms: &[&str], row: Ends<'_>) -> Result<bool, AllocError> {
+    for at in 0..forms.len() {
+        if !reads_again(alloc, forms[at], row)? {
             return Ok(false);
         }
     }
     Ok(true)
 }
 
-// The first type whose ends are lost, or how many types there are.
-fn first_lost(alloc: Global) -> Result<usize, Fail> {
-    for (at, (kind, ends)) in ENDS.iter().enumerate() {
-        if !keeps_ends(alloc, kind, *ends)? {
-            return Ok(at);
+fn keeps_ends(alloc: Global, row: Ends<'_>) -> Result<bool, AllocError> {
+    keeps_all(alloc, &FORMS, row)
+}
+
+// The first type whose ends are lost.
+fn first_lost(alloc: Global, rows: &[Ends<'_>]) -> Result<Option<usize>, AllocError> {
+    for at in 0..rows.len() {
+        if !keeps_ends(alloc, rows[at])? {
+            return Ok(Some(at));
         }
     }
-    Ok(ENDS.len())
+    Ok(None)
 }
 
 #[test]
-fn keeps_the_ends_of_types(rt: HostRuntime) -> Result<(), Fail> {
-    assert_eq!(rt; first_lost(rt.alloc())?, ENDS.len());
-    Ok(())
+fn keeps_the_ends_of_types(rt: HostRuntime) {
+    none_found(&rt, first_lost(rt.alloc(), &ENDS));
 }

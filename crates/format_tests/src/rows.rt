@@ -2,42 +2,49 @@
 ghost use Rattle.std.specs.Prelude.{◌≡◌, IfOk, IfSome};
 
 use crate::sources::document;
+use crate::tables::{holds, none_found};
 use geotransform::Size;
 use itoa::Buffer;
+use lists_and_answers::push_all;
 use mosaic_sources::RowIndex;
-use std::alloc::Global;
+use std::alloc::{AllocError, Global};
 use std::test::*;
 use vrt_profile::{Document, Sources};
 
 // The index of sources over a mosaic of this height; `None` where there is none.
-fn index_of(alloc: Global, sources: &Sources, height: u32) -> Result<Option<RowIndex>, Fail>
+fn index_of(alloc: Global, sources: &Sources, height: u32) -> Result<Option<RowIndex>, AllocError>
     ensures height { IfOk result (λ o. IfSome o (λ r. r.height ≡ height)) }
 {
     if sources.len() > 262_144 {
         return Ok(None);
     }
-    Ok(RowIndex::new(alloc, sources, Size { w: 3, h: height })?)
+    RowIndex::new(alloc, sources, Size { w: 3, h: height })
 }
 
 // The index of the sources of a document's first band.
-fn index_in(
-    alloc: Global,
-    document: Option<Document>,
-    height: u32,
-) -> Result<Option<RowIndex>, Fail>
+fn index_in(alloc: Global, document: &Document, height: u32) -> Result<Option<RowIndex>, AllocError>
     ensures height { IfOk result (λ o. IfSome o (λ r. r.height ≡ height)) }
 {
-    let Some(document) = document else {
-        return Ok(None);
-    };
     match document.bands.as_slice().first() {
         Some(band) => index_of(alloc, &band.sources, height),
         None => Ok(None),
     }
 }
 
-// Sources with the height of the mosaic and the number of stretches, and a line with the numbers of those that cover it.
-const LINES: [(&[u8], u32, u32, u32, &[u32]); 12] = [
+// The index of these sources.
+fn index_by(alloc: Global, sources: &[u8], height: u32) -> Result<Option<RowIndex>, AllocError>
+    ensures height { IfOk result (λ o. IfSome o (λ r. r.height ≡ height)) }
+{
+    match document(alloc, sources)? {
+        Some(document) => index_in(alloc, &document, height),
+        None => Ok(None),
+    }
+}
+
+/// Sources with the height of the mosaic and the number of stretches, and a line with the numbers of those that cover it.
+type Line<'a> = (&'a [u8], u32, u32, u32, &'a [u32]);
+
+const LINES: [Line<'static>; 12] = [
     (b"", 3, 1, 2, &[]),
     (HALVES, 2, 2, 0, &[0]),
     (HALVES, 2, 2, 1, &[1]),
@@ -68,71 +75,74 @@ const GAP: &[u8] =
 const LAYERS: &[u8] =
     b"<SimpleSource><SourceFilename>a</SourceFilename><DstRect xOff='0' yOff='0' xSize='1' ySize='3'/></SimpleSource><SimpleSource><SourceFilename>b</SourceFilename><DstRect xOff='0' yOff='1' xSize='1' ySize='1'/></SimpleSource><SimpleSource><SourceFilename>c</SourceFilename><DstRect xOff='0' yOff='1' xSize='1' ySize='9'/></SimpleSource>";
 
-// The number of stretches, and whether the list of a line is this one.
-fn looked_up(index: &RowIndex, height: u32, y: u32, want: &[u32]) -> (u32, bool)
-    requires height { index.now.height ≡ height }
+// Whether there are so many stretches, and the list of a line is this one.
+fn looks_up(index: &RowIndex, row: Line<'_>) -> bool
+    requires height { index.now.height ≡ row.1 }
 {
-    (index.stretches(), y < height && index.at(y) == want)
+    let (_, height, stretches, y, want) = row;
+    index.stretches() == stretches && y < height && index.at(y) == want
 }
 
-fn is_listed(
-    alloc: Global,
-    sources: &[u8],
-    (height, stretches): (u32, u32),
-    y: u32,
-    want: &[u32],
-) -> Result<bool, Fail> {
-    match index_in(alloc, document(alloc, sources)?, height)? {
-        Some(index) => Ok(looked_up(&index, height, y, want) == (stretches, true)),
+fn is_listed(alloc: Global, row: Line<'_>) -> Result<bool, AllocError> {
+    let (sources, height, _, _, _) = row;
+    match index_by(alloc, sources, height)? {
+        Some(index) => Ok(looks_up(&index, row)),
         None => Ok(false),
     }
 }
 
-// The first of these lines that has another list, or how many lines there are.
-fn first_mislisted(alloc: Global) -> Result<usize, Fail> {
-    for (at, (sources, height, stretches, y, want)) in LINES.iter().enumerate() {
-        if !is_listed(alloc, sources, (*height, *stretches), *y, want)? {
-            return Ok(at);
+// The first of these lines that has another list.
+fn first_mislisted(alloc: Global, rows: &[Line<'_>]) -> Result<Option<usize>, AllocError> {
+    for at in 0..rows.len() {
+        if !is_listed(alloc, rows[at])? {
+            return Ok(Some(at));
         }
     }
-    Ok(LINES.len())
+    Ok(None)
 }
 
 #[test]
-fn lines(rt: HostRuntime) -> Result<(), Fail> {
-    assert_eq!(rt; first_mislisted(rt.alloc())?, LINES.len());
-    Ok(())
+fn lines(rt: HostRuntime) {
+    none_found(&rt, first_mislisted(rt.alloc(), &LINES));
+}
+
+// Adds a source that begins at a line.
+fn add_stair(text: &mut Vec<u8>, line: u32) -> Result<(), AllocError> {
+    let mut digits = Buffer::new();
+    push_all(
+        &[
+            b"<SimpleSource><SourceFilename>a</SourceFilename><DstRect xOff='0' yOff='",
+            digits.format(line).as_bytes(),
+            b"' xSize='1' ySize='9999'/></SimpleSource>",
+        ],
+        text,
+    )
 }
 
 // So many sources over each other, each a line lower than the one before, down to the last line.
-fn stairs(alloc: Global, count: u32) -> Result<Vec<u8>, Fail> {
-    let mut text: Vec<u8> = Vec::new(alloc);
+fn stairs(alloc: Global, count: u32) -> Result<Vec<u8>, AllocError> {
+    let mut text = Vec::new(alloc);
     for at in 0..count {
-        text.extend_from_slice(
-            b"<SimpleSource><SourceFilename>a</SourceFilename><DstRect xOff='0' yOff='",
-        )?;
-        text.extend_from_slice(Buffer::new().format(at).as_bytes())?;
-        text.extend_from_slice(b"' xSize='1' ySize='9999'/></SimpleSource>")?;
+        add_stair(&mut text, at)?;
     }
     Ok(text)
 }
 
 // How many stretches the index of so many stairs has over 5,000 lines, if there is one.
-fn stretches_of(alloc: Global, count: u32) -> Result<Option<u32>, Fail> {
+fn stretches_of(alloc: Global, count: u32) -> Result<Option<u32>, AllocError> {
     let text = stairs(alloc, count)?;
-    match index_in(alloc, document(alloc, &text)?, 5_000)? {
-        Some(index) => Ok(Some(index.stretches())),
-        None => Ok(None),
-    }
+    Ok(match index_by(alloc, &text, 5_000)? {
+        Some(index) => Some(index.stretches()),
+        None => None,
+    })
+}
+
+fn are_long(alloc: Global) -> Result<bool, AllocError> {
+    Ok(stretches_of(alloc, 2_895)? == Some(2_895) && stretches_of(alloc, 2_896)?.is_none())
 }
 
 // With 2,895 stairs the lists have 4,191,960 numbers, with one more 4,194,856.
 #[test]
-fn long_lists(rt: HostRuntime) -> Result<(), Fail> {
-    let found = (
-        stretches_of(rt.alloc(), 2_895)?,
-        stretches_of(rt.alloc(), 2_896)?,
-    );
-    assert!(rt; found == (Some(2_895), None));
-    Ok(())
+fn long_lists(rt: HostRuntime) {
+    holds(&rt, are_long(rt.alloc()));
 }

@@ -1,21 +1,25 @@
+use crate::tables::none_found;
 use geotransform::Size;
+use lists_and_answers::push_all;
 use mosaic_sources::run::Run;
 use mosaic_sources::{columns, cover, value};
-use std::alloc::Global;
+use std::alloc::{AllocError, Global};
 use std::test::*;
 use vrt_profile::{Document, Source, VrtBand, VrtFault, read};
 
 /// A document whose band has these sources.
-pub fn document(alloc: Global, sources: &[u8]) -> Result<Option<Document>, Fail> {
-    let mut text: Vec<u8> = Vec::new(alloc);
-    text.extend_from_slice(b"<VRTDataset rasterXSize='3' rasterYSize='1'>")?;
-    text.extend_from_slice(b"<VRTRasterBand dataType='Int16'><NoDataValue>-1</NoDataValue>")?;
-    text.extend_from_slice(sources)?;
-    text.extend_from_slice(b"</VRTRasterBand></VRTDataset>")?;
-    match read(alloc, &text) {
-        Ok(document) => Ok(Some(document)),
-        Err(_) => Ok(None),
-    }
+pub fn document(alloc: Global, sources: &[u8]) -> Result<Option<Document>, AllocError> {
+    let mut text = Vec::new(alloc);
+    push_all(
+        &[
+            b"<VRTDataset rasterXSize='3' rasterYSize='1'>",
+            b"<VRTRasterBand dataType='Int16'><NoDataValue>-1</NoDataValue>",
+            sources,
+            b"</VRTRasterBand></VRTDataset>",
+        ],
+        &mut text,
+    )?;
+    Ok(read(alloc, &text).ok())
 }
 
 fn first_source(document: &Document) -> Option<&Source> {
@@ -23,20 +27,10 @@ fn first_source(document: &Document) -> Option<&Source> {
     band.sources.as_slice().first()
 }
 
-/// What a source of these parts makes of a pixel.
-#[tactic(auto, using(mosaic_sources::proofs::Following::narrow_pixel))]
-fn value_by(alloc: Global, source: &[u8], pixel: i32) -> Result<Option<Option<i128>>, Fail> {
-    match document(alloc, source)? {
-        Some(document) => match first_source(&document) {
-            Some(source) => Ok(Some(value(source, pixel as i128))),
-            None => Ok(None),
-        },
-        None => Ok(None),
-    }
-}
+/// A source, a pixel and what becomes of it.
+type Pixel<'a> = (&'a [u8], i32, Option<i128>);
 
-// Sources, each with a pixel and what becomes of it.
-const VALUES: [(&[u8], i32, Option<i128>); 22] = [
+const VALUES: [Pixel<'static>; 22] = [
     (
         b"<ComplexSource><SourceFilename>a</SourceFilename><LUT>0:0,10:100</LUT></ComplexSource>",
         -1,
@@ -149,25 +143,42 @@ const VALUES: [(&[u8], i32, Option<i128>); 22] = [
     ),
 ];
 
-// The first of these sources that makes something else of a pixel, or how many sources there are.
-fn first_misvalued(alloc: Global) -> Result<usize, Fail> {
-    for (at, (source, pixel, want)) in VALUES.iter().enumerate() {
-        if value_by(alloc, source, *pixel)? != Some(*want) {
-            return Ok(at);
+// Whether the first source of a document makes this of a pixel.
+#[tactic(auto, using(mosaic_sources::proofs::Following::narrow_pixel))]
+fn makes(document: &Document, pixel: i32, want: Option<i128>) -> bool {
+    match first_source(document) {
+        Some(source) => value(source, pixel as i128) == want,
+        None => false,
+    }
+}
+
+fn is_valued(alloc: Global, (source, pixel, want): Pixel<'_>) -> Result<bool, AllocError> {
+    Ok(match document(alloc, source)? {
+        Some(document) => makes(&document, pixel, want),
+        None => false,
+    })
+}
+
+// The first of these sources that makes something else of a pixel.
+fn first_misvalued(alloc: Global, rows: &[Pixel<'_>]) -> Result<Option<usize>, AllocError> {
+    for at in 0..rows.len() {
+        if !is_valued(alloc, rows[at])? {
+            return Ok(Some(at));
         }
     }
-    Ok(VALUES.len())
+    Ok(None)
 }
 
 #[test]
-fn values(rt: HostRuntime) -> Result<(), Fail> {
-    assert_eq!(rt; first_misvalued(rt.alloc())?, VALUES.len());
-    Ok(())
+fn values(rt: HostRuntime) {
+    none_found(&rt, first_misvalued(rt.alloc(), &VALUES));
 }
 
-// Sources with the widths of the mosaic and of the dataset, each 2 lines high, with a pixel of the mosaic and
-// the place in the dataset.
-const COVERS: [(&[u8], u32, u32, (u32, u32), Option<(u32, u32)>); 14] = [
+/// Sources with the widths of the mosaic and of the dataset, each 2 lines high, with a pixel of the mosaic and
+/// the place in the dataset.
+type Cover<'a> = (&'a [u8], u32, u32, (u32, u32), Option<(u32, u32)>);
+
+const COVERS: [Cover<'static>; 14] = [
     (b"", 3, 3, (2, 1), Some((2, 1))),
     (b"", 3, 6, (1, 0), Some((3, 0))),
     (b"", 6, 3, (5, 1), Some((2, 1))),
@@ -251,78 +262,55 @@ const COVERS: [(&[u8], u32, u32, (u32, u32), Option<(u32, u32)>); 14] = [
 ];
 
 /// A SimpleSource with these rectangles.
-fn placed(alloc: Global, rectangles: &[u8]) -> Result<Option<Document>, Fail> {
-    let mut text: Vec<u8> = Vec::new(alloc);
-    text.extend_from_slice(b"<SimpleSource><SourceFilename>a</SourceFilename>")?;
-    text.extend_from_slice(rectangles)?;
-    text.extend_from_slice(b"</SimpleSource>")?;
+fn placed(alloc: Global, rectangles: &[u8]) -> Result<Option<Document>, AllocError> {
+    let mut text = Vec::new(alloc);
+    push_all(
+        &[
+            b"<SimpleSource><SourceFilename>a</SourceFilename>",
+            rectangles,
+            b"</SimpleSource>",
+        ],
+        &mut text,
+    )?;
     document(alloc, &text)
 }
 
-fn cover_by(
-    alloc: Global,
-    rectangles: &[u8],
-    target: Size,
-    size: Size,
-    place: (u32, u32),
-) -> Result<Option<Option<(u32, u32)>>, Fail> {
-    match placed(alloc, rectangles)? {
-        Some(document) => match first_source(&document) {
-            Some(source) => Ok(Some(cover(source, target, size, place.0, place.1))),
-            None => Ok(None),
-        },
-        None => Ok(None),
-    }
-}
-
-// Whether a source takes that place of a dataset, where both are 2 lines high.
-fn is_covered(
-    alloc: Global,
-    rectangles: &[u8],
-    (target, size): (u32, u32),
-    place: (u32, u32),
-    want: Option<(u32, u32)>,
-) -> Result<bool, Fail> {
+// Whether the first source of a document takes that place of a dataset, where both are 2 lines high.
+fn takes(document: &Document, (_, target, size, (x, y), want): Cover<'_>) -> bool {
     let target = Size { w: target, h: 2 };
     let size = Size { w: size, h: 2 };
-    Ok(cover_by(alloc, rectangles, target, size, place)? == Some(want))
+    match first_source(document) {
+        Some(source) => cover(source, target, size, x, y) == want,
+        None => false,
+    }
 }
 
-// The first of these sources that takes another place, or how many sources there are.
-fn first_uncovered(alloc: Global) -> Result<usize, Fail> {
-    for (at, (rectangles, target, size, place, want)) in COVERS.iter().enumerate() {
-        if !is_covered(alloc, rectangles, (*target, *size), *place, *want)? {
-            return Ok(at);
+fn is_covered(alloc: Global, row: Cover<'_>) -> Result<bool, AllocError> {
+    Ok(match placed(alloc, row.0)? {
+        Some(document) => takes(&document, row),
+        None => false,
+    })
+}
+
+// The first of these sources that takes another place.
+fn first_uncovered(alloc: Global, rows: &[Cover<'_>]) -> Result<Option<usize>, AllocError> {
+    for at in 0..rows.len() {
+        if !is_covered(alloc, rows[at])? {
+            return Ok(Some(at));
         }
     }
-    Ok(COVERS.len())
+    Ok(None)
 }
 
 #[test]
-fn covers(rt: HostRuntime) -> Result<(), Fail> {
-    assert_eq!(rt; first_uncovered(rt.alloc())?, COVERS.len());
-    Ok(())
+fn covers(rt: HostRuntime) {
+    none_found(&rt, first_uncovered(rt.alloc(), &COVERS));
 }
 
-/// The covered columns of a source with these rectangles.
-fn run_by(alloc: Global, rectangles: &[u8], target: u32, size: u32) -> Result<Option<Run>, Fail> {
-    if target == 0 || size == 0 {
-        return Ok(None);
-    }
-    match placed(alloc, rectangles)? {
-        Some(document) => match first_source(&document) {
-            Some(source) => {
-                let axis = columns(source, Size { w: target, h: 1 }, Size { w: size, h: 1 });
-                Ok(Some(axis.run(target, size)))
-            }
-            None => Ok(None),
-        },
-        None => Ok(None),
-    }
-}
+/// Rectangles with the widths of the mosaic and of the dataset, with the covered columns and the shift.
+type Columns<'a> = (&'a [u8], u32, u32, u32, u32, Option<i64>);
 
-// Rectangles with the widths of the mosaic and of the dataset, with the covered columns and the shift.
-const RUNS: [(&[u8], u32, u32, u32, u32, Option<i64>); 6] = [
+const RUNS: [Columns<'static>; 6] = [
     (b"", 3, 3, 0, 3, Some(0)),
     (b"", 3, 6, 0, 3, None),
     (
@@ -359,58 +347,67 @@ const RUNS: [(&[u8], u32, u32, u32, u32, Option<i64>); 6] = [
     ),
 ];
 
-// The first of these sources that covers other columns, or how many sources there are.
-fn first_misrun(alloc: Global) -> Result<usize, Fail> {
-    for (at, (rectangles, target, size, first, end, shift)) in RUNS.iter().enumerate() {
-        let want = Run {
-            first: *first,
-            end: *end,
-            shift: *shift,
-        };
-        if run_by(alloc, rectangles, *target, *size)? != Some(want) {
-            return Ok(at);
+// Whether the first source of a document covers these columns.
+fn runs_over(document: &Document, (_, target, size, first, end, shift): Columns<'_>) -> bool {
+    if target == 0 || size == 0 {
+        return false;
+    }
+    match first_source(document) {
+        Some(source) => {
+            let axis = columns(source, Size { w: target, h: 1 }, Size { w: size, h: 1 });
+            axis.run(target, size) == Run { first, end, shift }
+        }
+        None => false,
+    }
+}
+
+fn has_run(alloc: Global, row: Columns<'_>) -> Result<bool, AllocError> {
+    Ok(match placed(alloc, row.0)? {
+        Some(document) => runs_over(&document, row),
+        None => false,
+    })
+}
+
+// The first of these sources that covers other columns.
+fn first_misrun(alloc: Global, rows: &[Columns<'_>]) -> Result<Option<usize>, AllocError> {
+    for at in 0..rows.len() {
+        if !has_run(alloc, rows[at])? {
+            return Ok(Some(at));
         }
     }
-    Ok(RUNS.len())
+    Ok(None)
 }
 
 #[test]
-fn runs(rt: HostRuntime) -> Result<(), Fail> {
-    assert_eq!(rt; first_misrun(rt.alloc())?, RUNS.len());
-    Ok(())
+fn runs(rt: HostRuntime) {
+    none_found(&rt, first_misrun(rt.alloc(), &RUNS));
 }
 
 const BELOW: [[i32; 3]; 2] = [[5, 0, 7], [0, 0, 9]];
 
+// What a source makes of a row below in a column.
+fn given(source: &Source, below: &[i32; 3], x: u32) -> Option<i128> {
+    let size = Size { w: 3, h: 1 };
+    let (column, _) = cover(source, size, size, x, 0)?;
+    let sample = below.get(column as usize)?;
+    value(source, *sample as i128)
+}
+
 /// The pixel of a band of two sources that are made of the rows below.
 fn pixel(band: &VrtBand, x: u32) -> i128 {
-    let size = Size { w: 3, h: 1 };
     let mut found = None;
     for (source, below) in band.sources.as_slice().iter().zip(BELOW.iter()) {
-        if let Some((column, _)) = cover(source, size, size, x, 0) {
-            if let Some(sample) = below.get(column as usize) {
-                if let Some(given) = value(source, *sample as i128) {
-                    found = Some(given);
-                }
-            }
+        if let Some(sample) = given(source, below, x) {
+            found = Some(sample);
         }
     }
     found.unwrap_or(band.nodata.unwrap_or(0))
 }
 
-/// The pixels of a mosaic of two sources of a kind.
-fn pixels(alloc: Global, sources: &[u8]) -> Result<Option<(i128, i128, i128)>, Fail> {
-    match document(alloc, sources)? {
-        Some(document) => match document.bands.as_slice().first() {
-            Some(band) => Ok(Some((pixel(band, 0), pixel(band, 1), pixel(band, 2)))),
-            None => Ok(None),
-        },
-        None => Ok(None),
-    }
-}
+/// Two sources of a kind, and the pixels of their mosaic.
+type Mosaic<'a> = (&'a [u8], (i128, i128, i128));
 
-// Two sources of a kind, and the pixels of their mosaic.
-const MOSAICS: [(&[u8], (i128, i128, i128)); 2] = [
+const MOSAICS: [Mosaic<'static>; 2] = [
     (
         b"<ComplexSource><SourceFilename>a.bil</SourceFilename><NODATA>0</NODATA></ComplexSource><ComplexSource><SourceFilename>b.bil</SourceFilename><NODATA>0</NODATA></ComplexSource>",
         (5, -1, 9),
@@ -421,18 +418,32 @@ const MOSAICS: [(&[u8], (i128, i128, i128)); 2] = [
     ),
 ];
 
-// The first of these mosaics that has other pixels, or how many mosaics there are.
-fn first_mispainted(alloc: Global) -> Result<usize, Fail> {
-    for (at, (sources, wanted)) in MOSAICS.iter().enumerate() {
-        if pixels(alloc, sources)? != Some(*wanted) {
-            return Ok(at);
+// Whether a document has these pixels.
+fn has_pixels(document: &Document, (a, b, c): (i128, i128, i128)) -> bool {
+    match document.bands.as_slice().first() {
+        Some(band) => pixel(band, 0) == a && pixel(band, 1) == b && pixel(band, 2) == c,
+        None => false,
+    }
+}
+
+fn is_painted(alloc: Global, (sources, wanted): Mosaic<'_>) -> Result<bool, AllocError> {
+    Ok(match document(alloc, sources)? {
+        Some(document) => has_pixels(&document, wanted),
+        None => false,
+    })
+}
+
+// The first of these mosaics that has other pixels.
+fn first_mispainted(alloc: Global, rows: &[Mosaic<'_>]) -> Result<Option<usize>, AllocError> {
+    for at in 0..rows.len() {
+        if !is_painted(alloc, rows[at])? {
+            return Ok(Some(at));
         }
     }
-    Ok(MOSAICS.len())
+    Ok(None)
 }
 
 #[test]
-fn mosaics(rt: HostRuntime) -> Result<(), Fail> {
-    assert_eq!(rt; first_mispainted(rt.alloc())?, MOSAICS.len());
-    Ok(())
+fn mosaics(rt: HostRuntime) {
+    none_found(&rt, first_mispainted(rt.alloc(), &MOSAICS));
 }

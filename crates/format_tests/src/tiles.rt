@@ -1,3 +1,4 @@
+use crate::tables::{holds, none_wrong};
 use geotransform::{GeoTransform, Sample, Size, Ticks, print_decimal};
 use hgt_tiles::corner::{Corner, name_of, read_name};
 use hgt_tiles::places::{fit, side, transform};
@@ -24,55 +25,59 @@ const NAMES: [(&str, Option<(i32, i32)>); 16] = [
     ("N47-011", None),
 ];
 
-// The corner that a name tells.
-fn corner_of(name: &str) -> Option<(i32, i32)> {
-    let corner = read_name(name)?;
-    Some((corner.lat, corner.lon))
+// Whether a name tells this corner.
+fn tells((name, wanted): (&str, Option<(i32, i32)>)) -> bool {
+    match read_name(name) {
+        Some(corner) => wanted == Some((corner.lat, corner.lon)),
+        None => wanted.is_none(),
+    }
 }
 
-// The first of these names that tells another corner, or how many names there are.
-fn first_misread() -> usize {
-    for (at, (name, wanted)) in NAMES.iter().enumerate() {
-        if corner_of(name) != *wanted {
-            return at;
+// The first of these names that tells another corner.
+fn first_misread(rows: &[(&str, Option<(i32, i32)>)]) -> Option<usize> {
+    for at in 0..rows.len() {
+        if !tells(rows[at]) {
+            return Some(at);
         }
     }
-    NAMES.len()
+    None
 }
 
 #[test]
 fn reads_names(rt: HostRuntime) {
-    assert_eq!(rt; first_misread(), NAMES.len());
+    none_wrong(&rt, first_misread(&NAMES));
 }
 
-// The degrees of a corner, and its name.
-const CORNERS: [(i32, i32, &[u8; 7]); 4] = [
+/// The degrees of a corner, and its name.
+type Named<'a> = (i32, i32, &'a [u8; 7]);
+
+const CORNERS: [Named<'static>; 4] = [
     (0, 0, b"N00E000"),
     (-1, -180, b"S01W180"),
     (90, 7, b"N90E007"),
     (-56, 179, b"S56E179"),
 ];
 
-fn is_named(lat: i32, lon: i32, wanted: &[u8; 7]) -> bool {
+fn is_named((lat, lon, wanted): Named<'_>) -> bool {
     match corner_at(lat, lon) {
         Some(corner) => name_of(corner) == *wanted,
         None => false,
     }
 }
 
-// The first of these corners that has another name, or how many corners there are.
-fn first_misnamed() -> usize {
-    for (at, (lat, lon, wanted)) in CORNERS.iter().enumerate() {
-        if !is_named(*lat, *lon, wanted) {
-            return at;
+// The first of these corners that has another name.
+fn first_misnamed(rows: &[Named<'_>]) -> Option<usize> {
+    for at in 0..rows.len() {
+        if !is_named(rows[at]) {
+            return Some(at);
         }
     }
-    CORNERS.len()
+    None
 }
 
 #[test]
 fn writes_names(rt: HostRuntime) {
-    assert_eq!(rt; first_misnamed(), CORNERS.len());
+    none_wrong(&rt, first_misnamed(&CORNERS));
 }
 
 fn corner_at(lat: i32, lon: i32) -> Option<Corner> {
@@ -90,19 +95,23 @@ const LENGTHS: [(u64, Option<u32>); 4] = [
     (0, None),
 ];
 
-// The first of these lengths that is another tile's, or how many lengths there are.
-fn first_missized() -> usize {
-    for (at, (len, wanted)) in LENGTHS.iter().enumerate() {
-        if side(*len) != *wanted {
-            return at;
+fn has_side((len, wanted): (u64, Option<u32>)) -> bool {
+    side(len) == wanted
+}
+
+// The first of these lengths that is another tile's.
+fn first_missized(rows: &[(u64, Option<u32>)]) -> Option<usize> {
+    for at in 0..rows.len() {
+        if !has_side(rows[at]) {
+            return Some(at);
         }
     }
-    LENGTHS.len()
+    None
 }
 
 #[test]
 fn knows_lengths(rt: HostRuntime) {
-    assert_eq!(rt; first_missized(), LENGTHS.len());
+    none_wrong(&rt, first_missized(&LENGTHS));
 }
 
 // Whether a value is printed so with 15 digits behind the point.
@@ -127,9 +136,8 @@ fn is_placed(alloc: Global) -> Result<bool, AllocError> {
 }
 
 #[test]
-fn places_a_tile(rt: HostRuntime) -> Result<(), Fail> {
-    assert!(rt; is_placed(rt.alloc())?);
-    Ok(())
+fn places_a_tile(rt: HostRuntime) {
+    holds(&rt, is_placed(rt.alloc()));
 }
 
 /// The transform moved by so many ticks to the east.
@@ -138,9 +146,11 @@ fn moved(geo: GeoTransform, ticks: i128) -> Option<GeoTransform> {
     GeoTransform::new(ox, geo.oy, geo.dx, geo.dy)
 }
 
-// A thousandth of 1/3600 degree is 50,000,000,000 ticks. So many ticks to the east, so many columns, and whether that
-// fits.
-const MOVES: [(i128, u32, bool); 7] = [
+/// So many ticks to the east, so many columns, and whether that fits.
+type Moved = (i128, u32, bool);
+
+// A thousandth of 1/3600 degree is 50,000,000,000 ticks.
+const MOVES: [Moved; 7] = [
     (0, 3601, true),
     (50_000_000_000, 3601, true),
     (-50_000_000_000, 3601, true),
@@ -157,14 +167,22 @@ fn fitting(ticks: i128, w: u32) -> Option<Corner> {
     fit(Size { w, h: 3601 }, &geo).ok()
 }
 
-// The first of these moves that fits otherwise, or how many moves there are.
-fn first_misfit() -> usize {
-    for (at, (ticks, w, fits)) in MOVES.iter().enumerate() {
-        if fitting(*ticks, *w) != if *fits { read_name("N47E011") } else { None } {
-            return at;
+// Whether a move fits, as that tile, or doesn't.
+fn is_fitting((ticks, w, fits): Moved) -> bool {
+    match fitting(ticks, w) {
+        Some(corner) => fits && corner.lat == 47 && corner.lon == 11,
+        None => !fits,
+    }
+}
+
+// The first of these moves that fits otherwise.
+fn first_misfit(rows: &[Moved]) -> Option<usize> {
+    for at in 0..rows.len() {
+        if !is_fitting(rows[at]) {
+            return Some(at);
         }
     }
-    MOVES.len()
+    None
 }
 
 // Whether the tile that would lie beyond the pole doesn't fit.
@@ -177,18 +195,23 @@ fn ends_at_the_pole() -> bool {
 
 #[test]
 fn fits_within_a_thousandth(rt: HostRuntime) {
-    assert_eq!(rt; (first_misfit(), ends_at_the_pole()), (MOVES.len(), true));
+    none_wrong(&rt, first_misfit(&MOVES));
+    assert!(rt; ends_at_the_pole());
 }
 
 const BYTES: [u8; 8] = [0xFF, 0xFF, 0x80, 0x00, 0x7F, 0xFF, 0x01, 0x02];
 
 const SAMPLES: [Sample; 4] = [-1, -32_768, 32_767, 258];
 
-#[test]
-fn reads_and_writes_rows(rt: HostRuntime) {
+fn are_kept() -> bool {
     let mut read = [0; 4];
     decode_row(&BYTES, &mut read);
     let mut written = [0; 8];
     encode_row(&SAMPLES, &mut written);
-    assert!(rt; read == SAMPLES && written == BYTES);
+    read == SAMPLES && written == BYTES
+}
+
+#[test]
+fn reads_and_writes_rows(rt: HostRuntime) {
+    assert!(rt; are_kept());
 }

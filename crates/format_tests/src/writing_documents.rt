@@ -1,4 +1,6 @@
 // Documents that are written, and names of sources.
+use crate::tables::none_found;
+use lists_and_answers::push_all;
 use outside::{Name, NameFault};
 use std::alloc::{AllocError, Global};
 use std::test::*;
@@ -87,7 +89,7 @@ const LAYOUTS: [(&[u8], &[u8]); 4] = [
 ];
 
 // Whether this is written of a document.
-fn is_written(alloc: Global, text: &[u8], wanted: &[u8]) -> Result<bool, AllocError> {
+fn is_written(alloc: Global, (text, wanted): (&[u8], &[u8])) -> Result<bool, AllocError> {
     let Ok(document) = read(alloc, text) else {
         return Ok(false);
     };
@@ -96,20 +98,19 @@ fn is_written(alloc: Global, text: &[u8], wanted: &[u8]) -> Result<bool, AllocEr
     Ok(out.as_slice() == wanted)
 }
 
-// The first of these documents of which something else is written, or how many documents there are.
-fn first_miswritten(alloc: Global) -> Result<usize, AllocError> {
-    for (at, (text, wanted)) in LAYOUTS.iter().enumerate() {
-        if !is_written(alloc, text, wanted)? {
-            return Ok(at);
+// The first of these documents of which something else is written.
+fn first_miswritten(alloc: Global, rows: &[(&[u8], &[u8])]) -> Result<Option<usize>, AllocError> {
+    for at in 0..rows.len() {
+        if !is_written(alloc, rows[at])? {
+            return Ok(Some(at));
         }
     }
-    Ok(LAYOUTS.len())
+    Ok(None)
 }
 
 #[test]
-fn documents_are_written(rt: HostRuntime) -> Result<(), Fail> {
-    assert_eq!(rt; first_miswritten(rt.alloc())?, LAYOUTS.len());
-    Ok(())
+fn documents_are_written(rt: HostRuntime) {
+    none_found(&rt, first_miswritten(rt.alloc(), &LAYOUTS));
 }
 
 /// The first source of the first band.
@@ -118,8 +119,10 @@ fn first_source(document: &Document) -> Option<&Source> {
     band.sources.as_slice().first()
 }
 
-// A document's name, a source of it, the length of the text that is normalised, and the source's name.
-const RESOLVED: [(&str, &[u8], u64, &str); 6] = [
+/// A document's name, a source of it, the length of the text that is normalised, and the source's name.
+type Resolved<'a> = (&'a str, &'a [u8], u64, &'a str);
+
+const RESOLVED: [Resolved<'static>; 6] = [
     ("d/m.vrt", b" relativeToVRT='1'>a.bil", 7, "d/a.bil"),
     ("d/m.vrt", b">a.bil", 5, "a.bil"),
     ("d/e/m.vrt", b" relativeToVRT='1'>../a.bil", 12, "d/a.bil"),
@@ -129,13 +132,16 @@ const RESOLVED: [(&str, &[u8], u64, &str); 6] = [
 ];
 
 /// A document with one source.
-fn with_source(alloc: Global, file: &[u8]) -> Result<Vec<u8>, Fail> {
-    let mut text: Vec<u8> = Vec::new(alloc);
-    text.extend_from_slice(
-        b"<VRTDataset rasterXSize='1' rasterYSize='1'><VRTRasterBand><SimpleSource><SourceFilename",
+fn with_source(alloc: Global, file: &[u8]) -> Result<Vec<u8>, AllocError> {
+    let mut text = Vec::new(alloc);
+    push_all(
+        &[
+            b"<VRTDataset rasterXSize='1' rasterYSize='1'><VRTRasterBand><SimpleSource><SourceFilename",
+            file,
+            b"</SourceFilename></SimpleSource></VRTRasterBand></VRTDataset>",
+        ],
+        &mut text,
     )?;
-    text.extend_from_slice(file)?;
-    text.extend_from_slice(b"</SourceFilename></SimpleSource></VRTRasterBand></VRTDataset>")?;
     Ok(text)
 }
 
@@ -162,25 +168,33 @@ fn resolves_first(alloc: Global, base: &str, text: &[u8], length: u64, wanted: &
     }
 }
 
-// The first of these sources that has another name, or how many sources there are.
-fn first_unresolved(alloc: Global) -> Result<usize, Fail> {
-    for (at, (base, file, length, wanted)) in RESOLVED.iter().enumerate() {
-        let text = with_source(alloc, file)?;
-        if !resolves_first(alloc, base, &text, *length, wanted) {
-            return Ok(at);
+fn is_resolved(
+    alloc: Global,
+    (base, file, length, wanted): Resolved<'_>,
+) -> Result<bool, AllocError> {
+    let text = with_source(alloc, file)?;
+    Ok(resolves_first(alloc, base, &text, length, wanted))
+}
+
+// The first of these sources that has another name.
+fn first_unresolved(alloc: Global, rows: &[Resolved<'_>]) -> Result<Option<usize>, AllocError> {
+    for at in 0..rows.len() {
+        if !is_resolved(alloc, rows[at])? {
+            return Ok(Some(at));
         }
     }
-    Ok(RESOLVED.len())
+    Ok(None)
 }
 
 #[test]
-fn names_are_resolved(rt: HostRuntime) -> Result<(), Fail> {
-    assert_eq!(rt; first_unresolved(rt.alloc())?, RESOLVED.len());
-    Ok(())
+fn names_are_resolved(rt: HostRuntime) {
+    none_found(&rt, first_unresolved(rt.alloc(), &RESOLVED));
 }
 
-// A document's name, a name, and how the document names it.
-const RELATED: [(&str, &str, bool, &str); 7] = [
+/// A document's name, a name, and how the document names it.
+type Related<'a> = (&'a str, &'a str, bool, &'a str);
+
+const RELATED: [Related<'static>; 7] = [
     ("d/m.vrt", "d/a.bil", true, "a.bil"),
     ("d/m.vrt", "d/e/a.bil", true, "e/a.bil"),
     ("d/m.vrt", "de/a.bil", false, "de/a.bil"),
@@ -191,31 +205,25 @@ const RELATED: [(&str, &str, bool, &str); 7] = [
 ];
 
 // Whether a document names a name so.
-fn relates(
-    alloc: Global,
-    base: &str,
-    name: &str,
-    relative: bool,
-    wanted: &str,
-) -> Result<bool, Fail> {
-    let base = Name::read(alloc, base)?;
-    let name = Name::read(alloc, name)?;
+fn relates(alloc: Global, (base, name, relative, wanted): Related<'_>) -> Result<bool, AllocError> {
+    let (Ok(base), Ok(name)) = (Name::read(alloc, base), Name::read(alloc, name)) else {
+        return Ok(false);
+    };
     let (is_relative, text) = relate(alloc, &base, &name)?;
     Ok(is_relative == relative && text.as_str() == wanted)
 }
 
-// The first of these names that is named otherwise, or how many names there are.
-fn first_unrelated(alloc: Global) -> Result<usize, Fail> {
-    for (at, (base, name, relative, wanted)) in RELATED.iter().enumerate() {
-        if !relates(alloc, base, name, *relative, wanted)? {
-            return Ok(at);
+// The first of these names that is named otherwise.
+fn first_unrelated(alloc: Global, rows: &[Related<'_>]) -> Result<Option<usize>, AllocError> {
+    for at in 0..rows.len() {
+        if !relates(alloc, rows[at])? {
+            return Ok(Some(at));
         }
     }
-    Ok(RELATED.len())
+    Ok(None)
 }
 
 #[test]
-fn names_are_related(rt: HostRuntime) -> Result<(), Fail> {
-    assert_eq!(rt; first_unrelated(rt.alloc())?, RELATED.len());
-    Ok(())
+fn names_are_related(rt: HostRuntime) {
+    none_found(&rt, first_unrelated(rt.alloc(), &RELATED));
 }
