@@ -1,3 +1,4 @@
+use crate::tables::{holds, none_wrong};
 use catalog::{BandHead, Head, Kind, head_of};
 use geotransform::{GeoTransform, PixelType, Size, Ticks};
 use info_report::{ReportFault, write_info};
@@ -9,10 +10,16 @@ use std::test::*;
 // A file: its name and its bytes.
 type File<'a> = (&'a str, &'a [u8]);
 
-// Puts files into a folder.
+// Puts a file into a folder.
+fn put(alloc: Global, folder: &mut CalmFolder, name: &str, bytes: &[u8]) -> Result<(), Fail> {
+    let name = Name::read(alloc, name)?;
+    folder.put(&name, bytes)?;
+    Ok(())
+}
+
 fn put_all(alloc: Global, folder: &mut CalmFolder, files: &[File]) -> Result<(), Fail> {
     for (name, bytes) in files {
-        folder.put(&Name::read(alloc, name)?, bytes)?;
+        put(alloc, folder, name, bytes)?;
     }
     Ok(())
 }
@@ -84,14 +91,16 @@ Band 1 Block=4800x1 Type=Int16
   NoData Value=-9999
 ";
 
+fn is_world(alloc: Global) -> Result<bool, Fail> {
+    let data = vec![in alloc; 0; 57_600_000]?;
+    let files: [File; 2] = [("w100n90.bil", &data), ("w100n90.hdr", WORLD)];
+    Ok(reads_of(alloc, &files, false, WORLD_REPORT)? == Some(1))
+}
+
 // The GTOPO30 tile of the published header, over data of its length.
 #[test]
 fn a_tile_of_the_world(rt: HostRuntime) -> Result<(), Fail> {
-    let data = vec![in rt.alloc(); 0; 57_600_000]?;
-    let files: [File; 2] = [("w100n90.bil", &data), ("w100n90.hdr", WORLD)];
-    let reads = reads_of(rt.alloc(), &files, false, WORLD_REPORT)?;
-    assert!(rt; reads == Some(1));
-    Ok(())
+    holds(&rt, is_world(rt.alloc()))
 }
 
 const TILE_REPORT: &[u8] = b"Driver: SRTMHGT
@@ -108,13 +117,15 @@ Band 1 Block=1201x1 Type=Int16
   NoData Value=-32768
 ";
 
+fn is_tile(alloc: Global) -> Result<bool, Fail> {
+    let data = vec![in alloc; 0; 2_884_802]?;
+    Ok(reads_of(alloc, &[("S01W180.hgt", &data)], true, TILE_REPORT)? == Some(0))
+}
+
 // A tile of SRTM is told by its name and its length, with no read.
 #[test]
 fn a_tile(rt: HostRuntime) -> Result<(), Fail> {
-    let data = vec![in rt.alloc(); 0; 2_884_802]?;
-    let reads = reads_of(rt.alloc(), &[("S01W180.hgt", &data)], true, TILE_REPORT)?;
-    assert!(rt; reads == Some(0));
-    Ok(())
+    holds(&rt, is_tile(rt.alloc()))
 }
 
 // A cell at 10 degrees east, 20 degrees north, with two lines 60 arc seconds apart and three points 30 arc seconds
@@ -142,12 +153,14 @@ Band 1 Block=1x3 Type=Int16
   NoData Value=-32767
 ";
 
+fn is_reported_cell(alloc: Global) -> Result<bool, Fail> {
+    let bytes = cell(alloc)?;
+    Ok(reads_of(alloc, &[("c.dt0", &bytes)], false, CELL_REPORT)?.is_some())
+}
+
 #[test]
 fn a_cell(rt: HostRuntime) -> Result<(), Fail> {
-    let bytes = cell(rt.alloc())?;
-    let reads = reads_of(rt.alloc(), &[("c.dt0", &bytes)], false, CELL_REPORT)?;
-    assert!(rt; reads.is_some());
-    Ok(())
+    holds(&rt, is_reported_cell(rt.alloc()))
 }
 
 // One pixel with a coordinate system, whose origin is one tick below 0, and with no file.
@@ -199,13 +212,15 @@ fn is_refused(alloc: Global, head: &Head) -> bool {
     answer == Err(ReportFault::OutFault) && WORLD_REPORT.starts_with(sink.got())
 }
 
+fn is_written_or_refused(alloc: Global) -> Result<bool, Fail> {
+    let head = one_pixel(alloc)?;
+    Ok(is_written(alloc, &head, PIXEL_REPORT) && is_refused(alloc, &head))
+}
+
 // To a sink that takes all, and to one that fails.
 #[test]
 fn a_coordinate_system(rt: HostRuntime) -> Result<(), Fail> {
-    let head = one_pixel(rt.alloc())?;
-    assert!(rt; is_written(rt.alloc(), &head, PIXEL_REPORT));
-    assert!(rt; is_refused(rt.alloc(), &head));
-    Ok(())
+    holds(&rt, is_written_or_refused(rt.alloc()))
 }
 
 const UPPER_REPORT: &[u8] = b"Driver: EHdr
@@ -257,9 +272,11 @@ Band 1 Block=128x128 Type=Int16
   NoData Value=-32768
 ";
 
-// The files of a dataset, and the report: no geotransform, two bands, a NODATA, and a header in upper case; and mosaics
-// of which no source is there.
-const DATASETS: [(&[File<'static>], &[u8]); 5] = [
+/// The files of a dataset, and the report.
+type Dataset<'a> = (&'a [File<'a>], &'a [u8]);
+
+// No geotransform, two bands, a NODATA, and a header in upper case; and mosaics of which no source is there.
+const DATASETS: [Dataset<'static>; 5] = [
     (
         &[
             ("d/x/../a.BSQ", &[0; 4]),
@@ -291,18 +308,21 @@ const DATASETS: [(&[File<'static>], &[u8]); 5] = [
     ),
 ];
 
-// The first of these datasets of which something else is reported, or how many datasets there are.
-fn first_misreported(alloc: Global) -> Result<usize, Fail> {
-    for (at, (files, want)) in DATASETS.iter().enumerate() {
-        if reads_of(alloc, files, false, want)?.is_none() {
-            return Ok(at);
+fn is_reported(alloc: Global, (files, want): Dataset<'_>) -> Result<bool, Fail> {
+    Ok(reads_of(alloc, files, false, want)?.is_some())
+}
+
+// The first of these datasets of which something else is reported.
+fn first_misreported(alloc: Global, rows: &[Dataset<'_>]) -> Result<Option<usize>, Fail> {
+    for at in 0..rows.len() {
+        if !is_reported(alloc, rows[at])? {
+            return Ok(Some(at));
         }
     }
-    Ok(DATASETS.len())
+    Ok(None)
 }
 
 #[test]
 fn datasets(rt: HostRuntime) -> Result<(), Fail> {
-    assert_eq!(rt; first_misreported(rt.alloc())?, DATASETS.len());
-    Ok(())
+    none_wrong(&rt, first_misreported(rt.alloc(), &DATASETS))
 }

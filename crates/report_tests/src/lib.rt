@@ -6,3 +6,5 @@
 mod datasets;
 #[cfg(test)]
 mod locations;
+#[cfg(test)]
+mod tables;

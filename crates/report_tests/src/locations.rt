@@ -1,5 +1,6 @@
 ghost use Rattle.std.specs.Prelude.{◌≡◌, length, IfSome};
 
+use crate::tables::{holds, none_wrong};
 use geotransform::{Sample, Size};
 use info_report::ReportFault;
 use lists_and_answers::Items;
@@ -7,13 +8,18 @@ use location_report::{Form, Question, push_covering, write_location};
 use outside::{Failing, Listed, MemSink, Name, Names};
 use std::alloc::{AllocError, Global};
 use std::test::*;
-use vrt_profile::{Document, VrtBand, read};
+use vrt_profile::{Document, Source, VrtBand, read};
+
+fn push_name(alloc: Global, name: &str, files: &mut Names) -> Result<(), Fail> {
+    files.push(Name::read(alloc, name)?)?;
+    Ok(())
+}
 
 // Two files of a mosaic.
 fn two_files(alloc: Global) -> Result<Names, Fail> {
     let mut files = Items::new(alloc);
-    files.push(Name::read(alloc, "a.bil")?)?;
-    files.push(Name::read(alloc, "b.bil")?)?;
+    push_name(alloc, "a.bil", &mut files)?;
+    push_name(alloc, "b.bil", &mut files)?;
     Ok(files)
 }
 
@@ -36,8 +42,11 @@ fn is_written(
     answer.is_ok() && sink.got() == want
 }
 
+// A form, whether the place is on the raster, and what is told of it.
+type Told<'a> = (Form, bool, &'a [u8]);
+
 // Whether this is the report of column 1, line -1 with two bands, or of that place off the raster.
-fn is_told(alloc: Global, form: Form, on: bool, files: &Names, want: &[u8]) -> bool {
+fn is_told(alloc: Global, files: &Names, (form, on, want): Told<'_>) -> bool {
     let bands = [1, 2];
     if on {
         is_written(alloc, form, (1, -1), Some(&[4, -12]), &bands, files, want)
@@ -46,8 +55,7 @@ fn is_told(alloc: Global, form: Form, on: bool, files: &Names, want: &[u8]) -> b
     }
 }
 
-// A form, whether the place is on the raster, and what is told of it.
-const FORMS: [(Form, bool, &[u8]); 5] = [
+const FORMS: [Told<'static>; 5] = [
     (
         Form::Report,
         true,
@@ -63,22 +71,25 @@ const FORMS: [(Form, bool, &[u8]); 5] = [
     (Form::FilesOnly, true, b"a.bil\nb.bil\n"),
 ];
 
-// The first of these forms in which something else is told, or how many there are.
-fn first_misformed(alloc: Global) -> Result<usize, Fail> {
-    let files = two_files(alloc)?;
-    for (at, (form, on, want)) in FORMS.iter().enumerate() {
-        if !is_told(alloc, *form, *on, &files, want) {
-            return Ok(at);
+fn first_not_told(alloc: Global, files: &Names, rows: &[Told<'_>]) -> Option<usize> {
+    for at in 0..rows.len() {
+        if !is_told(alloc, files, rows[at]) {
+            return Some(at);
         }
     }
-    Ok(FORMS.len())
+    None
+}
+
+// The first of these forms in which something else is told.
+fn first_misformed(alloc: Global, rows: &[Told<'_>]) -> Result<Option<usize>, Fail> {
+    let files = two_files(alloc)?;
+    Ok(first_not_told(alloc, &files, rows))
 }
 
 // Two bands of a pixel, and a place off the raster, in each form.
 #[test]
 fn each_form(rt: HostRuntime) -> Result<(), Fail> {
-    assert_eq!(rt; first_misformed(rt.alloc())?, FORMS.len());
-    Ok(())
+    none_wrong(&rt, first_misformed(rt.alloc(), &FORMS))
 }
 
 // Off the raster no file is named.
@@ -104,11 +115,14 @@ fn is_refused(alloc: Global, files: &Names) -> Result<bool, AllocError> {
     Ok(answer == Err(ReportFault::OutFault) && b"Report:\n".starts_with(sink.got()))
 }
 
+fn are_refused(alloc: Global) -> Result<bool, Fail> {
+    let files = two_files(alloc)?;
+    Ok(is_refused(alloc, &files)?)
+}
+
 #[test]
 fn a_failing_sink(rt: HostRuntime) -> Result<(), Fail> {
-    let files = two_files(rt.alloc())?;
-    assert!(rt; is_refused(rt.alloc(), &files)?);
-    Ok(())
+    holds(&rt, are_refused(rt.alloc()))
 }
 
 // Two files that cover all of a mosaic, the first of them again, and one that covers the last column.
@@ -121,7 +135,20 @@ const MOSAIC: &[u8] = b"<VRTDataset rasterXSize='3' rasterYSize='1'>
 <DstRect xOff='2' yOff='0' xSize='1' ySize='1'/></SimpleSource>
 </VRTRasterBand></VRTDataset>";
 
-// Adds the files, all of 3 x 1 pixels, that cover a column of a band.
+// Adds the file of a source, which has 3 x 1 pixels, where it covers a column.
+fn add_source(
+    alloc: Global,
+    whole: Size,
+    source: &Source,
+    x: u32,
+    out: &mut Names,
+) -> Result<(), Fail> {
+    let size = Size { w: 3, h: 1 };
+    let name = Name::read(alloc, source.file.as_str())?;
+    push_covering(source, whole, &name, size, x, 0, out)?;
+    Ok(())
+}
+
 fn add_band(
     alloc: Global,
     whole: Size,
@@ -129,10 +156,8 @@ fn add_band(
     x: u32,
     out: &mut Names,
 ) -> Result<(), Fail> {
-    let size = Size { w: 3, h: 1 };
     for source in band.sources.as_slice() {
-        let name = Name::read(alloc, source.file.as_str())?;
-        push_covering(source, whole, &name, size, x, 0, out)?;
+        add_source(alloc, whole, source, x, out)?;
     }
     Ok(())
 }
@@ -153,27 +178,28 @@ fn covering(alloc: Global, x: u32) -> Result<Names, Fail> {
     Ok(out)
 }
 
-// A column, and the files that cover it.
-const COLUMNS: [(u32, &[u8]); 2] = [(0, b"a.bil\nb.bil\n"), (2, b"a.bil\nb.bil\nc.bil\n")];
+/// A column, and the files that cover it.
+type Column<'a> = (u32, &'a [u8]);
+
+const COLUMNS: [Column<'static>; 2] = [(0, b"a.bil\nb.bil\n"), (2, b"a.bil\nb.bil\nc.bil\n")];
 
 // Whether these files cover a column.
-fn is_covered(alloc: Global, x: u32, want: &[u8]) -> Result<bool, Fail> {
+fn is_covered(alloc: Global, (x, want): Column<'_>) -> Result<bool, Fail> {
     let files = covering(alloc, x)?;
     Ok(is_written(alloc, Form::FilesOnly, (0, 0), None, &[1], &files, want))
 }
 
-// The first of these columns that others cover, or how many columns there are.
-fn first_uncovered(alloc: Global) -> Result<usize, Fail> {
-    for (at, (x, want)) in COLUMNS.iter().enumerate() {
-        if !is_covered(alloc, *x, want)? {
-            return Ok(at);
+// The first of these columns that others cover.
+fn first_uncovered(alloc: Global, rows: &[Column<'_>]) -> Result<Option<usize>, Fail> {
+    for at in 0..rows.len() {
+        if !is_covered(alloc, rows[at])? {
+            return Ok(Some(at));
         }
     }
-    Ok(COLUMNS.len())
+    Ok(None)
 }
 
 #[test]
 fn covering_files(rt: HostRuntime) -> Result<(), Fail> {
-    assert_eq!(rt; first_uncovered(rt.alloc())?, COLUMNS.len());
-    Ok(())
+    none_wrong(&rt, first_uncovered(rt.alloc(), &COLUMNS))
 }
