@@ -4,9 +4,9 @@ use crate::plans::none_wrong;
 use crate::sources::{PLACED, THREE};
 use catalog::Head;
 use outside::Name;
-use std::alloc::{AllocError, Global};
+use std::alloc::Global;
 use std::test::*;
-use translate_plan::{Driver, Plan, document, plan};
+use translate_plan::{Driver, Plan, TranslateOptions, document, plan};
 use vrt_profile::{Document, write};
 
 /// The files, the first of which is the source, what is asked for, and the text of the document.
@@ -110,7 +110,7 @@ const DOCUMENTS: [Row<'static>; 5] = [
     (SRS_FILES, "w.vrt", FOLDER_BELOW),
 ];
 
-fn is_text(alloc: Global, document: &Document, wanted: &[u8]) -> Result<bool, AllocError> {
+fn is_text(alloc: Global, document: &Document, wanted: &[u8]) -> Result<bool, Fail> {
     let mut out = Vec::new(alloc);
     write(document, &mut out)?;
     Ok(out.as_slice() == wanted)
@@ -123,20 +123,29 @@ fn is_shown(
     base: &Name,
     head: &Head,
     wanted: &[u8],
-) -> Result<bool, AllocError> {
+) -> Result<bool, Fail> {
     match plan.driver {
         Driver::Vrt => is_text(alloc, &document(alloc, plan, base, head)?, wanted),
         Driver::EHdr | Driver::Dted { .. } | Driver::SrtmHgt | Driver::AaiGrid => Ok(false),
     }
 }
 
+fn is_planned(
+    alloc: Global,
+    options: &TranslateOptions,
+    head: &Head,
+    wanted: &[u8],
+) -> Result<bool, Fail> {
+    match plan(options, head) {
+        Ok(plan) => is_shown(alloc, &plan, &options.out, head, wanted),
+        Err(_) => Ok(false),
+    }
+}
+
 fn row_holds(alloc: Global, (files, ask, wanted): Row<'_>) -> Result<bool, Fail> {
     let options = options(alloc, ask)?;
     let head = head(alloc, files)?;
-    match plan(&options, &head) {
-        Ok(plan) => Ok(is_shown(alloc, &plan, &options.out, &head, wanted)?),
-        Err(_) => Ok(false),
-    }
+    is_planned(alloc, &options, &head, wanted)
 }
 
 // The first row that doesn't hold.

@@ -89,21 +89,29 @@ fn is_planned(plan: &Plan, wanted: &str) -> bool {
     is_size(plan, size) && is_window(plan, window) && has_bands(plan, bands)
 }
 
-fn is_no_band(band: u32, wanted: &str) -> bool {
-    let (name, number) = cut(wanted, " ");
-    name == "NoBand" && is_number(Some(number), band as i128)
+fn name_of(fault: PlanFault) -> &'static str {
+    match fault {
+        PlanFault::NoBand(_) => "NoBand",
+        PlanFault::NoGeo => "NoGeo",
+        PlanFault::EmptyWindow => "EmptyWindow",
+        PlanFault::Limit => "Limit",
+        PlanFault::Outside => "Outside",
+        PlanFault::BandCount => "BandCount",
+        PlanFault::Unfit => "Unfit",
+    }
+}
+
+// Whether the words behind a fault's name are what it holds.
+fn is_told(fault: PlanFault, words: &str) -> bool {
+    match fault {
+        PlanFault::NoBand(band) => is_number(Some(words), band as i128),
+        _ => words.is_empty(),
+    }
 }
 
 fn is_fault(fault: PlanFault, wanted: &str) -> bool {
-    match fault {
-        PlanFault::NoBand(band) => is_no_band(band, wanted),
-        PlanFault::NoGeo => wanted == "NoGeo",
-        PlanFault::EmptyWindow => wanted == "EmptyWindow",
-        PlanFault::Limit => wanted == "Limit",
-        PlanFault::Outside => wanted == "Outside",
-        PlanFault::BandCount => wanted == "BandCount",
-        PlanFault::Unfit => wanted == "Unfit",
-    }
+    let (name, words) = cut(wanted, " ");
+    name == name_of(fault) && is_told(fault, words)
 }
 
 fn agrees(planned: Result<Plan, PlanFault>, wanted: &str) -> bool {
