@@ -1,6 +1,7 @@
 // Workers of a translation that read beside each other, and any number of them.
 use crate::stories::{has, has_all, says_all};
 use crate::trials::{FileOf, Row, folder_of, says_in};
+use outside::MemFolder;
 use outside_fakes::Gate;
 use std::alloc::Global;
 use std::process::Abort;
@@ -8,7 +9,7 @@ use std::test::*;
 use std::thread::Threads;
 
 // Lines of four bytes, each of which is another.
-const SAMPLES: [u8; 256] = [
+static SAMPLES: [u8; 256] = [
     0, 1, 2, 3, 4, 5, 6, 7, 8, 9, 10, 11, 12, 13, 14, 15, 16, 17, 18, 19, 20, 21, 22, 23, 24, 25,
     26, 27, 28, 29, 30, 31, 32, 33, 34, 35, 36, 37, 38, 39, 40, 41, 42, 43, 44, 45, 46, 47, 48, 49,
     50, 51, 52, 53, 54, 55, 56, 57, 58, 59, 60, 61, 62, 63, 64, 65, 66, 67, 68, 69, 70, 71, 72, 73,
@@ -24,17 +25,26 @@ const SAMPLES: [u8; 256] = [
     250, 251, 252, 253, 254, 255,
 ];
 
-static FILES: [FileOf<'static>; 2] = [("tall.bil", &SAMPLES), ("tall.hdr", b"NROWS 64\nNCOLS 4\n")];
+fn samples() -> &'static [u8] {
+    &SAMPLES
+}
+
+fn folder<R: Abort>(rt: &R, alloc: Global) -> MemFolder {
+    let files: [FileOf<'_>; 2] = [
+        ("tall.bil", samples()),
+        ("tall.hdr", b"NROWS 64\nNCOLS 4\n"),
+    ];
+    folder_of(rt, alloc, &files, &[])
+}
 
 const BESIDE: Row<'static> = ("gdal_translate -q --workers 2 tall.bil out.bil", 0, "", "");
 
 // Whether two workers, each of which waits for the other to read, copy the lines.
 fn is_copied<R: Threads + Sync + Abort>(rt: &R, alloc: Global) -> bool {
-    let folder = folder_of(rt, alloc, &FILES, &[]);
-    let mut gate = Gate::new(alloc, folder).expect(rt, "memory");
+    let mut gate = Gate::new(alloc, folder(rt, alloc)).expect(rt, "memory");
     let said = says_in(rt, alloc, &mut gate, &BESIDE);
     let folder = gate.into_inner();
-    said && has(rt, alloc, &folder, ("out.bil", &SAMPLES))
+    said && has(rt, alloc, &folder, ("out.bil", samples()))
 }
 
 #[test]
@@ -55,17 +65,17 @@ static NUMBERS: [Row<'static>; 4] = [
     ("gdal_translate -q --workers 16 tall.bil d.bil", 0, "", ""),
 ];
 
-static COPIES: [FileOf<'static>; 4] = [
-    ("a.bil", &SAMPLES),
-    ("b.bil", &SAMPLES),
-    ("c.bil", &SAMPLES),
-    ("d.bil", &SAMPLES),
-];
-
 // Whether each number of workers copies the same lines.
 fn are_alike<R: Threads + Sync + Abort>(rt: &R, alloc: Global) -> bool {
-    let mut folder = folder_of(rt, alloc, &FILES, &[]);
-    says_all(rt, alloc, &mut folder, &NUMBERS) && has_all(rt, alloc, &folder, &COPIES)
+    let bytes = samples();
+    let copies: [FileOf<'_>; 4] = [
+        ("a.bil", bytes),
+        ("b.bil", bytes),
+        ("c.bil", bytes),
+        ("d.bil", bytes),
+    ];
+    let mut folder = folder(rt, alloc);
+    says_all(rt, alloc, &mut folder, &NUMBERS) && has_all(rt, alloc, &folder, &copies)
 }
 
 #[test]

@@ -49,6 +49,20 @@ fn files() -> &'static [FileOf<'static>] {
     &FILES
 }
 
+// The header of three numbers without a NODATA.
+const THREE_NUMBERS: &[u8] = b"BYTEORDER      I
+LAYOUT         BIL
+NROWS          1
+NCOLS          3
+NBANDS         1
+NBITS          16
+SKIPBYTES      0
+BANDROWBYTES   6
+TOTALROWBYTES  6
+BANDGAPBYTES   0
+PIXELTYPE      SIGNEDINT
+";
+
 // The header of two bands, one behind the other.
 const BANDS_APART: &[u8] = b"BYTEORDER      I
 LAYOUT         BSQ
@@ -73,21 +87,7 @@ static STORIES: [Story<'static>; 19] = [
         )],
         &[
             ("out.bil", &[5, 0, 255, 255, 9, 0]),
-            (
-                "out.hdr",
-                b"BYTEORDER      I
-LAYOUT         BIL
-NROWS          1
-NCOLS          3
-NBANDS         1
-NBITS          16
-SKIPBYTES      0
-BANDROWBYTES   6
-TOTALROWBYTES  6
-BANDGAPBYTES   0
-PIXELTYPE      SIGNEDINT
-",
-            ),
+            ("out.hdr", THREE_NUMBERS),
         ],
     ),
     (
@@ -99,21 +99,7 @@ PIXELTYPE      SIGNEDINT
         )],
         &[
             ("out.bil", &[5, 0, 255, 255, 9, 0]),
-            (
-                "out.hdr",
-                b"BYTEORDER      I
-LAYOUT         BIL
-NROWS          1
-NCOLS          3
-NBANDS         1
-NBITS          16
-SKIPBYTES      0
-BANDROWBYTES   6
-TOTALROWBYTES  6
-BANDGAPBYTES   0
-PIXELTYPE      SIGNEDINT
-",
-            ),
+            ("out.hdr", THREE_NUMBERS),
         ],
     ),
     (
@@ -446,21 +432,7 @@ NODATA         -1
         &[("gdal_translate -q -a_nodata none m.vrt out.bil", 0, "", "")],
         &[
             ("out.bil", &[5, 0, 255, 255, 9, 0]),
-            (
-                "out.hdr",
-                b"BYTEORDER      I
-LAYOUT         BIL
-NROWS          1
-NCOLS          3
-NBANDS         1
-NBITS          16
-SKIPBYTES      0
-BANDROWBYTES   6
-TOTALROWBYTES  6
-BANDGAPBYTES   0
-PIXELTYPE      SIGNEDINT
-",
-            ),
+            ("out.hdr", THREE_NUMBERS),
         ],
     ),
     (
