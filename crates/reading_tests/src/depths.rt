@@ -1,17 +1,8 @@
 // Mosaics that name one another again and again: no pixel of any is made much more than once.
-ghost use Rattle.std.specs.Prelude.{◌≡◌, ◌*◌, ◌<◌, ◌≤◌, Some, length};
-ghost use Rattle.outside.specs.Outside.{Files};
-ghost use Rattle.catalog.specs.Walk.{IsWalked};
-ghost use Rattle.nearest_window.specs.Right.{IsReady};
-
-use band_blocks::Steps;
-use catalog::{Catalog, open_all};
-use geotransform::{Rect, Sample, Size};
-use nearest_window::{Lane, Window};
-use outside::{CalmFolder, Folder, Name, Never, Tally};
+use crate::reads::{Job, Picture, Place, shows};
+use geotransform::Sample;
+use outside::{CalmFolder, Name, Never, Tally};
 use std::alloc::Global;
-use std::marker::Brand;
-use std::sync::ledger::{Blank, Ledger};
 use std::test::*;
 
 // How the mosaics name one another: so many times, each shifted, by sources without a test or by sources whose NODATA is
@@ -143,158 +134,57 @@ fn nested(alloc: Global, shape: Shape) -> Result<CalmFolder, Fail> {
 }
 
 // Two points, and a window.
-const RECTS: [Rect; 3] = [
-    Rect {
-        x: 3,
-        y: 20,
-        w: 1,
-        h: 1,
-    },
-    Rect {
-        x: 21,
-        y: 4,
-        w: 1,
-        h: 1,
-    },
-    Rect {
-        x: 1,
-        y: 2,
-        w: 20,
-        h: 18,
-    },
+const WINDOWS: [Place; 3] = [
+    (0, (3, 20, 1, 1)),
+    (0, (21, 4, 1, 1)),
+    (0, (1, 2, 20, 18)),
 ];
 
-// How many pixels a rectangle has.
-fn count_of(rect: Rect) -> u64
-    ensures count { result ≡ rect.w * rect.h }
-{
-    rect.w as u64 * rect.h as u64
-}
+// Each pixel of each dataset is 255.
+struct Blank;
 
-// Whether each pixel of a rectangle of a dataset is read, and is 255.
-fn is_blank<F: Folder, L: Ledger>(
-    alloc: Global,
-    lane: &mut Lane<F>,
-    cat: &Catalog,
-    folder: &mut F,
-    dataset: u32,
-    rect: Rect,
-    loads: &mut Steps<L>,
-) -> bool
-    requires dataset { dataset < length cat.now }
-    requires ready { IsReady F.Folder folder.old cat.now lane.old }
-    ensures ready { IsReady F.Folder folder.new cat.now lane.new }
-    ensures names { F.names folder.new ≡ F.names folder.old }
-{
-    let Size { w, h } = cat.head(dataset).size;
-    if rect.x > w || rect.y > h || rect.w > w - rect.x || rect.h > h - rect.y {
-        return false;
+impl Picture for Blank {
+    fn pixel(&self, _band: u32, _x: u32, _y: u32) -> Sample {
+        255
     }
-    let count = count_of(rect);
-    if count > 360 {
-        return false;
-    }
-    let window = Window {
-        dataset,
-        band: 0,
-        rect,
-    };
-    let mut room = [-1; 360];
-    let out = &mut room[..count as usize];
-    if lane
-        .read_window(alloc, cat, folder, window, out, loads)
-        .is_err()
-    {
-        return false;
-    }
-    are_255(out)
-}
-
-// Whether each sample is 255.
-fn are_255(samples: &[Sample]) -> bool {
-    for sample in samples {
-        if *sample != 255 {
-            return false;
-        }
-    }
-    true
-}
-
-// Whether all rectangles are read by a new lane of this capacity, and hold nothing but 255.
-fn are_blank<F: Folder, L: Ledger>(
-    alloc: Global,
-    cat: &Catalog,
-    folder: &mut F,
-    dataset: u32,
-    capacity: u32,
-    blank: Blank,
-) -> Result<bool, Fail>
-    requires dataset { dataset < length cat.now }
-    requires walked { (m : Files) → F.names folder.old ≡ Some m → IsWalked m cat.now }
-    requires room { 1 ≤ capacity }
-    requires few { capacity ≤ 65536 }
-    requires name { blank.name ≡ L.name }
-    requires parts { blank.parts ≡ L.parts }
-    requires some { 0 < blank.parts }
-{
-    let mut lane = Lane::new(alloc, capacity)?;
-    let mut loads: Steps<L> = Steps::open(blank);
-    for rect in RECTS {
-        if !is_blank(alloc, &mut lane, cat, folder, dataset, rect, &mut loads) {
-            return Ok(false);
-        }
-    }
-    Ok(true)
-}
-
-// The same of the first mosaic.
-fn are_blank_in<F: Folder>(alloc: Global, folder: &mut F, capacity: u32) -> Result<bool, Fail>
-    requires room { 1 ≤ capacity }
-    requires few { capacity ≤ 65536 }
-{
-    let name = Name::read(alloc, "m0.vrt")?;
-    let mut cat = Catalog::new(alloc);
-    let Ok(dataset) = open_all(alloc, &mut cat, folder, &name, false) else {
-        return Ok(false);
-    };
-    if dataset >= cat.count() {
-        return Ok(false);
-    }
-    are_blank::<F, Brand>(alloc, &cat, folder, dataset, capacity, Blank::new(1))
 }
 
 // Whether all is read through a lane of this capacity by fewer reads than all datasets have pixels.
-fn is_bounded(alloc: Global, shape: Shape, capacity: u32) -> Result<bool, Fail>
-    requires room { 1 ≤ capacity }
-    requires few { capacity ≤ 65536 }
-{
+fn is_bounded(alloc: Global, shape: Shape, capacity: u32) -> Result<bool, Fail> {
     let mut folder = Tally::new(nested(alloc, shape)?);
-    let blank = are_blank_in(alloc, &mut folder, capacity)?;
+    let job = Job {
+        name: "m0.vrt",
+        size: (24, 24),
+        capacity,
+        windows: &WINDOWS,
+    };
+    let blank = shows(alloc, &mut folder, job, &Blank)?;
     Ok(blank && folder.reads() < ALL_PIXELS)
 }
 
 // The first shape that isn't read so, or how many there are.
-fn first_unbounded(alloc: Global, capacity: u32) -> Result<usize, Fail>
-    requires room { 1 ≤ capacity }
-    requires few { capacity ≤ 65536 }
-{
-    for (at, shape) in SHAPES.iter().enumerate() {
+fn first_unbounded(alloc: Global, shapes: &[Shape], capacity: u32) -> Result<usize, Fail> {
+    for (at, shape) in shapes.iter().enumerate() {
         if !is_bounded(alloc, *shape, capacity)? {
             return Ok(at);
         }
     }
-    Ok(SHAPES.len())
+    Ok(shapes.len())
+}
+
+// The first shape that isn't read so at some capacity, or how many there are.
+fn first_unbounded_at(alloc: Global, shapes: &[Shape]) -> Result<usize, Fail> {
+    let mut first = shapes.len();
+    for capacity in [1, 64, 1000] {
+        first = first.min(first_unbounded(alloc, shapes, capacity)?);
+    }
+    Ok(first)
 }
 
 // 16 mosaics, of which each names the next two, three or four times, have 65,536 to 4,294,967,296 paths to the file.
 #[test]
 fn depth_multiplies_no_reads(rt: HostRuntime) -> Result<(), Fail> {
-    let alone = first_unbounded(rt.alloc(), 1)?;
-    let some = first_unbounded(rt.alloc(), 64)?;
-    let all = first_unbounded(rt.alloc(), 1000)?;
-    assert!(rt;
-        alone == 12 && some == 12 && all == 12,
-        "shapes {alone}, {some} and {all}"
-    );
+    let first = first_unbounded_at(rt.alloc(), &SHAPES)?;
+    assert!(rt; first == 12, "shape {first}");
     Ok(())
 }

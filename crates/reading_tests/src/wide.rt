@@ -1,18 +1,9 @@
 // Windows of 16,384 pixels and more, of mosaics that have few sources for their size: their lines are filled in the
 // whole width.
-ghost use Rattle.std.specs.Prelude.{◌≡◌, ◌*◌, ◌<◌, ◌≤◌, Some, length};
-ghost use Rattle.outside.specs.Outside.{Files};
-ghost use Rattle.catalog.specs.Walk.{IsWalked};
-ghost use Rattle.nearest_window.specs.Right.{IsReady};
-
-use band_blocks::Steps;
-use catalog::{Catalog, open_all};
-use geotransform::{Rect, Sample, Size};
-use nearest_window::{Lane, Window};
+use crate::reads::{Job, Picture, Place, shows};
+use geotransform::Sample;
 use outside::{CalmFolder, Folder, Name, Never, Tally};
 use std::alloc::Global;
-use std::marker::Brand;
-use std::sync::ledger::{Blank, Ledger};
 use std::test::*;
 
 // Two files, and mosaics of 1,100 x 1,000 pixels, which may have four sources each.
@@ -125,6 +116,12 @@ fn pixel(image: Image, x: u32, y: u32) -> u8 {
     }
 }
 
+impl Picture for Image {
+    fn pixel(&self, _band: u32, x: u32, y: u32) -> Sample {
+        pixel(*self, x, y) as Sample
+    }
+}
+
 const ONE: &[u8] =
     b"<VRTDataset rasterXSize=\"1100\" rasterYSize=\"1000\"><VRTRasterBand dataType=\"Byte\" band=\"1\"><NoDataValue>255</NoDataValue><SimpleSource><SourceFilename relativeToVRT=\"1\">first.bil</SourceFilename><SourceBand>1</SourceBand><SrcRect xOff=\"0\" yOff=\"0\" xSize=\"300\" ySize=\"200\"/><DstRect xOff=\"20\" yOff=\"10\" xSize=\"300\" ySize=\"200\"/></SimpleSource><ComplexSource><SourceFilename relativeToVRT=\"1\">second.bil</SourceFilename><SourceBand>1</SourceBand><SrcRect xOff=\"0\" yOff=\"0\" xSize=\"260\" ySize=\"150\"/><DstRect xOff=\"131\" yOff=\"35\" xSize=\"260\" ySize=\"150\"/><NODATA>0</NODATA></ComplexSource><SimpleSource><SourceFilename relativeToVRT=\"1\">first.bil</SourceFilename><SourceBand>1</SourceBand><SrcRect xOff=\"0\" yOff=\"0\" xSize=\"300\" ySize=\"200\"/><DstRect xOff=\"350\" yOff=\"60\" xSize=\"150\" ySize=\"100\"/></SimpleSource></VRTRasterBand></VRTDataset>";
 
@@ -173,168 +170,43 @@ fn drawn(alloc: Global) -> Result<CalmFolder, Fail> {
     Ok(folder)
 }
 
-// A rectangle of the dataset of an image, which has this number in the catalog, and how many of its pixels are asked
-// for one by one.
-#[derive(Clone, Copy)]
-struct Wanted {
-    image: Image,
-    dataset: u32,
-    rect: Rect,
-    points: u32,
-}
-
-// How many pixels a rectangle has.
-fn count_of(rect: Rect) -> u64
-    ensures count { result ≡ rect.w * rect.h }
-{
-    rect.w as u64 * rect.h as u64
-}
-
-// Whether a window of the first band of a dataset is filled.
-fn is_filled<F: Folder, L: Ledger>(
-    alloc: Global,
-    lane: &mut Lane<F>,
-    cat: &Catalog,
-    folder: &mut F,
-    wanted: Wanted,
-    out: &mut [Sample],
-    loads: &mut Steps<L>,
-) -> bool
-    requires dataset { wanted.dataset < length cat.now }
-    requires ready { IsReady F.Folder folder.old cat.now lane.old }
-    ensures ready { IsReady F.Folder folder.new cat.now lane.new }
-    ensures names { F.names folder.new ≡ F.names folder.old }
-{
-    let Wanted { dataset, rect, .. } = wanted;
-    let Size { w, h } = cat.head(dataset).size;
-    let Rect {
-        x: left,
-        y: top,
-        w: width,
-        h: height,
-    } = rect;
-    if left > w || top > h || width > w - left || height > h - top {
-        return false;
-    }
-    if out.len() as u64 != count_of(rect) {
-        return false;
-    }
-    let window = Window {
-        dataset,
-        band: 0,
-        rect,
-    };
-    lane.read_window(alloc, cat, folder, window, out, loads)
-        .is_ok()
-}
-
-// The column and the line of a pixel of a rectangle, in rows from its corner on.
-fn place_of(rect: Rect, number: u32) -> (u32, u32) {
-    let columns = rect.w.max(1);
-    let (x, y) = (number % columns, number / columns);
-    (rect.x.saturating_add(x), rect.y.saturating_add(y))
-}
-
-// Whether these are the pixels of an image in a rectangle.
-fn has_pixels(image: Image, rect: Rect, samples: &[Sample]) -> bool {
-    let mut number = 0u32;
-    for sample in samples.iter() {
-        let (x, y) = place_of(rect, number);
-        if *sample != pixel(image, x, y) as Sample {
-            return false;
-        }
-        number = number.saturating_add(1);
-    }
-    true
-}
-
-// Whether a lane gives pixels of a rectangle as the image has them, one by one, each 827 places behind the last.
-fn has_points<F: Folder, L: Ledger>(
-    alloc: Global,
-    lane: &mut Lane<F>,
-    cat: &Catalog,
-    folder: &mut F,
-    wanted: Wanted,
-    loads: &mut Steps<L>,
-) -> bool
-    requires dataset { wanted.dataset < length cat.now }
-    requires ready { IsReady F.Folder folder.old cat.now lane.old }
-{
-    for step in 0..wanted.points {
-        let (x, y) = place_of(wanted.rect, step.saturating_mul(827));
-        let rect = Rect { x, y, w: 1, h: 1 };
-        let one = Wanted { rect, ..wanted };
-        let mut out = [-1; 1];
-        let filled = is_filled(alloc, lane, cat, folder, one, &mut out, loads);
-        if !filled || out[0] != pixel(wanted.image, x, y) as Sample {
-            return false;
-        }
-    }
-    true
-}
-
-// Whether a new lane of this capacity gives the pixels of a rectangle as the image has them, all at once and then one
-// by one.
-fn is_drawn<F: Folder, L: Ledger>(
-    alloc: Global,
-    cat: &Catalog,
-    folder: &mut F,
-    wanted: Wanted,
-    capacity: u32,
-    blank: Blank,
-) -> Result<bool, Fail>
-    requires dataset { wanted.dataset < length cat.now }
-    requires walked { (m : Files) → F.names folder.old ≡ Some m → IsWalked m cat.now }
-    requires room { 1 ≤ capacity }
-    requires few { capacity ≤ 65536 }
-    requires name { blank.name ≡ L.name }
-    requires parts { blank.parts ≡ L.parts }
-    requires some { 0 < blank.parts }
-{
-    let mut out = vec![in alloc; -1i128; count_of(wanted.rect) as usize]?;
-    let mut lane = Lane::new(alloc, capacity)?;
-    let mut loads: Steps<L> = Steps::open(blank);
-    let samples = out.as_mut_slice();
-    if !is_filled(alloc, &mut lane, cat, folder, wanted, samples, &mut loads) {
-        return Ok(false);
-    }
-    if !has_pixels(wanted.image, wanted.rect, samples) {
-        return Ok(false);
-    }
-    Ok(has_points(alloc, &mut lane, cat, folder, wanted, &mut loads))
-}
-
 // An image, its name and a rectangle of 16,384 pixels or more.
 type Row<'a> = (Image, &'a str, (u32, u32, u32, u32));
 
-// Whether a dataset has the pixels of its image in a rectangle.
-fn is_drawn_in<F: Folder>(
+// The pixel of a rectangle of this number, counted row by row.
+fn point_of((left, top, columns, _): (u32, u32, u32, u32), number: u32) -> Place {
+    let columns = columns.max(1);
+    let (x, y) = (number % columns, number / columns);
+    (0, (left.saturating_add(x), top.saturating_add(y), 1, 1))
+}
+
+// A rectangle, and so many of its pixels one by one, each 827 places behind the last.
+fn windows_of(alloc: Global, rect: (u32, u32, u32, u32), points: u32) -> Result<Vec<Place>, Fail> {
+    let mut windows = Vec::new(alloc);
+    windows.push((0, rect))?;
+    for step in 0..points {
+        windows.push(point_of(rect, step.saturating_mul(827)))?;
+    }
+    Ok(windows)
+}
+
+// Whether a dataset has the pixels of its image in a rectangle, all at once and then so many one by one.
+fn is_drawn<F: Folder>(
     alloc: Global,
     folder: &mut F,
     row: Row,
     capacity: u32,
     points: u32,
-) -> Result<bool, Fail>
-    requires room { 1 ≤ capacity }
-    requires few { capacity ≤ 65536 }
-{
-    let (image, name, (x, y, w, h)) = row;
-    let name = Name::read(alloc, name)?;
-    let mut cat = Catalog::new(alloc);
-    let Ok(dataset) = open_all(alloc, &mut cat, folder, &name, false) else {
-        return Ok(false);
+) -> Result<bool, Fail> {
+    let (image, name, rect) = row;
+    let windows = windows_of(alloc, rect, points)?;
+    let job = Job {
+        name,
+        size: (1100, 1000),
+        capacity,
+        windows: windows.as_slice(),
     };
-    if dataset >= cat.count() {
-        return Ok(false);
-    }
-    let rect = Rect { x, y, w, h };
-    let wanted = Wanted {
-        image,
-        dataset,
-        rect,
-        points,
-    };
-    is_drawn::<F, Brand>(alloc, &cat, folder, wanted, capacity, Blank::new(1))
+    shows(alloc, folder, job, &image)
 }
 
 const ROWS_OF_ONE: [Row<'static>; 2] = [
@@ -352,34 +224,41 @@ const ROWS_OF_THREE: [Row<'static>; 2] = [
     (Image::Three, "three.vrt", (0, 91, 1100, 15)),
 ];
 
-// The first of the rows, and the capacity, at which a pixel is wrong.
-fn first_undrawn(alloc: Global, rows: &[Row]) -> Result<Option<(usize, u32)>, Fail> {
+// The first of the rows at which a pixel is wrong through a lane of this capacity, or how many rows there are.
+fn first_undrawn(alloc: Global, rows: &[Row], capacity: u32) -> Result<usize, Fail> {
     let mut folder = drawn(alloc)?;
     for (at, row) in rows.iter().enumerate() {
-        for capacity in [1, 2, 3, 64, 1000] {
-            if !is_drawn_in(alloc, &mut folder, *row, capacity, 20)? {
-                return Ok(Some((at, capacity)));
-            }
+        if !is_drawn(alloc, &mut folder, *row, capacity, 20)? {
+            return Ok(at);
         }
     }
-    Ok(None)
+    Ok(rows.len())
+}
+
+// Whether no pixel of the rows is wrong at any capacity.
+fn are_drawn(alloc: Global, rows: &[Row]) -> Result<bool, Fail> {
+    let mut first = rows.len();
+    for capacity in [1, 2, 3, 64, 1000] {
+        first = first.min(first_undrawn(alloc, rows, capacity)?);
+    }
+    Ok(first == rows.len())
 }
 
 #[test]
 fn large_windows_of_files_have_their_pixels(rt: HostRuntime) -> Result<(), Fail> {
-    assert!(rt; first_undrawn(rt.alloc(), &ROWS_OF_ONE)?.is_none());
+    assert!(rt; are_drawn(rt.alloc(), &ROWS_OF_ONE)?);
     Ok(())
 }
 
 #[test]
 fn large_windows_of_a_mosaic_have_its_pixels(rt: HostRuntime) -> Result<(), Fail> {
-    assert!(rt; first_undrawn(rt.alloc(), &ROWS_OF_TWO)?.is_none());
+    assert!(rt; are_drawn(rt.alloc(), &ROWS_OF_TWO)?);
     Ok(())
 }
 
 #[test]
 fn large_windows_of_mosaics_in_mosaics_have_their_pixels(rt: HostRuntime) -> Result<(), Fail> {
-    assert!(rt; first_undrawn(rt.alloc(), &ROWS_OF_THREE)?.is_none());
+    assert!(rt; are_drawn(rt.alloc(), &ROWS_OF_THREE)?);
     Ok(())
 }
 
@@ -392,7 +271,7 @@ const EMPTY: Row<'static> = (Image::One, "one.vrt", (0, 400, 1100, 15));
 // How many reads the walk and a window take, through a pool of one block; None where a pixel is wrong.
 fn reads_of(alloc: Global, row: Row) -> Result<Option<u64>, Fail> {
     let mut folder = Tally::new(drawn(alloc)?);
-    let drawn = is_drawn_in(alloc, &mut folder, row, 1, 0)?;
+    let drawn = is_drawn(alloc, &mut folder, row, 1, 0)?;
     Ok(if drawn { Some(folder.reads()) } else { None })
 }
 

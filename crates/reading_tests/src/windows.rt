@@ -1,105 +1,10 @@
-ghost use Rattle.std.specs.Prelude.{◌≡◌, ◌<◌, ◌≤◌, ℕ, Some, length};
-ghost use Rattle.outside.specs.Outside.{Files};
-ghost use Rattle.catalog.specs.Walk.{IsWalked};
-ghost use Rattle.nearest_window.specs.Right.{IsReady};
-
-use band_blocks::{LoadFault, Steps};
-use catalog::{Catalog, open_all};
-use geotransform::{Rect, Sample, Size};
+// Windows and points of files and of mosaics, through lanes that hold few blocks and many.
+use crate::reads::{FAILED, Job, Picture, Place, samples_of, shows};
+use geotransform::Sample;
 use lists_and_answers::Items;
-use nearest_window::{Lane, Window};
-use outside::{CalmFolder, Failing, Folder, Listed, MemoryFolder, Name, Never, Schedule, Tally};
+use outside::{CalmFolder, Failing, Listed, MemoryFolder, Name, Never, Schedule, Tally};
 use std::alloc::Global;
-use std::marker::Brand;
-use std::sync::ledger::{Blank, Ledger};
 use std::test::*;
-
-// What came of two reads of a dataset through one lane.
-#[derive(Clone, Copy, PartialEq, Eq)]
-enum Reading {
-    // Both gave these samples.
-    Right,
-    // A call of the folder failed at the first, and the second gave these samples.
-    Failed,
-    // The walk, which comes before, was refused.
-    NoWalk,
-    Wrong,
-}
-
-// What came of a read and of the next one, which left this.
-fn judged(
-    first: &Result<(), LoadFault>,
-    second: &Result<(), LoadFault>,
-    out: &[Sample],
-    samples: &[Sample],
-) -> Reading {
-    if second.is_err() || out != samples {
-        return Reading::Wrong;
-    }
-    match first {
-        Ok(()) => Reading::Right,
-        Err(LoadFault::FolderFault) => Reading::Failed,
-        Err(_) => Reading::Wrong,
-    }
-}
-
-// Reads the samples of the first band of a small dataset twice through a lane of this capacity.
-fn read_twice<F: Folder, L: Ledger>(
-    alloc: Global,
-    cat: &Catalog,
-    folder: &mut F,
-    id: u32,
-    capacity: u32,
-    wanted: &[Sample],
-    blank: Blank,
-) -> Result<Reading, Fail>
-    requires id { id < length cat.now }
-    requires walked { (m : Files) → F.names folder.old ≡ Some m → IsWalked m cat.now }
-    requires room { 1 ≤ capacity }
-    requires few { capacity ≤ 65536 }
-    requires name { blank.name ≡ L.name }
-    requires parts { blank.parts ≡ L.parts }
-    requires some { 0 < blank.parts }
-{
-    let Size { w, h } = cat.head(id).size;
-    if w > 16 || h > 16 {
-        return Ok(Reading::Wrong);
-    }
-    let window = Window {
-        dataset: id,
-        band: 0,
-        rect: Rect { x: 0, y: 0, w, h },
-    };
-    let mut out = vec![in alloc; 0i128; (w * h) as usize]?;
-    let mut lane = Lane::new(alloc, capacity)?;
-    let mut loads: Steps<L> = Steps::open(blank);
-    let samples = out.as_mut_slice();
-    let first = lane.read_window(alloc, cat, folder, window, samples, &mut loads);
-    let second = lane.read_window(alloc, cat, folder, window, samples, &mut loads);
-    Ok(judged(&first, &second, samples, wanted))
-}
-
-// Reads the samples of the dataset of a name twice.
-fn read_name<F: Folder>(
-    alloc: Global,
-    folder: &mut F,
-    name: &str,
-    capacity: u32,
-    wanted: &[Sample],
-) -> Result<Reading, Fail>
-    requires room { 1 ≤ capacity }
-    requires few { capacity ≤ 65536 }
-{
-    let name = Name::read(alloc, name)?;
-    let mut cat = Catalog::new(alloc);
-    let Ok(id) = open_all(alloc, &mut cat, folder, &name, false) else {
-        return Ok(Reading::NoWalk);
-    };
-    if id >= cat.count() {
-        return Ok(Reading::Wrong);
-    }
-    read_twice::<F, Brand>(alloc, &cat, folder, id, capacity, wanted, Blank::new(1))
-}
 
 const HEADER: &[u8] = b"NROWS 1\nNCOLS 3\nNBITS 16\nPIXELTYPE SIGNEDINT\nBYTEORDER I\n";
 
@@ -146,74 +51,138 @@ fn calm(alloc: Global) -> Result<CalmFolder, Fail> {
     holding(alloc, Never)
 }
 
-// A name, and the samples of its dataset.
-const ROWS: [(&str, &[Sample]); 6] = [
-    ("a.bil", &[5, 0, 7]),
-    ("m.vrt", &[5, -1, 9]),
-    ("s.vrt", &[0, 0, 9]),
-    ("n.vrt", &[5, -1, 9]),
-    ("o.vrt", &[5, -1, 9]),
-    ("w.vrt", &[2, 4]),
+// A name, the columns of its dataset, which has one line, and its samples, twice.
+type Row<'a> = (&'a str, u32, &'a [Sample]);
+
+const ROWS: [Row<'static>; 6] = [
+    ("a.bil", 3, &[5, 0, 7, 5, 0, 7]),
+    ("m.vrt", 3, &[5, -1, 9, 5, -1, 9]),
+    ("s.vrt", 3, &[0, 0, 9, 0, 0, 9]),
+    ("n.vrt", 3, &[5, -1, 9, 5, -1, 9]),
+    ("o.vrt", 3, &[5, -1, 9, 5, -1, 9]),
+    ("w.vrt", 2, &[2, 4, 2, 4]),
 ];
 
-// Whether a dataset has these samples at every capacity.
-fn has_samples(alloc: Global, name: &str, wanted: &[Sample]) -> Result<bool, Fail> {
-    for capacity in [1, 2, 3, 64] {
-        let mut folder = calm(alloc)?;
-        if read_name(alloc, &mut folder, name, capacity, wanted)? != Reading::Right {
-            return Ok(false);
-        }
-    }
-    Ok(true)
+// Whether a dataset has these samples where it is read twice through a lane of this capacity.
+fn has_samples(alloc: Global, row: Row, capacity: u32) -> Result<bool, Fail> {
+    let (name, columns, wanted) = row;
+    let mut folder = calm(alloc)?;
+    let whole = (0, (0, 0, columns, 1));
+    let job = Job {
+        name,
+        size: (columns, 1),
+        capacity,
+        windows: &[whole, whole],
+    };
+    let samples = samples_of(alloc, &mut folder, job)?;
+    Ok(samples.as_slice() == wanted)
 }
 
-// The first of these datasets that has others, or how many datasets there are.
-fn first_misread(alloc: Global) -> Result<usize, Fail> {
-    for (at, (name, wanted)) in ROWS.iter().enumerate() {
-        if !has_samples(alloc, name, wanted)? {
+// The first of these datasets that has others through a lane of this capacity, or how many datasets there are.
+fn first_misread(alloc: Global, rows: &[Row], capacity: u32) -> Result<usize, Fail> {
+    for (at, row) in rows.iter().enumerate() {
+        if !has_samples(alloc, *row, capacity)? {
             return Ok(at);
         }
     }
-    Ok(ROWS.len())
+    Ok(rows.len())
+}
+
+// The first of these datasets that has others at some capacity, or how many datasets there are.
+fn first_misread_at(alloc: Global, rows: &[Row]) -> Result<usize, Fail> {
+    let mut first = rows.len();
+    for capacity in [1, 2, 3, 64] {
+        first = first.min(first_misread(alloc, rows, capacity)?);
+    }
+    Ok(first)
 }
 
 #[test]
 fn every_capacity_gives_the_same(rt: HostRuntime) -> Result<(), Fail> {
-    assert_eq!(rt; first_misread(rt.alloc())?, ROWS.len());
+    let first = first_misread_at(rt.alloc(), &ROWS)?;
+    assert!(rt; first == 6, "row {first}");
     Ok(())
 }
 
-// The samples of `m.vrt`, `n.vrt` and `o.vrt`.
-const OUTER_SAMPLES: [Sample; 3] = [5, -1, 9];
+// All of `o.vrt`, twice.
+const TWICE: [Place; 2] = [(0, (0, 0, 3, 1)), (0, (0, 0, 3, 1))];
 
-// How many reads and openings the walk of `o.vrt` takes.
-fn calls_of_walk(alloc: Global) -> Result<(u64, u64), Fail> {
-    let mut walked = Tally::new(calm(alloc)?);
-    let name = Name::read(alloc, "o.vrt")?;
-    let mut cat = Catalog::new(alloc);
-    let _id = open_all(alloc, &mut cat, &mut walked, &name, false);
-    Ok((walked.reads(), walked.opens()))
+// The samples of `m.vrt`, `n.vrt` and `o.vrt`, twice.
+const OUTER_SAMPLES: [Sample; 6] = [5, -1, 9, 5, -1, 9];
+
+// Windows of `o.vrt` through a lane of this capacity.
+fn outer(capacity: u32, windows: &[Place]) -> Job<'_> {
+    Job {
+        name: "o.vrt",
+        size: (3, 1),
+        capacity,
+        windows,
+    }
 }
 
-// How many reads and openings the walk and the two reads take, with room for all blocks; None where they are wrong.
-fn calls_of_reads(alloc: Global) -> Result<Option<(u64, u64)>, Fail> {
+// How many reads and openings the walk of `o.vrt` and these windows take, with room for all blocks; none where the
+// samples are wrong.
+fn calls_of(
+    alloc: Global,
+    windows: &[Place],
+    wanted: &[Sample],
+) -> Result<Option<(u64, u64)>, Fail> {
     let mut folder = Tally::new(calm(alloc)?);
-    let came = read_name(alloc, &mut folder, "o.vrt", 64, &OUTER_SAMPLES)?;
-    Ok(if came == Reading::Right {
+    let samples = samples_of(alloc, &mut folder, outer(64, windows))?;
+    Ok(if samples.as_slice() == wanted {
         Some((folder.reads(), folder.opens()))
     } else {
         None
     })
 }
 
+// How many of them the windows take beside the walk.
+fn calls_beside_the_walk(alloc: Global) -> Result<Option<(u64, u64)>, Fail> {
+    let walk = calls_of(alloc, &[], &[])?;
+    let all = calls_of(alloc, &TWICE, &OUTER_SAMPLES)?;
+    match (walk, all) {
+        (Some(walk), Some(all)) => {
+            return Ok(Some((
+                all.0.saturating_sub(walk.0),
+                all.1.saturating_sub(walk.1),
+            )));
+        }
+        _ => return Ok(None),
+    }
+}
+
 // With room for all blocks each of the two files is opened once and its one block read once, beside the
 // four files that the walk reads.
 #[test]
 fn loads_once(rt: HostRuntime) -> Result<(), Fail> {
-    let (reads, opens) = calls_of_walk(rt.alloc())?;
-    let loaded = (reads.saturating_add(2), opens.saturating_add(2));
-    assert!(rt; calls_of_reads(rt.alloc())? == Some(loaded));
+    assert!(rt; calls_beside_the_walk(rt.alloc())? == Some((2, 2)));
     Ok(())
+}
+
+// What came of two reads of a dataset through one lane.
+#[derive(Clone, Copy, PartialEq, Eq)]
+enum Reading {
+    // Both gave its samples.
+    Right,
+    // A call of the folder failed at the first, and the second gave them.
+    Failed,
+    // The walk, which comes before, was refused.
+    NoWalk,
+    Wrong,
+}
+
+// What came of two reads that left this, none where the walk was refused.
+fn judged(samples: &[Sample]) -> Reading {
+    if samples.is_empty() {
+        return Reading::NoWalk;
+    }
+    if samples == OUTER_SAMPLES.as_slice() {
+        return Reading::Right;
+    }
+    if samples == [FAILED, FAILED, FAILED, 5, -1, 9].as_slice() {
+        return Reading::Failed;
+    }
+    Reading::Wrong
 }
 
 // What comes of reads where the call of the folder of this number fails.
@@ -221,7 +190,8 @@ fn read_failing(alloc: Global, call: u64) -> Result<Reading, Fail> {
     let mut failing = Items::new(alloc);
     failing.push(Failing::Call(call))?;
     let mut folder = holding(alloc, Listed::new(failing))?;
-    read_name(alloc, &mut folder, "o.vrt", 2, &OUTER_SAMPLES)
+    let samples = samples_of(alloc, &mut folder, outer(2, &TWICE))?;
+    Ok(judged(samples.as_slice()))
 }
 
 // How many calls of the folder fail at the first read, where each of 29 fails in turn; None where one refuses the walk
@@ -260,25 +230,16 @@ enum Image {
     Nested,
 }
 
-fn left(x: u32, y: u32) -> u8
-    requires x { x < 1000 }
-    requires y { y < 1000 }
-{
-    ((x + 50 * y) % 199 + 1) as u8
+fn left(x: u32, y: u32) -> u8 {
+    ((x as u64 + 50 * y as u64) % 199 + 1) as u8
 }
 
-fn right(x: u32, y: u32) -> u8
-    requires x { x < 1000 }
-    requires y { y < 1000 }
-{
-    ((x + 2 * y) % 5 * 40) as u8
+fn right(x: u32, y: u32) -> u8 {
+    ((x as u64 + 2 * y as u64) % 5 * 40) as u8
 }
 
 // The NODATA of this one is 255.
-fn wide(x: u32, y: u32) -> u8
-    requires x { x < 1000 }
-    requires y { y < 1000 }
-{
+fn wide(x: u32, y: u32) -> u8 {
     if x >= 60 && right(x - 60, y) != 0 {
         return right(x - 60, y);
     }
@@ -289,10 +250,7 @@ fn wide(x: u32, y: u32) -> u8
 }
 
 // The middle of the column x lies in the column 2x + 1 of `Left`.
-fn nested(x: u32, y: u32) -> u8
-    requires x { x < 1000 }
-    requires y { y < 1000 }
-{
+fn nested(x: u32, y: u32) -> u8 {
     if x < 65 && y < 3 {
         return left(2 * x + 1, y);
     }
@@ -303,15 +261,18 @@ fn nested(x: u32, y: u32) -> u8
 }
 
 // The pixel of an image by its definition.
-fn pixel(image: Image, x: u32, y: u32) -> u8
-    requires x { x < 1000 }
-    requires y { y < 1000 }
-{
+fn pixel(image: Image, x: u32, y: u32) -> u8 {
     match image {
         Image::Left => left(x, y),
         Image::Right => right(x, y),
         Image::Wide => wide(x, y),
         Image::Nested => nested(x, y),
+    }
+}
+
+impl Picture for Image {
+    fn pixel(&self, _band: u32, x: u32, y: u32) -> Sample {
+        pixel(*self, x, y) as Sample
     }
 }
 
@@ -371,227 +332,74 @@ fn drawn(alloc: Global) -> Result<CalmFolder, Fail> {
     Ok(folder)
 }
 
-// A column and a line of a dataset, which has this number in the catalog.
-#[derive(Clone, Copy)]
-struct Place {
-    dataset: u32,
-    x: u32,
-    y: u32,
-}
+// An image, its name, and its columns and lines.
+type Drawn<'a> = (Image, &'a str, u32, u32);
 
-// The pixel of the first band, or -1 where there is none or it isn't read.
-fn point<F: Folder, L: Ledger>(
-    alloc: Global,
-    lane: &mut Lane<F>,
-    cat: &Catalog,
-    folder: &mut F,
-    place: Place,
-    loads: &mut Steps<L>,
-) -> Sample
-    requires dataset { place.dataset < length cat.now }
-    requires ready { IsReady F.Folder folder.old cat.now lane.old }
-    ensures ready { IsReady F.Folder folder.new cat.now lane.new }
-    ensures names { F.names folder.new ≡ F.names folder.old }
-{
-    let Place { dataset, x, y } = place;
-    let Size { w, h } = cat.head(dataset).size;
-    if x >= w || y >= h {
-        return -1;
-    }
-    let window = Window {
-        dataset,
-        band: 0,
-        rect: Rect { x, y, w: 1, h: 1 },
-    };
-    let mut out = [0; 1];
-    match lane.read_window(alloc, cat, folder, window, &mut out, loads) {
-        Ok(()) => return out[0],
-        Err(_) => return -1,
-    }
-}
-
-// How many pixels of a dataset a lane of this capacity gives otherwise than the image has them, where they
-// are asked for one by one, each 59 places behind the last.
-fn wrong_points<F: Folder, L: Ledger>(
-    alloc: Global,
-    cat: &Catalog,
-    folder: &mut F,
-    id: u32,
-    image: Image,
-    capacity: u32,
-    blank: Blank,
-) -> Result<u32, Fail>
-    requires id { id < length cat.now }
-    requires walked { (m : Files) → F.names folder.old ≡ Some m → IsWalked m cat.now }
-    requires room { 1 ≤ capacity }
-    requires few { capacity ≤ 65536 }
-    requires name { blank.name ≡ L.name }
-    requires parts { blank.parts ≡ L.parts }
-    requires some { 0 < blank.parts }
-    ensures names { F.names folder.new ≡ F.names folder.old }
-{
-    let Size { w, h } = cat.head(id).size;
-    if w > 200 || h > 10 {
-        return Ok(1);
-    }
-    let mut lane = Lane::new(alloc, capacity)?;
-    let mut loads: Steps<L> = Steps::open(blank);
-    let mut wrong = 0;
-    for step in 0..w * h {
-        let number = step * 59 % (w * h);
-        let (x, y) = (number % w, number / w);
-        let place = Place { dataset: id, x, y };
-        if point(alloc, &mut lane, cat, folder, place, &mut loads) != pixel(image, x, y) as Sample {
-            wrong += 1;
-        }
-    }
-    Ok(wrong)
-}
-
-// The same, where all are asked for at once.
-fn wrong_pixels<F: Folder, L: Ledger>(
-    alloc: Global,
-    cat: &Catalog,
-    folder: &mut F,
-    id: u32,
-    image: Image,
-    capacity: u32,
-    blank: Blank,
-) -> Result<u32, Fail>
-    requires id { id < length cat.now }
-    requires walked { (m : Files) → F.names folder.old ≡ Some m → IsWalked m cat.now }
-    requires room { 1 ≤ capacity }
-    requires few { capacity ≤ 65536 }
-    requires name { blank.name ≡ L.name }
-    requires parts { blank.parts ≡ L.parts }
-    requires some { 0 < blank.parts }
-{
-    let Size { w, h } = cat.head(id).size;
-    if w > 200 || h > 10 {
-        return Ok(1);
-    }
-    let window = Window {
-        dataset: id,
-        band: 0,
-        rect: Rect { x: 0, y: 0, w, h },
-    };
-    let mut out = vec![in alloc; 0i128; (w * h) as usize]?;
-    let mut lane = Lane::new(alloc, capacity)?;
-    let mut loads: Steps<L> = Steps::open(blank);
-    let samples = out.as_mut_slice();
-    let answer = lane.read_window(alloc, cat, folder, window, samples, &mut loads);
-    let mut wrong = if answer.is_ok() { 0 } else { 1 };
-    for place in 0..w * h {
-        if samples[place as usize] != pixel(image, place % w, place / w) as Sample {
-            wrong += 1;
-        }
-    }
-    Ok(wrong)
-}
-
-// An image and its name.
-const IMAGES: [(Image, &str); 4] = [
-    (Image::Left, "left.bil"),
-    (Image::Right, "right.bil"),
-    (Image::Wide, "wide.vrt"),
-    (Image::Nested, "nested.vrt"),
+const IMAGES: [Drawn<'static>; 4] = [
+    (Image::Left, "left.bil", 130, 3),
+    (Image::Right, "right.bil", 80, 3),
+    (Image::Wide, "wide.vrt", 140, 3),
+    (Image::Nested, "nested.vrt", 155, 5),
 ];
 
-// How many pixels of the dataset of a name are wrong, one by one and all at once.
-fn wrong_in<F: Folder>(
-    alloc: Global,
-    folder: &mut F,
-    image: Image,
-    name: &str,
-    capacity: u32,
-) -> Result<(u32, u32), Fail>
-    requires room { 1 ≤ capacity }
-    requires few { capacity ≤ 65536 }
-{
-    let name = Name::read(alloc, name)?;
-    let mut cat = Catalog::new(alloc);
-    let Ok(id) = open_all(alloc, &mut cat, folder, &name, false) else {
-        return Ok((1, 1));
+// All pixels of an image, one by one, each 59 places behind the last.
+fn points_of(alloc: Global, columns: u32, lines: u32) -> Result<Vec<Place>, Fail> {
+    let count = columns.saturating_mul(lines).max(1);
+    let mut points = Vec::new(alloc);
+    for step in 0..count {
+        let number = step.saturating_mul(59) % count;
+        let (x, y) = (number % columns.max(1), number / columns.max(1));
+        points.push((0, (x, y, 1, 1)))?;
+    }
+    Ok(points)
+}
+
+// Whether an image is read so in these windows.
+fn is_drawn(alloc: Global, drawn_as: Drawn, capacity: u32, windows: &[Place]) -> Result<bool, Fail> {
+    let (image, name, columns, lines) = drawn_as;
+    let mut folder = drawn(alloc)?;
+    let job = Job {
+        name,
+        size: (columns, lines),
+        capacity,
+        windows,
     };
-    if id >= cat.count() {
-        return Ok((1, 1));
-    }
-    let points = wrong_points::<F, Brand>(alloc, &cat, folder, id, image, capacity, Blank::new(1))?;
-    let pixels = wrong_pixels::<F, Brand>(alloc, &cat, folder, id, image, capacity, Blank::new(1))?;
-    Ok((points, pixels))
+    shows(alloc, &mut folder, job, &image)
 }
 
-// Whether no pixel of the dataset of a name is wrong at any capacity.
-fn is_drawn(alloc: Global, image: Image, name: &str) -> Result<bool, Fail> {
-    for capacity in [1, 2, 64] {
-        let mut folder = drawn(alloc)?;
-        if wrong_in(alloc, &mut folder, image, name, capacity)? != (0, 0) {
-            return Ok(false);
-        }
-    }
-    Ok(true)
+// Whether an image is read so one by one, and all at once.
+fn is_drawn_twice(alloc: Global, image: Drawn, capacity: u32) -> Result<bool, Fail> {
+    let (_, _, columns, lines) = image;
+    let points = points_of(alloc, columns, lines)?;
+    let one_by_one = is_drawn(alloc, image, capacity, points.as_slice())?;
+    let at_once = is_drawn(alloc, image, capacity, &[(0, (0, 0, columns, lines))])?;
+    Ok(one_by_one && at_once)
 }
 
-// The first of the images that has wrong pixels, or how many images there are.
-fn first_undrawn(alloc: Global) -> Result<usize, Fail> {
-    for (at, (image, name)) in IMAGES.iter().enumerate() {
-        if !is_drawn(alloc, *image, name)? {
+// The first of the images that has wrong pixels through a lane of this capacity, or how many images there are.
+fn first_undrawn(alloc: Global, images: &[Drawn], capacity: u32) -> Result<usize, Fail> {
+    for (at, image) in images.iter().enumerate() {
+        if !is_drawn_twice(alloc, *image, capacity)? {
             return Ok(at);
         }
     }
-    Ok(IMAGES.len())
+    Ok(images.len())
+}
+
+// The first of the images that has wrong pixels at some capacity, or how many images there are.
+fn first_undrawn_at(alloc: Global, images: &[Drawn]) -> Result<usize, Fail> {
+    let mut first = images.len();
+    for capacity in [1, 2, 64] {
+        first = first.min(first_undrawn(alloc, images, capacity)?);
+    }
+    Ok(first)
 }
 
 #[test]
 fn jumping_points_are_those_of_the_window(rt: HostRuntime) -> Result<(), Fail> {
-    assert_eq!(rt; first_undrawn(rt.alloc())?, IMAGES.len());
+    let first = first_undrawn_at(rt.alloc(), &IMAGES)?;
+    assert!(rt; first == 4, "image {first}");
     Ok(())
-}
-
-// Reads pixels of a dataset one by one, through a pool of one block.
-fn read_points<F: Folder, L: Ledger>(
-    alloc: Global,
-    cat: &Catalog,
-    folder: &mut F,
-    id: u32,
-    places: &[(u32, u32)],
-    blank: Blank,
-) -> Result<(), Fail>
-    requires id { id < length cat.now }
-    requires walked { (m : Files) → F.names folder.old ≡ Some m → IsWalked m cat.now }
-    requires name { blank.name ≡ L.name }
-    requires parts { blank.parts ≡ L.parts }
-    requires some { 0 < blank.parts }
-{
-    let mut lane = Lane::new(alloc, 1)?;
-    let mut loads: Steps<L> = Steps::open(blank);
-    for (x, y) in places.iter() {
-        let place = Place {
-            dataset: id,
-            x: *x,
-            y: *y,
-        };
-        let _pixel = point(alloc, &mut lane, cat, folder, place, &mut loads);
-    }
-    Ok(())
-}
-
-// The same of the dataset of a name.
-fn read_points_of<F: Folder>(
-    alloc: Global,
-    folder: &mut F,
-    name: &str,
-    places: &[(u32, u32)],
-) -> Result<(), Fail> {
-    let name = Name::read(alloc, name)?;
-    let mut cat = Catalog::new(alloc);
-    let Ok(id) = open_all(alloc, &mut cat, folder, &name, false) else {
-        return Ok(());
-    };
-    if id >= cat.count() {
-        return Ok(());
-    }
-    read_points::<F, Brand>(alloc, &cat, folder, id, places, Blank::new(1))
 }
 
 // A folder that holds a raster of 3 lines. A line has 300 columns of 256 bands, of which 256 are read at once, in
@@ -615,74 +423,103 @@ fn folder_with(alloc: Global, name: &str) -> Result<CalmFolder, Fail> {
     drawn(alloc)
 }
 
-// How many reads the walk and these pixels take.
-fn all_reads(alloc: Global, name: &str, places: &[(u32, u32)]) -> Result<u64, Fail> {
+// Points of a dataset, which has this size: how many reads the first of them takes, the first two, and so on.
+#[derive(Clone, Copy)]
+struct Counted<'a> {
+    name: &'a str,
+    size: (u32, u32),
+    points: &'a [Place],
+    reads: &'a [u64],
+}
+
+// How many reads the walk and the first of the points take, through a pool of one block.
+fn all_reads(alloc: Global, counted: Counted, count: usize) -> Result<u64, Fail> {
+    let Counted {
+        name, size, points, ..
+    } = counted;
+    let (windows, _) = points.split_at(count.min(points.len()));
     let mut folder = Tally::new(folder_with(alloc, name)?);
-    read_points_of(alloc, &mut folder, name, places)?;
+    let job = Job {
+        name,
+        size,
+        capacity: 1,
+        windows,
+    };
+    let _samples = samples_of(alloc, &mut folder, job)?;
     Ok(folder.reads())
 }
 
-// How many reads they take beside those of the walk.
-fn reads_in(alloc: Global, name: &str, places: &[(u32, u32)]) -> Result<u64, Fail> {
-    let walked = all_reads(alloc, name, &[])?;
-    Ok(all_reads(alloc, name, places)?.saturating_sub(walked))
-}
-
-const WIDE_PLACES: [(u32, u32); 5] = [(0, 0), (139, 2), (100, 0), (5, 1), (70, 2)];
-
-// How many reads the first of these places take, the first two, and so on.
-const WIDE_READS: [u64; 5] = [6, 7, 7, 7, 7];
-
-const NESTED_PLACES: [(u32, u32); 6] = [(154, 4), (154, 4), (0, 0), (20, 3), (20, 1), (120, 3)];
-
-const NESTED_READS: [u64; 6] = [12, 12, 13, 13, 14, 14];
-
-// The first place up to which they take another number of reads, or how many places there are.
-fn first_miscounted(
-    alloc: Global,
-    name: &str,
-    places: &[(u32, u32)],
-    counts: &[u64],
-) -> Result<usize, Fail> {
-    for (at, reads) in counts.iter().enumerate() {
-        let (front, _) = places.split_at(at.saturating_add(1).min(places.len()));
-        if reads_in(alloc, name, front)? != *reads {
+// The first point up to which they take another number of reads beside those of the walk, or how many points there are.
+fn first_miscounted(alloc: Global, counted: Counted) -> Result<usize, Fail> {
+    let walk = all_reads(alloc, counted, 0)?;
+    for (at, reads) in counted.reads.iter().enumerate() {
+        if all_reads(alloc, counted, at.saturating_add(1))? != walk.saturating_add(*reads) {
             return Ok(at);
         }
     }
-    Ok(counts.len())
+    Ok(counted.reads.len())
 }
+
+const WIDE_POINTS: Counted<'static> = Counted {
+    name: "wide.vrt",
+    size: (140, 3),
+    points: &[
+        (0, (0, 0, 1, 1)),
+        (0, (139, 2, 1, 1)),
+        (0, (100, 0, 1, 1)),
+        (0, (5, 1, 1, 1)),
+        (0, (70, 2, 1, 1)),
+    ],
+    reads: &[6, 7, 7, 7, 7],
+};
+
+const NESTED_POINTS: Counted<'static> = Counted {
+    name: "nested.vrt",
+    size: (155, 5),
+    points: &[
+        (0, (154, 4, 1, 1)),
+        (0, (154, 4, 1, 1)),
+        (0, (0, 0, 1, 1)),
+        (0, (20, 3, 1, 1)),
+        (0, (20, 1, 1, 1)),
+        (0, (120, 3, 1, 1)),
+    ],
+    reads: &[12, 12, 13, 13, 14, 14],
+};
 
 // The first pixel makes its block, since there is room: for each block of `Wide` in it, it loads all three
 // lines of both files. Blocks that were made stay beside the pool, which is full by then. A pixel of another block
 // only loads the line of the last source that covers it, and where that is its NODATA the line of the one before.
 #[test]
 fn a_point_loads_one_block_of_each_source(rt: HostRuntime) -> Result<(), Fail> {
-    let wide = first_miscounted(rt.alloc(), "wide.vrt", &WIDE_PLACES, &WIDE_READS)?;
-    let nested = first_miscounted(rt.alloc(), "nested.vrt", &NESTED_PLACES, &NESTED_READS)?;
-    assert!(rt; wide == 5 && nested == 6, "place {wide}, place {nested}");
+    let wide = first_miscounted(rt.alloc(), WIDE_POINTS)?;
+    let nested = first_miscounted(rt.alloc(), NESTED_POINTS)?;
+    assert!(rt; wide == 5 && nested == 6, "point {wide}, point {nested}");
     Ok(())
 }
 
-const LONG_PLACES: [(u32, u32); 8] = [
-    (0, 0),
-    (299, 1),
-    (5, 2),
-    (6, 1),
-    (7, 1),
-    (8, 1),
-    (9, 0),
-    (10, 0),
-];
-
-const LONG_READS: [u64; 8] = [2, 3, 4, 5, 7, 7, 8, 10];
+const LONG_POINTS: Counted<'static> = Counted {
+    name: "long.bip",
+    size: (300, 3),
+    points: &[
+        (0, (0, 0, 1, 1)),
+        (0, (299, 1, 1, 1)),
+        (0, (5, 2, 1, 1)),
+        (0, (6, 1, 1, 1)),
+        (0, (7, 1, 1, 1)),
+        (0, (8, 1, 1, 1)),
+        (0, (9, 0, 1, 1)),
+        (0, (10, 0, 1, 1)),
+    ],
+    reads: &[2, 3, 4, 5, 7, 7, 8, 10],
+};
 
 // The first pixel loads its line, in two reads, since there is room. Those in other lines then jump: each reads
 // its byte alone. The fifth stands in the line of the fourth, which is loaded and holds the sixth; and so does
 // the eighth in the line of the seventh, which was pushed out.
 #[test]
 fn a_point_that_jumps_reads_its_byte_alone(rt: HostRuntime) -> Result<(), Fail> {
-    let long = first_miscounted(rt.alloc(), "long.bip", &LONG_PLACES, &LONG_READS)?;
-    assert_eq!(rt; long, LONG_READS.len());
+    let long = first_miscounted(rt.alloc(), LONG_POINTS)?;
+    assert!(rt; long == 8, "point {long}");
     Ok(())
 }
