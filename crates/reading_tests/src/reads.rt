@@ -188,14 +188,14 @@ fn read_through<F: Folder, L: Ledger>(
 }
 
 // Whether a dataset is of a catalog, and has this size.
-fn has_size(cat: &Catalog, dataset: u32, (w, h): (u32, u32)) -> bool
+fn has_size(cat: &Catalog, dataset: u32, size: (u32, u32)) -> bool
     ensures known { result ≡ true → dataset < length cat.now }
 {
     if dataset >= cat.count() {
         return false;
     }
-    let size = cat.head(dataset).size;
-    size.w == w && size.h == h
+    let Size { w, h } = cat.head(dataset).size;
+    (w, h) == size
 }
 
 // Reads windows of the dataset of a name one after the other through a new lane, and puts their samples one behind the
