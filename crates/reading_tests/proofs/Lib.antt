@@ -1,1 +1,1 @@
-mod Windows
+mod Rects

@@ -68,11 +68,11 @@ fn above(alloc: Global, below: &[u8]) -> Result<Vec<u8>, Fail> {
 
 // The pixels of the first mosaic, behind its 128 columns.
 #[derive(Drop)]
-struct First {
+struct Pixels {
     pixels: Vec<u8>,
 }
 
-impl Picture for First {
+impl Picture for Pixels {
     fn pixel(&self, _band: u32, x: u32, y: u32) -> Sample {
         if x < 128 {
             return 255;
@@ -82,12 +82,12 @@ impl Picture for First {
     }
 }
 
-fn first(alloc: Global) -> Result<First, Fail> {
+fn first(alloc: Global) -> Result<Pixels, Fail> {
     let mut pixels = raw(alloc)?;
     for _ in 1..NAMES.len() {
         pixels = above(alloc, pixels.as_slice())?;
     }
-    Ok(First { pixels })
+    Ok(Pixels { pixels })
 }
 
 // Adds a source to a document.

@@ -77,7 +77,7 @@ fn mark_of(fault: LoadFault) -> Sample {
 }
 
 // Reads a window of a dataset. What stands for its samples where it isn't read.
-#[tactic(auto, using(crate::proofs::Windows::window_in))]
+#[tactic(auto, using(crate::proofs::Rects::window_in))]
 fn read_window<F: Folder, L: Ledger>(
     reader: &mut Reader<F, L>,
     cat: &Catalog,
