@@ -134,11 +134,7 @@ fn nested(alloc: Global, shape: Shape) -> Result<CalmFolder, Fail> {
 }
 
 // Two points, and a window.
-const WINDOWS: [Place; 3] = [
-    (0, (3, 20, 1, 1)),
-    (0, (21, 4, 1, 1)),
-    (0, (1, 2, 20, 18)),
-];
+const WINDOWS: [Place; 3] = [(0, (3, 20, 1, 1)), (0, (21, 4, 1, 1)), (0, (1, 2, 20, 18))];
 
 // Each pixel of each dataset is 255.
 struct Blank;

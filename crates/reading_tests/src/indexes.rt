@@ -119,9 +119,7 @@ fn push_source(alloc: Global, text: &mut Vec<u8>, source: Source) -> Result<(), 
 
 // The document's text of a band.
 fn push_band(alloc: Global, text: &mut Vec<u8>, sources: &[Source]) -> Result<(), Fail> {
-    text.extend_from_slice(
-        b"<VRTRasterBand dataType=\"Byte\"><NoDataValue>255</NoDataValue>",
-    )?;
+    text.extend_from_slice(b"<VRTRasterBand dataType=\"Byte\"><NoDataValue>255</NoDataValue>")?;
     for source in sources {
         push_source(alloc, text, *source)?;
     }

@@ -77,7 +77,9 @@ impl Picture for Pixels {
         if x < 128 {
             return 255;
         }
-        let at = (y as usize).saturating_mul(24).saturating_add((x - 128) as usize);
+        let at = (y as usize)
+            .saturating_mul(24)
+            .saturating_add((x - 128) as usize);
         *self.pixels.get(at).unwrap_or(&0) as Sample
     }
 }
@@ -97,8 +99,12 @@ fn push_source(
     below: &str,
     (x, y): (usize, usize),
 ) -> Result<(), Fail> {
-    let file = format!(in alloc; "<ComplexSource><SourceFilename relativeToVRT=\"1\">{below}</SourceFilename>")?;
-    let place = format!(in alloc; "<DstRect xOff=\"{x}\" yOff=\"{y}\" xSize=\"24\" ySize=\"24\"/>")?;
+    let file = format!(in alloc;
+        "<ComplexSource><SourceFilename relativeToVRT=\"1\">{below}</SourceFilename>"
+    )?;
+    let place = format!(in alloc;
+        "<DstRect xOff=\"{x}\" yOff=\"{y}\" xSize=\"24\" ySize=\"24\"/>"
+    )?;
     text.extend_from_slice(file.as_bytes())?;
     text.extend_from_slice(b"<SrcRect xOff=\"0\" yOff=\"0\" xSize=\"24\" ySize=\"24\"/>")?;
     text.extend_from_slice(place.as_bytes())?;
@@ -109,10 +115,17 @@ fn push_source(
 // The document of a mosaic with so many columns before its pixels.
 fn document(alloc: Global, below: &str, columns: usize) -> Result<Vec<u8>, Fail> {
     let width = columns.saturating_add(24);
-    let opening = format!(in alloc; "<VRTDataset rasterXSize=\"{width}\" rasterYSize=\"24\"><VRTRasterBand dataType=\"Byte\"><NoDataValue>255</NoDataValue>")?;
+    let opening = format!(in alloc;
+        "<VRTDataset rasterXSize=\"{width}\" rasterYSize=\"24\"><VRTRasterBand dataType=\"Byte\"><NoDataValue>255</NoDataValue>"
+    )?;
     let mut text = Vec::from_slice(alloc, opening.as_bytes())?;
     for (right, down) in SHIFTS {
-        push_source(alloc, &mut text, below, (columns.saturating_add(right), down))?;
+        push_source(
+            alloc,
+            &mut text,
+            below,
+            (columns.saturating_add(right), down),
+        )?;
     }
     text.extend_from_slice(b"</VRTRasterBand></VRTDataset>")?;
     Ok(text)

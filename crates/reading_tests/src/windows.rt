@@ -142,10 +142,7 @@ fn calls_beside_the_walk(alloc: Global) -> Result<Option<(u64, u64)>, Fail> {
     let all = calls_of(alloc, &TWICE, &OUTER_SAMPLES)?;
     match (walk, all) {
         (Some(walk), Some(all)) => {
-            return Ok(Some((
-                all.0.saturating_sub(walk.0),
-                all.1.saturating_sub(walk.1),
-            )));
+            return Ok(Some((all.0.saturating_sub(walk.0), all.1.saturating_sub(walk.1))));
         }
         _ => return Ok(None),
     }
@@ -355,7 +352,12 @@ fn points_of(alloc: Global, columns: u32, lines: u32) -> Result<Vec<Place>, Fail
 }
 
 // Whether an image is read so in these windows.
-fn is_drawn(alloc: Global, drawn_as: Drawn, capacity: u32, windows: &[Place]) -> Result<bool, Fail> {
+fn is_drawn(
+    alloc: Global,
+    drawn_as: Drawn,
+    capacity: u32,
+    windows: &[Place],
+) -> Result<bool, Fail> {
     let (image, name, columns, lines) = drawn_as;
     let mut folder = drawn(alloc)?;
     let job = Job {
@@ -435,7 +437,10 @@ struct Counted<'a> {
 // How many reads the walk and the first of the points take, through a pool of one block.
 fn all_reads(alloc: Global, counted: Counted, count: usize) -> Result<u64, Fail> {
     let Counted {
-        name, size, points, ..
+        name,
+        size,
+        points,
+        ..
     } = counted;
     let (windows, _) = points.split_at(count.min(points.len()));
     let mut folder = Tally::new(folder_with(alloc, name)?);
