@@ -1,7 +1,7 @@
 // Mosaics that name one another again and again: no pixel of any is made much more than once.
-use crate::reads::{Job, Picture, Place, shows};
+use crate::reads::{Job, Picture, Place, are_shown, calls_in};
 use geotransform::Sample;
-use outside::{CalmFolder, Name, Never, Tally};
+use outside::{CalmFolder, Name, Never};
 use std::alloc::Global;
 use std::test::*;
 
@@ -147,15 +147,15 @@ impl Picture for Blank {
 
 // Whether all is read through a lane of this capacity by fewer reads than all datasets have pixels.
 fn is_bounded(alloc: Global, shape: Shape, capacity: u32) -> Result<bool, Fail> {
-    let mut folder = Tally::new(nested(alloc, shape)?);
     let job = Job {
         name: "m0.vrt",
         size: (24, 24),
         capacity,
         windows: &WINDOWS,
     };
-    let blank = shows(alloc, &mut folder, job, &Blank)?;
-    Ok(blank && folder.reads() < ALL_PIXELS)
+    let folder = nested(alloc, shape)?;
+    let calls = calls_in(alloc, folder, job)?;
+    Ok(are_shown(&Blank, &WINDOWS, calls.samples.as_slice()) && calls.reads < ALL_PIXELS)
 }
 
 // The first shape that isn't read so, or how many there are.

@@ -72,12 +72,18 @@ pub fn head_in(
     Ok(head_of(alloc, &mut folder, &name, verify))
 }
 
+// Whether that is said of what came of a head.
+fn is_told(head: &Result<Head, WalkFault>, said: Option<Said<'_>>) -> bool {
+    match head {
+        Ok(_) => said.is_none(),
+        Err(fault) => said == Some(told(fault)),
+    }
+}
+
 /// Whether that is said of the name.
 pub fn is_said(alloc: Global, verify: bool, (name, files, call, said): Row) -> Result<bool, Fail> {
-    Ok(match head_in(alloc, name, files, call, verify)? {
-        Ok(_) => said.is_none(),
-        Err(fault) => said == Some(told(&fault)),
-    })
+    let head = head_in(alloc, name, files, call, verify)?;
+    Ok(is_told(&head, said))
 }
 
 /// A source of a mosaic: the texts of its name and of its band.

@@ -103,7 +103,15 @@ fn view_fails(folder: &mut MemFolder, a: &Name) -> bool {
     }
 }
 
-// Whether the third and the fourth read fail, of which the first comes in a view.
+// Whether the third and the fourth read fail alone, of which the first comes in a view.
+fn fails_twice(folder: &mut MemFolder, a: &Name) -> bool {
+    let first = has_two(folder, a, *b"bc");
+    let view = view_fails(folder, a);
+    let fourth = fails_to_read(folder, a);
+    let last = has_two(folder, a, *b"bc");
+    first && view && fourth && last
+}
+
 fn counts_on(alloc: Global) -> Result<bool, NameFault> {
     let a = Name::read(alloc, "a")?;
     let failing = [
@@ -111,12 +119,7 @@ fn counts_on(alloc: Global) -> Result<bool, NameFault> {
         Failing::Of(Method::ReadAt, 4),
     ];
     let mut folder = folder_of(alloc, &a, &failing)?;
-    Ok(
-        has_two(&mut folder, &a, *b"bc")
-            && view_fails(&mut folder, &a)
-            && fails_to_read(&mut folder, &a)
-            && has_two(&mut folder, &a, *b"bc"),
-    )
+    Ok(fails_twice(&mut folder, &a))
 }
 
 #[test]
@@ -144,22 +147,26 @@ fn view_counts<F: Folder>(folder: &mut Tally<F>, a: &Name) -> bool {
 
 // Whether each call is counted, and those of a view with it.
 fn counts_calls<F: Folder>(folder: &mut Tally<F>, a: &Name, b: &Name) -> bool {
-    open_fault(folder, b) == Some(OpenFault::Absent)
-        && is_written(folder, b)
-        && has_two(folder, b, *b"xy")
-        && view_counts(folder, a)
-        && has_counts(folder, 3, 2, 1)
+    let absent = open_fault(folder, b) == Some(OpenFault::Absent);
+    let written = is_written(folder, b);
+    let two = has_two(folder, b, *b"xy");
+    let view = view_counts(folder, a);
+    absent && written && two && view && has_counts(folder, 3, 2, 1)
 }
 
 // Whether a tally counts, and its folder gets what was put.
+fn tallies_in(inner: CalmFolder, a: &Name, b: &Name) -> bool {
+    let mut folder = Tally::new(inner);
+    let counts = counts_calls(&mut folder, a, b);
+    counts && has_bytes(&folder.into_inner(), b, b"\0xy\0z")
+}
+
 fn tallies(alloc: Global) -> Result<bool, NameFault> {
     let a = Name::read(alloc, "a")?;
     let b = Name::read(alloc, "b")?;
     let mut inner = CalmFolder::new(alloc, Never);
     inner.put(&a, b"abc")?;
-    let mut folder = Tally::new(inner);
-    let counts = counts_calls(&mut folder, &a, &b);
-    Ok(counts && has_bytes(&folder.into_inner(), &b, b"\0xy\0z"))
+    Ok(tallies_in(inner, &a, &b))
 }
 
 #[test]

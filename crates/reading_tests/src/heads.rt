@@ -1,6 +1,6 @@
 use crate::fixtures::{File, Row, Said, Source, cell, document, folder_of, head_in, is_said};
 use crate::walks::{Step, goes};
-use catalog::{Bad, BandHead, Catalog, Head, Kind, LimitKind};
+use catalog::{Bad, BandHead, Catalog, Head, Kind, LimitKind, WalkFault};
 use dted_records::DtedFault;
 use esri_hdr::HdrFault;
 use geotransform::{GeoTransform, PixelType, Size};
@@ -269,11 +269,16 @@ fn is_of_data(head: &Head) -> bool {
         && head.geo.is_none()
 }
 
-fn has_head(alloc: Global) -> Result<bool, Fail> {
-    Ok(match head_in(alloc, "./d//A.BIL", &DATA, 4, true)? {
-        Ok(head) => is_of_data(&head),
+fn is_read_as_data(head: &Result<Head, WalkFault>) -> bool {
+    match head {
+        Ok(head) => is_of_data(head),
         Err(_) => false,
-    })
+    }
+}
+
+fn has_head(alloc: Global) -> Result<bool, Fail> {
+    let head = head_in(alloc, "./d//A.BIL", &DATA, 4, true)?;
+    Ok(is_read_as_data(&head))
 }
 
 #[test]
@@ -296,12 +301,17 @@ fn is_of_tiles(head: &Head) -> bool {
         && matches!(head.geo, Some(geo) if is_at(geo, corner, step))
 }
 
+fn is_read_as_tiles(head: &Result<Head, WalkFault>) -> bool {
+    match head {
+        Ok(head) => is_of_tiles(head),
+        Err(_) => false,
+    }
+}
+
 fn has_mosaic(alloc: Global) -> Result<bool, Fail> {
     let files = [("d/out.vrt", TWO_TILES)];
-    Ok(match head_in(alloc, "d/out.vrt", &files, 3, false)? {
-        Ok(head) => is_of_tiles(&head),
-        Err(_) => false,
-    })
+    let head = head_in(alloc, "d/out.vrt", &files, 3, false)?;
+    Ok(is_read_as_tiles(&head))
 }
 
 // No source is opened: the tiles aren't there, and a third call of the folder would fail.
@@ -338,15 +348,19 @@ const LISTINGS: [Listing<'static>; 4] = [
     ),
 ];
 
+// Whether a head was read, and has these files.
+fn has_files(head: &Result<Head, WalkFault>, names: &[&str]) -> bool {
+    match head {
+        Ok(head) => is_named(head, names),
+        Err(_) => false,
+    }
+}
+
 // Whether a mosaic of these sources has these files.
 fn is_listed(alloc: Global, (name, sources, files): Listing) -> Result<bool, Fail> {
     let text = document(alloc, sources)?;
-    Ok(
-        match head_in(alloc, name, &[(name, text.as_slice())], 3, false)? {
-            Ok(head) => is_named(&head, files),
-            Err(_) => false,
-        },
-    )
+    let head = head_in(alloc, name, &[(name, text.as_slice())], 3, false)?;
+    Ok(has_files(&head, files))
 }
 
 // The first of these mosaics that has other files, or how many mosaics there are.

@@ -296,6 +296,21 @@ fn tells_changes(rt: HostRuntime) -> Result<(), Fail> {
     Ok(())
 }
 
+// How often a first load from a folder reads, where it gives that, once the catalog was walked over another.
+fn reads_of(
+    alloc: Global,
+    walked: &mut CalmFolder,
+    folder: CalmFolder,
+    name: &str,
+    place: (u32, u32, u32),
+    want: Want<'_>,
+) -> Result<Option<u64>, Fail> {
+    let mut folder = Tally::new(folder);
+    let loaded = first_load(alloc, walked, &mut folder, name, place)?;
+    let reads = folder.reads();
+    Ok(if loaded.is(want) { Some(reads) } else { None })
+}
+
 // A row of a raster of 256 bands and these columns, all of whose samples are 7.
 fn raster(alloc: Global, columns: usize) -> Result<CalmFolder, Fail>
     requires { columns ≤ 1000 }
@@ -313,13 +328,8 @@ fn counted(alloc: Global, columns: usize, want: Want<'_>) -> Result<Option<u64>,
     requires { columns ≤ 1000 }
 {
     let mut walked = raster(alloc, columns)?;
-    let mut folder = Tally::new(raster(alloc, columns)?);
-    let loaded = first_load(alloc, &mut walked, &mut folder, "a.bip", (255, 1, 0))?;
-    Ok(if loaded.is(want) {
-        Some(folder.reads())
-    } else {
-        None
-    })
+    let folder = raster(alloc, columns)?;
+    reads_of(alloc, &mut walked, folder, "a.bip", (255, 1, 0), want)
 }
 
 const SEVENS: [Sample; 5] = [7; 5];
@@ -378,13 +388,8 @@ fn counted_line(
     want: Want<'_>,
 ) -> Result<Option<u64>, Fail> {
     let mut found = grid(alloc, size, bodies.0)?;
-    let mut folder = Tally::new(grid(alloc, size, bodies.1)?);
-    let loaded = first_load(alloc, &mut found, &mut folder, "g.asc", (0, x, y))?;
-    Ok(if loaded.is(want) {
-        Some(folder.reads())
-    } else {
-        None
-    })
+    let folder = grid(alloc, size, bodies.1)?;
+    reads_of(alloc, &mut found, folder, "g.asc", (0, x, y), want)
 }
 
 // The first of these rows that is loaded otherwise, or how many rows there are.

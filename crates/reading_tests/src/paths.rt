@@ -1,8 +1,8 @@
 // Mosaics that name one another again and again, of which single pixels are asked: each of them is made once, and no
 // other pixel stands for it.
-use crate::reads::{Job, Picture, Place, shows};
+use crate::reads::{Job, Picture, Place, are_shown, calls_in};
 use geotransform::Sample;
-use outside::{CalmFolder, Name, Never, Tally};
+use outside::{CalmFolder, Name, Never};
 use std::alloc::Global;
 use std::test::*;
 
@@ -171,7 +171,6 @@ const POINTS: [Place; 7] = [
 
 // How many reads the walk and the points take, where they have their pixels.
 fn reads_of(alloc: Global) -> Result<Option<u64>, Fail> {
-    let mut folder = Tally::new(nested(alloc)?);
     let picture = first(alloc)?;
     let job = Job {
         name: "m0.vrt",
@@ -179,8 +178,13 @@ fn reads_of(alloc: Global) -> Result<Option<u64>, Fail> {
         capacity: 1,
         windows: &POINTS,
     };
-    let shown = shows(alloc, &mut folder, job, &picture)?;
-    Ok(if shown { Some(folder.reads()) } else { None })
+    let folder = nested(alloc)?;
+    let calls = calls_in(alloc, folder, job)?;
+    Ok(if are_shown(&picture, &POINTS, calls.samples.as_slice()) {
+        Some(calls.reads)
+    } else {
+        None
+    })
 }
 
 // 43,046,721 paths lead from a pixel to the file, which has 576 of them. No point asks for as many.

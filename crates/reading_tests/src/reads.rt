@@ -8,7 +8,7 @@ use band_blocks::{LoadFault, Steps};
 use catalog::{Catalog, open_all};
 use geotransform::{Rect, Sample, Size};
 use nearest_window::{Lane, Window};
-use outside::{Folder, Name};
+use outside::{CalmFolder, Folder, Name, Tally};
 use std::alloc::Global;
 use std::marker::Brand;
 use std::sync::ledger::{Blank, Ledger};
@@ -253,8 +253,8 @@ fn are_pixels<P: Picture>(picture: &P, place: Place, samples: &[Sample]) -> bool
     true
 }
 
-// Whether these are the samples of a picture in windows, one behind the other.
-fn are_shown<P: Picture>(picture: &P, windows: &[Place], samples: &[Sample]) -> bool {
+/// Whether these are the samples of a picture in windows, one behind the other.
+pub fn are_shown<P: Picture>(picture: &P, windows: &[Place], samples: &[Sample]) -> bool {
     let mut rest = samples;
     for place in windows {
         let count = count_of(rect_of(place.1)).min(rest.len() as u64);
@@ -267,10 +267,29 @@ fn are_shown<P: Picture>(picture: &P, windows: &[Place], samples: &[Sample]) -> 
     samples.len() == count_in(windows)
 }
 
+/// The samples of windows, and how many reads and openings of files these and the walk took.
+#[derive(Drop)]
+pub struct Calls {
+    pub samples: Vec<Sample>,
+    pub reads: u64,
+    pub opens: u64,
+}
+
+/// Windows of the dataset of a name in a folder, whose calls are counted.
+pub fn calls_in(alloc: Global, folder: CalmFolder, job: Job) -> Result<Calls, Fail> {
+    let mut folder = Tally::new(folder);
+    let samples = samples_of(alloc, &mut folder, job)?;
+    Ok(Calls {
+        samples,
+        reads: folder.reads(),
+        opens: folder.opens(),
+    })
+}
+
 /// Whether windows of the dataset of a name show a picture.
-pub fn shows<F: Folder, P: Picture>(
+pub fn shows<P: Picture>(
     alloc: Global,
-    folder: &mut F,
+    folder: &mut CalmFolder,
     job: Job,
     picture: &P,
 ) -> Result<bool, Fail> {

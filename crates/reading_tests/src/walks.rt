@@ -1,5 +1,5 @@
 use crate::fixtures::{Said, Source, document, folder_of, put_all, told};
-use catalog::{Catalog, LimitKind, open_all};
+use catalog::{Catalog, LimitKind, WalkFault, open_all};
 use outside::{Folder, MemFolder, Name, Tally};
 use std::alloc::{AllocError, Global};
 use std::test::*;
@@ -7,6 +7,14 @@ use std::test::*;
 /// The name that a walk begins with, the number of its dataset or what is said, and the number of
 /// datasets then.
 pub type Step<'a> = (&'a str, Result<u32, Said<'a>>, u32);
+
+// Whether a walk came to that.
+fn came(to: &Result<u32, WalkFault>, expected: Result<u32, Said<'_>>) -> bool {
+    match to {
+        Ok(id) => expected == Ok(*id),
+        Err(fault) => expected == Err(told(fault)),
+    }
+}
 
 /// Whether the walk goes so; `verify` asks for sums.
 pub fn goes<F: Folder>(
@@ -17,11 +25,8 @@ pub fn goes<F: Folder>(
     (name, expected, count): Step,
 ) -> Result<bool, Fail> {
     let name = Name::read(alloc, name)?;
-    let goes = match open_all(alloc, cat, folder, &name, verify) {
-        Ok(id) => expected == Ok(id),
-        Err(fault) => expected == Err(told(&fault)),
-    };
-    Ok(goes && cat.count() == count)
+    let to = open_all(alloc, cat, folder, &name, verify);
+    Ok(came(&to, expected) && cat.count() == count)
 }
 
 // A mosaic: its name and its sources.
@@ -242,7 +247,8 @@ fn is_linked(cat: &Catalog) -> bool {
 
 // Whether the walk goes to its end, and links the mosaics; and how many files it opens.
 fn walk_twice(alloc: Global) -> Result<(bool, u64), Fail> {
-    let mut folder = Tally::new(with_mosaics(alloc, 0, &TWICE)?);
+    let folder = with_mosaics(alloc, 0, &TWICE)?;
+    let mut folder = Tally::new(folder);
     let mut cat = Catalog::new(alloc);
     let goes = goes(alloc, &mut cat, &mut folder, false, ("m0.vrt", Ok(0), 17))?;
     Ok((goes && is_linked(&cat), folder.opens()))

@@ -1,8 +1,8 @@
 // Windows of 16,384 pixels and more, of mosaics that have few sources for their size: their lines are filled in the
 // whole width.
-use crate::reads::{Job, Picture, Place, shows};
+use crate::reads::{Job, Picture, Place, are_shown, calls_in, shows};
 use geotransform::Sample;
-use outside::{CalmFolder, Folder, Name, Never, Tally};
+use outside::{CalmFolder, Name, Never};
 use std::alloc::Global;
 use std::test::*;
 
@@ -140,33 +140,32 @@ const TEXTS: [(&str, &[u8]); 5] = [
     ("three.vrt", THREE),
 ];
 
-// Puts a file of so many columns and pixels.
-fn put_raw(
-    alloc: Global,
-    folder: &mut CalmFolder,
-    name: &str,
-    image: Image,
-    columns: u32,
-    count: u32,
-) -> Result<(), Fail>
-    requires some { 0 < columns }
-{
+// The first pixels of an image, in rows of so many columns.
+fn raw(alloc: Global, image: Image, columns: u32, count: u32) -> Result<Vec<u8>, Fail> {
+    let columns = columns.max(1);
     let mut bytes = Vec::new(alloc);
     for place in 0..count {
         bytes.push(pixel(image, place % columns, place / columns))?;
     }
-    folder.put(&Name::read(alloc, name)?, bytes.as_slice())?;
+    Ok(bytes)
+}
+
+// Puts the headers of the files, and the mosaics.
+fn put_texts(alloc: Global, folder: &mut CalmFolder) -> Result<(), Fail> {
+    for (name, bytes) in TEXTS {
+        folder.put(&Name::read(alloc, name)?, bytes)?;
+    }
     Ok(())
 }
 
 // A folder that holds the images.
 fn drawn(alloc: Global) -> Result<CalmFolder, Fail> {
+    let first = raw(alloc, Image::First, 300, 60_000)?;
+    let second = raw(alloc, Image::Second, 260, 39_000)?;
     let mut folder = CalmFolder::new(alloc, Never);
-    for (name, bytes) in TEXTS {
-        folder.put(&Name::read(alloc, name)?, bytes)?;
-    }
-    put_raw(alloc, &mut folder, "first.bil", Image::First, 300, 60_000)?;
-    put_raw(alloc, &mut folder, "second.bil", Image::Second, 260, 39_000)?;
+    folder.put(&Name::read(alloc, "first.bil")?, first.as_slice())?;
+    folder.put(&Name::read(alloc, "second.bil")?, second.as_slice())?;
+    put_texts(alloc, &mut folder)?;
     Ok(folder)
 }
 
@@ -190,22 +189,22 @@ fn windows_of(alloc: Global, rect: (u32, u32, u32, u32), points: u32) -> Result<
     Ok(windows)
 }
 
-// Whether a dataset has the pixels of its image in a rectangle, all at once and then so many one by one.
-fn is_drawn<F: Folder>(
-    alloc: Global,
-    folder: &mut F,
-    row: Row,
-    capacity: u32,
-    points: u32,
-) -> Result<bool, Fail> {
-    let (image, name, rect) = row;
-    let windows = windows_of(alloc, rect, points)?;
-    let job = Job {
+// Windows of the dataset of a row, through a lane of this capacity.
+fn job_of<'a>(row: Row<'a>, capacity: u32, windows: &'a [Place]) -> Job<'a> {
+    let (_, name, _) = row;
+    Job {
         name,
         size: (1100, 1000),
         capacity,
-        windows: windows.as_slice(),
-    };
+        windows,
+    }
+}
+
+// Whether a dataset has the pixels of its image in a rectangle, all at once and then 20 one by one.
+fn is_drawn(alloc: Global, folder: &mut CalmFolder, row: Row, capacity: u32) -> Result<bool, Fail> {
+    let (image, _, rect) = row;
+    let windows = windows_of(alloc, rect, 20)?;
+    let job = job_of(row, capacity, windows.as_slice());
     shows(alloc, folder, job, &image)
 }
 
@@ -228,7 +227,7 @@ const ROWS_OF_THREE: [Row<'static>; 2] = [
 fn first_undrawn(alloc: Global, rows: &[Row], capacity: u32) -> Result<usize, Fail> {
     let mut folder = drawn(alloc)?;
     for (at, row) in rows.iter().enumerate() {
-        if !is_drawn(alloc, &mut folder, *row, capacity, 20)? {
+        if !is_drawn(alloc, &mut folder, *row, capacity)? {
             return Ok(at);
         }
     }
@@ -270,9 +269,15 @@ const EMPTY: Row<'static> = (Image::One, "one.vrt", (0, 400, 1100, 15));
 
 // How many reads the walk and a window take, through a pool of one block; None where a pixel is wrong.
 fn reads_of(alloc: Global, row: Row) -> Result<Option<u64>, Fail> {
-    let mut folder = Tally::new(drawn(alloc)?);
-    let drawn = is_drawn(alloc, &mut folder, row, 1, 0)?;
-    Ok(if drawn { Some(folder.reads()) } else { None })
+    let (image, _, rect) = row;
+    let windows = [(0, rect)];
+    let folder = drawn(alloc)?;
+    let calls = calls_in(alloc, folder, job_of(row, 1, &windows))?;
+    Ok(if are_shown(&image, &windows, calls.samples.as_slice()) {
+        Some(calls.reads)
+    } else {
+        None
+    })
 }
 
 // How many reads a window takes beside those of the walk.

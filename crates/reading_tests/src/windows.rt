@@ -1,8 +1,8 @@
 // Windows and points of files and of mosaics, through lanes that hold few blocks and many.
-use crate::reads::{FAILED, Job, Picture, Place, samples_of, shows};
+use crate::reads::{Calls, FAILED, Job, Picture, Place, calls_in, samples_of, shows};
 use geotransform::Sample;
 use lists_and_answers::Items;
-use outside::{CalmFolder, Failing, Listed, MemoryFolder, Name, Never, Schedule, Tally};
+use outside::{CalmFolder, Failing, Listed, MemoryFolder, Name, Never, Schedule};
 use std::alloc::Global;
 use std::test::*;
 
@@ -127,13 +127,17 @@ fn calls_of(
     windows: &[Place],
     wanted: &[Sample],
 ) -> Result<Option<(u64, u64)>, Fail> {
-    let mut folder = Tally::new(calm(alloc)?);
-    let samples = samples_of(alloc, &mut folder, outer(64, windows))?;
-    Ok(if samples.as_slice() == wanted {
-        Some((folder.reads(), folder.opens()))
-    } else {
-        None
-    })
+    let folder = calm(alloc)?;
+    let calls = calls_in(alloc, folder, outer(64, windows))?;
+    Ok(counted_in(&calls, wanted))
+}
+
+// How many reads and openings there were, where these are the samples.
+fn counted_in(calls: &Calls, wanted: &[Sample]) -> Option<(u64, u64)> {
+    if calls.samples.as_slice() != wanted {
+        return None;
+    }
+    Some((calls.reads, calls.opens))
 }
 
 // How many of them the windows take beside the walk.
@@ -280,11 +284,10 @@ const NESTED: &[u8] =
     b"<VRTDataset rasterXSize=\"155\" rasterYSize=\"5\"><VRTRasterBand dataType=\"Byte\" band=\"1\"><SimpleSource><SourceFilename relativeToVRT=\"1\">wide.vrt</SourceFilename><SourceBand>1</SourceBand><SrcRect xOff=\"0\" yOff=\"0\" xSize=\"140\" ySize=\"3\"/><DstRect xOff=\"10\" yOff=\"1\" xSize=\"140\" ySize=\"3\"/></SimpleSource><SimpleSource><SourceFilename relativeToVRT=\"1\">left.bil</SourceFilename><SourceBand>1</SourceBand><SrcRect xOff=\"0\" yOff=\"0\" xSize=\"130\" ySize=\"3\"/><DstRect xOff=\"0\" yOff=\"0\" xSize=\"65\" ySize=\"3\"/></SimpleSource></VRTRasterBand></VRTDataset>";
 
 // The bytes of a file of 3 lines.
-fn raw(alloc: Global, image: Image, columns: u32) -> Result<Vec<u8>, Fail>
-    requires few { columns < 1000 }
-{
+fn raw(alloc: Global, image: Image, columns: u32) -> Result<Vec<u8>, Fail> {
+    let columns = columns.max(1);
     let mut bytes = Vec::new(alloc);
-    for place in 0..3 * columns {
+    for place in 0..columns.saturating_mul(3) {
         bytes.push(pixel(image, place % columns, place / columns))?;
     }
     Ok(bytes)
@@ -297,9 +300,7 @@ fn put_raw(
     name: &str,
     image: Image,
     columns: u32,
-) -> Result<(), Fail>
-    requires few { columns < 1000 }
-{
+) -> Result<(), Fail> {
     let bytes = raw(alloc, image, columns)?;
     folder.put(&Name::read(alloc, name)?, bytes.as_slice())?;
     Ok(())
@@ -434,24 +435,22 @@ struct Counted<'a> {
     reads: &'a [u64],
 }
 
-// How many reads the walk and the first of the points take, through a pool of one block.
-fn all_reads(alloc: Global, counted: Counted, count: usize) -> Result<u64, Fail> {
-    let Counted {
-        name,
-        size,
-        points,
-        ..
-    } = counted;
-    let (windows, _) = points.split_at(count.min(points.len()));
-    let mut folder = Tally::new(folder_with(alloc, name)?);
-    let job = Job {
-        name,
-        size,
+// The first of the points, through a pool of one block.
+fn first_points<'a>(counted: Counted<'a>, count: usize) -> Job<'a> {
+    let (windows, _) = counted.points.split_at(count.min(counted.points.len()));
+    Job {
+        name: counted.name,
+        size: counted.size,
         capacity: 1,
         windows,
-    };
-    let _samples = samples_of(alloc, &mut folder, job)?;
-    Ok(folder.reads())
+    }
+}
+
+// How many reads the walk and the first of the points take.
+fn all_reads(alloc: Global, counted: Counted, count: usize) -> Result<u64, Fail> {
+    let folder = folder_with(alloc, counted.name)?;
+    let calls = calls_in(alloc, folder, first_points(counted, count))?;
+    Ok(calls.reads)
 }
 
 // The first point up to which they take another number of reads beside those of the walk, or how many points there are.
