@@ -69,20 +69,21 @@ static METHODS: [Method; 8] = [
 ];
 
 // The first of the methods whose call doesn't fail, or how many methods there are.
-fn first_unfailed(alloc: Global) -> Result<usize, NameFault> {
-    for (at, method) in METHODS.iter().enumerate() {
+fn first_unfailed(alloc: Global, rows: &[Method]) -> Result<usize, NameFault> {
+    for (at, method) in rows.iter().enumerate() {
         let number = (at as u64).saturating_add(1);
         let first = fails_in(alloc, Failing::Of(*method, 1), *method)?;
         if !first || !fails_in(alloc, Failing::Call(number), *method)? {
             return Ok(at);
         }
     }
-    Ok(METHODS.len())
+    Ok(rows.len())
 }
 
 #[test]
 fn each_listed_call_fails(rt: HostRuntime) -> Result<(), NameFault> {
-    assert_eq!(rt; first_unfailed(rt.alloc())?, METHODS.len());
+    let first = first_unfailed(rt.alloc(), &METHODS)?;
+    assert!(rt; first == 8, "row {first}");
     Ok(())
 }
 
