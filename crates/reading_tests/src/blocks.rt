@@ -77,13 +77,6 @@ fn first_begun(alloc: Global, rows: &[(PixelType, [Sample; 4])]) -> Result<usize
     Ok(rows.len())
 }
 
-#[test]
-fn begins_with_zeros(rt: HostRuntime) -> Result<(), Fail> {
-    let first = first_begun(rt.alloc(), &EXTREMES)?;
-    assert!(rt; first == 8, "row {first}");
-    Ok(())
-}
-
 // A block of these samples, each of which was put.
 fn block_of(alloc: Global, kind: PixelType, samples: &[Sample; 4]) -> Result<Block, AllocError> {
     let mut block = Block::new(alloc, kind, 4)?;
@@ -114,13 +107,6 @@ fn first_lost(alloc: Global, rows: &[(PixelType, [Sample; 4])]) -> Result<usize,
     Ok(rows.len())
 }
 
-#[test]
-fn keeps_extremes(rt: HostRuntime) -> Result<(), Fail> {
-    let first = first_lost(rt.alloc(), &EXTREMES)?;
-    assert!(rt; first == 8, "row {first}");
-    Ok(())
-}
-
 // Whether the middle of a block goes into the middle of another, and into one of its own.
 fn moves(alloc: Global, kind: PixelType, samples: &[Sample; 4]) -> Result<bool, AllocError> {
     let mut block = block_of(alloc, kind, samples)?;
@@ -149,10 +135,17 @@ fn first_unmoved(alloc: Global, rows: &[(PixelType, [Sample; 4])]) -> Result<usi
     Ok(rows.len())
 }
 
+// A block of each type begins with zeros, keeps the extremes of the type, and moves runs.
 #[test]
-fn moves_runs(rt: HostRuntime) -> Result<(), Fail> {
-    let first = first_unmoved(rt.alloc(), &EXTREMES)?;
-    assert!(rt; first == 8, "row {first}");
+fn blocks_of_each_type(rt: HostRuntime) -> Result<(), Fail> {
+    let rows: &[(PixelType, [Sample; 4])] = &EXTREMES;
+    let begun = first_begun(rt.alloc(), rows)?;
+    let lost = first_lost(rt.alloc(), rows)?;
+    let unmoved = first_unmoved(rt.alloc(), rows)?;
+    assert!(rt;
+        begun == 8 && lost == 8 && unmoved == 8,
+        "types {begun}, {lost} and {unmoved}"
+    );
     Ok(())
 }
 

@@ -151,6 +151,19 @@ fn holding(alloc: Global, files: &[(&str, &[u8])]) -> Result<CalmFolder, Fail> {
     Ok(folder)
 }
 
+// Whether a first load from a folder gives that, once the catalog was walked over another.
+fn gives<F: Folder>(
+    alloc: Global,
+    walked: &mut CalmFolder,
+    folder: &mut F,
+    name: &str,
+    place: (u32, u32, u32),
+    want: Want<'_>,
+) -> Result<bool, Fail> {
+    let loaded = first_load(alloc, walked, folder, name, place)?;
+    Ok(loaded.is(want))
+}
+
 // Whether a first load gives that where the files stay the same.
 fn answers(
     alloc: Global,
@@ -161,7 +174,7 @@ fn answers(
 ) -> Result<bool, Fail> {
     let mut walked = holding(alloc, files)?;
     let mut folder = holding(alloc, files)?;
-    Ok(first_load(alloc, &mut walked, &mut folder, name, place)?.is(want))
+    gives(alloc, &mut walked, &mut folder, name, place, want)
 }
 
 // Each byte is its place.
@@ -277,7 +290,7 @@ fn tells(alloc: Global, files: &[(&str, &[u8])], want: Want<'_>) -> Result<bool,
     let found: [(&str, &[u8]); 2] = [("a.bsq", &[0, 1, 2, 3]), ("a.hdr", b"NROWS 2\nNCOLS 2\n")];
     let mut walked = holding(alloc, &found)?;
     let mut later = holding(alloc, files)?;
-    Ok(first_load(alloc, &mut walked, &mut later, "a.bsq", (0, 0, 0))?.is(want))
+    gives(alloc, &mut walked, &mut later, "a.bsq", (0, 0, 0), want)
 }
 
 // The first of the changes of which something else comes, or how many changes there are.
@@ -308,9 +321,8 @@ fn reads_of(
     want: Want<'_>,
 ) -> Result<Option<u64>, Fail> {
     let mut folder = Tally::new(folder);
-    let loaded = first_load(alloc, walked, &mut folder, name, place)?;
-    let reads = folder.reads();
-    Ok(if loaded.is(want) { Some(reads) } else { None })
+    let gives = gives(alloc, walked, &mut folder, name, place, want)?;
+    Ok(if gives { Some(folder.reads()) } else { None })
 }
 
 // A row of a raster of 256 bands and these columns, all of whose samples are 7.
