@@ -33,6 +33,7 @@ use crate::parts::{
 use crate::picture::Picture;
 use crate::places::Span;
 use crate::recalled::Recalled;
+use crate::sharing::Supply;
 use crate::taking::taking_of;
 use crate::targets::{Area, Around, Numbered, Piece, band_of, block_around, kind_of, mosaic_rect};
 use crate::wanted::Wanted;
@@ -43,6 +44,7 @@ use block_cache::Pool;
 use catalog::Catalog;
 use geotransform::{Rect, Sample};
 use outside::Folder;
+use shared_lines::Scene;
 use std::alloc::{AllocError, Global};
 use std::marker::Model;
 use std::sync::ledger::Ledger;
@@ -261,15 +263,17 @@ impl<F: Folder> Lane<F> {
     }
 
     // Loads a block of a file that isn't held, and keeps it.
-    fn load_kept<L: Ledger>(
+    fn load_kept<L: Ledger, S: Scene>(
         &mut self,
-        alloc: Global,
+        supply: &Supply<S>,
         cat: &Catalog,
         folder: &mut F,
         key: BlockKey,
         loads: &mut Steps<L>,
     ) -> Result<(), LoadFault>
         requires ready { IsReady F.Folder folder.old cat.now self.old }
+        requires told { S.told ≡ F.names folder.old }
+        requires scene { S.cat ≡ cat.now }
         requires key { IsFileKey cat.now key }
         requires absent { held_at key self.old.pool.entries ≡ None }
         ensures serves { Served F.Folder cat.now result folder.old self.old loads.old folder.new self.new loads.new }
@@ -278,7 +282,7 @@ impl<F: Folder> Lane<F> {
         ensures never { WhereTold F.Folder folder.old (λ _. IfErr result IsUnchanged) }
         ensures held { OnOk result (IsHeldWith key self.new (λ _. ⊤)) }
     {
-        let block = load_block(alloc, cat, folder, &mut self.files, key, loads)?;
+        let block = load_block(supply.alloc, cat, folder, &mut self.files, key, loads)?;
         self.keep(key, block)
     }
 
@@ -387,15 +391,17 @@ impl<F: Folder> Lane<F> {
 
     // Sees that the block of a key is held.
     #[cycle(read)]
-    fn hold<L: Ledger>(
+    fn hold<L: Ledger, S: Scene>(
         &mut self,
-        alloc: Global,
+        supply: &Supply<S>,
         cat: &Catalog,
         folder: &mut F,
         key: BlockKey,
         loads: &mut Steps<L>,
     ) -> Result<(), LoadFault>
         requires ready { IsReady F.Folder folder.old cat.now self.old }
+        requires told { S.told ≡ F.names folder.old }
+        requires scene { S.cat ≡ cat.now }
         requires key { IsKey cat.now key }
         ensures serves { Served F.Folder cat.now result folder.old self.old loads.old folder.new self.new loads.new }
         ensures cause { HasCause LoadFault.FolderFault (F.faults folder.old) (F.faults folder.new) result }
@@ -407,10 +413,10 @@ impl<F: Folder> Lane<F> {
             return Ok(());
         }
         match band_of(cat, key) {
-            None => return self.load_kept(alloc, cat, folder, key, loads),
+            None => return self.load_kept(supply, cat, folder, key, loads),
             Some(band) => {
                 let rect = mosaic_rect(cat, key);
-                let block = self.fill(alloc, cat, folder, key, band, rect, loads)?;
+                let block = self.fill(supply, cat, folder, key, band, rect, loads)?;
                 return self.keep_made(key, block);
             }
         }
@@ -437,9 +443,9 @@ impl<F: Folder> Lane<F> {
 
     // The samples of a part of a mosaic's block. Those of single pixels are remembered.
     #[cycle(read)]
-    fn part_block<L: Ledger>(
+    fn part_block<L: Ledger, S: Scene>(
         &mut self,
-        alloc: Global,
+        supply: &Supply<S>,
         cat: &Catalog,
         folder: &mut F,
         key: BlockKey,
@@ -447,6 +453,8 @@ impl<F: Folder> Lane<F> {
         loads: &mut Steps<L>,
     ) -> Result<Block, LoadFault>
         requires ready { IsReady F.Folder folder.old cat.now self.old }
+        requires told { S.told ≡ F.names folder.old }
+        requires scene { S.cat ≡ cat.now }
         requires key { IsMosaicKey cat.now key part.band.now }
         requires sources { length part.band.now.sources < 2 ^ 32 }
         requires within { (d : Dataset) → slice_get cat.now key.dataset ≡ Some d → IsWithin part.rect d.head.size }
@@ -457,10 +465,10 @@ impl<F: Folder> Lane<F> {
         ensures never { WhereTold F.Folder folder.old (λ _. IfErr result IsUnchanged) }
         ensures block { IfOk result (λ b. IsPartBlock (F.names folder.new) cat.now key part.entry.rect b) }
     {
-        if let Some(block) = self.recall(alloc, cat, key, part.rect) {
+        if let Some(block) = self.recall(supply.alloc, cat, key, part.rect) {
             return Ok(block);
         }
-        let block = self.fill(alloc, cat, folder, key, part.band, part.rect, loads)?;
+        let block = self.fill(supply, cat, folder, key, part.band, part.rect, loads)?;
         self.note(key, part.rect, &block);
         Ok(block)
     }
@@ -468,9 +476,9 @@ impl<F: Folder> Lane<F> {
     // The samples of a rectangle of a mosaic's band: from the last to the first each source that the rectangle may
     // need is asked for what is still open, until nothing is.
     #[cycle(read)]
-    fn fill<L: Ledger>(
+    fn fill<L: Ledger, S: Scene>(
         &mut self,
-        alloc: Global,
+        supply: &Supply<S>,
         cat: &Catalog,
         folder: &mut F,
         key: BlockKey,
@@ -479,6 +487,8 @@ impl<F: Folder> Lane<F> {
         loads: &mut Steps<L>,
     ) -> Result<Block, LoadFault>
         requires ready { IsReady F.Folder folder.old cat.now self.old }
+        requires told { S.told ≡ F.names folder.old }
+        requires scene { S.cat ≡ cat.now }
         requires key { IsMosaicKey cat.now key band.now }
         requires sources { length band.now.sources < 2 ^ 32 }
         requires within { (d : Dataset) → slice_get cat.now key.dataset ≡ Some d → IsWithin rect d.head.size }
@@ -493,8 +503,8 @@ impl<F: Folder> Lane<F> {
         let _count = cat.count();
         band.rules();
         self.spend(rect);
-        let wanted = self.wanted(alloc, cat, key, band, rect)?;
-        let mut canvas = Canvas::of(alloc, rect, band.kind);
+        let wanted = self.wanted(supply.alloc, cat, key, band, rect)?;
+        let mut canvas = Canvas::of(supply.alloc, rect, band.kind);
         let mut left = wanted.len();
         while is_wanted(left, &canvas) {
             left -= 1;
@@ -505,9 +515,9 @@ impl<F: Folder> Lane<F> {
                 number: number as u32,
                 source,
             };
-            self.paint(alloc, cat, folder, numbered, &mut canvas, loads)?;
+            self.paint(supply, cat, folder, numbered, &mut canvas, loads)?;
         }
-        let block = canvas.packed(alloc, band.nodata.unwrap_or(0))?;
+        let block = canvas.packed(supply.alloc, band.nodata.unwrap_or(0))?;
         // This call is made for the proof: it says what holds of every block.
         let _len = block.len();
         Ok(block)
@@ -515,9 +525,9 @@ impl<F: Folder> Lane<F> {
 
     // Takes what a source of a mosaic's band gives where a canvas is open.
     #[cycle(read)]
-    fn paint<L: Ledger>(
+    fn paint<L: Ledger, S: Scene>(
         &mut self,
-        alloc: Global,
+        supply: &Supply<S>,
         cat: &Catalog,
         folder: &mut F,
         source: Numbered,
@@ -525,6 +535,8 @@ impl<F: Folder> Lane<F> {
         loads: &mut Steps<L>,
     ) -> Result<(), LoadFault>
         requires ready { IsReady F.Folder folder.old cat.now self.old }
+        requires told { S.told ≡ F.names folder.old }
+        requires scene { S.cat ≡ cat.now }
         requires source { IsSourceOf cat.now source.key source.number source.source.now }
         requires within { (d : Dataset) → slice_get cat.now source.key.dataset ≡ Some d → IsWithin canvas.old.rect d.head.size }
         requires canvas { IsCanvas canvas.old }
@@ -535,7 +547,7 @@ impl<F: Folder> Lane<F> {
         ensures canvas { OnOk result (IsCanvas canvas.new) }
         ensures taken { (d : Dataset) → slice_get cat.now source.entry.key.dataset ≡ Some d → OnOk result (IsSourceTaken (F.names folder.new) cat.now d source.entry.key.band source.entry.number source.entry.source.now canvas.old canvas.new) }
     {
-        let Some(asked) = asked_of(alloc, cat, source, canvas)? else {
+        let Some(asked) = asked_of(supply.alloc, cat, source, canvas)? else {
             return Ok(());
         };
         let Asked {
@@ -543,9 +555,9 @@ impl<F: Folder> Lane<F> {
             part,
             mut pixels,
         } = asked;
-        self.paint_picture(alloc, cat, folder, &picture, pixels.as_mut_slice(), loads)?;
+        self.paint_picture(supply, cat, folder, &picture, pixels.as_mut_slice(), loads)?;
         let taking = taking_of(source.source);
-        canvas.take(alloc, &taking, part, pixels)?;
+        canvas.take(supply.alloc, &taking, part, pixels)?;
         Ok(())
     }
 
@@ -577,9 +589,9 @@ impl<F: Folder> Lane<F> {
 
     // Paints a picture over its rows, one row of blocks after the other, or fewer lines at a time.
     #[cycle(read)]
-    fn paint_picture<L: Ledger>(
+    fn paint_picture<L: Ledger, S: Scene>(
         &mut self,
-        alloc: Global,
+        supply: &Supply<S>,
         cat: &Catalog,
         folder: &mut F,
         picture: &Picture,
@@ -587,6 +599,8 @@ impl<F: Folder> Lane<F> {
         loads: &mut Steps<L>,
     ) -> Result<(), LoadFault>
         requires ready { IsReady F.Folder folder.old cat.now self.old }
+        requires told { S.told ≡ F.names folder.old }
+        requires scene { S.cat ≡ cat.now }
         requires picture { IsPictureOf cat.now picture.now }
         requires rows { length out.old ≡ picture.now.height * picture.now.stride }
         ensures serves { Served F.Folder cat.now result folder.old self.old loads.old folder.new self.new loads.new }
@@ -609,7 +623,7 @@ impl<F: Folder> Lane<F> {
             };
             let from = line as usize * picture.stride;
             let part = &mut out[from..end as usize * picture.stride];
-            self.paint_band(alloc, cat, folder, picture, lines, part, loads)?;
+            self.paint_band(supply, cat, folder, picture, lines, part, loads)?;
             line = end;
         }
         Ok(())
@@ -617,9 +631,9 @@ impl<F: Folder> Lane<F> {
 
     // Paints lines of a picture that lie in one row of blocks, all columns at a time or one block after the other.
     #[cycle(read)]
-    fn paint_band<L: Ledger>(
+    fn paint_band<L: Ledger, S: Scene>(
         &mut self,
-        alloc: Global,
+        supply: &Supply<S>,
         cat: &Catalog,
         folder: &mut F,
         picture: &Picture,
@@ -628,6 +642,8 @@ impl<F: Folder> Lane<F> {
         loads: &mut Steps<L>,
     ) -> Result<(), LoadFault>
         requires ready { IsReady F.Folder folder.old cat.now self.old }
+        requires told { S.told ≡ F.names folder.old }
+        requires scene { S.cat ≡ cat.now }
         requires picture { IsPictureOf cat.now picture.now }
         requires lines { lines.first + lines.count ≤ picture.now.height }
         requires some { 0 < lines.count }
@@ -643,18 +659,18 @@ impl<F: Folder> Lane<F> {
         if let Some(rows) = self.wide_rows(cat, picture, lines) {
             let Rows { band, piece } = rows;
             let Piece { key, rect, area } = piece;
-            let block = self.fill(alloc, cat, folder, key, band, rect, loads)?;
+            let block = self.fill(supply, cat, folder, key, band, rect, loads)?;
             paint_rows(&block, rect, picture, area, out);
             return Ok(());
         }
-        self.paint_pieces(alloc, cat, folder, picture, lines, out, loads)
+        self.paint_pieces(supply, cat, folder, picture, lines, out, loads)
     }
 
     // Paints lines of a picture that lie in one row of blocks, one block after the other.
     #[cycle(read)]
-    fn paint_pieces<L: Ledger>(
+    fn paint_pieces<L: Ledger, S: Scene>(
         &mut self,
-        alloc: Global,
+        supply: &Supply<S>,
         cat: &Catalog,
         folder: &mut F,
         picture: &Picture,
@@ -663,6 +679,8 @@ impl<F: Folder> Lane<F> {
         loads: &mut Steps<L>,
     ) -> Result<(), LoadFault>
         requires ready { IsReady F.Folder folder.old cat.now self.old }
+        requires told { S.told ≡ F.names folder.old }
+        requires scene { S.cat ≡ cat.now }
         requires picture { IsPictureOf cat.now picture.now }
         requires lines { lines.first + lines.count ≤ picture.now.height }
         requires some { 0 < lines.count }
@@ -688,7 +706,7 @@ impl<F: Folder> Lane<F> {
                 lines: lines.count,
             };
             let piece = Piece { key, rect, area };
-            self.paint_block(alloc, cat, folder, picture, piece, out, loads)?;
+            self.paint_block(supply, cat, folder, picture, piece, out, loads)?;
             column = end;
         }
         Ok(())
@@ -735,9 +753,9 @@ impl<F: Folder> Lane<F> {
 
     // Paints a piece of a picture.
     #[cycle(read)]
-    fn paint_block<L: Ledger>(
+    fn paint_block<L: Ledger, S: Scene>(
         &mut self,
-        alloc: Global,
+        supply: &Supply<S>,
         cat: &Catalog,
         folder: &mut F,
         picture: &Picture,
@@ -746,6 +764,8 @@ impl<F: Folder> Lane<F> {
         loads: &mut Steps<L>,
     ) -> Result<(), LoadFault>
         requires ready { IsReady F.Folder folder.old cat.now self.old }
+        requires told { S.told ≡ F.names folder.old }
+        requires scene { S.cat ≡ cat.now }
         requires picture { IsPictureOf cat.now picture.now }
         requires piece { IsPartOf cat.now picture.now piece }
         requires area { IsAreaOf picture.now piece.area }
@@ -758,25 +778,25 @@ impl<F: Folder> Lane<F> {
         ensures typed { OnOk result (IsTyped cat.now picture.now piece.area.column piece.area.columns out.old out.new) }
     {
         if let Some(part) = self.lone_part(cat, picture, piece) {
-            let block = self.part_block(alloc, cat, folder, piece.key, part, loads)?;
+            let block = self.part_block(supply, cat, folder, piece.key, part, loads)?;
             paint_rows(&block, part.rect, picture, piece.area, out);
             return Ok(());
         }
         if self.is_jump(cat, picture, piece) {
             let rect = pixel_rect(picture, piece.area);
-            let block = self.load_alone(alloc, cat, folder, piece.key, rect, loads)?;
+            let block = self.load_alone(supply.alloc, cat, folder, piece.key, rect, loads)?;
             paint_rows(&block, rect, picture, piece.area, out);
             return Ok(());
         }
-        self.hold(alloc, cat, folder, piece.key, loads)?;
+        self.hold(supply, cat, folder, piece.key, loads)?;
         self.paint_held(picture, piece, out);
         Ok(())
     }
 
     // Paints the picture of a window, as `paint_picture`, in a new count of pixels.
-    pub(crate) fn paint_window<L: Ledger>(
+    pub(crate) fn paint_window<L: Ledger, S: Scene>(
         &mut self,
-        alloc: Global,
+        supply: &Supply<S>,
         cat: &Catalog,
         folder: &mut F,
         picture: &Picture,
@@ -784,6 +804,8 @@ impl<F: Folder> Lane<F> {
         loads: &mut Steps<L>,
     ) -> Result<(), LoadFault>
         requires ready { IsReady F.Folder folder.old cat.now self.old }
+        requires told { S.told ≡ F.names folder.old }
+        requires scene { S.cat ≡ cat.now }
         requires picture { IsPictureOf cat.now picture.now }
         requires rows { length out.old ≡ picture.now.height * picture.now.stride }
         ensures serves { Served F.Folder cat.now result folder.old self.old loads.old folder.new self.new loads.new }
@@ -794,6 +816,6 @@ impl<F: Folder> Lane<F> {
         ensures typed { OnOk result (AreTyped cat.now picture.now (picture.now.height * picture.now.stride) out.new) }
     {
         self.begin(cat, out.len());
-        self.paint_picture(alloc, cat, folder, picture, out, loads)
+        self.paint_picture(supply, cat, folder, picture, out, loads)
     }
 }
