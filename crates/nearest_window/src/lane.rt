@@ -15,7 +15,7 @@ ghost use Rattle.nearest_window.specs.Canvases.{IsCanvas, IsSourceTaken};
 ghost use Rattle.nearest_window.specs.Lanes.{IsHeldWith, IsKept, IsUsed, LaneView, lane_view, held_in, pixel_at, room_of};
 ghost use Rattle.nearest_window.specs.Painted.{IsPainted, in_columns};
 ghost use Rattle.nearest_window.specs.Pictures.{IsPicture, from_block};
-ghost use Rattle.nearest_window.specs.Right.{AreRecalled, IsFresh, IsIndexIn, IsPartBlock, IsReady, IsRight, IsFileKey, IsMosaicKey, Served, TellsChangeIn};
+ghost use Rattle.nearest_window.specs.Right.{AreRecalled, IsFresh, IsIndexIn, IsPartBlock, IsReady, IsRight, IsFileKey, IsMosaicKey, Served, Serves, state_of, TellsChangeIn};
 ghost use Rattle.nearest_window.specs.Shown.{AreTyped, IsAreaOf, IsPictureOf, IsShown, IsTyped, IsBandOf, IsPartOf, IsLonePart, IsSourceOf};
 ghost use Rattle.nearest_window.specs.Taken.{place_at};
 ghost use Rattle.nearest_window.specs.Wanted.{IsWanted, numbers_of};
@@ -33,7 +33,7 @@ use crate::parts::{
 use crate::picture::Picture;
 use crate::places::Span;
 use crate::recalled::Recalled;
-use crate::sharing::Supply;
+use crate::sharing::{Supply, offer_to, shown_in};
 use crate::taking::taking_of;
 use crate::targets::{Area, Around, Numbered, Piece, band_of, block_around, kind_of, mosaic_rect};
 use crate::wanted::Wanted;
@@ -262,6 +262,71 @@ impl<F: Folder> Lane<F> {
         paint_from(&mut self.made, picture, piece, out)
     }
 
+    // Keeps a block that lines showed, as it would be kept once it was loaded or made.
+    fn keep_shown(&mut self, cat: &Catalog, key: BlockKey, block: Block) -> Result<(), LoadFault>
+        requires key { IsKey cat.now key }
+        requires valid { IsPool self.old.pool }
+        requires made_valid { IsPool self.old.made }
+        ensures kept { OnOk result (IsKept key (entry_of block false) self.old self.new) }
+        ensures refused { OnErr result (self.new ≡ self.old) }
+        ensures valid { IsPool self.new.pool }
+        ensures made_valid { IsPool self.new.made }
+    {
+        if band_of(cat, key).is_some() {
+            return self.keep_made(key, block);
+        }
+        self.keep(key, block)
+    }
+
+    // Whether the lines show a block, which is then kept. It isn't where memory is refused.
+    fn takes_shown<S: Scene>(
+        &mut self,
+        supply: &Supply<S>,
+        cat: &Catalog,
+        folder: &F,
+        key: BlockKey,
+    ) -> bool
+        requires ready { IsReady F.Folder folder.now cat.now self.old }
+        requires told { S.told ≡ F.names folder.now }
+        requires scene { S.cat ≡ cat.now }
+        requires key { IsKey cat.now key }
+        ensures serves { (loads : ℕ) → Serves F.file_bytes F.file_len cat.now 0 (state_of F.Folder folder.now self.old loads) (state_of F.Folder folder.now self.new loads) }
+        ensures held { result ≡ true → IsHeldWith key self.new (λ _. ⊤) }
+        ensures same { result ≡ false → self.new ≡ self.old }
+    {
+        let _ = folder;
+        let Some(block) = shown_in(supply, cat, key) else {
+            return false;
+        };
+        match self.keep_shown(cat, key, block) {
+            Ok(_) => return true,
+            Err(_) => return false,
+        }
+    }
+
+    // Whether a block is held, or is so now since the lines showed it.
+    fn finds<S: Scene>(
+        &mut self,
+        supply: &Supply<S>,
+        cat: &Catalog,
+        folder: &F,
+        key: BlockKey,
+    ) -> bool
+        requires ready { IsReady F.Folder folder.now cat.now self.old }
+        requires told { S.told ≡ F.names folder.now }
+        requires scene { S.cat ≡ cat.now }
+        requires key { IsKey cat.now key }
+        ensures serves { (loads : ℕ) → Serves F.file_bytes F.file_len cat.now 0 (state_of F.Folder folder.now self.old loads) (state_of F.Folder folder.now self.new loads) }
+        ensures ready { IsReady F.Folder folder.now cat.now self.new }
+        ensures held { result ≡ true → IsHeldWith key self.new (λ _. ⊤) }
+        ensures absent { result ≡ false → held_at key self.new.pool.entries ≡ None }
+    {
+        if self.holds(&key) {
+            return true;
+        }
+        self.takes_shown(supply, cat, folder, key)
+    }
+
     // Loads a block of a file that isn't held, and keeps it.
     fn load_kept<L: Ledger, S: Scene>(
         &mut self,
@@ -283,6 +348,7 @@ impl<F: Folder> Lane<F> {
         ensures held { OnOk result (IsHeldWith key self.new (λ _. ⊤)) }
     {
         let block = load_block(supply.alloc, cat, folder, &mut self.files, key, loads)?;
+        offer_to(supply, key, &block);
         self.keep(key, block)
     }
 
@@ -409,7 +475,7 @@ impl<F: Folder> Lane<F> {
         ensures never { WhereTold F.Folder folder.old (λ _. IfErr result IsUnchanged) }
         ensures held { OnOk result (IsHeldWith key self.new (λ _. ⊤)) }
     {
-        if self.holds(&key) {
+        if self.finds(supply, cat, folder, key) {
             return Ok(());
         }
         match band_of(cat, key) {
@@ -417,6 +483,7 @@ impl<F: Folder> Lane<F> {
             Some(band) => {
                 let rect = mosaic_rect(cat, key);
                 let block = self.fill(supply, cat, folder, key, band, rect, loads)?;
+                offer_to(supply, key, &block);
                 return self.keep_made(key, block);
             }
         }
