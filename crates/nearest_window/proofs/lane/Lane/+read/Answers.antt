@@ -44,6 +44,9 @@ hold-fill-requires-clause-few g t c κs within =
     let big : c.mosaic_rect-rect.result.w * c.mosaic_rect-rect.result.h ≤ 128 * 128 = mul-le-mul narrow low in
     omega arith
 
+pub hold-returns-then-finds-clause-serves : goal.hold-returns-then-finds-clause-serves
+hold-returns-then-finds-clause-serves g t c = c.finds.ensures.serves c.args.loads.now
+
 pub hold-returns-in-None-clause-serves : goal.hold-returns-in-None-clause-serves
 hold-returns-in-None-clause-serves g t c =
     serves_trans g.F.Folder.file_bytes g.F.Folder.file_len c.args.cat.now (slack_of c.load_kept.result) _ _ _ (c.finds.ensures.serves c.args.loads.now) c.load_kept.ensures.serves
