@@ -4,7 +4,6 @@
 mod beside;
 mod cutting;
 mod pair;
-mod scene;
 mod single;
 mod team;
 mod turns;
