@@ -8,6 +8,9 @@ use Rattle.lane_teams.proofs.Refusals.{all_done, ok_given, put_back}
 use Rattle.lane_teams.proofs.Windows.{whole_window}
 use Rattle.lane_teams.proofs.beside.read_beside.Goals as goal
 
+pub read_views-requires-clause-told : goal.read_views-requires-clause-told
+read_views-requires-clause-told g c κs within = c.requires.told ∙ sym c.in_ok-turns.ensures.only_read.names
+
 pub read_views-requires-clause-ready : goal.read_views-requires-clause-ready
 read_views-requires-clause-ready g c κs within =
     let o = c.in_ok-turns.ensures in
