@@ -26,6 +26,8 @@ mod names;
 #[cfg(test)]
 mod pools;
 #[cfg(test)]
+mod sharing;
+#[cfg(test)]
 mod short_calls;
 #[cfg(test)]
 mod walks;

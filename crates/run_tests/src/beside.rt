@@ -36,8 +36,15 @@ fn two_workers_read_beside_each_other(rt: HostRuntime) -> Result<(), Fail> {
     Ok(())
 }
 
+// Mosaics of these lines, one in the other: all of them lie in one block, which each worker needs.
+const INNER: &[u8] = b"<VRTDataset rasterXSize='4' rasterYSize='64'><VRTRasterBand dataType='Byte'>
+<SimpleSource><SourceFilename>tall.bil</SourceFilename></SimpleSource></VRTRasterBand></VRTDataset>";
+
+const OUTER: &[u8] = b"<VRTDataset rasterXSize='4' rasterYSize='64'><VRTRasterBand dataType='Byte'>
+<SimpleSource><SourceFilename>inner.vrt</SourceFilename></SimpleSource></VRTRasterBand></VRTDataset>";
+
 // The lines by many workers, of which each has few.
-static NUMBERS: [Row<'static>; 4] = [
+static NUMBERS: [Row<'static>; 8] = [
     ("gdal_translate -q --workers 1 tall.bil a.bil", 0, "", ""),
     ("gdal_translate -q --workers 2 tall.bil b.bil", 0, "", ""),
     (
@@ -47,15 +54,33 @@ static NUMBERS: [Row<'static>; 4] = [
         "",
     ),
     ("gdal_translate -q --workers 16 tall.bil d.bil", 0, "", ""),
+    ("gdal_translate -q --workers 1 outer.vrt e.bil", 0, "", ""),
+    ("gdal_translate -q --workers 2 outer.vrt f.bil", 0, "", ""),
+    (
+        "gdal_translate -q --workers 4 --blocks 1 outer.vrt g.bil",
+        0,
+        "",
+        "",
+    ),
+    ("gdal_translate -q --workers 16 outer.vrt h.bil", 0, "", ""),
+];
+
+const COPIES: [&str; 8] = [
+    "a.bil", "b.bil", "c.bil", "d.bil", "e.bil", "f.bil", "g.bil", "h.bil",
 ];
 
 // Whether each number of workers copies the same lines.
 fn are_alike<R: Threads + Sync>(rt: &R, alloc: Global) -> Result<bool, Unmade> {
     let bytes = samples(alloc)?;
-    let files = [("tall.bil", bytes.as_slice()), ("tall.hdr", HEADER)];
+    let files = [
+        ("tall.bil", bytes.as_slice()),
+        ("tall.hdr", HEADER),
+        ("inner.vrt", INNER),
+        ("outer.vrt", OUTER),
+    ];
     let mut folder = folder_of(alloc, &files, &[])?;
     let said = says_all(rt, alloc, &mut folder, &NUMBERS)?;
-    for name in ["a.bil", "b.bil", "c.bil", "d.bil"] {
+    for name in COPIES {
         if !has(alloc, &folder, name, &bytes)? {
             return Ok(false);
         }

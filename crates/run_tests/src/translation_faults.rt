@@ -84,16 +84,15 @@ const QUIET: Work<'static> = Work {
     outputs: &FIVE_OUTPUTS,
 };
 
-const TALLER: Work<'static> = Work {
-    line: "gdal_translate --blocks 1 tall.bil out.bil",
-    text: "Input file size is 10, 100\n0...10...20...30...40...50...60...70...80...90...100 - done.\n",
-    told: "",
-    outputs: &[
-        ("out.bil", b"old data", &TALL),
-        (
-            "out.hdr",
-            b"old header",
-            b"BYTEORDER      I
+const TALL_TEXT: &str =
+    "Input file size is 10, 100\n0...10...20...30...40...50...60...70...80...90...100 - done.\n";
+
+const TALL_OUTPUTS: [Output<'static>; 2] = [
+    ("out.bil", b"old data", &TALL),
+    (
+        "out.hdr",
+        b"old header",
+        b"BYTEORDER      I
 LAYOUT         BIL
 NROWS          100
 NCOLS          10
@@ -105,8 +104,22 @@ TOTALROWBYTES  10
 BANDGAPBYTES   0
 PIXELTYPE      UNSIGNEDINT
 ",
-        ),
-    ],
+    ),
+];
+
+const TALLER: Work<'static> = Work {
+    line: "gdal_translate --blocks 1 tall.bil out.bil",
+    text: TALL_TEXT,
+    told: "",
+    outputs: &TALL_OUTPUTS,
+};
+
+// By two workers, each of which reads half of the lines of a strip through a view of the folder.
+const BESIDE: Work<'static> = Work {
+    line: "gdal_translate --blocks 1 --workers 2 tall.bil out.bil",
+    text: TALL_TEXT,
+    told: "",
+    outputs: &TALL_OUTPUTS,
 };
 
 const GRID: Work<'static> = Work {
@@ -186,7 +199,13 @@ fn failing_calls_of_a_raster(rt: HostRuntime) -> Result<(), Fail> {
 }
 
 // Translations, and how many calls of the folder each makes at least.
-static EACH: [(Work<'static>, u64); 4] = [(FIVE, 9), (QUIET, 9), (GRID, 6), (NESTED, 20)];
+static EACH: [(Work<'static>, u64); 5] = [
+    (FIVE, 9),
+    (QUIET, 9),
+    (GRID, 6),
+    (NESTED, 20),
+    (BESIDE, 100),
+];
 
 // The first of these of which a call's failing isn't met, or how many there are.
 fn first_unmet_of<R: Threads + Sync>(rt: &R, alloc: Global) -> Result<usize, Unmade> {

@@ -149,8 +149,8 @@ pub fn run_into<R: Threads + Sync, F: Folder>(
     run_to(rt, alloc, folder, &mut input, line, sinks)
 }
 
-// A run of these words over a folder and an input, whose output's calls fail as they are listed.
-fn run_fed<R: Threads + Sync, F: Folder, I: Input>(
+/// A run of these words over a folder and an input, whose output's calls fail as they are listed.
+pub fn run_fed<R: Threads + Sync, F: Folder, I: Input>(
     rt: &R,
     alloc: Global,
     folder: &mut F,
