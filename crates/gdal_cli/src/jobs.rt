@@ -126,11 +126,12 @@ fn put_answers<F: Folder, I: Input, O: Sink, L: Ledger, S: Scene>(
     ensures writes { F.write_calls folder.new ≡ F.write_calls folder.old }
 {
     let bands = question.asked.bands.len();
-    let (alloc, blocks) = (question.alloc, pools.blocks);
-    let made: Option<Lines<S>> =
-        lines_for(alloc, pools.workers, blocks.get(), &question.cat, folder);
-    let mut points: PointReader<F, L, S> =
-        PointReader::new(alloc, blocks, bands, made.as_ref(), blank)?;
+    let alloc = question.alloc;
+    let blocks = pools.blocks;
+    let cat = &question.cat;
+    let made: Option<Lines<S>> = lines_for(alloc, pools.workers, blocks.get(), cat, folder);
+    let shared = made.as_ref();
+    let mut points: PointReader<F, L, S> = PointReader::new(alloc, blocks, bands, shared, blank)?;
     match point {
         Some((x, y)) => put_point(question, &mut points, folder, out, x, y),
         None => answer_input(question, &mut points, folder, input, out),

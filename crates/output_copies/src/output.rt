@@ -134,10 +134,10 @@ fn write_files<R: Threads + Sync, F: Folder, O: Sink, L: Ledger, W: Ledger, S: S
     let alloc = translation.alloc;
     let plan = &translation.plan;
     let blocks = writing.blocks;
-    let made: Option<Lines<S>> =
-        lines_for(alloc, writing.workers, blocks, &translation.cat, folder);
-    let mut copier: Copier<F, L, W, S> =
-        copier_for(translation, made.as_ref(), writing, loads, writes)?;
+    let cat = &translation.cat;
+    let made: Option<Lines<S>> = lines_for(alloc, writing.workers, blocks, cat, folder);
+    let shared = made.as_ref();
+    let mut copier: Copier<F, L, W, S> = copier_for(translation, shared, writing, loads, writes)?;
     let mut samples = room_for(translation, copier.rows)?;
     let mut target = Target::create(alloc, folder, plan, writing.name, blocks)?;
     match copy_all(
