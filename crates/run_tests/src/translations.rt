@@ -59,19 +59,8 @@ BANDGAPBYTES   0
 PIXELTYPE      UNSIGNEDINT
 ";
 
-static STORIES: [Story<'static>; 19] = [
-    (
-        &[(
-            "gdal_translate --blocks 1 o.vrt out.bil",
-            0,
-            "Input file size is 3, 1\n0...10...20...30...40...50...60...70...80...90...100 - done.\n",
-            "",
-        )],
-        &[
-            ("out.bil", &[5, 0, 255, 255, 9, 0]),
-            (
-                "out.hdr",
-                b"BYTEORDER      I
+// The header of one line of three numbers.
+const ONE_LINE: &[u8] = b"BYTEORDER      I
 LAYOUT         BIL
 NROWS          1
 NCOLS          3
@@ -82,9 +71,30 @@ BANDROWBYTES   6
 TOTALROWBYTES  6
 BANDGAPBYTES   0
 PIXELTYPE      SIGNEDINT
-",
+";
+
+static STORIES: [Story<'static>; 20] = [
+    (
+        &[(
+            "gdal_translate --blocks 1 o.vrt out.bil",
+            0,
+            "Input file size is 3, 1\n0...10...20...30...40...50...60...70...80...90...100 - done.\n",
+            "",
+        )],
+        &[("out.bil", &[5, 0, 255, 255, 9, 0]), ("out.hdr", ONE_LINE)],
+    ),
+    (
+        &[
+            (
+                "gdal_translate -q --workers 2 --blocks 1 o.vrt out.bil",
+                0,
+                "",
+                "",
             ),
+            ("gdal_translate -q --workers 4 o.vrt out.bil", 0, "", ""),
+            ("gdal_translate -q --workers 16 o.vrt out.bil", 0, "", ""),
         ],
+        &[("out.bil", &[5, 0, 255, 255, 9, 0]), ("out.hdr", ONE_LINE)],
     ),
     (
         &[(
@@ -93,24 +103,7 @@ PIXELTYPE      SIGNEDINT
             "Input file size is 3, 1\n0...10...20...30...40...50...60...70...80...90...100 - done.\n",
             "",
         )],
-        &[
-            ("out.bil", &[5, 0, 255, 255, 9, 0]),
-            (
-                "out.hdr",
-                b"BYTEORDER      I
-LAYOUT         BIL
-NROWS          1
-NCOLS          3
-NBANDS         1
-NBITS          16
-SKIPBYTES      0
-BANDROWBYTES   6
-TOTALROWBYTES  6
-BANDGAPBYTES   0
-PIXELTYPE      SIGNEDINT
-",
-            ),
-        ],
+        &[("out.bil", &[5, 0, 255, 255, 9, 0]), ("out.hdr", ONE_LINE)],
     ),
     (
         &[(
