@@ -433,24 +433,7 @@ NODATA         -1
     ),
     (
         &[("gdal_translate -q -a_nodata none m.vrt out.bil", 0, "", "")],
-        &[
-            ("out.bil", &[5, 0, 255, 255, 9, 0]),
-            (
-                "out.hdr",
-                b"BYTEORDER      I
-LAYOUT         BIL
-NROWS          1
-NCOLS          3
-NBANDS         1
-NBITS          16
-SKIPBYTES      0
-BANDROWBYTES   6
-TOTALROWBYTES  6
-BANDGAPBYTES   0
-PIXELTYPE      SIGNEDINT
-",
-            ),
-        ],
+        &[("out.bil", &[5, 0, 255, 255, 9, 0]), ("out.hdr", ONE_LINE)],
     ),
     (
         &[
