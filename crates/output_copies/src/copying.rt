@@ -77,9 +77,9 @@ fn copy_band<R: Threads + Sync, F: Folder, L: Ledger, W: Ledger, S: Scene>(
         w: size.w,
         h: height,
     };
+    let shared = copier.shared;
     let reader = &mut copier.reader;
     let writes = &mut copier.writes;
-    let shared = copier.shared;
     let part = &mut samples[..area(size.w, height)];
     read_lines(rt, translation, reader, folder, shared, lines, part)?;
     let alloc = translation.alloc;
