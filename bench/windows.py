@@ -13,7 +13,7 @@ import resource
 import subprocess
 import sys
 
-BLOCKS = ("1", "64", "65536")
+BLOCKS = ("1", "64", "4096", "65536")
 PLAIN = "<SimpleSource>{}</SimpleSource>"
 TESTED = "<ComplexSource>{}<NODATA>-32768</NODATA></ComplexSource>"
 WHOLE = '<SourceFilename relativeToVRT="1">wide.bil</SourceFilename><SourceBand>1</SourceBand>'
