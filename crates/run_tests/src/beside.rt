@@ -1,39 +1,55 @@
 // Workers of a translation that read beside each other, and any number of them.
-use crate::stories::{has, says_all};
-use crate::trials::{Row, Unmade, folder_of};
+use crate::stories::{has, has_all, says_all};
+use crate::trials::{FileOf, Row, folder_of, says_in};
+use outside::MemFolder;
 use outside_fakes::Gate;
 use std::alloc::Global;
+use std::process::Abort;
 use std::test::*;
 use std::thread::Threads;
 
-const HEADER: &[u8] = b"NROWS 64\nNCOLS 4\n";
-
 // Lines of four bytes, each of which is another.
-fn samples(alloc: Global) -> Result<Vec<u8>, Unmade> {
-    let mut bytes = Vec::new(alloc);
-    for byte in 0..=255u8 {
-        bytes.push(byte)?;
-    }
-    Ok(bytes)
+static SAMPLES: [u8; 256] = [
+    0, 1, 2, 3, 4, 5, 6, 7, 8, 9, 10, 11, 12, 13, 14, 15, 16, 17, 18, 19, 20, 21, 22, 23, 24, 25,
+    26, 27, 28, 29, 30, 31, 32, 33, 34, 35, 36, 37, 38, 39, 40, 41, 42, 43, 44, 45, 46, 47, 48, 49,
+    50, 51, 52, 53, 54, 55, 56, 57, 58, 59, 60, 61, 62, 63, 64, 65, 66, 67, 68, 69, 70, 71, 72, 73,
+    74, 75, 76, 77, 78, 79, 80, 81, 82, 83, 84, 85, 86, 87, 88, 89, 90, 91, 92, 93, 94, 95, 96, 97,
+    98, 99, 100, 101, 102, 103, 104, 105, 106, 107, 108, 109, 110, 111, 112, 113, 114, 115, 116,
+    117, 118, 119, 120, 121, 122, 123, 124, 125, 126, 127, 128, 129, 130, 131, 132, 133, 134, 135,
+    136, 137, 138, 139, 140, 141, 142, 143, 144, 145, 146, 147, 148, 149, 150, 151, 152, 153, 154,
+    155, 156, 157, 158, 159, 160, 161, 162, 163, 164, 165, 166, 167, 168, 169, 170, 171, 172, 173,
+    174, 175, 176, 177, 178, 179, 180, 181, 182, 183, 184, 185, 186, 187, 188, 189, 190, 191, 192,
+    193, 194, 195, 196, 197, 198, 199, 200, 201, 202, 203, 204, 205, 206, 207, 208, 209, 210, 211,
+    212, 213, 214, 215, 216, 217, 218, 219, 220, 221, 222, 223, 224, 225, 226, 227, 228, 229, 230,
+    231, 232, 233, 234, 235, 236, 237, 238, 239, 240, 241, 242, 243, 244, 245, 246, 247, 248, 249,
+    250, 251, 252, 253, 254, 255,
+];
+
+fn samples() -> &'static [u8] {
+    &SAMPLES
 }
 
-static BESIDE: [Row<'static>; 1] = [("gdal_translate -q --workers 2 tall.bil out.bil", 0, "", "")];
+fn folder<R: Abort>(rt: &R, alloc: Global) -> MemFolder {
+    let files: [FileOf<'_>; 2] = [
+        ("tall.bil", samples()),
+        ("tall.hdr", b"NROWS 64\nNCOLS 4\n"),
+    ];
+    folder_of(rt, alloc, &files, &[])
+}
+
+const BESIDE: Row<'static> = ("gdal_translate -q --workers 2 tall.bil out.bil", 0, "", "");
 
 // Whether two workers, each of which waits for the other to read, copy the lines.
-fn is_copied<R: Threads + Sync>(rt: &R, alloc: Global) -> Result<bool, Unmade> {
-    let bytes = samples(alloc)?;
-    let files = [("tall.bil", bytes.as_slice()), ("tall.hdr", HEADER)];
-    let folder = folder_of(alloc, &files, &[])?;
-    let mut gate = Gate::new(alloc, folder)?;
-    let said = says_all(rt, alloc, &mut gate, &BESIDE)?;
+fn is_copied<R: Threads + Sync + Abort>(rt: &R, alloc: Global) -> bool {
+    let mut gate = Gate::new(alloc, folder(rt, alloc)).expect(rt, "memory");
+    let said = says_in(rt, alloc, &mut gate, &BESIDE);
     let folder = gate.into_inner();
-    Ok(said && has(alloc, &folder, "out.bil", &bytes)?)
+    said && has(rt, alloc, &folder, ("out.bil", samples()))
 }
 
 #[test]
-fn two_workers_read_beside_each_other(rt: HostRuntime) -> Result<(), Fail> {
-    assert!(rt; is_copied(&rt, rt.alloc())?);
-    Ok(())
+fn two_workers_read_beside_each_other(rt: HostRuntime) {
+    assert!(rt; is_copied(&rt, rt.alloc()));
 }
 
 // The lines by many workers, of which each has few.
@@ -50,21 +66,19 @@ static NUMBERS: [Row<'static>; 4] = [
 ];
 
 // Whether each number of workers copies the same lines.
-fn are_alike<R: Threads + Sync>(rt: &R, alloc: Global) -> Result<bool, Unmade> {
-    let bytes = samples(alloc)?;
-    let files = [("tall.bil", bytes.as_slice()), ("tall.hdr", HEADER)];
-    let mut folder = folder_of(alloc, &files, &[])?;
-    let said = says_all(rt, alloc, &mut folder, &NUMBERS)?;
-    for name in ["a.bil", "b.bil", "c.bil", "d.bil"] {
-        if !has(alloc, &folder, name, &bytes)? {
-            return Ok(false);
-        }
-    }
-    Ok(said)
+fn are_alike<R: Threads + Sync + Abort>(rt: &R, alloc: Global) -> bool {
+    let bytes = samples();
+    let copies: [FileOf<'_>; 4] = [
+        ("a.bil", bytes),
+        ("b.bil", bytes),
+        ("c.bil", bytes),
+        ("d.bil", bytes),
+    ];
+    let mut folder = folder(rt, alloc);
+    says_all(rt, alloc, &mut folder, &NUMBERS) && has_all(rt, alloc, &folder, &copies)
 }
 
 #[test]
-fn any_number_of_workers(rt: HostRuntime) -> Result<(), Fail> {
-    assert!(rt; are_alike(&rt, rt.alloc())?);
-    Ok(())
+fn any_number_of_workers(rt: HostRuntime) {
+    assert!(rt; are_alike(&rt, rt.alloc()));
 }

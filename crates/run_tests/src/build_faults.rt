@@ -1,11 +1,15 @@
 // Builds of mosaics of which a call of the outside fails; long lists of inputs; and two tiles side by side.
 use crate::builds::DONE;
-use crate::ends::{CALM, End, Failures, Work, ended, first_put, first_unmet, published, run_with};
+use crate::ends::{
+    End, Failed, Failer, Output, Telling, Turn, Untold, Work, each_cuts, ends, first_other,
+    first_told, first_unmet,
+};
 use crate::mosaics::WIDE;
 use crate::stories::first_unrefused;
-use crate::trials::{FOLDER, FileOf, Row, Unmade, WRITING, folder_of, run_in};
-use outside::{Failing, MemFolder, Method, Name};
-use std::alloc::{AllocError, Global};
+use crate::trials::{FileOf, Part, Row, folder_of, joined, none_wrong, put, said_in, says_in};
+use outside::{Failing, MemFolder, Method};
+use std::alloc::Global;
+use std::process::Abort;
 use std::test::*;
 use std::thread::Threads;
 
@@ -41,34 +45,47 @@ static FILES: [FileOf<'static>; 9] = [
     ("list.vrt", b"a.bil\n"),
 ];
 
+fn files() -> &'static [FileOf<'static>] {
+    &FILES
+}
+
 const LISTED_LINE: &str = "gdalbuildvrt out.vrt -input_file_list list.txt";
 
 const QUIET_LINE: &str = "gdalbuildvrt -q out.vrt p.bil a.bil two.bil";
 
-const LISTED: Work<'static> = Work {
-    line: LISTED_LINE,
-    text: DONE,
-    told: TOLD,
-    outputs: &[("out.vrt", b"old", MADE)],
-};
+static OUTPUTS: [Output<'static>; 1] = [("out.vrt", b"old", MADE)];
 
-const QUIET: Work<'static> = Work {
-    line: QUIET_LINE,
-    text: "",
-    told: TOLD,
-    outputs: &[("out.vrt", b"old", MADE)],
-};
+// A build by a list, one that prints nothing, and one whose output has the list's name, since a list is no dataset.
+static WORKS: [Work<'static>; 3] = [
+    Work {
+        line: LISTED_LINE,
+        text: DONE,
+        told: TOLD,
+        outputs: &[("out.vrt", b"old", MADE)],
+    },
+    Work {
+        line: QUIET_LINE,
+        text: "",
+        told: TOLD,
+        outputs: &[("out.vrt", b"old", MADE)],
+    },
+    Work {
+        line: "gdalbuildvrt -strict list.vrt -input_file_list list.vrt",
+        text: DONE,
+        told: "",
+        outputs: &[("list.vrt", b"a.bil\n", MADE)],
+    },
+];
 
-// The list is no dataset, so its name may be the output's.
-const OVER_THE_LIST: Work<'static> = Work {
-    line: "gdalbuildvrt -strict list.vrt -input_file_list list.vrt",
-    text: DONE,
-    told: "",
-    outputs: &[("list.vrt", b"a.bil\n", MADE)],
-};
+const LISTED: usize = 0;
 
-// What is done, the calls that fail, and how the run ends then.
-type Failed<'a> = (Work<'a>, &'a [Failing], End);
+const QUIET: usize = 1;
+
+const OVER_THE_LIST: usize = 2;
+
+fn works() -> &'static [Work<'static>] {
+    &WORKS
+}
 
 // The list, a raster and a header can't be opened, or read; a draft can't be made, written or published.
 static CALLS: [Failed<'static>; 13] = [
@@ -87,68 +104,37 @@ static CALLS: [Failed<'static>; 13] = [
     (QUIET, &[Failing::Of(Method::Publish, 2)], End::Whole),
 ];
 
-// The first of these that ends otherwise, or how many there are.
-fn first_other<R: Threads + Sync>(rt: &R, alloc: Global) -> Result<usize, Unmade> {
-    for (at, (work, calls, end)) in CALLS.iter().enumerate() {
-        let failures = Failures { calls, ..CALM };
-        if ended(rt, alloc, &FILES, *work, FOLDER, failures)? != *end {
-            return Ok(at);
-        }
-    }
-    Ok(CALLS.len())
-}
-
 #[test]
-fn failing_calls_of_a_build(rt: HostRuntime) -> Result<(), Fail> {
-    assert_eq!(rt; first_other(&rt, rt.alloc())?, CALLS.len());
-    Ok(())
+fn failing_calls_of_a_build(rt: HostRuntime) {
+    none_wrong(&rt, first_other(&rt, rt.alloc(), files(), works(), &CALLS));
 }
 
 // Builds, and how many calls of the folder each makes at least: the list is opened and read, each raster and its header
 // opened and the header read, and the document made, written and published.
-static EACH: [(Work<'static>, u64); 3] = [(LISTED, 14), (QUIET, 12), (OVER_THE_LIST, 8)];
-
-// The first of these of which a call's failing isn't met, or how many there are.
-fn first_unmet_of<R: Threads + Sync>(rt: &R, alloc: Global) -> Result<usize, Unmade> {
-    for (at, (work, least)) in EACH.iter().enumerate() {
-        let (number, end) = first_unmet(rt, alloc, &FILES, *work)?;
-        if number <= *least || end != End::Whole {
-            return Ok(at);
-        }
-    }
-    Ok(EACH.len())
-}
+static EACH: [Turn; 3] = [
+    (LISTED, Failer::Folder, (14, 256)),
+    (QUIET, Failer::Folder, (12, 256)),
+    (OVER_THE_LIST, Failer::Folder, (8, 256)),
+];
 
 // Each call of the folder fails in turn.
 #[test]
-fn each_failing_call_of_a_build(rt: HostRuntime) -> Result<(), Fail> {
-    assert_eq!(rt; first_unmet_of(&rt, rt.alloc())?, EACH.len());
-    Ok(())
+fn each_failing_call_of_a_build(rt: HostRuntime) {
+    none_wrong(&rt, first_unmet(&rt, rt.alloc(), files(), works(), &EACH));
 }
 
 // Builds, how many bytes a failing call of the output takes first, and how many calls each makes at least.
-static PUTS: [(Work<'static>, usize, u64); 3] = [(LISTED, 0, 1), (LISTED, 7, 1), (QUIET, 3, 0)];
-
-// The first of these of which a call's failing isn't met, or how many there are.
-fn first_put_of<R: Threads + Sync>(rt: &R, alloc: Global) -> Result<usize, Unmade> {
-    for (at, (work, front, least)) in PUTS.iter().enumerate() {
-        let (number, end) = first_put(rt, alloc, &FILES, *work, *front)?;
-        if number <= *least || end != End::Whole {
-            return Ok(at);
-        }
-    }
-    Ok(PUTS.len())
-}
+static PUTS: [Turn; 3] = [
+    (LISTED, Failer::Output(0), (1, 64)),
+    (LISTED, Failer::Output(7), (1, 64)),
+    (QUIET, Failer::Output(3), (0, 64)),
+];
 
 // Each call of the output fails in turn. A quiet build makes none.
 #[test]
-fn each_failing_put_of_a_build(rt: HostRuntime) -> Result<(), Fail> {
-    assert_eq!(rt; first_put_of(&rt, rt.alloc())?, PUTS.len());
-    Ok(())
+fn each_failing_put_of_a_build(rt: HostRuntime) {
+    none_wrong(&rt, first_unmet(&rt, rt.alloc(), files(), works(), &PUTS));
 }
-
-// Words, the calls of the folder that fail, the status, all that would be told, and how many outputs are published.
-type Untold<'a> = (&'a str, &'a [Failing], u8, &'a str, usize);
 
 // Builds with two warnings: one that is done, and two whose folder fails. One is refused, before it warns.
 static UNTOLD: [Untold<'static>; 4] = [
@@ -176,43 +162,6 @@ static UNTOLD: [Untold<'static>; 4] = [
     ),
 ];
 
-// A call of the error stream that fails, its number, and how many bytes it takes first.
-type Telling<'a> = (&'a [Failing], u64, usize);
-
-// Whether a build ends so whose error stream fails so.
-fn ends_untold<R: Threads + Sync>(
-    rt: &R,
-    alloc: Global,
-    (line, calls, status, told, count): Untold<'static>,
-    (tells, call, front): Telling<'static>,
-) -> Result<bool, Unmade> {
-    let failures: Failures<'static> = Failures {
-        calls,
-        puts: &[],
-        tells,
-        front,
-    };
-    let ran = run_with(rt, alloc, &FILES, line, failures)?;
-    let published = published(alloc, &ran.folder, FILES.len(), LISTED.outputs)?;
-    let front_told = call > 1 || ran.said.tells_part(told, front);
-    let told = front_told && ran.said.tells_front(told);
-    Ok(ran.said.status == status && told && published == Some(count))
-}
-
-// The first of these builds that ends otherwise, or how many there are.
-fn first_untold<R: Threads + Sync>(
-    rt: &R,
-    alloc: Global,
-    telling: Telling<'static>,
-) -> Result<usize, Unmade> {
-    for (at, untold) in UNTOLD.iter().enumerate() {
-        if !ends_untold(rt, alloc, *untold, telling)? {
-            return Ok(at);
-        }
-    }
-    Ok(UNTOLD.len())
-}
-
 // Calls of the error stream that fail.
 static TELLS: [Telling<'static>; 6] = [
     (&[Failing::Call(1)], 1, 0),
@@ -223,67 +172,46 @@ static TELLS: [Telling<'static>; 6] = [
     (&[Failing::Call(3)], 3, 11),
 ];
 
-// The first of these calls whose failing changes anything else, or how many there are.
-fn first_told<R: Threads + Sync>(rt: &R, alloc: Global) -> Result<usize, Unmade> {
-    for (at, telling) in TELLS.iter().enumerate() {
-        if first_untold(rt, alloc, *telling)? < UNTOLD.len() {
-            return Ok(at);
-        }
-    }
-    Ok(TELLS.len())
-}
-
 // The error stream fails, at first or in the midst of the warnings, and nothing else changes.
 #[test]
-fn a_failing_error_stream_of_a_build(rt: HostRuntime) -> Result<(), Fail> {
-    assert_eq!(rt; first_told(&rt, rt.alloc())?, TELLS.len());
-    Ok(())
-}
-
-// So many copies of a text.
-fn repeated(alloc: Global, text: &[u8], count: usize) -> Result<Vec<u8>, AllocError> {
-    let mut out = Vec::new(alloc);
-    for _ in 0..count {
-        out.extend_from_slice(text)?;
-    }
-    Ok(out)
-}
-
-// A list of a thousand inputs that are skipped, and of one that isn't.
-fn long_list(alloc: Global) -> Result<Vec<u8>, AllocError> {
-    let mut list = repeated(alloc, b"p.bil\ntwo.bil\n", 500)?;
-    list.extend_from_slice(b"a.bil\n")?;
-    Ok(list)
+fn a_failing_error_stream_of_a_build(rt: HostRuntime) {
+    let wrong = first_told(&rt, rt.alloc(), files(), &OUTPUTS, &UNTOLD, &TELLS);
+    none_wrong(&rt, wrong);
 }
 
 // The files, and a list of inputs.
-fn with_list(alloc: Global, list: &[u8]) -> Result<MemFolder, Unmade> {
-    let mut folder = folder_of(alloc, &FILES, &[])?;
-    folder.put(&Name::read(alloc, "list.txt")?, list)?;
-    Ok(folder)
+fn with_list<R: Abort>(rt: &R, alloc: Global, list: &[Part<'_>]) -> MemFolder {
+    let list = joined(rt, alloc, list);
+    let mut folder = folder_of(rt, alloc, files(), &[]);
+    put(rt, alloc, &mut folder, ("list.txt", &list));
+    folder
 }
 
+// A list of a thousand inputs that are skipped, and of one that isn't.
+static SKIPPED: [Part<'static>; 2] = [(b"p.bil\ntwo.bil\n", 500), (b"a.bil\n", 1)];
+
+// What is told of them.
+static WARNINGS: [Part<'static>; 1] = [(
+    b"Warning 1: p.bil: skipped (geotransform)\nWarning 1: two.bil: skipped (bands)\n",
+    500,
+)];
+
+const BEHIND_ONE: &str = "gdalbuildvrt out.vrt a.bil -input_file_list list.txt";
+
 // Whether a thousand inputs that are skipped give a thousand lines, and nothing else is told.
-fn warns_of_each<R: Threads + Sync>(rt: &R, alloc: Global) -> Result<bool, Unmade> {
-    let mut folder = with_list(alloc, &long_list(alloc)?)?;
-    let said = run_in(
-        rt,
-        alloc,
-        &mut folder,
-        "gdalbuildvrt out.vrt a.bil -input_file_list list.txt",
-    )?;
-    let warnings = repeated(alloc, TOLD.as_bytes(), 500)?;
-    Ok(said.status == 0 && said.err.got() == warnings.as_slice())
+fn warns_of_each<R: Threads + Sync + Abort>(rt: &R, alloc: Global) -> bool {
+    let mut folder = with_list(rt, alloc, &SKIPPED);
+    let said = said_in(rt, alloc, &mut folder, BEHIND_ONE);
+    let warnings = joined(rt, alloc, &WARNINGS);
+    said.status == 0 && said.err.got() == warnings.as_slice()
 }
 
 #[test]
-fn a_thousand_skipped_inputs(rt: HostRuntime) -> Result<(), Fail> {
-    assert!(rt; warns_of_each(&rt, rt.alloc())?);
-    Ok(())
+fn a_thousand_skipped_inputs(rt: HostRuntime) {
+    assert!(rt; warns_of_each(&rt, rt.alloc()));
 }
 
 // A list: a text, and so many copies of another; words; and what is told of it.
-#[derive(Clone, Copy)]
 struct Long {
     front: &'static [u8],
     text: &'static [u8],
@@ -348,36 +276,31 @@ static LONG: [Long; 6] = [
     },
 ];
 
-fn long_text(alloc: Global, long: Long) -> Result<Vec<u8>, AllocError> {
-    let mut out = Vec::new(alloc);
-    out.extend_from_slice(long.front)?;
-    for _ in 0..long.count {
-        out.extend_from_slice(long.text)?;
-    }
-    Ok(out)
-}
-
 // Whether a build by a long list ends so.
-fn ends_so<R: Threads + Sync>(rt: &R, alloc: Global, long: Long) -> Result<bool, Unmade> {
-    let mut folder = with_list(alloc, &long_text(alloc, long)?)?;
-    let said = run_in(rt, alloc, &mut folder, long.line)?;
-    Ok(said.is(long.status, "", long.told))
+fn is_long_so<R: Threads + Sync + Abort>(rt: &R, alloc: Global, long: &Long) -> bool {
+    let list: [Part<'_>; 2] = [(long.front, 1), (long.text, long.count)];
+    let mut folder = with_list(rt, alloc, &list);
+    let row = (long.line, long.status, "", long.told);
+    says_in(rt, alloc, &mut folder, &row)
 }
 
-// The first of these lists whose build ends otherwise, or how many there are.
-fn first_long<R: Threads + Sync>(rt: &R, alloc: Global) -> Result<usize, Unmade> {
-    for (at, long) in LONG.iter().enumerate() {
-        if !ends_so(rt, alloc, *long)? {
-            return Ok(at);
+// The first of these lists whose build ends otherwise.
+fn first_wrong_list<R: Threads + Sync + Abort>(
+    rt: &R,
+    alloc: Global,
+    lists: &[Long],
+) -> Option<usize> {
+    for (at, long) in lists.iter().enumerate() {
+        if !is_long_so(rt, alloc, long) {
+            return Some(at);
         }
     }
-    Ok(LONG.len())
+    None
 }
 
 #[test]
-fn long_lists(rt: HostRuntime) -> Result<(), Fail> {
-    assert_eq!(rt; first_long(&rt, rt.alloc())?, LONG.len());
-    Ok(())
+fn long_lists(rt: HostRuntime) {
+    none_wrong(&rt, first_wrong_list(&rt, rt.alloc(), &LONG));
 }
 
 // Two tiles side by side and a raster of two bands.
@@ -388,19 +311,6 @@ const TILES: Work<'static> = Work {
     outputs: &[("out.vrt", b"old", WIDE)],
 };
 
-// The first call of the folder whose failing doesn't end the run early, how it ends then, and how the run ends whose
-// output fails.
-fn tile_ends<R: Threads + Sync>(
-    rt: &R,
-    alloc: Global,
-    files: &[FileOf<'_>],
-) -> Result<(u64, End, End), Unmade> {
-    let (number, end) = first_unmet(rt, alloc, files, TILES)?;
-    let puts: &[Failing] = &[Failing::Call(1)];
-    let put = ended(rt, alloc, files, TILES, WRITING, Failures { puts, ..CALM })?;
-    Ok((number, end, put))
-}
-
 // What is told where no input may be skipped; then nothing is published.
 static STRICT: [Row<'static>; 1] = [(
     "gdalbuildvrt -strict out.vrt N00E000.hgt N00E001.hgt two.bil",
@@ -409,8 +319,25 @@ static STRICT: [Row<'static>; 1] = [(
     "ERROR 1: two.bil: skipped (bands)\n",
 )];
 
-fn two_tiles<R: Threads + Sync>(rt: &R, alloc: Global) -> Result<bool, Unmade> {
-    let tile = vec![in alloc; 0u8; 2_884_802]?;
+// Whether each call of the folder ends a build where it fails, a failing output does behind the warning, and nothing is
+// changed where no input may be skipped.
+fn tiles_end<R: Threads + Sync + Abort>(
+    rt: &R,
+    alloc: Global,
+    files: &[FileOf<'_>],
+    work: Work<'_>,
+) -> bool {
+    let puts: &[Failing] = &[Failing::Call(1)];
+    let output = Failer::Output(0);
+    each_cuts(rt, alloc, files, work, Failer::Folder, (8, 256))
+        && ends(rt, alloc, files, work, output, puts, End::Warned(1))
+        && first_unrefused(rt, alloc, files, &STRICT).is_none()
+}
+
+static ZEROS: [Part<'static>; 1] = [(&[0], 2_884_802)];
+
+fn two_tiles<R: Threads + Sync + Abort>(rt: &R, alloc: Global) -> bool {
+    let tile = joined(rt, alloc, &ZEROS);
     let files: [FileOf<'_>; 5] = [
         ("N00E000.hgt", &tile),
         ("N00E001.hgt", &tile),
@@ -421,14 +348,11 @@ fn two_tiles<R: Threads + Sync>(rt: &R, alloc: Global) -> Result<bool, Unmade> {
         ),
         ("out.vrt", b"old"),
     ];
-    let (number, end, put) = tile_ends(rt, alloc, &files)?;
-    let strict = first_unrefused(rt, alloc, &files, &STRICT)?;
-    Ok(number > 8 && end == End::Whole && put == End::Warned(1) && strict == STRICT.len())
+    tiles_end(rt, alloc, &files, TILES)
 }
 
 // Each call of the folder fails in turn, and that of the output.
 #[test]
-fn two_tiles_side_by_side(rt: HostRuntime) -> Result<(), Fail> {
-    assert!(rt; two_tiles(&rt, rt.alloc())?);
-    Ok(())
+fn two_tiles_side_by_side(rt: HostRuntime) {
+    assert!(rt; two_tiles(&rt, rt.alloc()));
 }

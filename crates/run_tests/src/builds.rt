@@ -1,9 +1,7 @@
 // Mosaics built of rasters: what is printed and told, and the documents that are made.
-use crate::stories::{Story, first_astray, first_unrefused, goes};
-use crate::trials::{FileOf, Row, Unmade};
-use std::alloc::Global;
+use crate::stories::{Story, first_astray, first_unlike, first_unrefused};
+use crate::trials::{FileOf, Row, none_wrong};
 use std::test::*;
-use std::thread::Threads;
 
 /// The progress line.
 pub const DONE: &str = "0...10...20...30...40...50...60...70...80...90...100 - done.\n";
@@ -78,6 +76,10 @@ static FILES: [FileOf<'static>; 35] = [
     ("absent.txt", b"none.bil\na.bil\n"),
     ("d/e.txt", b"a.bil\nb.bil\n"),
 ];
+
+fn files() -> &'static [FileOf<'static>] {
+    &FILES
+}
 
 const FIRST: &[u8] = b"<VRTDataset rasterXSize=\"2\" rasterYSize=\"1\">
   <GeoTransform>0, 1, 0, 1, 0, -1</GeoTransform>
@@ -288,12 +290,8 @@ Warning 1: i.bil: skipped (type)
 ];
 
 #[test]
-fn builds(rt: HostRuntime) -> Result<(), Fail> {
-    assert_eq!(rt;
-        first_astray(&rt, rt.alloc(), &FILES, &STORIES)?,
-        STORIES.len()
-    );
-    Ok(())
+fn builds(rt: HostRuntime) {
+    none_wrong(&rt, first_astray(&rt, rt.alloc(), files(), &STORIES));
 }
 
 // Quiet builds of the same document.
@@ -360,20 +358,9 @@ static SAME: [Row<'static>; 13] = [
 
 static MADE: [FileOf<'static>; 1] = [("out.vrt", BOTH)];
 
-// The first of these builds that makes anything else, or how many there are.
-fn first_unlike<R: Threads + Sync>(rt: &R, alloc: Global) -> Result<usize, Unmade> {
-    for (at, row) in SAME.iter().enumerate() {
-        if !goes(rt, alloc, &FILES, &[*row], &MADE)? {
-            return Ok(at);
-        }
-    }
-    Ok(SAME.len())
-}
-
 #[test]
-fn quiet_builds(rt: HostRuntime) -> Result<(), Fail> {
-    assert_eq!(rt; first_unlike(&rt, rt.alloc())?, SAME.len());
-    Ok(())
+fn quiet_builds(rt: HostRuntime) {
+    none_wrong(&rt, first_unlike(&rt, rt.alloc(), files(), &SAME, &MADE));
 }
 
 // Words that don't fit: nothing is printed, and no file changes.
@@ -568,12 +555,8 @@ static UNFIT: [Row<'static>; 32] = [
 ];
 
 #[test]
-fn words_of_builds(rt: HostRuntime) -> Result<(), Fail> {
-    assert_eq!(rt;
-        first_unrefused(&rt, rt.alloc(), &FILES, &UNFIT)?,
-        UNFIT.len()
-    );
-    Ok(())
+fn words_of_builds(rt: HostRuntime) {
+    none_wrong(&rt, first_unrefused(&rt, rt.alloc(), files(), &UNFIT));
 }
 
 // Refusals, in the order in which they come: of the list, of the walks, of the mosaic, and of the output's name.
@@ -755,10 +738,6 @@ static REFUSED: [Row<'static>; 29] = [
 ];
 
 #[test]
-fn refused_builds(rt: HostRuntime) -> Result<(), Fail> {
-    assert_eq!(rt;
-        first_unrefused(&rt, rt.alloc(), &FILES, &REFUSED)?,
-        REFUSED.len()
-    );
-    Ok(())
+fn refused_builds(rt: HostRuntime) {
+    none_wrong(&rt, first_unrefused(&rt, rt.alloc(), files(), &REFUSED));
 }

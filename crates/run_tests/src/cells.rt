@@ -1,36 +1,57 @@
 // Runs over cells and tiles.
 use crate::fickle::Fickle;
-use crate::trials::{FileOf, Row, Said, Unmade, first_harmless, first_wrong, run_in};
+use crate::trials::{
+    FileOf, NOTHING, Part, Row, first_harmless, first_wrong, is_number, joined, none_wrong, says,
+    says_in,
+};
 use std::alloc::Global;
+use std::process::Abort;
 use std::test::*;
 use std::thread::Threads;
 
-// The head of a cell at 10 degrees east, 20 degrees north, with steps of 30 arc seconds and these counts.
-fn head(alloc: Global, counts: &[u8; 8]) -> Result<Vec<u8>, Unmade> {
-    let mut file = vec![in alloc; b' '; 3428]?;
-    file[..33].copy_from_slice(b"UHL10100000E0200000N03000300NA  U");
-    file[47..55].copy_from_slice(counts);
-    file[80..84].copy_from_slice(b"DSIU");
-    file[728..731].copy_from_slice(b"ACC");
-    Ok(file)
+// A cell at 10 degrees east, 20 degrees north, with steps of 30 arc seconds: what stands before its head, the counts in
+// it, and its records.
+fn cell<'a, R: Abort>(
+    rt: &R,
+    alloc: Global,
+    front: &'a [u8],
+    counts: &'a [u8],
+    records: &'a [u8],
+) -> Vec<u8> {
+    let parts: [Part<'a>; 10] = [
+        (front, 1),
+        (b"UHL10100000E0200000N03000300NA  U", 1),
+        (b" ", 14),
+        (counts, 1),
+        (b" ", 25),
+        (b"DSIU", 1),
+        (b" ", 644),
+        (b"ACC", 1),
+        (b" ", 2697),
+        (records, 1),
+    ];
+    joined(rt, alloc, &parts)
 }
 
 // A cell of one line of longitude and four points: 5, -5, the null elevation and 0 from the south.
-fn one_line(alloc: Global, sum: u8) -> Result<Vec<u8>, Unmade> {
-    let mut file = head(alloc, b"00010004")?;
-    file.extend_from_slice(&[0xaa, 0, 0, 0, 0, 0, 0, 0])?;
-    file.extend_from_slice(&[0, 5, 0x80, 5, 0xff, 0xff, 0x80, 0, 0, 0, 3, sum])?;
-    Ok(file)
+fn one_line<R: Abort>(rt: &R, alloc: Global, sum: u8) -> Vec<u8> {
+    let records = [
+        0xaa, 0, 0, 0, 0, 0, 0, 0, 0, 5, 0x80, 5, 0xff, 0xff, 0x80, 0, 0, 0, 3, sum,
+    ];
+    cell(rt, alloc, b"", b"00010004", &records)
 }
 
+// A leading record.
+const VOLUME: &[u8] =
+    b"VOL                                                                             ";
+
 // A cell of two lines of one point, 7 and -9, behind a leading record.
-fn two_lines(alloc: Global, sum: u8) -> Result<Vec<u8>, Unmade> {
-    let mut file = vec![in alloc; b' '; 80]?;
-    file[..3].copy_from_slice(b"VOL");
-    file.extend_from_slice(&head(alloc, b"00020001")?)?;
-    file.extend_from_slice(&[0xaa, 0, 0, 0, 0, 0, 0, 0, 0, 7, 0, 0, 0, 0xb1])?;
-    file.extend_from_slice(&[0xaa, 0, 0, 1, 0, 1, 0, 0, 0x80, 9, 0, 0, 1, sum])?;
-    Ok(file)
+fn two_lines<R: Abort>(rt: &R, alloc: Global, sum: u8) -> Vec<u8> {
+    let records = [
+        0xaa, 0, 0, 0, 0, 0, 0, 0, 0, 7, 0, 0, 0, 0xb1, 0xaa, 0, 0, 1, 0, 1, 0, 0, 0x80, 9, 0, 0,
+        1, sum,
+    ];
+    cell(rt, alloc, VOLUME, b"00020001", &records)
 }
 
 const CELL_REPORT: &str = "Driver: DTED
@@ -99,42 +120,25 @@ static CELLS: [Row<'static>; 18] = [
 ];
 
 // Cells with right and wrong sums.
-#[derive(Drop)]
-struct CellFiles {
-    right: Vec<u8>,
-    wrong: Vec<u8>,
-    two: Vec<u8>,
-    broken: Vec<u8>,
-}
-
-fn all_cells(alloc: Global) -> Result<CellFiles, Unmade> {
-    Ok(CellFiles {
-        right: one_line(alloc, 0xb2)?,
-        wrong: one_line(alloc, 0xb3)?,
-        two: two_lines(alloc, 0x35)?,
-        broken: two_lines(alloc, 0x36)?,
-    })
-}
-
-fn try_cells<R: Threads + Sync>(rt: &R, alloc: Global) -> Result<usize, Unmade> {
-    let cells = all_cells(alloc)?;
-    let files: [FileOf<'_>; 4] = [
-        ("c.dt0", &cells.right),
-        ("w.dt2", &cells.wrong),
-        ("d.DT1", &cells.two),
-        ("e.dt1", &cells.broken),
-    ];
-    first_wrong(rt, alloc, &files, &CELLS)
-}
-
 #[test]
-fn cells(rt: HostRuntime) -> Result<(), Fail> {
-    assert_eq!(rt; try_cells(&rt, rt.alloc())?, CELLS.len());
-    Ok(())
+fn cells(rt: HostRuntime) {
+    let right = one_line(&rt, rt.alloc(), 0xb2);
+    let wrong = one_line(&rt, rt.alloc(), 0xb3);
+    let two = two_lines(&rt, rt.alloc(), 0x35);
+    let broken = two_lines(&rt, rt.alloc(), 0x36);
+    let files: [FileOf<'_>; 4] = [
+        ("c.dt0", &right),
+        ("w.dt2", &wrong),
+        ("d.DT1", &two),
+        ("e.dt1", &broken),
+    ];
+    none_wrong(&rt, first_wrong(&rt, rt.alloc(), &files, &CELLS));
 }
 
 // So many bytes of the cell, and the status, what is printed and what is told of them.
-static CUTS: [(usize, u8, &str, &str); 10] = [
+type Cut<'a> = (usize, u8, &'a str, &'a str);
+
+static CUTS: [Cut<'static>; 10] = [
     (0, 1, "", "ERROR 4: c.dt0: malformed dted (3)\n"),
     (3, 1, "", "ERROR 4: c.dt0: malformed dted (3)\n"),
     (79, 1, "", "ERROR 4: c.dt0: malformed dted (3)\n"),
@@ -147,27 +151,33 @@ static CUTS: [(usize, u8, &str, &str); 10] = [
     (3448, 0, "5\n", ""),
 ];
 
-// The first of these cuts of a cell of which something else is said, or how many cuts there are.
-fn first_wrong_cut<R: Threads + Sync>(rt: &R, alloc: Global, cell: &[u8]) -> Result<usize, Unmade> {
-    let line = "gdallocationinfo -valonly c.dt0 0 3";
-    for (at, (len, status, out, err)) in CUTS.iter().enumerate() {
-        let (front, _) = cell.split_at((*len).min(cell.len()));
-        if first_wrong(rt, alloc, &[("c.dt0", front)], &[(line, *status, out, err)])? == 0 {
-            return Ok(at);
-        }
-    }
-    Ok(CUTS.len())
+// Whether this is said of a cut of a cell.
+fn is_cut_so<R: Threads + Sync + Abort>(rt: &R, alloc: Global, cell: &[u8], cut: &Cut<'_>) -> bool {
+    let (len, status, out, err) = *cut;
+    let (front, _) = cell.split_at(len.min(cell.len()));
+    let row = ("gdallocationinfo -valonly c.dt0 0 3", status, out, err);
+    says(rt, alloc, &[("c.dt0", front)], &row)
 }
 
-fn try_cuts<R: Threads + Sync>(rt: &R, alloc: Global) -> Result<usize, Unmade> {
-    let cell = one_line(alloc, 0xb2)?;
-    first_wrong_cut(rt, alloc, &cell)
+// The first of these cuts of a cell of which something else is said.
+fn first_wrong_cut<R: Threads + Sync + Abort>(
+    rt: &R,
+    alloc: Global,
+    cell: &[u8],
+    cuts: &[Cut<'_>],
+) -> Option<usize> {
+    for (at, cut) in cuts.iter().enumerate() {
+        if !is_cut_so(rt, alloc, cell, cut) {
+            return Some(at);
+        }
+    }
+    None
 }
 
 #[test]
-fn cut_cells(rt: HostRuntime) -> Result<(), Fail> {
-    assert_eq!(rt; try_cuts(&rt, rt.alloc())?, CUTS.len());
-    Ok(())
+fn cut_cells(rt: HostRuntime) {
+    let cell = one_line(&rt, rt.alloc(), 0xb2);
+    none_wrong(&rt, first_wrong_cut(&rt, rt.alloc(), &cell, &CUTS));
 }
 
 static LARGE: [Row<'static>; 1] = [(
@@ -177,30 +187,23 @@ static LARGE: [Row<'static>; 1] = [(
     "ERROR 4: l.dt2: needs 200083418 bytes, has 3428\n",
 )];
 
-fn try_large<R: Threads + Sync>(rt: &R, alloc: Global) -> Result<usize, Unmade> {
-    let large = head(alloc, b"99999999")?;
-    first_wrong(rt, alloc, &[("l.dt2", &large)], &LARGE)
-}
-
 #[test]
-fn a_large_cell(rt: HostRuntime) -> Result<(), Fail> {
-    assert_eq!(rt; try_large(&rt, rt.alloc())?, LARGE.len());
-    Ok(())
+fn a_large_cell(rt: HostRuntime) {
+    let large = cell(&rt, rt.alloc(), b"", b"99999999", b"");
+    let files: [FileOf<'_>; 1] = [("l.dt2", &large)];
+    none_wrong(&rt, first_wrong(&rt, rt.alloc(), &files, &LARGE));
 }
 
-fn harmless_of_cell<R: Threads + Sync>(rt: &R, alloc: Global) -> Result<(u64, bool), Unmade> {
-    let cell = one_line(alloc, 0xb2)?;
-    let line = "gdallocationinfo --config DTED_VERIFY_CHECKSUM YES -valonly c.dt0 0 2";
-    first_harmless(rt, alloc, &[("c.dt0", &cell)], (line, (b"", 1)), "-5\n")
-}
+const CHECKED: &str = "gdallocationinfo --config DTED_VERIFY_CHECKSUM YES -valonly c.dt0 0 2";
 
 // Each call of the folder fails in turn: the cell is opened, its head and its record are read, and it is opened
 // and its record is read again.
 #[test]
-fn failing_calls_of_a_cell(rt: HostRuntime) -> Result<(), Fail> {
-    let found = harmless_of_cell(&rt, rt.alloc())?;
-    assert!(rt; found == (6, true), "call {}", found.0);
-    Ok(())
+fn failing_calls_of_a_cell(rt: HostRuntime) {
+    let cell = one_line(&rt, rt.alloc(), 0xb2);
+    let files: [FileOf<'_>; 1] = [("c.dt0", &cell)];
+    let call = first_harmless(&rt, rt.alloc(), &files, (CHECKED, NOTHING), "-5\n");
+    is_number(&rt, call, 6);
 }
 
 // Files whose names are those of tiles are refused for their length alone.
@@ -266,18 +269,12 @@ static TILES: [FileOf<'static>; 7] = [
 ];
 
 #[test]
-fn names_of_tiles(rt: HostRuntime) -> Result<(), Fail> {
-    assert_eq!(rt; first_wrong(&rt, rt.alloc(), &TILES, &NAMES)?, NAMES.len());
-    Ok(())
+fn names_of_tiles(rt: HostRuntime) {
+    none_wrong(&rt, first_wrong(&rt, rt.alloc(), &TILES, &NAMES));
 }
 
-// A tile of which one sample isn't 0: that in column 0 of the last line.
-pub fn tile(alloc: Global) -> Result<Vec<u8>, Unmade> {
-    let mut bytes = vec![in alloc; 0u8; 2_884_802]?;
-    bytes[2_882_400] = 0xff;
-    bytes[2_882_401] = 0xfe;
-    Ok(bytes)
-}
+/// A tile of which one sample isn't 0: that in column 0 of the last line.
+pub static TILE: [Part<'static>; 3] = [(&[0], 2_882_400), (&[0xff, 0xfe], 1), (&[0], 2_400)];
 
 const TILE_REPORT: &str = "Driver: SRTMHGT
 Files: S01W180.hgt
@@ -304,15 +301,11 @@ static CORNER: [Row<'static>; 2] = [
     ),
 ];
 
-fn try_tile<R: Threads + Sync>(rt: &R, alloc: Global) -> Result<usize, Unmade> {
-    let bytes = tile(alloc)?;
-    first_wrong(rt, alloc, &[("S01W180.hgt", &bytes)], &CORNER)
-}
-
 #[test]
-fn a_tile(rt: HostRuntime) -> Result<(), Fail> {
-    assert_eq!(rt; try_tile(&rt, rt.alloc())?, CORNER.len());
-    Ok(())
+fn a_tile(rt: HostRuntime) {
+    let bytes = joined(&rt, rt.alloc(), &TILE);
+    let files: [FileOf<'_>; 1] = [("S01W180.hgt", &bytes)];
+    none_wrong(&rt, first_wrong(&rt, rt.alloc(), &files, &CORNER));
 }
 
 const HEADER: &[u8] = b"NROWS 2\nNCOLS 3\nNBANDS 2\n";
@@ -371,14 +364,9 @@ static CHANGES: [Change<'static>; 6] = [
     ),
 ];
 
-// A run over a file that has these lengths when it is opened first and again.
-fn run_changed<R: Threads + Sync>(
-    rt: &R,
-    alloc: Global,
-    first: u64,
-    again: Option<u64>,
-    line: &str,
-) -> Result<Said, Unmade> {
+// Whether this is said of a file that has these lengths when it is opened first and again.
+fn changes_so<R: Threads + Sync + Abort>(rt: &R, alloc: Global, change: &Change<'_>) -> bool {
+    let (first, again, line, (status, out, err)) = *change;
     let mut folder = Fickle {
         first: Some(first),
         again,
@@ -386,21 +374,24 @@ fn run_changed<R: Threads + Sync>(
         reads: 0,
         writes: 0,
     };
-    run_in(rt, alloc, &mut folder, line)
+    says_in(rt, alloc, &mut folder, &(line, status, out, err))
 }
 
-// The first of these runs that says something else than is listed, or how many runs there are.
-fn first_wrong_change<R: Threads + Sync>(rt: &R, alloc: Global) -> Result<usize, Unmade> {
-    for (at, (first, again, line, (status, out, err))) in CHANGES.iter().enumerate() {
-        if !run_changed(rt, alloc, *first, *again, line)?.is(*status, out, err) {
-            return Ok(at);
+// The first of these of which something else is said.
+fn first_wrong_change<R: Threads + Sync + Abort>(
+    rt: &R,
+    alloc: Global,
+    changes: &[Change<'_>],
+) -> Option<usize> {
+    for (at, change) in changes.iter().enumerate() {
+        if !changes_so(rt, alloc, change) {
+            return Some(at);
         }
     }
-    Ok(CHANGES.len())
+    None
 }
 
 #[test]
-fn changed_files(rt: HostRuntime) -> Result<(), Fail> {
-    assert_eq!(rt; first_wrong_change(&rt, rt.alloc())?, CHANGES.len());
-    Ok(())
+fn changed_files(rt: HostRuntime) {
+    none_wrong(&rt, first_wrong_change(&rt, rt.alloc(), &CHANGES));
 }

@@ -1,12 +1,10 @@
 // Translations to documents that are refused, and those of which a call of the outside fails.
-use crate::documents::{FIVE_TEXT, RASTERS};
-use crate::ends::{CALM, End, Failures, Work, ended, first_put, first_unmet};
+use crate::documents::{FIVE_TEXT, rasters};
+use crate::ends::{End, Failed, Failer, Turn, Work, first_other, first_unmet};
 use crate::stories::first_unrefused;
-use crate::trials::{FOLDER, FileOf, Row, Unmade};
+use crate::trials::{FileOf, Row, none_wrong};
 use outside::{Failing, Method};
-use std::alloc::Global;
 use std::test::*;
-use std::thread::Threads;
 
 // Refusals, in the order in which they come: nothing is printed, and no file changes.
 static REFUSED: [Row<'static>; 19] = [
@@ -127,12 +125,8 @@ static REFUSED: [Row<'static>; 19] = [
 ];
 
 #[test]
-fn refused_documents(rt: HostRuntime) -> Result<(), Fail> {
-    assert_eq!(rt;
-        first_unrefused(&rt, rt.alloc(), &RASTERS, &REFUSED)?,
-        REFUSED.len()
-    );
-    Ok(())
+fn refused_documents(rt: HostRuntime) {
+    none_wrong(&rt, first_unrefused(&rt, rt.alloc(), rasters(), &REFUSED));
 }
 
 static FILES: [FileOf<'static>; 3] = [
@@ -153,22 +147,29 @@ const DOCUMENT: &[u8] = b"<VRTDataset rasterXSize=\"5\" rasterYSize=\"1\">
 </VRTDataset>
 ";
 
-const FIVE: Work<'static> = Work {
-    line: "gdal_translate five.bil old.vrt",
-    text: FIVE_TEXT,
-    told: "",
-    outputs: &[("old.vrt", b"old", DOCUMENT)],
-};
+// A translation, and the same that prints nothing.
+static WORKS: [Work<'static>; 2] = [
+    Work {
+        line: "gdal_translate five.bil old.vrt",
+        text: FIVE_TEXT,
+        told: "",
+        outputs: &[("old.vrt", b"old", DOCUMENT)],
+    },
+    Work {
+        line: "gdal_translate -q -of VRT five.bil old.vrt",
+        text: "",
+        told: "",
+        outputs: &[("old.vrt", b"old", DOCUMENT)],
+    },
+];
 
-const QUIET: Work<'static> = Work {
-    line: "gdal_translate -q -of VRT five.bil old.vrt",
-    text: "",
-    told: "",
-    outputs: &[("old.vrt", b"old", DOCUMENT)],
-};
+const FIVE: usize = 0;
 
-// What is done, the calls that fail, and how the run ends then.
-type Failed<'a> = (Work<'a>, &'a [Failing], End);
+const QUIET: usize = 1;
+
+fn works() -> &'static [Work<'static>] {
+    &WORKS
+}
 
 static CALLS: [Failed<'static>; 6] = [
     (FIVE, &[], End::Whole),
@@ -179,35 +180,20 @@ static CALLS: [Failed<'static>; 6] = [
     (QUIET, &[Failing::Of(Method::Publish, 2)], End::Whole),
 ];
 
-// The first of these that ends otherwise, or how many there are.
-fn first_other<R: Threads + Sync>(rt: &R, alloc: Global) -> Result<usize, Unmade> {
-    for (at, (work, calls, end)) in CALLS.iter().enumerate() {
-        let failures = Failures { calls, ..CALM };
-        if ended(rt, alloc, &FILES, *work, FOLDER, failures)? != *end {
-            return Ok(at);
-        }
-    }
-    Ok(CALLS.len())
-}
-
 #[test]
-fn failing_calls_of_a_document(rt: HostRuntime) -> Result<(), Fail> {
-    assert_eq!(rt; first_other(&rt, rt.alloc())?, CALLS.len());
-    Ok(())
+fn failing_calls_of_a_document(rt: HostRuntime) {
+    none_wrong(&rt, first_other(&rt, rt.alloc(), &FILES, works(), &CALLS));
 }
 
-// The first call of the folder, and of the output of either, whose failing isn't met, and how the run ends then.
-fn all_calls<R: Threads + Sync>(rt: &R, alloc: Global) -> Result<bool, Unmade> {
-    let (calls, end) = first_unmet(rt, alloc, &FILES, FIVE)?;
-    let (puts, put_end) = first_put(rt, alloc, &FILES, FIVE, 3)?;
-    let (none, quiet_end) = first_put(rt, alloc, &FILES, QUIET, 0)?;
-    let whole = end == End::Whole && put_end == End::Whole && quiet_end == End::Whole;
-    Ok(whole && calls > 5 && puts > 2 && none == 1)
-}
+// A translation makes at least five calls of the folder and two of the output. A quiet one prints nothing.
+static EACH: [Turn; 3] = [
+    (FIVE, Failer::Folder, (5, 256)),
+    (FIVE, Failer::Output(3), (2, 64)),
+    (QUIET, Failer::Output(0), (0, 1)),
+];
 
-// Each call of the folder and of the output fails in turn. A quiet translation prints nothing.
+// Each call of the folder and of the output fails in turn.
 #[test]
-fn each_failing_call_of_a_document(rt: HostRuntime) -> Result<(), Fail> {
-    assert!(rt; all_calls(&rt, rt.alloc())?);
-    Ok(())
+fn each_failing_call_of_a_document(rt: HostRuntime) {
+    none_wrong(&rt, first_unmet(&rt, rt.alloc(), &FILES, works(), &EACH));
 }

@@ -1,8 +1,9 @@
 // How runs end of which a call of the outside fails: what is told, what the names hold then, and that no draft is left.
 use crate::stories::{has, has_count};
-use crate::trials::{FOLDER, FileOf, Said, Unmade, WRITING, folder_of, plan, run_into};
-use outside::{Failing, MemFolder, MemSink};
+use crate::trials::{CALM, FOLDER, Failures, FileOf, NOTHING, Said, WRITING, run_over};
+use outside::{Failing, MemFolder};
 use std::alloc::Global;
+use std::process::Abort;
 use std::thread::Threads;
 
 /// The name of an output, and its bytes before and behind.
@@ -18,82 +19,8 @@ pub struct Work<'a> {
     pub outputs: &'a [Output<'a>],
 }
 
-/// The calls of the folder, of the output and of the error stream that fail, and how many bytes such a call of a stream
-/// takes first.
-#[derive(Clone, Copy)]
-pub struct Failures<'a> {
-    pub calls: &'a [Failing],
-    pub puts: &'a [Failing],
-    pub tells: &'a [Failing],
-    pub front: usize,
-}
-
-/// No call fails.
-pub const CALM: Failures<'static> = Failures {
-    calls: &[],
-    puts: &[],
-    tells: &[],
-    front: 0,
-};
-
-/// What a run said, and its folder.
-#[derive(Drop)]
-pub struct Ran {
-    pub said: Said,
-    pub folder: MemFolder,
-}
-
-/// A run of these words over these files.
-pub fn run_with<R: Threads + Sync>(
-    rt: &R,
-    alloc: Global,
-    files: &[FileOf<'_>],
-    line: &str,
-    failures: Failures<'_>,
-) -> Result<Ran, Unmade> {
-    let mut folder = folder_of(alloc, files, failures.calls)?;
-    let out = MemSink::in_part(alloc, plan(alloc, failures.puts)?, failures.front);
-    let err = MemSink::in_part(alloc, plan(alloc, failures.tells)?, failures.front);
-    let said = run_into(rt, alloc, &mut folder, line, (out, err))?;
-    Ok(Ran { said, folder })
-}
-
-// Whether the first so many outputs have their new bytes, and the others those from before.
-fn stand(
-    alloc: Global,
-    folder: &MemFolder,
-    outputs: &[Output<'_>],
-    count: usize,
-) -> Result<bool, Unmade> {
-    for (at, (name, before, behind)) in outputs.iter().enumerate() {
-        let bytes = if at < count { behind } else { before };
-        if !has(alloc, folder, name, bytes)? {
-            return Ok(false);
-        }
-    }
-    Ok(true)
-}
-
-/// How many outputs were published, where the others are as before, and there are so many files and no open draft.
-pub fn published(
-    alloc: Global,
-    folder: &MemFolder,
-    files: usize,
-    outputs: &[Output<'_>],
-) -> Result<Option<usize>, Unmade> {
-    if !has_count(folder, files)? {
-        return Ok(None);
-    }
-    for count in 0..=outputs.len() {
-        if stand(alloc, folder, outputs, count)? {
-            return Ok(Some(count));
-        }
-    }
-    Ok(None)
-}
-
 /// How a run ended, and how many outputs it published.
-#[derive(Clone, Copy, PartialEq, Eq, Debug)]
+#[derive(Clone, Copy)]
 pub enum End {
     /// By a fault of the outside, of which alone it told.
     Early(usize),
@@ -101,85 +28,307 @@ pub enum End {
     Warned(usize),
     /// With all that it does.
     Whole,
-    Wrong,
 }
 
-fn end_at(work: Work<'_>, fault: &str, said: &Said, count: usize) -> End {
-    if said.is(0, work.text, work.told) && count == work.outputs.len() {
-        End::Whole
-    } else if said.ends_in(2, work.text, fault) {
-        End::Early(count)
-    } else if said.ends_behind(2, work.text, work.told, fault) {
-        End::Warned(count)
-    } else {
-        End::Wrong
+/// Whose calls fail: the folder's, or the output's, of which such a call takes so many bytes first.
+#[derive(Clone, Copy)]
+pub enum Failer {
+    Folder,
+    Output(usize),
+}
+
+// These calls fail, and this is told of it.
+fn failures_of(failer: Failer, calls: &[Failing]) -> (Failures<'_>, &'static str) {
+    match failer {
+        Failer::Folder => (Failures { calls, ..CALM }, FOLDER),
+        Failer::Output(front) => (
+            Failures {
+                puts: calls,
+                front,
+                ..CALM
+            },
+            WRITING,
+        ),
     }
 }
 
-fn end_of(
+// Whether an output has its bytes from behind, or those from before.
+fn stands<R: Abort>(
+    rt: &R,
     alloc: Global,
+    folder: &MemFolder,
+    output: &Output<'_>,
+    is_made: bool,
+) -> bool {
+    let (name, before, behind) = *output;
+    has(
+        rt,
+        alloc,
+        folder,
+        (name, if is_made { behind } else { before }),
+    )
+}
+
+// Whether the first so many outputs have their new bytes, and the others those from before.
+fn stand<R: Abort>(
+    rt: &R,
+    alloc: Global,
+    folder: &MemFolder,
+    outputs: &[Output<'_>],
+    count: usize,
+) -> bool {
+    for (at, output) in outputs.iter().enumerate() {
+        if !stands(rt, alloc, folder, output, at < count) {
+            return false;
+        }
+    }
+    true
+}
+
+/// Whether the first so many outputs were published, where the others are as before, and there are so many files and no
+/// open draft.
+pub fn are_published<R: Abort>(
+    rt: &R,
+    alloc: Global,
+    folder: &MemFolder,
     files: usize,
-    work: Work<'_>,
-    fault: &str,
-    ran: &Ran,
-) -> Result<End, Unmade> {
-    let count = published(alloc, &ran.folder, files, work.outputs)?;
-    Ok(match count {
-        None => End::Wrong,
-        Some(count) => end_at(work, fault, &ran.said, count),
-    })
+    outputs: &[Output<'_>],
+    count: usize,
+) -> bool {
+    has_count(rt, folder, files) && stand(rt, alloc, folder, outputs, count)
 }
 
-/// How a run ends where these calls fail, by this fault where it ends early.
-pub fn ended<R: Threads + Sync>(
+// Whether this holds of any count.
+fn any_published<R: Abort>(
     rt: &R,
     alloc: Global,
-    files: &[FileOf<'_>],
-    work: Work<'_>,
-    fault: &str,
-    failures: Failures<'_>,
-) -> Result<End, Unmade> {
-    let ran = run_with(rt, alloc, files, work.line, failures)?;
-    end_of(alloc, files.len(), work, fault, &ran)
-}
-
-/// The first call of the folder whose failing doesn't end the run early, and how the run ends then.
-pub fn first_unmet<R: Threads + Sync>(
-    rt: &R,
-    alloc: Global,
-    files: &[FileOf<'_>],
-    work: Work<'_>,
-) -> Result<(u64, End), Unmade> {
-    for number in 1..=256u64 {
-        let calls: &[Failing] = &[Failing::Call(number)];
-        let end = ended(rt, alloc, files, work, FOLDER, Failures { calls, ..CALM })?;
-        if !matches!(end, End::Early(_) | End::Warned(_)) {
-            return Ok((number, end));
+    folder: &MemFolder,
+    files: usize,
+    outputs: &[Output<'_>],
+) -> bool {
+    for count in 0..=outputs.len() {
+        if are_published(rt, alloc, folder, files, outputs, count) {
+            return true;
         }
     }
-    Ok((0, End::Wrong))
+    false
 }
 
-/// The first call of the output whose failing, behind so many bytes, doesn't end the run early, and how the run ends
-/// then.
-pub fn first_put<R: Threads + Sync>(
+fn count_of(work: Work<'_>, end: End) -> usize {
+    match end {
+        End::Early(count) | End::Warned(count) => count,
+        End::Whole => work.outputs.len(),
+    }
+}
+
+fn says_end(said: &Said, work: Work<'_>, fault: &str, end: End) -> bool {
+    match end {
+        End::Early(_) => said.ends_in(work.text, fault),
+        End::Warned(_) => said.ends_behind(work.text, work.told, fault),
+        End::Whole => said.is(0, work.text, work.told),
+    }
+}
+
+/// Whether a run ends so where these calls fail.
+pub fn ends<R: Threads + Sync + Abort>(
     rt: &R,
     alloc: Global,
     files: &[FileOf<'_>],
     work: Work<'_>,
-    front: usize,
-) -> Result<(u64, End), Unmade> {
-    for number in 1..=64u64 {
-        let puts: &[Failing] = &[Failing::Call(number)];
-        let failures = Failures {
-            puts,
-            front,
-            ..CALM
-        };
-        let end = ended(rt, alloc, files, work, WRITING, failures)?;
-        if !matches!(end, End::Early(_) | End::Warned(_)) {
-            return Ok((number, end));
+    failer: Failer,
+    calls: &[Failing],
+    end: End,
+) -> bool {
+    let (failures, fault) = failures_of(failer, calls);
+    let ran = run_over(rt, alloc, files, (work.line, NOTHING), failures);
+    let count = count_of(work, end);
+    says_end(&ran.said, work, fault, end)
+        && are_published(rt, alloc, &ran.folder, files.len(), work.outputs, count)
+}
+
+/// The place of a run among some, the calls of the folder that fail, and how the run ends then.
+pub type Failed<'a> = (usize, &'a [Failing], End);
+
+fn fails_so<R: Threads + Sync + Abort>(
+    rt: &R,
+    alloc: Global,
+    files: &[FileOf<'_>],
+    works: &[Work<'_>],
+    row: &Failed<'_>,
+) -> bool {
+    let (place, calls, end) = *row;
+    match works.get(place) {
+        Some(work) => ends(rt, alloc, files, *work, Failer::Folder, calls, end),
+        None => false,
+    }
+}
+
+/// The first of these that ends otherwise.
+pub fn first_other<R: Threads + Sync + Abort>(
+    rt: &R,
+    alloc: Global,
+    files: &[FileOf<'_>],
+    works: &[Work<'_>],
+    rows: &[Failed<'_>],
+) -> Option<usize> {
+    for (at, row) in rows.iter().enumerate() {
+        if !fails_so(rt, alloc, files, works, row) {
+            return Some(at);
         }
     }
-    Ok((0, End::Wrong))
+    None
+}
+
+// Whether a run ends by a fault, where it tells of nothing else, or of all that is told before anything is published.
+fn says_fault(said: &Said, work: Work<'_>, fault: &str) -> bool {
+    said.ends_in(work.text, fault) || said.ends_behind(work.text, work.told, fault)
+}
+
+// Whether a run is ended by the failing of this call.
+fn is_cut<R: Threads + Sync + Abort>(
+    rt: &R,
+    alloc: Global,
+    files: &[FileOf<'_>],
+    work: Work<'_>,
+    failer: Failer,
+    call: u64,
+) -> bool {
+    let calls: &[Failing] = &[Failing::Call(call)];
+    let (failures, fault) = failures_of(failer, calls);
+    let ran = run_over(rt, alloc, files, (work.line, NOTHING), failures);
+    says_fault(&ran.said, work, fault)
+        && any_published(rt, alloc, &ran.folder, files.len(), work.outputs)
+}
+
+// The first call whose failing doesn't end the run.
+fn first_uncut<R: Threads + Sync + Abort>(
+    rt: &R,
+    alloc: Global,
+    files: &[FileOf<'_>],
+    work: Work<'_>,
+    failer: Failer,
+) -> u64 {
+    for call in 1..=256u64 {
+        if !is_cut(rt, alloc, files, work, failer, call) {
+            return call;
+        }
+    }
+    0
+}
+
+/// Whether each call ends the run by its failing, up to one that isn't made, whose number is above the first of these and
+/// not above the second.
+pub fn each_cuts<R: Threads + Sync + Abort>(
+    rt: &R,
+    alloc: Global,
+    files: &[FileOf<'_>],
+    work: Work<'_>,
+    failer: Failer,
+    (least, most): (u64, u64),
+) -> bool {
+    let call = first_uncut(rt, alloc, files, work, failer);
+    let calls: &[Failing] = &[Failing::Call(call)];
+    call > least && call <= most && ends(rt, alloc, files, work, failer, calls, End::Whole)
+}
+
+/// The place of a run among some, whose calls fail in turn, and the numbers between which the first call is that isn't
+/// made: above the first one, not above the second.
+pub type Turn = (usize, Failer, (u64, u64));
+
+fn turn_holds<R: Threads + Sync + Abort>(
+    rt: &R,
+    alloc: Global,
+    files: &[FileOf<'_>],
+    works: &[Work<'_>],
+    turn: &Turn,
+) -> bool {
+    let (place, failer, numbers) = *turn;
+    match works.get(place) {
+        Some(work) => each_cuts(rt, alloc, files, *work, failer, numbers),
+        None => false,
+    }
+}
+
+/// The first of these of which a call's failing isn't met.
+pub fn first_unmet<R: Threads + Sync + Abort>(
+    rt: &R,
+    alloc: Global,
+    files: &[FileOf<'_>],
+    works: &[Work<'_>],
+    turns: &[Turn],
+) -> Option<usize> {
+    for (at, turn) in turns.iter().enumerate() {
+        if !turn_holds(rt, alloc, files, works, turn) {
+            return Some(at);
+        }
+    }
+    None
+}
+
+/// Words, the calls of the folder that fail, the status, all that would be told, and how many outputs are published.
+pub type Untold<'a> = (&'a str, &'a [Failing], u8, &'a str, usize);
+
+/// A call of the error stream that fails, its number, and how many bytes it takes first.
+pub type Telling<'a> = (&'a [Failing], u64, usize);
+
+// Whether a run told the first part of a text that comes before this call fails, and of the call's own.
+fn is_told(said: &Said, told: &str, call: u64, front: usize) -> bool {
+    said.tells_front(told) && (call > 1 || said.tells_part(told, front))
+}
+
+// Whether a run ends so whose error stream fails so.
+fn ends_untold<'a, R: Threads + Sync + Abort>(
+    rt: &R,
+    alloc: Global,
+    files: &[FileOf<'_>],
+    outputs: &[Output<'_>],
+    untold: &Untold<'a>,
+    telling: &Telling<'a>,
+) -> bool {
+    let (line, calls, status, told, count) = *untold;
+    let (tells, call, front) = *telling;
+    let failures = Failures {
+        calls,
+        tells,
+        front,
+        ..CALM
+    };
+    let ran = run_over(rt, alloc, files, (line, NOTHING), failures);
+    ran.said.status == status
+        && is_told(&ran.said, told, call, front)
+        && are_published(rt, alloc, &ran.folder, files.len(), outputs, count)
+}
+
+// The first of these runs that ends otherwise.
+fn first_untold<'a, R: Threads + Sync + Abort>(
+    rt: &R,
+    alloc: Global,
+    files: &[FileOf<'_>],
+    outputs: &[Output<'_>],
+    rows: &[Untold<'a>],
+    telling: &Telling<'a>,
+) -> Option<usize> {
+    for (at, untold) in rows.iter().enumerate() {
+        if !ends_untold(rt, alloc, files, outputs, untold, telling) {
+            return Some(at);
+        }
+    }
+    None
+}
+
+/// The first of these failings of the error stream by which any of these runs ends otherwise.
+pub fn first_told<'a, R: Threads + Sync + Abort>(
+    rt: &R,
+    alloc: Global,
+    files: &[FileOf<'_>],
+    outputs: &[Output<'_>],
+    rows: &[Untold<'a>],
+    tellings: &[Telling<'a>],
+) -> Option<usize> {
+    for (at, telling) in tellings.iter().enumerate() {
+        if first_untold(rt, alloc, files, outputs, rows, telling).is_some() {
+            return Some(at);
+        }
+    }
+    None
 }

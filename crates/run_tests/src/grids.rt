@@ -1,5 +1,5 @@
 // Runs over ASCII grids.
-use crate::trials::{FileOf, Row, first_harmless, first_wrong};
+use crate::trials::{FileOf, NOTHING, Row, first_harmless, first_wrong, is_number, none_wrong};
 use std::test::*;
 
 const GRID: &[u8] = b"ncols 2\nnrows\t2\nxllcenter 10\nyllcenter 20\ncellsize 2\n1\t-2\n30 4\n";
@@ -94,17 +94,14 @@ static GRIDS: [Row<'static>; 14] = [
 ];
 
 #[test]
-fn grids(rt: HostRuntime) -> Result<(), Fail> {
-    assert_eq!(rt; first_wrong(&rt, rt.alloc(), &FILES, &GRIDS)?, GRIDS.len());
-    Ok(())
+fn grids(rt: HostRuntime) {
+    none_wrong(&rt, first_wrong(&rt, rt.alloc(), &FILES, &GRIDS));
 }
 
 // Each call of the folder fails in turn: the grid is opened and scanned, and it is opened and its row is read again.
 #[test]
-fn failing_calls_of_a_grid(rt: HostRuntime) -> Result<(), Fail> {
-    let line = "gdallocationinfo -valonly g.asc 1 1";
-    let files: [FileOf<'_>; 1] = [("g.asc", GRID)];
-    let found = first_harmless(&rt, rt.alloc(), &files, (line, (b"", 1)), "4\n")?;
-    assert!(rt; found == (5, true), "call {}", found.0);
-    Ok(())
+fn failing_calls_of_a_grid(rt: HostRuntime) {
+    let fed = ("gdallocationinfo -valonly g.asc 1 1", NOTHING);
+    let call = first_harmless(&rt, rt.alloc(), &[("g.asc", GRID)], fed, "4\n");
+    is_number(&rt, call, 5);
 }

@@ -1,10 +1,12 @@
 // Files and lines that are made to break a reader: what is told of them.
 use crate::mosaics::WIDE;
 use crate::trials::{
-    FileOf, Row, Trial, Unmade, first_failing, first_wrong, folder_of, run_in, run_over,
+    FileOf, Part, Row, Trial, add_parts, ends_so, first_wrong, folder_of, joined, none_wrong, put,
+    said_in, says, says_in,
 };
-use outside::{MemFolder, Name};
+use outside::MemFolder;
 use std::alloc::Global;
+use std::process::Abort;
 use std::test::*;
 use std::thread::Threads;
 
@@ -38,6 +40,10 @@ static FILES: [FileOf<'static>; 8] = [
     ("farther.vrt", FARTHER),
 ];
 
+fn files() -> &'static [FileOf<'static>] {
+    &FILES
+}
+
 static ROWS: [Row<'static>; 5] = [
     (
         "gdalinfo big.bsq",
@@ -67,146 +73,166 @@ static ROWS: [Row<'static>; 5] = [
 ];
 
 #[test]
-fn large_and_long(rt: HostRuntime) -> Result<(), Fail> {
-    assert_eq!(rt; first_wrong(&rt, rt.alloc(), &FILES, &ROWS)?, ROWS.len());
-    Ok(())
+fn large_and_long(rt: HostRuntime) {
+    none_wrong(&rt, first_wrong(&rt, rt.alloc(), files(), &ROWS));
 }
 
-// A document of so many elements, each in the one before.
-fn nested(alloc: Global, depth: usize) -> Result<Vec<u8>, Unmade> {
-    let mut text = Vec::new(alloc);
-    text.extend_from_slice(b"<VRTDataset rasterXSize=\"1\" rasterYSize=\"1\">")?;
-    for _ in 1..depth {
-        text.extend_from_slice(b"<Metadata>")?;
-    }
-    Ok(text)
-}
+// How many elements a document has, each in the one before, and what is told of it.
+type Depth<'a> = (usize, &'a str);
 
 // The element of depth 65 is one too many; without it, the text ends too early.
-static DEPTHS: [(usize, &str); 2] = [
+static DEPTHS: [Depth<'static>; 2] = [
     (65, "ERROR 4: deep.vrt: malformed vrt (6)\n"),
     (64, "ERROR 4: deep.vrt: malformed vrt (1) at 674\n"),
 ];
 
-// The first of these depths of which something else is told, or how many depths there are.
-fn first_wrong_depth<R: Threads + Sync>(rt: &R, alloc: Global) -> Result<usize, Unmade> {
-    for (at, (depth, err)) in DEPTHS.iter().enumerate() {
-        let text = nested(alloc, *depth)?;
-        let row = ("gdalinfo deep.vrt", 1, "", *err);
-        if first_wrong(rt, alloc, &[("deep.vrt", &text)], &[row])? == 0 {
-            return Ok(at);
+// Whether this is told of such a document.
+fn is_deep_so<R: Threads + Sync + Abort>(rt: &R, alloc: Global, depth: &Depth<'_>) -> bool {
+    let (count, err) = *depth;
+    let parts: [Part<'_>; 2] = [
+        (b"<VRTDataset rasterXSize=\"1\" rasterYSize=\"1\">", 1),
+        (b"<Metadata>", count.saturating_sub(1)),
+    ];
+    let text = joined(rt, alloc, &parts);
+    let row = ("gdalinfo deep.vrt", 1, "", err);
+    says(rt, alloc, &[("deep.vrt", &text)], &row)
+}
+
+// The first of these depths of which something else is told.
+fn first_wrong_depth<R: Threads + Sync + Abort>(
+    rt: &R,
+    alloc: Global,
+    depths: &[Depth<'_>],
+) -> Option<usize> {
+    for (at, depth) in depths.iter().enumerate() {
+        if !is_deep_so(rt, alloc, depth) {
+            return Some(at);
         }
     }
-    Ok(DEPTHS.len())
+    None
 }
 
 #[test]
-fn deep_documents(rt: HostRuntime) -> Result<(), Fail> {
-    assert_eq!(rt; first_wrong_depth(&rt, rt.alloc())?, DEPTHS.len());
-    Ok(())
+fn deep_documents(rt: HostRuntime) {
+    none_wrong(&rt, first_wrong_depth(&rt, rt.alloc(), &DEPTHS));
 }
 
 // Whether the first bytes of a document are refused where the text goes wrong.
-fn is_refused<R: Threads + Sync>(rt: &R, alloc: Global, front: &[u8]) -> Result<bool, Unmade> {
-    let said = run_over(rt, alloc, &[("cut.vrt", front)], "gdalinfo cut.vrt")?;
+fn is_refused<R: Threads + Sync + Abort>(
+    rt: &R,
+    alloc: Global,
+    document: &[u8],
+    len: usize,
+) -> bool {
+    let (front, _) = document.split_at(len.min(document.len()));
+    let mut folder = folder_of(rt, alloc, &[("cut.vrt", front)], &[]);
+    let said = said_in(rt, alloc, &mut folder, "gdalinfo cut.vrt");
     let told = said.err.got();
-    Ok(said.status == 1 && told.starts_with(b"ERROR 4: cut.vrt: malformed vrt (1) at "))
+    said.status == 1 && told.starts_with(b"ERROR 4: cut.vrt: malformed vrt (1) at ")
 }
 
-// How many bytes of a document stand in front of its last line feed and the `>` before it.
-fn uncut() -> usize {
-    WIDE.len().saturating_sub(2)
-}
-
-// The least number of first bytes of a document, up to all but its end, of which something else is told, or one more
-// than there are.
-fn first_unrefused_cut<R: Threads + Sync>(rt: &R, alloc: Global) -> Result<usize, Unmade> {
-    for len in 0..=uncut() {
-        let (front, _) = WIDE.split_at(len.min(WIDE.len()));
-        if !is_refused(rt, alloc, front)? {
-            return Ok(len);
+// The least number of first bytes of a document of which something else is told. It stands in front of the document's
+// last line feed and of the `>` before it.
+fn first_unrefused_cut<R: Threads + Sync + Abort>(
+    rt: &R,
+    alloc: Global,
+    document: &[u8],
+) -> Option<usize> {
+    for len in 0..document.len().saturating_sub(1) {
+        if !is_refused(rt, alloc, document, len) {
+            return Some(len);
         }
     }
-    Ok(uncut().saturating_add(1))
+    None
 }
 
 #[test]
-fn cut_documents(rt: HostRuntime) -> Result<(), Fail> {
-    assert_eq!(rt;
-        first_unrefused_cut(&rt, rt.alloc())?,
-        WIDE.len().saturating_sub(1)
-    );
-    Ok(())
+fn cut_documents(rt: HostRuntime) {
+    none_wrong(&rt, first_unrefused_cut(&rt, rt.alloc(), WIDE));
 }
 
-// A line of so many digits.
-fn long_line(alloc: Global, len: usize) -> Result<Vec<u8>, Unmade> {
-    let mut line = Vec::new(alloc);
-    line.resize(len, b'0')?;
-    line.extend_from_slice(b"\n0 0\n")?;
-    Ok(line)
-}
+// A line of so many digits, and a point.
+static LINES: [Part<'static>; 2] = [(b"0", 4097), (b"\n0 0\n", 1)];
 
-fn try_lines<R: Threads + Sync>(rt: &R, alloc: Global) -> Result<usize, Unmade> {
-    let line = long_line(alloc, 4097)?;
-    let words = "gdallocationinfo -valonly one.bil";
+fn is_long_refused<R: Threads + Sync + Abort>(rt: &R, alloc: Global) -> bool {
+    let line = joined(rt, alloc, &LINES);
     let trial: Trial<'_> = (
-        (words, (&line, 65_536)),
+        ("gdallocationinfo -valonly one.bil", (&line, 65_536)),
         (&[], &[], &[]),
         (1, "", "ERROR 5: input line 1 is no point\n"),
     );
-    first_failing(rt, alloc, &FILES, &[trial])
+    ends_so(rt, alloc, files(), &trial)
 }
 
 #[test]
-fn a_long_line(rt: HostRuntime) -> Result<(), Fail> {
-    assert_eq!(rt; try_lines(&rt, rt.alloc())?, 1);
-    Ok(())
+fn a_long_line(rt: HostRuntime) {
+    assert!(rt; is_long_refused(&rt, rt.alloc()));
 }
+
+static FRONT: [Part<'static>; 1] = [(
+    b"<VRTDataset rasterXSize='1' rasterYSize='1'><VRTRasterBand>",
+    1,
+)];
+
+static BACK: [Part<'static>; 1] = [(b"</VRTRasterBand></VRTDataset>", 1)];
 
 // A mosaic of one pixel that shows the file of a name twice.
-fn twice(alloc: Global, name: &str) -> Result<String, Unmade> {
-    let mut text = String::from_str(
-        alloc,
-        "<VRTDataset rasterXSize='1' rasterYSize='1'><VRTRasterBand>",
-    )?;
-    for _ in 0..2 {
-        text.push_str("<SimpleSource><SourceFilename>")?;
-        text.push_str(name)?;
-        text.push_str("</SourceFilename></SimpleSource>")?;
-    }
-    text.push_str("</VRTRasterBand></VRTDataset>")?;
-    Ok(text)
+fn twice<R: Abort>(rt: &R, alloc: Global, name: &[u8]) -> Vec<u8> {
+    let source: [Part<'_>; 3] = [
+        (b"<SimpleSource><SourceFilename>", 1),
+        (name, 1),
+        (b"</SourceFilename></SimpleSource>", 1),
+    ];
+    let mut text = joined(rt, alloc, &FRONT);
+    add_parts(rt, &mut text, &source);
+    add_parts(rt, &mut text, &source);
+    add_parts(rt, &mut text, &BACK);
+    text
 }
 
-static CHAIN: [&str; 17] = [
-    "m1.vrt", "m2.vrt", "m3.vrt", "m4.vrt", "m5.vrt", "m6.vrt", "m7.vrt", "m8.vrt", "m9.vrt",
-    "m10.vrt", "m11.vrt", "m12.vrt", "m13.vrt", "m14.vrt", "m15.vrt", "m16.vrt", "one.bil",
+// Mosaics, and the file that each shows twice.
+static CHAIN: [(&str, &str); 16] = [
+    ("m1.vrt", "m2.vrt"),
+    ("m2.vrt", "m3.vrt"),
+    ("m3.vrt", "m4.vrt"),
+    ("m4.vrt", "m5.vrt"),
+    ("m5.vrt", "m6.vrt"),
+    ("m6.vrt", "m7.vrt"),
+    ("m7.vrt", "m8.vrt"),
+    ("m8.vrt", "m9.vrt"),
+    ("m9.vrt", "m10.vrt"),
+    ("m10.vrt", "m11.vrt"),
+    ("m11.vrt", "m12.vrt"),
+    ("m12.vrt", "m13.vrt"),
+    ("m13.vrt", "m14.vrt"),
+    ("m14.vrt", "m15.vrt"),
+    ("m15.vrt", "m16.vrt"),
+    ("m16.vrt", "one.bil"),
 ];
 
-// Sixteen mosaics, each of which shows the next twice, and the last a file.
-fn chain(alloc: Global) -> Result<MemFolder, Unmade> {
-    let mut folder = folder_of(alloc, &FILES, &[])?;
-    for (name, next) in CHAIN.iter().zip(CHAIN.iter().skip(1)) {
-        let text = twice(alloc, next)?;
-        folder.put(&Name::read(alloc, name)?, text.as_bytes())?;
-    }
-    Ok(folder)
+fn put_link<R: Abort>(rt: &R, alloc: Global, folder: &mut MemFolder, link: &(&str, &str)) {
+    let (name, next) = *link;
+    let text = twice(rt, alloc, next.as_bytes());
+    put(rt, alloc, folder, (name, &text));
 }
 
-fn try_chain<R: Threads + Sync>(rt: &R, alloc: Global) -> Result<bool, Unmade> {
-    let mut folder = chain(alloc)?;
-    let said = run_in(
-        rt,
-        alloc,
-        &mut folder,
-        "gdallocationinfo -valonly m1.vrt 0 0",
-    )?;
-    Ok(said.is(0, "7\n", ""))
+// Mosaics, each of which shows the next twice, and the last a file.
+fn chained<R: Abort>(rt: &R, alloc: Global, links: &[(&str, &str)]) -> MemFolder {
+    let mut folder = folder_of(rt, alloc, files(), &[]);
+    for link in links {
+        put_link(rt, alloc, &mut folder, link);
+    }
+    folder
+}
+
+const DOUBLED: Row<'static> = ("gdallocationinfo -valonly m1.vrt 0 0", 0, "7\n", "");
+
+fn is_doubled<R: Threads + Sync + Abort>(rt: &R, alloc: Global) -> bool {
+    let mut folder = chained(rt, alloc, &CHAIN);
+    says_in(rt, alloc, &mut folder, &DOUBLED)
 }
 
 #[test]
-fn mosaics_that_double(rt: HostRuntime) -> Result<(), Fail> {
-    assert!(rt; try_chain(&rt, rt.alloc())?);
-    Ok(())
+fn mosaics_that_double(rt: HostRuntime) {
+    assert!(rt; is_doubled(&rt, rt.alloc()));
 }

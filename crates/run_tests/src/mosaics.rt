@@ -1,6 +1,10 @@
 // Runs over mosaics.
-use crate::trials::{FileOf, Row, Unmade, first_harmless, first_wrong, run_over};
+use crate::trials::{
+    FileOf, NOTHING, Part, Row, first_harmless, first_wrong, folder_of, is_number, joined,
+    none_wrong, said_in,
+};
 use std::alloc::Global;
+use std::process::Abort;
 use std::test::*;
 use std::thread::Threads;
 
@@ -119,58 +123,62 @@ static ROWS: [Row<'static>; 9] = [
 ];
 
 #[test]
-fn mosaics(rt: HostRuntime) -> Result<(), Fail> {
-    assert_eq!(rt; first_wrong(&rt, rt.alloc(), &FILES, &ROWS)?, ROWS.len());
-    Ok(())
+fn mosaics(rt: HostRuntime) {
+    none_wrong(&rt, first_wrong(&rt, rt.alloc(), &FILES, &ROWS));
 }
 
 // A source whose name would be as many bytes long before it is normalised, and what is told.
-static NAMES: [(usize, &str); 2] = [(4096, ""), (4097, "ERROR 6: limit of name passed (4097)\n")];
+type Long<'a> = (usize, &'a str);
+
+static NAMES: [Long<'static>; 2] = [(4096, ""), (4097, "ERROR 6: limit of name passed (4097)\n")];
 
 // A document whose source has a name of so many bytes, with the name of the folder and the slash that stand before it.
-fn with_name(alloc: Global, len: usize) -> Result<Vec<u8>, Unmade> {
-    let mut document = Vec::new(alloc);
-    document.extend_from_slice(
-        b"<VRTDataset rasterXSize='1' rasterYSize='1'><VRTRasterBand><SimpleSource><SourceFilename relativeToVRT='1'>",
-    )?;
-    document.resize(document.len().saturating_add(len.saturating_sub(2)), b'n')?;
-    document.extend_from_slice(b"</SourceFilename></SimpleSource></VRTRasterBand></VRTDataset>")?;
-    Ok(document)
+fn with_name<R: Abort>(rt: &R, alloc: Global, len: usize) -> Vec<u8> {
+    let parts: [Part<'_>; 3] = [
+        (
+            b"<VRTDataset rasterXSize='1' rasterYSize='1'><VRTRasterBand><SimpleSource><SourceFilename relativeToVRT='1'>",
+            1,
+        ),
+        (b"n", len.saturating_sub(2)),
+        (
+            b"</SourceFilename></SimpleSource></VRTRasterBand></VRTDataset>",
+            1,
+        ),
+    ];
+    joined(rt, alloc, &parts)
 }
 
 // Whether this is told of such a document.
-fn tells_name<R: Threads + Sync>(
-    rt: &R,
-    alloc: Global,
-    len: usize,
-    err: &str,
-) -> Result<bool, Unmade> {
-    let document = with_name(alloc, len)?;
-    let said = run_over(rt, alloc, &[("d/m.vrt", &document)], "gdalinfo d/m.vrt")?;
-    Ok(said.tells(err))
+fn tells_name<R: Threads + Sync + Abort>(rt: &R, alloc: Global, long: &Long<'_>) -> bool {
+    let (len, err) = *long;
+    let document = with_name(rt, alloc, len);
+    let mut folder = folder_of(rt, alloc, &[("d/m.vrt", &document)], &[]);
+    said_in(rt, alloc, &mut folder, "gdalinfo d/m.vrt").tells(err)
 }
 
-// The first of these names of which something else is told, or how many names there are.
-fn first_wrong_name<R: Threads + Sync>(rt: &R, alloc: Global) -> Result<usize, Unmade> {
-    for (at, (len, err)) in NAMES.iter().enumerate() {
-        if !tells_name(rt, alloc, *len, err)? {
-            return Ok(at);
+// The first of these names of which something else is told.
+fn first_wrong_name<R: Threads + Sync + Abort>(
+    rt: &R,
+    alloc: Global,
+    names: &[Long<'_>],
+) -> Option<usize> {
+    for (at, long) in names.iter().enumerate() {
+        if !tells_name(rt, alloc, long) {
+            return Some(at);
         }
     }
-    Ok(NAMES.len())
+    None
 }
 
 #[test]
-fn long_names(rt: HostRuntime) -> Result<(), Fail> {
-    assert_eq!(rt; first_wrong_name(&rt, rt.alloc())?, NAMES.len());
-    Ok(())
+fn long_names(rt: HostRuntime) {
+    none_wrong(&rt, first_wrong_name(&rt, rt.alloc(), &NAMES));
 }
 
 // Each call of the folder fails in turn: the document is opened and read, and nothing else is.
 #[test]
-fn failing_calls_of_a_mosaic(rt: HostRuntime) -> Result<(), Fail> {
-    let fed = ("gdalinfo wide.vrt", (b"".as_slice(), 1));
-    let found = first_harmless(&rt, rt.alloc(), &FILES, fed, WIDE_REPORT)?;
-    assert!(rt; found == (3, true), "call {}", found.0);
-    Ok(())
+fn failing_calls_of_a_mosaic(rt: HostRuntime) {
+    let fed = ("gdalinfo wide.vrt", NOTHING);
+    let call = first_harmless(&rt, rt.alloc(), &FILES, fed, WIDE_REPORT);
+    is_number(&rt, call, 3);
 }

@@ -1,10 +1,11 @@
 // Runs over the points of an input, and over mosaics of mosaics.
 use crate::trials::{
-    Calls, FOLDER, Fed, FileOf, READING, Row, Trial, Unmade, WRITING, first_failing,
-    first_harmless, first_wrong, left_of,
+    CALM, Calls, FOLDER, Failures, Fed, FileOf, READING, Row, Trial, WRITING, ends_so,
+    first_failing, first_harmless, first_wrong, is_number, none_wrong, run_over,
 };
 use outside::{Failing, Method};
 use std::alloc::Global;
+use std::process::Abort;
 use std::test::*;
 use std::thread::Threads;
 
@@ -72,6 +73,10 @@ static FILES: [FileOf<'static>; 19] = [
         b"NROWS 2\nNCOLS 2\nULXMAP 10.5\nULYMAP 49.5\nXDIM 1\nYDIM 1\n",
     ),
 ];
+
+fn files() -> &'static [FileOf<'static>] {
+    &FILES
+}
 
 static ROWS: [Row<'static>; 16] = [
     (
@@ -143,12 +148,12 @@ static ROWS: [Row<'static>; 16] = [
 ];
 
 #[test]
-fn points(rt: HostRuntime) -> Result<(), Fail> {
-    assert_eq!(rt; first_wrong(&rt, rt.alloc(), &FILES, &ROWS)?, ROWS.len());
-    Ok(())
+fn points(rt: HostRuntime) {
+    none_wrong(&rt, first_wrong(&rt, rt.alloc(), files(), &ROWS));
 }
 
-const CALM: Calls<'static> = (&[], &[], &[]);
+// No call fails.
+const NONE: Calls<'static> = (&[], &[], &[]);
 
 // The words, the input, and the status, what is printed and what is told.
 type Answer<'a> = (&'a str, &'a [u8], (u8, &'a str, &'a str));
@@ -186,49 +191,50 @@ static INPUTS: [Answer<'static>; 6] = [
     ),
 ];
 
-// The first of these runs over an input in pieces of at most so many bytes that says something else than is listed, or
-// how many runs there are.
-fn first_unfed<R: Threads + Sync>(
+// Whether a run over an input in pieces of at most so many bytes says what is listed.
+fn is_fed_by<R: Threads + Sync + Abort>(
     rt: &R,
     alloc: Global,
-    rows: &[Answer<'_>],
+    answer: &Answer<'_>,
     most: usize,
-) -> Result<usize, Unmade> {
-    for (at, (line, input, said)) in rows.iter().enumerate() {
-        let trial: Trial<'_> = ((*line, (*input, most)), CALM, *said);
-        if first_failing(rt, alloc, &FILES, &[trial])? == 0 {
-            return Ok(at);
-        }
-    }
-    Ok(rows.len())
+) -> bool {
+    let (line, input, said) = *answer;
+    ends_so(rt, alloc, files(), &((line, (input, most)), NONE, said))
 }
 
-// The same, for three sizes of the pieces.
-fn first_unfed_of<R: Threads + Sync>(
+// The same, with pieces of each of these sizes.
+fn is_fed<R: Threads + Sync + Abort>(
+    rt: &R,
+    alloc: Global,
+    answer: &Answer<'_>,
+    sizes: &[usize],
+) -> bool {
+    for most in sizes {
+        if !is_fed_by(rt, alloc, answer, *most) {
+            return false;
+        }
+    }
+    true
+}
+
+// The first of these runs that says something else with pieces of one of these sizes.
+fn first_unfed<R: Threads + Sync + Abort>(
     rt: &R,
     alloc: Global,
     rows: &[Answer<'_>],
-    sizes: [usize; 3],
-) -> Result<(usize, usize), Unmade> {
-    for most in sizes {
-        let at = first_unfed(rt, alloc, rows, most)?;
-        if at < rows.len() {
-            return Ok((most, at));
+    sizes: &[usize],
+) -> Option<usize> {
+    for (at, answer) in rows.iter().enumerate() {
+        if !is_fed(rt, alloc, answer, sizes) {
+            return Some(at);
         }
     }
-    Ok((0, rows.len()))
+    None
 }
 
 #[test]
-fn inputs(rt: HostRuntime) -> Result<(), Fail> {
-    let wrong = first_unfed_of(&rt, rt.alloc(), &INPUTS, [1, 5, 65_536])?;
-    assert!(rt;
-        wrong == (0, INPUTS.len()),
-        "pieces of {}, row {}",
-        wrong.0,
-        wrong.1
-    );
-    Ok(())
+fn inputs(rt: HostRuntime) {
+    none_wrong(&rt, first_unfed(&rt, rt.alloc(), &INPUTS, &[1, 5, 65_536]));
 }
 
 // A line that is no point is told with its number, behind the answers to those before it.
@@ -239,10 +245,8 @@ static BAD: [Answer<'static>; 1] = [(
 )];
 
 #[test]
-fn bad_points(rt: HostRuntime) -> Result<(), Fail> {
-    let wrong = first_unfed_of(&rt, rt.alloc(), &BAD, [1, 7, 65_536])?;
-    assert!(rt; wrong == (0, BAD.len()), "pieces of {}", wrong.0);
-    Ok(())
+fn bad_points(rt: HostRuntime) {
+    none_wrong(&rt, first_unfed(&rt, rt.alloc(), &BAD, &[1, 7, 65_536]));
 }
 
 const TWO: &str = "gdallocationinfo -valonly two.bil";
@@ -254,7 +258,7 @@ const FIVE: &[u8] = b"0 0\n9";
 static FED: [Trial<'static>; 5] = [
     (
         ("gdallocationinfo two.bil", (b"9 9\n", 2)),
-        CALM,
+        NONE,
         (
             0,
             "Report:\n  Location: (9P,9L)\n  Location is off this file! No further details to report.\n",
@@ -284,19 +288,31 @@ static FED: [Trial<'static>; 5] = [
 ];
 
 #[test]
-fn failing_inputs(rt: HostRuntime) -> Result<(), Fail> {
-    assert_eq!(rt; first_failing(&rt, rt.alloc(), &FILES, &FED)?, FED.len());
-    Ok(())
+fn failing_inputs(rt: HostRuntime) {
+    none_wrong(&rt, first_failing(&rt, rt.alloc(), files(), &FED));
 }
 
 // An answer that can't be put ends the run before the next piece is taken.
 const PIECES: Fed<'static> = ("gdallocationinfo -valonly two.bil", (b"0 0\n1 0\n2 0\n", 4));
 
+// How much of the input is left where these calls of the output fail.
+fn left_of<R: Threads + Sync + Abort>(
+    rt: &R,
+    alloc: Global,
+    fed: Fed<'_>,
+    puts: &[Failing],
+) -> u64 {
+    let ran = run_over(rt, alloc, files(), fed, Failures { puts, ..CALM });
+    ran.input.left().len() as u64
+}
+
 #[test]
-fn pieces_left(rt: HostRuntime) -> Result<(), Fail> {
-    let left = left_of(&rt, rt.alloc(), &FILES, PIECES, &[Failing::Call(1)])?;
-    assert_eq!(rt; left, 8);
-    Ok(())
+fn pieces_left(rt: HostRuntime) {
+    is_number(
+        &rt,
+        left_of(&rt, rt.alloc(), PIECES, &[Failing::Call(1)]),
+        8,
+    );
 }
 
 // Three points of a mosaic. A run opens the document and each raster with its header, and reads the document and the
@@ -375,28 +391,19 @@ static STREAMS: [Trial<'static>; 9] = [
 
 // Each call of the folder fails in turn.
 #[test]
-fn failing_calls_of_points(rt: HostRuntime) -> Result<(), Fail> {
-    let found = first_harmless(&rt, rt.alloc(), &FILES, MOSAIC, "5\n-1\n9\n")?;
-    assert!(rt; found == (OPENS + READS + 1, true), "call {}", found.0);
-    Ok(())
+fn failing_calls_of_points(rt: HostRuntime) {
+    let call = first_harmless(&rt, rt.alloc(), files(), MOSAIC, "5\n-1\n9\n");
+    is_number(&rt, call, OPENS + READS + 1);
 }
 
 #[test]
-fn last_calls_of_points(rt: HostRuntime) -> Result<(), Fail> {
-    assert_eq!(rt;
-        first_failing(&rt, rt.alloc(), &FILES, &BEHIND)?,
-        BEHIND.len()
-    );
-    Ok(())
+fn last_calls_of_points(rt: HostRuntime) {
+    none_wrong(&rt, first_failing(&rt, rt.alloc(), files(), &BEHIND));
 }
 
 #[test]
-fn failing_streams_of_points(rt: HostRuntime) -> Result<(), Fail> {
-    assert_eq!(rt;
-        first_failing(&rt, rt.alloc(), &FILES, &STREAMS)?,
-        STREAMS.len()
-    );
-    Ok(())
+fn failing_streams_of_points(rt: HostRuntime) {
+    none_wrong(&rt, first_failing(&rt, rt.alloc(), files(), &STREAMS));
 }
 
 // Seventeen mosaics of one pixel, each of which names the next one, and the last one a file.
@@ -501,10 +508,6 @@ static DEPTHS: [Row<'static>; 2] = [
 ];
 
 #[test]
-fn nested_mosaics(rt: HostRuntime) -> Result<(), Fail> {
-    assert_eq!(rt;
-        first_wrong(&rt, rt.alloc(), &NESTED, &DEPTHS)?,
-        DEPTHS.len()
-    );
-    Ok(())
+fn nested_mosaics(rt: HostRuntime) {
+    none_wrong(&rt, first_wrong(&rt, rt.alloc(), &NESTED, &DEPTHS));
 }

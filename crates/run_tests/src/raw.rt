@@ -1,10 +1,9 @@
 use crate::trials::{
-    FileOf, Row, Trial, Unmade, WRITING, first_failing, first_harmless, first_wrong,
+    FileOf, NOTHING, Part, Row, Trial, WRITING, first_failing, first_harmless, first_wrong,
+    is_number, joined, none_wrong,
 };
 use outside::{Failing, Method};
-use std::alloc::Global;
 use std::test::*;
-use std::thread::Threads;
 
 const TWELVE: [u8; 12] = [1, 2, 3, 4, 5, 6, 7, 8, 9, 10, 11, 12];
 
@@ -32,6 +31,10 @@ static FILES: [FileOf<'static>; 14] = [
         b"NROWS 1\nNCOLS 1\nNBITS 16\nBYTEORDER M\nPIXELTYPE SIGNEDINT\n",
     ),
 ];
+
+fn files() -> &'static [FileOf<'static>] {
+    &FILES
+}
 
 static VALUES: [Row<'static>; 9] = [
     ("gdallocationinfo -valonly a.bil 2 1", 0, "9\n12\n", ""),
@@ -71,12 +74,8 @@ static VALUES: [Row<'static>; 9] = [
 ];
 
 #[test]
-fn values(rt: HostRuntime) -> Result<(), Fail> {
-    assert_eq!(rt;
-        first_wrong(&rt, rt.alloc(), &FILES, &VALUES)?,
-        VALUES.len()
-    );
-    Ok(())
+fn values(rt: HostRuntime) {
+    none_wrong(&rt, first_wrong(&rt, rt.alloc(), files(), &VALUES));
 }
 
 static REFUSALS: [Row<'static>; 16] = [
@@ -169,47 +168,38 @@ static REFUSALS: [Row<'static>; 16] = [
 ];
 
 #[test]
-fn refusals(rt: HostRuntime) -> Result<(), Fail> {
-    assert_eq!(rt;
-        first_wrong(&rt, rt.alloc(), &FILES, &REFUSALS)?,
-        REFUSALS.len()
-    );
-    Ok(())
+fn refusals(rt: HostRuntime) {
+    none_wrong(&rt, first_wrong(&rt, rt.alloc(), files(), &REFUSALS));
 }
 
 const LINE: &str = "gdallocationinfo -valonly a.bil 2 1";
 
 // Each call of the folder fails in turn; nothing was printed then.
 #[test]
-fn failing_calls(rt: HostRuntime) -> Result<(), Fail> {
-    let found = first_harmless(&rt, rt.alloc(), &FILES, (LINE, (b"", 1)), "9\n12\n")?;
-    assert!(rt; found == (7, true), "call {}", found.0);
-    Ok(())
+fn failing_calls(rt: HostRuntime) {
+    let call = first_harmless(&rt, rt.alloc(), files(), (LINE, NOTHING), "9\n12\n");
+    is_number(&rt, call, 7);
 }
 
 static PUTS: [Trial<'static>; 1] = [(
-    (LINE, (b"", 1)),
+    (LINE, NOTHING),
     (&[], &[], &[Failing::Of(Method::Put, 1)]),
     (2, "", WRITING),
 )];
 
 #[test]
-fn a_failing_output(rt: HostRuntime) -> Result<(), Fail> {
-    assert_eq!(rt; first_failing(&rt, rt.alloc(), &FILES, &PUTS)?, PUTS.len());
-    Ok(())
+fn a_failing_output(rt: HostRuntime) {
+    none_wrong(&rt, first_failing(&rt, rt.alloc(), files(), &PUTS));
 }
 
 static WIDEST: [Row<'static>; 1] = [("gdallocationinfo -valonly w.bil 4194303 0", 0, "7\n", "")];
 
-fn try_widest<R: Threads + Sync>(rt: &R, alloc: Global) -> Result<usize, Unmade> {
-    let bytes = vec![in alloc; 7u8; 4_194_304]?;
-    let files: [FileOf<'_>; 2] = [("w.hdr", b"NROWS 1\nNCOLS 4194304\n"), ("w.bil", &bytes)];
-    first_wrong(rt, alloc, &files, &WIDEST)
-}
+static SEVENS: [Part<'static>; 1] = [(&[7], 4_194_304)];
 
 // The greatest width is read, to its last column.
 #[test]
-fn the_widest_raster(rt: HostRuntime) -> Result<(), Fail> {
-    assert_eq!(rt; try_widest(&rt, rt.alloc())?, WIDEST.len());
-    Ok(())
+fn the_widest_raster(rt: HostRuntime) {
+    let bytes = joined(&rt, rt.alloc(), &SEVENS);
+    let files: [FileOf<'_>; 2] = [("w.hdr", b"NROWS 1\nNCOLS 4194304\n"), ("w.bil", &bytes)];
+    none_wrong(&rt, first_wrong(&rt, rt.alloc(), &files, &WIDEST));
 }

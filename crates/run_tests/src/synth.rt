@@ -1,10 +1,11 @@
 // The run from a number: what it prints, the files that it makes and their order, and how it ends where a call of the
 // outside fails.
-use crate::ends::{CALM, End, Failures, Output, Work, ended, first_put, first_unmet};
+use crate::ends::{End, Failed, Failer, Output, Turn, Work, first_other, first_unmet};
 use crate::stories::{first_unrefused, has_all, has_count, says_all};
-use crate::trials::{FOLDER, FileOf, Row, Unmade, first_wrong, folder_of};
-use outside::{Failing, MemFolder, Method};
+use crate::trials::{FileOf, Row, first_wrong, folder_of, none_wrong};
+use outside::{Failing, MemFolder, Method, Name};
 use std::alloc::Global;
+use std::process::Abort;
 use std::test::*;
 use std::thread::Threads;
 
@@ -33,9 +34,8 @@ static TOLD: [Row<'static>; 8] = [
 ];
 
 #[test]
-fn what_is_told(rt: HostRuntime) -> Result<(), Fail> {
-    assert_eq!(rt; first_wrong(&rt, rt.alloc(), &[], &TOLD)?, TOLD.len());
-    Ok(())
+fn what_is_told(rt: HostRuntime) {
+    none_wrong(&rt, first_wrong(&rt, rt.alloc(), &[], &TOLD));
 }
 
 const FIRST: &str = "ERROR 1: word 1 doesn't fit\n";
@@ -66,12 +66,8 @@ static REFUSED: [Row<'static>; 17] = [
 ];
 
 #[test]
-fn refused_words(rt: HostRuntime) -> Result<(), Fail> {
-    assert_eq!(rt;
-        first_unrefused(&rt, rt.alloc(), &[], &REFUSED)?,
-        REFUSED.len()
-    );
-    Ok(())
+fn refused_words(rt: HostRuntime) {
+    none_wrong(&rt, first_unrefused(&rt, rt.alloc(), &[], &REFUSED));
 }
 
 // A run over no file, and what other commands then tell of its files: pixels of two tiles by the inner mosaic; by the
@@ -188,33 +184,38 @@ YDIM           1
     ),
 ];
 
-// Whether the files of a folder came in this order.
-fn came_so(folder: &MemFolder, names: &[&str]) -> Result<bool, Unmade> {
-    let came = folder.names()?;
+// Whether a list has a name at a place.
+fn has_at(came: &[Name], at: usize, wanted: &str) -> bool {
+    matches!(came.get(at), Some(name) if name.as_str() == wanted)
+}
+
+// Whether a list begins with these names.
+fn begins(came: &[Name], names: &[&str]) -> bool {
     for (at, wanted) in names.iter().enumerate() {
-        let is_it = match came.as_slice().get(at) {
-            Some(name) => name.as_str() == *wanted,
-            None => false,
-        };
-        if !is_it {
-            return Ok(false);
+        if !has_at(came, at, wanted) {
+            return false;
         }
     }
-    Ok(true)
+    true
+}
+
+// Whether the files of a folder are these, and came in this order.
+fn came_so<R: Abort>(rt: &R, folder: &MemFolder, names: &[&str]) -> bool {
+    let came = folder.names().expect(rt, "memory");
+    begins(came.as_slice(), names) && has_count(rt, folder, names.len())
 }
 
 // Whether a run makes the named files alone, in their order, and they hold what they are to hold.
-fn makes_all<R: Threads + Sync>(rt: &R, alloc: Global) -> Result<bool, Unmade> {
-    let mut folder = folder_of(alloc, &[], &[])?;
-    let said = says_all(rt, alloc, &mut folder, &READ_BACK)?;
-    let came = has_count(&folder, NAMES.len())? && came_so(&folder, &NAMES)?;
-    Ok(said && came && has_all(alloc, &folder, &MADE)?)
+fn makes_all<R: Threads + Sync + Abort>(rt: &R, alloc: Global) -> bool {
+    let mut folder = folder_of(rt, alloc, &[], &[]);
+    says_all(rt, alloc, &mut folder, &READ_BACK)
+        && came_so(rt, &folder, &NAMES)
+        && has_all(rt, alloc, &folder, &MADE)
 }
 
 #[test]
-fn files_made(rt: HostRuntime) -> Result<(), Fail> {
-    assert!(rt; makes_all(&rt, rt.alloc())?);
-    Ok(())
+fn files_made(rt: HostRuntime) {
+    assert!(rt; makes_all(&rt, rt.alloc()));
 }
 
 // What stands under the names before.
@@ -411,67 +412,52 @@ YDIM           1
     ),
 ];
 
-const WORK: Work<'static> = Work {
+static WORKS: [Work<'static>; 1] = [Work {
     line: "synth 1",
     text: ONE,
     told: "",
     outputs: &OUTPUTS,
-};
+}];
 
-// A call of the folder that fails, and how many files are published then: each publishing in turn; the making of the
+fn works() -> &'static [Work<'static>] {
+    &WORKS
+}
+
+// Calls of the folder that fail, and how many files are published then: each publishing in turn; the making of the
 // first draft, and that of the last; and the first opening and reading, which come once the tiles are published.
-static CALLS: [(Failing, usize); 16] = [
-    (Failing::Of(Method::Publish, 1), 0),
-    (Failing::Of(Method::Publish, 2), 1),
-    (Failing::Of(Method::Publish, 3), 2),
-    (Failing::Of(Method::Publish, 4), 3),
-    (Failing::Of(Method::Publish, 5), 4),
-    (Failing::Of(Method::Publish, 6), 5),
-    (Failing::Of(Method::Publish, 7), 6),
-    (Failing::Of(Method::Publish, 8), 7),
-    (Failing::Of(Method::Publish, 9), 8),
-    (Failing::Of(Method::Publish, 10), 9),
-    (Failing::Of(Method::Publish, 11), 10),
-    (Failing::Of(Method::Publish, 12), 11),
-    (Failing::Of(Method::Create, 1), 0),
-    (Failing::Of(Method::Create, 12), 10),
-    (Failing::Of(Method::Open, 1), 8),
-    (Failing::Of(Method::ReadAt, 1), 8),
+static CALLS: [Failed<'static>; 16] = [
+    (0, &[Failing::Of(Method::Publish, 1)], End::Early(0)),
+    (0, &[Failing::Of(Method::Publish, 2)], End::Early(1)),
+    (0, &[Failing::Of(Method::Publish, 3)], End::Early(2)),
+    (0, &[Failing::Of(Method::Publish, 4)], End::Early(3)),
+    (0, &[Failing::Of(Method::Publish, 5)], End::Early(4)),
+    (0, &[Failing::Of(Method::Publish, 6)], End::Early(5)),
+    (0, &[Failing::Of(Method::Publish, 7)], End::Early(6)),
+    (0, &[Failing::Of(Method::Publish, 8)], End::Early(7)),
+    (0, &[Failing::Of(Method::Publish, 9)], End::Early(8)),
+    (0, &[Failing::Of(Method::Publish, 10)], End::Early(9)),
+    (0, &[Failing::Of(Method::Publish, 11)], End::Early(10)),
+    (0, &[Failing::Of(Method::Publish, 12)], End::Early(11)),
+    (0, &[Failing::Of(Method::Create, 1)], End::Early(0)),
+    (0, &[Failing::Of(Method::Create, 12)], End::Early(10)),
+    (0, &[Failing::Of(Method::Open, 1)], End::Early(8)),
+    (0, &[Failing::Of(Method::ReadAt, 1)], End::Early(8)),
 ];
 
-// The first of these calls whose failing ends the run otherwise, or how many there are.
-fn first_other<R: Threads + Sync>(rt: &R, alloc: Global) -> Result<usize, Unmade> {
-    for (at, (call, count)) in CALLS.iter().enumerate() {
-        let failures = Failures {
-            calls: &[*call],
-            ..CALM
-        };
-        if ended(rt, alloc, &FILES, WORK, FOLDER, failures)? != End::Early(*count) {
-            return Ok(at);
-        }
-    }
-    Ok(CALLS.len())
-}
-
 #[test]
-fn failing_calls(rt: HostRuntime) -> Result<(), Fail> {
-    assert_eq!(rt; first_other(&rt, rt.alloc())?, CALLS.len());
-    Ok(())
+fn failing_calls(rt: HostRuntime) {
+    none_wrong(&rt, first_other(&rt, rt.alloc(), &FILES, works(), &CALLS));
 }
 
-// Whether the run ends early where any one call of the folder fails, of which there are at least 60, and where its one
-// call of the output fails, behind no byte and behind some.
-fn all_calls<R: Threads + Sync>(rt: &R, alloc: Global) -> Result<bool, Unmade> {
-    let (calls, end) = first_unmet(rt, alloc, &FILES, WORK)?;
-    let (puts, put_end) = first_put(rt, alloc, &FILES, WORK, 0)?;
-    let (parts, part_end) = first_put(rt, alloc, &FILES, WORK, 9)?;
-    let whole = end == End::Whole && put_end == End::Whole && part_end == End::Whole;
-    Ok(whole && calls > 60 && puts == 2 && parts == 2)
-}
+// The run makes at least 60 calls of the folder, and one of the output, which takes no byte or some first.
+static EACH: [Turn; 3] = [
+    (0, Failer::Folder, (60, 256)),
+    (0, Failer::Output(0), (1, 2)),
+    (0, Failer::Output(9), (1, 2)),
+];
 
 // Each call of the folder and of the output fails in turn.
 #[test]
-fn each_failing_call_of_a_number(rt: HostRuntime) -> Result<(), Fail> {
-    assert!(rt; all_calls(&rt, rt.alloc())?);
-    Ok(())
+fn each_failing_call_of_a_number(rt: HostRuntime) {
+    none_wrong(&rt, first_unmet(&rt, rt.alloc(), &FILES, works(), &EACH));
 }

@@ -1,9 +1,12 @@
 // Translations to cells and tiles and from them: their bytes, and how many calls they make.
-use crate::cells::tile;
+use crate::cells::TILE;
 use crate::stories::{first_unrefused, has, says_all};
-use crate::trials::{FileOf, Row, Unmade, folder_of};
+use crate::trials::{
+    FileOf, Part, Row, add_parts, folder_of, is_number, joined, none_wrong, says_in,
+};
 use outside::{MemFolder, Tally};
 use std::alloc::Global;
+use std::process::Abort;
 use std::test::*;
 use std::thread::Threads;
 
@@ -29,6 +32,10 @@ static FILES: [FileOf<'static>; 3] = [
         b"NROWS 1\nNCOLS 1\nNBITS 16\nPIXELTYPE SIGNEDINT\n",
     ),
 ];
+
+fn files() -> &'static [FileOf<'static>] {
+    &FILES
+}
 
 const TEXT: &str =
     "Input file size is 121, 121\n0...10...20...30...40...50...60...70...80...90...100 - done.\n";
@@ -69,73 +76,69 @@ const CHECKED: Row<'static> = (
     "",
 );
 
-// The parts of a cell's head, and the number of blanks behind each.
-static PARTS: [(&[u8], usize); 5] = [
-    (b"UHL10000000E0000000N03000300NA  U", 14),
-    (b"012101210", 24),
-    (b"DSIU", 55),
-    (b"DTED0", 584),
-    (b"ACC", 2697),
+// The head of the cell, and the record of the first column, whose northern point is the null elevation, with its sum.
+static FIRST: [Part<'static>; 13] = [
+    (b"UHL10000000E0000000N03000300NA  U", 1),
+    (b" ", 14),
+    (b"012101210", 1),
+    (b" ", 24),
+    (b"DSIU", 1),
+    (b" ", 55),
+    (b"DTED0", 1),
+    (b" ", 584),
+    (b"ACC", 1),
+    (b" ", 2697),
+    (&[170, 0, 0, 0, 0, 0, 0, 0], 1),
+    (&[0], 240),
+    (&[255, 255, 0, 0, 2, 168], 1),
 ];
 
-fn put_head(bytes: &mut Vec<u8>) -> Result<(), Unmade> {
-    for (part, blanks) in &PARTS {
-        bytes.extend_from_slice(part)?;
-        bytes.resize(bytes.len().saturating_add(*blanks), b' ')?;
-    }
-    Ok(())
+// Adds the record of a column whose points are 0, with the sum of all its bytes.
+fn add_record<R: Abort>(rt: &R, bytes: &mut Vec<u8>, column: u8) {
+    let sum = (170 + 2 * column as u16).to_be_bytes();
+    let record: [Part<'_>; 3] = [
+        (&[170, 0, 0, column, 0, column, 0, 0], 1),
+        (&[0], 244),
+        (&sum, 1),
+    ];
+    add_parts(rt, bytes, &record);
 }
 
-// A record of a column whose points are 0 but for the last one, with the sum of all its bytes.
-fn put_record(bytes: &mut Vec<u8>, column: u8, last: &[u8], sum: u16) -> Result<(), Unmade> {
-    bytes.extend_from_slice(&[170, 0, 0, column, 0, column, 0, 0])?;
-    bytes.resize(bytes.len().saturating_add(240), 0)?;
-    bytes.extend_from_slice(last)?;
-    bytes.extend_from_slice(&[0, 0])?;
-    bytes.extend_from_slice(&sum.to_be_bytes())?;
-    Ok(())
-}
-
-// The bytes of the cell: its head, the record of the first column, whose northern point is the null elevation, and
-// those of the others.
-fn cell(alloc: Global) -> Result<Vec<u8>, Unmade> {
-    let mut bytes = Vec::new(alloc);
-    put_head(&mut bytes)?;
-    put_record(&mut bytes, 0, &[255, 255], 680)?;
+// The bytes of the cell.
+fn cell<R: Abort>(rt: &R, alloc: Global) -> Vec<u8> {
+    let mut bytes = joined(rt, alloc, &FIRST);
     for column in 1..121u8 {
-        put_record(&mut bytes, column, &[0, 0], 170 + 2 * column as u16)?;
+        add_record(rt, &mut bytes, column);
     }
-    Ok(bytes)
+    bytes
 }
 
 // Whether these runs say what is listed, and make these bytes.
-fn makes<R: Threads + Sync>(
-    rt: &R,
-    alloc: Global,
-    rows: &[Row<'_>],
-    cell: &[u8],
-) -> Result<bool, Unmade> {
-    let mut folder = folder_of(alloc, &FILES, &[])?;
-    let said = says_all(rt, alloc, &mut folder, rows)?;
-    Ok(said && has(alloc, &folder, "out.dt0", cell)?)
+fn makes<R: Threads + Sync + Abort>(rt: &R, alloc: Global, rows: &[Row<'_>], cell: &[u8]) -> bool {
+    let mut folder = folder_of(rt, alloc, files(), &[]);
+    says_all(rt, alloc, &mut folder, rows) && has(rt, alloc, &folder, ("out.dt0", cell))
 }
 
-// The first of these that makes another cell, or how many there are.
-fn first_unlike<R: Threads + Sync>(rt: &R, alloc: Global) -> Result<usize, Unmade> {
-    let cell = cell(alloc)?;
-    let cell = cell.as_slice();
-    for (at, rows) in MADE.iter().enumerate() {
-        if cell.len() != 34_162 || !makes(rt, alloc, rows, cell)? {
-            return Ok(at);
+// The first of these that makes another cell.
+fn first_unlike<R: Threads + Sync + Abort>(
+    rt: &R,
+    alloc: Global,
+    cell: &[u8],
+    made: &[[Row<'_>; 2]],
+) -> Option<usize> {
+    for (at, rows) in made.iter().enumerate() {
+        if !makes(rt, alloc, rows, cell) {
+            return Some(at);
         }
     }
-    Ok(MADE.len())
+    None
 }
 
 #[test]
-fn cells_are_made(rt: HostRuntime) -> Result<(), Fail> {
-    assert_eq!(rt; first_unlike(&rt, rt.alloc())?, MADE.len());
-    Ok(())
+fn cells_are_made(rt: HostRuntime) {
+    let cell = cell(&rt, rt.alloc());
+    is_number(&rt, cell.len() as u64, 34_162);
+    none_wrong(&rt, first_unlike(&rt, rt.alloc(), &cell, &MADE));
 }
 
 static REFUSED: [Row<'static>; 6] = [
@@ -178,27 +181,8 @@ static REFUSED: [Row<'static>; 6] = [
 ];
 
 #[test]
-fn refused_cells(rt: HostRuntime) -> Result<(), Fail> {
-    assert_eq!(rt;
-        first_unrefused(&rt, rt.alloc(), &FILES, &REFUSED)?,
-        REFUSED.len()
-    );
-    Ok(())
-}
-
-// How often a run over a folder reads and writes, where it says what is listed.
-fn calls_of<R: Threads + Sync>(
-    rt: &R,
-    alloc: Global,
-    folder: MemFolder,
-    row: Row<'_>,
-) -> Result<Option<(u64, u64, MemFolder)>, Unmade> {
-    let mut tally = Tally::new(folder);
-    if !says_all(rt, alloc, &mut tally, &[row])? {
-        return Ok(None);
-    }
-    let (reads, writes) = (tally.reads(), tally.writes());
-    Ok(Some((reads, writes, tally.into_inner())))
+fn refused_cells(rt: HostRuntime) {
+    none_wrong(&rt, first_unrefused(&rt, rt.alloc(), files(), &REFUSED));
 }
 
 // A cell as raw data: the header, and the data, of which all is 0 but for the null elevation.
@@ -222,53 +206,44 @@ XDIM           0.0083333333333333
 YDIM           0.0083333333333333
 ";
 
-fn back_data(alloc: Global) -> Result<Vec<u8>, Unmade> {
-    let mut bytes = Vec::new(alloc);
-    bytes.extend_from_slice(&[1, 128])?;
-    bytes.resize(29_282, 0)?;
-    Ok(bytes)
+static BACK_DATA: [Part<'static>; 2] = [(&[1, 128], 1), (&[0], 29_280)];
+
+fn has_back<R: Abort>(rt: &R, alloc: Global, folder: &MemFolder) -> bool {
+    let back = joined(rt, alloc, &BACK_DATA);
+    has(rt, alloc, folder, ("back.bil", &back)) && has(rt, alloc, folder, ("back.hdr", BACK_HEADER))
 }
 
-// A folder in which the cell stands.
-fn folder_with_cell(alloc: Global) -> Result<MemFolder, Unmade> {
-    let cell = cell(alloc)?;
-    folder_of(alloc, &[("out.dt0", &cell)], &[])
-}
-
-fn has_back(alloc: Global, folder: &MemFolder) -> Result<bool, Unmade> {
-    let back = back_data(alloc)?;
-    Ok(has(alloc, folder, "back.bil", &back)? && has(alloc, folder, "back.hdr", BACK_HEADER)?)
+// A folder in which the cell stands, and which counts calls.
+fn tally_with_cell<R: Abort>(rt: &R, alloc: Global) -> Tally<MemFolder> {
+    let cell = cell(rt, alloc);
+    Tally::new(folder_of(rt, alloc, &[("out.dt0", &cell)], &[]))
 }
 
 // Whether a cell becomes raw data with few reads.
-fn reads_few<R: Threads + Sync>(rt: &R, alloc: Global) -> Result<bool, Unmade> {
-    let folder = folder_with_cell(alloc)?;
-    Ok(match calls_of(rt, alloc, folder, BACK)? {
-        None => false,
-        Some((reads, _, folder)) => reads <= 1000 && has_back(alloc, &folder)?,
-    })
+fn reads_few<R: Threads + Sync + Abort>(rt: &R, alloc: Global) -> bool {
+    let mut tally = tally_with_cell(rt, alloc);
+    let said = says_in(rt, alloc, &mut tally, &BACK);
+    let reads = tally.reads();
+    let folder = tally.into_inner();
+    said && reads <= 1000 && has_back(rt, alloc, &folder)
 }
 
 #[test]
-fn columns_are_read_once(rt: HostRuntime) -> Result<(), Fail> {
-    assert!(rt; reads_few(&rt, rt.alloc())?);
-    Ok(())
+fn columns_are_read_once(rt: HostRuntime) {
+    assert!(rt; reads_few(&rt, rt.alloc()));
 }
+
+const FORTH: Row<'static> = ("gdal_translate --blocks 200 t.vrt out.dt0", 0, TEXT, "");
 
 // Whether a cell is made with few writes.
-fn writes_few<R: Threads + Sync>(rt: &R, alloc: Global) -> Result<bool, Unmade> {
-    let folder = folder_of(alloc, &FILES, &[])?;
-    let row = ("gdal_translate --blocks 200 t.vrt out.dt0", 0, TEXT, "");
-    Ok(match calls_of(rt, alloc, folder, row)? {
-        None => false,
-        Some((_, writes, _)) => writes <= 1000,
-    })
+fn writes_few<R: Threads + Sync + Abort>(rt: &R, alloc: Global) -> bool {
+    let mut tally = Tally::new(folder_of(rt, alloc, files(), &[]));
+    says_in(rt, alloc, &mut tally, &FORTH) && tally.writes() <= 1000
 }
 
 #[test]
-fn columns_are_written_once(rt: HostRuntime) -> Result<(), Fail> {
-    assert!(rt; writes_few(&rt, rt.alloc())?);
-    Ok(())
+fn columns_are_written_once(rt: HostRuntime) {
+    assert!(rt; writes_few(&rt, rt.alloc()));
 }
 
 // A tile under its own name in another folder, in letters of any case, and under that of another tile.
@@ -282,15 +257,13 @@ static TILES: [Row<'static>; 2] = [
     ),
 ];
 
-fn is_copied<R: Threads + Sync>(rt: &R, alloc: Global) -> Result<bool, Unmade> {
-    let tile = tile(alloc)?;
-    let mut folder = folder_of(alloc, &[("N00E000.hgt", &tile)], &[])?;
-    let said = says_all(rt, alloc, &mut folder, &TILES)?;
-    Ok(said && has(alloc, &folder, "d/n00e000.HGT", &tile)?)
+fn is_copied<R: Threads + Sync + Abort>(rt: &R, alloc: Global) -> bool {
+    let tile = joined(rt, alloc, &TILE);
+    let mut folder = folder_of(rt, alloc, &[("N00E000.hgt", &tile)], &[]);
+    says_all(rt, alloc, &mut folder, &TILES) && has(rt, alloc, &folder, ("d/n00e000.HGT", &tile))
 }
 
 #[test]
-fn a_tile_is_copied(rt: HostRuntime) -> Result<(), Fail> {
-    assert!(rt; is_copied(&rt, rt.alloc())?);
-    Ok(())
+fn a_tile_is_copied(rt: HostRuntime) {
+    assert!(rt; is_copied(&rt, rt.alloc()));
 }

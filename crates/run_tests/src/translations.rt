@@ -1,6 +1,6 @@
 // Translations: what they print, and the files that they make.
 use crate::stories::{Story, first_astray, first_unrefused};
-use crate::trials::{FileOf, Row};
+use crate::trials::{FileOf, Row, none_wrong};
 use std::test::*;
 
 // A line of five pixels; two rasters of three numbers, and mosaics of them in one another; two bands; a raster that has
@@ -45,6 +45,24 @@ static FILES: [FileOf<'static>; 16] = [
     ),
 ];
 
+fn files() -> &'static [FileOf<'static>] {
+    &FILES
+}
+
+// The header of three numbers without a NODATA.
+const THREE_NUMBERS: &[u8] = b"BYTEORDER      I
+LAYOUT         BIL
+NROWS          1
+NCOLS          3
+NBANDS         1
+NBITS          16
+SKIPBYTES      0
+BANDROWBYTES   6
+TOTALROWBYTES  6
+BANDGAPBYTES   0
+PIXELTYPE      SIGNEDINT
+";
+
 // The header of two bands, one behind the other.
 const BANDS_APART: &[u8] = b"BYTEORDER      I
 LAYOUT         BSQ
@@ -69,21 +87,7 @@ static STORIES: [Story<'static>; 19] = [
         )],
         &[
             ("out.bil", &[5, 0, 255, 255, 9, 0]),
-            (
-                "out.hdr",
-                b"BYTEORDER      I
-LAYOUT         BIL
-NROWS          1
-NCOLS          3
-NBANDS         1
-NBITS          16
-SKIPBYTES      0
-BANDROWBYTES   6
-TOTALROWBYTES  6
-BANDGAPBYTES   0
-PIXELTYPE      SIGNEDINT
-",
-            ),
+            ("out.hdr", THREE_NUMBERS),
         ],
     ),
     (
@@ -95,21 +99,7 @@ PIXELTYPE      SIGNEDINT
         )],
         &[
             ("out.bil", &[5, 0, 255, 255, 9, 0]),
-            (
-                "out.hdr",
-                b"BYTEORDER      I
-LAYOUT         BIL
-NROWS          1
-NCOLS          3
-NBANDS         1
-NBITS          16
-SKIPBYTES      0
-BANDROWBYTES   6
-TOTALROWBYTES  6
-BANDGAPBYTES   0
-PIXELTYPE      SIGNEDINT
-",
-            ),
+            ("out.hdr", THREE_NUMBERS),
         ],
     ),
     (
@@ -442,21 +432,7 @@ NODATA         -1
         &[("gdal_translate -q -a_nodata none m.vrt out.bil", 0, "", "")],
         &[
             ("out.bil", &[5, 0, 255, 255, 9, 0]),
-            (
-                "out.hdr",
-                b"BYTEORDER      I
-LAYOUT         BIL
-NROWS          1
-NCOLS          3
-NBANDS         1
-NBITS          16
-SKIPBYTES      0
-BANDROWBYTES   6
-TOTALROWBYTES  6
-BANDGAPBYTES   0
-PIXELTYPE      SIGNEDINT
-",
-            ),
+            ("out.hdr", THREE_NUMBERS),
         ],
     ),
     (
@@ -555,12 +531,8 @@ PIXELTYPE      UNSIGNEDINT
 ];
 
 #[test]
-fn translations(rt: HostRuntime) -> Result<(), Fail> {
-    assert_eq!(rt;
-        first_astray(&rt, rt.alloc(), &FILES, &STORIES)?,
-        STORIES.len()
-    );
-    Ok(())
+fn translations(rt: HostRuntime) {
+    none_wrong(&rt, first_astray(&rt, rt.alloc(), files(), &STORIES));
 }
 
 // Refusals, in the order in which they come: nothing is printed, and no file changes.
@@ -803,10 +775,6 @@ static REFUSED: [Row<'static>; 40] = [
 ];
 
 #[test]
-fn refused_translations(rt: HostRuntime) -> Result<(), Fail> {
-    assert_eq!(rt;
-        first_unrefused(&rt, rt.alloc(), &FILES, &REFUSED)?,
-        REFUSED.len()
-    );
-    Ok(())
+fn refused_translations(rt: HostRuntime) {
+    none_wrong(&rt, first_unrefused(&rt, rt.alloc(), files(), &REFUSED));
 }

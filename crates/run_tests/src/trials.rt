@@ -1,33 +1,132 @@
-// Runs over files in memory.
+// Runs over files in memory, and tables of runs. A test ends where memory is refused, and where a row goes otherwise.
 use gdal_cli::{Outcome, run};
 use lists_and_answers::Items;
-use outside::{
-    CalmInput, Failing, Folder, Input, Listed, MemFolder, MemInput, MemSink, Name, NameFault, Never,
-};
-use std::alloc::{AllocError, AllocFailed, Global};
-use std::test::*;
+use outside::{Failing, Folder, Listed, MemFolder, MemInput, MemSink, Name};
+use std::alloc::{AllocError, Global};
+use std::process::Abort;
 use std::thread::Threads;
 
-/// Why a run wasn't made: memory was refused, or a text is no name.
-#[derive(Clone, Copy, Debug)]
-pub struct Unmade;
+/// Ends a test where a row went otherwise, and names the row.
+pub fn none_wrong<R: Abort>(rt: &R, wrong: Option<usize>) {
+    assert_eq!(rt; wrong, None);
+}
 
-impl From<AllocError> for Unmade {
-    fn from(_: AllocError) -> Self {
-        Unmade
+/// Ends a test where a number is another one, and names both.
+pub fn is_number<R: Abort>(rt: &R, number: u64, wanted: u64) {
+    assert_eq!(rt; number, wanted);
+}
+
+/// A name and its bytes.
+pub type FileOf<'a> = (&'a str, &'a [u8]);
+
+/// A part of a file: bytes, and how often they come.
+pub type Part<'a> = (&'a [u8], usize);
+
+// Adds a part.
+fn add_part(bytes: &mut Vec<u8>, part: &Part<'_>) -> Result<(), AllocError> {
+    let (text, count) = *part;
+    for _ in 0..count {
+        bytes.extend_from_slice(text)?;
+    }
+    Ok(())
+}
+
+/// Adds parts in their order.
+pub fn add_parts<R: Abort>(rt: &R, bytes: &mut Vec<u8>, parts: &[Part<'_>]) {
+    for part in parts {
+        add_part(bytes, part).expect(rt, "memory");
     }
 }
 
-impl<T: Drop> From<AllocFailed<T>> for Unmade {
-    fn from(_: AllocFailed<T>) -> Self {
-        Unmade
-    }
+/// The bytes of these parts.
+pub fn joined<R: Abort>(rt: &R, alloc: Global, parts: &[Part<'_>]) -> Vec<u8> {
+    let mut bytes = Vec::new(alloc);
+    add_parts(rt, &mut bytes, parts);
+    bytes
 }
 
-impl From<NameFault> for Unmade {
-    fn from(_: NameFault) -> Self {
-        Unmade
+// The schedule by which these calls fail.
+fn listed<R: Abort>(rt: &R, alloc: Global, calls: &[Failing]) -> Listed {
+    let mut failing = Items::new(alloc);
+    for call in calls {
+        failing.push(*call).expect(rt, "memory");
     }
+    Listed::new(failing)
+}
+
+/// Puts a file into a folder.
+pub fn put<R: Abort>(rt: &R, alloc: Global, folder: &mut MemFolder, file: FileOf<'_>) {
+    let (name, bytes) = file;
+    let name = Name::read(alloc, name).expect(rt, "a name");
+    folder.put(&name, bytes).expect(rt, "memory");
+}
+
+/// A folder with these files, whose calls fail as they are listed.
+pub fn folder_of<R: Abort>(
+    rt: &R,
+    alloc: Global,
+    files: &[FileOf<'_>],
+    calls: &[Failing],
+) -> MemFolder {
+    let mut folder = MemFolder::new(alloc, listed(rt, alloc, calls));
+    for file in files {
+        put(rt, alloc, &mut folder, *file);
+    }
+    folder
+}
+
+// Adds a word.
+fn add_word(alloc: Global, words: &mut Vec<String>, word: &str) -> Result<(), AllocError> {
+    words.push(String::from_str(alloc, word)?)?;
+    Ok(())
+}
+
+fn words_of<R: Abort>(rt: &R, alloc: Global, line: &str) -> Vec<String> {
+    let mut words = Vec::new(alloc);
+    for word in line.split_ascii_whitespace() {
+        add_word(alloc, &mut words, word).expect(rt, "memory");
+    }
+    words
+}
+
+/// The calls of the folder, of the input, of the output and of the error stream that fail, and how many bytes such a
+/// call of the last two takes first.
+#[derive(Clone, Copy)]
+pub struct Failures<'a> {
+    pub calls: &'a [Failing],
+    pub takes: &'a [Failing],
+    pub puts: &'a [Failing],
+    pub tells: &'a [Failing],
+    pub front: usize,
+}
+
+/// No call fails.
+pub const CALM: Failures<'static> = Failures {
+    calls: &[],
+    takes: &[],
+    puts: &[],
+    tells: &[],
+    front: 0,
+};
+
+/// Bytes of an input, which come in pieces of at most so many.
+pub type Given<'a> = (&'a [u8], usize);
+
+/// An empty input.
+pub const NOTHING: Given<'static> = (b"", 1);
+
+fn input_of<R: Abort>(
+    rt: &R,
+    alloc: Global,
+    (bytes, most): Given<'_>,
+    calls: &[Failing],
+) -> MemInput {
+    let bytes = bytes.to_vec(alloc).expect(rt, "memory");
+    MemInput::in_pieces(bytes, most, listed(rt, alloc, calls))
+}
+
+fn sink_of<R: Abort>(rt: &R, alloc: Global, calls: &[Failing], front: usize) -> MemSink {
+    MemSink::in_part(alloc, listed(rt, alloc, calls), front)
 }
 
 // What a run answered, printed and told.
@@ -49,19 +148,16 @@ impl Said {
         self.err.got() == err.as_bytes()
     }
 
-    // Whether a run ended with this status, printed a first part of this text, and told this.
-    pub fn ends_in(&self, status: u8, out: &str, err: &str) -> bool {
-        self.status == status && out.as_bytes().starts_with(self.out.got()) && self.tells(err)
+    // Whether a run ended with status 2, printed a first part of this text, and told this.
+    pub fn ends_in(&self, out: &str, err: &str) -> bool {
+        self.status == 2 && out.as_bytes().starts_with(self.out.got()) && self.tells(err)
     }
 
-    // Whether a run ended with this status, printed a first part of this text, and told both of these.
-    pub fn ends_behind(&self, status: u8, out: &str, told: &str, fault: &str) -> bool {
-        let got = self.err.got();
-        self.status == status
+    // Whether a run ended with status 2, printed a first part of this text, and told both of these.
+    pub fn ends_behind(&self, out: &str, told: &str, fault: &str) -> bool {
+        self.status == 2
             && out.as_bytes().starts_with(self.out.got())
-            && got.len() == told.len().saturating_add(fault.len())
-            && got.starts_with(told.as_bytes())
-            && got.ends_with(fault.as_bytes())
+            && is_joined(self.err.got(), told.as_bytes(), fault.as_bytes())
     }
 
     // Whether a run told a first part of this text.
@@ -71,187 +167,164 @@ impl Said {
 
     // Whether a run told the first bytes of this text, at most so many.
     pub fn tells_part(&self, err: &str, most: usize) -> bool {
-        self.err.got().len() == most.min(err.len()) && err.as_bytes().starts_with(self.err.got())
+        self.err.got().len() == most.min(err.len()) && self.tells_front(err)
     }
 }
 
-// A name and its bytes.
-pub type FileOf<'a> = (&'a str, &'a [u8]);
-
-/// The schedule by which these calls fail.
-pub fn plan(alloc: Global, calls: &[Failing]) -> Result<Listed, Unmade> {
-    let mut failing = Items::new(alloc);
-    for call in calls {
-        failing.push(*call)?;
-    }
-    Ok(Listed::new(failing))
+// Whether a text is one and then the other.
+fn is_joined(text: &[u8], front: &[u8], back: &[u8]) -> bool {
+    text.len() == front.len().saturating_add(back.len())
+        && text.starts_with(front)
+        && text.ends_with(back)
 }
 
-fn split(alloc: Global, line: &str) -> Result<Vec<String>, Unmade> {
-    let mut words = Vec::new(alloc);
-    for word in line.split_ascii_whitespace() {
-        words.push(String::from_str(alloc, word)?)?;
-    }
-    Ok(words)
-}
-
-fn put_all(alloc: Global, folder: &mut MemFolder, files: &[FileOf<'_>]) -> Result<(), Unmade> {
-    for (name, bytes) in files {
-        folder.put(&Name::read(alloc, name)?, bytes)?;
-    }
-    Ok(())
-}
-
-/// A folder with these files, whose calls fail as they are listed.
-pub fn folder_of(
+fn status_of<R: Threads + Sync, F: Folder>(
+    rt: &R,
     alloc: Global,
-    files: &[FileOf<'_>],
-    calls: &[Failing],
-) -> Result<MemFolder, Unmade> {
-    let mut folder = MemFolder::new(alloc, plan(alloc, calls)?);
-    put_all(alloc, &mut folder, files)?;
-    Ok(folder)
+    words: &[String],
+    folder: &mut F,
+    input: &mut MemInput,
+    out: &mut MemSink,
+    err: &mut MemSink,
+) -> u8 {
+    let Outcome { status, .. } = run(rt, alloc, words, folder, input, out, err);
+    status
 }
 
-// An input of these bytes, which comes in pieces of at most so many, and whose calls fail as they are listed.
-fn input_of(
-    alloc: Global,
-    (bytes, most): (&[u8], usize),
-    calls: &[Failing],
-) -> Result<MemInput, Unmade> {
-    let plan = plan(alloc, calls)?;
-    Ok(MemInput::in_pieces(bytes.to_vec(alloc)?, most, plan))
-}
-
-// A run of these words over a folder and an input, which prints and tells into these sinks.
-fn run_to<R: Threads + Sync, F: Folder, I: Input>(
+// A run of these words over a folder and an input.
+fn said_by<R: Threads + Sync + Abort, F: Folder>(
     rt: &R,
     alloc: Global,
     folder: &mut F,
-    input: &mut I,
+    input: &mut MemInput,
     line: &str,
-    (mut out, mut err): (MemSink, MemSink),
-) -> Result<Said, Unmade> {
-    let words = split(alloc, line)?;
-    let Outcome { status, .. } = run(rt, alloc, &words, folder, input, &mut out, &mut err);
-    Ok(Said { status, out, err })
+    failures: Failures<'_>,
+) -> Said {
+    let words = words_of(rt, alloc, line);
+    let mut out = sink_of(rt, alloc, failures.puts, failures.front);
+    let mut err = sink_of(rt, alloc, failures.tells, failures.front);
+    let status = status_of(rt, alloc, &words, folder, input, &mut out, &mut err);
+    Said { status, out, err }
 }
 
-/// A run of these words over a folder, where the input is empty, which prints and tells into these sinks.
-pub fn run_into<R: Threads + Sync, F: Folder>(
+/// A run of these words over a folder, where the input is empty and no call of a stream fails.
+pub fn said_in<R: Threads + Sync + Abort, F: Folder>(
     rt: &R,
     alloc: Global,
     folder: &mut F,
     line: &str,
-    sinks: (MemSink, MemSink),
-) -> Result<Said, Unmade> {
-    let mut input = CalmInput::new(Vec::new(alloc), Never);
-    run_to(rt, alloc, folder, &mut input, line, sinks)
+) -> Said {
+    let mut input = input_of(rt, alloc, NOTHING, &[]);
+    said_by(rt, alloc, folder, &mut input, line, CALM)
 }
 
-// A run of these words over a folder and an input, whose output's calls fail as they are listed.
-fn run_fed<R: Threads + Sync, F: Folder, I: Input>(
-    rt: &R,
-    alloc: Global,
-    folder: &mut F,
-    input: &mut I,
-    line: &str,
-    puts: &[Failing],
-) -> Result<Said, Unmade> {
-    let out = MemSink::new(alloc, plan(alloc, puts)?);
-    let err = MemSink::new(alloc, Listed::new(Items::new(alloc)));
-    run_to(rt, alloc, folder, input, line, (out, err))
+/// What a run said, its folder, and what it left of its input.
+#[derive(Drop)]
+pub struct Ran {
+    pub said: Said,
+    pub folder: MemFolder,
+    pub input: MemInput,
 }
 
-// The same where the input is empty, and no call of the output fails.
-pub fn run_in<R: Threads + Sync, F: Folder>(
-    rt: &R,
-    alloc: Global,
-    folder: &mut F,
-    line: &str,
-) -> Result<Said, Unmade> {
-    let mut input = CalmInput::new(Vec::new(alloc), Never);
-    run_fed(rt, alloc, folder, &mut input, line, &[])
-}
+/// A line of words over an input.
+pub type Fed<'a> = (&'a str, Given<'a>);
 
-// A run of these words over these files, where the input is empty and no call fails.
-pub fn run_over<R: Threads + Sync>(
+/// A run over these files.
+pub fn run_over<R: Threads + Sync + Abort>(
     rt: &R,
     alloc: Global,
     files: &[FileOf<'_>],
-    line: &str,
-) -> Result<Said, Unmade> {
-    let mut folder = folder_of(alloc, files, &[])?;
-    run_in(rt, alloc, &mut folder, line)
+    (line, given): Fed<'_>,
+    failures: Failures<'_>,
+) -> Ran {
+    let mut folder = folder_of(rt, alloc, files, failures.calls);
+    let mut input = input_of(rt, alloc, given, failures.takes);
+    let said = said_by(rt, alloc, &mut folder, &mut input, line, failures);
+    Ran {
+        said,
+        folder,
+        input,
+    }
 }
 
-// A line of words, the status, what is printed and what is told.
+/// A line of words, the status, what is printed and what is told.
 pub type Row<'a> = (&'a str, u8, &'a str, &'a str);
 
-// The first of these runs over these files that says something else than is listed, or how many runs there are.
-pub fn first_wrong<R: Threads + Sync>(
+/// Whether a run over a folder says what is listed.
+pub fn says_in<R: Threads + Sync + Abort, F: Folder>(
+    rt: &R,
+    alloc: Global,
+    folder: &mut F,
+    row: &Row<'_>,
+) -> bool {
+    let (line, status, out, err) = *row;
+    let said = said_in(rt, alloc, folder, line);
+    said.is(status, out, err)
+}
+
+/// Whether a run over these files says what is listed.
+pub fn says<R: Threads + Sync + Abort>(
+    rt: &R,
+    alloc: Global,
+    files: &[FileOf<'_>],
+    row: &Row<'_>,
+) -> bool {
+    let mut folder = folder_of(rt, alloc, files, &[]);
+    says_in(rt, alloc, &mut folder, row)
+}
+
+/// The first of these runs over these files that says something else than is listed.
+pub fn first_wrong<R: Threads + Sync + Abort>(
     rt: &R,
     alloc: Global,
     files: &[FileOf<'_>],
     rows: &[Row<'_>],
-) -> Result<usize, Unmade> {
-    for (at, (line, status, out, err)) in rows.iter().enumerate() {
-        if !run_over(rt, alloc, files, line)?.is(*status, out, err) {
-            return Ok(at);
+) -> Option<usize> {
+    for (at, row) in rows.iter().enumerate() {
+        if !says(rt, alloc, files, row) {
+            return Some(at);
         }
     }
-    Ok(rows.len())
+    None
 }
 
-// The calls of the folder, of the input and of the output that fail.
+/// The calls of the folder, of the input and of the output that fail.
 pub type Calls<'a> = (&'a [Failing], &'a [Failing], &'a [Failing]);
 
-// A line of words over an input that comes in pieces of at most so many bytes.
-pub type Fed<'a> = (&'a str, (&'a [u8], usize));
-
-// A run over these files, some of whose calls fail.
-fn run_failing<R: Threads + Sync>(
-    rt: &R,
-    alloc: Global,
-    files: &[FileOf<'_>],
-    (line, input): Fed<'_>,
-    (calls, takes, puts): Calls<'_>,
-) -> Result<Said, Unmade> {
-    let mut folder = folder_of(alloc, files, calls)?;
-    let mut input = input_of(alloc, input, takes)?;
-    run_fed(rt, alloc, &mut folder, &mut input, line, puts)
-}
-
-// How much of an input is left by a run over these files, where these calls of the output fail.
-pub fn left_of<R: Threads + Sync>(
-    rt: &R,
-    alloc: Global,
-    files: &[FileOf<'_>],
-    (line, input): Fed<'_>,
-    puts: &[Failing],
-) -> Result<usize, Unmade> {
-    let mut folder = folder_of(alloc, files, &[])?;
-    let mut input = input_of(alloc, input, &[])?;
-    run_fed(rt, alloc, &mut folder, &mut input, line, puts)?;
-    Ok(input.left().len())
-}
-
-// A run, the calls that fail, and the status, what is printed and what is told.
+/// A run, the calls that fail, and the status, what is printed and what is told.
 pub type Trial<'a> = (Fed<'a>, Calls<'a>, (u8, &'a str, &'a str));
 
-// The first of these runs over these files that says something else than is listed, or how many runs there are.
-pub fn first_failing<R: Threads + Sync>(
+/// Whether a run over these files says what is listed.
+pub fn ends_so<R: Threads + Sync + Abort>(
+    rt: &R,
+    alloc: Global,
+    files: &[FileOf<'_>],
+    trial: &Trial<'_>,
+) -> bool {
+    let (fed, (calls, takes, puts), (status, out, err)) = *trial;
+    let failures = Failures {
+        calls,
+        takes,
+        puts,
+        ..CALM
+    };
+    let ran = run_over(rt, alloc, files, fed, failures);
+    ran.said.is(status, out, err)
+}
+
+/// The first of these runs over these files that says something else than is listed.
+pub fn first_failing<R: Threads + Sync + Abort>(
     rt: &R,
     alloc: Global,
     files: &[FileOf<'_>],
     trials: &[Trial<'_>],
-) -> Result<usize, Unmade> {
-    for (at, (fed, calls, (status, out, err))) in trials.iter().enumerate() {
-        if !run_failing(rt, alloc, files, *fed, *calls)?.is(*status, out, err) {
-            return Ok(at);
+) -> Option<usize> {
+    for (at, trial) in trials.iter().enumerate() {
+        if !ends_so(rt, alloc, files, trial) {
+            return Some(at);
         }
     }
-    Ok(trials.len())
+    None
 }
 
 pub const FOLDER: &str = "ERROR 3: a file call failed\n";
@@ -260,21 +333,47 @@ pub const READING: &str = "ERROR 3: reading the input failed\n";
 
 pub const WRITING: &str = "ERROR 3: writing the output failed\n";
 
-// The first call of the folder that may fail without ending the run with nothing printed, and whether the run then
-// prints this.
-pub fn first_harmless<R: Threads + Sync>(
+// Whether a run says this where this call of the folder fails.
+fn says_at<R: Threads + Sync + Abort>(
+    rt: &R,
+    alloc: Global,
+    files: &[FileOf<'_>],
+    fed: Fed<'_>,
+    call: u64,
+    said: (u8, &str, &str),
+) -> bool {
+    let calls: Calls<'_> = (&[Failing::Call(call)], &[], &[]);
+    ends_so(rt, alloc, files, &(fed, calls, said))
+}
+
+// The first call of the folder whose failing doesn't end the run with nothing printed.
+fn first_passed<R: Threads + Sync + Abort>(
+    rt: &R,
+    alloc: Global,
+    files: &[FileOf<'_>],
+    fed: Fed<'_>,
+) -> u64 {
+    for call in 1..=64u64 {
+        if !says_at(rt, alloc, files, fed, call, (2, "", FOLDER)) {
+            return call;
+        }
+    }
+    0
+}
+
+/// The first call of the folder that may fail without ending the run with nothing printed, where the run then prints
+/// this; else 0.
+pub fn first_harmless<R: Threads + Sync + Abort>(
     rt: &R,
     alloc: Global,
     files: &[FileOf<'_>],
     fed: Fed<'_>,
     out: &str,
-) -> Result<(u64, bool), Unmade> {
-    for number in 1..=64u64 {
-        let calls: Calls<'_> = (&[Failing::Call(number)], &[], &[]);
-        let said = run_failing(rt, alloc, files, fed, calls)?;
-        if !said.is(2, "", FOLDER) {
-            return Ok((number, said.is(0, out, "")));
-        }
+) -> u64 {
+    let call = first_passed(rt, alloc, files, fed);
+    if says_at(rt, alloc, files, fed, call, (0, out, "")) {
+        call
+    } else {
+        0
     }
-    Ok((0, false))
 }
