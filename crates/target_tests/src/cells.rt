@@ -1,9 +1,10 @@
 // Cells of each level: their bytes at each capacity, written by lines and by columns and patched once more.
 ghost use Rattle.std.specs.Prelude.{◌≡◌, ◌+◌, ◌*◌};
 
-use crate::fixtures::{Asked, Ended, Form, Order, Story, Window, folder_of, ordered, written};
+use crate::fixtures::{Asked, Form, Order, Story, Window, closed, holds, none_wrong, ordered};
 use crate::pixels::{ELEVATIONS, meets_column, number_of, pixel, samples_in};
 use geotransform::Sample;
+use outside::{MemFolder, Name};
 use std::alloc::{AllocError, Global};
 use std::test::*;
 
@@ -202,14 +203,33 @@ fn is_cell(bytes: &[u8], shown: Shown<'_>) -> bool {
         && (0..shown.columns).all(|x| has_record(bytes, shown, x))
 }
 
+fn has_cell(folder: &MemFolder, name: &Name, shown: Shown<'_>) -> bool {
+    match folder.bytes(name) {
+        Some(bytes) => is_cell(bytes, shown),
+        None => false,
+    }
+}
+
 // Whether the windows of a cell end as its file at a capacity.
 fn is_written(alloc: Global, order: &Order, capacity: u16, shown: Shown<'_>) -> Result<bool, Fail> {
-    let mut folder = folder_of(alloc, &[], &[])?;
-    let closed = written(alloc, &mut folder, order, capacity, shown.story) == Ended::Closed;
-    Ok(match folder.bytes(&order.name) {
+    Ok(match closed(alloc, order, capacity, shown.story)? {
+        Some(folder) => has_cell(&folder, &order.name, shown),
         None => false,
-        Some(bytes) => closed && is_cell(bytes, shown),
     })
+}
+
+fn is_at_each(
+    alloc: Global,
+    order: &Order,
+    capacities: &[u16],
+    shown: Shown<'_>,
+) -> Result<bool, Fail> {
+    for at in 0..capacities.len() {
+        if !is_written(alloc, order, capacities[at], shown)? {
+            return Ok(false);
+        }
+    }
+    Ok(true)
 }
 
 // Whether a cell of these windows has its bytes at each of some capacities.
@@ -230,13 +250,12 @@ fn each_is_written(
             samples: samples.as_slice(),
         },
     };
-    let mut all = true;
-    for capacity in [1, 2, 3, 121] {
-        if !is_written(alloc, &order, capacity, shown)? {
-            all = false;
-        }
-    }
-    Ok(all)
+    is_at_each(alloc, &order, &[1, 2, 3, 121], shown)
+}
+
+// Whether a cell of level 0 of these windows has its bytes.
+fn is_zero_written(alloc: Global, windows: &[Window]) -> Result<bool, Fail> {
+    each_is_written(alloc, &ZERO, windows)
 }
 
 // Windows over what was written: a part, columns, a line, a column and single pixels.
@@ -270,18 +289,24 @@ fn by_columns(alloc: Global) -> Result<Vec<Window>, AllocError> {
     Ok(windows)
 }
 
+fn are_lines_written(alloc: Global) -> Result<bool, Fail> {
+    let windows = by_lines(alloc)?;
+    is_zero_written(alloc, windows.as_slice())
+}
+
 #[test]
 fn cells_are_written_by_lines(rt: HostRuntime) -> Result<(), Fail> {
-    let windows = by_lines(rt.alloc())?;
-    assert!(rt; each_is_written(rt.alloc(), &ZERO, windows.as_slice())?);
-    Ok(())
+    holds(&rt, are_lines_written(rt.alloc()))
+}
+
+fn are_columns_written(alloc: Global) -> Result<bool, Fail> {
+    let windows = by_columns(alloc)?;
+    is_zero_written(alloc, windows.as_slice())
 }
 
 #[test]
 fn cells_are_written_by_columns(rt: HostRuntime) -> Result<(), Fail> {
-    let windows = by_columns(rt.alloc())?;
-    assert!(rt; each_is_written(rt.alloc(), &ZERO, windows.as_slice())?);
-    Ok(())
+    holds(&rt, are_columns_written(rt.alloc()))
 }
 
 // Single points, parts of columns and of lines, a whole column, nothing, and parts of what was written, from the east
@@ -302,8 +327,7 @@ const APART: [Window; 11] = [
 
 #[test]
 fn columns_that_no_window_meets_are_zeros(rt: HostRuntime) -> Result<(), Fail> {
-    assert!(rt; each_is_written(rt.alloc(), &ZERO, &APART)?);
-    Ok(())
+    holds(&rt, is_zero_written(rt.alloc(), &APART))
 }
 
 // The south-east corner, whole columns, a line, a part of it and of a column, a column, and a point of that column.
@@ -326,57 +350,77 @@ const WINDOWS_TWO: [Window; 6] = [
     (0, (300, 3599), (2, 2), 3),
 ];
 
-const LEVELS: [(Cell, &[Window]); 2] = [(ONE, &WINDOWS_ONE), (TWO, &WINDOWS_TWO)];
+/// A cell, and its windows.
+type Level<'a> = (Cell, &'a [Window]);
 
-// The first of these cells that isn't that of its windows, or how many there are.
-fn first_unwritten(alloc: Global) -> Result<usize, Fail> {
-    for (at, (cell, windows)) in LEVELS.iter().enumerate() {
-        if !each_is_written(alloc, cell, windows)? {
-            return Ok(at);
+const LEVELS: [Level<'static>; 2] = [(ONE, &WINDOWS_ONE), (TWO, &WINDOWS_TWO)];
+
+fn is_level(alloc: Global, (cell, windows): &Level<'_>) -> Result<bool, Fail> {
+    each_is_written(alloc, cell, windows)
+}
+
+// The first of these cells that isn't that of its windows.
+fn first_unwritten(alloc: Global, rows: &[Level<'_>]) -> Result<Option<usize>, Fail> {
+    for at in 0..rows.len() {
+        if !is_level(alloc, &rows[at])? {
+            return Ok(Some(at));
         }
     }
-    Ok(LEVELS.len())
+    Ok(None)
 }
 
 #[test]
 fn cells_of_the_other_levels_are_those_of_their_windows(rt: HostRuntime) -> Result<(), Fail> {
-    assert_eq!(rt; first_unwritten(rt.alloc())?, LEVELS.len());
-    Ok(())
+    none_wrong(&rt, first_unwritten(rt.alloc(), &LEVELS))
 }
 
 // Whether the first record of a cell ends with the null elevation of its north end, and with its sum.
-fn ends_null(alloc: Global, capacity: u16) -> Result<bool, Fail> {
-    let order = ordered(alloc, &CELL)?;
+fn is_null(bytes: &[u8], shown: Shown<'_>) -> bool {
+    is_cell(bytes, shown)
+        && bytes.len() == 34_162
+        && bytes[3676..3682] == [0xff, 0xff, 0, 0, 2, 0xa8]
+}
+
+fn has_null(folder: &MemFolder, name: &Name, shown: Shown<'_>) -> bool {
+    match folder.bytes(name) {
+        Some(bytes) => is_null(bytes, shown),
+        None => false,
+    }
+}
+
+fn is_null_at(alloc: Global, order: &Order, capacity: u16, shown: Shown<'_>) -> Result<bool, Fail> {
+    Ok(match closed(alloc, order, capacity, shown.story)? {
+        Some(folder) => has_null(&folder, &order.name, shown),
+        None => false,
+    })
+}
+
+// Zeros, of which the north end of the first column is null.
+fn null_samples(alloc: Global) -> Result<Vec<Sample>, AllocError> {
     let mut samples = vec![in alloc; 0i128; 14_641]?;
     samples[0] = -32_767;
-    let story = Story {
-        windows: &[(0, (0, 0), (121, 121), 0)],
-        samples: samples.as_slice(),
-    };
+    Ok(samples)
+}
+
+fn ends_null(alloc: Global) -> Result<bool, Fail> {
+    let order = ordered(alloc, &CELL)?;
+    let samples = null_samples(alloc)?;
     let front = front(alloc, &PARTS)?;
     let shown = Shown {
         front: front.as_slice(),
         columns: SIDE,
         lines: SIDE,
-        story,
+        story: Story {
+            windows: &[(0, (0, 0), (121, 121), 0)],
+            samples: samples.as_slice(),
+        },
     };
-    let mut folder = folder_of(alloc, &[], &[])?;
-    let closed = written(alloc, &mut folder, &order, capacity, story) == Ended::Closed;
-    Ok(match folder.bytes(&order.name) {
-        None => false,
-        Some(bytes) => {
-            closed
-                && is_cell(bytes, shown)
-                && bytes.len() == 34_162
-                && bytes[3676..3682] == [0xff, 0xff, 0, 0, 2, 0xa8]
-        }
-    })
+    Ok(is_null_at(alloc, &order, 1, shown)? && is_null_at(alloc, &order, 64, shown)?)
 }
 
 #[test]
 fn a_null_elevation_stands_with_its_sum_at_each_capacity(rt: HostRuntime) -> Result<(), Fail> {
-    assert!(rt; ends_null(rt.alloc(), 1)? && ends_null(rt.alloc(), 64)?);
-    Ok(())
+    holds(&rt, ends_null(rt.alloc()))
 }
 
 // The whole cell, its north-west corner, a line, a column, and a part of the column and of the line.
@@ -421,35 +465,65 @@ fn has_part(bytes: &[u8], at: usize, part: &[u8]) -> bool {
     bytes.get(at..at.saturating_add(part.len())) == Some(part)
 }
 
+fn has_each(bytes: &[u8], parts: &[(usize, &[u8])]) -> bool {
+    for (at, part) in parts {
+        if !has_part(bytes, *at, part) {
+            return false;
+        }
+    }
+    true
+}
+
 fn has_parts(bytes: &[u8]) -> bool {
-    bytes.len() == 34_162 && BYTES.iter().all(|(at, part)| has_part(bytes, *at, part))
+    bytes.len() == 34_162 && has_each(bytes, &BYTES)
+}
+
+fn has_bytes(folder: &MemFolder, name: &Name) -> bool {
+    match folder.bytes(name) {
+        Some(bytes) => has_parts(bytes),
+        None => false,
+    }
 }
 
 // Whether a cell has those bytes at a capacity.
-fn has_corners(alloc: Global, capacity: u16) -> Result<bool, Fail> {
+fn has_corners(
+    alloc: Global,
+    order: &Order,
+    capacity: u16,
+    story: Story<'_>,
+) -> Result<bool, Fail> {
+    Ok(match closed(alloc, order, capacity, story)? {
+        Some(folder) => has_bytes(&folder, &order.name),
+        None => false,
+    })
+}
+
+fn first_without(
+    alloc: Global,
+    order: &Order,
+    capacities: &[u16],
+    story: Story<'_>,
+) -> Result<Option<usize>, Fail> {
+    for at in 0..capacities.len() {
+        if !has_corners(alloc, order, capacities[at], story)? {
+            return Ok(Some(at));
+        }
+    }
+    Ok(None)
+}
+
+// The first of these capacities at which it hasn't.
+fn first_other(alloc: Global, capacities: &[u16]) -> Result<Option<usize>, Fail> {
     let order = ordered(alloc, &CELL)?;
     let samples = corner_samples(alloc)?;
     let story = Story {
         windows: &CORNERS,
         samples: samples.as_slice(),
     };
-    let mut folder = folder_of(alloc, &[], &[])?;
-    let closed = written(alloc, &mut folder, &order, capacity, story) == Ended::Closed;
-    Ok(closed && folder.bytes(&order.name).is_some_and(has_parts))
-}
-
-// The first of these capacities at which it hasn't, or 0.
-fn first_other(alloc: Global) -> Result<u16, Fail> {
-    for capacity in [1, 2, 3, 64, 121, 200] {
-        if !has_corners(alloc, capacity)? {
-            return Ok(capacity);
-        }
-    }
-    Ok(0)
+    first_without(alloc, &order, capacities, story)
 }
 
 #[test]
 fn records_have_their_marks_and_sums(rt: HostRuntime) -> Result<(), Fail> {
-    assert_eq!(rt; first_other(rt.alloc())?, 0);
-    Ok(())
+    none_wrong(&rt, first_other(rt.alloc(), &[1, 2, 3, 64, 121, 200]))
 }

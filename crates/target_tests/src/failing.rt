@@ -1,7 +1,8 @@
 // Each call of a folder that fails in turn: what is answered, what the names hold, and that no draft is left open.
 use crate::cells::{CELL, CELL_ONE, CELL_TWO};
 use crate::fixtures::{
-    Asked, Ended, File, Form, Order, Story, Window, folder_of, has_all, ordered, written,
+    Asked, Ended, File, Form, Order, Story, Window, folder_of, has_all, none_wrong, ordered,
+    written,
 };
 use crate::texts::SQUARE;
 use crate::tiles::TILE;
@@ -199,25 +200,30 @@ const SQUARE_CALLS: [Call; 11] = [
     (Method::Publish, 2, [4, 4, 4]),
 ];
 
-/// What is asked for, its windows, its calls, and what the names hold where the data is published and the header isn't; a
-/// file that has no header is never published alone.
-type Case = (
-    Asked,
-    &'static [Window],
-    &'static [Call],
-    &'static [File<'static>],
-);
+/// What is asked for, its windows, and what the names hold where the data is published and the header isn't; a file that
+/// has no header is never published alone.
+type Case = (Asked, &'static [Window], &'static [File<'static>]);
 
 fn case_of(form: Form) -> Case {
     match form {
-        Form::Raw(Layout::Bil) => (PAIR, &PAIR_WINDOWS, &PAIR_CALLS, &BIL_FILES),
-        Form::Raw(Layout::Bip) => (PAIR_BIP, &PAIR_WINDOWS, &PAIR_BIP_CALLS, &BIP_FILES),
-        Form::Raw(Layout::Bsq) => (PAIR_BSQ, &PAIR_WINDOWS, &PAIR_CALLS, &BSQ_FILES),
-        Form::Cell(0) => (CELL, &CELL_WINDOWS, &CELL_CALLS, &[]),
-        Form::Cell(1) => (CELL_ONE, &CELL_WINDOWS, &CELL_CALLS, &[]),
-        Form::Cell(_) => (CELL_TWO, &CELL_WINDOWS, &CELL_CALLS, &[]),
-        Form::Tile => (TILE, &TILE_WINDOWS, &TILE_CALLS, &[]),
-        Form::Grid => (SQUARE, &SQUARE_WINDOWS, &SQUARE_CALLS, &[]),
+        Form::Raw(Layout::Bil) => (PAIR, &PAIR_WINDOWS, &BIL_FILES),
+        Form::Raw(Layout::Bip) => (PAIR_BIP, &PAIR_WINDOWS, &BIP_FILES),
+        Form::Raw(Layout::Bsq) => (PAIR_BSQ, &PAIR_WINDOWS, &BSQ_FILES),
+        Form::Cell(0) => (CELL, &CELL_WINDOWS, &[]),
+        Form::Cell(1) => (CELL_ONE, &CELL_WINDOWS, &[]),
+        Form::Cell(_) => (CELL_TWO, &CELL_WINDOWS, &[]),
+        Form::Tile => (TILE, &TILE_WINDOWS, &[]),
+        Form::Grid => (SQUARE, &SQUARE_WINDOWS, &[]),
+    }
+}
+
+fn calls_of(form: Form) -> &'static [Call] {
+    match form {
+        Form::Raw(Layout::Bip) => &PAIR_BIP_CALLS,
+        Form::Raw(_) => &PAIR_CALLS,
+        Form::Cell(_) => &CELL_CALLS,
+        Form::Tile => &TILE_CALLS,
+        Form::Grid => &SQUARE_CALLS,
     }
 }
 
@@ -225,7 +231,7 @@ fn case_of(form: Form) -> Case {
 /// are none of them where the pool holds all that they meet.
 type Row<'a> = (Form, u16, &'a [u8]);
 
-const ROWS: [Row; 24] = [
+const ROWS: [Row<'static>; 24] = [
     (Form::Raw(Layout::Bil), 1, &[0, 1, 2, 3, 4]),
     (Form::Raw(Layout::Bil), 2, &[0, 1, 2, 3, 4]),
     (Form::Raw(Layout::Bil), 3, &[0, 1, 2, 3, 4]),
@@ -264,38 +270,49 @@ fn stage_of(ended: Ended) -> Option<u8> {
     }
 }
 
-// Whether one call failed, no draft is open, and the names hold what they did, but for the data that was published.
-fn is_left(alloc: Global, folder: &MemFolder, stage: u8, published: &[File]) -> Result<bool, Fail> {
-    let files = if stage == 3 { published } else { &OLD };
-    let held = has_all(alloc, folder, files)?;
-    Ok(held && folder.faults() == 1 && folder.drafts() == 0)
+/// An output that is tried: its plan, its windows, what is published where the header isn't, and the blocks of the pool.
+#[derive(Clone, Copy)]
+struct Trial<'a> {
+    order: &'a Order,
+    windows: &'a [Window],
+    published: &'a [File<'a>],
+    capacity: u16,
 }
 
-// How far an output comes where this call fails through a pool of so many blocks, and that it leaves all as it is to
-// be; the last stage where no call fails.
-fn stage_at(
-    alloc: Global,
-    order: &Order,
-    capacity: u16,
-    windows: &[Window],
-    published: &[File],
-    failing: Failing,
-) -> Result<Option<u8>, Fail> {
+// Whether one call failed, no draft is open, and the names hold what they did, but for the data that was published.
+fn is_left(alloc: Global, folder: &MemFolder, stage: u8, published: &[File]) -> Result<bool, Fail> {
+    if folder.faults() != 1 || folder.drafts() != 0 {
+        return Ok(false);
+    }
+    let files = if stage == 3 { published } else { &OLD };
+    has_all(alloc, folder, files)
+}
+
+// Whether an output that came so far leaves all as it is to be; no call failed where it came to its end.
+fn is_kept(alloc: Global, folder: &MemFolder, stage: u8, published: &[File]) -> Result<bool, Fail> {
+    if stage == 4 {
+        return Ok(folder.faults() == 0);
+    }
+    is_left(alloc, folder, stage, published)
+}
+
+// How far an output comes where this call fails, and that it leaves all as it is to be; the last stage where no call
+// fails.
+fn stage_at(alloc: Global, trial: &Trial<'_>, failing: Failing) -> Result<Option<u8>, Fail> {
     let mut folder = folder_of(alloc, &[failing], &OLD)?;
     let story = Story {
-        windows,
+        windows: trial.windows,
         samples: &SAMPLES,
     };
-    let stage = stage_of(written(alloc, &mut folder, order, capacity, story));
-    match stage {
-        Some(4) => Ok(if folder.faults() == 0 { stage } else { None }),
-        Some(at) => Ok(if is_left(alloc, &folder, at, published)? {
-            stage
-        } else {
-            None
-        }),
-        None => Ok(None),
-    }
+    let Some(stage) = stage_of(written(alloc, &mut folder, trial.order, trial.capacity, story))
+    else {
+        return Ok(None);
+    };
+    Ok(if is_kept(alloc, &folder, stage, trial.published)? {
+        Some(stage)
+    } else {
+        None
+    })
 }
 
 // Where a stage stands among those that are reached, behind the last one or there once more.
@@ -312,38 +329,47 @@ fn place_of(stages: &[u8], reached: usize, stage: Option<u8>) -> Option<usize> {
     }
 }
 
-// Where the calls fail one after another, the stages come in their order and none is left out; the first of the
-// calls that fails otherwise, or None.
-fn wrong_call(alloc: Global, (form, capacity, stages): Row<'_>) -> Result<Option<u64>, Fail> {
-    let (asked, windows, _, published) = case_of(form);
-    let order = ordered(alloc, &asked)?;
+// Whether the calls of an output that fail one after another lead to these stages in their order, and none is left out.
+fn comes_by(alloc: Global, trial: &Trial<'_>, stages: &[u8]) -> Result<bool, Fail> {
     let mut reached = 0;
     for call in 1..1000u64 {
-        let failing = Failing::Call(call);
-        let stage = stage_at(alloc, &order, capacity, windows, published, failing)?;
+        let stage = stage_at(alloc, trial, Failing::Call(call))?;
         match place_of(stages, reached, stage) {
-            None => return Ok(Some(call)),
-            Some(_) if stage == Some(4) => return Ok(None),
+            None => return Ok(false),
             Some(place) => reached = place,
         }
-    }
-    Ok(Some(1000))
-}
-
-// The first of these outputs, or how many there are.
-fn first_wrong(alloc: Global) -> Result<usize, Fail> {
-    for (at, row) in ROWS.iter().enumerate() {
-        if wrong_call(alloc, *row)?.is_some() {
-            return Ok(at);
+        if stage == Some(4) {
+            return Ok(true);
         }
     }
-    Ok(ROWS.len())
+    Ok(false)
+}
+
+fn each_call_leads(alloc: Global, (form, capacity, stages): Row<'_>) -> Result<bool, Fail> {
+    let (asked, windows, published) = case_of(form);
+    let order = ordered(alloc, &asked)?;
+    let trial = Trial {
+        order: &order,
+        windows,
+        published,
+        capacity,
+    };
+    comes_by(alloc, &trial, stages)
+}
+
+// The first of these outputs of which a call fails otherwise.
+fn first_wrong(alloc: Global, rows: &[Row<'_>]) -> Result<Option<usize>, Fail> {
+    for at in 0..rows.len() {
+        if !each_call_leads(alloc, rows[at])? {
+            return Ok(Some(at));
+        }
+    }
+    Ok(None)
 }
 
 #[test]
 fn each_call_may_fail(rt: HostRuntime) -> Result<(), Fail> {
-    assert_eq!(rt; first_wrong(rt.alloc())?, ROWS.len());
-    Ok(())
+    none_wrong(&rt, first_wrong(rt.alloc(), &ROWS))
 }
 
 // The stage of a call through a pool of so many blocks.
@@ -356,32 +382,44 @@ fn stage_in(stages: [u8; 3], capacity: u16) -> Option<u8> {
     }
 }
 
-// The first of an output's calls whose failing leads elsewhere, or None.
-fn wrong_method(alloc: Global, (form, capacity, _): Row<'_>) -> Result<Option<Call>, Fail> {
-    let (asked, windows, calls, published) = case_of(form);
+// Whether a call that fails leads to its stage.
+fn leads(alloc: Global, trial: &Trial<'_>, (method, number, stages): Call) -> Result<bool, Fail> {
+    let stage = stage_at(alloc, trial, Failing::Of(method, number))?;
+    Ok(stage.is_some() && stage == stage_in(stages, trial.capacity))
+}
+
+fn each_leads(alloc: Global, trial: &Trial<'_>, calls: &[Call]) -> Result<bool, Fail> {
+    for at in 0..calls.len() {
+        if !leads(alloc, trial, calls[at])? {
+            return Ok(false);
+        }
+    }
+    Ok(true)
+}
+
+fn each_method_leads(alloc: Global, (form, capacity, _): Row<'_>) -> Result<bool, Fail> {
+    let (asked, windows, published) = case_of(form);
     let order = ordered(alloc, &asked)?;
-    for (method, number, stages) in calls {
-        let failing = Failing::Of(*method, *number);
-        let stage = stage_at(alloc, &order, capacity, windows, published, failing)?;
-        if stage.is_none() || stage != stage_in(*stages, capacity) {
-            return Ok(Some((*method, *number, *stages)));
+    let trial = Trial {
+        order: &order,
+        windows,
+        published,
+        capacity,
+    };
+    each_leads(alloc, &trial, calls_of(form))
+}
+
+// The first of these outputs of which a call leads elsewhere.
+fn first_astray(alloc: Global, rows: &[Row<'_>]) -> Result<Option<usize>, Fail> {
+    for at in 0..rows.len() {
+        if !each_method_leads(alloc, rows[at])? {
+            return Ok(Some(at));
         }
     }
     Ok(None)
 }
 
-// The first of these outputs of which a call leads elsewhere, or how many there are.
-fn first_astray(alloc: Global) -> Result<usize, Fail> {
-    for (at, row) in ROWS.iter().enumerate() {
-        if wrong_method(alloc, *row)?.is_some() {
-            return Ok(at);
-        }
-    }
-    Ok(ROWS.len())
-}
-
 #[test]
 fn each_method_may_fail(rt: HostRuntime) -> Result<(), Fail> {
-    assert_eq!(rt; first_astray(rt.alloc())?, ROWS.len());
-    Ok(())
+    none_wrong(&rt, first_astray(rt.alloc(), &ROWS))
 }

@@ -12,6 +12,7 @@ use lists_and_answers::Items;
 use outside::{Ext, Failing, Folder, Listed, MemFolder, Name, Steps};
 use std::alloc::{AllocError, Global};
 use std::marker::Brand;
+use std::process::Abort;
 use std::sync::ledger::{Blank, Ledger};
 use std::test::*;
 use translate_plan::{Driver, Numbers, Plan, TranslateOptions, View, plan};
@@ -170,9 +171,15 @@ pub fn ordered(alloc: Global, asked: &Asked) -> Result<Order, Fail> {
 /// A file: its name and its bytes.
 pub type File<'a> = (&'a str, &'a [u8]);
 
+fn put_file(alloc: Global, folder: &mut MemFolder, name: &str, bytes: &[u8]) -> Result<(), Fail> {
+    let name = Name::read(alloc, name)?;
+    folder.put(&name, bytes)?;
+    Ok(())
+}
+
 fn put_all(alloc: Global, folder: &mut MemFolder, files: &[File]) -> Result<(), Fail> {
     for (name, bytes) in files {
-        folder.put(&Name::read(alloc, name)?, bytes)?;
+        put_file(alloc, folder, name, bytes)?;
     }
     Ok(())
 }
@@ -200,13 +207,12 @@ pub fn has(alloc: Global, folder: &MemFolder, name: &str, bytes: &[u8]) -> Resul
 
 /// Whether a folder has all these files.
 pub fn has_all(alloc: Global, folder: &MemFolder, files: &[File]) -> Result<bool, Fail> {
-    let mut all = true;
     for (name, bytes) in files {
         if !has(alloc, folder, name, bytes)? {
-            all = false;
+            return Ok(false);
         }
     }
-    Ok(all)
+    Ok(true)
 }
 
 // Whether the extension of the name is one of the plan's form.
@@ -348,6 +354,22 @@ pub fn written<F: Folder>(
     }
 }
 
+/// The folder in which an output was written through a pool of so many blocks, and closed; none where it wasn't.
+pub fn closed(
+    alloc: Global,
+    order: &Order,
+    capacity: u16,
+    story: Story<'_>,
+) -> Result<Option<MemFolder>, Fail> {
+    let mut folder = folder_of(alloc, &[], &[])?;
+    let ended = written(alloc, &mut folder, order, capacity, story);
+    Ok(if ended == Ended::Closed {
+        Some(folder)
+    } else {
+        None
+    })
+}
+
 // Puts windows into a target, and gives it up: whether each was put.
 fn given_up<F: Folder, L: Ledger>(
     alloc: Global,
@@ -388,4 +410,16 @@ pub fn tried<F: Folder>(
         Ok(target) => given_up::<F, Brand>(alloc, folder, target, story, Blank::new(1)),
         Err(_) => false,
     }
+}
+
+/// Asserts that no row of a table is wrong.
+pub fn none_wrong(rt: &impl Abort, wrong: Result<Option<usize>, Fail>) -> Result<(), Fail> {
+    assert_eq!(*rt; wrong?, None);
+    Ok(())
+}
+
+/// Asserts that something holds.
+pub fn holds(rt: &impl Abort, held: Result<bool, Fail>) -> Result<(), Fail> {
+    assert!(*rt; held?);
+    Ok(())
 }

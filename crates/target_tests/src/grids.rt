@@ -1,7 +1,8 @@
 // Grids whose lines come in strips of several heights, number by number.
-use crate::fixtures::{Asked, Ended, Order, Story, Window, folder_of, has, ordered, written};
+use crate::fixtures::{Asked, Order, Story, Window, closed, has, none_wrong, ordered};
 use crate::pixels::{INT32, pixel, samples_in};
 use crate::texts::SQUARE;
+use geotransform::Sample;
 use std::alloc::{AllocError, Global};
 use std::test::*;
 
@@ -42,18 +43,28 @@ const LINES: [Window; 9] = [
     (0, (0, 8), (5, 1), 0),
 ];
 
-// The windows, and the blocks of the pool, of which a grid has none.
-const ROWS: [(&[Window], u16); 9] = [
-    (&STRIPS, 1),
-    (&STRIPS, 2),
-    (&STRIPS, 3),
-    (&STRIPS, 9),
-    (&WHOLE, 1),
-    (&WHOLE, 9),
-    (&LINES, 1),
-    (&LINES, 3),
-    (&LINES, 9),
+/// The windows, and the blocks of the pool, of which a grid has none.
+type Row<'a> = (&'a str, u16);
+
+const ROWS: [Row<'static>; 9] = [
+    ("strips", 1),
+    ("strips", 2),
+    ("strips", 3),
+    ("strips", 9),
+    ("whole", 1),
+    ("whole", 9),
+    ("lines", 1),
+    ("lines", 3),
+    ("lines", 9),
 ];
+
+fn windows_of(name: &str) -> &'static [Window] {
+    match name {
+        "strips" => &STRIPS,
+        "whole" => &WHOLE,
+        _ => &LINES,
+    }
+}
 
 // Adds the numbers of a line.
 fn add_line(text: &mut String, alloc: Global, story: Story<'_>, y: u16) -> Result<(), AllocError> {
@@ -76,29 +87,45 @@ fn text_of(alloc: Global, story: Story<'_>) -> Result<String, AllocError> {
 }
 
 // Whether a grid of these windows is the text of its pixels.
-fn is_shown(alloc: Global, order: &Order, capacity: u16, story: Story<'_>) -> Result<bool, Fail> {
+fn is_shown(
+    alloc: Global,
+    order: &Order,
+    (name, capacity): Row<'_>,
+    samples: &[Sample],
+) -> Result<bool, Fail> {
+    let story = Story {
+        windows: windows_of(name),
+        samples,
+    };
     let text = text_of(alloc, story)?;
-    let mut folder = folder_of(alloc, &[], &[])?;
-    let closed = written(alloc, &mut folder, order, capacity, story) == Ended::Closed;
-    Ok(closed && has(alloc, &folder, "h.asc", text.as_bytes())?)
+    match closed(alloc, order, capacity, story)? {
+        Some(folder) => has(alloc, &folder, "h.asc", text.as_bytes()),
+        None => Ok(false),
+    }
 }
 
-// The first of these grids that is another text, or how many there are.
-fn first_unshown(alloc: Global) -> Result<usize, Fail> {
-    let order = ordered(alloc, &TALL)?;
-    let samples = samples_in(alloc, INT32, 70)?;
-    let samples = samples.as_slice();
-    for (at, (windows, capacity)) in ROWS.iter().enumerate() {
-        let story = Story { windows, samples };
-        if !is_shown(alloc, &order, *capacity, story)? {
-            return Ok(at);
+fn first_not_shown(
+    alloc: Global,
+    order: &Order,
+    rows: &[Row<'_>],
+    samples: &[Sample],
+) -> Result<Option<usize>, Fail> {
+    for at in 0..rows.len() {
+        if !is_shown(alloc, order, rows[at], samples)? {
+            return Ok(Some(at));
         }
     }
-    Ok(ROWS.len())
+    Ok(None)
+}
+
+// The first of these grids that is another text.
+fn first_unshown(alloc: Global, rows: &[Row<'_>]) -> Result<Option<usize>, Fail> {
+    let order = ordered(alloc, &TALL)?;
+    let samples = samples_in(alloc, INT32, 70)?;
+    first_not_shown(alloc, &order, rows, samples.as_slice())
 }
 
 #[test]
 fn grids_are_those_of_their_windows(rt: HostRuntime) -> Result<(), Fail> {
-    assert_eq!(rt; first_unshown(rt.alloc())?, ROWS.len());
-    Ok(())
+    none_wrong(&rt, first_unshown(rt.alloc(), &ROWS))
 }

@@ -13,6 +13,8 @@ mod fixtures;
 #[cfg(test)]
 mod grids;
 #[cfg(test)]
+mod outputs;
+#[cfg(test)]
 mod pixels;
 #[cfg(test)]
 mod raw;

@@ -1,6 +1,8 @@
 // Raw data: two bands of windows that overlap, byte by byte in each layout, and rasters of each type against the
 // pixels that their windows show.
-use crate::fixtures::{Asked, Ended, Form, Story, Window, folder_of, has_all, ordered, written};
+use crate::fixtures::{
+    Asked, File, Form, Order, Story, Window, closed, has_all, none_wrong, ordered,
+};
 use crate::pixels::{
     BYTE, INT8, INT16, INT32, INT64, Range, UINT16, UINT32, UINT64, number_from_end, pixel,
     samples_in,
@@ -74,49 +76,57 @@ fn header_of(layout: Layout) -> &'static str {
     }
 }
 
-// Whether the files of a layout are these at a capacity.
-fn is_written(alloc: Global, layout: Layout, data: &[u8], capacity: u16) -> Result<bool, Fail> {
-    let asked = Asked {
-        form: Form::Raw(layout),
-        ..PAIR
-    };
-    let order = ordered(alloc, &asked)?;
-    let mut folder = folder_of(alloc, &[], &[])?;
+// Whether an output has these files at a capacity.
+fn is_written(
+    alloc: Global,
+    order: &Order,
+    capacity: u16,
+    files: &[File<'_>],
+) -> Result<bool, Fail> {
     let story = Story {
         windows: &PARTS,
         samples: &SAMPLES,
     };
-    let closed = written(alloc, &mut folder, &order, capacity, story) == Ended::Closed;
-    let header = header_of(layout).as_bytes();
-    let files = has_all(alloc, &folder, &[("out.bil", data), ("out.hdr", header)])?;
-    Ok(closed && files)
+    match closed(alloc, order, capacity, story)? {
+        Some(folder) => has_all(alloc, &folder, files),
+        None => Ok(false),
+    }
 }
 
-// Whether the files of a layout are these at each of some capacities.
-fn each_is_written(alloc: Global, layout: Layout, data: &[u8]) -> Result<bool, Fail> {
-    let mut all = true;
+// The same at each of some capacities.
+fn is_at_each(alloc: Global, order: &Order, files: &[File<'_>]) -> Result<bool, Fail> {
     for capacity in 1..8u16 {
-        if !is_written(alloc, layout, data, capacity)? {
-            all = false;
+        if !is_written(alloc, order, capacity, files)? {
+            return Ok(false);
         }
     }
-    Ok(all)
+    Ok(true)
 }
 
-// The first of these layouts whose files are others, or how many there are.
-fn first_unwritten(alloc: Global) -> Result<usize, Fail> {
-    for (at, (layout, data)) in FILES.iter().enumerate() {
-        if !each_is_written(alloc, *layout, data)? {
-            return Ok(at);
+// Whether the files of a layout are these.
+fn each_is_written(alloc: Global, (layout, data): &(Layout, [u8; 36])) -> Result<bool, Fail> {
+    let asked = Asked {
+        form: Form::Raw(*layout),
+        ..PAIR
+    };
+    let order = ordered(alloc, &asked)?;
+    let header = header_of(*layout).as_bytes();
+    is_at_each(alloc, &order, &[("out.bil", data), ("out.hdr", header)])
+}
+
+// The first of these layouts whose files are others.
+fn first_unwritten(alloc: Global, rows: &[(Layout, [u8; 36])]) -> Result<Option<usize>, Fail> {
+    for at in 0..rows.len() {
+        if !each_is_written(alloc, &rows[at])? {
+            return Ok(Some(at));
         }
     }
-    Ok(FILES.len())
+    Ok(None)
 }
 
 #[test]
 fn windows_stand_in_the_files_at_each_capacity(rt: HostRuntime) -> Result<(), Fail> {
-    assert_eq!(rt; first_unwritten(rt.alloc())?, FILES.len());
-    Ok(())
+    none_wrong(&rt, first_unwritten(rt.alloc(), &FILES))
 }
 
 // A raster of seven columns, five lines and three bands.
@@ -166,8 +176,10 @@ const OF_THREE: [Window; 12] = [
     (0, (0, 3), (7, 1), 91),
 ];
 
-// The types, their ranges, and the bytes of a sample.
-const KINDS: [(PixelType, Range, u8); 8] = [
+/// A type, its range, and the bytes of a sample.
+type Kind = (PixelType, Range, u8);
+
+const KINDS: [Kind; 8] = [
     (PixelType::Byte, BYTE, 1),
     (PixelType::Int8, INT8, 1),
     (PixelType::UInt16, UINT16, 2),
@@ -178,15 +190,22 @@ const KINDS: [(PixelType, Range, u8); 8] = [
     (PixelType::Int64, INT64, 8),
 ];
 
-// The layouts, the names, the bands, and their windows.
-const RASTERS: [(Layout, &str, &[u8], u16, &[Window]); 6] = [
-    (Layout::Bil, "out.bil", &[1], 1, &OF_ONE),
-    (Layout::Bip, "out.bip", &[2], 1, &OF_ONE),
-    (Layout::Bsq, "out.bsq", &[3], 1, &OF_ONE),
-    (Layout::Bil, "out.bil", &[1, 2, 3], 3, &OF_THREE),
-    (Layout::Bip, "out.bip", &[], 3, &OF_THREE),
-    (Layout::Bsq, "out.bsq", &[3, 1, 1], 3, &OF_THREE),
+/// The layout, the name, the bands, and how many there are.
+type Raster = (Layout, &'static str, &'static [u8], u16);
+
+const RASTERS: [Raster; 6] = [
+    (Layout::Bil, "out.bil", &[1], 1),
+    (Layout::Bip, "out.bip", &[2], 1),
+    (Layout::Bsq, "out.bsq", &[3], 1),
+    (Layout::Bil, "out.bil", &[1, 2, 3], 3),
+    (Layout::Bip, "out.bip", &[], 3),
+    (Layout::Bsq, "out.bsq", &[3, 1, 1], 3),
 ];
+
+// The windows of so many bands.
+fn windows_of(bands: u16) -> &'static [Window] {
+    if bands == 1 { &OF_ONE } else { &OF_THREE }
+}
 
 // How samples lie in a file: the layout, the bands, and the bytes of a sample.
 #[derive(Clone, Copy)]
@@ -264,58 +283,84 @@ fn has_data(folder: &MemFolder, name: &Name, lying: Lying, story: Story<'_>) -> 
     }
 }
 
-// Whether a raster of a type is that of its windows at each of some capacities.
+// Whether a raster is that of its windows at a capacity.
 fn is_shown(
     alloc: Global,
-    (layout, name, numbers, bands, windows): (Layout, &'static str, &'static [u8], u16, &[Window]),
-    (kind, range, len): (PixelType, Range, u8),
+    order: &Order,
+    capacity: u16,
+    lying: Lying,
+    story: Story<'_>,
 ) -> Result<bool, Fail> {
+    Ok(match closed(alloc, order, capacity, story)? {
+        Some(folder) => has_data(&folder, &order.name, lying, story),
+        None => false,
+    })
+}
+
+fn is_shown_at_each(
+    alloc: Global,
+    order: &Order,
+    capacities: &[u16],
+    lying: Lying,
+    story: Story<'_>,
+) -> Result<bool, Fail> {
+    for at in 0..capacities.len() {
+        if !is_shown(alloc, order, capacities[at], lying, story)? {
+            return Ok(false);
+        }
+    }
+    Ok(true)
+}
+
+// The plan of a raster of a type.
+fn ordered_as(
+    alloc: Global,
+    (layout, name, bands, _): Raster,
+    kind: PixelType,
+) -> Result<Order, Fail> {
     let asked = Asked {
         form: Form::Raw(layout),
         name,
-        bands: numbers,
+        bands,
         kind: Some(kind),
         ..THREE
     };
-    let order = ordered(alloc, &asked)?;
+    ordered(alloc, &asked)
+}
+
+// Whether a raster of a type is that of its windows at each of some capacities.
+fn each_is_shown(alloc: Global, raster: Raster, (kind, range, len): Kind) -> Result<bool, Fail> {
+    let (layout, _, _, bands) = raster;
+    let order = ordered_as(alloc, raster, kind)?;
     let samples = samples_in(alloc, range, 100)?;
     let story = Story {
-        windows,
+        windows: windows_of(bands),
         samples: samples.as_slice(),
     };
     let lying = Lying { layout, bands, len };
-    let mut all = true;
-    for capacity in [1, 2, 3, 4, 15] {
-        let mut folder = folder_of(alloc, &[], &[])?;
-        let closed = written(alloc, &mut folder, &order, capacity, story) == Ended::Closed;
-        if !closed || !has_data(&folder, &order.name, lying, story) {
-            all = false;
-        }
-    }
-    Ok(all)
+    is_shown_at_each(alloc, &order, &[1, 2, 3, 4, 15], lying, story)
 }
 
-// The first of these rasters that isn't that of its windows, or how many there are.
-fn first_unshown(alloc: Global, kind: (PixelType, Range, u8)) -> Result<usize, Fail> {
-    for (at, raster) in RASTERS.iter().enumerate() {
-        if !is_shown(alloc, *raster, kind)? {
-            return Ok(at);
+fn all_are_shown(alloc: Global, rasters: &[Raster], kind: Kind) -> Result<bool, Fail> {
+    for at in 0..rasters.len() {
+        if !each_is_shown(alloc, rasters[at], kind)? {
+            return Ok(false);
         }
     }
-    Ok(RASTERS.len())
+    Ok(true)
 }
 
-fn first_kind_unshown(alloc: Global) -> Result<usize, Fail> {
-    for (at, kind) in KINDS.iter().enumerate() {
-        if first_unshown(alloc, *kind)? != RASTERS.len() {
-            return Ok(at);
+// The first of these types of which a raster isn't that of its windows.
+fn first_unshown(alloc: Global, kinds: &[Kind], rasters: &[Raster]) -> Result<Option<usize>, Fail> {
+    for at in 0..kinds.len() {
+        if !all_are_shown(alloc, rasters, kinds[at])? {
+            return Ok(Some(at));
         }
     }
-    Ok(KINDS.len())
+    Ok(None)
 }
 
 #[test]
 fn rasters_of_each_type_and_layout_are_those_of_their_windows(rt: HostRuntime) -> Result<(), Fail> {
-    assert_eq!(rt; first_kind_unshown(rt.alloc())?, KINDS.len());
-    Ok(())
+    none_wrong(&rt, first_unshown(rt.alloc(), &KINDS, &RASTERS))
 }

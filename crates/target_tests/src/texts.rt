@@ -1,6 +1,7 @@
 // Files that are given byte by byte: a part of a raster with its header, and the texts of grids.
 use crate::fixtures::{
-    Asked, Ended, File, Form, Story, Window, folder_of, has_all, ordered, written,
+    Asked, Ended, File, Form, Order, Story, Window, closed, folder_of, has, has_all, none_wrong,
+    ordered, written,
 };
 use esri_hdr::Layout;
 use geotransform::Sample;
@@ -87,31 +88,35 @@ const BARE_SAMPLES: [Sample; 12] = [
     100,
 ];
 
-/// What is asked for, its windows, their samples, and the files.
-type Row<'a> = (Asked, &'a [Window], &'a [Sample], &'a [File<'a>]);
+/// What is asked for, the samples of all windows, and the files.
+type Given<'a> = (Asked, &'a [Sample], &'a [File<'a>]);
 
-const ROWS: [Row; 6] = [
-    (PART, &[(0, (0, 0), (4, 1), 0)], &[4, 5, 9, 9], &PART_FILES),
+const GIVEN: [(&str, Given<'static>); 4] = [
+    ("part", (PART, &[4, 5, 9, 9], &PART_FILES)),
+    ("square", (SQUARE, &[1, -2, 30, 4], &SQUARE_FILES)),
+    ("oblong", (OBLONG, &[1, -2, 30, 4], &OBLONG_FILES)),
+    ("bare", (BARE, &BARE_SAMPLES, &BARE_FILES)),
+];
+
+fn find<'a>(rows: &[(&str, Given<'a>)], name: &str) -> Option<Given<'a>> {
+    for (own, given) in rows {
+        if *own == name {
+            return Some(*given);
+        }
+    }
+    None
+}
+
+/// What is given under a name, and the windows.
+type Row<'a> = (&'a str, &'a [Window]);
+
+const ROWS: [Row<'static>; 6] = [
+    ("part", &[(0, (0, 0), (4, 1), 0)]),
+    ("square", &[(0, (0, 0), (2, 2), 0)]),
+    ("square", &[(0, (0, 0), (2, 1), 0), (0, (0, 1), (2, 1), 2)]),
+    ("oblong", &[(0, (0, 0), (2, 2), 0)]),
     (
-        SQUARE,
-        &[(0, (0, 0), (2, 2), 0)],
-        &[1, -2, 30, 4],
-        &SQUARE_FILES,
-    ),
-    (
-        SQUARE,
-        &[(0, (0, 0), (2, 1), 0), (0, (0, 1), (2, 1), 2)],
-        &[1, -2, 30, 4],
-        &SQUARE_FILES,
-    ),
-    (
-        OBLONG,
-        &[(0, (0, 0), (2, 2), 0)],
-        &[1, -2, 30, 4],
-        &OBLONG_FILES,
-    ),
-    (
-        BARE,
+        "bare",
         &[
             (0, (0, 0), (3, 0), 0),
             (0, (0, 0), (3, 2), 0),
@@ -119,49 +124,59 @@ const ROWS: [Row; 6] = [
             (0, (0, 2), (3, 1), 6),
             (0, (0, 3), (3, 1), 9),
         ],
-        &BARE_SAMPLES,
-        &BARE_FILES,
     ),
-    (BARE, &[(0, (0, 0), (3, 4), 0)], &BARE_SAMPLES, &BARE_FILES),
+    ("bare", &[(0, (0, 0), (3, 4), 0)]),
 ];
 
 fn is_written(
     alloc: Global,
-    (asked, windows, samples, files): Row<'_>,
+    order: &Order,
     capacity: u16,
+    story: Story<'_>,
+    files: &[File<'_>],
 ) -> Result<bool, Fail> {
-    let order = ordered(alloc, &asked)?;
-    let mut folder = folder_of(alloc, &[], &[])?;
-    let story = Story { windows, samples };
-    let closed = written(alloc, &mut folder, &order, capacity, story) == Ended::Closed;
-    Ok(closed && has_all(alloc, &folder, files)?)
+    match closed(alloc, order, capacity, story)? {
+        Some(folder) => has_all(alloc, &folder, files),
+        None => Ok(false),
+    }
+}
+
+fn is_at_each(
+    alloc: Global,
+    order: &Order,
+    capacities: &[u16],
+    story: Story<'_>,
+    files: &[File<'_>],
+) -> Result<bool, Fail> {
+    for at in 0..capacities.len() {
+        if !is_written(alloc, order, capacities[at], story, files)? {
+            return Ok(false);
+        }
+    }
+    Ok(true)
 }
 
 // Whether the files of a row are these at each of some capacities.
-fn each_is_written(alloc: Global, row: Row<'_>) -> Result<bool, Fail> {
-    let mut all = true;
-    for capacity in [1, 2, 3, 4, 200] {
-        if !is_written(alloc, row, capacity)? {
-            all = false;
-        }
-    }
-    Ok(all)
+fn each_is_written(alloc: Global, (name, windows): Row<'_>) -> Result<bool, Fail> {
+    let (asked, samples, files) = find(&GIVEN, name).ok_or("it is given")?;
+    let order = ordered(alloc, &asked)?;
+    let story = Story { windows, samples };
+    is_at_each(alloc, &order, &[1, 2, 3, 4, 200], story, files)
 }
 
-// The first of these rows whose files are others, or how many rows there are.
-fn first_unwritten(alloc: Global) -> Result<usize, Fail> {
-    for (at, row) in ROWS.iter().enumerate() {
-        if !each_is_written(alloc, *row)? {
-            return Ok(at);
+// The first of these rows whose files are others.
+fn first_unwritten(alloc: Global, rows: &[Row<'_>]) -> Result<Option<usize>, Fail> {
+    for at in 0..rows.len() {
+        if !each_is_written(alloc, rows[at])? {
+            return Ok(Some(at));
         }
     }
-    Ok(ROWS.len())
+    Ok(None)
 }
 
 #[test]
 fn files_are_as_they_are_given(rt: HostRuntime) -> Result<(), Fail> {
-    assert_eq!(rt; first_unwritten(rt.alloc())?, ROWS.len());
-    Ok(())
+    none_wrong(&rt, first_unwritten(rt.alloc(), &ROWS))
 }
 
 // The windows of a grid that aren't its next whole lines.
@@ -172,31 +187,33 @@ const OTHERS: [&[Window]; 4] = [
     &[(0, (0, 0), (2, 1), 0), (0, (1, 1), (1, 1), 0)],
 ];
 
-// Whether those windows aren't put, and the grid isn't published.
+// Whether windows aren't put, and the grid isn't published.
+fn stays(alloc: Global, order: &Order, story: Story<'_>) -> Result<bool, Fail> {
+    let mut folder = folder_of(alloc, &[], &[("h.asc", b"old")])?;
+    let left = written(alloc, &mut folder, order, 1, story) == Ended::NotAsked;
+    Ok(left && folder.drafts() == 0 && has(alloc, &folder, "h.asc", b"old")?)
+}
+
 fn is_left(alloc: Global, windows: &[Window]) -> Result<bool, Fail> {
     let order = ordered(alloc, &SQUARE)?;
-    let mut folder = folder_of(alloc, &[], &[("h.asc", b"old")])?;
     let story = Story {
         windows,
         samples: &[1, -2, 30, 4],
     };
-    let left = written(alloc, &mut folder, &order, 1, story) == Ended::NotAsked;
-    let held = has_all(alloc, &folder, &[("h.asc", b"old")])?;
-    Ok(left && held && folder.drafts() == 0)
+    stays(alloc, &order, story)
 }
 
-// The first of those rows of windows that is put, or how many there are.
-fn first_put(alloc: Global) -> Result<usize, Fail> {
-    for (at, windows) in OTHERS.iter().enumerate() {
-        if !is_left(alloc, windows)? {
-            return Ok(at);
+// The first of those rows of windows that is put.
+fn first_put(alloc: Global, rows: &[&[Window]]) -> Result<Option<usize>, Fail> {
+    for at in 0..rows.len() {
+        if !is_left(alloc, rows[at])? {
+            return Ok(Some(at));
         }
     }
-    Ok(OTHERS.len())
+    Ok(None)
 }
 
 #[test]
 fn lines_of_a_grid_come_in_their_order(rt: HostRuntime) -> Result<(), Fail> {
-    assert_eq!(rt; first_put(rt.alloc())?, OTHERS.len());
-    Ok(())
+    none_wrong(&rt, first_put(rt.alloc(), &OTHERS))
 }

@@ -1,7 +1,8 @@
 // A tile of 1201 columns and lines, by a few windows: all its pixels.
-use crate::fixtures::{Asked, Ended, Form, Order, Story, Window, folder_of, ordered, written};
+use crate::fixtures::{Asked, Form, Order, Story, Window, closed, holds, ordered};
 use crate::pixels::{INT16, meets_line, number_of, pixel, samples_in};
 use geotransform::Sample;
+use outside::{MemFolder, Name};
 use std::alloc::Global;
 use std::test::*;
 
@@ -77,14 +78,33 @@ fn is_tile(bytes: &[u8], story: Story<'_>) -> bool {
     bytes.len() == 2_884_802 && (0..1201u16).all(|y| has_line(bytes, story, y))
 }
 
+fn has_tile(folder: &MemFolder, name: &Name, story: Story<'_>) -> bool {
+    match folder.bytes(name) {
+        Some(bytes) => is_tile(bytes, story),
+        None => false,
+    }
+}
+
 // Whether the windows of a tile end as its file at a capacity.
 fn is_written(alloc: Global, order: &Order, capacity: u16, story: Story<'_>) -> Result<bool, Fail> {
-    let mut folder = folder_of(alloc, &[], &[])?;
-    let closed = written(alloc, &mut folder, order, capacity, story) == Ended::Closed;
-    Ok(match folder.bytes(&order.name) {
+    Ok(match closed(alloc, order, capacity, story)? {
+        Some(folder) => has_tile(&folder, &order.name, story),
         None => false,
-        Some(bytes) => closed && is_tile(bytes, story),
     })
+}
+
+fn is_at_each(
+    alloc: Global,
+    order: &Order,
+    capacities: &[u16],
+    story: Story<'_>,
+) -> Result<bool, Fail> {
+    for at in 0..capacities.len() {
+        if !is_written(alloc, order, capacities[at], story)? {
+            return Ok(false);
+        }
+    }
+    Ok(true)
 }
 
 fn each_is_written(alloc: Global) -> Result<bool, Fail> {
@@ -94,17 +114,10 @@ fn each_is_written(alloc: Global) -> Result<bool, Fail> {
         windows: &WINDOWS,
         samples: samples.as_slice(),
     };
-    let mut all = true;
-    for capacity in [1, 2, 3, 1201] {
-        if !is_written(alloc, &order, capacity, story)? {
-            all = false;
-        }
-    }
-    Ok(all)
+    is_at_each(alloc, &order, &[1, 2, 3, 1201], story)
 }
 
 #[test]
 fn tiles_are_those_of_their_windows(rt: HostRuntime) -> Result<(), Fail> {
-    assert!(rt; each_is_written(rt.alloc())?);
-    Ok(())
+    holds(&rt, each_is_written(rt.alloc()))
 }
