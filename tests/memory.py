@@ -91,6 +91,7 @@ JOBS = (
     ("a point of raw data", "gdallocationinfo -valonly a.bil 2 1", b"", ()),
     ("points of the input", "gdallocationinfo -valonly a.bil", POINTS, ()),
     ("points of the input, the last of which is none", "gdallocationinfo -valonly a.bil", POINTS + b"x\n", ()),
+    ("points that are looked for in lines", "gdallocationinfo --workers 2 -valonly o.vrt", b"0 0\n1 0\n0 0\n", ()),
     ("a line that is too long", "gdallocationinfo -valonly a.bil", b"0" * 4097, ()),
     ("the sources of a pixel", "gdallocationinfo -lifonly o.vrt 0 0", b"", ()),
     ("a report of raw data", "gdalinfo a.bil", b"", ()),

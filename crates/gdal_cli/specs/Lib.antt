@@ -1,5 +1,6 @@
 pub mod Faults
 pub mod Input
+pub mod Lanes
 pub mod Location
 pub mod Pixels
 pub mod Published

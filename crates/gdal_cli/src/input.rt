@@ -6,10 +6,10 @@ ghost use Rattle.input_points.specs.Entries.{ends};
 ghost use Rattle.input_points.specs.Lines.{ended_lines};
 ghost use Rattle.input_points.specs.Reading.{start, coming};
 ghost use Rattle.catalog.specs.Drivers.{Dataset};
-ghost use Rattle.nearest_window.specs.Right.{IsReady};
 ghost use Rattle.error_lines.specs.Faults.{Differs, HasCauses};
 ghost use Rattle.gdal_cli.specs.Faults.{IsOfLines};
 ghost use Rattle.gdal_cli.specs.Input.{IsReading, room_of, AnswersNext, AnswersPiece, AnswersPieces, AnswersInput, StopsBehind};
+ghost use Rattle.gdal_cli.specs.Lanes.{IsReadyWith};
 ghost use Rattle.gdal_cli.specs.Location.{answers, point_text, line_text, line_fault, PutsText};
 ghost use Rattle.gdal_cli.specs.Pixels.{AreBands};
 
@@ -19,6 +19,7 @@ use catalog::LimitKind;
 use error_lines::Fault;
 use input_points::{Entry, LineKind, PointLines};
 use outside::{Failed, Folder, Input, Sink};
+use shared_lines::Scene;
 use std::sync::ledger::Ledger;
 
 /// The most bytes of the input that are asked for at once.
@@ -28,15 +29,15 @@ const PIECE: usize = 65_536;
 const TOO_MANY: u64 = 16_777_217;
 
 // Answers a line that has this number and says this.
-fn answer_line<F: Folder, O: Sink, L: Ledger>(
+fn answer_line<F: Folder, O: Sink, L: Ledger, S: Scene>(
     question: &Question,
-    points: &mut PointReader<F, L>,
+    points: &mut PointReader<F, L, S>,
     folder: &mut F,
     out: &mut O,
     line: u32,
     kind: LineKind,
 ) -> Result<(), Fault>
-    requires ready { IsReady F.Folder folder.old question.now.cat points.old.pixels.lane }
+    requires ready { IsReadyWith F.Folder S.told S.cat folder.old question.now.cat points.old.pixels.lane }
     requires bands { AreBands question.now.cat question.now.id (λ count. All (λ band. (1 ≤ band) × (band ≤ count)) question.now.asked.bands) }
     requires room { length points.old.room.values.items ≡ length question.now.asked.bands }
     ensures told { (m : Files) → F.names folder.old ≡ Some m → (d : Dataset) → slice_get question.now.cat question.now.id ≡ Some d → line_fault line kind ≡ None → PutsText (line_text (point_text m question.now.cat d question.now.asked) kind) result (O.got out.old) (O.got out.new) }
@@ -45,7 +46,7 @@ fn answer_line<F: Folder, O: Sink, L: Ledger>(
     ensures never { (m : Files) → F.names folder.old ≡ Some m → (name : List ℕ) (was : ℕ) (now : Option ℕ) → result ≡ Err (Fault.Changed name was now) → ⊥ }
     ensures cause { HasCauses (F.faults folder.old) (F.faults folder.new) (O.faults out.old) (O.faults out.new) result }
     ensures not_input { result ≡ Err Fault.InputFault → ⊥ }
-    ensures ready { IsReady F.Folder folder.new question.now.cat points.new.pixels.lane }
+    ensures ready { IsReadyWith F.Folder S.told S.cat folder.new question.now.cat points.new.pixels.lane }
     ensures room { length points.new.room.values.items ≡ length points.old.room.values.items }
     ensures late { IfErr result IsOfLines }
     ensures differs { Differs result }
@@ -64,15 +65,15 @@ fn answer_line<F: Folder, O: Sink, L: Ledger>(
 }
 
 // Answers the next line that ends in a piece, if there is one, and gives the number of the piece's bytes that were read.
-fn answer_next<F: Folder, O: Sink, L: Ledger>(
+fn answer_next<F: Folder, O: Sink, L: Ledger, S: Scene>(
     question: &Question,
-    points: &mut PointReader<F, L>,
+    points: &mut PointReader<F, L, S>,
     folder: &mut F,
     out: &mut O,
     reader: &mut PointLines,
     piece: &[u8],
 ) -> Result<usize, Fault>
-    requires ready { IsReady F.Folder folder.old question.now.cat points.old.pixels.lane }
+    requires ready { IsReadyWith F.Folder S.told S.cat folder.old question.now.cat points.old.pixels.lane }
     requires bands { AreBands question.now.cat question.now.id (λ count. All (λ band. (1 ≤ band) × (band ≤ count)) question.now.asked.bands) }
     requires room { length points.old.room.values.items ≡ length question.now.asked.bands }
     requires reading { IsReading reader.old }
@@ -85,7 +86,7 @@ fn answer_next<F: Folder, O: Sink, L: Ledger>(
     ensures never { (m : Files) → F.names folder.old ≡ Some m → (name : List ℕ) (was : ℕ) (now : Option ℕ) → result ≡ Err (Fault.Changed name was now) → ⊥ }
     ensures cause { HasCauses (F.faults folder.old) (F.faults folder.new) (O.faults out.old) (O.faults out.new) result }
     ensures not_input { result ≡ Err Fault.InputFault → ⊥ }
-    ensures ready { IsReady F.Folder folder.new question.now.cat points.new.pixels.lane }
+    ensures ready { IsReadyWith F.Folder S.told S.cat folder.new question.now.cat points.new.pixels.lane }
     ensures room { length points.new.room.values.items ≡ length points.old.room.values.items }
     ensures late { IfErr result IsOfLines }
     ensures differs { Differs result }
@@ -103,15 +104,15 @@ fn answer_next<F: Folder, O: Sink, L: Ledger>(
 }
 
 // Answers the lines that end in a piece, in order.
-fn answer_piece<F: Folder, O: Sink, L: Ledger>(
+fn answer_piece<F: Folder, O: Sink, L: Ledger, S: Scene>(
     question: &Question,
-    points: &mut PointReader<F, L>,
+    points: &mut PointReader<F, L, S>,
     folder: &mut F,
     out: &mut O,
     reader: &mut PointLines,
     piece: &[u8],
 ) -> Result<(), Fault>
-    requires ready { IsReady F.Folder folder.old question.now.cat points.old.pixels.lane }
+    requires ready { IsReadyWith F.Folder S.told S.cat folder.old question.now.cat points.old.pixels.lane }
     requires bands { AreBands question.now.cat question.now.id (λ count. All (λ band. (1 ≤ band) × (band ≤ count)) question.now.asked.bands) }
     requires room { length points.old.room.values.items ≡ length question.now.asked.bands }
     requires reading { IsReading reader.old }
@@ -123,7 +124,7 @@ fn answer_piece<F: Folder, O: Sink, L: Ledger>(
     ensures never { (m : Files) → F.names folder.old ≡ Some m → (name : List ℕ) (was : ℕ) (now : Option ℕ) → result ≡ Err (Fault.Changed name was now) → ⊥ }
     ensures cause { HasCauses (F.faults folder.old) (F.faults folder.new) (O.faults out.old) (O.faults out.new) result }
     ensures not_input { result ≡ Err Fault.InputFault → ⊥ }
-    ensures ready { IsReady F.Folder folder.new question.now.cat points.new.pixels.lane }
+    ensures ready { IsReadyWith F.Folder S.told S.cat folder.new question.now.cat points.new.pixels.lane }
     ensures room { length points.new.room.values.items ≡ length points.old.room.values.items }
     ensures late { IfErr result IsOfLines }
     ensures differs { Differs result }
@@ -140,16 +141,16 @@ fn answer_piece<F: Folder, O: Sink, L: Ledger>(
 }
 
 // Answers the lines that end in the input, which is taken in pieces up to its end.
-fn answer_pieces<F: Folder, I: Input, O: Sink, L: Ledger>(
+fn answer_pieces<F: Folder, I: Input, O: Sink, L: Ledger, S: Scene>(
     question: &Question,
-    points: &mut PointReader<F, L>,
+    points: &mut PointReader<F, L, S>,
     folder: &mut F,
     input: &mut I,
     out: &mut O,
     reader: &mut PointLines,
     bytes: &mut [u8],
 ) -> Result<(), Fault>
-    requires ready { IsReady F.Folder folder.old question.now.cat points.old.pixels.lane }
+    requires ready { IsReadyWith F.Folder S.told S.cat folder.old question.now.cat points.old.pixels.lane }
     requires bands { AreBands question.now.cat question.now.id (λ count. All (λ band. (1 ≤ band) × (band ≤ count)) question.now.asked.bands) }
     requires room { length points.old.room.values.items ≡ length question.now.asked.bands }
     requires start { reader.old ≡ start }
@@ -160,7 +161,7 @@ fn answer_pieces<F: Folder, I: Input, O: Sink, L: Ledger>(
     ensures never { (m : Files) → F.names folder.old ≡ Some m → (name : List ℕ) (was : ℕ) (now : Option ℕ) → result ≡ Err (Fault.Changed name was now) → ⊥ }
     ensures cause { HasCauses (F.faults folder.old) (F.faults folder.new) (O.faults out.old) (O.faults out.new) result }
     ensures input_cause { HasCause Fault.InputFault (I.faults input.old) (I.faults input.new) result }
-    ensures ready { IsReady F.Folder folder.new question.now.cat points.new.pixels.lane }
+    ensures ready { IsReadyWith F.Folder S.told S.cat folder.new question.now.cat points.new.pixels.lane }
     ensures room { length points.new.room.values.items ≡ length points.old.room.values.items }
     ensures late { IfErr result IsOfLines }
     ensures differs { Differs result }
@@ -187,14 +188,14 @@ fn answer_pieces<F: Folder, I: Input, O: Sink, L: Ledger>(
 /// at line 16,777,217, where no line before it is refused; the lines before were answered. InputFault comes only where
 /// the input's count rose; exactly the whole lines among the bytes that it gave were answered then. All other
 /// refusals are those of `put_point`.
-pub fn answer_input<F: Folder, I: Input, O: Sink, L: Ledger>(
+pub fn answer_input<F: Folder, I: Input, O: Sink, L: Ledger, S: Scene>(
     question: &Question,
-    points: &mut PointReader<F, L>,
+    points: &mut PointReader<F, L, S>,
     folder: &mut F,
     input: &mut I,
     out: &mut O,
 ) -> Result<(), Fault>
-    requires ready { IsReady F.Folder folder.old question.now.cat points.old.pixels.lane }
+    requires ready { IsReadyWith F.Folder S.told S.cat folder.old question.now.cat points.old.pixels.lane }
     requires bands { AreBands question.now.cat question.now.id (λ count. All (λ band. (1 ≤ band) × (band ≤ count)) question.now.asked.bands) }
     requires room { length points.old.room.values.items ≡ length question.now.asked.bands }
     ensures told { (m : Files) → F.names folder.old ≡ Some m → (d : Dataset) → slice_get question.now.cat question.now.id ≡ Some d → (i : List ℕ) → I.left input.old ≡ Some i → AnswersInput (point_text m question.now.cat d question.now.asked) i (I.left input.new) result (O.got out.old) (O.got out.new) }
@@ -204,7 +205,7 @@ pub fn answer_input<F: Folder, I: Input, O: Sink, L: Ledger>(
     ensures never { (m : Files) → F.names folder.old ≡ Some m → (name : List ℕ) (was : ℕ) (now : Option ℕ) → result ≡ Err (Fault.Changed name was now) → ⊥ }
     ensures cause { HasCauses (F.faults folder.old) (F.faults folder.new) (O.faults out.old) (O.faults out.new) result }
     ensures input_cause { HasCause Fault.InputFault (I.faults input.old) (I.faults input.new) result }
-    ensures ready { IsReady F.Folder folder.new question.now.cat points.new.pixels.lane }
+    ensures ready { IsReadyWith F.Folder S.told S.cat folder.new question.now.cat points.new.pixels.lane }
     ensures room { length points.new.room.values.items ≡ length points.old.room.values.items }
     ensures late { IfErr result IsOfLines }
     ensures differs { Differs result }

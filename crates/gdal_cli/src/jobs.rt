@@ -29,9 +29,11 @@ use command_words::{BandNumber, BlockCount, Command, Job};
 use error_lines::Fault;
 use info_report::write_info;
 use input_points::Position;
+use lane_teams::{WorkerCount, lines_for};
 use location_report::Form;
 use mosaic_builds::Building;
 use outside::{Folder, Input, Name, Sink};
+use shared_lines::{Lines, Scene};
 use std::alloc::Global;
 use std::marker::Brand;
 use std::sync::ledger::{Blank, Ledger};
@@ -56,8 +58,15 @@ struct LocateOptions {
     geoloc: bool,
     // Whether the sums of records are to be checked.
     verify: bool,
-    // How many blocks are held at once.
+    // How much is held.
+    pools: Pools,
+}
+
+// How many blocks are held at once, and by how many workers.
+#[derive(Clone, Copy)]
+struct Pools {
     blocks: BlockCount,
+    workers: WorkerCount,
 }
 
 // Puts the report of a dataset.
@@ -85,16 +94,19 @@ fn put_info<F: Folder, O: Sink>(
     Ok(())
 }
 
-// Answers a point of a dataset, or the lines of the input where none is given, through one lane.
-fn put_answers<F: Folder, I: Input, O: Sink, L: Ledger>(
+// Answers a point of a dataset, or the lines of the input where none is given, through one lane. Of several workers this
+// one has lines besides, as many as its pool has blocks.
+fn put_answers<F: Folder, I: Input, O: Sink, L: Ledger, S: Scene>(
     question: &Question,
     folder: &mut F,
     input: &mut I,
     out: &mut O,
     point: Option<(Position, Position)>,
-    blocks: BlockCount,
+    pools: Pools,
     blank: Blank,
 ) -> Result<(), Fault>
+    requires told { S.told ≡ F.names folder.old }
+    requires scene { S.cat ≡ question.now.cat }
     requires name { blank.name ≡ L.name }
     requires parts { blank.parts ≡ L.parts }
     requires some { 0 < blank.parts }
@@ -114,7 +126,12 @@ fn put_answers<F: Folder, I: Input, O: Sink, L: Ledger>(
     ensures writes { F.write_calls folder.new ≡ F.write_calls folder.old }
 {
     let bands = question.asked.bands.len();
-    let mut points: PointReader<F, L> = PointReader::new(question.alloc, blocks, bands, blank)?;
+    let alloc = question.alloc;
+    let blocks = pools.blocks;
+    let cat = &question.cat;
+    let made: Option<Lines<S>> = lines_for(alloc, pools.workers, blocks.get(), cat, folder);
+    let shared = made.as_ref();
+    let mut points: PointReader<F, L, S> = PointReader::new(alloc, blocks, bands, shared, blank)?;
     match point {
         Some((x, y)) => put_point(question, &mut points, folder, out, x, y),
         None => answer_input(question, &mut points, folder, input, out),
@@ -155,13 +172,13 @@ fn put_location<F: Folder, I: Input, O: Sink>(
         id,
         asked,
     };
-    put_answers::<F, I, O, Brand>(
+    put_answers::<F, I, O, Brand, Brand>(
         &question,
         folder,
         input,
         out,
         options.point,
-        options.blocks,
+        options.pools,
         Blank::new(1),
     )
 }
@@ -219,7 +236,7 @@ pub fn put_job<R: Threads + Sync, F: Folder, I: Input, O: Sink, E: Sink>(
                 form,
                 geoloc,
                 verify,
-                blocks,
+                pools: Pools { blocks, workers },
             };
             put_location(alloc, folder, input, out, &name, bands.as_slice(), options)
         }

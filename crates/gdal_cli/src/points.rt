@@ -3,9 +3,9 @@ ghost use Rattle.std.specs.Prelude.{◌≡◌, ◌≤◌, ℕ, pos, List, [], Al
 ghost use Rattle.outside.specs.Outside.{Files};
 ghost use Rattle.outside.specs.Causes.{HasCause};
 ghost use Rattle.catalog.specs.Drivers.{Dataset};
-ghost use Rattle.nearest_window.specs.Right.{IsReady};
 ghost use Rattle.location_report.specs.Covering.{covering_files};
 ghost use Rattle.error_lines.specs.Faults.{IsOutside, Differs, HasCauses, IsOfReading};
+ghost use Rattle.gdal_cli.specs.Lanes.{IsReadyWith};
 ghost use Rattle.gdal_cli.specs.Location.{told_text, point_text, PutsText};
 ghost use Rattle.gdal_cli.specs.Pixels.{IsPixel, AreBands};
 
@@ -17,6 +17,7 @@ use error_lines::Fault;
 use input_points::Position;
 use location_report::{Form, files_at, push_location};
 use outside::{Failed, Folder, Names, Sink};
+use shared_lines::Scene;
 use std::alloc::Global;
 use std::sync::ledger::Ledger;
 
@@ -41,15 +42,15 @@ fn covering(
 }
 
 // Makes the text of a place in the raster, of which only what the form tells is read.
-fn make_inside<F: Folder, L: Ledger>(
+fn make_inside<F: Folder, L: Ledger, S: Scene>(
     question: &Question,
-    pixels: &mut PixelReader<F, L>,
+    pixels: &mut PixelReader<F, L, S>,
     folder: &mut F,
     room: &mut Room,
     x: u32,
     y: u32,
 ) -> Result<(), Fault>
-    requires ready { IsReady F.Folder folder.old question.now.cat pixels.old.lane }
+    requires ready { IsReadyWith F.Folder S.told S.cat folder.old question.now.cat pixels.old.lane }
     requires bands { AreBands question.now.cat question.now.id (λ count. All (λ band. (1 ≤ band) × (band ≤ count)) question.now.asked.bands) }
     requires room { length room.old.values.items ≡ length question.now.asked.bands }
     requires pixel { IsPixel question.now.cat question.now.id x y }
@@ -59,7 +60,7 @@ fn make_inside<F: Folder, L: Ledger>(
     ensures cause { HasCause Fault.FolderFault (F.faults folder.old) (F.faults folder.new) result }
     ensures not_input { result ≡ Err Fault.InputFault → ⊥ }
     ensures not_out { result ≡ Err Fault.OutFault → ⊥ }
-    ensures ready { IsReady F.Folder folder.new question.now.cat pixels.new.lane }
+    ensures ready { IsReadyWith F.Folder S.told S.cat folder.new question.now.cat pixels.new.lane }
     ensures room { length room.new.values.items ≡ length room.old.values.items }
     ensures late { IfErr result IsOfReading }
     ensures differs { Differs result }
@@ -96,15 +97,15 @@ fn make_inside<F: Folder, L: Ledger>(
 }
 
 // Makes the text of a place.
-fn make_text<F: Folder, L: Ledger>(
+fn make_text<F: Folder, L: Ledger, S: Scene>(
     question: &Question,
-    pixels: &mut PixelReader<F, L>,
+    pixels: &mut PixelReader<F, L, S>,
     folder: &mut F,
     room: &mut Room,
     column: i128,
     line: i128,
 ) -> Result<(), Fault>
-    requires ready { IsReady F.Folder folder.old question.now.cat pixels.old.lane }
+    requires ready { IsReadyWith F.Folder S.told S.cat folder.old question.now.cat pixels.old.lane }
     requires bands { AreBands question.now.cat question.now.id (λ count. All (λ band. (1 ≤ band) × (band ≤ count)) question.now.asked.bands) }
     requires room { length room.old.values.items ≡ length question.now.asked.bands }
     ensures text { (m : Files) → F.names folder.old ≡ Some m → (d : Dataset) → slice_get question.now.cat question.now.id ≡ Some d → OnOk result (room.new.text.items ≡ told_text m question.now.cat d question.now.asked (column, line)) }
@@ -112,7 +113,7 @@ fn make_text<F: Folder, L: Ledger>(
     ensures cause { HasCause Fault.FolderFault (F.faults folder.old) (F.faults folder.new) result }
     ensures not_input { result ≡ Err Fault.InputFault → ⊥ }
     ensures not_out { result ≡ Err Fault.OutFault → ⊥ }
-    ensures ready { IsReady F.Folder folder.new question.now.cat pixels.new.lane }
+    ensures ready { IsReadyWith F.Folder S.told S.cat folder.new question.now.cat pixels.new.lane }
     ensures room { length room.new.values.items ≡ length room.old.values.items }
     ensures late { IfErr result IsOfReading }
     ensures differs { Differs result }
@@ -145,22 +146,22 @@ fn make_text<F: Folder, L: Ledger>(
 /// FolderFault and OutFault come only where the count of the folder and of the output rose, Changed only over a folder
 /// that doesn't tell its names, Memory freely. Nothing was put then, but for an OutFault, before which a first part of
 /// the text was.
-pub fn put_point<F: Folder, O: Sink, L: Ledger>(
+pub fn put_point<F: Folder, O: Sink, L: Ledger, S: Scene>(
     question: &Question,
-    points: &mut PointReader<F, L>,
+    points: &mut PointReader<F, L, S>,
     folder: &mut F,
     out: &mut O,
     x: Position,
     y: Position,
 ) -> Result<(), Fault>
-    requires ready { IsReady F.Folder folder.old question.now.cat points.old.pixels.lane }
+    requires ready { IsReadyWith F.Folder S.told S.cat folder.old question.now.cat points.old.pixels.lane }
     requires bands { AreBands question.now.cat question.now.id (λ count. All (λ band. (1 ≤ band) × (band ≤ count)) question.now.asked.bands) }
     requires room { length points.old.room.values.items ≡ length question.now.asked.bands }
     ensures told { (m : Files) → F.names folder.old ≡ Some m → (d : Dataset) → slice_get question.now.cat question.now.id ≡ Some d → PutsText (point_text m question.now.cat d question.now.asked x y) result (O.got out.old) (O.got out.new) }
     ensures never { (m : Files) → F.names folder.old ≡ Some m → (name : List ℕ) (was : ℕ) (now : Option ℕ) → result ≡ Err (Fault.Changed name was now) → ⊥ }
     ensures cause { HasCauses (F.faults folder.old) (F.faults folder.new) (O.faults out.old) (O.faults out.new) result }
     ensures not_input { result ≡ Err Fault.InputFault → ⊥ }
-    ensures ready { IsReady F.Folder folder.new question.now.cat points.new.pixels.lane }
+    ensures ready { IsReadyWith F.Folder S.told S.cat folder.new question.now.cat points.new.pixels.lane }
     ensures room { length points.new.room.values.items ≡ length points.old.room.values.items }
     ensures late { IfErr result IsOfReading }
     ensures differs { Differs result }

@@ -9,6 +9,7 @@ use command_words::BlockCount;
 use geotransform::Sample;
 use nearest_window::Lane;
 use outside::Folder;
+use shared_lines::{Lines, Scene};
 use std::alloc::{AllocError, Global};
 use std::sync::ledger::{Blank, Ledger};
 
@@ -21,11 +22,12 @@ pub struct Question {
     pub asked: Asked,
 }
 
-/// What pixels are read with: a lane, and the count of its loads.
+/// What pixels are read with: a lane, the count of its loads, and the lines that it looks for blocks in, if there are any.
 #[derive(Drop)]
-pub struct PixelReader<F: Folder, L: Ledger> {
+pub struct PixelReader<'a, F: Folder, L: Ledger, S: Scene> {
     pub lane: Lane<F>,
     pub loads: Steps<L>,
+    pub shared: Option<&'a Lines<S>>,
 }
 
 /// Room for the values of one point, one for each band, and for its text, which is used again for the next point.
@@ -37,8 +39,8 @@ pub struct Room {
 
 /// What points are answered with, one after the other.
 #[derive(Drop)]
-pub struct PointReader<F: Folder, L: Ledger> {
-    pub pixels: PixelReader<F, L>,
+pub struct PointReader<'a, F: Folder, L: Ledger, S: Scene> {
+    pub pixels: PixelReader<'a, F, L, S>,
     pub room: Room,
 }
 
@@ -54,14 +56,15 @@ impl Room {
     }
 }
 
-impl<F: Folder, L: Ledger> PointReader<F, L> {
+impl<'a, F: Folder, L: Ledger, S: Scene> PointReader<'a, F, L, S> {
     /// A reader that holds so many blocks at a time, for points of so many bands. It has read nothing.
     pub fn new(
         alloc: Global,
         blocks: BlockCount,
         bands: usize,
+        shared: Option<&'a Lines<S>>,
         blank: Blank,
-    ) -> Result<PointReader<F, L>, AllocError>
+    ) -> Result<PointReader<'a, F, L, S>, AllocError>
         requires name { blank.name ≡ L.name }
         requires parts { blank.parts ≡ L.parts }
         requires some { 0 < blank.parts }
@@ -72,7 +75,11 @@ impl<F: Folder, L: Ledger> PointReader<F, L> {
         let lane = Lane::new(alloc, blocks.get())?;
         let room = Room::new(alloc, bands)?;
         Ok(PointReader {
-            pixels: PixelReader { lane, loads },
+            pixels: PixelReader {
+                lane,
+                loads,
+                shared,
+            },
             room,
         })
     }

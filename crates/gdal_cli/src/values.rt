@@ -3,8 +3,8 @@ ghost use Rattle.std.specs.Prelude.{◌≡◌, ◌≤◌, ◌<◌, ◌-◌, All,
 ghost use Rattle.outside.specs.Outside.{Files};
 ghost use Rattle.outside.specs.Causes.{HasCause};
 ghost use Rattle.catalog.specs.Pixels.{pixel_of};
-ghost use Rattle.nearest_window.specs.Right.{IsReady};
 ghost use Rattle.error_lines.specs.Faults.{IsOutside, Differs, IsOfReading};
+ghost use Rattle.gdal_cli.specs.Lanes.{IsReadyWith};
 ghost use Rattle.gdal_cli.specs.Pixels.{IsPixel, AreBands};
 
 use crate::reader::{PixelReader, Question};
@@ -12,22 +12,23 @@ use error_lines::Fault;
 use geotransform::{Rect, Sample};
 use nearest_window::Window;
 use outside::Folder;
+use shared_lines::Scene;
 use std::sync::ledger::Ledger;
 
 // The value of a band, counted from 0, in a column and a line.
-fn read_value<F: Folder, L: Ledger>(
+fn read_value<F: Folder, L: Ledger, S: Scene>(
     question: &Question,
-    pixels: &mut PixelReader<F, L>,
+    pixels: &mut PixelReader<F, L, S>,
     folder: &mut F,
     band: u32,
     x: u32,
     y: u32,
 ) -> Result<Sample, Fault>
-    requires ready { IsReady F.Folder folder.old question.now.cat pixels.old.lane }
+    requires ready { IsReadyWith F.Folder S.told S.cat folder.old question.now.cat pixels.old.lane }
     requires pixel { IsPixel question.now.cat question.now.id x y }
     requires band { AreBands question.now.cat question.now.id (λ count. band < count) }
     ensures value { (m : Files) → F.names folder.old ≡ Some m → IfOk result (λ v. v ≡ pixel_of m question.now.cat question.now.id band x y) }
-    ensures ready { IsReady F.Folder folder.new question.now.cat pixels.new.lane }
+    ensures ready { IsReadyWith F.Folder S.told S.cat folder.new question.now.cat pixels.new.lane }
     ensures never { (m : Files) → F.names folder.old ≡ Some m → IfErr result IsOutside }
     ensures late { IfErr result IsOfReading }
     ensures differs { Differs result }
@@ -43,11 +44,13 @@ fn read_value<F: Folder, L: Ledger>(
         rect: Rect { x, y, w: 1, h: 1 },
     };
     let mut value = [0; 1];
+    let shared = pixels.shared;
     let lane = &mut pixels.lane;
-    lane.read_window(
+    lane.read_window_with(
         question.alloc,
         &question.cat,
         folder,
+        shared,
         window,
         &mut value,
         &mut pixels.loads,
@@ -60,22 +63,22 @@ fn read_value<F: Folder, L: Ledger>(
 /// FolderFault comes only where the folder's count rose, Changed only over a folder that doesn't tell its names, where
 /// a file was opened again and had another length than the walk found or was absent, Memory freely. After a refusal
 /// `values` are unknown.
-pub fn read_values<F: Folder, L: Ledger>(
+pub fn read_values<F: Folder, L: Ledger, S: Scene>(
     question: &Question,
-    pixels: &mut PixelReader<F, L>,
+    pixels: &mut PixelReader<F, L, S>,
     folder: &mut F,
     bands: &[u32],
     x: u32,
     y: u32,
     values: &mut [Sample],
 ) -> Result<(), Fault>
-    requires ready { IsReady F.Folder folder.old question.now.cat pixels.old.lane }
+    requires ready { IsReadyWith F.Folder S.told S.cat folder.old question.now.cat pixels.old.lane }
     requires pixel { IsPixel question.now.cat question.now.id x y }
     requires bands { AreBands question.now.cat question.now.id (λ count. All (λ band. (1 ≤ band) × (band ≤ count)) bands.now) }
     requires room { length values.old ≡ length bands.now }
     ensures values { (m : Files) → F.names folder.old ≡ Some m → OnOk result (values.new ≡ map (λ band. pixel_of m question.now.cat question.now.id (band - 1) x y) bands.now) }
     ensures room { length values.new ≡ length values.old }
-    ensures ready { IsReady F.Folder folder.new question.now.cat pixels.new.lane }
+    ensures ready { IsReadyWith F.Folder S.told S.cat folder.new question.now.cat pixels.new.lane }
     ensures never { (m : Files) → F.names folder.old ≡ Some m → IfErr result IsOutside }
     ensures late { IfErr result IsOfReading }
     ensures differs { Differs result }

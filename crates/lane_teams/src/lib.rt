@@ -4,11 +4,12 @@
 mod beside;
 mod cutting;
 mod pair;
-mod scene;
+mod sharing;
 mod single;
 mod team;
 mod turns;
 mod workers;
 
+pub use sharing::lines_for;
 pub use team::Team;
 pub use workers::WorkerCount;

@@ -16,14 +16,14 @@ ghost use Rattle.lane_teams.specs.Parts.{AreOfWindow};
 ghost use Rattle.lane_teams.specs.Turns.{OnlyReadByViews};
 
 use crate::beside::read_beside;
-use crate::cutting::Job;
+use crate::cutting::{Job, Task};
 use band_blocks::{LoadFault, Steps};
 use catalog::Catalog;
 use geotransform::Sample;
 use nearest_window::{Lane, Window};
 use outside::Folder;
+use shared_lines::{Lines, Scene};
 use std::alloc::{AllocError, Global};
-use std::marker::Brand;
 use std::sync::ledger::{Blank, Ledger};
 use std::thread::Threads;
 
@@ -80,16 +80,20 @@ impl<F: Folder, L: Ledger> Team<F, L> {
     ///
     /// A refusal is that of the first lane that refused, in their order, and its causes are those of
     /// `Lane::read_window`. All views are ended, and all lanes ready, after every answer. `loads` counts the loads of a
-    /// lane that reads through the folder; those of several lanes aren't counted.
-    pub fn read_window<R: Threads + Sync>(
+    /// lane that reads through the folder; those of several lanes aren't counted. Where lines are given, each lane looks
+    /// for blocks in them and offers its own, as `Lane::read_window_with` does.
+    pub fn read_window<R: Threads + Sync, S: Scene>(
         &mut self,
         rt: &R,
         alloc: Global,
         cat: &Catalog,
         folder: &mut F,
+        shared: Option<&Lines<S>>,
         window: Window,
         out: &mut [Sample],
     ) -> Result<(), LoadFault>
+        requires told { S.told ≡ F.names folder.old }
+        requires scene { S.cat ≡ cat.now }
         requires some { 0 < length self.old.lanes.items }
         requires ready { All (IsReady F.Folder folder.old cat.now) self.old.lanes.items }
         requires window { IsWindow cat.now window }
@@ -113,13 +117,15 @@ impl<F: Folder, L: Ledger> Team<F, L> {
         let lanes = self.lanes.as_mut_slice();
         let count = lanes.len();
         if count == 1 || (window.rect.h as usize) < count {
-            return lanes[0].read_window(alloc, cat, folder, window, out, &mut self.loads);
+            let loads = &mut self.loads;
+            return lanes[0].read_window_with(alloc, cat, folder, shared, window, out, loads);
         }
         let job = Job {
             alloc,
             window,
             count,
         };
-        read_beside::<R, F, Brand>(rt, cat, folder, &job, lanes, out)
+        let task = Task { job, shared };
+        read_beside::<R, F, S>(rt, cat, folder, &task, lanes, out)
     }
 }

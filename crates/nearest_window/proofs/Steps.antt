@@ -135,7 +135,7 @@ module _ {File : Type 0} (bytes : File → Option (List ℕ)) (len : File → �
         (serves_beside told p.pool p.files p.made (pool_view (moved_to_front k p.made.entries) p.made.capacity) p.indexes p.recalled f n w l right (subst (λ (q : LaneView File). IsPool q.made) u.1 made_valid) (are_blocks_moved told cat k p.made.entries right.remembered))
   ]
 
-  serves_kept : (told : Option Files) (p q : LaneView File) (f n w l : ℕ) (k : BlockKey) (e : Entry) → IsRight bytes len told cat p.pool p.files p.made p.indexes p.recalled → IsBlock told cat k e.block → IsKept k e p q → IsPool q.pool → IsPool q.made
+  pub serves_kept : (told : Option Files) (p q : LaneView File) (f n w l : ℕ) (k : BlockKey) (e : Entry) → IsRight bytes len told cat p.pool p.files p.made p.indexes p.recalled → IsBlock told cat k e.block → IsKept k e p q → IsPool q.pool → IsPool q.made
       → Serves bytes len cat 0 (lane_state told p.pool p.files p.made p.indexes p.recalled f n w l) (lane_state told q.pool q.files q.made q.indexes q.recalled f n w l)
   serves_kept told p q f n w l k e right new kept valid made_valid = elim kept [
     | inl u ↦
@@ -154,6 +154,13 @@ module _ {File : Type 0} (bytes : File → Option (List ℕ)) (len : File → �
   serves_keep (Err d) told p q f n w l k e right new kept refused valid made_valid =
       subst (λ (q : LaneView File). Serves bytes len cat 1 (lane_state told p.pool p.files p.made p.indexes p.recalled f n w l) (lane_state told q.pool q.files q.made q.indexes q.recalled f n w l)) (sym refused)
       (serves_slack (lane_state told p.pool p.files p.made p.indexes p.recalled f n w l) (lane_state told p.pool p.files p.made p.indexes p.recalled f n w l) (serves_refl (lane_state told p.pool p.files p.made p.indexes p.recalled f n w l) right))
+
+  -- a lane that stays as it was
+  pub serves_same : (told : Option Files) (p q : LaneView File) (f n w l : ℕ) → IsRight bytes len told cat p.pool p.files p.made p.indexes p.recalled → q ≡ p
+      → Serves bytes len cat 0 (lane_state told p.pool p.files p.made p.indexes p.recalled f n w l) (lane_state told q.pool q.files q.made q.indexes q.recalled f n w l)
+  serves_same told p q f n w l right same =
+      subst (λ (q : LaneView File). Serves bytes len cat 0 (lane_state told p.pool p.files p.made p.indexes p.recalled f n w l) (lane_state told q.pool q.files q.made q.indexes q.recalled f n w l)) (sym same)
+      (serves_refl (lane_state told p.pool p.files p.made p.indexes p.recalled f n w l) right)
 
   are_blocks_told : (told told' : Option Files) (es : List (BlockKey × Entry)) → told' ≡ told → AreBlocks told cat es → AreBlocks told' cat es
   are_blocks_told told told' es e h = subst (λ t. AreBlocks t cat es) (sym e) h

@@ -15,7 +15,7 @@ ghost use Rattle.nearest_window.specs.Canvases.{IsCanvas, IsSourceTaken};
 ghost use Rattle.nearest_window.specs.Lanes.{IsHeldWith, IsKept, IsUsed, LaneView, lane_view, held_in, pixel_at, room_of};
 ghost use Rattle.nearest_window.specs.Painted.{IsPainted, in_columns};
 ghost use Rattle.nearest_window.specs.Pictures.{IsPicture, from_block};
-ghost use Rattle.nearest_window.specs.Right.{AreRecalled, IsFresh, IsIndexIn, IsPartBlock, IsReady, IsRight, IsFileKey, IsMosaicKey, Served, TellsChangeIn};
+ghost use Rattle.nearest_window.specs.Right.{AreRecalled, IsFresh, IsIndexIn, IsPartBlock, IsReady, IsRight, IsFileKey, IsMosaicKey, Served, Serves, state_of, TellsChangeIn};
 ghost use Rattle.nearest_window.specs.Shown.{AreTyped, IsAreaOf, IsPictureOf, IsShown, IsTyped, IsBandOf, IsPartOf, IsLonePart, IsSourceOf};
 ghost use Rattle.nearest_window.specs.Taken.{place_at};
 ghost use Rattle.nearest_window.specs.Wanted.{IsWanted, numbers_of};
@@ -33,6 +33,7 @@ use crate::parts::{
 use crate::picture::Picture;
 use crate::places::Span;
 use crate::recalled::Recalled;
+use crate::sharing::{Supply, offer_to, shown_in};
 use crate::taking::taking_of;
 use crate::targets::{Area, Around, Numbered, Piece, band_of, block_around, kind_of, mosaic_rect};
 use crate::wanted::Wanted;
@@ -43,6 +44,7 @@ use block_cache::Pool;
 use catalog::Catalog;
 use geotransform::{Rect, Sample};
 use outside::Folder;
+use shared_lines::Scene;
 use std::alloc::{AllocError, Global};
 use std::marker::Model;
 use std::sync::ledger::Ledger;
@@ -260,16 +262,83 @@ impl<F: Folder> Lane<F> {
         paint_from(&mut self.made, picture, piece, out)
     }
 
-    // Loads a block of a file that isn't held, and keeps it.
-    fn load_kept<L: Ledger>(
+    // Keeps a block that lines showed, as it would be kept once it was loaded or made.
+    fn keep_shown(&mut self, cat: &Catalog, key: BlockKey, block: Block) -> Result<(), LoadFault>
+        requires key { IsKey cat.now key }
+        requires valid { IsPool self.old.pool }
+        requires made_valid { IsPool self.old.made }
+        ensures kept { OnOk result (IsKept key (entry_of block false) self.old self.new) }
+        ensures refused { OnErr result (self.new ≡ self.old) }
+        ensures valid { IsPool self.new.pool }
+        ensures made_valid { IsPool self.new.made }
+    {
+        if band_of(cat, key).is_some() {
+            return self.keep_made(key, block);
+        }
+        self.keep(key, block)
+    }
+
+    // Whether the lines show a block, which is then kept. It isn't where memory is refused.
+    fn takes_shown<S: Scene>(
         &mut self,
-        alloc: Global,
+        supply: &Supply<S>,
+        cat: &Catalog,
+        folder: &F,
+        key: BlockKey,
+    ) -> bool
+        requires ready { IsReady F.Folder folder.now cat.now self.old }
+        requires told { S.told ≡ F.names folder.now }
+        requires scene { S.cat ≡ cat.now }
+        requires key { IsKey cat.now key }
+        ensures serves { (loads : ℕ) → Serves F.file_bytes F.file_len cat.now 0 (state_of F.Folder folder.now self.old loads) (state_of F.Folder folder.now self.new loads) }
+        ensures held { result ≡ true → IsHeldWith key self.new (λ _. ⊤) }
+        ensures same { result ≡ false → self.new ≡ self.old }
+    {
+        let _ = folder;
+        let Some(block) = shown_in(supply, cat, key) else {
+            return false;
+        };
+        match self.keep_shown(cat, key, block) {
+            Ok(_) => return true,
+            Err(_) => return false,
+        }
+    }
+
+    // Whether a block is held, or is so now since the lines showed it.
+    fn finds<S: Scene>(
+        &mut self,
+        supply: &Supply<S>,
+        cat: &Catalog,
+        folder: &F,
+        key: BlockKey,
+    ) -> bool
+        requires ready { IsReady F.Folder folder.now cat.now self.old }
+        requires told { S.told ≡ F.names folder.now }
+        requires scene { S.cat ≡ cat.now }
+        requires key { IsKey cat.now key }
+        ensures serves { (loads : ℕ) → Serves F.file_bytes F.file_len cat.now 0 (state_of F.Folder folder.now self.old loads) (state_of F.Folder folder.now self.new loads) }
+        ensures ready { IsReady F.Folder folder.now cat.now self.new }
+        ensures held { result ≡ true → IsHeldWith key self.new (λ _. ⊤) }
+        ensures absent { result ≡ false → held_at key self.new.pool.entries ≡ None }
+    {
+        if self.holds(&key) {
+            return true;
+        }
+        self.takes_shown(supply, cat, folder, key)
+    }
+
+    // Loads a block of a file that isn't held, and keeps it.
+    fn load_kept<L: Ledger, S: Scene>(
+        &mut self,
+        supply: &Supply<S>,
         cat: &Catalog,
         folder: &mut F,
         key: BlockKey,
         loads: &mut Steps<L>,
     ) -> Result<(), LoadFault>
         requires ready { IsReady F.Folder folder.old cat.now self.old }
+        requires told { S.told ≡ F.names folder.old }
+        requires scene { S.cat ≡ cat.now }
         requires key { IsFileKey cat.now key }
         requires absent { held_at key self.old.pool.entries ≡ None }
         ensures serves { Served F.Folder cat.now result folder.old self.old loads.old folder.new self.new loads.new }
@@ -278,7 +347,8 @@ impl<F: Folder> Lane<F> {
         ensures never { WhereTold F.Folder folder.old (λ _. IfErr result IsUnchanged) }
         ensures held { OnOk result (IsHeldWith key self.new (λ _. ⊤)) }
     {
-        let block = load_block(alloc, cat, folder, &mut self.files, key, loads)?;
+        let block = load_block(supply.alloc, cat, folder, &mut self.files, key, loads)?;
+        offer_to(supply, key, &block);
         self.keep(key, block)
     }
 
@@ -387,15 +457,17 @@ impl<F: Folder> Lane<F> {
 
     // Sees that the block of a key is held.
     #[cycle(read)]
-    fn hold<L: Ledger>(
+    fn hold<L: Ledger, S: Scene>(
         &mut self,
-        alloc: Global,
+        supply: &Supply<S>,
         cat: &Catalog,
         folder: &mut F,
         key: BlockKey,
         loads: &mut Steps<L>,
     ) -> Result<(), LoadFault>
         requires ready { IsReady F.Folder folder.old cat.now self.old }
+        requires told { S.told ≡ F.names folder.old }
+        requires scene { S.cat ≡ cat.now }
         requires key { IsKey cat.now key }
         ensures serves { Served F.Folder cat.now result folder.old self.old loads.old folder.new self.new loads.new }
         ensures cause { HasCause LoadFault.FolderFault (F.faults folder.old) (F.faults folder.new) result }
@@ -403,14 +475,15 @@ impl<F: Folder> Lane<F> {
         ensures never { WhereTold F.Folder folder.old (λ _. IfErr result IsUnchanged) }
         ensures held { OnOk result (IsHeldWith key self.new (λ _. ⊤)) }
     {
-        if self.holds(&key) {
+        if self.finds(supply, cat, folder, key) {
             return Ok(());
         }
         match band_of(cat, key) {
-            None => return self.load_kept(alloc, cat, folder, key, loads),
+            None => return self.load_kept(supply, cat, folder, key, loads),
             Some(band) => {
                 let rect = mosaic_rect(cat, key);
-                let block = self.fill(alloc, cat, folder, key, band, rect, loads)?;
+                let block = self.fill(supply, cat, folder, key, band, rect, loads)?;
+                offer_to(supply, key, &block);
                 return self.keep_made(key, block);
             }
         }
@@ -437,9 +510,9 @@ impl<F: Folder> Lane<F> {
 
     // The samples of a part of a mosaic's block. Those of single pixels are remembered.
     #[cycle(read)]
-    fn part_block<L: Ledger>(
+    fn part_block<L: Ledger, S: Scene>(
         &mut self,
-        alloc: Global,
+        supply: &Supply<S>,
         cat: &Catalog,
         folder: &mut F,
         key: BlockKey,
@@ -447,6 +520,8 @@ impl<F: Folder> Lane<F> {
         loads: &mut Steps<L>,
     ) -> Result<Block, LoadFault>
         requires ready { IsReady F.Folder folder.old cat.now self.old }
+        requires told { S.told ≡ F.names folder.old }
+        requires scene { S.cat ≡ cat.now }
         requires key { IsMosaicKey cat.now key part.band.now }
         requires sources { length part.band.now.sources < 2 ^ 32 }
         requires within { (d : Dataset) → slice_get cat.now key.dataset ≡ Some d → IsWithin part.rect d.head.size }
@@ -457,10 +532,10 @@ impl<F: Folder> Lane<F> {
         ensures never { WhereTold F.Folder folder.old (λ _. IfErr result IsUnchanged) }
         ensures block { IfOk result (λ b. IsPartBlock (F.names folder.new) cat.now key part.entry.rect b) }
     {
-        if let Some(block) = self.recall(alloc, cat, key, part.rect) {
+        if let Some(block) = self.recall(supply.alloc, cat, key, part.rect) {
             return Ok(block);
         }
-        let block = self.fill(alloc, cat, folder, key, part.band, part.rect, loads)?;
+        let block = self.fill(supply, cat, folder, key, part.band, part.rect, loads)?;
         self.note(key, part.rect, &block);
         Ok(block)
     }
@@ -468,9 +543,9 @@ impl<F: Folder> Lane<F> {
     // The samples of a rectangle of a mosaic's band: from the last to the first each source that the rectangle may
     // need is asked for what is still open, until nothing is.
     #[cycle(read)]
-    fn fill<L: Ledger>(
+    fn fill<L: Ledger, S: Scene>(
         &mut self,
-        alloc: Global,
+        supply: &Supply<S>,
         cat: &Catalog,
         folder: &mut F,
         key: BlockKey,
@@ -479,6 +554,8 @@ impl<F: Folder> Lane<F> {
         loads: &mut Steps<L>,
     ) -> Result<Block, LoadFault>
         requires ready { IsReady F.Folder folder.old cat.now self.old }
+        requires told { S.told ≡ F.names folder.old }
+        requires scene { S.cat ≡ cat.now }
         requires key { IsMosaicKey cat.now key band.now }
         requires sources { length band.now.sources < 2 ^ 32 }
         requires within { (d : Dataset) → slice_get cat.now key.dataset ≡ Some d → IsWithin rect d.head.size }
@@ -493,8 +570,8 @@ impl<F: Folder> Lane<F> {
         let _count = cat.count();
         band.rules();
         self.spend(rect);
-        let wanted = self.wanted(alloc, cat, key, band, rect)?;
-        let mut canvas = Canvas::of(alloc, rect, band.kind);
+        let wanted = self.wanted(supply.alloc, cat, key, band, rect)?;
+        let mut canvas = Canvas::of(supply.alloc, rect, band.kind);
         let mut left = wanted.len();
         while is_wanted(left, &canvas) {
             left -= 1;
@@ -505,9 +582,9 @@ impl<F: Folder> Lane<F> {
                 number: number as u32,
                 source,
             };
-            self.paint(alloc, cat, folder, numbered, &mut canvas, loads)?;
+            self.paint(supply, cat, folder, numbered, &mut canvas, loads)?;
         }
-        let block = canvas.packed(alloc, band.nodata.unwrap_or(0))?;
+        let block = canvas.packed(supply.alloc, band.nodata.unwrap_or(0))?;
         // This call is made for the proof: it says what holds of every block.
         let _len = block.len();
         Ok(block)
@@ -515,9 +592,9 @@ impl<F: Folder> Lane<F> {
 
     // Takes what a source of a mosaic's band gives where a canvas is open.
     #[cycle(read)]
-    fn paint<L: Ledger>(
+    fn paint<L: Ledger, S: Scene>(
         &mut self,
-        alloc: Global,
+        supply: &Supply<S>,
         cat: &Catalog,
         folder: &mut F,
         source: Numbered,
@@ -525,6 +602,8 @@ impl<F: Folder> Lane<F> {
         loads: &mut Steps<L>,
     ) -> Result<(), LoadFault>
         requires ready { IsReady F.Folder folder.old cat.now self.old }
+        requires told { S.told ≡ F.names folder.old }
+        requires scene { S.cat ≡ cat.now }
         requires source { IsSourceOf cat.now source.key source.number source.source.now }
         requires within { (d : Dataset) → slice_get cat.now source.key.dataset ≡ Some d → IsWithin canvas.old.rect d.head.size }
         requires canvas { IsCanvas canvas.old }
@@ -535,7 +614,7 @@ impl<F: Folder> Lane<F> {
         ensures canvas { OnOk result (IsCanvas canvas.new) }
         ensures taken { (d : Dataset) → slice_get cat.now source.entry.key.dataset ≡ Some d → OnOk result (IsSourceTaken (F.names folder.new) cat.now d source.entry.key.band source.entry.number source.entry.source.now canvas.old canvas.new) }
     {
-        let Some(asked) = asked_of(alloc, cat, source, canvas)? else {
+        let Some(asked) = asked_of(supply.alloc, cat, source, canvas)? else {
             return Ok(());
         };
         let Asked {
@@ -543,9 +622,9 @@ impl<F: Folder> Lane<F> {
             part,
             mut pixels,
         } = asked;
-        self.paint_picture(alloc, cat, folder, &picture, pixels.as_mut_slice(), loads)?;
+        self.paint_picture(supply, cat, folder, &picture, pixels.as_mut_slice(), loads)?;
         let taking = taking_of(source.source);
-        canvas.take(alloc, &taking, part, pixels)?;
+        canvas.take(supply.alloc, &taking, part, pixels)?;
         Ok(())
     }
 
@@ -577,9 +656,9 @@ impl<F: Folder> Lane<F> {
 
     // Paints a picture over its rows, one row of blocks after the other, or fewer lines at a time.
     #[cycle(read)]
-    fn paint_picture<L: Ledger>(
+    fn paint_picture<L: Ledger, S: Scene>(
         &mut self,
-        alloc: Global,
+        supply: &Supply<S>,
         cat: &Catalog,
         folder: &mut F,
         picture: &Picture,
@@ -587,6 +666,8 @@ impl<F: Folder> Lane<F> {
         loads: &mut Steps<L>,
     ) -> Result<(), LoadFault>
         requires ready { IsReady F.Folder folder.old cat.now self.old }
+        requires told { S.told ≡ F.names folder.old }
+        requires scene { S.cat ≡ cat.now }
         requires picture { IsPictureOf cat.now picture.now }
         requires rows { length out.old ≡ picture.now.height * picture.now.stride }
         ensures serves { Served F.Folder cat.now result folder.old self.old loads.old folder.new self.new loads.new }
@@ -609,7 +690,7 @@ impl<F: Folder> Lane<F> {
             };
             let from = line as usize * picture.stride;
             let part = &mut out[from..end as usize * picture.stride];
-            self.paint_band(alloc, cat, folder, picture, lines, part, loads)?;
+            self.paint_band(supply, cat, folder, picture, lines, part, loads)?;
             line = end;
         }
         Ok(())
@@ -617,9 +698,9 @@ impl<F: Folder> Lane<F> {
 
     // Paints lines of a picture that lie in one row of blocks, all columns at a time or one block after the other.
     #[cycle(read)]
-    fn paint_band<L: Ledger>(
+    fn paint_band<L: Ledger, S: Scene>(
         &mut self,
-        alloc: Global,
+        supply: &Supply<S>,
         cat: &Catalog,
         folder: &mut F,
         picture: &Picture,
@@ -628,6 +709,8 @@ impl<F: Folder> Lane<F> {
         loads: &mut Steps<L>,
     ) -> Result<(), LoadFault>
         requires ready { IsReady F.Folder folder.old cat.now self.old }
+        requires told { S.told ≡ F.names folder.old }
+        requires scene { S.cat ≡ cat.now }
         requires picture { IsPictureOf cat.now picture.now }
         requires lines { lines.first + lines.count ≤ picture.now.height }
         requires some { 0 < lines.count }
@@ -643,18 +726,18 @@ impl<F: Folder> Lane<F> {
         if let Some(rows) = self.wide_rows(cat, picture, lines) {
             let Rows { band, piece } = rows;
             let Piece { key, rect, area } = piece;
-            let block = self.fill(alloc, cat, folder, key, band, rect, loads)?;
+            let block = self.fill(supply, cat, folder, key, band, rect, loads)?;
             paint_rows(&block, rect, picture, area, out);
             return Ok(());
         }
-        self.paint_pieces(alloc, cat, folder, picture, lines, out, loads)
+        self.paint_pieces(supply, cat, folder, picture, lines, out, loads)
     }
 
     // Paints lines of a picture that lie in one row of blocks, one block after the other.
     #[cycle(read)]
-    fn paint_pieces<L: Ledger>(
+    fn paint_pieces<L: Ledger, S: Scene>(
         &mut self,
-        alloc: Global,
+        supply: &Supply<S>,
         cat: &Catalog,
         folder: &mut F,
         picture: &Picture,
@@ -663,6 +746,8 @@ impl<F: Folder> Lane<F> {
         loads: &mut Steps<L>,
     ) -> Result<(), LoadFault>
         requires ready { IsReady F.Folder folder.old cat.now self.old }
+        requires told { S.told ≡ F.names folder.old }
+        requires scene { S.cat ≡ cat.now }
         requires picture { IsPictureOf cat.now picture.now }
         requires lines { lines.first + lines.count ≤ picture.now.height }
         requires some { 0 < lines.count }
@@ -688,7 +773,7 @@ impl<F: Folder> Lane<F> {
                 lines: lines.count,
             };
             let piece = Piece { key, rect, area };
-            self.paint_block(alloc, cat, folder, picture, piece, out, loads)?;
+            self.paint_block(supply, cat, folder, picture, piece, out, loads)?;
             column = end;
         }
         Ok(())
@@ -735,9 +820,9 @@ impl<F: Folder> Lane<F> {
 
     // Paints a piece of a picture.
     #[cycle(read)]
-    fn paint_block<L: Ledger>(
+    fn paint_block<L: Ledger, S: Scene>(
         &mut self,
-        alloc: Global,
+        supply: &Supply<S>,
         cat: &Catalog,
         folder: &mut F,
         picture: &Picture,
@@ -746,6 +831,8 @@ impl<F: Folder> Lane<F> {
         loads: &mut Steps<L>,
     ) -> Result<(), LoadFault>
         requires ready { IsReady F.Folder folder.old cat.now self.old }
+        requires told { S.told ≡ F.names folder.old }
+        requires scene { S.cat ≡ cat.now }
         requires picture { IsPictureOf cat.now picture.now }
         requires piece { IsPartOf cat.now picture.now piece }
         requires area { IsAreaOf picture.now piece.area }
@@ -758,25 +845,25 @@ impl<F: Folder> Lane<F> {
         ensures typed { OnOk result (IsTyped cat.now picture.now piece.area.column piece.area.columns out.old out.new) }
     {
         if let Some(part) = self.lone_part(cat, picture, piece) {
-            let block = self.part_block(alloc, cat, folder, piece.key, part, loads)?;
+            let block = self.part_block(supply, cat, folder, piece.key, part, loads)?;
             paint_rows(&block, part.rect, picture, piece.area, out);
             return Ok(());
         }
         if self.is_jump(cat, picture, piece) {
             let rect = pixel_rect(picture, piece.area);
-            let block = self.load_alone(alloc, cat, folder, piece.key, rect, loads)?;
+            let block = self.load_alone(supply.alloc, cat, folder, piece.key, rect, loads)?;
             paint_rows(&block, rect, picture, piece.area, out);
             return Ok(());
         }
-        self.hold(alloc, cat, folder, piece.key, loads)?;
+        self.hold(supply, cat, folder, piece.key, loads)?;
         self.paint_held(picture, piece, out);
         Ok(())
     }
 
     // Paints the picture of a window, as `paint_picture`, in a new count of pixels.
-    pub(crate) fn paint_window<L: Ledger>(
+    pub(crate) fn paint_window<L: Ledger, S: Scene>(
         &mut self,
-        alloc: Global,
+        supply: &Supply<S>,
         cat: &Catalog,
         folder: &mut F,
         picture: &Picture,
@@ -784,6 +871,8 @@ impl<F: Folder> Lane<F> {
         loads: &mut Steps<L>,
     ) -> Result<(), LoadFault>
         requires ready { IsReady F.Folder folder.old cat.now self.old }
+        requires told { S.told ≡ F.names folder.old }
+        requires scene { S.cat ≡ cat.now }
         requires picture { IsPictureOf cat.now picture.now }
         requires rows { length out.old ≡ picture.now.height * picture.now.stride }
         ensures serves { Served F.Folder cat.now result folder.old self.old loads.old folder.new self.new loads.new }
@@ -794,6 +883,6 @@ impl<F: Folder> Lane<F> {
         ensures typed { OnOk result (AreTyped cat.now picture.now (picture.now.height * picture.now.stride) out.new) }
     {
         self.begin(cat, out.len());
-        self.paint_picture(alloc, cat, folder, picture, out, loads)
+        self.paint_picture(supply, cat, folder, picture, out, loads)
     }
 }

@@ -14,6 +14,7 @@ mod parts;
 mod picture;
 mod places;
 mod recalled;
+mod sharing;
 mod taking;
 mod targets;
 mod wanted;

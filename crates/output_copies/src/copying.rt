@@ -11,16 +11,18 @@ use crate::progress::{Share, tell};
 use error_lines::Fault;
 use geotransform::{Rect, Sample};
 use outside::{Folder, Sink, Steps};
+use shared_lines::Scene;
 use std::sync::ledger::Ledger;
 use std::thread::Threads;
 use strip_copies::{Lines, StripReader, Translation, read_lines};
 use write_back::Target;
 
-/// What lines are copied with: a reader, the count of the blocks that are written, how many lines are copied at a time, and
-/// whether nothing is told.
+/// What lines are copied with: a reader, the lines that its lanes share, if there are any, the count of the blocks that are
+/// written, how many lines are copied at a time, and whether nothing is told.
 #[derive(Drop)]
-pub struct Copier<F: Folder, L: Ledger, W: Ledger> {
+pub struct Copier<'a, F: Folder, L: Ledger, W: Ledger, S: Scene> {
     pub reader: StripReader<F, L>,
+    pub shared: Option<&'a shared_lines::Lines<S>>,
     pub writes: Steps<W>,
     pub rows: u32,
     pub quiet: bool,
@@ -41,17 +43,17 @@ struct Strip {
 }
 
 // Copies lines of a band.
-fn copy_band<R: Threads + Sync, F: Folder, L: Ledger, W: Ledger>(
+fn copy_band<R: Threads + Sync, F: Folder, L: Ledger, W: Ledger, S: Scene>(
     rt: &R,
     translation: &Translation,
-    copier: &mut Copier<F, L, W>,
+    copier: &mut Copier<F, L, W, S>,
     folder: &mut F,
     target: &mut Target<F>,
     lines: Lines,
     samples: &mut [Sample],
 ) -> Result<(), Fault>
     requires translation { IsTranslation translation.now.cat translation.now.id translation.now.plan }
-    requires ready { AreLanesReady F.Folder folder.old translation.now.cat copier.old.reader.team.lanes.items }
+    requires ready { AreLanesReady F.Folder S.told S.cat folder.old translation.now.cat copier.old.reader.team.lanes.items }
     requires room { IsRoomFor translation.now.cat translation.now.id translation.now.plan copier.old.reader.columns copier.old.reader.samples.items }
     requires long { translation.now.plan.size.w * (lines.end - lines.first) ≤ length samples.old }
     requires band { lines.band < length translation.now.plan.bands }
@@ -60,7 +62,7 @@ fn copy_band<R: Threads + Sync, F: Folder, L: Ledger, W: Ledger>(
     requires filled { IsFilled (F.names folder.old) translation.now.cat translation.now.id translation.now.plan target.old lines.first lines.end lines.band }
     ensures filled { OnOk result (IsFilled (F.names folder.new) translation.now.cat translation.now.id translation.now.plan target.new lines.first lines.end (lines.band + 1)) }
     ensures name { target.new.name ≡ target.old.name }
-    ensures ready { AreLanesReady F.Folder folder.new translation.now.cat copier.new.reader.team.lanes.items }
+    ensures ready { AreLanesReady F.Folder S.told S.cat folder.new translation.now.cat copier.new.reader.team.lanes.items }
     ensures room { IsRoomFor translation.now.cat translation.now.id translation.now.plan copier.new.reader.columns copier.new.reader.samples.items }
     ensures names { F.names folder.new ≡ F.names folder.old }
     ensures ends { MayEnd (F.names folder.old) (F.faults folder.old) (F.faults folder.new) 0 0 result }
@@ -75,27 +77,28 @@ fn copy_band<R: Threads + Sync, F: Folder, L: Ledger, W: Ledger>(
         w: size.w,
         h: height,
     };
+    let shared = copier.shared;
     let reader = &mut copier.reader;
     let writes = &mut copier.writes;
     let part = &mut samples[..area(size.w, height)];
-    read_lines(rt, translation, reader, folder, lines, part)?;
+    read_lines(rt, translation, reader, folder, shared, lines, part)?;
     let alloc = translation.alloc;
     target.write_window(alloc, folder, lines.band, rect, part, writes)?;
     Ok(())
 }
 
 // Copies the lines of a strip of all bands.
-fn copy_strip<R: Threads + Sync, F: Folder, L: Ledger, W: Ledger>(
+fn copy_strip<R: Threads + Sync, F: Folder, L: Ledger, W: Ledger, S: Scene>(
     rt: &R,
     translation: &Translation,
-    copier: &mut Copier<F, L, W>,
+    copier: &mut Copier<F, L, W, S>,
     folder: &mut F,
     target: &mut Target<F>,
     strip: Strip,
     samples: &mut [Sample],
 ) -> Result<(), Fault>
     requires translation { IsTranslation translation.now.cat translation.now.id translation.now.plan }
-    requires ready { AreLanesReady F.Folder folder.old translation.now.cat copier.old.reader.team.lanes.items }
+    requires ready { AreLanesReady F.Folder S.told S.cat folder.old translation.now.cat copier.old.reader.team.lanes.items }
     requires room { IsRoomFor translation.now.cat translation.now.id translation.now.plan copier.old.reader.columns copier.old.reader.samples.items }
     requires long { translation.now.plan.size.w * (strip.end - strip.first) ≤ length samples.old }
     requires order { strip.first < strip.end }
@@ -103,7 +106,7 @@ fn copy_strip<R: Threads + Sync, F: Folder, L: Ledger, W: Ledger>(
     requires filled { IsFilled (F.names folder.old) translation.now.cat translation.now.id translation.now.plan target.old strip.first strip.first 0 }
     ensures filled { OnOk result (IsFilled (F.names folder.new) translation.now.cat translation.now.id translation.now.plan target.new strip.end strip.end 0) }
     ensures name { target.new.name ≡ target.old.name }
-    ensures ready { AreLanesReady F.Folder folder.new translation.now.cat copier.new.reader.team.lanes.items }
+    ensures ready { AreLanesReady F.Folder S.told S.cat folder.new translation.now.cat copier.new.reader.team.lanes.items }
     ensures room { IsRoomFor translation.now.cat translation.now.id translation.now.plan copier.new.reader.columns copier.new.reader.samples.items }
     ensures names { F.names folder.new ≡ F.names folder.old }
     ensures ends { MayEnd (F.names folder.old) (F.faults folder.old) (F.faults folder.new) 0 0 result }
@@ -123,17 +126,17 @@ fn copy_strip<R: Threads + Sync, F: Folder, L: Ledger, W: Ledger>(
 }
 
 /// Copies all lines of all bands, strip by strip, and tells how far it is.
-pub fn copy_all<R: Threads + Sync, F: Folder, O: Sink, L: Ledger, W: Ledger>(
+pub fn copy_all<R: Threads + Sync, F: Folder, O: Sink, L: Ledger, W: Ledger, S: Scene>(
     rt: &R,
     translation: &Translation,
-    copier: &mut Copier<F, L, W>,
+    copier: &mut Copier<F, L, W, S>,
     folder: &mut F,
     target: &mut Target<F>,
     out: &mut O,
     samples: &mut [Sample],
 ) -> Result<(), Fault>
     requires translation { IsTranslation translation.now.cat translation.now.id translation.now.plan }
-    requires ready { AreLanesReady F.Folder folder.old translation.now.cat copier.old.reader.team.lanes.items }
+    requires ready { AreLanesReady F.Folder S.told S.cat folder.old translation.now.cat copier.old.reader.team.lanes.items }
     requires room { IsRoomFor translation.now.cat translation.now.id translation.now.plan copier.old.reader.columns copier.old.reader.samples.items }
     requires rows { 1 ≤ copier.old.rows }
     requires long { translation.now.plan.size.w * copier.old.rows ≤ length samples.old }

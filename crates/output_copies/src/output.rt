@@ -18,8 +18,9 @@ use crate::documents::write_document;
 use crate::texts::{put_end, put_size};
 use error_lines::Fault;
 use geotransform::Sample;
-use lane_teams::WorkerCount;
+use lane_teams::{WorkerCount, lines_for};
 use outside::{Folder, Name, Sink, Steps};
+use shared_lines::{Lines, Scene};
 use std::marker::Brand;
 use std::sync::ledger::{Blank, Ledger};
 use std::thread::Threads;
@@ -38,12 +39,13 @@ pub struct Writing<'a> {
 }
 
 // What a translation's lines are copied with.
-fn copier_for<F: Folder, L: Ledger, W: Ledger>(
+fn copier_for<'a, F: Folder, L: Ledger, W: Ledger, S: Scene>(
     translation: &Translation,
+    shared: Option<&'a Lines<S>>,
     writing: &Writing,
     loads: Blank,
     writes: Blank,
-) -> Result<Copier<F, L, W>, Fault>
+) -> Result<Copier<'a, F, L, W, S>, Fault>
     requires translation { IsTranslation translation.now.cat translation.now.id translation.now.plan }
     requires some { 1 ≤ writing.now.blocks }
     requires few { writing.now.blocks ≤ 65536 }
@@ -65,6 +67,7 @@ fn copier_for<F: Folder, L: Ledger, W: Ledger>(
     let quiet = writing.quiet;
     Ok(Copier {
         reader,
+        shared,
         writes,
         rows,
         quiet,
@@ -101,7 +104,7 @@ fn publish<F: Folder, W: Ledger>(
 }
 
 // Copies the lines of an output, and publishes its files.
-fn write_files<R: Threads + Sync, F: Folder, O: Sink, L: Ledger, W: Ledger>(
+fn write_files<R: Threads + Sync, F: Folder, O: Sink, L: Ledger, W: Ledger, S: Scene>(
     rt: &R,
     translation: &Translation,
     folder: &mut F,
@@ -112,6 +115,8 @@ fn write_files<R: Threads + Sync, F: Folder, O: Sink, L: Ledger, W: Ledger>(
 ) -> Result<(), Fault>
     requires translation { IsTranslation translation.now.cat translation.now.id translation.now.plan }
     requires walked { WhereTold F.Folder folder.old (λ m. IsWalked m translation.now.cat) }
+    requires told { S.told ≡ F.names folder.old }
+    requires scene { S.cat ≡ translation.now.cat }
     requires some { 1 ≤ writing.now.blocks }
     requires few { writing.now.blocks ≤ 65536 }
     requires files { translation.now.plan.driver ≢ Vrt }
@@ -129,7 +134,10 @@ fn write_files<R: Threads + Sync, F: Folder, O: Sink, L: Ledger, W: Ledger>(
     let alloc = translation.alloc;
     let plan = &translation.plan;
     let blocks = writing.blocks;
-    let mut copier: Copier<F, L, W> = copier_for(translation, writing, loads, writes)?;
+    let cat = &translation.cat;
+    let made: Option<Lines<S>> = lines_for(alloc, writing.workers, blocks, cat, folder);
+    let shared = made.as_ref();
+    let mut copier: Copier<F, L, W, S> = copier_for(translation, shared, writing, loads, writes)?;
     let mut samples = room_for(translation, copier.rows)?;
     let mut target = Target::create(alloc, folder, plan, writing.name, blocks)?;
     match copy_all(
@@ -170,7 +178,7 @@ fn write_planned<R: Threads + Sync, F: Folder, O: Sink>(
     if let Driver::Vrt = translation.plan.driver {
         return write_document(translation, folder, out, writing);
     }
-    write_files::<R, F, O, Brand, Brand>(
+    write_files::<R, F, O, Brand, Brand, Brand>(
         rt,
         translation,
         folder,

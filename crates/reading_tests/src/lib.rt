@@ -32,6 +32,8 @@ mod pools;
 #[cfg(test)]
 mod reads;
 #[cfg(test)]
+mod sharing;
+#[cfg(test)]
 mod short_calls;
 #[cfg(test)]
 mod walks;

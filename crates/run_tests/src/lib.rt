@@ -29,6 +29,8 @@ mod points;
 #[cfg(test)]
 mod raw;
 #[cfg(test)]
+mod sharing;
+#[cfg(test)]
 mod stories;
 #[cfg(test)]
 mod synth;

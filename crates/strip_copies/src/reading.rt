@@ -29,6 +29,7 @@ use geotransform::{Rect, Sample, Size};
 use lane_teams::{Team, WorkerCount};
 use nearest_window::Window;
 use outside::Folder;
+use shared_lines::Scene;
 use std::alloc::{AllocError, Global};
 use std::sync::ledger::{Blank, Ledger};
 use std::thread::Threads;
@@ -162,43 +163,45 @@ fn making_of<'a>(translation: &'a Translation, columns: &'a Columns, band: u32) 
     }
 }
 
-// A translation, and the columns of its source that are read.
-#[derive(Clone, Copy)]
-struct Shown<'a> {
+// A translation, the columns of its source that are read, and the lines that lanes share, if there are any.
+#[derive(Drop)]
+struct Shown<'a, S: Scene> {
     translation: &'a Translation,
     columns: &'a Columns,
+    shared: Option<&'a shared_lines::Lines<S>>,
 }
 
 // Reads the lines of a run. After a refusal `strip` and `out` are unknown.
-fn read_part<R: Threads + Sync, F: Folder, L: Ledger>(
+fn read_part<R: Threads + Sync, F: Folder, L: Ledger, S: Scene>(
     rt: &R,
-    shown: Shown,
+    shown: &Shown<S>,
     team: &mut Team<F, L>,
     folder: &mut F,
     run: Run,
     strip: &mut [Sample],
     out: &mut [Sample],
 ) -> Result<(), LoadFault>
-    requires ready { AreLanesReady F.Folder folder.old shown.translation.now.cat team.old.lanes.items }
-    requires translation { IsTranslation shown.translation.now.cat shown.translation.now.id shown.translation.now.plan }
-    requires part { IsPart shown.translation.now.cat shown.translation.now.id shown.translation.now.plan shown.columns.now run }
-    requires strip { length strip.old ≡ shown.columns.now.count * run.span.height }
-    requires room { length out.old ≡ (run.end - run.first) * shown.translation.now.plan.size.w }
-    ensures samples { OnOk result (AreOf (F.names folder.old) shown.entry.translation.now.cat shown.entry.translation.now.id shown.entry.translation.now.plan run.band run.first (length out.old) out.new) }
-    ensures ready { AreLanesReady F.Folder folder.new shown.entry.translation.now.cat team.new.lanes.items }
+    requires ready { AreLanesReady F.Folder S.told S.cat folder.old shown.now.translation.now.cat team.old.lanes.items }
+    requires translation { IsTranslation shown.now.translation.now.cat shown.now.translation.now.id shown.now.translation.now.plan }
+    requires part { IsPart shown.now.translation.now.cat shown.now.translation.now.id shown.now.translation.now.plan shown.now.columns.now run }
+    requires strip { length strip.old ≡ shown.now.columns.now.count * run.span.height }
+    requires room { length out.old ≡ (run.end - run.first) * shown.now.translation.now.plan.size.w }
+    ensures samples { OnOk result (AreOf (F.names folder.old) shown.now.translation.now.cat shown.now.translation.now.id shown.now.translation.now.plan run.band run.first (length out.old) out.new) }
+    ensures ready { AreLanesReady F.Folder S.told S.cat folder.new shown.now.translation.now.cat team.new.lanes.items }
     ensures lanes { length team.new.lanes.items ≡ length team.old.lanes.items }
     ensures only_read { OnlyReadByViews F.Folder folder.old folder.new }
     ensures cause { HasCause LoadFault.FolderFault (F.faults folder.old) (F.faults folder.new) result }
-    ensures changed { IfErr result (TellsChangeIn shown.entry.translation.now.cat) }
+    ensures changed { IfErr result (TellsChangeIn shown.now.translation.now.cat) }
     ensures never { WhereTold F.Folder folder.old (λ _. IfErr result IsUnchanged) }
     ensures counted { team.old.loads ≤ team.new.loads }
-    ensures reads { length team.old.lanes.items ≡ 1 → F.read_calls folder.new ≤ F.read_calls folder.old + most_calls shown.entry.translation.now.cat * (team.new.loads - team.old.loads) }
+    ensures reads { length team.old.lanes.items ≡ 1 → F.read_calls folder.new ≤ F.read_calls folder.old + most_calls shown.now.translation.now.cat * (team.new.loads - team.old.loads) }
 {
     let translation = shown.translation;
     let columns = shown.columns;
     let window = window_of(translation, columns, run);
     let alloc = translation.alloc;
-    team.read_window(rt, alloc, &translation.cat, folder, window, strip)?;
+    let cat = &translation.cat;
+    team.read_window(rt, alloc, cat, folder, shown.shared, window, strip)?;
     let making = making_of(translation, columns, run.band);
     make_lines(making, run, strip, out);
     Ok(())
@@ -218,31 +221,31 @@ fn lines_in(samples: usize, columns: u32) -> u32
 }
 
 // Reads lines of a band, one run after the other. After a refusal `samples` and `out` are unknown.
-fn read_runs<R: Threads + Sync, F: Folder, L: Ledger>(
+fn read_runs<R: Threads + Sync, F: Folder, L: Ledger, S: Scene>(
     rt: &R,
-    shown: Shown,
+    shown: &Shown<S>,
     team: &mut Team<F, L>,
     folder: &mut F,
     lines: Lines,
     samples: &mut [Sample],
     out: &mut [Sample],
 ) -> Result<(), LoadFault>
-    requires ready { AreLanesReady F.Folder folder.old shown.translation.now.cat team.old.lanes.items }
-    requires translation { IsTranslation shown.translation.now.cat shown.translation.now.id shown.translation.now.plan }
-    requires room { IsRoomFor shown.translation.now.cat shown.translation.now.id shown.translation.now.plan shown.columns.now samples.old }
-    requires band { lines.band < length shown.translation.now.plan.bands }
+    requires ready { AreLanesReady F.Folder S.told S.cat folder.old shown.now.translation.now.cat team.old.lanes.items }
+    requires translation { IsTranslation shown.now.translation.now.cat shown.now.translation.now.id shown.now.translation.now.plan }
+    requires room { IsRoomFor shown.now.translation.now.cat shown.now.translation.now.id shown.now.translation.now.plan shown.now.columns.now samples.old }
+    requires band { lines.band < length shown.now.translation.now.plan.bands }
     requires order { lines.first ≤ lines.end }
-    requires end { lines.end ≤ shown.translation.now.plan.size.h }
-    requires size { length out.old ≡ (lines.end - lines.first) * shown.translation.now.plan.size.w }
-    ensures samples { OnOk result (AreOf (F.names folder.old) shown.entry.translation.now.cat shown.entry.translation.now.id shown.entry.translation.now.plan lines.band lines.first (length out.old) out.new) }
-    ensures ready { AreLanesReady F.Folder folder.new shown.entry.translation.now.cat team.new.lanes.items }
+    requires end { lines.end ≤ shown.now.translation.now.plan.size.h }
+    requires size { length out.old ≡ (lines.end - lines.first) * shown.now.translation.now.plan.size.w }
+    ensures samples { OnOk result (AreOf (F.names folder.old) shown.now.translation.now.cat shown.now.translation.now.id shown.now.translation.now.plan lines.band lines.first (length out.old) out.new) }
+    ensures ready { AreLanesReady F.Folder S.told S.cat folder.new shown.now.translation.now.cat team.new.lanes.items }
     ensures lanes { length team.new.lanes.items ≡ length team.old.lanes.items }
     ensures only_read { OnlyReadByViews F.Folder folder.old folder.new }
     ensures cause { HasCause LoadFault.FolderFault (F.faults folder.old) (F.faults folder.new) result }
-    ensures changed { IfErr result (TellsChangeIn shown.entry.translation.now.cat) }
+    ensures changed { IfErr result (TellsChangeIn shown.now.translation.now.cat) }
     ensures never { WhereTold F.Folder folder.old (λ _. IfErr result IsUnchanged) }
     ensures counted { team.old.loads ≤ team.new.loads }
-    ensures reads { length team.old.lanes.items ≡ 1 → F.read_calls folder.new ≤ F.read_calls folder.old + most_calls shown.entry.translation.now.cat * (team.new.loads - team.old.loads) }
+    ensures reads { length team.old.lanes.items ≡ 1 → F.read_calls folder.new ≤ F.read_calls folder.old + most_calls shown.now.translation.now.cat * (team.new.loads - team.old.loads) }
 {
     let plan = &shown.translation.plan;
     plan.rules();
@@ -264,20 +267,22 @@ fn read_runs<R: Threads + Sync, F: Folder, L: Ledger>(
 
 /// Fills `out` with lines of a band of the translation's output, row by row: each pixel of the output that lies outside
 /// the raster is the band's NODATA, or 0. The lanes of the reader's team read beside each other, and are ready for the
-/// catalog and the folder; the samples are the same for every number of them.
+/// catalog and the folder; the samples are the same for every number of them. Where lines are given, which stand for the
+/// catalog and the folder's files, they look for blocks in them and offer theirs.
 ///
 /// FolderFault comes only where the folder's count rose, Memory freely. Changed comes only where a file was opened again
 /// and had another length than the walk found, or was absent: never over a folder that tells its files. After a refusal
 /// `out` is unknown, and the lanes are still ready. Of one lane each read is behind a load that is counted.
-pub fn read_lines<R: Threads + Sync, F: Folder, L: Ledger>(
+pub fn read_lines<R: Threads + Sync, F: Folder, L: Ledger, S: Scene>(
     rt: &R,
     translation: &Translation,
     reader: &mut StripReader<F, L>,
     folder: &mut F,
+    shared: Option<&shared_lines::Lines<S>>,
     lines: Lines,
     out: &mut [Sample],
 ) -> Result<(), LoadFault>
-    requires ready { AreLanesReady F.Folder folder.old translation.now.cat reader.old.team.lanes.items }
+    requires ready { AreLanesReady F.Folder S.told S.cat folder.old translation.now.cat reader.old.team.lanes.items }
     requires translation { IsTranslation translation.now.cat translation.now.id translation.now.plan }
     requires room { IsRoomFor translation.now.cat translation.now.id translation.now.plan reader.old.columns reader.old.samples.items }
     requires band { lines.band < length translation.now.plan.bands }
@@ -287,7 +292,7 @@ pub fn read_lines<R: Threads + Sync, F: Folder, L: Ledger>(
     ensures pixels { WhereTold F.Folder folder.old (λ m. (d : Dataset) → slice_get translation.now.cat translation.now.id ≡ Some d → OnOk result (out.new ≡ row_by_row (out_pixel translation.now.plan d.head.size (pixel_of_name m d.head.name) lines.band) (lines_rect translation.now.plan.size lines.first lines.end))) }
     // each sample is one that the output can hold, whatever the folder tells
     ensures held { OnOk result (All (IsHeldIn translation.now.plan lines.band) out.new) }
-    ensures ready { AreLanesReady F.Folder folder.new translation.now.cat reader.new.team.lanes.items }
+    ensures ready { AreLanesReady F.Folder S.told S.cat folder.new translation.now.cat reader.new.team.lanes.items }
     ensures lanes { length reader.new.team.lanes.items ≡ length reader.old.team.lanes.items }
     ensures room { IsRoomFor translation.now.cat translation.now.id translation.now.plan reader.new.columns reader.new.samples.items }
     ensures only_read { OnlyReadByViews F.Folder folder.old folder.new }
@@ -302,8 +307,9 @@ pub fn read_lines<R: Threads + Sync, F: Folder, L: Ledger>(
     let shown = Shown {
         translation,
         columns,
+        shared,
     };
     let team = &mut reader.team;
     let samples = reader.samples.as_mut_slice();
-    read_runs(rt, shown, team, folder, lines, samples, out)
+    read_runs(rt, &shown, team, folder, lines, samples, out)
 }

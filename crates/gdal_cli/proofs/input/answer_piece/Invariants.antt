@@ -3,8 +3,8 @@ use Rattle.outside.specs.Outside.{Files}
 use Rattle.input_points.specs.Lines.{ended_lines}
 use Rattle.input_points.specs.Reading.{coming}
 use Rattle.catalog.specs.Drivers.{Dataset}
-use Rattle.nearest_window.specs.Right.{IsReady}
 use Rattle.gdal_cli.specs.Input.{IsReading, Answered, room_of}
+use Rattle.gdal_cli.specs.Lanes.{IsReadyWith}
 use Rattle.gdal_cli.specs.Location.{point_text}
 use Rattle.gdal_cli.proofs.input.answer_piece.Given as goal
 
@@ -18,7 +18,7 @@ invariant-loop-at g l = record {
   most : room_of l.reader ≤ room_of l.fn.reader;
   less : 0 < l.at → room_of l.reader < room_of l.fn.reader;
   room : length l.points.room.values.items ≡ length l.fn.points.room.values.items;
-  ready : IsReady g.F.Folder l.folder l.question.cat l.points.pixels.lane;
+  ready : IsReadyWith g.F.Folder g.S.Scene.told g.S.Scene.cat l.folder l.question.cat l.points.pixels.lane;
   names : g.F.Folder.names l.folder ≡ g.F.Folder.names l.fn.folder;
   writes : g.F.Folder.write_calls l.folder ≡ g.F.Folder.write_calls l.fn.folder;
   folder_later : g.F.Folder.faults l.fn.folder ≤ g.F.Folder.faults l.folder;

@@ -3,8 +3,8 @@ use Rattle.outside.specs.Outside.{Files}
 use Rattle.input_points.specs.Lines.{ended_lines}
 use Rattle.input_points.specs.Reading.{start, coming}
 use Rattle.catalog.specs.Drivers.{Dataset}
-use Rattle.nearest_window.specs.Right.{IsReady}
 use Rattle.gdal_cli.specs.Input.{IsReading, Answered, Taken, room_of}
+use Rattle.gdal_cli.specs.Lanes.{IsReadyWith}
 use Rattle.gdal_cli.specs.Location.{point_text}
 use Rattle.gdal_cli.proofs.input.answer_pieces.Given as goal
 
@@ -17,7 +17,7 @@ invariant-pieces g l = record {
   none : coming ended_lines l.reader [] ≡ [];
   some : 0 < length l.bytes;
   room : length l.points.room.values.items ≡ length l.fn.points.room.values.items;
-  ready : IsReady g.F.Folder l.folder l.question.cat l.points.pixels.lane;
+  ready : IsReadyWith g.F.Folder g.S.Scene.told g.S.Scene.cat l.folder l.question.cat l.points.pixels.lane;
   names : g.F.Folder.names l.folder ≡ g.F.Folder.names l.fn.folder;
   writes : g.F.Folder.write_calls l.folder ≡ g.F.Folder.write_calls l.fn.folder;
   folder_later : g.F.Folder.faults l.fn.folder ≤ g.F.Folder.faults l.folder;

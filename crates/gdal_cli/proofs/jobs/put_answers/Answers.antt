@@ -43,7 +43,15 @@ pub returns-in-Some-clause-lines : goal.returns-in-Some-clause-lines
 returns-in-Some-clause-lines g c = readings_of_lines c.put_point.result c.put_point.ensures.late
 
 pub put_point-requires-clause-ready : goal.put_point-requires-clause-ready
-put_point-requires-clause-ready g c κs within = c.in_ok-points.ensures.fresh c.args.folder.now c.args.question.now.cat c.requires.walked
+put_point-requires-clause-ready g c κs within = record {
+  ready = c.in_ok-points.ensures.fresh c.args.folder.now c.args.question.now.cat c.requires.walked;
+  told_is = c.requires.told;
+  scene_is = c.requires.scene;
+}
 
 pub answer_input-requires-clause-ready : goal.answer_input-requires-clause-ready
-answer_input-requires-clause-ready g c κs within = c.in_ok-points.ensures.fresh c.args.folder.now c.args.question.now.cat c.requires.walked
+answer_input-requires-clause-ready g c κs within = record {
+  ready = c.in_ok-points.ensures.fresh c.args.folder.now c.args.question.now.cat c.requires.walked;
+  told_is = c.requires.told;
+  scene_is = c.requires.scene;
+}

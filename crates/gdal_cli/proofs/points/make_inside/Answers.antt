@@ -14,7 +14,7 @@ returns-clause-text g c m told d at =
       | in-FilesOnly+in_ok-files-in-FilesOnly+in_ok-push_location-in-FilesOnly w ↦
           rw w.room-is (files_told m c.args.question.now.cat d c.args.question.now.asked c.args.question.now.id c.args.x c.args.y _ _ _ _ _ _ c.requires.pixel at w.in-FilesOnly.is w.in_ok-push_location-in-FilesOnly.ensures.ok c.requires.empty column line c.as_slice-bands.ensures.items (w.in_ok-files-in-FilesOnly.ensures.files d at))
       | in-Report+in_ok-read_values-in-Report+in_ok-push_location-in-Report w ↦
-          rw w.room-is (values_told m c.args.question.now.cat d c.args.question.now.asked c.args.question.now.id c.args.x c.args.y _ _ _ _ _ _ _ c.count-count.ensures.valid (c.requires.ready.walked m told) c.requires.pixel at (not_files c.args.question.now.asked.form w.in-Report.is) w.in_ok-push_location-in-Report.ensures.ok c.requires.empty column line c.as_slice-bands.ensures.items w.new-none.ensures.empty (written_back c.args.room.now.values.len w.as_slice-values.result.now w.read_values.new.values _ w.as_slice-values.ensures.value (w.in_ok-read_values-in-Report.ensures.room ∙ w.as_mut_slice-values.ensures.len) ∙ w.in_ok-read_values-in-Report.ensures.values m told))
+          rw w.room-is (values_told m c.args.question.now.cat d c.args.question.now.asked c.args.question.now.id c.args.x c.args.y _ _ _ _ _ _ _ c.count-count.ensures.valid (c.requires.ready.ready.walked m told) c.requires.pixel at (not_files c.args.question.now.asked.form w.in-Report.is) w.in_ok-push_location-in-Report.ensures.ok c.requires.empty column line c.as_slice-bands.ensures.items w.new-none.ensures.empty (written_back c.args.room.now.values.len w.as_slice-values.result.now w.read_values.new.values _ w.as_slice-values.ensures.value (w.in_ok-read_values-in-Report.ensures.room ∙ w.as_mut_slice-values.ensures.len) ∙ w.in_ok-read_values-in-Report.ensures.values m told))
     ]
 
 pub returns-clause-ready : goal.returns-clause-ready

@@ -1,8 +1,11 @@
-use Rattle.std.proofs.Common.{◌∙◌, subst, arith}
+use Rattle.std.proofs.Common.{◌∙◌, sym, subst, arith}
 use Rattle.lane_teams.specs.Parts.{AreOfWindow}
 use Rattle.lane_teams.proofs.Halving.{ready_over, right_over}
 use Rattle.lane_teams.proofs.Refusals.{ok_then}
 use Rattle.lane_teams.proofs.single.take_turn.Goals as goal
+
+pub read_alone-requires-clause-told : goal.read_alone-requires-clause-told
+read_alone-requires-clause-told g c κs within = sym c.requires.turn.same
 
 pub read_alone-requires-clause-ready : goal.read_alone-requires-clause-ready
 read_alone-requires-clause-ready g c κs within =

@@ -10,7 +10,7 @@ use Rattle.output_copies.proofs.copying.copy_all.Given as goal
 abbrev pub invariant-loop-line : goal.invariant-loop-line
 invariant-loop-line g l = record {
   below : l.line ≤ l.height;
-  ready : AreLanesReady g.F.Folder l.folder l.translation.cat l.copier.reader.team.lanes.items;
+  ready : AreLanesReady g.F.Folder g.S.Scene.told g.S.Scene.cat l.folder l.translation.cat l.copier.reader.team.lanes.items;
   room : IsRoomFor l.translation.cat l.translation.id l.translation.plan l.copier.reader.columns l.copier.reader.samples.items;
   filled : IsFilled (g.F.Folder.names l.fn.folder) l.translation.cat l.translation.id l.translation.plan l.target l.line l.line 0;
   name : l.target.name ≡ l.fn.target.name;

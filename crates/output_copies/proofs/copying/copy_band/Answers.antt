@@ -32,7 +32,7 @@ returns-clause-filled g c =
     put.target put.output put.fault put.lines put.overlay put.met c.in_ok-read_lines.ensures.pixels
 
 pub returns-in_err-write_window-clause-ready : goal.returns-in_err-write_window-clause-ready
-returns-in_err-write_window-clause-ready g c = lanes_kept g.F.Folder c.args.translation.now.cat _ c.read_lines.new.folder c.write_window.new.folder c.write_window.ensures.names c.read_lines.ensures.ready
+returns-in_err-write_window-clause-ready g c = lanes_kept g.F.Folder g.S.Scene.told g.S.Scene.cat c.args.translation.now.cat _ c.read_lines.new.folder c.write_window.new.folder c.write_window.ensures.names c.read_lines.ensures.ready
 
 pub returns-clause-ready : goal.returns-clause-ready
-returns-clause-ready g c = lanes_kept g.F.Folder c.args.translation.now.cat _ c.read_lines.new.folder c.write_window.new.folder c.write_window.ensures.names c.read_lines.ensures.ready
+returns-clause-ready g c = lanes_kept g.F.Folder g.S.Scene.told g.S.Scene.cat c.args.translation.now.cat _ c.read_lines.new.folder c.write_window.new.folder c.write_window.ensures.names c.read_lines.ensures.ready

@@ -36,7 +36,7 @@ returns-in_err-target-clause-ends g c =
     (ends_target t told (g.F.Folder.faults c.args.folder.now) (g.F.Folder.faults c.create.new.folder) c.in_err-target.ensures.cause))
 
 pub copy_all-requires-clause-ready : goal.copy_all-requires-clause-ready
-copy_all-requires-clause-ready g c κs within = lanes_begin g.F.Folder c.args.translation.now.cat _ c.create.new.folder (λ m is. c.requires.walked m (sym c.create.ensures.names ∙ is)) c.in_ok-copier.ensures.fresh
+copy_all-requires-clause-ready g c κs within = lanes_begin g.F.Folder g.S.Scene.told g.S.Scene.cat c.args.translation.now.cat _ c.create.new.folder (c.requires.told ∙ sym c.create.ensures.names) c.requires.scene (λ m is. c.requires.walked m (sym c.create.ensures.names ∙ is)) c.in_ok-copier.ensures.fresh
 
 pub returns-in-Ok-clause-goes : goal.returns-in-Ok-clause-goes
 returns-in-Ok-clause-goes g c = λ m d told at.

@@ -18,7 +18,7 @@ fits w first line end last begin until room low some high b u r =
 
 pub read_part-requires-clause-room : goal.read_part-requires-clause-room
 read_part-requires-clause-room g c κs within =
-    let w = c.args.shown.translation.now.plan.size.w in
+    let w = c.args.shown.now.translation.now.plan.size.w in
     let wide : c.plan.inside.size.w ≡ w = ap (λ (p : Planned). p.size.w) c.plan.view_is in
     let run = c.run_from-run.ensures in
     let begin : c.area-begin.result ≡ (c.loop-line.line - c.args.lines.first) * w = c.area-begin.ensures.area ∙ ap (λ n. (c.loop-line.line - c.args.lines.first) * n) wide in
@@ -29,12 +29,12 @@ read_part-requires-clause-room g c κs within =
 pub returns-in_err-read_part-clause-reads : goal.returns-in_err-read_part-clause-reads
 returns-in_err-read_part-clause-reads g c =
     let before = c.loop-line.invariant in
-    λ one. reads_more (most_calls c.args.shown.translation.now.cat) c.args.team.now.loads c.loop-line.team.loads c.read_part.new.team.loads _ _ _ before.counted c.read_part.ensures.counted (before.reads one) (c.read_part.ensures.reads (before.lanes ∙ one))
+    λ one. reads_more (most_calls c.args.shown.now.translation.now.cat) c.args.team.now.loads c.loop-line.team.loads c.read_part.new.team.loads _ _ _ before.counted c.read_part.ensures.counted (before.reads one) (c.read_part.ensures.reads (before.lanes ∙ one))
 
 pub loop-line-preserved : goal.loop-line-preserved
 loop-line-preserved g c =
-    let p = c.args.shown.translation.now.plan in
-    let w = c.args.shown.translation.now.plan.size.w in
+    let p = c.args.shown.now.translation.now.plan in
+    let w = c.args.shown.now.translation.now.plan.size.w in
     let first = c.args.lines.first in
     let line = c.loop-line.line in
     let end = c.run_from-run.result.end in
@@ -63,5 +63,5 @@ loop-line-preserved g c =
       lanes = here.lanes ∙ before.lanes;
       only_read = record { names = here.only_read.names ∙ before.only_read.names; writes = omega (arith, here.only_read.writes, before.only_read.writes); faults = omega (arith, here.only_read.faults, before.only_read.faults) };
       counted = omega (arith, before.counted, here.counted);
-      reads = λ one. reads_more (most_calls c.args.shown.translation.now.cat) c.args.team.now.loads c.loop-line.team.loads c.read_part.new.team.loads _ _ _ before.counted here.counted (before.reads one) (here.reads (before.lanes ∙ one));
+      reads = λ one. reads_more (most_calls c.args.shown.now.translation.now.cat) c.args.team.now.loads c.loop-line.team.loads c.read_part.new.team.loads _ _ _ before.counted here.counted (before.reads one) (here.reads (before.lanes ∙ one));
     }

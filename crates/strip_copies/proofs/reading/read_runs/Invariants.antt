@@ -11,7 +11,7 @@ invariant-loop-line g l = record {
   below : l.line ≤ l.lines.end;
   above : l.lines.first ≤ l.line;
   samples : AreOf (g.F.Folder.names l.fn.folder) l.shown.translation.now.cat l.shown.translation.now.id l.shown.translation.now.plan l.lines.band l.lines.first ((l.line - l.lines.first) * l.shown.translation.now.plan.size.w) l.out;
-  ready : AreLanesReady g.F.Folder l.folder l.shown.translation.now.cat l.team.lanes.items;
+  ready : AreLanesReady g.F.Folder g.S.Scene.told g.S.Scene.cat l.folder l.shown.translation.now.cat l.team.lanes.items;
   lanes : length l.team.lanes.items ≡ length l.fn.team.lanes.items;
   only_read : OnlyReadByViews g.F.Folder l.fn.folder l.folder;
   counted : l.fn.team.loads ≤ l.team.loads;

@@ -11,13 +11,13 @@ use Rattle.lane_teams.proofs.team.Team.read_window.Goals as goal
 pub returns-then-count-eq1-clause-ready : goal.returns-then-count-eq1-clause-ready
 returns-then-count-eq1-clause-ready g c =
     let xs = c.as_mut_slice-lanes.result.now in
-    let new = slice_set xs 0 c.read_window.new.self in
-    let long = sym (length-set xs 0 c.read_window.new.self ∙ c.as_mut_slice-lanes.ensures.len) in
-    let ready = IsReady g.F.Folder c.read_window.new.folder c.args.cat.now in
+    let new = slice_set xs 0 c.read_window_with.new.self in
+    let long = sym (length-set xs 0 c.read_window_with.new.self ∙ c.as_mut_slice-lanes.ensures.len) in
+    let ready = IsReady g.F.Folder c.read_window_with.new.folder c.args.cat.now in
     let before : All (IsReady g.F.Folder c.args.folder.now c.args.cat.now) xs = subst (All (IsReady g.F.Folder c.args.folder.now c.args.cat.now)) (sym c.as_mut_slice-lanes.ensures.value) c.requires.ready in
     subst (All ready) (sym (put_back c.args.self.now.lanes.len new c.args.self.now.lanes.items long))
-    (All-set ready xs 0 c.read_window.new.self c.read_window.ensures.ready
-    (all_kept g.F.Folder c.args.cat.now c.args.folder.now c.read_window.new.folder xs c.read_window.ensures.only_read.names before))
+    (All-set ready xs 0 c.read_window_with.new.self c.read_window_with.ensures.ready
+    (all_kept g.F.Folder c.args.cat.now c.args.folder.now c.read_window_with.new.folder xs c.read_window_with.ensures.only_read.names before))
 
 pub read_beside-requires-clause-ready : goal.read_beside-requires-clause-ready
 read_beside-requires-clause-ready g c κs within =

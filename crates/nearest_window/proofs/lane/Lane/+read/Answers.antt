@@ -13,6 +13,7 @@ use Rattle.vrt_profile.specs.Values.{BandValue, SourceValue}
 use Rattle.catalog.specs.Drivers.{Dataset}
 use Rattle.catalog.specs.Walk.{IsWalked}
 use Rattle.catalog.specs.Places.{IsWithin}
+use Rattle.band_blocks.specs.Contents.{IsBlock}
 use Rattle.block_cache.specs.Entries.{entry_of}
 use Rattle.nearest_window.specs.Heights.{height_at}
 use Rattle.nearest_window.specs.Right.{IsIndexIn, IsReady, Serves, slack_of, state_of}
@@ -43,12 +44,34 @@ hold-fill-requires-clause-few g t c κs within =
     let big : c.mosaic_rect-rect.result.w * c.mosaic_rect-rect.result.h ≤ 128 * 128 = mul-le-mul narrow low in
     omega arith
 
+pub hold-returns-then-finds-clause-serves : goal.hold-returns-then-finds-clause-serves
+hold-returns-then-finds-clause-serves g t c = c.finds.ensures.serves c.args.loads.now
+
+pub hold-returns-in-None-clause-serves : goal.hold-returns-in-None-clause-serves
+hold-returns-in-None-clause-serves g t c =
+    serves_trans g.F.Folder.file_bytes g.F.Folder.file_len c.args.cat.now (slack_of c.load_kept.result) _ _ _ (c.finds.ensures.serves c.args.loads.now) c.load_kept.ensures.serves
+
+pub hold-returns-in_err-block-in-Some-clause-serves : goal.hold-returns-in_err-block-in-Some-clause-serves
+hold-returns-in_err-block-in-Some-clause-serves g t c =
+    let one : slack_of c.from_residual.result ≡ 1 = search rules in
+    let filled : slack_of c.fill.result ≡ 1 = search rules in
+    rw one
+    (serves_trans g.F.Folder.file_bytes g.F.Folder.file_len c.args.cat.now 1 _ _ _ (c.finds.ensures.serves c.args.loads.now) (rw filled at c.fill.ensures.serves))
+
 pub hold-returns-in-Some-clause-serves : goal.hold-returns-in-Some-clause-serves
 hold-returns-in-Some-clause-serves g t c =
     let filled = c.in_ok-block-in-Some.ensures.serves in
     let whole = whole_block (g.F.Folder.names c.fill.new.folder) c.args.cat.now c.args.key c.mosaic_rect-rect.result c.in_ok-block-in-Some.block c.mosaic_rect-rect.ensures.rect c.in_ok-block-in-Some.ensures.block in
     let kept = serves_keep g.F.Folder.file_bytes g.F.Folder.file_len c.args.cat.now c.keep_made.result (g.F.Folder.names c.fill.new.folder) c.fill.new.self c.keep_made.new.self (g.F.Folder.faults c.fill.new.folder) (g.F.Folder.read_calls c.fill.new.folder) (g.F.Folder.write_calls c.fill.new.folder) c.fill.new.loads c.args.key (entry_of c.in_ok-block-in-Some.block false) filled.right whole c.keep_made.ensures.kept c.keep_made.ensures.refused c.keep_made.ensures.valid c.keep_made.ensures.made_valid in
-    serves_trans g.F.Folder.file_bytes g.F.Folder.file_len c.args.cat.now (slack_of c.keep_made.result) _ _ _ filled kept
+    serves_trans g.F.Folder.file_bytes g.F.Folder.file_len c.args.cat.now (slack_of c.keep_made.result) _ _ _ (c.finds.ensures.serves c.args.loads.now)
+    (serves_trans g.F.Folder.file_bytes g.F.Folder.file_len c.args.cat.now (slack_of c.keep_made.result) _ _ _ filled kept)
+
+pub hold-offer_to-requires-clause-block : goal.hold-offer_to-requires-clause-block
+hold-offer_to-requires-clause-block g t c κs within =
+    let told = c.in_ok-block-in-Some.ensures.serves.told in
+    subst (λ k. IsBlock g.S.Scene.told k c.args.key c.in_ok-block-in-Some.block) (sym c.requires.scene)
+    (subst (λ t. IsBlock t c.args.cat.now c.args.key c.in_ok-block-in-Some.block) (told ∙ sym c.requires.told)
+    (whole_block (g.F.Folder.names c.fill.new.folder) c.args.cat.now c.args.key c.mosaic_rect-rect.result c.in_ok-block-in-Some.block c.mosaic_rect-rect.ensures.rect c.in_ok-block-in-Some.ensures.block))
 
 pub hold-returns-in-Some-clause-held : goal.hold-returns-in-Some-clause-held
 hold-returns-in-Some-clause-held g t c = held_made c.keep_made.result c.fill.new.self c.keep_made.new.self c.args.key (entry_of c.in_ok-block-in-Some.block false) c.keep_made.ensures.kept

@@ -6,7 +6,7 @@ use Rattle.nearest_window.proofs.Fills.{on_ok}
 use Rattle.nearest_window.proofs.Ranges.{no_sample, window_typed}
 use Rattle.nearest_window.proofs.Steps.{ready_then}
 use Rattle.nearest_window.proofs.Windows.{window_shown, empty_window, named_window}
-use Rattle.nearest_window.proofs.lane.Lane.read_window.Goals as goal
+use Rattle.nearest_window.proofs.lane.Lane.read_window_with.Goals as goal
 
 pub returns-then-window-eq0-clause-pixels : goal.returns-then-window-eq0-clause-pixels
 returns-then-window-eq0-clause-pixels g c = λ m e. empty_window (pixel_of m c.args.cat.now c.args.window.dataset c.args.window.band) c.args.window.rect c.args.out.now c.if-window-eq0.true c.requires.size

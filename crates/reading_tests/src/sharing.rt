@@ -1,0 +1,156 @@
+// Lanes over the same lines: what one has read, the next one is shown.
+ghost use Rattle.std.specs.Prelude.{◌≡◌, ◌<◌, Some, length};
+ghost use Rattle.outside.specs.Outside.{Files};
+ghost use Rattle.catalog.specs.Walk.{IsWalked};
+
+use band_blocks::Steps;
+use catalog::{Catalog, open_all};
+use geotransform::{Rect, Sample, Size};
+use nearest_window::{Lane, Window};
+use outside::{CalmFolder, Folder, Name, Never, Tally};
+use shared_lines::{Lines, Scene};
+use std::alloc::Global;
+use std::marker::Brand;
+use std::sync::ledger::{Blank, Ledger};
+use std::test::*;
+
+// Whether a new lane over lines gives these samples of the first band of a small dataset.
+fn gives<F: Folder, L: Ledger, S: Scene>(
+    alloc: Global,
+    cat: &Catalog,
+    folder: &mut F,
+    lines: &Lines<S>,
+    id: u32,
+    wanted: &[Sample],
+    blank: Blank,
+) -> Result<bool, Fail>
+    requires id { id < length cat.now }
+    requires walked { (m : Files) → F.names folder.old ≡ Some m → IsWalked m cat.now }
+    requires told { S.told ≡ F.names folder.old }
+    requires scene { S.cat ≡ cat.now }
+    requires name { blank.name ≡ L.name }
+    requires parts { blank.parts ≡ L.parts }
+    requires some { 0 < blank.parts }
+    ensures names { F.names folder.new ≡ F.names folder.old }
+{
+    let Size { w, h } = cat.head(id).size;
+    if w > 16 || h > 16 {
+        return Ok(false);
+    }
+    let window = Window {
+        dataset: id,
+        band: 0,
+        rect: Rect { x: 0, y: 0, w, h },
+    };
+    let mut out = vec![in alloc; 0i128; (w * h) as usize]?;
+    let mut lane = Lane::new(alloc, 64)?;
+    let mut loads: Steps<L> = Steps::open(blank);
+    let samples = out.as_mut_slice();
+    let shared = Some(lines);
+    let answer = lane.read_window_with(alloc, cat, folder, shared, window, samples, &mut loads);
+    Ok(answer.is_ok() && out.as_slice() == wanted)
+}
+
+// The same, where nobody counts the lane's loads.
+fn gives_all<F: Folder, S: Scene>(
+    alloc: Global,
+    cat: &Catalog,
+    folder: &mut F,
+    lines: &Lines<S>,
+    id: u32,
+    wanted: &[Sample],
+) -> Result<bool, Fail>
+    requires id { id < length cat.now }
+    requires walked { (m : Files) → F.names folder.old ≡ Some m → IsWalked m cat.now }
+    requires told { S.told ≡ F.names folder.old }
+    requires scene { S.cat ≡ cat.now }
+    ensures names { F.names folder.new ≡ F.names folder.old }
+{
+    gives::<F, Brand, S>(alloc, cat, folder, lines, id, wanted, Blank::new(1))
+}
+
+// Whether each of so many new lanes, one behind the other over the same lines, gives these samples.
+fn each_gives<F: Folder, S: Scene>(
+    alloc: Global,
+    cat: &Catalog,
+    folder: &mut F,
+    id: u32,
+    wanted: &[Sample],
+    lanes: u32,
+) -> Result<bool, Fail>
+    requires id { id < length cat.now }
+    requires walked { (m : Files) → F.names folder.old ≡ Some m → IsWalked m cat.now }
+    requires told { S.told ≡ F.names folder.old }
+    requires scene { S.cat ≡ cat.now }
+{
+    let lines: Lines<S> = Lines::new(alloc, cat, folder, 64)?;
+    for _lane in 0..lanes {
+        if !gives_all(alloc, cat, folder, &lines, id, wanted)? {
+            return Ok(false);
+        }
+    }
+    Ok(true)
+}
+
+// The same of the dataset of a name.
+fn lanes_give<F: Folder>(
+    alloc: Global,
+    folder: &mut F,
+    name: &str,
+    wanted: &[Sample],
+    lanes: u32,
+) -> Result<bool, Fail> {
+    let name = Name::read(alloc, name)?;
+    let mut cat = Catalog::new(alloc);
+    let Ok(id) = open_all(alloc, &mut cat, folder, &name, false) else {
+        return Ok(false);
+    };
+    if id >= cat.count() {
+        return Ok(false);
+    }
+    each_gives::<F, Brand>(alloc, &cat, folder, id, wanted, lanes)
+}
+
+const MOSAIC: &[u8] =
+    b"<VRTDataset rasterXSize=\"4\" rasterYSize=\"4\"><VRTRasterBand dataType=\"Byte\" band=\"1\"><SimpleSource><SourceFilename relativeToVRT=\"1\">four.bil</SourceFilename></SimpleSource></VRTRasterBand></VRTDataset>";
+
+const FOUR: [u8; 16] = [1, 2, 3, 4, 5, 6, 7, 8, 9, 10, 11, 12, 13, 14, 15, 16];
+
+const FILES: [(&str, &[u8]); 3] = [
+    ("four.bil", &FOUR),
+    ("four.hdr", b"NROWS 4\nNCOLS 4\n"),
+    ("m.vrt", MOSAIC),
+];
+
+const SAMPLES: [Sample; 16] = [1, 2, 3, 4, 5, 6, 7, 8, 9, 10, 11, 12, 13, 14, 15, 16];
+
+// How many reads the walk and so many lanes take, where each gives the samples.
+fn reads_by(alloc: Global, name: &str, lanes: u32) -> Result<Option<u64>, Fail> {
+    let mut calm = CalmFolder::new(alloc, Never);
+    for (file, bytes) in FILES {
+        calm.put(&Name::read(alloc, file)?, bytes)?;
+    }
+    let mut folder = Tally::new(calm);
+    if !lanes_give(alloc, &mut folder, name, &SAMPLES, lanes)? {
+        return Ok(None);
+    }
+    Ok(Some(folder.reads()))
+}
+
+// Whether the first lane reads each of the four lines, and the lanes behind it read nothing.
+fn reads_once(alloc: Global, name: &str) -> Result<bool, Fail> {
+    let Some(walked) = reads_by(alloc, name, 0)? else {
+        return Ok(false);
+    };
+    let once = Some(walked.saturating_add(4));
+    let second = reads_by(alloc, name, 2)?;
+    let third = reads_by(alloc, name, 3)?;
+    Ok(reads_by(alloc, name, 1)? == once && second == once && third == once)
+}
+
+// A file and a mosaic of it.
+#[test]
+fn a_second_lane_reads_nothing(rt: HostRuntime) -> Result<(), Fail> {
+    assert!(rt; reads_once(rt.alloc(), "four.bil")? && reads_once(rt.alloc(), "m.vrt")?);
+    Ok(())
+}
