@@ -11,10 +11,10 @@ use std::alloc::Global;
 /// What windows are read with beside a folder: memory for blocks, the catalog that their datasets stand in, and the
 /// lines that are looked at for blocks, if there are any.
 #[derive(Drop)]
-pub struct Supply<'a, S: Scene> {
+pub struct Supply<'a, 'b, S: Scene> {
     pub alloc: Global,
     pub cat: &'a Catalog,
-    pub shared: Option<&'a Lines<S>>,
+    pub shared: Option<&'b Lines<S>>,
 }
 
 /// The block of a key, where there are lines and they show it. `None` comes also where memory is refused for it.
