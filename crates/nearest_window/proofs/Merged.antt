@@ -1,7 +1,6 @@
 -- A canvas whose open samples took the pixels of a part.
 use Rattle.std.proofs.Common.{◌≡◌, ◌⊎◌, ℕ, ℤ, pos, ◌+◌, ◌-◌, ◌*◌, ◌/◌, ◌%◌, ◌^◌, ◌<◌, ◌≤◌, List, [], length, map, get_or, Option, Some, None, true, refl, sym, ap, ◌∙◌, subst, arith, inl, inr}
 use Rattle.std.specs.Prelude.{is_some, option_map}
-use Rattle.std.specs.List.{All}
 use Rattle.std.specs.Option.{option_or, unwrap_or}
 use Rattle.std.proofs.lemmas.Bool.{cases_lt}
 use Rattle.std.proofs.lemmas.Nat.{div-add-mod', mod_below, mul-add-lt}
@@ -12,10 +11,9 @@ use Rattle.band_blocks.specs.Blocks.{BlockView, block_view}
 use Rattle.nearest_window.specs.declared.canvas.Canvas.{Canvas}
 use Rattle.nearest_window.specs.declared.merging.Place.{Place}
 use Rattle.nearest_window.specs.declared.taking.Taking.{Taking}
-use Rattle.nearest_window.specs.declared.taking.Taking.TheVariants as takings
 use Rattle.nearest_window.specs.Canvases.{filled_with, stands, stands_at, IsSame, IsCanvas, IsIn, IsInside, IsAt, IsMerged, IsTaken, IsPackedOf}
-use Rattle.nearest_window.specs.Taken.{TakesPixel, taken_by}
-use Rattle.nearest_window.proofs.Canvases.{any_pixel, stands_there, pixel_stands, open_replicate}
+use Rattle.nearest_window.specs.Taken.{taken_by}
+use Rattle.nearest_window.proofs.Canvases.{stands_there, open_replicate}
 
 some_mapped : (kind : PixelType) (a : Option ℤ) → is_some (option_map (clamp kind) a) ≡ is_some a
 some_mapped kind (Some v) = refl

@@ -1,6 +1,5 @@
 -- Two keys of pixels are the same exactly where they are equal.
 use Rattle.std.proofs.Common.{◌≡◌, ℕ, Bool, ◌&&◌, ◌==◌, true, ap, ◌∙◌, arith}
-use Rattle.std.specs.Cmp.{IsEquivalence}
 use Rattle.std.proofs.lemmas.Bool.Decides.{nat_tests}
 use Rattle.band_blocks.specs.declared.key.PixelKey.{PixelKey}
 

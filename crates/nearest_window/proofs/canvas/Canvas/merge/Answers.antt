@@ -1,4 +1,4 @@
-use Rattle.std.proofs.Common.{◌≡◌, ◌∙◌, ◌++◌, ◌+◌, ◌-◌, ◌*◌, ℕ, ◌≤◌, List, ℤ, sym, ap, subst, refl, true, pos, take, drop, length, arith}
+use Rattle.std.proofs.Common.{◌≡◌, ◌∙◌, ◌++◌, ◌*◌, ℕ, ◌≤◌, List, ℤ, sym, ap, subst, refl, true, pos, take, drop, length, arith}
 use Rattle.std.proofs.Math.Nat.{mul-le-mul_right, mul_comm}
 use Rattle.std.specs.Prelude.{is_some, slice_index_or}
 use Rattle.std.proofs.Math.Seq.{take-append_seam}

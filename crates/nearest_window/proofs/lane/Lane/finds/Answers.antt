@@ -1,4 +1,3 @@
-use Rattle.std.proofs.Common.{◌≡◌, false, sym, subst}
 use Rattle.nearest_window.specs.Right.{state_of}
 use Rattle.nearest_window.proofs.Steps.{ready_then, serves_refl}
 use Rattle.nearest_window.proofs.lane.Lane.finds.Goals as goal

@@ -1,8 +1,7 @@
-use Rattle.std.proofs.Common.{◌≡◌, rules, sym, subst, ap, ◌∙◌, List, Contains, Some, to_z, of_z, ℤ}
+use Rattle.std.proofs.Common.{◌≡◌, rules, sym, subst, Contains, Some, to_z, of_z}
 use Rattle.std.specs.Map.{lookup}
 use mir.Syntax.{w128}
 use Rattle.lru.proofs.CallerLemmas.{Contains-lookup}
-use Rattle.band_blocks.specs.declared.key.PixelKey.{PixelKey}
 use Rattle.nearest_window.proofs.Pixels.{same_pixel, pixel_is}
 use Rattle.nearest_window.proofs.recalled.Recalled.find.Goals as goal
 

@@ -1,4 +1,4 @@
-use Rattle.std.proofs.Common.{◌≡◌, ◌⊎◌, rules, true, inl, inr, sym, subst, ap, ◌∙◌, ℤ, List, Contains, to_z, of_z}
+use Rattle.std.proofs.Common.{◌≡◌, ◌⊎◌, rules, true, inl, inr, sym, subst, ℤ, List, Contains, to_z, of_z}
 use mir.Syntax.{w128}
 use Rattle.lru.proofs.CallerLemmas.{Contains-put_entries}
 use Rattle.band_blocks.specs.declared.key.PixelKey.{PixelKey}
