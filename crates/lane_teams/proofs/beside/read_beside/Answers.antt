@@ -3,7 +3,7 @@ use Rattle.std.specs.List.{All}
 use Rattle.nearest_window.specs.declared.window.Window.{Window}
 use Rattle.lane_teams.specs.Parts.{part_of, AreOfWindow}
 use Rattle.lane_teams.specs.Turns.{IsDone, IsTurnOf}
-use Rattle.lane_teams.proofs.Halving.{all_right, all_ready, walked_of}
+use Rattle.lane_teams.proofs.Halving.{all_kept, all_right, all_ready, walked_of}
 use Rattle.lane_teams.proofs.Refusals.{all_done, ok_given, put_back}
 use Rattle.lane_teams.proofs.Windows.{whole_window}
 use Rattle.lane_teams.proofs.beside.read_beside.Goals as goal
@@ -51,3 +51,12 @@ returns-clause-ready g c =
     let names = c.collect.ensures.only_read.names in
     all_ready g.F.Folder (g.F.Folder.names c.turns_of.new.folder) c.args.supply.now.cat.now c.collect.new.folder c.read_views.new.lanes names
     (λ m e. walked_of g.F.Folder c.args.supply.now.cat.now c.args.folder.now c.args.lanes.now c.requires.some c.requires.ready m (sym o.only_read.names ∙ e)) c.read_views.ensures.read.right
+
+pub returns-in_err-turns-clause-ready : goal.returns-in_err-turns-clause-ready
+returns-in_err-turns-clause-ready g c =
+    all_kept g.F.Folder c.args.supply.now.cat.now c.args.folder.now c.turns_of.new.folder c.args.lanes.now c.in_err-turns.ensures.only_read.names c.requires.ready
+
+pub collect-requires-clause-turns : goal.collect-requires-clause-turns
+collect-requires-clause-turns g c κs within =
+    let whole = put_back c.in_ok-turns.turns.len c.read_views.new.turns c.in_ok-turns.turns.items (sym (c.read_views.auto.turns ∙ c.as_mut_slice.ensures.len)) in
+    subst (All (IsTurnOf g.F.Folder (g.F.Folder.names c.turns_of.new.folder) c.args.supply.now.cat.now)) (sym whole) c.read_views.ensures.read.turns_are
