@@ -1,5 +1,5 @@
 -- Lanes of a team that stay ready.
-use Rattle.std.proofs.Common.{◌≡◌, ◌∙◌, sym, List, get_or, Option}
+use Rattle.std.proofs.Common.{◌≡◌, ◌∙◌, sym, List, Option}
 use Rattle.outside.specs.declared.folder.Folder.{Ghosts}
 use Rattle.outside.specs.Outside.{Files}
 use Rattle.outside.specs.Reading.{WhereTold}

@@ -1,5 +1,5 @@
 -- The first refusal of several lanes, and what holds of views.
-use Rattle.std.proofs.Common.{◌≡◌, ◌∙◌, sym, refl, subst, ◌≤◌, ℕ, zero, suc, List, [], ◌∷◌, ◌++◌, map, Option, Some, Result, Ok, Err, inl, inr, ◌⊎◌, arith}
+use Rattle.std.proofs.Common.{◌≡◌, ◌∙◌, refl, subst, ◌≤◌, ℕ, zero, suc, List, [], ◌∷◌, ◌++◌, map, Option, Result, Ok, Err, inl, inr, ◌⊎◌, arith}
 use Rattle.std.specs.Prelude.{OnOk}
 use Rattle.std.specs.List.{All}
 use Rattle.std.proofs.lemmas.List.{take_at, drop_at}

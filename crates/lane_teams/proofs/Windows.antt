@@ -1,5 +1,5 @@
 -- Windows that are cut among lanes: the lines of two halves make up the whole.
-use Rattle.std.proofs.Common.{◌≡◌, ◌∙◌, refl, sym, ap, subst, ◌+◌, ◌-◌, ◌*◌, ◌/◌, ◌%◌, ◌<◌, ◌≤◌, zero, suc, ℕ, ℤ, pos, List, ◌++◌, length, length-append, get_or, Option, Some, Ok, Err, arith, inl, inr}
+use Rattle.std.proofs.Common.{◌≡◌, ◌∙◌, sym, ap, ◌+◌, ◌-◌, ◌*◌, ◌/◌, ◌%◌, ◌<◌, ◌≤◌, zero, suc, ℕ, ℤ, pos, List, ◌++◌, length, length-append, get_or, Option, Some, Ok, Err, arith, inl, inr}
 use Rattle.std.specs.Prelude.{slice_get, Result, OnOk}
 use Rattle.std.specs.List.{All}
 use Rattle.std.proofs.lemmas.Bool.{cases_lt}

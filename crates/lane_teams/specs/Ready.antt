@@ -1,5 +1,5 @@
 -- When all lanes of a team are ready.
-use Rattle.std.specs.Prelude.{◌≡◌, ℕ, ◌<◌, List, length, Option}
+use Rattle.std.specs.Prelude.{◌≡◌, ◌<◌, List, length, Option}
 use Rattle.std.specs.List.{All}
 use Rattle.outside.specs.declared.folder.Folder.{Ghosts}
 use Rattle.outside.specs.Outside.{Files}

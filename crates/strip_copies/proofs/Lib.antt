@@ -5,5 +5,6 @@ pub mod Holdings
 pub mod Joined
 pub mod Samples
 pub mod Sources
+pub mod Straight
 pub mod Strips
 pub mod Told

@@ -1,14 +1,14 @@
 -- What is translated, and lines of its output.
-use Rattle.std.specs.Prelude.{◌≡◌, ◌<◌, ◌≤◌, ◌-◌, ℕ, ℤ, List, length, All, Option, Some, slice_get}
+use Rattle.std.specs.Prelude.{◌≡◌, ◌<◌, ◌≤◌, ◌+◌, ◌-◌, ℕ, ℤ, List, length, All, Option, Some, slice_get, get_or}
 use Rattle.geotransform.specs.declared.types.Rect.{Rect}
 use Rattle.geotransform.specs.declared.types.Size.{Size}
 use Rattle.outside.specs.Outside.{Files}
 use Rattle.catalog.specs.Drivers.{Dataset}
 use Rattle.translate_plan.specs.declared.band.OutBand.{OutBand}
-use Rattle.translate_plan.specs.Plan.{Planned}
+use Rattle.translate_plan.specs.Plan.{Planned, shown_line}
 use Rattle.strip_copies.specs.declared.columns.Columns.{Columns}
 use Rattle.strip_copies.specs.declared.spans.Run.{Run}
-use Rattle.strip_copies.specs.Rows.{AreColumns, AreIn, AreSamples}
+use Rattle.strip_copies.specs.Rows.{within, AreColumns, AreIn, AreSamples}
 
 -- the catalog has the dataset of this number, which has the bands that the plan shows
 pub record IsTranslation (cat : List Dataset) (id : ℕ) (p : Planned) : Type 0 where
@@ -32,6 +32,13 @@ pub record IsPart (cat : List Dataset) (id : ℕ) (p : Planned) (columns : Colum
   pub end : run.end ≤ p.size.h
   pub shown : AreColumns p dataset.head.size.w columns
   pub lines : AreIn p dataset.head.size.h run.first run.end run.span
+
+-- the samples of a run are the pixels of its part of a source of this height, one for one
+pub record IsDirect (p : Planned) (height : ℕ) (c : Columns) (run : Run) : Type 0 where
+  pub wide : c.count ≡ p.size.w
+  pub own : (i : ℕ) → i < p.size.w → get_or c.places.items i 0 ≡ i
+  pub tall : run.span.height ≡ run.end - run.first
+  pub lines : (r : ℕ) → r < run.span.height → within height (shown_line p (run.first + r)) ≡ Some (run.span.top + r)
 
 -- the lines of an output from one up to another
 abbrev pub lines_rect : Size → ℕ → ℕ → Rect

@@ -1,5 +1,6 @@
 // What a band of an output makes of samples.
-ghost use Rattle.std.specs.Prelude.{◌≡◌, ◌<◌, length};
+ghost use Rattle.std.specs.Prelude.{◌≡◌, ◌<◌, ℤ, true, length};
+ghost use Rattle.geotransform.specs.Types.{is_in};
 ghost use Rattle.strip_copies.specs.Rows.{least_of, nearest, IsHolding};
 
 use geotransform::{PixelType, Sample};
@@ -37,6 +38,13 @@ impl Holding {
             most: kind.highest(),
             fill: nodata.unwrap_or(0),
         }
+    }
+
+    /// Whether the band can hold each number of a type.
+    pub fn holds_all(&self, kind: PixelType) -> bool
+        ensures same { result ≡ true → (v : ℤ) → is_in kind v ≡ true → nearest self.now.least self.now.most v ≡ v }
+    {
+        self.least <= kind.lowest() && kind.highest() <= self.most
     }
 
     /// The sample nearest to `value` that the band can hold.

@@ -2,6 +2,7 @@
 #![tactic(auto)]
 
 mod columns;
+mod direct;
 mod height;
 mod holding;
 mod laws;

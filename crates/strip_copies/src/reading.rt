@@ -1,5 +1,5 @@
 // Lines of a translation's output, read by a team of lanes.
-ghost use Rattle.std.specs.Prelude.{◌≡◌, ◌<◌, ◌≤◌, ◌+◌, ◌-◌, ◌*◌, All, IfErr, IfOk, OnOk, length, slice_get, Some};
+ghost use Rattle.std.specs.Prelude.{◌≡◌, ◌<◌, ◌≤◌, ◌+◌, ◌-◌, ◌*◌, All, IfErr, IfOk, OnOk, length, option_map, slice_get, true, Some};
 ghost use Rattle.geotransform.specs.Geo.{IsRaster};
 ghost use Rattle.outside.specs.Causes.{HasCause};
 ghost use Rattle.outside.specs.Reading.{WhereTold};
@@ -14,18 +14,19 @@ ghost use Rattle.lane_teams.specs.Ready.{AreLanesFresh, AreLanesReady};
 ghost use Rattle.lane_teams.specs.Turns.{OnlyReadByViews};
 ghost use Rattle.translate_plan.specs.Plan.{out_pixel};
 ghost use Rattle.translate_plan.specs.declared.band.OutBand.{OutBand};
-ghost use Rattle.strip_copies.specs.Copies.{lines_rect, AreOf, IsPart, IsRoomFor, IsTranslation};
+ghost use Rattle.strip_copies.specs.Copies.{lines_rect, AreOf, IsDirect, IsPart, IsRoomFor, IsTranslation};
 ghost use Rattle.strip_copies.specs.Heights.{lane_count};
 ghost use Rattle.strip_copies.specs.Rows.{strip_rect, AreColumns, IsHeldIn, IsMaking};
 
 use crate::columns::Columns;
+use crate::direct::{hold_all, is_direct};
 use crate::height::{height_of, lane_count, most_lines};
 use crate::holding::Holding;
 use crate::making::{Making, area, make_lines};
 use crate::spans::{Run, run_from};
 use band_blocks::LoadFault;
 use catalog::Catalog;
-use geotransform::{Rect, Sample, Size};
+use geotransform::{PixelType, Rect, Sample, Size};
 use lane_teams::{Team, WorkerCount};
 use nearest_window::{Supply, Window};
 use outside::Folder;
@@ -171,8 +172,74 @@ struct Shown<'a, S: Scene> {
     shared: Option<&'a shared_lines::Lines<S>>,
 }
 
-// Reads the lines of a run. After a refusal `strip` and `out` are unknown.
-fn read_part<R: Threads + Sync, F: Folder, L: Ledger, S: Scene>(
+// Whether the samples of a run are the pixels of its part of the source, one for one.
+fn is_direct_part<S: Scene>(shown: &Shown<S>, run: Run) -> bool
+    requires translation { IsTranslation shown.now.translation.now.cat shown.now.translation.now.id shown.now.translation.now.plan }
+    requires part { IsPart shown.now.translation.now.cat shown.now.translation.now.id shown.now.translation.now.plan shown.now.columns.now run }
+    ensures direct { result ≡ true → (d : Dataset) → slice_get shown.now.translation.now.cat shown.now.translation.now.id ≡ Some d → IsDirect shown.now.translation.now.plan d.head.size.h shown.now.columns.now run }
+{
+    let translation = shown.translation;
+    let height = source_size(translation).h;
+    is_direct(&translation.plan, shown.columns, height, run)
+}
+
+// The type of a band of the dataset, counted from 0.
+fn kind_of(translation: &Translation, band: u32) -> PixelType
+    requires translation { IsTranslation translation.now.cat translation.now.id translation.now.plan }
+    requires known { (d : Dataset) → slice_get translation.now.cat translation.now.id ≡ Some d → band < length d.head.bands }
+    ensures kind { (d : Dataset) → slice_get translation.now.cat translation.now.id ≡ Some d → option_map (λ b. b.kind) (slice_get d.head.bands band) ≡ Some result }
+{
+    translation
+        .cat
+        .head(translation.id)
+        .bands
+        .get(band as usize)
+        .kind
+}
+
+// Reads the lines of a run that are the pixels of its part of the source, one for one, straight into their place. After
+// a refusal `out` is unknown.
+fn read_direct<R: Threads + Sync, F: Folder, L: Ledger, S: Scene>(
+    rt: &R,
+    shown: &Shown<S>,
+    team: &mut Team<F, L>,
+    folder: &mut F,
+    run: Run,
+    out: &mut [Sample],
+) -> Result<(), LoadFault>
+    requires ready { AreLanesReady F.Folder S.told S.cat folder.old shown.now.translation.now.cat team.old.lanes.items }
+    requires translation { IsTranslation shown.now.translation.now.cat shown.now.translation.now.id shown.now.translation.now.plan }
+    requires part { IsPart shown.now.translation.now.cat shown.now.translation.now.id shown.now.translation.now.plan shown.now.columns.now run }
+    requires direct { (d : Dataset) → slice_get shown.now.translation.now.cat shown.now.translation.now.id ≡ Some d → IsDirect shown.now.translation.now.plan d.head.size.h shown.now.columns.now run }
+    requires room { length out.old ≡ (run.end - run.first) * shown.now.translation.now.plan.size.w }
+    ensures samples { OnOk result (AreOf (F.names folder.old) shown.now.translation.now.cat shown.now.translation.now.id shown.now.translation.now.plan run.band run.first (length out.old) out.new) }
+    ensures ready { AreLanesReady F.Folder S.told S.cat folder.new shown.now.translation.now.cat team.new.lanes.items }
+    ensures lanes { length team.new.lanes.items ≡ length team.old.lanes.items }
+    ensures only_read { OnlyReadByViews F.Folder folder.old folder.new }
+    ensures cause { HasCause LoadFault.FolderFault (F.faults folder.old) (F.faults folder.new) result }
+    ensures changed { IfErr result (TellsChangeIn shown.now.translation.now.cat) }
+    ensures never { WhereTold F.Folder folder.old (λ _. IfErr result IsUnchanged) }
+    ensures counted { team.old.loads ≤ team.new.loads }
+    ensures reads { length team.old.lanes.items ≡ 1 → F.read_calls folder.new ≤ F.read_calls folder.old + most_calls shown.now.translation.now.cat * (team.new.loads - team.old.loads) }
+{
+    let translation = shown.translation;
+    let columns = shown.columns;
+    let window = window_of(translation, columns, run);
+    let supply = Supply {
+        alloc: translation.alloc,
+        cat: &translation.cat,
+        shared: shown.shared,
+    };
+    team.read_window_with(rt, &supply, folder, window, out)?;
+    let making = making_of(translation, columns, run.band);
+    let kind = kind_of(translation, window.band);
+    hold_all(making.holding, kind, out);
+    Ok(())
+}
+
+// Reads the lines of a run that are made of the pixels of its part of the source. After a refusal `strip` and `out` are
+// unknown.
+fn read_made<R: Threads + Sync, F: Folder, L: Ledger, S: Scene>(
     rt: &R,
     shown: &Shown<S>,
     team: &mut Team<F, L>,
@@ -208,6 +275,37 @@ fn read_part<R: Threads + Sync, F: Folder, L: Ledger, S: Scene>(
     let making = making_of(translation, columns, run.band);
     make_lines(making, run, strip, out);
     Ok(())
+}
+
+// Reads the lines of a run. After a refusal `strip` and `out` are unknown.
+fn read_part<R: Threads + Sync, F: Folder, L: Ledger, S: Scene>(
+    rt: &R,
+    shown: &Shown<S>,
+    team: &mut Team<F, L>,
+    folder: &mut F,
+    run: Run,
+    strip: &mut [Sample],
+    out: &mut [Sample],
+) -> Result<(), LoadFault>
+    requires ready { AreLanesReady F.Folder S.told S.cat folder.old shown.now.translation.now.cat team.old.lanes.items }
+    requires translation { IsTranslation shown.now.translation.now.cat shown.now.translation.now.id shown.now.translation.now.plan }
+    requires part { IsPart shown.now.translation.now.cat shown.now.translation.now.id shown.now.translation.now.plan shown.now.columns.now run }
+    requires strip { length strip.old ≡ shown.now.columns.now.count * run.span.height }
+    requires room { length out.old ≡ (run.end - run.first) * shown.now.translation.now.plan.size.w }
+    ensures samples { OnOk result (AreOf (F.names folder.old) shown.now.translation.now.cat shown.now.translation.now.id shown.now.translation.now.plan run.band run.first (length out.old) out.new) }
+    ensures ready { AreLanesReady F.Folder S.told S.cat folder.new shown.now.translation.now.cat team.new.lanes.items }
+    ensures lanes { length team.new.lanes.items ≡ length team.old.lanes.items }
+    ensures only_read { OnlyReadByViews F.Folder folder.old folder.new }
+    ensures cause { HasCause LoadFault.FolderFault (F.faults folder.old) (F.faults folder.new) result }
+    ensures changed { IfErr result (TellsChangeIn shown.now.translation.now.cat) }
+    ensures never { WhereTold F.Folder folder.old (λ _. IfErr result IsUnchanged) }
+    ensures counted { team.old.loads ≤ team.new.loads }
+    ensures reads { length team.old.lanes.items ≡ 1 → F.read_calls folder.new ≤ F.read_calls folder.old + most_calls shown.now.translation.now.cat * (team.new.loads - team.old.loads) }
+{
+    if is_direct_part(shown, run) {
+        return read_direct(rt, shown, team, folder, run, out);
+    }
+    read_made(rt, shown, team, folder, run, strip, out)
 }
 
 // How many lines of so many columns there is room for, at least one.

@@ -1,5 +1,4 @@
 use Rattle.std.proofs.Common.{◌*◌, ◌/◌, refl, ap, length, arith}
-use Rattle.geotransform.specs.declared.types.Rect.{Rect}
 use Rattle.nearest_window.specs.declared.window.Window.{Window}
 use Rattle.lane_teams.proofs.Halving.{front_ready, back_ready, front_fits, halves_read}
 use Rattle.lane_teams.proofs.beside.+lanes.Goals as goal

@@ -1,4 +1,4 @@
-use Rattle.std.proofs.Common.{◌≡◌, ◌≤◌, ◌++◌, List, map, Err, vec_len}
+use Rattle.std.proofs.Common.{◌≡◌, ◌++◌, List, map, Err, vec_len}
 use Rattle.outside.specs.Causes.{Rose}
 use Rattle.band_blocks.specs.declared.load.LoadFault.TheVariants.{FolderFault}
 use Rattle.lane_teams.specs.declared.turns.Turn.{Turn}

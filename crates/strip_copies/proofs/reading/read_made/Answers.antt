@@ -1,5 +1,5 @@
 use Rattle.std.proofs.Common.{◌∙◌, sym, arith}
-use Rattle.strip_copies.proofs.reading.read_part.Goals as goal
+use Rattle.strip_copies.proofs.reading.read_made.Goals as goal
 
 pub read_window_with-requires-clause-told : goal.read_window_with-requires-clause-told
 read_window_with-requires-clause-told g c κs within = c.requires.ready.told_is
