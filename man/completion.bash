@@ -1,16 +1,21 @@
 # Completions of the five commands for bash: source this file.
 
 _jirovamby() {
-    local word=$2 before=$3 options='--config --blocks --workers'
+    local word=$2 before=$3 options='--config --blocks --workers' words=
     case $before in
-        -of) mapfile -t COMPREPLY < <(compgen -W 'EHdr DTED SRTMHGT AAIGrid VRT' -- "$word") && return ;;
-        -ot) mapfile -t COMPREPLY < <(compgen -W 'Byte Int8 UInt16 Int16 UInt32 Int32 UInt64 Int64' -- "$word") && return ;;
-        -resolution) mapfile -t COMPREPLY < <(compgen -W 'highest lowest average user' -- "$word") && return ;;
-        --config) mapfile -t COMPREPLY < <(compgen -W 'DTED_VERIFY_CHECKSUM' -- "$word") && return ;;
-        -a_nodata | -srcnodata | -vrtnodata) mapfile -t COMPREPLY < <(compgen -W 'none' -- "$word") && return ;;
-        -co)
-            mapfile -t COMPREPLY < <(compgen -W 'INTERLEAVE=BIL INTERLEAVE=BIP INTERLEAVE=BSQ' -- "$word") && return ;;
+        -of) words='EHdr DTED SRTMHGT AAIGrid VRT' ;;
+        -ot) words='Byte Int8 UInt16 Int16 UInt32 Int32 UInt64 Int64' ;;
+        -resolution) words='highest lowest average user' ;;
+        --config) words='DTED_VERIFY_CHECKSUM' ;;
+        DTED_VERIFY_CHECKSUM) words='YES NO' ;;
+        -a_nodata | -srcnodata | -vrtnodata) words='none' ;;
+        -co) words='INTERLEAVE=BIL INTERLEAVE=BIP INTERLEAVE=BSQ' ;;
+        INTERLEAVE | =) [[ $COMP_LINE == *' -co INTERLEAVE='* ]] && words='BIL BIP BSQ' ;; # bash cuts words at a =
     esac
+    if [[ -n $words ]]; then
+        compopt +o filenames
+        mapfile -t COMPREPLY < <(compgen -W "$words" -- "${word#=}") && return
+    fi
     case ${1##*/} in
         gdallocationinfo) options+=' -b -valonly -lifonly -geoloc' ;;
         gdal_translate) options+=' -of -b -srcwin -projwin -outsize -ot -a_nodata -co -q -epo -eco' ;;
