@@ -10,7 +10,7 @@ ghost use Rattle.gdal_cli.specs.Pixels.{IsPixel, AreBands};
 use crate::reader::{PixelReader, Question};
 use error_lines::Fault;
 use geotransform::{Rect, Sample};
-use nearest_window::Window;
+use nearest_window::{Supply, Window};
 use outside::Folder;
 use shared_lines::Scene;
 use std::sync::ledger::Ledger;
@@ -44,17 +44,14 @@ fn read_value<F: Folder, L: Ledger, S: Scene>(
         rect: Rect { x, y, w: 1, h: 1 },
     };
     let mut value = [0; 1];
-    let shared = pixels.shared;
+    let supply = Supply {
+        alloc: question.alloc,
+        cat: &question.cat,
+        shared: pixels.shared,
+    };
+    let loads = &mut pixels.loads;
     let lane = &mut pixels.lane;
-    lane.read_window_with(
-        question.alloc,
-        &question.cat,
-        folder,
-        shared,
-        window,
-        &mut value,
-        &mut pixels.loads,
-    )?;
+    lane.read_window_with(&supply, folder, window, &mut value, loads)?;
     Ok(value[0])
 }
 

@@ -10,14 +10,13 @@ ghost use Rattle.nearest_window.specs.Shown.{IsWindow};
 ghost use Rattle.lane_teams.specs.Parts.{AreOfWindow};
 ghost use Rattle.lane_teams.specs.Turns.{AreReady, HaveRead, OnlyReadByViews};
 
-use crate::cutting::{Task, part_of};
+use crate::cutting::{Job, part_of};
 use crate::pair::both;
 use crate::single::read_one;
 use crate::turns::{Turn, collect, turns_of};
 use band_blocks::LoadFault;
-use catalog::Catalog;
 use geotransform::Sample;
-use nearest_window::Lane;
+use nearest_window::{Lane, Supply};
 use outside::Folder;
 use shared_lines::Scene;
 use std::thread::Threads;
@@ -42,56 +41,56 @@ struct Halves {
 #[cycle(lanes)]
 fn read_half<R: Threads + Sync, F: Folder, S: Scene>(
     rt: &R,
-    cat: &Catalog,
-    task: &Task<S>,
+    supply: &Supply<S>,
+    job: &Job,
     first: usize,
     half: &mut Half<F>,
 )
-    requires scene { S.cat ≡ cat.now }
-    requires ready { AreReady F.Folder S.told cat.now task.now.job first half.old.lanes.now half.old.turns.now half.old.out.now }
+    requires scene { S.cat ≡ supply.now.cat.now }
+    requires ready { AreReady F.Folder S.told supply.now.cat.now job.now first half.old.lanes.now half.old.turns.now half.old.out.now }
     ensures lanes { half.new.lanes.ghost_name ≡ half.old.lanes.ghost_name }
     ensures turns { half.new.turns.ghost_name ≡ half.old.turns.ghost_name }
     ensures out { half.new.out.ghost_name ≡ half.old.out.ghost_name }
-    ensures read { HaveRead F.Folder S.told cat.now task.now.job first (length half.old.lanes.now) half.new.lanes.now half.new.turns.now half.new.out.now }
+    ensures read { HaveRead F.Folder S.told supply.now.cat.now job.now first (length half.old.lanes.now) half.new.lanes.now half.new.turns.now half.new.out.now }
 {
     let lanes = &mut *half.lanes;
     let turns = &mut *half.turns;
     let out = &mut *half.out;
-    read_all::<R, F, S>(rt, cat, task, first, lanes, turns, out);
+    read_all::<R, F, S>(rt, supply, job, first, lanes, turns, out);
 }
 
 // Both halves read, beside each other where a thread can be started.
 #[cycle(lanes)]
 fn read_both<'a, R: Threads + Sync, F: Folder, S: Scene>(
     rt: &R,
-    cat: &Catalog,
-    task: &Task<S>,
+    supply: &Supply<S>,
+    job: &Job,
     halves: Halves,
     front: &mut Half<'a, F>,
     back: &mut Half<'a, F>,
 )
-    requires scene { S.cat ≡ cat.now }
-    requires front { AreReady F.Folder S.told cat.now task.now.job halves.first front.old.lanes.now front.old.turns.now front.old.out.now }
+    requires scene { S.cat ≡ supply.now.cat.now }
+    requires front { AreReady F.Folder S.told supply.now.cat.now job.now halves.first front.old.lanes.now front.old.turns.now front.old.out.now }
     requires front_few { length front.old.lanes.now ≤ halves.most }
-    requires back { AreReady F.Folder S.told cat.now task.now.job halves.middle back.old.lanes.now back.old.turns.now back.old.out.now }
+    requires back { AreReady F.Folder S.told supply.now.cat.now job.now halves.middle back.old.lanes.now back.old.turns.now back.old.out.now }
     requires back_few { length back.old.lanes.now ≤ halves.most }
     ensures front_lanes { front.new.lanes.ghost_name ≡ front.old.lanes.ghost_name }
     ensures front_turns { front.new.turns.ghost_name ≡ front.old.turns.ghost_name }
     ensures front_out { front.new.out.ghost_name ≡ front.old.out.ghost_name }
-    ensures front_read { HaveRead F.Folder S.told cat.now task.now.job halves.first (length front.old.lanes.now) front.new.lanes.now front.new.turns.now front.new.out.now }
+    ensures front_read { HaveRead F.Folder S.told supply.now.cat.now job.now halves.first (length front.old.lanes.now) front.new.lanes.now front.new.turns.now front.new.out.now }
     ensures back_lanes { back.new.lanes.ghost_name ≡ back.old.lanes.ghost_name }
     ensures back_turns { back.new.turns.ghost_name ≡ back.old.turns.ghost_name }
     ensures back_out { back.new.out.ghost_name ≡ back.old.out.ghost_name }
-    ensures back_read { HaveRead F.Folder S.told cat.now task.now.job halves.middle (length back.old.lanes.now) back.new.lanes.now back.new.turns.now back.new.out.now }
+    ensures back_read { HaveRead F.Folder S.told supply.now.cat.now job.now halves.middle (length back.old.lanes.now) back.new.lanes.now back.new.turns.now back.new.out.now }
 {
     let most = halves.most;
     let read = |at: usize, half: &mut Half<F>|
-        requires { IsSync R.row × IsSend S.row × IsSync S.row × (S.cat ≡ cat.now) × IsSend F.row × IsSend F.File.row × IsSend F.Draft.row × (length half.old.lanes.now ≤ most) × AreReady F.Folder S.told cat.now task.now.job at half.old.lanes.now half.old.turns.now half.old.out.now }
-        ensures { (half.new.lanes.ghost_name ≡ half.old.lanes.ghost_name) × (half.new.turns.ghost_name ≡ half.old.turns.ghost_name) × (half.new.out.ghost_name ≡ half.old.out.ghost_name) × HaveRead F.Folder S.told cat.entry.now task.entry.now.job at (length half.old.lanes.now) half.new.lanes.now half.new.turns.now half.new.out.now }
+        requires { IsSync R.row × IsSend S.row × IsSync S.row × (S.cat ≡ supply.now.cat.now) × IsSend F.row × IsSend F.File.row × IsSend F.Draft.row × (length half.old.lanes.now ≤ most) × AreReady F.Folder S.told supply.now.cat.now job.now at half.old.lanes.now half.old.turns.now half.old.out.now }
+        ensures { (half.new.lanes.ghost_name ≡ half.old.lanes.ghost_name) × (half.new.turns.ghost_name ≡ half.old.turns.ghost_name) × (half.new.out.ghost_name ≡ half.old.out.ghost_name) × HaveRead F.Folder S.told supply.entry.now.cat.now job.entry.now at (length half.old.lanes.now) half.new.lanes.now half.new.turns.now half.new.out.now }
     {
         // The clauses name it.
         let _most = most;
-        read_half::<R, F, S>(rt, cat, task, at, half);
+        read_half::<R, F, S>(rt, supply, job, at, half);
     };
     both(rt, &read, halves.first, front, halves.middle, back);
 }
@@ -100,8 +99,8 @@ fn read_both<'a, R: Threads + Sync, F: Folder, S: Scene>(
 #[cycle(lanes)]
 fn read_pair<'x, R: Threads + Sync, F: Folder, S: Scene>(
     rt: &R,
-    cat: &Catalog,
-    task: &Task<S>,
+    supply: &Supply<S>,
+    job: &Job,
     halves: Halves,
     a: &'x mut [Lane<F>],
     t: &'x mut [Turn<F>],
@@ -110,13 +109,13 @@ fn read_pair<'x, R: Threads + Sync, F: Folder, S: Scene>(
     u: &'x mut [Turn<F>],
     q: &'x mut [Sample],
 )
-    requires scene { S.cat ≡ cat.now }
-    requires front { AreReady F.Folder S.told cat.now task.now.job halves.first a.old t.old p.old }
+    requires scene { S.cat ≡ supply.now.cat.now }
+    requires front { AreReady F.Folder S.told supply.now.cat.now job.now halves.first a.old t.old p.old }
     requires front_few { length a.old ≤ halves.most }
-    requires back { AreReady F.Folder S.told cat.now task.now.job halves.middle b.old u.old q.old }
+    requires back { AreReady F.Folder S.told supply.now.cat.now job.now halves.middle b.old u.old q.old }
     requires back_few { length b.old ≤ halves.most }
-    ensures front { HaveRead F.Folder S.told cat.now task.now.job halves.first (length a.old) a.new t.new p.new }
-    ensures back { HaveRead F.Folder S.told cat.now task.now.job halves.middle (length b.old) b.new u.new q.new }
+    ensures front { HaveRead F.Folder S.told supply.now.cat.now job.now halves.first (length a.old) a.new t.new p.new }
+    ensures back { HaveRead F.Folder S.told supply.now.cat.now job.now halves.middle (length b.old) b.new u.new q.new }
 {
     let mut front = Half {
         lanes: a,
@@ -128,88 +127,88 @@ fn read_pair<'x, R: Threads + Sync, F: Folder, S: Scene>(
         turns: u,
         out: q,
     };
-    read_both::<R, F, S>(rt, cat, task, halves, &mut front, &mut back);
+    read_both::<R, F, S>(rt, supply, job, halves, &mut front, &mut back);
 }
 
 // The lanes from one on read their parts, beside each other.
 #[cycle(lanes)]
 fn read_all<'x, R: Threads + Sync, F: Folder, S: Scene>(
     rt: &R,
-    cat: &Catalog,
-    task: &Task<S>,
+    supply: &Supply<S>,
+    job: &Job,
     first: usize,
     lanes: &'x mut [Lane<F>],
     turns: &'x mut [Turn<F>],
     out: &'x mut [Sample],
 )
-    requires scene { S.cat ≡ cat.now }
-    requires ready { AreReady F.Folder S.told cat.now task.now.job first lanes.old turns.old out.old }
-    ensures read { HaveRead F.Folder S.told cat.now task.now.job first (length lanes.old) lanes.new turns.new out.new }
+    requires scene { S.cat ≡ supply.now.cat.now }
+    requires ready { AreReady F.Folder S.told supply.now.cat.now job.now first lanes.old turns.old out.old }
+    ensures read { HaveRead F.Folder S.told supply.now.cat.now job.now first (length lanes.old) lanes.new turns.new out.new }
 {
     let count = lanes.len();
     if count == 1 {
-        read_one::<F, S>(cat, task, first, lanes, turns, out);
+        read_one::<F, S>(supply, job, first, lanes, turns, out);
         return;
     }
     // This call is made for the proof: it says what holds of every catalog.
-    let _count = cat.count();
+    let _count = supply.cat.count();
     let low = count / 2;
     let halves = Halves {
         first,
         middle: first + low,
         most: count - low,
     };
-    let rect = part_of(&task.job, first, halves.middle).rect;
+    let rect = part_of(job, first, halves.middle).rect;
     let size = rect.w as usize * rect.h as usize;
     let (a, b) = lanes.split_at_mut(low);
     let (t, u) = turns.split_at_mut(low);
     let (p, q) = out.split_at_mut(size);
-    read_pair::<R, F, S>(rt, cat, task, halves, a, t, p, b, u, q);
+    read_pair::<R, F, S>(rt, supply, job, halves, a, t, p, b, u, q);
 }
 
 // The same, for lanes of a folder.
 fn read_views<R: Threads + Sync, F: Folder, S: Scene>(
     rt: &R,
-    cat: &Catalog,
+    supply: &Supply<S>,
     folder: &F,
-    task: &Task<S>,
+    job: &Job,
     lanes: &mut [Lane<F>],
     turns: &mut [Turn<F>],
     out: &mut [Sample],
 )
     requires told { S.told ≡ F.names folder.now }
-    requires scene { S.cat ≡ cat.now }
-    requires ready { AreReady F.Folder (F.names folder.now) cat.now task.now.job 0 lanes.old turns.old out.old }
-    ensures read { HaveRead F.Folder (F.names folder.now) cat.now task.now.job 0 (length lanes.old) lanes.new turns.new out.new }
+    requires scene { S.cat ≡ supply.now.cat.now }
+    requires ready { AreReady F.Folder (F.names folder.now) supply.now.cat.now job.now 0 lanes.old turns.old out.old }
+    ensures read { HaveRead F.Folder (F.names folder.now) supply.now.cat.now job.now 0 (length lanes.old) lanes.new turns.new out.new }
 {
     let _ = folder;
-    read_all::<R, F, S>(rt, cat, task, 0, lanes, turns, out);
+    read_all::<R, F, S>(rt, supply, job, 0, lanes, turns, out);
 }
 
 /// Lanes read a window beside each other, each through a view of its own.
 pub fn read_beside<R: Threads + Sync, F: Folder, S: Scene>(
     rt: &R,
-    cat: &Catalog,
+    supply: &Supply<S>,
     folder: &mut F,
-    task: &Task<S>,
+    job: &Job,
     lanes: &mut [Lane<F>],
     out: &mut [Sample],
 ) -> Result<(), LoadFault>
     requires told { S.told ≡ F.names folder.old }
-    requires scene { S.cat ≡ cat.now }
+    requires scene { S.cat ≡ supply.now.cat.now }
     requires some { 0 < length lanes.old }
-    requires count { task.now.job.count ≡ length lanes.old }
-    requires ready { All (IsReady F.Folder folder.old cat.now) lanes.old }
-    requires window { IsWindow cat.now task.now.job.window }
-    requires size { length out.old ≡ task.now.job.window.rect.w * task.now.job.window.rect.h }
-    ensures shown { OnOk result (AreOfWindow (F.names folder.old) cat.now task.now.job.window out.new) }
-    ensures ready { All (IsReady F.Folder folder.new cat.now) lanes.new }
+    requires count { job.now.count ≡ length lanes.old }
+    requires ready { All (IsReady F.Folder folder.old supply.now.cat.now) lanes.old }
+    requires window { IsWindow supply.now.cat.now job.now.window }
+    requires size { length out.old ≡ job.now.window.rect.w * job.now.window.rect.h }
+    ensures shown { OnOk result (AreOfWindow (F.names folder.old) supply.now.cat.now job.now.window out.new) }
+    ensures ready { All (IsReady F.Folder folder.new supply.now.cat.now) lanes.new }
     ensures only_read { OnlyReadByViews F.Folder folder.old folder.new }
     ensures cause { HasCause LoadFault.FolderFault (F.faults folder.old) (F.faults folder.new) result }
-    ensures changed { IfErr result (TellsChangeIn cat.now) }
+    ensures changed { IfErr result (TellsChangeIn supply.now.cat.now) }
     ensures never { WhereTold F.Folder folder.old (λ _. IfErr result IsUnchanged) }
 {
-    let mut turns = turns_of(task.job.alloc, cat, folder, lanes.len())?;
-    read_views::<R, F, S>(rt, cat, folder, task, lanes, turns.as_mut_slice(), out);
-    collect(cat, folder, turns)
+    let mut turns = turns_of(supply.alloc, supply.cat, folder, lanes.len())?;
+    read_views::<R, F, S>(rt, supply, folder, job, lanes, turns.as_mut_slice(), out);
+    collect(supply.cat, folder, turns)
 }

@@ -4,22 +4,12 @@ ghost use Rattle.lane_teams.specs.Parts.{lines_before, part_of};
 
 use geotransform::Rect;
 use nearest_window::Window;
-use shared_lines::{Lines, Scene};
-use std::alloc::Global;
 
 /// What lanes read: a window, cut among so many of them.
 #[derive(Clone, Copy)]
 pub struct Job {
-    pub alloc: Global,
     pub window: Window,
     pub count: usize,
-}
-
-/// What lanes read, and the lines that they share, if there are any.
-#[derive(Drop)]
-pub struct Task<'a, S: Scene> {
-    pub job: Job,
-    pub shared: Option<&'a Lines<S>>,
 }
 
 // The lines of so many that lie before those of a lane of so many.

@@ -16,14 +16,15 @@ ghost use Rattle.lane_teams.specs.Parts.{AreOfWindow};
 ghost use Rattle.lane_teams.specs.Turns.{OnlyReadByViews};
 
 use crate::beside::read_beside;
-use crate::cutting::{Job, Task};
+use crate::cutting::Job;
 use band_blocks::{LoadFault, Steps};
 use catalog::Catalog;
 use geotransform::Sample;
-use nearest_window::{Lane, Window};
+use nearest_window::{Lane, Supply, Window};
 use outside::Folder;
 use shared_lines::{Lines, Scene};
 use std::alloc::{AllocError, Global};
+use std::marker::Brand;
 use std::sync::ledger::{Blank, Ledger};
 use std::thread::Threads;
 
@@ -80,15 +81,46 @@ impl<F: Folder, L: Ledger> Team<F, L> {
     ///
     /// A refusal is that of the first lane that refused, in their order, and its causes are those of
     /// `Lane::read_window`. All views are ended, and all lanes ready, after every answer. `loads` counts the loads of a
-    /// lane that reads through the folder; those of several lanes aren't counted. Where lines are given, each lane looks
-    /// for blocks in them and offers its own, as `Lane::read_window_with` does.
-    pub fn read_window<R: Threads + Sync, S: Scene>(
+    /// lane that reads through the folder; those of several lanes aren't counted.
+    pub fn read_window<R: Threads + Sync>(
         &mut self,
         rt: &R,
         alloc: Global,
         cat: &Catalog,
         folder: &mut F,
-        shared: Option<&Lines<S>>,
+        window: Window,
+        out: &mut [Sample],
+    ) -> Result<(), LoadFault>
+        requires some { 0 < length self.old.lanes.items }
+        requires ready { All (IsReady F.Folder folder.old cat.now) self.old.lanes.items }
+        requires window { IsWindow cat.now window }
+        requires size { length out.old ≡ window.rect.w * window.rect.h }
+        ensures pixels { WhereTold F.Folder folder.old (λ m. OnOk result (out.new ≡ row_by_row (pixel_of m cat.now window.dataset window.band) window.rect)) }
+        // the pixels that the dataset's name has by itself
+        ensures named { WhereTold F.Folder folder.old (λ m. (d : Dataset) → slice_get cat.now window.dataset ≡ Some d → OnOk result (out.new ≡ row_by_row (pixel_of_name m d.head.name window.band) window.rect)) }
+        // each sample is in the band's type, whatever the folder tells
+        ensures typed { OnOk result (All (IsInBand cat.now window.dataset window.band) out.new) }
+        ensures ready { All (IsReady F.Folder folder.new cat.now) self.new.lanes.items }
+        ensures count { length self.new.lanes.items ≡ length self.old.lanes.items }
+        // of one lane with room for all blocks, each load makes one more block held, but for the last of a refused call
+        ensures loads { (old : _) (new : _) → self.old.lanes.items ≡ old ∷ [] → self.new.lanes.items ≡ new ∷ [] → all_blocks cat.now ≤ room_of old → self.new.loads ≤ self.old.loads + (held_in new - held_in old) + slack_of result }
+        ensures reads { length self.old.lanes.items ≡ 1 → F.read_calls folder.new ≤ F.read_calls folder.old + most_calls cat.now * (self.new.loads - self.old.loads) }
+        ensures counted { self.old.loads ≤ self.new.loads }
+        ensures only_read { OnlyReadByViews F.Folder folder.old folder.new }
+        ensures cause { HasCause LoadFault.FolderFault (F.faults folder.old) (F.faults folder.new) result }
+        ensures changed { IfErr result (TellsChangeIn cat.now) }
+        ensures never { WhereTold F.Folder folder.old (λ _. IfErr result IsUnchanged) }
+    {
+        self.read_unshared::<R, Brand>(rt, alloc, cat, folder, window, out)
+    }
+
+    // Reads a window without lines. The signature names none, so that the caller may pick what they would stand for.
+    fn read_unshared<R: Threads + Sync, S: Scene>(
+        &mut self,
+        rt: &R,
+        alloc: Global,
+        cat: &Catalog,
+        folder: &mut F,
         window: Window,
         out: &mut [Sample],
     ) -> Result<(), LoadFault>
@@ -114,18 +146,55 @@ impl<F: Folder, L: Ledger> Team<F, L> {
         ensures changed { IfErr result (TellsChangeIn cat.now) }
         ensures never { WhereTold F.Folder folder.old (λ _. IfErr result IsUnchanged) }
     {
+        let none: Option<Lines<S>> = None;
+        let supply = Supply {
+            alloc,
+            cat,
+            shared: none.as_ref(),
+        };
+        self.read_window_with(rt, &supply, folder, window, out)
+    }
+
+    /// As `read_window`, with the memory and the catalog of a supply, and through the lines that lanes share, where it has
+    /// any: they stand for its catalog and for the folder's files. Each lane looks for blocks in them and offers its own, as
+    /// `Lane::read_window_with` does.
+    pub fn read_window_with<R: Threads + Sync, S: Scene>(
+        &mut self,
+        rt: &R,
+        supply: &Supply<S>,
+        folder: &mut F,
+        window: Window,
+        out: &mut [Sample],
+    ) -> Result<(), LoadFault>
+        requires told { S.told ≡ F.names folder.old }
+        requires scene { S.cat ≡ supply.now.cat.now }
+        requires some { 0 < length self.old.lanes.items }
+        requires ready { All (IsReady F.Folder folder.old supply.now.cat.now) self.old.lanes.items }
+        requires window { IsWindow supply.now.cat.now window }
+        requires size { length out.old ≡ window.rect.w * window.rect.h }
+        ensures pixels { WhereTold F.Folder folder.old (λ m. OnOk result (out.new ≡ row_by_row (pixel_of m supply.now.cat.now window.dataset window.band) window.rect)) }
+        // the pixels that the dataset's name has by itself
+        ensures named { WhereTold F.Folder folder.old (λ m. (d : Dataset) → slice_get supply.now.cat.now window.dataset ≡ Some d → OnOk result (out.new ≡ row_by_row (pixel_of_name m d.head.name window.band) window.rect)) }
+        // each sample is in the band's type, whatever the folder tells
+        ensures typed { OnOk result (All (IsInBand supply.now.cat.now window.dataset window.band) out.new) }
+        ensures ready { All (IsReady F.Folder folder.new supply.now.cat.now) self.new.lanes.items }
+        ensures count { length self.new.lanes.items ≡ length self.old.lanes.items }
+        // of one lane with room for all blocks, each load makes one more block held, but for the last of a refused call
+        ensures loads { (old : _) (new : _) → self.old.lanes.items ≡ old ∷ [] → self.new.lanes.items ≡ new ∷ [] → all_blocks supply.now.cat.now ≤ room_of old → self.new.loads ≤ self.old.loads + (held_in new - held_in old) + slack_of result }
+        ensures reads { length self.old.lanes.items ≡ 1 → F.read_calls folder.new ≤ F.read_calls folder.old + most_calls supply.now.cat.now * (self.new.loads - self.old.loads) }
+        ensures counted { self.old.loads ≤ self.new.loads }
+        ensures only_read { OnlyReadByViews F.Folder folder.old folder.new }
+        ensures cause { HasCause LoadFault.FolderFault (F.faults folder.old) (F.faults folder.new) result }
+        ensures changed { IfErr result (TellsChangeIn supply.now.cat.now) }
+        ensures never { WhereTold F.Folder folder.old (λ _. IfErr result IsUnchanged) }
+    {
         let lanes = self.lanes.as_mut_slice();
         let count = lanes.len();
         if count == 1 || (window.rect.h as usize) < count {
             let loads = &mut self.loads;
-            return lanes[0].read_window_with(alloc, cat, folder, shared, window, out, loads);
+            return lanes[0].read_window_with(supply, folder, window, out, loads);
         }
-        let job = Job {
-            alloc,
-            window,
-            count,
-        };
-        let task = Task { job, shared };
-        read_beside::<R, F, S>(rt, cat, folder, &task, lanes, out)
+        let job = Job { window, count };
+        read_beside::<R, F, S>(rt, supply, folder, &job, lanes, out)
     }
 }

@@ -279,75 +279,69 @@ impl<F: Folder> Lane<F> {
     }
 
     // Whether the lines show a block, which is then kept. It isn't where memory is refused.
-    fn takes_shown<S: Scene>(
-        &mut self,
-        supply: &Supply<S>,
-        cat: &Catalog,
-        folder: &F,
-        key: BlockKey,
-    ) -> bool
-        requires ready { IsReady F.Folder folder.now cat.now self.old }
+    fn takes_shown<S: Scene>(&mut self, supply: &Supply<S>, folder: &F, key: BlockKey) -> bool
+        requires ready { IsReady F.Folder folder.now supply.now.cat.now self.old }
         requires told { S.told ≡ F.names folder.now }
-        requires scene { S.cat ≡ cat.now }
-        requires key { IsKey cat.now key }
-        ensures serves { (loads : ℕ) → Serves F.file_bytes F.file_len cat.now 0 (state_of F.Folder folder.now self.old loads) (state_of F.Folder folder.now self.new loads) }
+        requires scene { S.cat ≡ supply.now.cat.now }
+        requires key { IsKey supply.now.cat.now key }
+        ensures serves { (loads : ℕ) → Serves F.file_bytes F.file_len supply.now.cat.now 0 (state_of F.Folder folder.now self.old loads) (state_of F.Folder folder.now self.new loads) }
         ensures held { result ≡ true → IsHeldWith key self.new (λ _. ⊤) }
         ensures same { result ≡ false → self.new ≡ self.old }
     {
         let _ = folder;
-        let Some(block) = shown_in(supply, cat, key) else {
+        let Some(block) = shown_in(supply, key) else {
             return false;
         };
-        match self.keep_shown(cat, key, block) {
+        match self.keep_shown(supply.cat, key, block) {
             Ok(_) => return true,
             Err(_) => return false,
         }
     }
 
     // Whether a block is held, or is so now since the lines showed it.
-    fn finds<S: Scene>(
-        &mut self,
-        supply: &Supply<S>,
-        cat: &Catalog,
-        folder: &F,
-        key: BlockKey,
-    ) -> bool
-        requires ready { IsReady F.Folder folder.now cat.now self.old }
+    fn finds<S: Scene>(&mut self, supply: &Supply<S>, folder: &F, key: BlockKey) -> bool
+        requires ready { IsReady F.Folder folder.now supply.now.cat.now self.old }
         requires told { S.told ≡ F.names folder.now }
-        requires scene { S.cat ≡ cat.now }
-        requires key { IsKey cat.now key }
-        ensures serves { (loads : ℕ) → Serves F.file_bytes F.file_len cat.now 0 (state_of F.Folder folder.now self.old loads) (state_of F.Folder folder.now self.new loads) }
-        ensures ready { IsReady F.Folder folder.now cat.now self.new }
+        requires scene { S.cat ≡ supply.now.cat.now }
+        requires key { IsKey supply.now.cat.now key }
+        ensures serves { (loads : ℕ) → Serves F.file_bytes F.file_len supply.now.cat.now 0 (state_of F.Folder folder.now self.old loads) (state_of F.Folder folder.now self.new loads) }
+        ensures ready { IsReady F.Folder folder.now supply.now.cat.now self.new }
         ensures held { result ≡ true → IsHeldWith key self.new (λ _. ⊤) }
         ensures absent { result ≡ false → held_at key self.new.pool.entries ≡ None }
     {
         if self.holds(&key) {
             return true;
         }
-        self.takes_shown(supply, cat, folder, key)
+        self.takes_shown(supply, folder, key)
     }
 
     // Loads a block of a file that isn't held, and keeps it.
     fn load_kept<L: Ledger, S: Scene>(
         &mut self,
         supply: &Supply<S>,
-        cat: &Catalog,
         folder: &mut F,
         key: BlockKey,
         loads: &mut Steps<L>,
     ) -> Result<(), LoadFault>
-        requires ready { IsReady F.Folder folder.old cat.now self.old }
+        requires ready { IsReady F.Folder folder.old supply.now.cat.now self.old }
         requires told { S.told ≡ F.names folder.old }
-        requires scene { S.cat ≡ cat.now }
-        requires key { IsFileKey cat.now key }
+        requires scene { S.cat ≡ supply.now.cat.now }
+        requires key { IsFileKey supply.now.cat.now key }
         requires absent { held_at key self.old.pool.entries ≡ None }
-        ensures serves { Served F.Folder cat.now result folder.old self.old loads.old folder.new self.new loads.new }
+        ensures serves { Served F.Folder supply.now.cat.now result folder.old self.old loads.old folder.new self.new loads.new }
         ensures cause { HasCause LoadFault.FolderFault (F.faults folder.old) (F.faults folder.new) result }
-        ensures changed { IfErr result (TellsChangeIn cat.now) }
+        ensures changed { IfErr result (TellsChangeIn supply.now.cat.now) }
         ensures never { WhereTold F.Folder folder.old (λ _. IfErr result IsUnchanged) }
         ensures held { OnOk result (IsHeldWith key self.new (λ _. ⊤)) }
     {
-        let block = load_block(supply.alloc, cat, folder, &mut self.files, key, loads)?;
+        let block = load_block(
+            supply.alloc,
+            supply.cat,
+            folder,
+            &mut self.files,
+            key,
+            loads,
+        )?;
         offer_to(supply, key, &block);
         self.keep(key, block)
     }
@@ -460,29 +454,28 @@ impl<F: Folder> Lane<F> {
     fn hold<L: Ledger, S: Scene>(
         &mut self,
         supply: &Supply<S>,
-        cat: &Catalog,
         folder: &mut F,
         key: BlockKey,
         loads: &mut Steps<L>,
     ) -> Result<(), LoadFault>
-        requires ready { IsReady F.Folder folder.old cat.now self.old }
+        requires ready { IsReady F.Folder folder.old supply.now.cat.now self.old }
         requires told { S.told ≡ F.names folder.old }
-        requires scene { S.cat ≡ cat.now }
-        requires key { IsKey cat.now key }
-        ensures serves { Served F.Folder cat.now result folder.old self.old loads.old folder.new self.new loads.new }
+        requires scene { S.cat ≡ supply.now.cat.now }
+        requires key { IsKey supply.now.cat.now key }
+        ensures serves { Served F.Folder supply.now.cat.now result folder.old self.old loads.old folder.new self.new loads.new }
         ensures cause { HasCause LoadFault.FolderFault (F.faults folder.old) (F.faults folder.new) result }
-        ensures changed { IfErr result (TellsChangeIn cat.now) }
+        ensures changed { IfErr result (TellsChangeIn supply.now.cat.now) }
         ensures never { WhereTold F.Folder folder.old (λ _. IfErr result IsUnchanged) }
         ensures held { OnOk result (IsHeldWith key self.new (λ _. ⊤)) }
     {
-        if self.finds(supply, cat, folder, key) {
+        if self.finds(supply, folder, key) {
             return Ok(());
         }
-        match band_of(cat, key) {
-            None => return self.load_kept(supply, cat, folder, key, loads),
+        match band_of(supply.cat, key) {
+            None => return self.load_kept(supply, folder, key, loads),
             Some(band) => {
-                let rect = mosaic_rect(cat, key);
-                let block = self.fill(supply, cat, folder, key, band, rect, loads)?;
+                let rect = mosaic_rect(supply.cat, key);
+                let block = self.fill(supply, folder, key, band, rect, loads)?;
                 offer_to(supply, key, &block);
                 return self.keep_made(key, block);
             }
@@ -513,29 +506,28 @@ impl<F: Folder> Lane<F> {
     fn part_block<L: Ledger, S: Scene>(
         &mut self,
         supply: &Supply<S>,
-        cat: &Catalog,
         folder: &mut F,
         key: BlockKey,
         part: Part,
         loads: &mut Steps<L>,
     ) -> Result<Block, LoadFault>
-        requires ready { IsReady F.Folder folder.old cat.now self.old }
+        requires ready { IsReady F.Folder folder.old supply.now.cat.now self.old }
         requires told { S.told ≡ F.names folder.old }
-        requires scene { S.cat ≡ cat.now }
-        requires key { IsMosaicKey cat.now key part.band.now }
+        requires scene { S.cat ≡ supply.now.cat.now }
+        requires key { IsMosaicKey supply.now.cat.now key part.band.now }
         requires sources { length part.band.now.sources < 2 ^ 32 }
-        requires within { (d : Dataset) → slice_get cat.now key.dataset ≡ Some d → IsWithin part.rect d.head.size }
+        requires within { (d : Dataset) → slice_get supply.now.cat.now key.dataset ≡ Some d → IsWithin part.rect d.head.size }
         requires few { part.rect.w * part.rect.h < 2 ^ 32 }
-        ensures serves { Served F.Folder cat.now result folder.old self.old loads.old folder.new self.new loads.new }
+        ensures serves { Served F.Folder supply.now.cat.now result folder.old self.old loads.old folder.new self.new loads.new }
         ensures cause { HasCause LoadFault.FolderFault (F.faults folder.old) (F.faults folder.new) result }
-        ensures changed { IfErr result (TellsChangeIn cat.now) }
+        ensures changed { IfErr result (TellsChangeIn supply.now.cat.now) }
         ensures never { WhereTold F.Folder folder.old (λ _. IfErr result IsUnchanged) }
-        ensures block { IfOk result (λ b. IsPartBlock (F.names folder.new) cat.now key part.entry.rect b) }
+        ensures block { IfOk result (λ b. IsPartBlock (F.names folder.new) supply.now.cat.now key part.entry.rect b) }
     {
-        if let Some(block) = self.recall(supply.alloc, cat, key, part.rect) {
+        if let Some(block) = self.recall(supply.alloc, supply.cat, key, part.rect) {
             return Ok(block);
         }
-        let block = self.fill(supply, cat, folder, key, part.band, part.rect, loads)?;
+        let block = self.fill(supply, folder, key, part.band, part.rect, loads)?;
         self.note(key, part.rect, &block);
         Ok(block)
     }
@@ -546,31 +538,30 @@ impl<F: Folder> Lane<F> {
     fn fill<L: Ledger, S: Scene>(
         &mut self,
         supply: &Supply<S>,
-        cat: &Catalog,
         folder: &mut F,
         key: BlockKey,
         band: &VrtBand,
         rect: Rect,
         loads: &mut Steps<L>,
     ) -> Result<Block, LoadFault>
-        requires ready { IsReady F.Folder folder.old cat.now self.old }
+        requires ready { IsReady F.Folder folder.old supply.now.cat.now self.old }
         requires told { S.told ≡ F.names folder.old }
-        requires scene { S.cat ≡ cat.now }
-        requires key { IsMosaicKey cat.now key band.now }
+        requires scene { S.cat ≡ supply.now.cat.now }
+        requires key { IsMosaicKey supply.now.cat.now key band.now }
         requires sources { length band.now.sources < 2 ^ 32 }
-        requires within { (d : Dataset) → slice_get cat.now key.dataset ≡ Some d → IsWithin rect d.head.size }
+        requires within { (d : Dataset) → slice_get supply.now.cat.now key.dataset ≡ Some d → IsWithin rect d.head.size }
         requires few { rect.w * rect.h < 2 ^ 32 }
-        ensures serves { Served F.Folder cat.now result folder.old self.old loads.old folder.new self.new loads.new }
+        ensures serves { Served F.Folder supply.now.cat.now result folder.old self.old loads.old folder.new self.new loads.new }
         ensures cause { HasCause LoadFault.FolderFault (F.faults folder.old) (F.faults folder.new) result }
-        ensures changed { IfErr result (TellsChangeIn cat.now) }
+        ensures changed { IfErr result (TellsChangeIn supply.now.cat.now) }
         ensures never { WhereTold F.Folder folder.old (λ _. IfErr result IsUnchanged) }
-        ensures block { IfOk result (λ b. IsPartBlock (F.names folder.new) cat.now key rect b) }
+        ensures block { IfOk result (λ b. IsPartBlock (F.names folder.new) supply.now.cat.now key rect b) }
     {
         // This call is made for the proof: it says what holds of every catalog.
-        let _count = cat.count();
+        let _count = supply.cat.count();
         band.rules();
         self.spend(rect);
-        let wanted = self.wanted(supply.alloc, cat, key, band, rect)?;
+        let wanted = self.wanted(supply.alloc, supply.cat, key, band, rect)?;
         let mut canvas = Canvas::of(supply.alloc, rect, band.kind);
         let mut left = wanted.len();
         while is_wanted(left, &canvas) {
@@ -582,7 +573,7 @@ impl<F: Folder> Lane<F> {
                 number: number as u32,
                 source,
             };
-            self.paint(supply, cat, folder, numbered, &mut canvas, loads)?;
+            self.paint(supply, folder, numbered, &mut canvas, loads)?;
         }
         let block = canvas.packed(supply.alloc, band.nodata.unwrap_or(0))?;
         // This call is made for the proof: it says what holds of every block.
@@ -595,26 +586,25 @@ impl<F: Folder> Lane<F> {
     fn paint<L: Ledger, S: Scene>(
         &mut self,
         supply: &Supply<S>,
-        cat: &Catalog,
         folder: &mut F,
         source: Numbered,
         canvas: &mut Canvas,
         loads: &mut Steps<L>,
     ) -> Result<(), LoadFault>
-        requires ready { IsReady F.Folder folder.old cat.now self.old }
+        requires ready { IsReady F.Folder folder.old supply.now.cat.now self.old }
         requires told { S.told ≡ F.names folder.old }
-        requires scene { S.cat ≡ cat.now }
-        requires source { IsSourceOf cat.now source.key source.number source.source.now }
-        requires within { (d : Dataset) → slice_get cat.now source.key.dataset ≡ Some d → IsWithin canvas.old.rect d.head.size }
+        requires scene { S.cat ≡ supply.now.cat.now }
+        requires source { IsSourceOf supply.now.cat.now source.key source.number source.source.now }
+        requires within { (d : Dataset) → slice_get supply.now.cat.now source.key.dataset ≡ Some d → IsWithin canvas.old.rect d.head.size }
         requires canvas { IsCanvas canvas.old }
-        ensures serves { Served F.Folder cat.now result folder.old self.old loads.old folder.new self.new loads.new }
+        ensures serves { Served F.Folder supply.now.cat.now result folder.old self.old loads.old folder.new self.new loads.new }
         ensures cause { HasCause LoadFault.FolderFault (F.faults folder.old) (F.faults folder.new) result }
-        ensures changed { IfErr result (TellsChangeIn cat.now) }
+        ensures changed { IfErr result (TellsChangeIn supply.now.cat.now) }
         ensures never { WhereTold F.Folder folder.old (λ _. IfErr result IsUnchanged) }
         ensures canvas { OnOk result (IsCanvas canvas.new) }
-        ensures taken { (d : Dataset) → slice_get cat.now source.entry.key.dataset ≡ Some d → OnOk result (IsSourceTaken (F.names folder.new) cat.now d source.entry.key.band source.entry.number source.entry.source.now canvas.old canvas.new) }
+        ensures taken { (d : Dataset) → slice_get supply.now.cat.now source.entry.key.dataset ≡ Some d → OnOk result (IsSourceTaken (F.names folder.new) supply.now.cat.now d source.entry.key.band source.entry.number source.entry.source.now canvas.old canvas.new) }
     {
-        let Some(asked) = asked_of(supply.alloc, cat, source, canvas)? else {
+        let Some(asked) = asked_of(supply.alloc, supply.cat, source, canvas)? else {
             return Ok(());
         };
         let Asked {
@@ -622,7 +612,7 @@ impl<F: Folder> Lane<F> {
             part,
             mut pixels,
         } = asked;
-        self.paint_picture(supply, cat, folder, &picture, pixels.as_mut_slice(), loads)?;
+        self.paint_picture(supply, folder, &picture, pixels.as_mut_slice(), loads)?;
         let taking = taking_of(source.source);
         canvas.take(supply.alloc, &taking, part, pixels)?;
         Ok(())
@@ -659,38 +649,37 @@ impl<F: Folder> Lane<F> {
     fn paint_picture<L: Ledger, S: Scene>(
         &mut self,
         supply: &Supply<S>,
-        cat: &Catalog,
         folder: &mut F,
         picture: &Picture,
         out: &mut [Sample],
         loads: &mut Steps<L>,
     ) -> Result<(), LoadFault>
-        requires ready { IsReady F.Folder folder.old cat.now self.old }
+        requires ready { IsReady F.Folder folder.old supply.now.cat.now self.old }
         requires told { S.told ≡ F.names folder.old }
-        requires scene { S.cat ≡ cat.now }
-        requires picture { IsPictureOf cat.now picture.now }
+        requires scene { S.cat ≡ supply.now.cat.now }
+        requires picture { IsPictureOf supply.now.cat.now picture.now }
         requires rows { length out.old ≡ picture.now.height * picture.now.stride }
-        ensures serves { Served F.Folder cat.now result folder.old self.old loads.old folder.new self.new loads.new }
+        ensures serves { Served F.Folder supply.now.cat.now result folder.old self.old loads.old folder.new self.new loads.new }
         ensures cause { HasCause LoadFault.FolderFault (F.faults folder.old) (F.faults folder.new) result }
-        ensures changed { IfErr result (TellsChangeIn cat.now) }
+        ensures changed { IfErr result (TellsChangeIn supply.now.cat.now) }
         ensures never { WhereTold F.Folder folder.old (λ _. IfErr result IsUnchanged) }
-        ensures painted { OnOk result (IsShown (F.names folder.new) cat.now picture.now 0 picture.now.width 0 out.old out.new) }
-        ensures typed { OnOk result (AreTyped cat.now picture.now (picture.now.height * picture.now.stride) out.new) }
+        ensures painted { OnOk result (IsShown (F.names folder.new) supply.now.cat.now picture.now 0 picture.now.width 0 out.old out.new) }
+        ensures typed { OnOk result (AreTyped supply.now.cat.now picture.now (picture.now.height * picture.now.stride) out.new) }
     {
         let mut line = 0;
         while line < picture.height {
-            let rect = block_around(cat, picture, 0, line).rect;
+            let rect = block_around(supply.cat, picture, 0, line).rect;
             let last = picture
                 .lines
                 .run_end(line, picture.height, rect.y, rect.y + rect.h);
-            let end = self.end_of(cat, picture, line, last);
+            let end = self.end_of(supply.cat, picture, line, last);
             let lines = Span {
                 first: line,
                 count: end - line,
             };
             let from = line as usize * picture.stride;
             let part = &mut out[from..end as usize * picture.stride];
-            self.paint_band(supply, cat, folder, picture, lines, part, loads)?;
+            self.paint_band(supply, folder, picture, lines, part, loads)?;
             line = end;
         }
         Ok(())
@@ -701,36 +690,35 @@ impl<F: Folder> Lane<F> {
     fn paint_band<L: Ledger, S: Scene>(
         &mut self,
         supply: &Supply<S>,
-        cat: &Catalog,
         folder: &mut F,
         picture: &Picture,
         lines: Span,
         out: &mut [Sample],
         loads: &mut Steps<L>,
     ) -> Result<(), LoadFault>
-        requires ready { IsReady F.Folder folder.old cat.now self.old }
+        requires ready { IsReady F.Folder folder.old supply.now.cat.now self.old }
         requires told { S.told ≡ F.names folder.old }
-        requires scene { S.cat ≡ cat.now }
-        requires picture { IsPictureOf cat.now picture.now }
+        requires scene { S.cat ≡ supply.now.cat.now }
+        requires picture { IsPictureOf supply.now.cat.now picture.now }
         requires lines { lines.first + lines.count ≤ picture.now.height }
         requires some { 0 < lines.count }
-        requires band { IsBandOf cat.now picture.now lines.first lines.count }
+        requires band { IsBandOf supply.now.cat.now picture.now lines.first lines.count }
         requires rows { length out.old ≡ lines.count * picture.now.stride }
-        ensures serves { Served F.Folder cat.now result folder.old self.old loads.old folder.new self.new loads.new }
+        ensures serves { Served F.Folder supply.now.cat.now result folder.old self.old loads.old folder.new self.new loads.new }
         ensures cause { HasCause LoadFault.FolderFault (F.faults folder.old) (F.faults folder.new) result }
-        ensures changed { IfErr result (TellsChangeIn cat.now) }
+        ensures changed { IfErr result (TellsChangeIn supply.now.cat.now) }
         ensures never { WhereTold F.Folder folder.old (λ _. IfErr result IsUnchanged) }
-        ensures painted { OnOk result (IsShown (F.names folder.new) cat.now picture.now 0 picture.now.width lines.first out.old out.new) }
-        ensures typed { OnOk result (IsTyped cat.now picture.now 0 picture.now.width out.old out.new) }
+        ensures painted { OnOk result (IsShown (F.names folder.new) supply.now.cat.now picture.now 0 picture.now.width lines.first out.old out.new) }
+        ensures typed { OnOk result (IsTyped supply.now.cat.now picture.now 0 picture.now.width out.old out.new) }
     {
-        if let Some(rows) = self.wide_rows(cat, picture, lines) {
+        if let Some(rows) = self.wide_rows(supply.cat, picture, lines) {
             let Rows { band, piece } = rows;
             let Piece { key, rect, area } = piece;
-            let block = self.fill(supply, cat, folder, key, band, rect, loads)?;
+            let block = self.fill(supply, folder, key, band, rect, loads)?;
             paint_rows(&block, rect, picture, area, out);
             return Ok(());
         }
-        self.paint_pieces(supply, cat, folder, picture, lines, out, loads)
+        self.paint_pieces(supply, folder, picture, lines, out, loads)
     }
 
     // Paints lines of a picture that lie in one row of blocks, one block after the other.
@@ -738,31 +726,30 @@ impl<F: Folder> Lane<F> {
     fn paint_pieces<L: Ledger, S: Scene>(
         &mut self,
         supply: &Supply<S>,
-        cat: &Catalog,
         folder: &mut F,
         picture: &Picture,
         lines: Span,
         out: &mut [Sample],
         loads: &mut Steps<L>,
     ) -> Result<(), LoadFault>
-        requires ready { IsReady F.Folder folder.old cat.now self.old }
+        requires ready { IsReady F.Folder folder.old supply.now.cat.now self.old }
         requires told { S.told ≡ F.names folder.old }
-        requires scene { S.cat ≡ cat.now }
-        requires picture { IsPictureOf cat.now picture.now }
+        requires scene { S.cat ≡ supply.now.cat.now }
+        requires picture { IsPictureOf supply.now.cat.now picture.now }
         requires lines { lines.first + lines.count ≤ picture.now.height }
         requires some { 0 < lines.count }
-        requires band { IsBandOf cat.now picture.now lines.first lines.count }
+        requires band { IsBandOf supply.now.cat.now picture.now lines.first lines.count }
         requires rows { length out.old ≡ lines.count * picture.now.stride }
-        ensures serves { Served F.Folder cat.now result folder.old self.old loads.old folder.new self.new loads.new }
+        ensures serves { Served F.Folder supply.now.cat.now result folder.old self.old loads.old folder.new self.new loads.new }
         ensures cause { HasCause LoadFault.FolderFault (F.faults folder.old) (F.faults folder.new) result }
-        ensures changed { IfErr result (TellsChangeIn cat.now) }
+        ensures changed { IfErr result (TellsChangeIn supply.now.cat.now) }
         ensures never { WhereTold F.Folder folder.old (λ _. IfErr result IsUnchanged) }
-        ensures painted { OnOk result (IsShown (F.names folder.new) cat.now picture.now 0 picture.now.width lines.first out.old out.new) }
-        ensures typed { OnOk result (IsTyped cat.now picture.now 0 picture.now.width out.old out.new) }
+        ensures painted { OnOk result (IsShown (F.names folder.new) supply.now.cat.now picture.now 0 picture.now.width lines.first out.old out.new) }
+        ensures typed { OnOk result (IsTyped supply.now.cat.now picture.now 0 picture.now.width out.old out.new) }
     {
         let mut column = 0;
         while column < picture.width {
-            let Around { key, rect } = block_around(cat, picture, column, lines.first);
+            let Around { key, rect } = block_around(supply.cat, picture, column, lines.first);
             let end = picture
                 .columns
                 .run_end(column, picture.width, rect.x, rect.x + rect.w);
@@ -773,7 +760,7 @@ impl<F: Folder> Lane<F> {
                 lines: lines.count,
             };
             let piece = Piece { key, rect, area };
-            self.paint_block(supply, cat, folder, picture, piece, out, loads)?;
+            self.paint_block(supply, folder, picture, piece, out, loads)?;
             column = end;
         }
         Ok(())
@@ -823,39 +810,38 @@ impl<F: Folder> Lane<F> {
     fn paint_block<L: Ledger, S: Scene>(
         &mut self,
         supply: &Supply<S>,
-        cat: &Catalog,
         folder: &mut F,
         picture: &Picture,
         piece: Piece,
         out: &mut [Sample],
         loads: &mut Steps<L>,
     ) -> Result<(), LoadFault>
-        requires ready { IsReady F.Folder folder.old cat.now self.old }
+        requires ready { IsReady F.Folder folder.old supply.now.cat.now self.old }
         requires told { S.told ≡ F.names folder.old }
-        requires scene { S.cat ≡ cat.now }
-        requires picture { IsPictureOf cat.now picture.now }
-        requires piece { IsPartOf cat.now picture.now piece }
+        requires scene { S.cat ≡ supply.now.cat.now }
+        requires picture { IsPictureOf supply.now.cat.now picture.now }
+        requires piece { IsPartOf supply.now.cat.now picture.now piece }
         requires area { IsAreaOf picture.now piece.area }
         requires rows { length out.old ≡ piece.area.lines * picture.now.stride }
-        ensures serves { Served F.Folder cat.now result folder.old self.old loads.old folder.new self.new loads.new }
+        ensures serves { Served F.Folder supply.now.cat.now result folder.old self.old loads.old folder.new self.new loads.new }
         ensures cause { HasCause LoadFault.FolderFault (F.faults folder.old) (F.faults folder.new) result }
-        ensures changed { IfErr result (TellsChangeIn cat.now) }
+        ensures changed { IfErr result (TellsChangeIn supply.now.cat.now) }
         ensures never { WhereTold F.Folder folder.old (λ _. IfErr result IsUnchanged) }
-        ensures painted { OnOk result (IsShown (F.names folder.new) cat.now picture.now piece.area.column piece.area.columns piece.area.line out.old out.new) }
-        ensures typed { OnOk result (IsTyped cat.now picture.now piece.area.column piece.area.columns out.old out.new) }
+        ensures painted { OnOk result (IsShown (F.names folder.new) supply.now.cat.now picture.now piece.area.column piece.area.columns piece.area.line out.old out.new) }
+        ensures typed { OnOk result (IsTyped supply.now.cat.now picture.now piece.area.column piece.area.columns out.old out.new) }
     {
-        if let Some(part) = self.lone_part(cat, picture, piece) {
-            let block = self.part_block(supply, cat, folder, piece.key, part, loads)?;
+        if let Some(part) = self.lone_part(supply.cat, picture, piece) {
+            let block = self.part_block(supply, folder, piece.key, part, loads)?;
             paint_rows(&block, part.rect, picture, piece.area, out);
             return Ok(());
         }
-        if self.is_jump(cat, picture, piece) {
+        if self.is_jump(supply.cat, picture, piece) {
             let rect = pixel_rect(picture, piece.area);
-            let block = self.load_alone(supply.alloc, cat, folder, piece.key, rect, loads)?;
+            let block = self.load_alone(supply.alloc, supply.cat, folder, piece.key, rect, loads)?;
             paint_rows(&block, rect, picture, piece.area, out);
             return Ok(());
         }
-        self.hold(supply, cat, folder, piece.key, loads)?;
+        self.hold(supply, folder, piece.key, loads)?;
         self.paint_held(picture, piece, out);
         Ok(())
     }
@@ -864,25 +850,24 @@ impl<F: Folder> Lane<F> {
     pub(crate) fn paint_window<L: Ledger, S: Scene>(
         &mut self,
         supply: &Supply<S>,
-        cat: &Catalog,
         folder: &mut F,
         picture: &Picture,
         out: &mut [Sample],
         loads: &mut Steps<L>,
     ) -> Result<(), LoadFault>
-        requires ready { IsReady F.Folder folder.old cat.now self.old }
+        requires ready { IsReady F.Folder folder.old supply.now.cat.now self.old }
         requires told { S.told ≡ F.names folder.old }
-        requires scene { S.cat ≡ cat.now }
-        requires picture { IsPictureOf cat.now picture.now }
+        requires scene { S.cat ≡ supply.now.cat.now }
+        requires picture { IsPictureOf supply.now.cat.now picture.now }
         requires rows { length out.old ≡ picture.now.height * picture.now.stride }
-        ensures serves { Served F.Folder cat.now result folder.old self.old loads.old folder.new self.new loads.new }
+        ensures serves { Served F.Folder supply.now.cat.now result folder.old self.old loads.old folder.new self.new loads.new }
         ensures cause { HasCause LoadFault.FolderFault (F.faults folder.old) (F.faults folder.new) result }
-        ensures changed { IfErr result (TellsChangeIn cat.now) }
+        ensures changed { IfErr result (TellsChangeIn supply.now.cat.now) }
         ensures never { WhereTold F.Folder folder.old (λ _. IfErr result IsUnchanged) }
-        ensures painted { OnOk result (IsShown (F.names folder.new) cat.now picture.now 0 picture.now.width 0 out.old out.new) }
-        ensures typed { OnOk result (AreTyped cat.now picture.now (picture.now.height * picture.now.stride) out.new) }
+        ensures painted { OnOk result (IsShown (F.names folder.new) supply.now.cat.now picture.now 0 picture.now.width 0 out.old out.new) }
+        ensures typed { OnOk result (AreTyped supply.now.cat.now picture.now (picture.now.height * picture.now.stride) out.new) }
     {
-        self.begin(cat, out.len());
-        self.paint_picture(supply, cat, folder, picture, out, loads)
+        self.begin(supply.cat, out.len());
+        self.paint_picture(supply, folder, picture, out, loads)
     }
 }

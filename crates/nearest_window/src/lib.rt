@@ -22,4 +22,5 @@ mod window;
 
 pub use lane::Lane;
 pub use laws::right_lanes_stay;
+pub use sharing::Supply;
 pub use window::Window;

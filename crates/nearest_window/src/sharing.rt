@@ -1,4 +1,4 @@
-// What blocks are taken from, beside files: memory, and lines that lanes share.
+// What blocks are made with: memory, a catalog, and lines that lanes share.
 ghost use Rattle.std.specs.Prelude.{◌≡◌, IfSome};
 ghost use Rattle.band_blocks.specs.Contents.{IsBlock};
 ghost use Rattle.band_blocks.specs.Keys.{IsKey};
@@ -8,23 +8,25 @@ use catalog::Catalog;
 use shared_lines::{Lines, Scene, zeros_for};
 use std::alloc::Global;
 
-/// Memory for blocks, and the lines that are looked at for them, if there are any.
+/// What windows are read with beside a folder: memory for blocks, the catalog that their datasets stand in, and the
+/// lines that are looked at for blocks, if there are any.
 #[derive(Drop)]
 pub struct Supply<'a, S: Scene> {
     pub alloc: Global,
+    pub cat: &'a Catalog,
     pub shared: Option<&'a Lines<S>>,
 }
 
 /// The block of a key, where there are lines and they show it. `None` comes also where memory is refused for it.
-pub fn shown_in<S: Scene>(supply: &Supply<S>, cat: &Catalog, key: BlockKey) -> Option<Block>
-    requires scene { S.cat ≡ cat.now }
-    requires key { IsKey cat.now key }
-    ensures block { IfSome result (IsBlock S.told cat.now key) }
+pub fn shown_in<S: Scene>(supply: &Supply<S>, key: BlockKey) -> Option<Block>
+    requires scene { S.cat ≡ supply.now.cat.now }
+    requires key { IsKey supply.now.cat.now key }
+    ensures block { IfSome result (IsBlock S.told supply.now.cat.now key) }
 {
     let Some(lines) = supply.shared else {
         return None;
     };
-    let Ok(mut block) = zeros_for(supply.alloc, cat, key) else {
+    let Ok(mut block) = zeros_for(supply.alloc, supply.cat, key) else {
         return None;
     };
     if !lines.look(&key, &mut block) {

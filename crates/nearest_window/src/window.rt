@@ -143,50 +143,52 @@ impl<F: Folder> Lane<F> {
         ensures never { WhereTold F.Folder folder.old (λ _. IfErr result IsUnchanged) }
     {
         let none: Option<Lines<S>> = None;
-        self.read_window_with(alloc, cat, folder, none.as_ref(), window, out, loads)
+        let supply = Supply {
+            alloc,
+            cat,
+            shared: none.as_ref(),
+        };
+        self.read_window_with(&supply, folder, window, out, loads)
     }
 
-    /// As `read_window`, through lines that lanes share, where there are any: they stand for this catalog and for the
-    /// folder's files. A block that isn't held is looked for in the lines, and kept where they show it; else it is
+    /// As `read_window`, with the memory and the catalog of a supply, and through the lines that lanes share, where it
+    /// has any: they stand for its catalog and for the folder's files. A block that isn't held is looked for in the lines, and kept where they show it; else it is
     /// loaded or made, and then offered to them. Where memory is refused for either, the block is read as without lines.
     /// Parts of a mosaic's block and single pixels are neither looked for nor offered.
     pub fn read_window_with<L: Ledger, S: Scene>(
         &mut self,
-        alloc: Global,
-        cat: &Catalog,
+        supply: &Supply<S>,
         folder: &mut F,
-        shared: Option<&Lines<S>>,
         window: Window,
         out: &mut [Sample],
         loads: &mut Steps<L>,
     ) -> Result<(), LoadFault>
-        requires ready { IsReady F.Folder folder.old cat.now self.old }
+        requires ready { IsReady F.Folder folder.old supply.now.cat.now self.old }
         requires told { S.told ≡ F.names folder.old }
-        requires scene { S.cat ≡ cat.now }
-        requires window { IsWindow cat.now window }
+        requires scene { S.cat ≡ supply.now.cat.now }
+        requires window { IsWindow supply.now.cat.now window }
         requires size { length out.old ≡ window.rect.w * window.rect.h }
-        ensures pixels { WhereTold F.Folder folder.old (λ m. OnOk result (out.new ≡ row_by_row (pixel_of m cat.now window.dataset window.band) window.rect)) }
+        ensures pixels { WhereTold F.Folder folder.old (λ m. OnOk result (out.new ≡ row_by_row (pixel_of m supply.now.cat.now window.dataset window.band) window.rect)) }
         // the pixels that the dataset's name has by itself
-        ensures named { WhereTold F.Folder folder.old (λ m. (d : Dataset) → slice_get cat.now window.dataset ≡ Some d → OnOk result (out.new ≡ row_by_row (pixel_of_name m d.head.name window.band) window.rect)) }
+        ensures named { WhereTold F.Folder folder.old (λ m. (d : Dataset) → slice_get supply.now.cat.now window.dataset ≡ Some d → OnOk result (out.new ≡ row_by_row (pixel_of_name m d.head.name window.band) window.rect)) }
         // each sample is in the band's type, whatever the folder tells
-        ensures typed { OnOk result (All (IsInBand cat.now window.dataset window.band) out.new) }
-        ensures ready { IsReady F.Folder folder.new cat.now self.new }
+        ensures typed { OnOk result (All (IsInBand supply.now.cat.now window.dataset window.band) out.new) }
+        ensures ready { IsReady F.Folder folder.new supply.now.cat.now self.new }
         // with room for all blocks, each load makes one more block held, but for the last one of a refused call
-        ensures loads { all_blocks cat.now ≤ room_of self.old → loads.new ≤ loads.old + (held_in self.new - held_in self.old) + slack_of result }
-        ensures reads { F.read_calls folder.new ≤ F.read_calls folder.old + most_calls cat.now * (loads.new - loads.old) }
+        ensures loads { all_blocks supply.now.cat.now ≤ room_of self.old → loads.new ≤ loads.old + (held_in self.new - held_in self.old) + slack_of result }
+        ensures reads { F.read_calls folder.new ≤ F.read_calls folder.old + most_calls supply.now.cat.now * (loads.new - loads.old) }
         ensures counted { loads.old ≤ loads.new }
         ensures kept { held_in self.old ≤ held_in self.new }
         ensures capacity { room_of self.new ≡ room_of self.old }
         ensures only_read { OnlyRead F.Folder folder.old folder.new }
         ensures cause { HasCause LoadFault.FolderFault (F.faults folder.old) (F.faults folder.new) result }
-        ensures changed { IfErr result (TellsChangeIn cat.now) }
+        ensures changed { IfErr result (TellsChangeIn supply.now.cat.now) }
         ensures never { WhereTold F.Folder folder.old (λ _. IfErr result IsUnchanged) }
     {
         if window.rect.w == 0 {
             return Ok(());
         }
-        let picture = window_of(cat, window);
-        let supply = Supply { alloc, shared };
-        self.paint_window(&supply, cat, folder, &picture, out, loads)
+        let picture = window_of(supply.cat, window);
+        self.paint_window(supply, folder, &picture, out, loads)
     }
 }

@@ -27,7 +27,7 @@ use band_blocks::LoadFault;
 use catalog::Catalog;
 use geotransform::{Rect, Sample, Size};
 use lane_teams::{Team, WorkerCount};
-use nearest_window::Window;
+use nearest_window::{Supply, Window};
 use outside::Folder;
 use shared_lines::Scene;
 use std::alloc::{AllocError, Global};
@@ -199,9 +199,12 @@ fn read_part<R: Threads + Sync, F: Folder, L: Ledger, S: Scene>(
     let translation = shown.translation;
     let columns = shown.columns;
     let window = window_of(translation, columns, run);
-    let alloc = translation.alloc;
-    let cat = &translation.cat;
-    team.read_window(rt, alloc, cat, folder, shown.shared, window, strip)?;
+    let supply = Supply {
+        alloc: translation.alloc,
+        cat: &translation.cat,
+        shared: shown.shared,
+    };
+    team.read_window_with(rt, &supply, folder, window, strip)?;
     let making = making_of(translation, columns, run.band);
     make_lines(making, run, strip, out);
     Ok(())

@@ -6,14 +6,14 @@ use Rattle.lane_teams.proofs.beside.+lanes.Goals as goal
 
 pub read_all-split_at_mut-p-requires : goal.read_all-split_at_mut-p-requires
 read_all-split_at_mut-p-requires g t c =
-    front_fits g.F.Folder g.S.Scene.told c.args.cat.now c.args.task.now.job c.args.first (length c.args.lanes.now / 2) c.args.lanes.now c.args.turns.now c.args.out.now c.part_of.result.rect c.requires.ready (omega arith) (ap (λ (w : Window). w.rect) c.part_of.ensures.part)
+    front_fits g.F.Folder g.S.Scene.told c.args.supply.now.cat.now c.args.job.now c.args.first (length c.args.lanes.now / 2) c.args.lanes.now c.args.turns.now c.args.out.now c.part_of.result.rect c.requires.ready (omega arith) (ap (λ (w : Window). w.rect) c.part_of.ensures.part)
 
 pub read_all-read_pair-requires-clause-front : goal.read_all-read_pair-requires-clause-front
 read_all-read_pair-requires-clause-front g t c κs within =
     let ready = c.requires.ready in
     let some = ready.some in
     let more = c.if-count-eq1.false in
-    front_ready g.F.Folder g.S.Scene.told c.args.cat.now c.args.task.now.job c.args.first (length c.args.lanes.now / 2) (c.part_of.result.rect.w * c.part_of.result.rect.h)
+    front_ready g.F.Folder g.S.Scene.told c.args.supply.now.cat.now c.args.job.now c.args.first (length c.args.lanes.now / 2) (c.part_of.result.rect.w * c.part_of.result.rect.h)
     c.args.lanes.now c.split_at_mut-a.result.0.now c.split_at_mut-a.result.1.now c.args.turns.now c.split_at_mut-t.result.0.now c.split_at_mut-t.result.1.now c.args.out.now c.split_at_mut-p.result.0.now c.split_at_mut-p.result.1.now
     ready c.split_at_mut-a.ensures.value c.split_at_mut-a.ensures.front_len c.split_at_mut-t.ensures.value c.split_at_mut-t.ensures.front_len c.split_at_mut-p.ensures.value c.split_at_mut-p.ensures.front_len
     (omega arith) (omega arith) (ap (λ (w : Window). w.rect.w * w.rect.h) c.part_of.ensures.part)
@@ -23,7 +23,7 @@ read_all-read_pair-requires-clause-back g t c κs within =
     let ready = c.requires.ready in
     let some = ready.some in
     let more = c.if-count-eq1.false in
-    back_ready g.F.Folder g.S.Scene.told c.args.cat.now c.args.task.now.job c.args.first (length c.args.lanes.now / 2) (c.part_of.result.rect.w * c.part_of.result.rect.h)
+    back_ready g.F.Folder g.S.Scene.told c.args.supply.now.cat.now c.args.job.now c.args.first (length c.args.lanes.now / 2) (c.part_of.result.rect.w * c.part_of.result.rect.h)
     c.args.lanes.now c.split_at_mut-a.result.0.now c.split_at_mut-a.result.1.now c.args.turns.now c.split_at_mut-t.result.0.now c.split_at_mut-t.result.1.now c.args.out.now c.split_at_mut-p.result.0.now c.split_at_mut-p.result.1.now
     ready c.split_at_mut-a.ensures.value c.split_at_mut-a.ensures.front_len c.split_at_mut-t.ensures.value c.split_at_mut-t.ensures.front_len c.split_at_mut-p.ensures.value c.split_at_mut-p.ensures.front_len
     (omega arith) (omega arith) (ap (λ (w : Window). w.rect.w * w.rect.h) c.part_of.ensures.part)
@@ -36,7 +36,7 @@ read_all-returns g t c =
     let o = c.read_pair.ensures in
     record {
       read =
-          halves_read g.F.Folder g.S.Scene.told c.args.cat.now c.args.task.now.job c.args.first (length c.args.lanes.now / 2)
+          halves_read g.F.Folder g.S.Scene.told c.args.supply.now.cat.now c.args.job.now c.args.first (length c.args.lanes.now / 2)
           c.args.lanes.now c.split_at_mut-a.result.0.now c.split_at_mut-a.result.1.now _ _ _ _ _ _ _ _ _
           (omega arith) c.split_at_mut-a.ensures.value c.split_at_mut-a.ensures.front_len o.front o.back refl refl refl;
     }

@@ -17,17 +17,17 @@ read_views-requires-clause-ready g c κs within =
     let names = o.only_read.names in
     let some = c.requires.some in
     let count = c.requires.count in
-    let window : part_of c.args.task.now.job.window c.args.task.now.job.count 0 (0 + length c.args.lanes.now) ≡ c.args.task.now.job.window =
-    (let n : 0 + length c.args.lanes.now ≡ c.args.task.now.job.count = omega arith in ap (part_of c.args.task.now.job.window c.args.task.now.job.count 0) n ∙ whole_window c.args.task.now.job.window c.args.task.now.job.count (omega arith)) in
+    let window : part_of c.args.job.now.window c.args.job.now.count 0 (0 + length c.args.lanes.now) ≡ c.args.job.now.window =
+    (let n : 0 + length c.args.lanes.now ≡ c.args.job.now.count = omega arith in ap (part_of c.args.job.now.window c.args.job.now.count 0) n ∙ whole_window c.args.job.now.window c.args.job.now.count (omega arith)) in
     record {
       some = some;
       pairs = ap length c.as_mut_slice.ensures.value ∙ o.count;
       few = omega arith;
-      walked = λ m e. walked_of g.F.Folder c.args.cat.now c.args.folder.now c.args.lanes.now some c.requires.ready m (sym names ∙ e);
+      walked = λ m e. walked_of g.F.Folder c.args.supply.now.cat.now c.args.folder.now c.args.lanes.now some c.requires.ready m (sym names ∙ e);
       window = c.requires.window;
-      size = c.requires.size ∙ ap (λ (w : Window). c.args.task.now.job.window.rect.w * w.rect.h) (sym window);
-      right = all_right g.F.Folder (g.F.Folder.names c.turns_of.new.folder) c.args.cat.now c.args.folder.now c.args.lanes.now (sym names) c.requires.ready;
-      turns_are = subst (All (IsTurnOf g.F.Folder (g.F.Folder.names c.turns_of.new.folder) c.args.cat.now)) (sym c.as_mut_slice.ensures.value) o.turns;
+      size = c.requires.size ∙ ap (λ (w : Window). c.args.job.now.window.rect.w * w.rect.h) (sym window);
+      right = all_right g.F.Folder (g.F.Folder.names c.turns_of.new.folder) c.args.supply.now.cat.now c.args.folder.now c.args.lanes.now (sym names) c.requires.ready;
+      turns_are = subst (All (IsTurnOf g.F.Folder (g.F.Folder.names c.turns_of.new.folder) c.args.supply.now.cat.now)) (sym c.as_mut_slice.ensures.value) o.turns;
     }
 
 pub returns-clause-shown : goal.returns-clause-shown
@@ -37,17 +37,17 @@ returns-clause-shown g c =
     let count = c.requires.count in
     let read = c.read_views.ensures.read in
     let whole = put_back c.in_ok-turns.turns.len c.read_views.new.turns c.in_ok-turns.turns.items (sym (c.read_views.auto.turns ∙ c.as_mut_slice.ensures.len)) in
-    let n : 0 + length c.args.lanes.now ≡ c.args.task.now.job.count = omega arith in
-    let window : part_of c.args.task.now.job.window c.args.task.now.job.count 0 (0 + length c.args.lanes.now) ≡ c.args.task.now.job.window = ap (part_of c.args.task.now.job.window c.args.task.now.job.count 0) n ∙ whole_window c.args.task.now.job.window c.args.task.now.job.count (omega arith) in
+    let n : 0 + length c.args.lanes.now ≡ c.args.job.now.count = omega arith in
+    let window : part_of c.args.job.now.window c.args.job.now.count 0 (0 + length c.args.lanes.now) ≡ c.args.job.now.window = ap (part_of c.args.job.now.window c.args.job.now.count 0) n ∙ whole_window c.args.job.now.window c.args.job.now.count (omega arith) in
     ok_given c.collect.result _
     (λ ok.
-    subst (λ t. AreOfWindow t c.args.cat.now c.args.task.now.job.window c.read_views.new.out) o.only_read.names
-    (subst (λ w. AreOfWindow (g.F.Folder.names c.turns_of.new.folder) c.args.cat.now w c.read_views.new.out) window
+    subst (λ t. AreOfWindow t c.args.supply.now.cat.now c.args.job.now.window c.read_views.new.out) o.only_read.names
+    (subst (λ w. AreOfWindow (g.F.Folder.names c.turns_of.new.folder) c.args.supply.now.cat.now w c.read_views.new.out) window
     (read.shown (subst (All IsDone) whole (all_done _ (sym c.collect.ensures.first ∙ ok))))))
 
 pub returns-clause-ready : goal.returns-clause-ready
 returns-clause-ready g c =
     let o = c.in_ok-turns.ensures in
     let names = c.collect.ensures.only_read.names in
-    all_ready g.F.Folder (g.F.Folder.names c.turns_of.new.folder) c.args.cat.now c.collect.new.folder c.read_views.new.lanes names
-    (λ m e. walked_of g.F.Folder c.args.cat.now c.args.folder.now c.args.lanes.now c.requires.some c.requires.ready m (sym o.only_read.names ∙ e)) c.read_views.ensures.read.right
+    all_ready g.F.Folder (g.F.Folder.names c.turns_of.new.folder) c.args.supply.now.cat.now c.collect.new.folder c.read_views.new.lanes names
+    (λ m e. walked_of g.F.Folder c.args.supply.now.cat.now c.args.folder.now c.args.lanes.now c.requires.some c.requires.ready m (sym o.only_read.names ∙ e)) c.read_views.ensures.read.right

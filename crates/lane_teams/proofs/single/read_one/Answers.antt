@@ -10,13 +10,13 @@ take_turn-requires-clause-window g c κs within =
     let ready = c.requires.ready in
     let one = c.requires.one in
     let few = ready.few in
-    subst (IsWindow c.args.cat.now) (sym c.part_of-window.ensures.part)
-    (window_part c.args.cat.now c.args.task.now.job.window c.args.task.now.job.count c.args.first (c.args.first + 1) (omega arith) (omega arith) (omega arith) ready.window)
+    subst (IsWindow c.args.supply.now.cat.now) (sym c.part_of-window.ensures.part)
+    (window_part c.args.supply.now.cat.now c.args.job.now.window c.args.job.now.count c.args.first (c.args.first + 1) (omega arith) (omega arith) (omega arith) ready.window)
 
 pub returns : goal.returns
 returns g c = record {
   read =
-      one_read g.F.Folder g.S.Scene.told c.args.cat.now c.args.task.now.job c.args.first c.args.lanes.now c.args.turns.now c.take_turn.new.lane c.take_turn.new.turn c.args.out.now
+      one_read g.F.Folder g.S.Scene.told c.args.supply.now.cat.now c.args.job.now c.args.first c.args.lanes.now c.args.turns.now c.take_turn.new.lane c.take_turn.new.turn c.args.out.now
       c.requires.ready c.requires.one c.take_turn.new.out c.take_turn.ensures.right c.take_turn.ensures.turn
-      (λ ok. subst (λ w. AreOfWindow g.S.Scene.told c.args.cat.now w c.take_turn.new.out) c.part_of-window.ensures.part (c.take_turn.ensures.shown ok));
+      (λ ok. subst (λ w. AreOfWindow g.S.Scene.told c.args.supply.now.cat.now w c.take_turn.new.out) c.part_of-window.ensures.part (c.take_turn.ensures.shown ok));
 }

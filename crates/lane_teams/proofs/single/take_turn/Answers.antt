@@ -9,11 +9,11 @@ read_alone-requires-clause-told g c κs within = sym c.requires.turn.same
 
 pub read_alone-requires-clause-ready : goal.read_alone-requires-clause-ready
 read_alone-requires-clause-ready g c κs within =
-    ready_over g.F.Folder g.S.Scene.told c.args.cat.now c.args.turn.now.view c.args.lane.now c.requires.turn.same c.requires.walked c.requires.right
+    ready_over g.F.Folder g.S.Scene.told c.args.supply.now.cat.now c.args.turn.now.view c.args.lane.now c.requires.turn.same c.requires.walked c.requires.right
 
 pub returns-clause-right : goal.returns-clause-right
 returns-clause-right g c =
-    right_over g.F.Folder g.S.Scene.told c.args.cat.now c.read_alone.new.folder c.read_alone.new.lane (c.read_alone.ensures.only_read.names ∙ c.requires.turn.same) c.read_alone.ensures.ready
+    right_over g.F.Folder g.S.Scene.told c.args.supply.now.cat.now c.read_alone.new.folder c.read_alone.new.lane (c.read_alone.ensures.only_read.names ∙ c.requires.turn.same) c.read_alone.ensures.ready
 
 pub returns-clause-turn : goal.returns-clause-turn
 returns-clause-turn g c =
@@ -29,4 +29,4 @@ returns-clause-turn g c =
 
 pub returns-clause-shown : goal.returns-clause-shown
 returns-clause-shown g c = λ ok.
-    subst (λ t. AreOfWindow t c.args.cat.now c.args.window c.read_alone.new.out) c.requires.turn.same (ok_then c.read_alone.result _ ok c.read_alone.ensures.shown)
+    subst (λ t. AreOfWindow t c.args.supply.now.cat.now c.args.window c.read_alone.new.out) c.requires.turn.same (ok_then c.read_alone.result _ ok c.read_alone.ensures.shown)

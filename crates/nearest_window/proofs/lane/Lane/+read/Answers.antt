@@ -49,29 +49,29 @@ hold-returns-then-finds-clause-serves g t c = c.finds.ensures.serves c.args.load
 
 pub hold-returns-in-None-clause-serves : goal.hold-returns-in-None-clause-serves
 hold-returns-in-None-clause-serves g t c =
-    serves_trans g.F.Folder.file_bytes g.F.Folder.file_len c.args.cat.now (slack_of c.load_kept.result) _ _ _ (c.finds.ensures.serves c.args.loads.now) c.load_kept.ensures.serves
+    serves_trans g.F.Folder.file_bytes g.F.Folder.file_len c.args.supply.now.cat.now (slack_of c.load_kept.result) _ _ _ (c.finds.ensures.serves c.args.loads.now) c.load_kept.ensures.serves
 
 pub hold-returns-in_err-block-in-Some-clause-serves : goal.hold-returns-in_err-block-in-Some-clause-serves
 hold-returns-in_err-block-in-Some-clause-serves g t c =
     let one : slack_of c.from_residual.result ≡ 1 = search rules in
     let filled : slack_of c.fill.result ≡ 1 = search rules in
     rw one
-    (serves_trans g.F.Folder.file_bytes g.F.Folder.file_len c.args.cat.now 1 _ _ _ (c.finds.ensures.serves c.args.loads.now) (rw filled at c.fill.ensures.serves))
+    (serves_trans g.F.Folder.file_bytes g.F.Folder.file_len c.args.supply.now.cat.now 1 _ _ _ (c.finds.ensures.serves c.args.loads.now) (rw filled at c.fill.ensures.serves))
 
 pub hold-returns-in-Some-clause-serves : goal.hold-returns-in-Some-clause-serves
 hold-returns-in-Some-clause-serves g t c =
     let filled = c.in_ok-block-in-Some.ensures.serves in
-    let whole = whole_block (g.F.Folder.names c.fill.new.folder) c.args.cat.now c.args.key c.mosaic_rect-rect.result c.in_ok-block-in-Some.block c.mosaic_rect-rect.ensures.rect c.in_ok-block-in-Some.ensures.block in
-    let kept = serves_keep g.F.Folder.file_bytes g.F.Folder.file_len c.args.cat.now c.keep_made.result (g.F.Folder.names c.fill.new.folder) c.fill.new.self c.keep_made.new.self (g.F.Folder.faults c.fill.new.folder) (g.F.Folder.read_calls c.fill.new.folder) (g.F.Folder.write_calls c.fill.new.folder) c.fill.new.loads c.args.key (entry_of c.in_ok-block-in-Some.block false) filled.right whole c.keep_made.ensures.kept c.keep_made.ensures.refused c.keep_made.ensures.valid c.keep_made.ensures.made_valid in
-    serves_trans g.F.Folder.file_bytes g.F.Folder.file_len c.args.cat.now (slack_of c.keep_made.result) _ _ _ (c.finds.ensures.serves c.args.loads.now)
-    (serves_trans g.F.Folder.file_bytes g.F.Folder.file_len c.args.cat.now (slack_of c.keep_made.result) _ _ _ filled kept)
+    let whole = whole_block (g.F.Folder.names c.fill.new.folder) c.args.supply.now.cat.now c.args.key c.mosaic_rect-rect.result c.in_ok-block-in-Some.block c.mosaic_rect-rect.ensures.rect c.in_ok-block-in-Some.ensures.block in
+    let kept = serves_keep g.F.Folder.file_bytes g.F.Folder.file_len c.args.supply.now.cat.now c.keep_made.result (g.F.Folder.names c.fill.new.folder) c.fill.new.self c.keep_made.new.self (g.F.Folder.faults c.fill.new.folder) (g.F.Folder.read_calls c.fill.new.folder) (g.F.Folder.write_calls c.fill.new.folder) c.fill.new.loads c.args.key (entry_of c.in_ok-block-in-Some.block false) filled.right whole c.keep_made.ensures.kept c.keep_made.ensures.refused c.keep_made.ensures.valid c.keep_made.ensures.made_valid in
+    serves_trans g.F.Folder.file_bytes g.F.Folder.file_len c.args.supply.now.cat.now (slack_of c.keep_made.result) _ _ _ (c.finds.ensures.serves c.args.loads.now)
+    (serves_trans g.F.Folder.file_bytes g.F.Folder.file_len c.args.supply.now.cat.now (slack_of c.keep_made.result) _ _ _ filled kept)
 
 pub hold-offer_to-requires-clause-block : goal.hold-offer_to-requires-clause-block
 hold-offer_to-requires-clause-block g t c κs within =
     let told = c.in_ok-block-in-Some.ensures.serves.told in
     subst (λ k. IsBlock g.S.Scene.told k c.args.key c.in_ok-block-in-Some.block) (sym c.requires.scene)
-    (subst (λ t. IsBlock t c.args.cat.now c.args.key c.in_ok-block-in-Some.block) (told ∙ sym c.requires.told)
-    (whole_block (g.F.Folder.names c.fill.new.folder) c.args.cat.now c.args.key c.mosaic_rect-rect.result c.in_ok-block-in-Some.block c.mosaic_rect-rect.ensures.rect c.in_ok-block-in-Some.ensures.block))
+    (subst (λ t. IsBlock t c.args.supply.now.cat.now c.args.key c.in_ok-block-in-Some.block) (told ∙ sym c.requires.told)
+    (whole_block (g.F.Folder.names c.fill.new.folder) c.args.supply.now.cat.now c.args.key c.mosaic_rect-rect.result c.in_ok-block-in-Some.block c.mosaic_rect-rect.ensures.rect c.in_ok-block-in-Some.ensures.block))
 
 pub hold-returns-in-Some-clause-held : goal.hold-returns-in-Some-clause-held
 hold-returns-in-Some-clause-held g t c = held_made c.keep_made.result c.fill.new.self c.keep_made.new.self c.args.key (entry_of c.in_ok-block-in-Some.block false) c.keep_made.ensures.kept
@@ -83,7 +83,7 @@ pub part_block-note-requires-clause-count : goal.part_block-note-requires-clause
 part_block-note-requires-clause-count g t c κs within = c.in_ok-block.ensures.block.shape.count
 
 pub part_block-returns-in-Some-clause-serves : goal.part_block-returns-in-Some-clause-serves
-part_block-returns-in-Some-clause-serves g t c = serves_refl g.F.Folder.file_bytes g.F.Folder.file_len c.args.cat.now (state_of g.F.Folder c.args.folder.now c.args.self.now c.args.loads.now) c.requires.ready.right
+part_block-returns-in-Some-clause-serves g t c = serves_refl g.F.Folder.file_bytes g.F.Folder.file_len c.args.supply.now.cat.now (state_of g.F.Folder c.args.folder.now c.args.self.now c.args.loads.now) c.requires.ready.right
 
 pub part_block-returns-in-Some-clause-block : goal.part_block-returns-in-Some-clause-block
 part_block-returns-in-Some-clause-block g t c = (rw c.in-Some.is at c.recall.ensures.block) (g.F.Folder.names c.args.folder.now) c.requires.ready.right.pixels
@@ -92,21 +92,21 @@ pub part_block-returns-clause-serves : goal.part_block-returns-clause-serves
 part_block-returns-clause-serves g t c =
     let filled = c.in_ok-block.ensures.serves in
     let told = g.F.Folder.names c.fill.new.folder in
-    let pixels = c.note.ensures.pixels told c.args.cat.now c.in_ok-block.ensures.block filled.right.pixels in
-    serves_trans g.F.Folder.file_bytes g.F.Folder.file_len c.args.cat.now 0 _ _ _ filled
-    (serves_noted g.F.Folder.file_bytes g.F.Folder.file_len c.args.cat.now told c.fill.new.self c.note.new.self (g.F.Folder.faults c.fill.new.folder) (g.F.Folder.read_calls c.fill.new.folder) (g.F.Folder.write_calls c.fill.new.folder) c.fill.new.loads filled.right c.note.ensures.same pixels)
+    let pixels = c.note.ensures.pixels told c.args.supply.now.cat.now c.in_ok-block.ensures.block filled.right.pixels in
+    serves_trans g.F.Folder.file_bytes g.F.Folder.file_len c.args.supply.now.cat.now 0 _ _ _ filled
+    (serves_noted g.F.Folder.file_bytes g.F.Folder.file_len c.args.supply.now.cat.now told c.fill.new.self c.note.new.self (g.F.Folder.faults c.fill.new.folder) (g.F.Folder.read_calls c.fill.new.folder) (g.F.Folder.write_calls c.fill.new.folder) c.fill.new.loads filled.right c.note.ensures.same pixels)
 
 pub fill-wanted-requires-clause-listed : goal.fill-wanted-requires-clause-listed
 fill-wanted-requires-clause-listed g t c κs within =
-    subst (λ lane. All (IsIndexIn c.args.cat.now) lane.indexes) (sym c.spend.ensures.same) c.requires.ready.right.listed
+    subst (λ lane. All (IsIndexIn c.args.supply.now.cat.now) lane.indexes) (sym c.spend.ensures.same) c.requires.ready.right.listed
 
 pub fill-returns-in_err-wanted-clause-serves : goal.fill-returns-in_err-wanted-clause-serves
 fill-returns-in_err-wanted-clause-serves g t c =
     let same = subst (λ lane. c.wanted.new.self ≡ lane_view lane.pool lane.files lane.made c.wanted.new.self.indexes lane.recalled) c.spend.ensures.same c.wanted.ensures.same in
     let one : slack_of c.from_residual.result ≡ 1 = search rules in
     rw one
-    (serves_slack g.F.Folder.file_bytes g.F.Folder.file_len c.args.cat.now (state_of g.F.Folder c.args.folder.now c.args.self.now c.args.loads.now) (state_of g.F.Folder c.args.folder.now c.wanted.new.self c.args.loads.now)
-    (serves_indexed g.F.Folder.file_bytes g.F.Folder.file_len c.args.cat.now (g.F.Folder.names c.args.folder.now) c.args.self.now c.wanted.new.self (g.F.Folder.faults c.args.folder.now) (g.F.Folder.read_calls c.args.folder.now) (g.F.Folder.write_calls c.args.folder.now) c.args.loads.now c.requires.ready.right same c.wanted.ensures.listed))
+    (serves_slack g.F.Folder.file_bytes g.F.Folder.file_len c.args.supply.now.cat.now (state_of g.F.Folder c.args.folder.now c.args.self.now c.args.loads.now) (state_of g.F.Folder c.args.folder.now c.wanted.new.self c.args.loads.now)
+    (serves_indexed g.F.Folder.file_bytes g.F.Folder.file_len c.args.supply.now.cat.now (g.F.Folder.names c.args.folder.now) c.args.self.now c.wanted.new.self (g.F.Folder.faults c.args.folder.now) (g.F.Folder.read_calls c.args.folder.now) (g.F.Folder.write_calls c.args.folder.now) c.args.loads.now c.requires.ready.right same c.wanted.ensures.listed))
 
 pub fill-loop-key-init : goal.fill-loop-key-init
 fill-loop-key-init g t c =
@@ -114,15 +114,15 @@ fill-loop-key-init g t c =
     let count = c.len-left.ensures.count in
     let numbers : List ℕ = numbers_of c.in_ok-wanted.wanted in
     record {
-      serves = serves_indexed g.F.Folder.file_bytes g.F.Folder.file_len c.args.cat.now (g.F.Folder.names c.args.folder.now) c.args.self.now c.wanted.new.self (g.F.Folder.faults c.args.folder.now) (g.F.Folder.read_calls c.args.folder.now) (g.F.Folder.write_calls c.args.folder.now) c.args.loads.now c.requires.ready.right same c.wanted.ensures.listed;
+      serves = serves_indexed g.F.Folder.file_bytes g.F.Folder.file_len c.args.supply.now.cat.now (g.F.Folder.names c.args.folder.now) c.args.self.now c.wanted.new.self (g.F.Folder.faults c.args.folder.now) (g.F.Folder.read_calls c.args.folder.now) (g.F.Folder.write_calls c.args.folder.now) c.args.loads.now c.requires.ready.right same c.wanted.ensures.listed;
       canvas = c.of-canvas.ensures.canvas;
       rect = c.of-canvas.ensures.rect;
       kind = c.of-canvas.ensures.kind ∙ ap (λ (b : BandValue). b.kind) c.band.view_is;
       wanted = c.in_ok-wanted.ensures.wanted;
       below = omega arith;
-      taken = λ d at. subst (λ n. AreTaken (g.F.Folder.names c.args.folder.now) c.args.cat.now d c.args.key.band (bound numbers n c.args.band.now.sources) c.args.band.now.sources c.of-canvas.result) (sym count)
-          (taken_end (g.F.Folder.names c.args.folder.now) c.args.cat.now d c.args.key.band c.args.band.now.sources numbers c.of-canvas.result
-          (none_taken (g.F.Folder.names c.args.folder.now) c.args.cat.now d c.args.key.band c.args.band.now.sources (length c.args.band.now.sources) c.of-canvas.result (omega arith) c.of-canvas.ensures.open));
+      taken = λ d at. subst (λ n. AreTaken (g.F.Folder.names c.args.folder.now) c.args.supply.now.cat.now d c.args.key.band (bound numbers n c.args.band.now.sources) c.args.band.now.sources c.of-canvas.result) (sym count)
+          (taken_end (g.F.Folder.names c.args.folder.now) c.args.supply.now.cat.now d c.args.key.band c.args.band.now.sources numbers c.of-canvas.result
+          (none_taken (g.F.Folder.names c.args.folder.now) c.args.supply.now.cat.now d c.args.key.band c.args.band.now.sources (length c.args.band.now.sources) c.of-canvas.result (omega arith) c.of-canvas.ensures.open));
     }
 
 pub fill-get-source-requires : goal.fill-get-source-requires
@@ -142,14 +142,14 @@ fill-paint-requires g t c =
     let before = c.loop-key.invariant in
     let right = before.serves.right in
     let told = before.serves.told in
-    let walked : (m : Files) → g.F.Folder.names c.loop-key.folder ≡ Some m → IsWalked m c.args.cat.now = λ m e. c.requires.ready.walked m (sym told ∙ e) in
+    let walked : (m : Files) → g.F.Folder.names c.loop-key.folder ≡ Some m → IsWalked m c.args.supply.now.cat.now = λ m e. c.requires.ready.walked m (sym told ∙ e) in
     let item : slice_get c.args.band.now.sources c.at-number.result ≡ Some c.get-source.result.now = ap (λ (l : List SourceValue). slice_get l c.at-number.result) (sym (ap (λ (b : BandValue). b.sources) c.band.view_is)) ∙ c.get-source.ensures.item in
     let few : c.at-number.result < 2 ^ 32 = (let p = slice_get_within c.args.band.now.sources c.at-number.result c.get-source.result.now item in omega (arith, p, c.requires.sources)) in
-    let source : IsSourceOf c.args.cat.now c.args.key c.at-number.result c.get-source.result.now = record { dataset = k.dataset; in_range = k.in_range; source = source_stands c.args.cat.now c.args.key c.args.band.now k c.at-number.result c.get-source.result.now item } in
-    let fall : 7 * height_at c.args.cat.now c.args.key.dataset < t = (let m : 7 * height_at c.args.cat.now c.args.key.dataset + 1 ≡ t = c.decreases in omega arith) in
-    let within : (d : Dataset) → slice_get c.args.cat.now c.args.key.dataset ≡ Some d → IsWithin c.loop-key.canvas.rect d.head.size = λ d at. subst (λ r. IsWithin r d.head.size) (sym before.rect) (c.requires.within d at) in
+    let source : IsSourceOf c.args.supply.now.cat.now c.args.key c.at-number.result c.get-source.result.now = record { dataset = k.dataset; in_range = k.in_range; source = source_stands c.args.supply.now.cat.now c.args.key c.args.band.now k c.at-number.result c.get-source.result.now item } in
+    let fall : 7 * height_at c.args.supply.now.cat.now c.args.key.dataset < t = (let m : 7 * height_at c.args.supply.now.cat.now c.args.key.dataset + 1 ≡ t = c.decreases in omega arith) in
+    let within : (d : Dataset) → slice_get c.args.supply.now.cat.now c.args.key.dataset ≡ Some d → IsWithin c.loop-key.canvas.rect d.head.size = λ d at. subst (λ r. IsWithin r d.head.size) (sym before.rect) (c.requires.within d at) in
     let canvas = before.canvas in
-    let ready : IsReady g.F.Folder c.loop-key.folder c.args.cat.now c.loop-key.self = record { right = right; walked = walked } in
+    let ready : IsReady g.F.Folder c.loop-key.folder c.args.supply.now.cat.now c.loop-key.self = record { right = right; walked = walked } in
     search (rules, fall, ready, source, within, canvas, few)
 
 pub fill-loop-key-preserved : goal.fill-loop-key-preserved
@@ -163,7 +163,7 @@ fill-loop-key-preserved g t c =
     let is : c.at-number.result ≡ slice_index (numbers_of c.loop-key.wanted-1) (c.loop-key.left - 1) = c.at-number.ensures.number in
     let item : slice_get c.args.band.now.sources c.at-number.result ≡ Some c.get-source.result.now = ap (λ (l : List SourceValue). slice_get l c.at-number.result) (sym (ap (λ (b : BandValue). b.sources) c.band.view_is)) ∙ c.get-source.ensures.item in
     record {
-      serves = serves_trans g.F.Folder.file_bytes g.F.Folder.file_len c.args.cat.now 0 _ _ _ before.serves o.serves;
+      serves = serves_trans g.F.Folder.file_bytes g.F.Folder.file_len c.args.supply.now.cat.now 0 _ _ _ before.serves o.serves;
       canvas = o.canvas;
       rect = (o.taken k.dataset k.in_range.at).rect ∙ before.rect;
       kind = (o.taken k.dataset k.in_range.at).kind ∙ before.kind;
@@ -171,11 +171,11 @@ fill-loop-key-preserved g t c =
       below = omega arith;
       taken = λ d at.
           let wanted = subst (λ r. IsWanted c.args.band.now.sources d.head.size r (numbers_of c.loop-key.wanted-1)) (sym before.rect) (before.wanted d at) in
-          taken_here (g.F.Folder.names c.paint.new.folder) c.args.cat.now d c.args.key.band c.args.band.now.sources (numbers_of c.loop-key.wanted-1) c.paint.new.canvas (c.loop-key.left - 1) less
-          (subst (λ n. AreTaken (g.F.Folder.names c.paint.new.folder) c.args.cat.now d c.args.key.band n c.args.band.now.sources c.paint.new.canvas) is
-          (taken_more (g.F.Folder.names c.loop-key.folder) c.args.cat.now d c.args.key.band c.args.band.now.sources (g.F.Folder.names c.paint.new.folder) c.at-number.result c.get-source.result.now c.loop-key.canvas c.paint.new.canvas o.serves.told item
-          (subst (λ n. AreTaken (g.F.Folder.names c.loop-key.folder) c.args.cat.now d c.args.key.band (n + 1) c.args.band.now.sources c.loop-key.canvas) (sym is)
-          (taken_behind (g.F.Folder.names c.loop-key.folder) c.args.cat.now d c.args.key.band c.args.band.now.sources (numbers_of c.loop-key.wanted-1) c.loop-key.canvas wanted c.loop-key.left some low (before.taken d at)))
+          taken_here (g.F.Folder.names c.paint.new.folder) c.args.supply.now.cat.now d c.args.key.band c.args.band.now.sources (numbers_of c.loop-key.wanted-1) c.paint.new.canvas (c.loop-key.left - 1) less
+          (subst (λ n. AreTaken (g.F.Folder.names c.paint.new.folder) c.args.supply.now.cat.now d c.args.key.band n c.args.band.now.sources c.paint.new.canvas) is
+          (taken_more (g.F.Folder.names c.loop-key.folder) c.args.supply.now.cat.now d c.args.key.band c.args.band.now.sources (g.F.Folder.names c.paint.new.folder) c.at-number.result c.get-source.result.now c.loop-key.canvas c.paint.new.canvas o.serves.told item
+          (subst (λ n. AreTaken (g.F.Folder.names c.loop-key.folder) c.args.supply.now.cat.now d c.args.key.band (n + 1) c.args.band.now.sources c.loop-key.canvas) (sym is)
+          (taken_behind (g.F.Folder.names c.loop-key.folder) c.args.supply.now.cat.now d c.args.key.band c.args.band.now.sources (numbers_of c.loop-key.wanted-1) c.loop-key.canvas wanted c.loop-key.left some low (before.taken d at)))
           (o.taken d at)));
     }
 
@@ -186,8 +186,8 @@ fill-returns-clause-block g t c =
     let done = not_wanted c.is_wanted.result _ c.loop-key-test.false c.is_wanted.ensures.done in
     let nodata : to_z w128 (of_z w128 c.unwrap_or.result) ≡ unwrap_or c.args.band.now.nodata (pos 0) = (let n : to_z w128 (of_z w128 c.unwrap_or.result) ≡ c.unwrap_or.result = search rules in n ∙ c.unwrap_or.ensures ∙ ap (λ (b : BandValue). unwrap_or b.nodata (pos 0)) c.band.view_is) in
     let wanted = subst (λ r. IsWanted c.args.band.now.sources k.dataset.head.size r (numbers_of c.loop-key.wanted-1)) (sym before.rect) (before.wanted k.dataset k.in_range.at) in
-    packed_part (g.F.Folder.names c.loop-key.folder) c.args.cat.now c.args.key c.args.band.now k c.args.rect c.loop-key.canvas c.in_ok-block.block c.count-count.ensures.valid c.rules.ensures.rules (c.requires.within k.dataset k.in_range.at).columns before.rect before.kind
-    (taken_done (g.F.Folder.names c.loop-key.folder) c.args.cat.now k.dataset c.args.key.band c.args.band.now.sources (numbers_of c.loop-key.wanted-1) c.loop-key.canvas wanted c.loop-key.left (before.taken k.dataset k.in_range.at) done)
+    packed_part (g.F.Folder.names c.loop-key.folder) c.args.supply.now.cat.now c.args.key c.args.band.now k c.args.rect c.loop-key.canvas c.in_ok-block.block c.count-count.ensures.valid c.rules.ensures.rules (c.requires.within k.dataset k.in_range.at).columns before.rect before.kind
+    (taken_done (g.F.Folder.names c.loop-key.folder) c.args.supply.now.cat.now k.dataset c.args.key.band c.args.band.now.sources (numbers_of c.loop-key.wanted-1) c.loop-key.canvas wanted c.loop-key.left (before.taken k.dataset k.in_range.at) done)
     (subst (λ v. IsPackedOf c.loop-key.canvas v c.in_ok-block.block) nodata c.in_ok-block.ensures.packed) c.len-len.ensures.valid
 
 pub paint-paint_picture-requires-clause-rows : goal.paint-paint_picture-requires-clause-rows
@@ -207,11 +207,11 @@ paint-take-requires-clause-near g t c =
     ∙ ap (λ n. n * c.in-Some.asked.part.w) (sym asked.height) ∙ ap (λ n. c.in-Some.asked.picture.height * n) (sym asked.stride) in
     subst (All (TakesPixel c.taking_of-taking.result)) (sym whole)
     (All-weaker (IsPixelOf c.args.source.source.now) (TakesPixel c.taking_of-taking.result) (λ v p. c.taking_of-taking.ensures.pixels v p) c.paint_picture.new.out
-    (pixels_near c.args.cat.now c.args.source.source.now c.in-Some.asked.picture c.paint_picture.new.out (c.in-Some.asked.picture.height * c.in-Some.asked.picture.stride) asked.picture asked.takes asked.taking asked.to (asked.stride ∙ sym asked.width) size c.in_ok-paint_picture.ensures.typed))
+    (pixels_near c.args.supply.now.cat.now c.args.source.source.now c.in-Some.asked.picture c.paint_picture.new.out (c.in-Some.asked.picture.height * c.in-Some.asked.picture.stride) asked.picture asked.takes asked.taking asked.to (asked.stride ∙ sym asked.width) size c.in_ok-paint_picture.ensures.typed))
 
 pub paint-returns-in_default-clause-taken : goal.paint-returns-in_default-clause-taken
 paint-returns-in_default-clause-taken g t c = λ d at.
-    source_unasked (g.F.Folder.names c.args.folder.now) c.args.cat.now d c.args.source.key.band c.args.source.number c.args.source.source.now c.args.canvas.now (c.in_ok-asked.ensures.none c.in_default.is d at)
+    source_unasked (g.F.Folder.names c.args.folder.now) c.args.supply.now.cat.now d c.args.source.key.band c.args.source.number c.args.source.source.now c.args.canvas.now (c.in_ok-asked.ensures.none c.in_default.is d at)
 
 pub paint-returns-clause-taken : goal.paint-returns-clause-taken
 paint-returns-clause-taken g t c = λ d at.
@@ -219,22 +219,22 @@ paint-returns-clause-taken g t c = λ d at.
     let kept : length c.paint_picture.new.out ≡ length c.as_mut_slice.result.now = c.paint_picture.auto.out in
     let whole : take c.in-Some.asked.pixels.len (c.paint_picture.new.out ++ drop (length c.paint_picture.new.out) c.in-Some.asked.pixels.items) ≡ c.paint_picture.new.out =
     ap (λ m. take m (c.paint_picture.new.out ++ drop (length c.paint_picture.new.out) c.in-Some.asked.pixels.items)) (sym (kept ∙ c.as_mut_slice.ensures.len)) ∙ take-append_seam c.paint_picture.new.out (drop (length c.paint_picture.new.out) c.in-Some.asked.pixels.items) in
-    source_taken (g.F.Folder.names c.paint_picture.new.folder) c.args.cat.now c.args.source.key c.args.source.number c.args.source.source.now c.args.canvas.now c.in-Some.asked asked d at
+    source_taken (g.F.Folder.names c.paint_picture.new.folder) c.args.supply.now.cat.now c.args.source.key c.args.source.number c.args.source.source.now c.args.canvas.now c.in-Some.asked asked d at
     c.taking_of-taking.result c.taking_of-taking.ensures.values c.as_mut_slice.result.now c.paint_picture.new.out (ap length c.as_mut_slice.ensures.value ∙ asked.size) c.take.new.self
     c.in_ok-paint_picture.ensures.painted
     (subst (λ xs. IsTaken c.taking_of-taking.result xs c.in-Some.asked.part c.args.canvas.now c.take.new.self) whole c.in_ok-take.ensures.taken)
 
 pub paint_picture-paint_band-requires-clause-ready : goal.paint_picture-paint_band-requires-clause-ready
 paint_picture-paint_band-requires-clause-ready g t c κs within =
-    ready_then g.F.Folder c.args.cat.now 0 c.args.folder.now c.loop-line.folder c.args.self.now c.loop-line.self c.args.loads.now c.loop-line.loads c.requires.ready c.loop-line.invariant.serves
+    ready_then g.F.Folder c.args.supply.now.cat.now 0 c.args.folder.now c.loop-line.folder c.args.self.now c.loop-line.self c.args.loads.now c.loop-line.loads c.requires.ready c.loop-line.invariant.serves
 
 pub paint_pieces-paint_block-requires-clause-ready : goal.paint_pieces-paint_block-requires-clause-ready
 paint_pieces-paint_block-requires-clause-ready g t c κs within =
-    ready_then g.F.Folder c.args.cat.now 0 c.args.folder.now c.loop-column.folder c.args.self.now c.loop-column.self c.args.loads.now c.loop-column.loads c.requires.ready c.loop-column.invariant.serves
+    ready_then g.F.Folder c.args.supply.now.cat.now 0 c.args.folder.now c.loop-column.folder c.args.self.now c.loop-column.self c.args.loads.now c.loop-column.loads c.requires.ready c.loop-column.invariant.serves
 
 pub paint_picture-paint_band-requires-clause-band : goal.paint_picture-paint_band-requires-clause-band
 paint_picture-paint_band-requires-clause-band g t c κs within d at k low high =
-    in_row c.args.cat.now c.args.picture.now 0 c.loop-line.line c.block_around.result.key c.block_around.result.rect c.block_around.ensures.around d at (place_at c.args.picture.now.lines k)
+    in_row c.args.supply.now.cat.now c.args.picture.now 0 c.loop-line.line c.block_around.result.key c.block_around.result.rect c.block_around.ensures.around d at (place_at c.args.picture.now.lines k)
     (c.run_end-last.ensures.low k low (let near = c.end_of-end.ensures.below in omega arith)) (c.run_end-last.ensures.edge k low (let near = c.end_of-end.ensures.below in omega arith))
 
 pub paint_picture-paint_band-requires-clause-rows : goal.paint_picture-paint_band-requires-clause-rows
@@ -262,13 +262,13 @@ paint_picture-loop-line-preserved g t c =
     let big : c.end_of-end.result * c.args.picture.now.stride ≤ c.args.picture.now.height * c.args.picture.now.stride = mul-le-mul below (omega arith) in
     let there : (c.loop-line.line + (c.end_of-end.result - c.loop-line.line)) * c.args.picture.now.stride ≤ length c.loop-line.out = (let e : (c.loop-line.line + (c.end_of-end.result - c.loop-line.line)) * c.args.picture.now.stride ≡ c.end_of-end.result * c.args.picture.now.stride = ap (λ n. n * c.args.picture.now.stride) sum in omega arith) in
     record {
-      serves = serves_trans g.F.Folder.file_bytes g.F.Folder.file_len c.args.cat.now 0 _ _ _ before.serves o.serves;
+      serves = serves_trans g.F.Folder.file_bytes g.F.Folder.file_len c.args.supply.now.cat.now 0 _ _ _ before.serves o.serves;
       below = below;
-      painted = subst (λ n. (m : Files) → g.F.Folder.names c.paint_band.new.folder ≡ Some m → IsPainted (first (n * c.args.picture.now.stride) (in_columns c.args.picture.now.stride (c.args.picture.now.to + 0) (c.args.picture.now.to + 0 + c.args.picture.now.width) (shown m c.args.cat.now c.args.picture.now 0 0))) c.args.out.now (put_mid (c.loop-line.line * c.args.picture.now.stride) (c.end_of-end.result * c.args.picture.now.stride - c.loop-line.line * c.args.picture.now.stride) c.loop-line.out c.paint_band.new.out)) sum
-          (bands_more (g.F.Folder.names c.loop-line.folder) (g.F.Folder.names c.paint_band.new.folder) c.args.cat.now c.args.picture.now c.loop-line.line (c.end_of-end.result - c.loop-line.line) (c.loop-line.line * c.args.picture.now.stride) (c.end_of-end.result * c.args.picture.now.stride) c.args.out.now c.loop-line.out c.paint_band.new.out
+      painted = subst (λ n. (m : Files) → g.F.Folder.names c.paint_band.new.folder ≡ Some m → IsPainted (first (n * c.args.picture.now.stride) (in_columns c.args.picture.now.stride (c.args.picture.now.to + 0) (c.args.picture.now.to + 0 + c.args.picture.now.width) (shown m c.args.supply.now.cat.now c.args.picture.now 0 0))) c.args.out.now (put_mid (c.loop-line.line * c.args.picture.now.stride) (c.end_of-end.result * c.args.picture.now.stride - c.loop-line.line * c.args.picture.now.stride) c.loop-line.out c.paint_band.new.out)) sum
+          (bands_more (g.F.Folder.names c.loop-line.folder) (g.F.Folder.names c.paint_band.new.folder) c.args.supply.now.cat.now c.args.picture.now c.loop-line.line (c.end_of-end.result - c.loop-line.line) (c.loop-line.line * c.args.picture.now.stride) (c.end_of-end.result * c.args.picture.now.stride) c.args.out.now c.loop-line.out c.paint_band.new.out
           o.serves.told refl (ap (λ n. n * c.args.picture.now.stride) (sym sum)) c.requires.picture.picture.some there before.painted o.painted);
-      typed = subst (λ n. AreTyped c.args.cat.now c.args.picture.now (n * c.args.picture.now.stride) (put_mid (c.loop-line.line * c.args.picture.now.stride) (c.end_of-end.result * c.args.picture.now.stride - c.loop-line.line * c.args.picture.now.stride) c.loop-line.out c.paint_band.new.out)) sum
-          (rows_typed c.args.cat.now c.args.picture.now c.loop-line.line (c.end_of-end.result - c.loop-line.line) (c.loop-line.line * c.args.picture.now.stride) (c.end_of-end.result * c.args.picture.now.stride) c.loop-line.out c.paint_band.new.out
+      typed = subst (λ n. AreTyped c.args.supply.now.cat.now c.args.picture.now (n * c.args.picture.now.stride) (put_mid (c.loop-line.line * c.args.picture.now.stride) (c.end_of-end.result * c.args.picture.now.stride - c.loop-line.line * c.args.picture.now.stride) c.loop-line.out c.paint_band.new.out)) sum
+          (rows_typed c.args.supply.now.cat.now c.args.picture.now c.loop-line.line (c.end_of-end.result - c.loop-line.line) (c.loop-line.line * c.args.picture.now.stride) (c.end_of-end.result * c.args.picture.now.stride) c.loop-line.out c.paint_band.new.out
           refl (ap (λ n. n * c.args.picture.now.stride) (sym sum)) c.requires.picture.picture.some there
           (part_length c.args.picture.now.stride c.loop-line.line c.end_of-end.result c.loop-line.out (omega arith) (omega arith)) before.typed o.typed);
     }
@@ -279,7 +279,7 @@ paint_picture-returns-clause-typed g t c =
     let test = c.loop-line-test.false in
     let below = before.below in
     let all : c.loop-line.line ≡ c.args.picture.now.height = omega arith in
-    subst (λ n. AreTyped c.args.cat.now c.args.picture.now (n * c.args.picture.now.stride) c.loop-line.out) all before.typed
+    subst (λ n. AreTyped c.args.supply.now.cat.now c.args.picture.now (n * c.args.picture.now.stride) c.loop-line.out) all before.typed
 
 pub paint_picture-returns-clause-painted : goal.paint_picture-returns-clause-painted
 paint_picture-returns-clause-painted g t c = λ m e.
@@ -301,8 +301,8 @@ paint_pieces-paint_block-requires-clause-piece g t c κs within =
       dataset_is = around.dataset_is;
       band = around.band;
       across = λ k low high. (c.run_end-end.ensures.low k low (omega arith), c.run_end-end.ensures.edge k low (omega arith));
-      down = λ k low high. from_row c.args.cat.now c.args.picture.now c.loop-column.column c.args.lines.first c.block_around.result.key c.block_around.result.rect around (place_at c.args.picture.now.lines k)
-          (c.requires.band around.dataset (around_at c.args.cat.now c.args.picture.now c.loop-column.column c.args.lines.first c.block_around.result.key c.block_around.result.rect around) k low high);
+      down = λ k low high. from_row c.args.supply.now.cat.now c.args.picture.now c.loop-column.column c.args.lines.first c.block_around.result.key c.block_around.result.rect around (place_at c.args.picture.now.lines k)
+          (c.requires.band around.dataset (around_at c.args.supply.now.cat.now c.args.picture.now c.loop-column.column c.args.lines.first c.block_around.result.key c.block_around.result.rect around) k low high);
     }
 
 pub paint_pieces-loop-column-preserved : goal.paint_pieces-loop-column-preserved
@@ -312,12 +312,12 @@ paint_pieces-loop-column-preserved g t c =
     let above = c.run_end-end.ensures.above in
     let sum : c.loop-column.column + (c.run_end-end.result - c.loop-column.column) ≡ c.run_end-end.result = omega arith in
     record {
-      serves = serves_trans g.F.Folder.file_bytes g.F.Folder.file_len c.args.cat.now 0 _ _ _ before.serves o.serves;
+      serves = serves_trans g.F.Folder.file_bytes g.F.Folder.file_len c.args.supply.now.cat.now 0 _ _ _ before.serves o.serves;
       below = c.run_end-end.ensures.below;
-      painted = subst (λ n. IsShown (g.F.Folder.names c.paint_block.new.folder) c.args.cat.now c.args.picture.now 0 n c.args.lines.first c.args.out.now c.paint_block.new.out) sum
-          (columns_more (g.F.Folder.names c.loop-column.folder) (g.F.Folder.names c.paint_block.new.folder) c.args.cat.now c.args.picture.now c.loop-column.column (c.run_end-end.result - c.loop-column.column) c.args.lines.first c.args.out.now c.loop-column.out c.paint_block.new.out o.serves.told before.painted o.painted);
-      typed = subst (λ n. IsTyped c.args.cat.now c.args.picture.now 0 n c.args.out.now c.paint_block.new.out) sum
-          (typed_more c.args.cat.now c.args.picture.now c.loop-column.column (c.run_end-end.result - c.loop-column.column) c.args.out.now c.loop-column.out c.paint_block.new.out before.typed o.typed);
+      painted = subst (λ n. IsShown (g.F.Folder.names c.paint_block.new.folder) c.args.supply.now.cat.now c.args.picture.now 0 n c.args.lines.first c.args.out.now c.paint_block.new.out) sum
+          (columns_more (g.F.Folder.names c.loop-column.folder) (g.F.Folder.names c.paint_block.new.folder) c.args.supply.now.cat.now c.args.picture.now c.loop-column.column (c.run_end-end.result - c.loop-column.column) c.args.lines.first c.args.out.now c.loop-column.out c.paint_block.new.out o.serves.told before.painted o.painted);
+      typed = subst (λ n. IsTyped c.args.supply.now.cat.now c.args.picture.now 0 n c.args.out.now c.paint_block.new.out) sum
+          (typed_more c.args.supply.now.cat.now c.args.picture.now c.loop-column.column (c.run_end-end.result - c.loop-column.column) c.args.out.now c.loop-column.out c.paint_block.new.out before.typed o.typed);
     }
 
 pub paint_pieces-returns-clause-typed : goal.paint_pieces-returns-clause-typed
@@ -326,7 +326,7 @@ paint_pieces-returns-clause-typed g t c =
     let test = c.loop-column-test.false in
     let below = before.below in
     let all : c.loop-column.column ≡ c.args.picture.now.width = omega arith in
-    subst (λ n. IsTyped c.args.cat.now c.args.picture.now 0 n c.args.out.now c.loop-column.out) all before.typed
+    subst (λ n. IsTyped c.args.supply.now.cat.now c.args.picture.now 0 n c.args.out.now c.loop-column.out) all before.typed
 
 pub paint_pieces-returns-clause-painted : goal.paint_pieces-returns-clause-painted
 paint_pieces-returns-clause-painted g t c =
@@ -334,7 +334,7 @@ paint_pieces-returns-clause-painted g t c =
     let test = c.loop-column-test.false in
     let below = before.below in
     let all : c.loop-column.column ≡ c.args.picture.now.width = omega arith in
-    subst (λ n. IsShown (g.F.Folder.names c.loop-column.folder) c.args.cat.now c.args.picture.now 0 n c.args.lines.first c.args.out.now c.loop-column.out) all before.painted
+    subst (λ n. IsShown (g.F.Folder.names c.loop-column.folder) c.args.supply.now.cat.now c.args.picture.now 0 n c.args.lines.first c.args.out.now c.loop-column.out) all before.painted
 
 pub paint_band-returns-in-Some-clause-painted : goal.paint_band-returns-in-Some-clause-painted
 paint_band-returns-in-Some-clause-painted g t c = λ m e.
@@ -347,10 +347,10 @@ paint_band-returns-in-Some-clause-painted g t c = λ m e.
     let area = c.in-Some.rows.piece.area in
     let high : area.lines * p.stride ≡ c.args.lines.count * p.stride = ap (λ n. n * p.stride) lines.1 in
     let size : length c.args.out.now ≤ area.lines * p.stride = omega arith in
-    let painted = rect_shown m c.args.cat.now c.in-Some.rows.piece.key.dataset c.in-Some.rows.piece.key.band c.in-Some.rows.piece.rect p area.column area.columns area.line area.lines c.in_ok-block.block c.args.out.now c.paint_rows.new.out part.dataset_is part.band_is part.across part.down (made.content m e) c.requires.picture.picture.some size c.paint_rows.ensures.painted in
-    subst (λ n. IsPainted (in_columns p.stride (p.to + 0) (p.to + 0 + n) (shown m c.args.cat.now p 0 c.args.lines.first)) c.args.out.now c.paint_rows.new.out) columns.1
-    (subst (λ n. IsPainted (in_columns p.stride (p.to + 0) (p.to + 0 + area.columns) (shown m c.args.cat.now p 0 n)) c.args.out.now c.paint_rows.new.out) lines.0
-    (subst (λ n. IsPainted (in_columns p.stride (p.to + n) (p.to + n + area.columns) (shown m c.args.cat.now p n area.line)) c.args.out.now c.paint_rows.new.out) columns.0 painted))
+    let painted = rect_shown m c.args.supply.now.cat.now c.in-Some.rows.piece.key.dataset c.in-Some.rows.piece.key.band c.in-Some.rows.piece.rect p area.column area.columns area.line area.lines c.in_ok-block.block c.args.out.now c.paint_rows.new.out part.dataset_is part.band_is part.across part.down (made.content m e) c.requires.picture.picture.some size c.paint_rows.ensures.painted in
+    subst (λ n. IsPainted (in_columns p.stride (p.to + 0) (p.to + 0 + n) (shown m c.args.supply.now.cat.now p 0 c.args.lines.first)) c.args.out.now c.paint_rows.new.out) columns.1
+    (subst (λ n. IsPainted (in_columns p.stride (p.to + 0) (p.to + 0 + area.columns) (shown m c.args.supply.now.cat.now p 0 n)) c.args.out.now c.paint_rows.new.out) lines.0
+    (subst (λ n. IsPainted (in_columns p.stride (p.to + n) (p.to + n + area.columns) (shown m c.args.supply.now.cat.now p n area.line)) c.args.out.now c.paint_rows.new.out) columns.0 painted))
 
 pub paint_band-returns-in-Some-clause-typed : goal.paint_band-returns-in-Some-clause-typed
 paint_band-returns-in-Some-clause-typed g t c =
@@ -358,22 +358,22 @@ paint_band-returns-in-Some-clause-typed g t c =
     let columns = rw c.in-Some.is at c.wide_rows.ensures.columns in
     let made = c.in_ok-block.ensures.block in
     let p = c.args.picture.now in
-    subst (λ n. IsTyped c.args.cat.now p 0 n c.args.out.now c.paint_rows.new.out) columns.1
-    (subst (λ n. IsTyped c.args.cat.now p n c.in-Some.rows.piece.area.columns c.args.out.now c.paint_rows.new.out) columns.0
-    (rect_typed c.args.cat.now p c.in-Some.rows.piece c.in-Some.rows.piece.rect made.dataset c.in_ok-block.block c.args.out.now c.paint_rows.new.out part.dataset_is part.band_is made.in_range made.shape c.paint_rows.ensures.painted))
+    subst (λ n. IsTyped c.args.supply.now.cat.now p 0 n c.args.out.now c.paint_rows.new.out) columns.1
+    (subst (λ n. IsTyped c.args.supply.now.cat.now p n c.in-Some.rows.piece.area.columns c.args.out.now c.paint_rows.new.out) columns.0
+    (rect_typed c.args.supply.now.cat.now p c.in-Some.rows.piece c.in-Some.rows.piece.rect made.dataset c.in_ok-block.block c.args.out.now c.paint_rows.new.out part.dataset_is part.band_is made.in_range made.shape c.paint_rows.ensures.painted))
 
 pub paint_block-returns-in-Some-clause-painted : goal.paint_block-returns-in-Some-clause-painted
 paint_block-returns-in-Some-clause-painted g t c = λ m e.
     let part = rw c.in-Some.is at c.lone_part.ensures.part in
     let made = c.in_ok-block.ensures.block in
     let rows = c.requires.rows in
-    rect_shown m c.args.cat.now c.args.piece.key.dataset c.args.piece.key.band c.in-Some.part.rect c.args.picture.now c.args.piece.area.column c.args.piece.area.columns c.args.piece.area.line c.args.piece.area.lines c.in_ok-block.block c.args.out.now c.paint_rows.new.out part.dataset_is part.band_is part.across part.down (made.content m e) c.requires.picture.picture.some (omega arith) c.paint_rows.ensures.painted
+    rect_shown m c.args.supply.now.cat.now c.args.piece.key.dataset c.args.piece.key.band c.in-Some.part.rect c.args.picture.now c.args.piece.area.column c.args.piece.area.columns c.args.piece.area.line c.args.piece.area.lines c.in_ok-block.block c.args.out.now c.paint_rows.new.out part.dataset_is part.band_is part.across part.down (made.content m e) c.requires.picture.picture.some (omega arith) c.paint_rows.ensures.painted
 
 pub paint_block-returns-in-Some-clause-typed : goal.paint_block-returns-in-Some-clause-typed
 paint_block-returns-in-Some-clause-typed g t c =
     let part = rw c.in-Some.is at c.lone_part.ensures.part in
     let made = c.in_ok-block.ensures.block in
-    rect_typed c.args.cat.now c.args.picture.now c.args.piece c.in-Some.part.rect made.dataset c.in_ok-block.block c.args.out.now c.paint_rows.new.out part.dataset_is part.band_is made.in_range made.shape c.paint_rows.ensures.painted
+    rect_typed c.args.supply.now.cat.now c.args.picture.now c.args.piece c.in-Some.part.rect made.dataset c.in_ok-block.block c.args.out.now c.paint_rows.new.out part.dataset_is part.band_is made.in_range made.shape c.paint_rows.ensures.painted
 
 pub paint_block-returns-then-is_jump-clause-painted : goal.paint_block-returns-then-is_jump-clause-painted
 paint_block-returns-then-is_jump-clause-painted g t c = λ m e.
@@ -386,7 +386,7 @@ paint_block-returns-then-is_jump-clause-painted g t c = λ m e.
     let one_line = c.is_jump.ensures.low in
     let narrow : c.args.picture.now.width ≡ 1 = search (rules, one, jump) in
     let low : c.args.picture.now.height ≡ 1 = search (rules, one_line, jump) in
-    rect_shown m c.args.cat.now c.args.piece.key.dataset c.args.piece.key.band c.pixel_rect-rect.result c.args.picture.now c.args.piece.area.column c.args.piece.area.columns c.args.piece.area.line c.args.piece.area.lines c.in_ok-block-2.block c.args.out.now c.paint_rows-then-is_jump.new.out part.dataset_is part.band
+    rect_shown m c.args.supply.now.cat.now c.args.piece.key.dataset c.args.piece.key.band c.pixel_rect-rect.result c.args.picture.now c.args.piece.area.column c.args.piece.area.columns c.args.piece.area.line c.args.piece.area.lines c.in_ok-block-2.block c.args.out.now c.paint_rows-then-is_jump.new.out part.dataset_is part.band
     (alone_in c.args.picture.now.columns c.pixel_rect-rect.result.x c.pixel_rect-rect.result.w c.args.picture.now.width c.args.piece.area.column c.args.piece.area.columns pixel.column pixel.narrow narrow c.requires.area.columns)
     (alone_in c.args.picture.now.lines c.pixel_rect-rect.result.y c.pixel_rect-rect.result.h c.args.picture.now.height c.args.piece.area.line c.args.piece.area.lines pixel.line pixel.low low c.requires.area.lines)
     (made.content m e) c.requires.picture.picture.some (omega arith) c.paint_rows-then-is_jump.ensures.painted
@@ -395,24 +395,24 @@ pub paint_block-returns-then-is_jump-clause-typed : goal.paint_block-returns-the
 paint_block-returns-then-is_jump-clause-typed g t c =
     let part = c.requires.piece in
     let made = c.in_ok-block-2.ensures.block in
-    rect_typed c.args.cat.now c.args.picture.now c.args.piece c.pixel_rect-rect.result made.dataset c.in_ok-block-2.block c.args.out.now c.paint_rows-then-is_jump.new.out part.dataset_is part.band made.in_range made.shape c.paint_rows-then-is_jump.ensures.painted
+    rect_typed c.args.supply.now.cat.now c.args.picture.now c.args.piece c.pixel_rect-rect.result made.dataset c.in_ok-block-2.block c.args.out.now c.paint_rows-then-is_jump.new.out part.dataset_is part.band made.in_range made.shape c.paint_rows-then-is_jump.ensures.painted
 
 pub paint_block-returns-clause-typed : goal.paint_block-returns-clause-typed
 paint_block-returns-clause-typed g t c =
     let o = c.in_ok-hold.ensures in
-    used_typed (g.F.Folder.names c.hold.new.folder) c.args.cat.now c.args.picture.now c.args.piece c.requires.piece c.hold.new.self c.paint_held.new.self c.args.out.now c.paint_held.new.out o.serves.right.blocks o.serves.right.remembered c.paint_held.ensures.used
+    used_typed (g.F.Folder.names c.hold.new.folder) c.args.supply.now.cat.now c.args.picture.now c.args.piece c.requires.piece c.hold.new.self c.paint_held.new.self c.args.out.now c.paint_held.new.out o.serves.right.blocks o.serves.right.remembered c.paint_held.ensures.used
 
 pub paint_block-paint_held-requires-clause-held : goal.paint_block-paint_held-requires-clause-held
 paint_block-paint_held-requires-clause-held g t c κs within =
     let o = c.in_ok-hold.ensures in
-    held_sized (g.F.Folder.names c.hold.new.folder) c.args.cat.now c.args.picture.now c.args.piece c.requires.piece c.hold.new.self o.serves.right.blocks o.serves.right.remembered o.held
+    held_sized (g.F.Folder.names c.hold.new.folder) c.args.supply.now.cat.now c.args.picture.now c.args.piece c.requires.piece c.hold.new.self o.serves.right.blocks o.serves.right.remembered o.held
 
 pub paint_block-returns-clause-serves : goal.paint_block-returns-clause-serves
 paint_block-returns-clause-serves g t c =
     let o = c.in_ok-hold.ensures in
-    subst (λ lane. Serves g.F.Folder.file_bytes g.F.Folder.file_len c.args.cat.now 0 (state_of g.F.Folder c.args.folder.now lane c.args.loads.now) (state_of g.F.Folder c.hold.new.folder c.paint_held.new.self c.hold.new.loads)) c.is_jump.ensures.same
-    (serves_trans g.F.Folder.file_bytes g.F.Folder.file_len c.args.cat.now 0 _ _ _ o.serves
-    (serves_used g.F.Folder.file_bytes g.F.Folder.file_len c.args.cat.now (g.F.Folder.names c.hold.new.folder) c.hold.new.self c.paint_held.new.self (g.F.Folder.faults c.hold.new.folder) (g.F.Folder.read_calls c.hold.new.folder) (g.F.Folder.write_calls c.hold.new.folder) c.hold.new.loads c.args.piece.key
+    subst (λ lane. Serves g.F.Folder.file_bytes g.F.Folder.file_len c.args.supply.now.cat.now 0 (state_of g.F.Folder c.args.folder.now lane c.args.loads.now) (state_of g.F.Folder c.hold.new.folder c.paint_held.new.self c.hold.new.loads)) c.is_jump.ensures.same
+    (serves_trans g.F.Folder.file_bytes g.F.Folder.file_len c.args.supply.now.cat.now 0 _ _ _ o.serves
+    (serves_used g.F.Folder.file_bytes g.F.Folder.file_len c.args.supply.now.cat.now (g.F.Folder.names c.hold.new.folder) c.hold.new.self c.paint_held.new.self (g.F.Folder.faults c.hold.new.folder) (g.F.Folder.read_calls c.hold.new.folder) (g.F.Folder.write_calls c.hold.new.folder) c.hold.new.loads c.args.piece.key
     (λ e. IsPainted (in_columns c.args.picture.now.stride (c.args.picture.now.to + c.args.piece.area.column) (c.args.picture.now.to + c.args.piece.area.column + c.args.piece.area.columns) (from_block e.block c.args.piece.rect c.args.picture.now c.args.piece.area.column c.args.piece.area.line)) c.args.out.now c.paint_held.new.out)
     o.serves.right c.paint_held.ensures.used c.paint_held.ensures.valid c.paint_held.ensures.made_valid))
 
@@ -420,4 +420,4 @@ pub paint_block-returns-clause-painted : goal.paint_block-returns-clause-painted
 paint_block-returns-clause-painted g t c =
     let o = c.in_ok-hold.ensures in
     let rows = c.requires.rows in
-    used_shown (g.F.Folder.names c.hold.new.folder) c.args.cat.now c.args.picture.now c.args.piece c.requires.piece c.hold.new.self c.paint_held.new.self c.args.out.now c.paint_held.new.out o.serves.right.blocks o.serves.right.remembered c.requires.picture.picture.some (omega arith) c.paint_held.ensures.used
+    used_shown (g.F.Folder.names c.hold.new.folder) c.args.supply.now.cat.now c.args.picture.now c.args.piece c.requires.piece c.hold.new.self c.paint_held.new.self c.args.out.now c.paint_held.new.out o.serves.right.blocks o.serves.right.remembered c.requires.picture.picture.some (omega arith) c.paint_held.ensures.used

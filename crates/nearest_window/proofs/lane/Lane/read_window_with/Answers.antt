@@ -9,26 +9,26 @@ use Rattle.nearest_window.proofs.Windows.{window_shown, empty_window, named_wind
 use Rattle.nearest_window.proofs.lane.Lane.read_window_with.Goals as goal
 
 pub returns-then-window-eq0-clause-pixels : goal.returns-then-window-eq0-clause-pixels
-returns-then-window-eq0-clause-pixels g c = λ m e. empty_window (pixel_of m c.args.cat.now c.args.window.dataset c.args.window.band) c.args.window.rect c.args.out.now c.if-window-eq0.true c.requires.size
+returns-then-window-eq0-clause-pixels g c = λ m e. empty_window (pixel_of m c.args.supply.now.cat.now c.args.window.dataset c.args.window.band) c.args.window.rect c.args.out.now c.if-window-eq0.true c.requires.size
 
 pub returns-then-window-eq0-clause-named : goal.returns-then-window-eq0-clause-named
 returns-then-window-eq0-clause-named g c = λ m e d at. empty_window (pixel_of_name m d.head.name c.args.window.band) c.args.window.rect c.args.out.now c.if-window-eq0.true c.requires.size
 
 pub returns-then-window-eq0-clause-typed : goal.returns-then-window-eq0-clause-typed
-returns-then-window-eq0-clause-typed g c = no_sample (IsInBand c.args.cat.now c.args.window.dataset c.args.window.band) c.args.window.rect c.args.out.now c.if-window-eq0.true c.requires.size
+returns-then-window-eq0-clause-typed g c = no_sample (IsInBand c.args.supply.now.cat.now c.args.window.dataset c.args.window.band) c.args.window.rect c.args.out.now c.if-window-eq0.true c.requires.size
 
 pub returns-clause-pixels : goal.returns-clause-pixels
 returns-clause-pixels g c = λ m e.
     let zero = c.if-window-eq0.false in
     let some : 0 < c.args.window.rect.w = omega arith in
     on_ok c.paint_window.result _ _
-    (λ shown. window_shown m c.args.cat.now c.args.window c.window_of-picture.result c.window_of-picture.ensures.whole some c.args.out.now c.paint_window.new.out c.requires.size (shown m (c.paint_window.ensures.serves.told ∙ e)))
+    (λ shown. window_shown m c.args.supply.now.cat.now c.args.window c.window_of-picture.result c.window_of-picture.ensures.whole some c.args.out.now c.paint_window.new.out c.requires.size (shown m (c.paint_window.ensures.serves.told ∙ e)))
     c.paint_window.ensures.painted
 
 pub returns-clause-named : goal.returns-clause-named
 returns-clause-named g c = λ m e d at.
     on_ok c.paint_window.result _ _
-    (named_window m c.args.cat.now c.args.window d c.paint_window.new.out c.window_of-picture.ensures.valid (c.requires.ready.walked m e) at)
+    (named_window m c.args.supply.now.cat.now c.args.window d c.paint_window.new.out c.window_of-picture.ensures.valid (c.requires.ready.walked m e) at)
     (returns-clause-pixels g c m e)
 
 pub returns-clause-typed : goal.returns-clause-typed
@@ -41,13 +41,13 @@ returns-clause-typed g c =
     let rows : length c.args.out.now ≡ c.window_of-picture.result.height * c.window_of-picture.result.stride =
     c.requires.size ∙ turned ∙ ap (λ (n : ℕ). n * rect.w) (sym whole.height) ∙ ap (λ (n : ℕ). c.window_of-picture.result.height * n) (sym whole.stride) in
     on_ok c.paint_window.result _ _
-    (window_typed c.args.cat.now c.args.window c.window_of-picture.result c.paint_window.new.out (c.window_of-picture.result.height * c.window_of-picture.result.stride) whole some
+    (window_typed c.args.supply.now.cat.now c.args.window c.window_of-picture.result c.paint_window.new.out (c.window_of-picture.result.height * c.window_of-picture.result.stride) whole some
     (c.paint_window.auto.out ∙ rows))
     c.paint_window.ensures.typed
 
 pub returns-clause-ready : goal.returns-clause-ready
 returns-clause-ready g c =
-    ready_then g.F.Folder c.args.cat.now (slack_of c.paint_window.result) c.args.folder.now c.paint_window.new.folder c.args.self.now c.paint_window.new.self c.args.loads.now c.paint_window.new.loads c.requires.ready c.paint_window.ensures.serves
+    ready_then g.F.Folder c.args.supply.now.cat.now (slack_of c.paint_window.result) c.args.folder.now c.paint_window.new.folder c.args.self.now c.paint_window.new.self c.args.loads.now c.paint_window.new.loads c.requires.ready c.paint_window.ensures.serves
 
 pub returns-clause-only_read : goal.returns-clause-only_read
 returns-clause-only_read g c =

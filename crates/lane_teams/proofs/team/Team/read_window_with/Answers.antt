@@ -6,22 +6,22 @@ use Rattle.std.proofs.lemmas.List.Elements.{All-set}
 use Rattle.nearest_window.specs.Right.{IsReady}
 use Rattle.lane_teams.proofs.Halving.{all_kept}
 use Rattle.lane_teams.proofs.Refusals.{on_ok, put_back}
-use Rattle.lane_teams.proofs.team.Team.read_window.Goals as goal
+use Rattle.lane_teams.proofs.team.Team.read_window_with.Goals as goal
 
 pub returns-then-count-eq1-clause-ready : goal.returns-then-count-eq1-clause-ready
 returns-then-count-eq1-clause-ready g c =
     let xs = c.as_mut_slice-lanes.result.now in
     let new = slice_set xs 0 c.read_window_with.new.self in
     let long = sym (length-set xs 0 c.read_window_with.new.self ∙ c.as_mut_slice-lanes.ensures.len) in
-    let ready = IsReady g.F.Folder c.read_window_with.new.folder c.args.cat.now in
-    let before : All (IsReady g.F.Folder c.args.folder.now c.args.cat.now) xs = subst (All (IsReady g.F.Folder c.args.folder.now c.args.cat.now)) (sym c.as_mut_slice-lanes.ensures.value) c.requires.ready in
+    let ready = IsReady g.F.Folder c.read_window_with.new.folder c.args.supply.now.cat.now in
+    let before : All (IsReady g.F.Folder c.args.folder.now c.args.supply.now.cat.now) xs = subst (All (IsReady g.F.Folder c.args.folder.now c.args.supply.now.cat.now)) (sym c.as_mut_slice-lanes.ensures.value) c.requires.ready in
     subst (All ready) (sym (put_back c.args.self.now.lanes.len new c.args.self.now.lanes.items long))
     (All-set ready xs 0 c.read_window_with.new.self c.read_window_with.ensures.ready
-    (all_kept g.F.Folder c.args.cat.now c.args.folder.now c.read_window_with.new.folder xs c.read_window_with.ensures.only_read.names before))
+    (all_kept g.F.Folder c.args.supply.now.cat.now c.args.folder.now c.read_window_with.new.folder xs c.read_window_with.ensures.only_read.names before))
 
 pub read_beside-requires-clause-ready : goal.read_beside-requires-clause-ready
 read_beside-requires-clause-ready g c κs within =
-    subst (All (IsReady g.F.Folder c.args.folder.now c.args.cat.now)) (sym c.as_mut_slice-lanes.ensures.value) c.requires.ready
+    subst (All (IsReady g.F.Folder c.args.folder.now c.args.supply.now.cat.now)) (sym c.as_mut_slice-lanes.ensures.value) c.requires.ready
 
 pub returns-clause-pixels : goal.returns-clause-pixels
 returns-clause-pixels g c = λ m e. on_ok c.read_beside.result _ _ (λ shown. shown.pixels m e) c.read_beside.ensures.shown
@@ -36,7 +36,7 @@ pub returns-clause-ready : goal.returns-clause-ready
 returns-clause-ready g c =
     let new = c.read_beside.new.lanes in
     let long = sym (c.read_beside.auto.lanes ∙ c.as_mut_slice-lanes.ensures.len) in
-    subst (All (IsReady g.F.Folder c.read_beside.new.folder c.args.cat.now)) (sym (put_back c.args.self.now.lanes.len new c.args.self.now.lanes.items long)) c.read_beside.ensures.ready
+    subst (All (IsReady g.F.Folder c.read_beside.new.folder c.args.supply.now.cat.now)) (sym (put_back c.args.self.now.lanes.len new c.args.self.now.lanes.items long)) c.read_beside.ensures.ready
 
 pub returns-clause-loads : goal.returns-clause-loads
 returns-clause-loads g c = λ old new is_old is_new room.
