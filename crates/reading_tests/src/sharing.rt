@@ -3,13 +3,14 @@ ghost use Rattle.std.specs.Prelude.{◌≡◌, ◌<◌, Some, length};
 ghost use Rattle.outside.specs.Outside.{Files};
 ghost use Rattle.catalog.specs.Walk.{IsWalked};
 
+use crate::fixtures::{File, folder_of};
 use band_blocks::Steps;
 use catalog::{Catalog, open_all};
 use geotransform::{Rect, Sample, Size};
-use nearest_window::{Lane, Window};
-use outside::{CalmFolder, Folder, Name, Never, Tally};
+use nearest_window::{Lane, Supply, Window};
+use outside::{Folder, Name, Tally};
 use shared_lines::{Lines, Scene};
-use std::alloc::Global;
+use std::alloc::{AllocError, Global};
 use std::marker::Brand;
 use std::sync::ledger::{Blank, Ledger};
 use std::test::*;
@@ -23,7 +24,7 @@ fn gives<F: Folder, L: Ledger, S: Scene>(
     id: u32,
     wanted: &[Sample],
     blank: Blank,
-) -> Result<bool, Fail>
+) -> Result<bool, AllocError>
     requires id { id < length cat.now }
     requires walked { (m : Files) → F.names folder.old ≡ Some m → IsWalked m cat.now }
     requires told { S.told ≡ F.names folder.old }
@@ -31,7 +32,6 @@ fn gives<F: Folder, L: Ledger, S: Scene>(
     requires name { blank.name ≡ L.name }
     requires parts { blank.parts ≡ L.parts }
     requires some { 0 < blank.parts }
-    ensures names { F.names folder.new ≡ F.names folder.old }
 {
     let Size { w, h } = cat.head(id).size;
     if w > 16 || h > 16 {
@@ -46,27 +46,36 @@ fn gives<F: Folder, L: Ledger, S: Scene>(
     let mut lane = Lane::new(alloc, 64)?;
     let mut loads: Steps<L> = Steps::open(blank);
     let samples = out.as_mut_slice();
-    let shared = Some(lines);
-    let answer = lane.read_window_with(alloc, cat, folder, shared, window, samples, &mut loads);
+    let supply = Supply {
+        alloc,
+        cat,
+        shared: Some(lines),
+    };
+    let answer = lane.read_window_with(&supply, folder, window, samples, &mut loads);
     Ok(answer.is_ok() && out.as_slice() == wanted)
 }
 
-// The same, where nobody counts the lane's loads.
-fn gives_all<F: Folder, S: Scene>(
+// The same through a view of the folder, which is ended, where nobody counts the lane's loads.
+fn view_gives<F: Folder, S: Scene>(
     alloc: Global,
     cat: &Catalog,
     folder: &mut F,
     lines: &Lines<S>,
     id: u32,
     wanted: &[Sample],
-) -> Result<bool, Fail>
+) -> bool
     requires id { id < length cat.now }
     requires walked { (m : Files) → F.names folder.old ≡ Some m → IsWalked m cat.now }
     requires told { S.told ≡ F.names folder.old }
     requires scene { S.cat ≡ cat.now }
     ensures names { F.names folder.new ≡ F.names folder.old }
 {
-    gives::<F, Brand, S>(alloc, cat, folder, lines, id, wanted, Blank::new(1))
+    let Ok(mut view) = folder.fork() else {
+        return false;
+    };
+    let given = gives::<F, Brand, S>(alloc, cat, &mut view, lines, id, wanted, Blank::new(1));
+    folder.absorb(view);
+    matches!(given, Ok(true))
 }
 
 // Whether each of so many new lanes, one behind the other over the same lines, gives these samples.
@@ -85,7 +94,7 @@ fn each_gives<F: Folder, S: Scene>(
 {
     let lines: Lines<S> = Lines::new(alloc, cat, folder, 64)?;
     for _lane in 0..lanes {
-        if !gives_all(alloc, cat, folder, &lines, id, wanted)? {
+        if !view_gives(alloc, cat, folder, &lines, id, wanted) {
             return Ok(false);
         }
     }
@@ -116,7 +125,7 @@ const MOSAIC: &[u8] =
 
 const FOUR: [u8; 16] = [1, 2, 3, 4, 5, 6, 7, 8, 9, 10, 11, 12, 13, 14, 15, 16];
 
-const FILES: [(&str, &[u8]); 3] = [
+const FILES: [File<'static>; 3] = [
     ("four.bil", &FOUR),
     ("four.hdr", b"NROWS 4\nNCOLS 4\n"),
     ("m.vrt", MOSAIC),
@@ -124,13 +133,9 @@ const FILES: [(&str, &[u8]); 3] = [
 
 const SAMPLES: [Sample; 16] = [1, 2, 3, 4, 5, 6, 7, 8, 9, 10, 11, 12, 13, 14, 15, 16];
 
-// How many reads the walk and so many lanes take, where each gives the samples.
+// How many reads the walk and the views of so many lanes take, where each gives the samples.
 fn reads_by(alloc: Global, name: &str, lanes: u32) -> Result<Option<u64>, Fail> {
-    let mut calm = CalmFolder::new(alloc, Never);
-    for (file, bytes) in FILES {
-        calm.put(&Name::read(alloc, file)?, bytes)?;
-    }
-    let mut folder = Tally::new(calm);
+    let mut folder = Tally::new(folder_of(alloc, 0, &FILES)?);
     if !lanes_give(alloc, &mut folder, name, &SAMPLES, lanes)? {
         return Ok(None);
     }

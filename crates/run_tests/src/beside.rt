@@ -29,10 +29,19 @@ fn samples() -> &'static [u8] {
     &SAMPLES
 }
 
+// Mosaics of these lines, one in the other: all of them lie in one block, which each worker needs.
+const INNER: &[u8] = b"<VRTDataset rasterXSize='4' rasterYSize='64'><VRTRasterBand dataType='Byte'>
+<SimpleSource><SourceFilename>tall.bil</SourceFilename></SimpleSource></VRTRasterBand></VRTDataset>";
+
+const OUTER: &[u8] = b"<VRTDataset rasterXSize='4' rasterYSize='64'><VRTRasterBand dataType='Byte'>
+<SimpleSource><SourceFilename>inner.vrt</SourceFilename></SimpleSource></VRTRasterBand></VRTDataset>";
+
 fn folder<R: Abort>(rt: &R, alloc: Global) -> MemFolder {
-    let files: [FileOf<'_>; 2] = [
+    let files: [FileOf<'_>; 4] = [
         ("tall.bil", samples()),
         ("tall.hdr", b"NROWS 64\nNCOLS 4\n"),
+        ("inner.vrt", INNER),
+        ("outer.vrt", OUTER),
     ];
     folder_of(rt, alloc, &files, &[])
 }
@@ -52,27 +61,44 @@ fn two_workers_read_beside_each_other(rt: HostRuntime) {
     assert!(rt; is_copied(&rt, rt.alloc()));
 }
 
-// The lines by many workers, of which each has few.
-static NUMBERS: [Row<'static>; 4] = [
+// The lines by many workers, of which each has few, and the same through the mosaics.
+static NUMBERS: [Row<'static>; 10] = [
     ("gdal_translate -q --workers 1 tall.bil a.bil", 0, "", ""),
     ("gdal_translate -q --workers 2 tall.bil b.bil", 0, "", ""),
+    ("gdal_translate -q --workers 3 tall.bil c.bil", 0, "", ""),
     (
-        "gdal_translate -q --workers 4 --blocks 1 tall.bil c.bil",
+        "gdal_translate -q --workers 4 --blocks 1 tall.bil d.bil",
         0,
         "",
         "",
     ),
-    ("gdal_translate -q --workers 16 tall.bil d.bil", 0, "", ""),
+    ("gdal_translate -q --workers 16 tall.bil e.bil", 0, "", ""),
+    ("gdal_translate -q --workers 1 outer.vrt f.bil", 0, "", ""),
+    ("gdal_translate -q --workers 2 outer.vrt g.bil", 0, "", ""),
+    ("gdal_translate -q --workers 3 outer.vrt h.bil", 0, "", ""),
+    (
+        "gdal_translate -q --workers 4 --blocks 1 outer.vrt i.bil",
+        0,
+        "",
+        "",
+    ),
+    ("gdal_translate -q --workers 16 outer.vrt j.bil", 0, "", ""),
 ];
 
 // Whether each number of workers copies the same lines.
 fn are_alike<R: Threads + Sync + Abort>(rt: &R, alloc: Global) -> bool {
     let bytes = samples();
-    let copies: [FileOf<'_>; 4] = [
+    let copies: [FileOf<'_>; 10] = [
         ("a.bil", bytes),
         ("b.bil", bytes),
         ("c.bil", bytes),
         ("d.bil", bytes),
+        ("e.bil", bytes),
+        ("f.bil", bytes),
+        ("g.bil", bytes),
+        ("h.bil", bytes),
+        ("i.bil", bytes),
+        ("j.bil", bytes),
     ];
     let mut folder = folder(rt, alloc);
     says_all(rt, alloc, &mut folder, &NUMBERS) && has_all(rt, alloc, &folder, &copies)

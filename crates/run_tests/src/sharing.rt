@@ -1,76 +1,65 @@
 // Points that are read through lines, and how many reads they take.
-use crate::trials::{Unmade, folder_of, run_fed};
-use outside::{CalmInput, Never, Tally};
+use crate::trials::{FileOf, Part, folder_of, joined, none_wrong, said_of};
+use outside::{MemFolder, Tally};
 use std::alloc::Global;
+use std::process::Abort;
 use std::test::*;
 use std::thread::Threads;
 
-const GRID_HEAD: &[u8] = b"ncols 1\nnrows 65\nxllcorner 0\nyllcorner 0\ncellsize 1\n";
+// A column of 65 lines, each of which has its own number.
+static COLUMN: [u8; 65] = [
+    0, 1, 2, 3, 4, 5, 6, 7, 8, 9, 10, 11, 12, 13, 14, 15, 16, 17, 18, 19, 20, 21, 22, 23, 24, 25,
+    26, 27, 28, 29, 30, 31, 32, 33, 34, 35, 36, 37, 38, 39, 40, 41, 42, 43, 44, 45, 46, 47, 48, 49,
+    50, 51, 52, 53, 54, 55, 56, 57, 58, 59, 60, 61, 62, 63, 64,
+];
 
-const HEADER: &[u8] = b"NROWS 65\nNCOLS 1\n";
+// The numbers of the lines.
+const NUMBERS: &[u8] =
+    b"0\n1\n2\n3\n4\n5\n6\n7\n8\n9\n10\n11\n12\n13\n14\n15\n16\n17\n18\n19\n20\n21\n22\n23\n24\n\
+    25\n26\n27\n28\n29\n30\n31\n32\n33\n34\n35\n36\n37\n38\n39\n40\n41\n42\n43\n44\n45\n46\n47\n\
+    48\n49\n50\n51\n52\n53\n54\n55\n56\n57\n58\n59\n60\n61\n62\n63\n64\n";
 
-// Puts the digits of a number below 100, and the end of the line.
-fn push_number(text: &mut Vec<u8>, number: u8) -> Result<(), Unmade> {
-    if number >= 10 {
-        text.push(b'0' + number / 10 % 10)?;
-    }
-    text.push(b'0' + number % 10)?;
-    text.push(b'\n')?;
-    Ok(())
+fn numbers() -> &'static [u8] {
+    NUMBERS
 }
 
-// Puts the numbers from 0 to 64, each in a line behind these bytes.
-fn push_numbers(text: &mut Vec<u8>, front: &[u8]) -> Result<(), Unmade> {
-    for number in 0..65u8 {
-        text.extend_from_slice(front)?;
-        push_number(text, number)?;
-    }
-    Ok(())
-}
+// A point in each line.
+const POINTS: &[u8] =
+    b"0 0\n0 1\n0 2\n0 3\n0 4\n0 5\n0 6\n0 7\n0 8\n0 9\n0 10\n0 11\n0 12\n0 13\n0 14\n0 15\n0 16\n\
+    0 17\n0 18\n0 19\n0 20\n0 21\n0 22\n0 23\n0 24\n0 25\n0 26\n0 27\n0 28\n0 29\n0 30\n0 31\n\
+    0 32\n0 33\n0 34\n0 35\n0 36\n0 37\n0 38\n0 39\n0 40\n0 41\n0 42\n0 43\n0 44\n0 45\n0 46\n\
+    0 47\n0 48\n0 49\n0 50\n0 51\n0 52\n0 53\n0 54\n0 55\n0 56\n0 57\n0 58\n0 59\n0 60\n0 61\n\
+    0 62\n0 63\n0 64\n";
 
-// The same so many times, behind a head.
-fn numbers(alloc: Global, head: &[u8], front: &[u8], times: u32) -> Result<Vec<u8>, Unmade> {
-    let mut text = head.to_vec(alloc)?;
-    for _time in 0..times {
-        push_numbers(&mut text, front)?;
-    }
-    Ok(text)
-}
-
-// The values of a raster of one column and 65 lines, each of which has its own number.
-fn column(alloc: Global) -> Result<Vec<u8>, Unmade> {
-    let mut values = Vec::new(alloc);
-    for number in 0..65u8 {
-        values.push(number)?;
-    }
-    Ok(values)
-}
-
-// How many reads a run takes that is asked for each line ten times, where it prints their values.
-fn reads_of<R: Threads + Sync>(rt: &R, alloc: Global, line: &str) -> Result<Option<u64>, Unmade> {
-    let raw = column(alloc)?;
-    let grid = numbers(alloc, GRID_HEAD, b"", 1)?;
-    let files = [
-        ("column.bil", raw.as_slice()),
-        ("column.hdr", HEADER),
-        ("column.asc", grid.as_slice()),
+// The column as a grid.
+fn grid<R: Abort>(rt: &R, alloc: Global) -> Vec<u8> {
+    let parts: [Part<'_>; 2] = [
+        (
+            b"ncols 1\nnrows 65\nxllcorner 0\nyllcorner 0\ncellsize 1\n",
+            1,
+        ),
+        (numbers(), 1),
     ];
-    let mut folder = Tally::new(folder_of(alloc, &files, &[])?);
-    let mut input = CalmInput::new(numbers(alloc, b"", b"0 ", 10)?, Never);
-    let values = numbers(alloc, b"", b"", 10)?;
-    let said = run_fed(rt, alloc, &mut folder, &mut input, line, &[])?;
-    if said.status != 0 || said.out.got() != values.as_slice() || !said.tells("") {
-        return Ok(None);
-    }
-    Ok(Some(folder.reads()))
+    joined(rt, alloc, &parts)
+}
+
+// A folder with the column as raw data and as a grid, which counts calls.
+fn tally<R: Abort>(rt: &R, alloc: Global) -> Tally<MemFolder> {
+    let grid = grid(rt, alloc);
+    let files: [FileOf<'_>; 3] = [
+        ("column.bil", &COLUMN),
+        ("column.hdr", b"NROWS 65\nNCOLS 1\n"),
+        ("column.asc", &grid),
+    ];
+    Tally::new(folder_of(rt, alloc, &files, &[]))
 }
 
 // The words of a run, and its least and its most reads.
-type Row<'a> = (&'a str, u64, u64);
+type Reads<'a> = (&'a str, u64, u64);
 
 // A pool of 64 blocks lacks each of the 65 lines of a grid when it is asked for again. With 64 lines that are shared, only
 // the first and the last block have one in common: so 65 are loaded at first, and then two for each time.
-const ROWS: [Row<'static>; 3] = [
+static READS: [Reads<'static>; 3] = [
     (
         "gdallocationinfo --blocks 64 -valonly column.asc",
         650,
@@ -88,23 +77,45 @@ const ROWS: [Row<'static>; 3] = [
     ),
 ];
 
-// The first of these runs that takes fewer or more reads or prints something else, or how many runs there are.
-fn first_other<R: Threads + Sync>(
+// Ten times these lines.
+fn ten_times<R: Abort>(rt: &R, alloc: Global, lines: &[u8]) -> Vec<u8> {
+    let parts: [Part<'_>; 1] = [(lines, 10)];
+    joined(rt, alloc, &parts)
+}
+
+// Whether a run over these points prints these values, and takes as many reads as are listed.
+fn reads_so<R: Threads + Sync + Abort>(
     rt: &R,
     alloc: Global,
-    rows: &[Row<'_>],
-) -> Result<usize, Unmade> {
-    for (at, (line, least, most)) in rows.iter().enumerate() {
-        match reads_of(rt, alloc, line)? {
-            Some(reads) if reads >= *least && reads <= *most => {}
-            _ => return Ok(at),
+    points: &[u8],
+    values: &[u8],
+    row: &Reads<'_>,
+) -> bool {
+    let (line, least, most) = *row;
+    let mut folder = tally(rt, alloc);
+    let said = said_of(rt, alloc, &mut folder, (line, (points, 65_536)));
+    let reads = folder.reads();
+    said.prints(values) && least <= reads && reads <= most
+}
+
+// The first of these runs that takes fewer or more reads or prints something else, where each point is asked for ten
+// times, behind all others.
+fn first_unread<R: Threads + Sync + Abort>(
+    rt: &R,
+    alloc: Global,
+    rows: &[Reads<'_>],
+) -> Option<usize> {
+    let points = ten_times(rt, alloc, POINTS);
+    let values = ten_times(rt, alloc, numbers());
+    for (at, row) in rows.iter().enumerate() {
+        if !reads_so(rt, alloc, &points, &values, row) {
+            return Some(at);
         }
     }
-    Ok(rows.len())
+    None
 }
 
 #[test]
-fn points_are_looked_for_in_lines(rt: HostRuntime) -> Result<(), Fail> {
-    assert_eq!(rt; first_other(&rt, rt.alloc(), &ROWS)?, ROWS.len());
-    Ok(())
+fn points_are_looked_for_in_lines(rt: HostRuntime) {
+    none_wrong(&rt, first_unread(&rt, rt.alloc(), &READS));
 }

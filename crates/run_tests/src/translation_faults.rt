@@ -72,8 +72,32 @@ PIXELTYPE      UNSIGNEDINT
     ),
 ];
 
-// A line, and the same where nothing is printed; a hundred lines; a grid; and a mosaic of mosaics.
-static WORKS: [Work<'static>; 5] = [
+const TALL_TEXT: &str =
+    "Input file size is 10, 100\n0...10...20...30...40...50...60...70...80...90...100 - done.\n";
+
+const TALL_OUTPUTS: [Output<'static>; 2] = [
+    ("out.bil", b"old data", &TALL),
+    (
+        "out.hdr",
+        b"old header",
+        b"BYTEORDER      I
+LAYOUT         BIL
+NROWS          100
+NCOLS          10
+NBANDS         1
+NBITS          8
+SKIPBYTES      0
+BANDROWBYTES   10
+TOTALROWBYTES  10
+BANDGAPBYTES   0
+PIXELTYPE      UNSIGNEDINT
+",
+    ),
+];
+
+// A line, and the same where nothing is printed; a hundred lines; a grid; a mosaic of mosaics; and the hundred lines by
+// two workers, each of which reads half of a strip's through a view of the folder.
+static WORKS: [Work<'static>; 6] = [
     Work {
         line: FIVE_LINE,
         text: "Input file size is 5, 1\n0...10...20...30...40...50...60...70...80...90...100 - done.\n",
@@ -88,27 +112,9 @@ static WORKS: [Work<'static>; 5] = [
     },
     Work {
         line: "gdal_translate --blocks 1 tall.bil out.bil",
-        text: "Input file size is 10, 100\n0...10...20...30...40...50...60...70...80...90...100 - done.\n",
+        text: TALL_TEXT,
         told: "",
-        outputs: &[
-            ("out.bil", b"old data", &TALL),
-            (
-                "out.hdr",
-                b"old header",
-                b"BYTEORDER      I
-LAYOUT         BIL
-NROWS          100
-NCOLS          10
-NBANDS         1
-NBITS          8
-SKIPBYTES      0
-BANDROWBYTES   10
-TOTALROWBYTES  10
-BANDGAPBYTES   0
-PIXELTYPE      UNSIGNEDINT
-",
-            ),
-        ],
+        outputs: &TALL_OUTPUTS,
     },
     Work {
         line: "gdal_translate g.asc h.asc",
@@ -151,6 +157,12 @@ PIXELTYPE      SIGNEDINT
             ),
         ],
     },
+    Work {
+        line: "gdal_translate --blocks 1 --workers 2 tall.bil out.bil",
+        text: TALL_TEXT,
+        told: "",
+        outputs: &TALL_OUTPUTS,
+    },
 ];
 
 const FIVE: usize = 0;
@@ -162,6 +174,8 @@ const TALLER: usize = 2;
 const GRID: usize = 3;
 
 const NESTED: usize = 4;
+
+const BESIDE: usize = 5;
 
 fn works() -> &'static [Work<'static>] {
     &WORKS
@@ -185,12 +199,14 @@ fn failing_calls_of_a_raster(rt: HostRuntime) {
     none_wrong(&rt, first_other(&rt, rt.alloc(), files(), works(), &CALLS));
 }
 
-// Translations, and how many calls of the folder each makes at least.
-static EACH: [Turn; 4] = [
+// Translations, and how many calls of the folder each makes at least. Of two workers that read a hundred lines one reads
+// fifty or more, and each line is written.
+static EACH: [Turn; 5] = [
     (FIVE, Failer::Folder, (9, 256)),
     (QUIET, Failer::Folder, (9, 256)),
     (GRID, Failer::Folder, (6, 256)),
     (NESTED, Failer::Folder, (20, 256)),
+    (BESIDE, Failer::Folder, (150, 256)),
 ];
 
 // Each call of the folder fails in turn.

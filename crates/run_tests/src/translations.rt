@@ -49,6 +49,9 @@ fn files() -> &'static [FileOf<'static>] {
     &FILES
 }
 
+// The pixels of each mosaic: 5, -1 and 9.
+const MOSAIC_PIXELS: &[u8] = &[5, 0, 255, 255, 9, 0];
+
 // The header of three numbers without a NODATA.
 const THREE_NUMBERS: &[u8] = b"BYTEORDER      I
 LAYOUT         BIL
@@ -77,7 +80,35 @@ BANDGAPBYTES   0
 PIXELTYPE      UNSIGNEDINT
 ";
 
-static STORIES: [Story<'static>; 19] = [
+// The header of a line of two bytes.
+const TWO_BYTES: &[u8] = b"BYTEORDER      I
+LAYOUT         BIL
+NROWS          1
+NCOLS          2
+NBANDS         1
+NBITS          8
+SKIPBYTES      0
+BANDROWBYTES   2
+TOTALROWBYTES  2
+BANDGAPBYTES   0
+PIXELTYPE      UNSIGNEDINT
+";
+
+// The header of two bands, pixel by pixel.
+const BY_PIXEL: &[u8] = b"BYTEORDER      I
+LAYOUT         BIP
+NROWS          2
+NCOLS          3
+NBANDS         2
+NBITS          8
+SKIPBYTES      0
+BANDROWBYTES   3
+TOTALROWBYTES  6
+BANDGAPBYTES   0
+PIXELTYPE      UNSIGNEDINT
+";
+
+static STORIES: [Story<'static>; 20] = [
     (
         &[(
             "gdal_translate --blocks 1 o.vrt out.bil",
@@ -85,10 +116,7 @@ static STORIES: [Story<'static>; 19] = [
             "Input file size is 3, 1\n0...10...20...30...40...50...60...70...80...90...100 - done.\n",
             "",
         )],
-        &[
-            ("out.bil", &[5, 0, 255, 255, 9, 0]),
-            ("out.hdr", THREE_NUMBERS),
-        ],
+        &[("out.bil", MOSAIC_PIXELS), ("out.hdr", THREE_NUMBERS)],
     ),
     (
         &[(
@@ -97,9 +125,60 @@ static STORIES: [Story<'static>; 19] = [
             "Input file size is 3, 1\n0...10...20...30...40...50...60...70...80...90...100 - done.\n",
             "",
         )],
+        &[("out.bil", MOSAIC_PIXELS), ("out.hdr", THREE_NUMBERS)],
+    ),
+    (
         &[
-            ("out.bil", &[5, 0, 255, 255, 9, 0]),
-            ("out.hdr", THREE_NUMBERS),
+            (
+                "gdal_translate -q --workers 2 --blocks 1 o.vrt one2.bil",
+                0,
+                "",
+                "",
+            ),
+            (
+                "gdal_translate -q --workers 2 --blocks 64 o.vrt many2.bil",
+                0,
+                "",
+                "",
+            ),
+            (
+                "gdal_translate -q --workers 4 --blocks 1 o.vrt one4.bil",
+                0,
+                "",
+                "",
+            ),
+            (
+                "gdal_translate -q --workers 4 --blocks 64 o.vrt many4.bil",
+                0,
+                "",
+                "",
+            ),
+            (
+                "gdal_translate -q --workers 16 --blocks 1 o.vrt one16.bil",
+                0,
+                "",
+                "",
+            ),
+            (
+                "gdal_translate -q --workers 16 --blocks 64 o.vrt many16.bil",
+                0,
+                "",
+                "",
+            ),
+        ],
+        &[
+            ("one2.bil", MOSAIC_PIXELS),
+            ("one2.hdr", THREE_NUMBERS),
+            ("many2.bil", MOSAIC_PIXELS),
+            ("many2.hdr", THREE_NUMBERS),
+            ("one4.bil", MOSAIC_PIXELS),
+            ("one4.hdr", THREE_NUMBERS),
+            ("many4.bil", MOSAIC_PIXELS),
+            ("many4.hdr", THREE_NUMBERS),
+            ("one16.bil", MOSAIC_PIXELS),
+            ("one16.hdr", THREE_NUMBERS),
+            ("many16.bil", MOSAIC_PIXELS),
+            ("many16.hdr", THREE_NUMBERS),
         ],
     ),
     (
@@ -110,7 +189,7 @@ static STORIES: [Story<'static>; 19] = [
             "",
         )],
         &[
-            ("out.bil", &[5, 0, 255, 255, 9, 0]),
+            ("out.bil", MOSAIC_PIXELS),
             (
                 "out.hdr",
                 b"BYTEORDER      I
@@ -136,24 +215,7 @@ NODATA         -1
             "Input file size is 5, 1\n0...10...20...30...40...50...60...70...80...90...100 - done.\n",
             "",
         )],
-        &[
-            ("out.bil", &[2, 4]),
-            (
-                "out.hdr",
-                b"BYTEORDER      I
-LAYOUT         BIL
-NROWS          1
-NCOLS          2
-NBANDS         1
-NBITS          8
-SKIPBYTES      0
-BANDROWBYTES   2
-TOTALROWBYTES  2
-BANDGAPBYTES   0
-PIXELTYPE      UNSIGNEDINT
-",
-            ),
-        ],
+        &[("out.bil", &[2, 4]), ("out.hdr", TWO_BYTES)],
     ),
     (
         &[(
@@ -246,24 +308,7 @@ YDIM           1
             "",
             "",
         )],
-        &[
-            ("out.bil", &[5, 0]),
-            (
-                "out.hdr",
-                b"BYTEORDER      I
-LAYOUT         BIL
-NROWS          1
-NCOLS          2
-NBANDS         1
-NBITS          8
-SKIPBYTES      0
-BANDROWBYTES   2
-TOTALROWBYTES  2
-BANDGAPBYTES   0
-PIXELTYPE      UNSIGNEDINT
-",
-            ),
-        ],
+        &[("out.bil", &[5, 0]), ("out.hdr", TWO_BYTES)],
     ),
     (
         &[(
@@ -299,21 +344,7 @@ YDIM           1
         &[("gdal_translate -q -b 2 -b 1 two.bil out.bip", 0, "", "")],
         &[
             ("out.bip", &[4, 1, 5, 2, 6, 3, 10, 7, 11, 8, 12, 9]),
-            (
-                "out.hdr",
-                b"BYTEORDER      I
-LAYOUT         BIP
-NROWS          2
-NCOLS          3
-NBANDS         2
-NBITS          8
-SKIPBYTES      0
-BANDROWBYTES   3
-TOTALROWBYTES  6
-BANDGAPBYTES   0
-PIXELTYPE      UNSIGNEDINT
-",
-            ),
+            ("out.hdr", BY_PIXEL),
         ],
     ),
     (
@@ -337,21 +368,7 @@ PIXELTYPE      UNSIGNEDINT
         )],
         &[
             ("out.bil", &[1, 2, 3, 7, 8, 9, 1, 2, 3, 7, 8, 9]),
-            (
-                "out.hdr",
-                b"BYTEORDER      I
-LAYOUT         BSQ
-NROWS          2
-NCOLS          3
-NBANDS         2
-NBITS          8
-SKIPBYTES      0
-BANDROWBYTES   3
-TOTALROWBYTES  3
-BANDGAPBYTES   0
-PIXELTYPE      UNSIGNEDINT
-",
-            ),
+            ("out.hdr", BANDS_APART),
         ],
     ),
     (
@@ -430,10 +447,7 @@ NODATA         -1
     ),
     (
         &[("gdal_translate -q -a_nodata none m.vrt out.bil", 0, "", "")],
-        &[
-            ("out.bil", &[5, 0, 255, 255, 9, 0]),
-            ("out.hdr", THREE_NUMBERS),
-        ],
+        &[("out.bil", MOSAIC_PIXELS), ("out.hdr", THREE_NUMBERS)],
     ),
     (
         &[
@@ -484,24 +498,7 @@ cellsize     2
                 "",
             ),
         ],
-        &[
-            ("out.bil", &[2, 3]),
-            (
-                "out.hdr",
-                b"BYTEORDER      I
-LAYOUT         BIL
-NROWS          1
-NCOLS          2
-NBANDS         1
-NBITS          8
-SKIPBYTES      0
-BANDROWBYTES   2
-TOTALROWBYTES  2
-BANDGAPBYTES   0
-PIXELTYPE      UNSIGNEDINT
-",
-            ),
-        ],
+        &[("out.bil", &[2, 3]), ("out.hdr", TWO_BYTES)],
     ),
     (
         &[
@@ -511,21 +508,7 @@ PIXELTYPE      UNSIGNEDINT
         &[
             ("out.bil", &[1, 2, 3, 4, 5, 6, 7, 8, 9, 10, 11, 12]),
             ("out.bip", &[1, 4, 2, 5, 3, 6, 7, 10, 8, 11, 9, 12]),
-            (
-                "out.hdr",
-                b"BYTEORDER      I
-LAYOUT         BIP
-NROWS          2
-NCOLS          3
-NBANDS         2
-NBITS          8
-SKIPBYTES      0
-BANDROWBYTES   3
-TOTALROWBYTES  6
-BANDGAPBYTES   0
-PIXELTYPE      UNSIGNEDINT
-",
-            ),
+            ("out.hdr", BY_PIXEL),
         ],
     ),
 ];

@@ -143,6 +143,11 @@ impl Said {
         self.status == status && self.out.got() == out.as_bytes() && self.tells(err)
     }
 
+    // Whether a run ended with status 0, printed these bytes, and told nothing.
+    pub fn prints(&self, out: &[u8]) -> bool {
+        self.status == 0 && self.out.got() == out && self.tells("")
+    }
+
     // Whether a run told this text.
     pub fn tells(&self, err: &str) -> bool {
         self.err.got() == err.as_bytes()
@@ -207,15 +212,28 @@ fn said_by<R: Threads + Sync + Abort, F: Folder>(
     Said { status, out, err }
 }
 
-/// A run of these words over a folder, where the input is empty and no call of a stream fails.
+/// A line of words over an input.
+pub type Fed<'a> = (&'a str, Given<'a>);
+
+/// A run of these words over a folder and an input, where no call of a stream fails.
+pub fn said_of<R: Threads + Sync + Abort, F: Folder>(
+    rt: &R,
+    alloc: Global,
+    folder: &mut F,
+    (line, given): Fed<'_>,
+) -> Said {
+    let mut input = input_of(rt, alloc, given, &[]);
+    said_by(rt, alloc, folder, &mut input, line, CALM)
+}
+
+/// The same, where the input is empty.
 pub fn said_in<R: Threads + Sync + Abort, F: Folder>(
     rt: &R,
     alloc: Global,
     folder: &mut F,
     line: &str,
 ) -> Said {
-    let mut input = input_of(rt, alloc, NOTHING, &[]);
-    said_by(rt, alloc, folder, &mut input, line, CALM)
+    said_of(rt, alloc, folder, (line, NOTHING))
 }
 
 /// What a run said, its folder, and what it left of its input.
@@ -225,9 +243,6 @@ pub struct Ran {
     pub folder: MemFolder,
     pub input: MemInput,
 }
-
-/// A line of words over an input.
-pub type Fed<'a> = (&'a str, Given<'a>);
 
 /// A run over these files.
 pub fn run_over<R: Threads + Sync + Abort>(
