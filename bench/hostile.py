@@ -48,7 +48,7 @@ class Text:
 
 
 def filled(front, unit, back=b"", length=DOCUMENT, is_whole=True):
-    """A text of this length at most: a front, a unit as often as it fits (and a part, unless it has to be whole), a back."""
+    """A text of this length at most: a front, a unit as often as it fits (and a part unless it has to be whole), a back."""
     left = length - len(front) - len(back)
     rest = b"" if is_whole else unit[: left % len(unit)]
     return Text((front, 1), (unit, left // len(unit)), (rest, 1), (back, 1))
@@ -214,9 +214,11 @@ def sources():
     more = Text((SOURCES + front, 1), (b"{}:0,", range(65_536)), (b"65536:0" + back + SOURCES_END, 1))
     broken("a table of one pair more", more, 6)
     broken("a table of one pair again and again", filled(SOURCES + front, b"0:0,", b"1:0" + back + SOURCES_END), 4)
-    link = b"<ComplexSource><SourceFilename>{}.vrt</SourceFilename><NODATA>0</NODATA></ComplexSource>"
-    links = [link.replace(b"{}", b"%d" % at) for at in range(1, 16)] + [SHORTEST.replace(b">a<", b">one.bil<")]
-    files = {f"{at}.vrt": Text((SOURCES, 1), (it, 16_384), (SOURCES_END, 1)) for at, it in enumerate(links)}
+    # no source gives a value, so each has to be asked
+    nothing = SOURCES + b"<NoDataValue>7</NoDataValue>"
+    link = b"<ComplexSource><SourceFilename>{}.vrt</SourceFilename><NODATA>7</NODATA></ComplexSource>"
+    links = [link.replace(b"{}", b"%d" % at) for at in range(1, 16)] + [link.replace(b"{}.vrt", b"one.bil")]
+    files = {f"{at}.vrt": Text((nothing, 1), (it, 16_384), (SOURCES_END, 1)) for at, it in enumerate(links)}
     words = "gdallocationinfo -valonly {} 0 0"
     row("documents: 16, each of which names the next one 16,384 times", {**files, **ONE}, words)
 
