@@ -252,12 +252,13 @@ for group in (headers, cells, grids, wide_documents, tags, texts, sources, lists
 
 
 # Runs a program, and tells its wall time, its status and its peak by a pipe. What a process has in memory counts as a
-# peak of those that it starts, so a small one starts the program.
+# peak of those that it starts, so a small one starts the program. After two minutes a program is ended.
 STARTER = """
-import posix, sys, time
+import _signal, posix, sys, time
 began = time.perf_counter()
 child = posix.fork()
 if not child:
+    _signal.alarm(120)
     posix.execv(sys.argv[2], sys.argv[2:])
 _, status, used = posix.wait4(child, 0)
 wall = time.perf_counter() - began
@@ -280,7 +281,7 @@ class Cost:
             wall, status, peak = measured.read().split()
             told.seek(0)
             self.line = told.readline(300).decode(errors="replace").rstrip("\n")
-        self.status = os.waitstatus_to_exitcode(int(status))
+        self.status = -os.WTERMSIG(int(status)) if os.WIFSIGNALED(int(status)) else os.WEXITSTATUS(int(status))
         self.wall, self.peak = min(self.wall, float(wall)), max(self.peak, int(peak) * 1024)
 
 
