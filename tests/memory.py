@@ -55,7 +55,26 @@ def shows(name, words='dataType="Int16"'):
     return f"<VRTRasterBand {words}><SimpleSource><SourceFilename>{name}</SourceFilename></SimpleSource></VRTRasterBand>"
 
 
+def lies(x):
+    """A mosaic whose one source lies at this column; where it covers nothing, the pixel is 9."""
+    place = f'<DstRect xOff="{x}" yOff="0" xSize="8388608" ySize="1"/>'
+    source = f"<SimpleSource><SourceFilename>a.bil</SourceFilename>{place}</SimpleSource>"
+    return mosaic(1, f"<VRTRasterBand><NoDataValue>9</NoDataValue>{source}</VRTRasterBand>")
+
+
+def twice(name):
+    source = f"<SimpleSource><SourceFilename>{name}</SourceFilename></SimpleSource>"
+    return mosaic(1, f"<VRTRasterBand>{source}{source}</VRTRasterBand>")
+
+
+def cell(counts, records):
+    label = b"UHL10100000E0200000N03000300NA  U" + b" " * 14 + counts + b" " * 25
+    return label + b"DSIU" + b" " * 644 + b"ACC" + b" " * 2697 + records
+
+
+RECORD = bytes.fromhex("aa0000000000000000058005ffff8000000003b2")
 PLACED = b"NROWS 1\nNCOLS 2\nULXMAP 0.5\nULYMAP 0.5\n"
+# a number stands for so many zeros, which stand in the folder only where the words name them
 FILES = {
     "a.bil": bytes(range(1, 13)),
     "a.hdr": b"NROWS 2\nNCOLS 3\nNBANDS 2\n",
@@ -75,6 +94,17 @@ FILES = {
     "cut.vrt": b'<VRTDataset rasterXSize="1" rasterYSize="1">' + b"<Metadata>" * 63,
     "long.asc": b"ncols 1\nnrows 1\nxllcorner 0\nyllcorner 0\ncellsize 1\n" + b"0" * 65,
     "self.vrt": mosaic(1, shows("self.vrt")),
+    "large.dt2": cell(b"99999999", b""),
+    "c.dt0": cell(b"00010004", RECORD),
+    "head.dt0": cell(b"00010004", RECORD)[:3427],
+    "short.dt0": cell(b"00010004", RECORD)[:3447],
+    "end.vrt": mosaic(3, shows("m.bil"))[:-1],
+    "far.vrt": lies(8388608),
+    "farther.vrt": lies(8388609),
+    "empty.asc": b"ncols 4194304\nnrows 4194304\nxllcorner 0\nyllcorner 0\ncellsize 1\n",
+    **{f"t{at}.vrt": twice(f"t{at + 1}.vrt" if at < 15 else "a.bil") for at in range(16)},
+    "N00E000.hgt": 2_884_802,
+    "N00E001.hgt": 2_884_802,
 }
 POINTS = b"0 0\n9 9\n2 1\n"
 RASTER = ("out.bil", "out.hdr")
@@ -86,6 +116,8 @@ NUMBER = (
     "synth_out.bil",
     "synth_out.hdr",
 )
+# in the place of an input's bytes: the input, or the error stream, is one that fails
+NO_INPUT, NO_ERRORS = "no input", "no errors"
 # a name, the words, the input, and the files that are published, in their order
 JOBS = (
     ("a point of raw data", "gdallocationinfo -valonly a.bil 2 1", b"", ()),
@@ -93,6 +125,7 @@ JOBS = (
     ("points of the input, the last of which is none", "gdallocationinfo -valonly a.bil", POINTS + b"x\n", ()),
     ("points that are looked for in lines", "gdallocationinfo --workers 2 -valonly o.vrt", b"0 0\n1 0\n0 0\n", ()),
     ("a line that is too long", "gdallocationinfo -valonly a.bil", b"0" * 4097, ()),
+    ("an input that fails", "gdallocationinfo -valonly a.bil", NO_INPUT, ()),
     ("the sources of a pixel", "gdallocationinfo -lifonly o.vrt 0 0", b"", ()),
     ("a report of raw data", "gdalinfo a.bil", b"", ()),
     ("a report of a mosaic", "gdalinfo o.vrt", b"", ()),
@@ -103,18 +136,52 @@ JOBS = (
     ("a grid to a grid", "gdal_translate g.asc out.asc", b"", ("out.asc",)),
     ("a document of a window", "gdal_translate -srcwin 1 0 1 1 o.vrt out.vrt", b"", MOSAIC),
     ("a mosaic, an input of which is skipped", "gdalbuildvrt out.vrt east.bil two.bil", b"", MOSAIC),
+    ("two tiles side by side", "gdalbuildvrt out.vrt N00E000.hgt N00E001.hgt two.bil", b"", MOSAIC),
     ("a mosaic of a list", "gdalbuildvrt -q out.vrt -input_file_list list.txt", b"", MOSAIC),
     ("a mosaic that is refused", "gdalbuildvrt -strict out.vrt east.bil two.bil", b"", ()),
     ("a number", "synth 3", b"", NUMBER),
     ("a file that is too short", "gdalinfo big.bsq", b"", ()),
+    ("a cell that is too short for its head", "gdalinfo large.dt2", b"", ()),
+    ("a cell whose sums are right", "gdallocationinfo --config DTED_VERIFY_CHECKSUM YES -valonly c.dt0 0 2", b"", ()),
+    ("a cell that ends in its head", "gdalinfo head.dt0", b"", ()),
+    ("a cell that ends in its record", "gdalinfo short.dt0", b"", ()),
+    ("a document that ends a byte too early", "gdalinfo end.vrt", b"", ()),
+    ("a source as far right as one may lie", "gdallocationinfo -valonly far.vrt 0 0", b"", ()),
+    ("a source that lies farther", "gdallocationinfo -valonly farther.vrt 0 0", b"", ()),
+    ("the largest grid, without a value", "gdalinfo empty.asc", b"", ()),
+    ("16 mosaics, each of which names the next one twice", "gdallocationinfo -valonly t0.vrt 0 0", b"", ()),
     ("a document that is too deep", "gdalinfo deep.vrt", b"", ()),
     ("a document that ends too early", "gdalinfo cut.vrt", b"", ()),
     ("a grid with a long token", "gdalinfo long.asc", b"", ()),
     ("a mosaic that names itself", "gdallocationinfo -valonly self.vrt 0 0", b"", ()),
     ("no such file", "gdalinfo none.bil", b"", ()),
+    ("no such file, and an error stream that takes nothing", "gdalinfo none.bil", NO_ERRORS, ()),
     ("no words", "", b"", ()),
 )
 REFUSED = b"ERROR 2: out of memory\n"
+
+
+def put(path, text, is_named):
+    """Makes a file of these bytes, or of so many zeros where the words name it."""
+    if isinstance(text, int) and not is_named:
+        return
+    with open(path, "wb") as it:
+        if isinstance(text, int):
+            it.truncate(text)
+        else:
+            it.write(text)
+
+
+def streams_of(fed):
+    if fed == NO_INPUT:
+        return {"stdin": FOLDER, "stderr": subprocess.PIPE}
+    if fed == NO_ERRORS:
+        return {"stdin": subprocess.DEVNULL, "stderr": FULL}
+    return {"input": fed, "stderr": subprocess.PIPE}
+
+
+# a folder can't be read as an input, and a full device takes nothing
+FOLDER, FULL = os.open("/", os.O_RDONLY), os.open("/dev/full", os.O_WRONLY)
 
 
 class Ran:
@@ -124,14 +191,15 @@ class Ran:
         folder, mark = f"{room}/files", f"{room}/mark"
         shutil.rmtree(folder, ignore_errors=True)
         os.mkdir(folder)
+        self.is_told = fed != NO_ERRORS
         for name, text in FILES.items():
-            with open(f"{folder}/{name}", "wb") as it:
-                it.write(text)
+            put(f"{folder}/{name}", text, name in words)
         if os.path.exists(mark):
             os.remove(mark)
         seen = {**os.environ, "LD_PRELOAD": f"{room}/refuse.so", "REFUSED_CALL": str(number), "REFUSED_MARK": mark}
-        ran = subprocess.run([program, *words.split()], cwd=folder, input=fed, capture_output=True, timeout=60, env=seen)
-        self.status, self.out, self.err, self.is_refused = ran.returncode, ran.stdout, ran.stderr, os.path.exists(mark)
+        streams = streams_of(fed)
+        ran = subprocess.run([program, *words.split()], cwd=folder, stdout=subprocess.PIPE, timeout=60, env=seen, **streams)
+        self.status, self.out, self.err, self.is_refused = ran.returncode, ran.stdout, ran.stderr or b"", os.path.exists(mark)
         self.made = {name: open(f"{folder}/{name}", "rb").read() for name in os.listdir(folder)}
 
 
@@ -139,11 +207,12 @@ def is_right(whole, ran, outputs):
     """Whether a run of which a call was refused did the same as one with enough memory, or ended for want of it."""
     if (ran.status, ran.out, ran.err, ran.made) == (whole.status, whole.out, whole.err, whole.made):
         return True
-    warned = ran.err.removesuffix(REFUSED)
+    refused = REFUSED if ran.is_told else b""
+    warned = ran.err.removesuffix(refused)
     new = set(ran.made) - set(FILES)
     return (
         ran.status == 3
-        and ran.err.endswith(REFUSED)
+        and ran.err.endswith(refused)
         and whole.err.startswith(warned)
         and whole.out.startswith(ran.out)
         and new == set(outputs[: len(new)])

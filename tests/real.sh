@@ -1,6 +1,7 @@
 #!/usr/bin/env bash
 # Tries the built program over real files and streams, outside the gate: tests/real.sh PROGRAM
-# Each line of the result names what was tried; the last line counts what failed, and the status is 0 where nothing did.
+# Each line of the result names what was tried, or what this system doesn't let it try; the last line counts what failed,
+# and the status is 0 where nothing did.
 set -u
 [ $# -eq 1 ] && [ -x "$1" ] || { echo 'tests/real.sh PROGRAM: the built program' >&2; exit 2; }
 program=$(readlink -f "$1")
@@ -33,13 +34,25 @@ holds() {
     if "$@"; then echo "as it is to be: $what"; else failed=$((failed + 1)) && echo "FAILED: $what"; fi
 }
 
+untried() { echo "not tried here: $1"; }
+
 temporaries() { find . -name '.jirovamby.*' | wc -l; }
+
+# some odd moments, in seconds, and as many by chance
+moments() {
+    echo "$@"
+    for _ in "$@"; do printf '0.%03d ' $((RANDOM % 150)); done
+}
 
 expect 'a command line that is no UTF-8' 1 "ERROR 1: word 0 doesn't fit" gdalinfo $'\xff\xfe'
 expect 'a translation' 0 '' gdal_translate hills.bil copy.bil
 holds 'the copy has the same bytes' cmp -s hills.bil copy.bil
 expect 'a name with blanks, a quote and a line feed' 0 '' gdal_translate -q hills.bil $'a b"\n.bil'
 holds 'which is written' cmp -s hills.bil $'a b"\n.bil'
+signs=$'q\'"&<>;\\.bil'
+expect 'a name with quotes and signs' 0 '' gdal_translate -q hills.bil "$signs"
+expect 'a mosaic of it' 0 '' gdalbuildvrt -q signs.vrt "$signs"
+holds 'in which it is found again' bash -c '"$0" gdal_translate -q signs.vrt found.bil && cmp -s hills.bil found.bil' "$program"
 expect 'the source as its own output' 1 'ERROR 1: hills.bil: output is an input' gdal_translate -q hills.bil ./hills.bil
 expect 'a header of the source as output' 1 'ERROR 1: hills.hdr: output is an input' gdal_translate -q hills.bil hills.bip
 
@@ -52,7 +65,13 @@ mkfifo pipe.bil
 expect 'a pipe in the place of the output' 2 'ERROR 3: a file call failed' gdal_translate -q hills.bil pipe.bil
 holds 'which is a pipe still' test -p pipe.bil
 expect 'a pipe in the place of the source' 2 'ERROR 3: a file call failed' gdalinfo pipe.bil
-mkdir folder.asc
+expect 'a pipe in the place of an input' 2 'ERROR 3: a file call failed' gdalbuildvrt -q none.vrt hills.bil pipe.bil
+expect 'a pipe in the place of the list' 2 'ERROR 3: a file call failed' gdalbuildvrt -q none.vrt -input_file_list pipe.bil
+cp hills.bil piped.bil && mkfifo piped.hdr
+expect 'a pipe in the place of the header' 2 'ERROR 3: a file call failed' gdalinfo piped.bil
+mkdir folder.asc folder.bil
+expect 'a folder in the place of the source' 2 'ERROR 3: a file call failed' gdalinfo folder.bil
+expect 'a folder in the place of a grid' 2 'ERROR 3: a file call failed' gdalinfo folder.asc
 expect 'a folder in the place of the output' 2 'ERROR 3: a file call failed' gdal_translate -q -b 1 hills.bil folder.asc
 expect 'a folder that is not there' 2 'ERROR 3: a file call failed' gdal_translate -q hills.bil none/out.bil
 
@@ -65,18 +84,45 @@ if [ -w /dev/full ]; then
     else
         failed=$((failed + 1)) && echo "FAILED: an output stream that takes nothing: status $came"
     fi
+else
+    untried 'an output stream that takes nothing'
 fi
+
+# streams WHAT STATUS ERROR-LINE REDIRECTION WORDS..: with streams that are closed from the start
+streams() {
+    what=$1 status=$2 line=$3 how=$4
+    shift 4
+    tried=$((tried + 1))
+    rm -f err.txt
+    bash -c "\"\$@\" $how" bash timeout 20 "$program" "$@"
+    came=$?
+    if [ "$came" -eq "$status" ] && [ "$(head -n 1 err.txt)" = "$line" ]; then
+        echo "as it is to be: $what"
+    else
+        failed=$((failed + 1))
+        echo "FAILED: $what: status $came, $(head -n 1 err.txt)"
+    fi
+}
+streams 'an output stream that is closed' 2 'ERROR 3: writing the output failed' '2>err.txt >&-' gdal_translate hills.bil closed.bil
+holds 'without which nothing is made' test ! -e closed.bil
+streams 'an input that is closed' 2 'ERROR 3: reading the input failed' '2>err.txt >out.txt <&-' gdallocationinfo -valonly hills.bil
+streams 'a folder in the place of the input' 2 'ERROR 3: reading the input failed' '2>err.txt >out.txt <.' gdallocationinfo -valonly hills.bil
+streams 'an error stream that is closed' 1 '' '>err.txt 2>&-' gdalinfo none.bil
 
 # killed at odd moments: each name holds its old bytes or its new ones
 head -c 8000000 /dev/zero | tr '\0' 'x' >big.bil
 printf 'NROWS 2000\nNCOLS 4000\nNBANDS 1\nNBITS 8\nLAYOUT BIL\n' >big.hdr
 printf 'old' >killed.bil
+printf 'old' >killed.hdr
+expect 'a translation of 8 MB' 0 '' gdal_translate -q big.bil whole.bil
 whole=yes
-for delay in 0.001 0.003 0.005 0.01 0.02 0.03 0.05 0.08; do
+for delay in $(moments 0.001 0.003 0.005 0.01 0.02 0.03 0.05 0.08); do
     bash -c 'timeout -s KILL "$1" "$2" gdal_translate -q big.bil killed.bil; true' - "$delay" "$program" >/dev/null 2>&1
     [ "$(head -c 4 killed.bil)" = old ] || cmp -s big.bil killed.bil || whole=no
+    [ "$(head -c 4 killed.hdr)" = old ] || cmp -s whole.hdr killed.hdr || whole=no
+    [ "$(head -c 4 killed.hdr)" = old ] || cmp -s big.bil killed.bil || whole=no
 done
-holds 'killed at odd moments, the name holds old bytes or new ones' test "$whole" = yes
+holds 'killed at odd moments, each name holds old bytes or new ones, the header no new ones alone' test "$whole" = yes
 left=$(temporaries)
 expect 'the next translation to that name, beside what the killed ones left' 0 '' gdal_translate -q big.bil killed.bil
 holds 'which is whole' cmp -s big.bil killed.bil
@@ -140,13 +186,17 @@ expect 'a device in the place of the source' 2 'ERROR 3: a file call failed' gda
 yes '1 1' | head -n 200000 >points.txt
 "$program" gdallocationinfo -valonly hills.bil <points.txt 2>err.txt | head -n 1 >out.txt
 holds 'an output that is closed behind its first line' test "${PIPESTATUS[0]} $(cat err.txt)" = '2 ERROR 3: writing the output failed'
+expect 'a device in the place of the list' 2 'ERROR 3: a file call failed' gdalbuildvrt -q none.vrt -input_file_list device.bil
 
-# as_other WHAT STATUS ERROR-LINE WORDS..: as expect, run by a user without rights, in a folder of that user's
+# as_other WHAT STATUS ERROR-LINE WORDS..: as expect, run by a user without rights, in a folder of that user's. Who may do
+# everything takes another user for it.
+other=(env)
+[ "$(id -u)" != 0 ] || other=(setpriv --reuid=65534 --regid=65534 --clear-groups)
 as_other() {
     what=$1 status=$2 line=$3
     shift 3
     tried=$((tried + 1))
-    (cd theirs && setpriv --reuid=65534 --regid=65534 --clear-groups "$program" "$@" >out.txt 2>err.txt </dev/null)
+    (cd theirs && "${other[@]}" "$program" "$@" >out.txt 2>err.txt </dev/null)
     came=$?
     if [ "$came" -eq "$status" ] && [ "$(head -n 1 theirs/err.txt)" = "$line" ]; then
         echo "as it is to be: $what"
@@ -155,15 +205,19 @@ as_other() {
         echo "FAILED: $what: status $came, $(head -n 1 theirs/err.txt)"
     fi
 }
-if [ "$(id -u)" = 0 ] && chmod 755 "$room" && setpriv --reuid=65534 --regid=65534 --clear-groups test -x "$program" 2>none.txt; then
+if chmod 755 "$room" && "${other[@]}" test -x "$program" 2>none.txt; then
     mkdir theirs theirs/closed && cp hills.* theirs && printf 'old' >theirs/kept.bil && printf 'x' >theirs/secret.bil
     chmod 555 theirs/closed && chmod 444 theirs/kept.bil && chmod 000 theirs/secret.bil
-    touch theirs/out.txt theirs/err.txt && chown 65534 theirs theirs/*.*
+    touch theirs/out.txt theirs/err.txt
+    [ "$(id -u)" != 0 ] || chown 65534 theirs theirs/*.*
     as_other 'a folder that cannot be written' 2 'ERROR 3: a file call failed' gdal_translate -q hills.bil closed/out.bil
     holds 'in which nothing is made' test -z "$(ls -A theirs/closed)"
     as_other 'a file without rights as source' 2 'ERROR 3: a file call failed' gdalinfo secret.bil
+    as_other 'a mosaic in that folder' 2 'ERROR 3: a file call failed' gdalbuildvrt -q closed/out.vrt hills.bil
     as_other 'a read-only file in the place of the output' 0 '' gdal_translate -q hills.bil kept.bil
     holds 'which is replaced whole' cmp -s hills.bil theirs/kept.bil
+else
+    untried 'folders and files without rights'
 fi
 
 # a full disk: old files stand
@@ -173,27 +227,40 @@ if mount -t tmpfs -o size=64k tmpfs small 2>none.txt; then
     expect 'a disk that is full' 2 'ERROR 3: a file call failed' gdal_translate -q big.bil small/out.bil
     holds 'on which the old file stands' test "$(cat small/out.bil)" = old
     holds 'and no other' test "$(ls -A small)" = out.bil
+    printf 'old' >small/out.vrt
+    expect 'a mosaic on it' 2 'ERROR 3: a file call failed' gdalbuildvrt -q -b 1 small/out.vrt -input_file_list most.txt
+    holds 'where the old document stands' test "$(cat small/out.vrt)" = old
+    holds 'and nothing is left' test "$(temporaries)" = "$left"
     expect 'the same disk, and less' 0 '' gdal_translate -q hills.bil small/out.bil
     umount small
+else
+    untried 'a full disk'
 fi
 
 # two runs that write the same name at once: it is whole, and so is its header
 (for number in 1 2 3 4 5 6 7 8; do "$program" gdal_translate -q big.bil both.bil & done; wait)
 holds 'eight runs that write one name' cmp -s big.bil both.bil
 holds 'whose header is whole' cmp -s killed.hdr both.hdr
+tr 'x' 'y' <big.bil >other.bil && cp big.hdr other.hdr
+(for name in big other big other big other; do "$program" gdal_translate -q "$name.bil" both.bil & done; wait)
+holds 'six runs that write two rasters under one name' bash -c 'cmp -s big.bil both.bil || cmp -s other.bil both.bil'
+(for name in mosaic listed mosaic listed; do "$program" gdalbuildvrt -q both.vrt "$name.vrt" & done; wait)
+"$program" gdalbuildvrt -q one.vrt mosaic.vrt && "$program" gdalbuildvrt -q two.vrt listed.vrt
+holds 'four runs that write two mosaics under one name' bash -c 'cmp -s one.vrt both.vrt || cmp -s two.vrt both.vrt'
 
 # changes WHAT STATUS ERROR-LINE OUTPUT COMMAND..: a file that another process changes behind the first point
+dataset=changing.bil second='5 1900'
 changes() {
     what=$1 status=$2 line=$3 output=$4
     shift 4
     cp big.bil changing.bil && cp big.hdr changing.hdr && rm -f asks && mkfifo asks
     tried=$((tried + 1))
-    timeout 20 "$program" gdallocationinfo -valonly changing.bil <asks >out.txt 2>err.txt &
+    timeout 20 "$program" gdallocationinfo -valonly "$dataset" <asks >out.txt 2>err.txt &
     exec 3>asks
     echo '0 0' >&3
     for number in $(seq 100); do [ -s out.txt ] && break; sleep 0.05; done
     "$@"
-    echo '5 1900' >&3
+    echo "$second" >&3
     exec 3>&-
     wait $!
     came=$?
@@ -207,6 +274,17 @@ changes() {
 changes 'an open file that shrinks' 2 'ERROR 3: a file call failed' 120 truncate -s 1000 changing.bil
 changes 'an open file that grows' 0 '' $'120\n120' truncate -s 9000000 changing.bil
 changes 'an open file that is taken away' 0 '' $'120\n120' rm changing.bil
+changes 'an open file whose name another one takes' 0 '' $'120\n120' cp -f --remove-destination other.bil changing.bil
+
+# the same between the walk and the reading: the second point lies in a source that was walked and isn't open
+one='<SimpleSource><SourceFilename>big.bil</SourceFilename><DstRect xOff="0" yOff="0" xSize="1" ySize="1"/></SimpleSource>'
+two='<SimpleSource><SourceFilename>changing.bil</SourceFilename><DstRect xOff="128" yOff="0" xSize="1" ySize="1"/></SimpleSource>'
+echo "<VRTDataset rasterXSize='256' rasterYSize='1'><VRTRasterBand>$one$two</VRTRasterBand></VRTDataset>" >pair.vrt
+dataset=pair.vrt second='128 0'
+changes 'a source that stays' 0 '' $'120\n120' true
+changes 'a source that shrinks before it is read' 2 'ERROR 3: changing.bil: length changed from 8000000 to 7999999' 120 truncate -s 7999999 changing.bil
+changes 'a source that grows before it is read' 2 'ERROR 3: changing.bil: length changed from 8000000 to 8000001' 120 truncate -s 8000001 changing.bil
+changes 'a source that is taken away before it is read' 2 'ERROR 3: changing.bil: length changed from 8000000 to none' 120 rm changing.bil
 
 # documents read by GDAL itself, where it is installed
 if [ -x /usr/bin/gdalinfo ]; then
@@ -222,7 +300,7 @@ for number in $(seq 20000); do echo hills.bil; done >many.txt
 expect 'a mosaic of 20,000 inputs' 0 '' gdalbuildvrt -q many.vrt -input_file_list many.txt
 printf 'old' >killed.vrt
 whole=yes
-for delay in 0.001 0.003 0.01 0.02 0.03 0.05 0.08 0.1 0.15 0.2 0.3; do
+for delay in $(moments 0.001 0.003 0.01 0.02 0.03 0.05 0.08 0.1 0.15 0.2 0.3); do
     bash -c 'timeout -s KILL "$1" "$2" gdalbuildvrt -q killed.vrt -input_file_list many.txt; true' - "$delay" "$program" >/dev/null 2>&1
     [ "$(head -c 4 killed.vrt)" = old ] || cmp -s many.vrt killed.vrt || whole=no
 done

@@ -216,20 +216,26 @@ fn loads_once(rt: HostRuntime) -> Result<(), Fail> {
     Ok(())
 }
 
-// What comes of reads where the call of the folder of this number fails.
-fn read_failing(alloc: Global, call: u64) -> Result<Reading, Fail> {
+// What comes of reads with so many blocks where the call of the folder of this number fails.
+fn read_failing(alloc: Global, capacity: u32, call: u64) -> Result<Reading, Fail>
+    requires room { 1 ≤ capacity }
+    requires few { capacity ≤ 65536 }
+{
     let mut failing = Items::new(alloc);
     failing.push(Failing::Call(call))?;
     let mut folder = holding(alloc, Listed::new(failing))?;
-    read_name(alloc, &mut folder, "o.vrt", 2, &OUTER_SAMPLES)
+    read_name(alloc, &mut folder, "o.vrt", capacity, &OUTER_SAMPLES)
 }
 
 // How many calls of the folder fail at the first read, where each of 29 fails in turn; None where one refuses the walk
 // behind such a call, or a read is wrong.
-fn failed_reads(alloc: Global) -> Result<Option<u64>, Fail> {
+fn failed_reads(alloc: Global, capacity: u32) -> Result<Option<u64>, Fail>
+    requires room { 1 ≤ capacity }
+    requires few { capacity ≤ 65536 }
+{
     let mut failed = 0u64;
     for call in 1..30 {
-        match read_failing(alloc, call)? {
+        match read_failing(alloc, capacity, call)? {
             Reading::Right => {}
             Reading::Failed => failed = failed.saturating_add(1),
             Reading::NoWalk if failed == 0 => {}
@@ -243,7 +249,14 @@ fn failed_reads(alloc: Global) -> Result<Option<u64>, Fail> {
 // opens and reads the two files, and is read whole once the call has failed.
 #[test]
 fn a_lane_goes_on_behind_a_failed_call(rt: HostRuntime) -> Result<(), Fail> {
-    assert!(rt; failed_reads(rt.alloc())? == Some(4));
+    assert!(rt; failed_reads(rt.alloc(), 2)? == Some(4));
+    Ok(())
+}
+
+// The same with room for one block.
+#[test]
+fn a_lane_of_one_block_goes_on(rt: HostRuntime) -> Result<(), Fail> {
+    assert!(rt; failed_reads(rt.alloc(), 1)? == Some(4));
     Ok(())
 }
 

@@ -319,8 +319,8 @@ static STRICT: [Row<'static>; 1] = [(
     "ERROR 1: two.bil: skipped (bands)\n",
 )];
 
-// Whether each call of the folder ends a build where it fails, a failing output does behind the warning, and nothing is
-// changed where no input may be skipped.
+// Whether each call of the folder ends a build where it fails, each of the output does, the first one behind the warning
+// and the document, and nothing is changed where no input may be skipped.
 fn tiles_end<R: Threads + Sync + Abort>(
     rt: &R,
     alloc: Global,
@@ -331,6 +331,7 @@ fn tiles_end<R: Threads + Sync + Abort>(
     let output = Failer::Output(0);
     each_cuts(rt, alloc, files, work, Failer::Folder, (8, 256))
         && ends(rt, alloc, files, work, output, puts, End::Warned(1))
+        && each_cuts(rt, alloc, files, work, output, (0, 64))
         && first_unrefused(rt, alloc, files, &STRICT).is_none()
 }
 

@@ -1,8 +1,8 @@
 // Runs over cells and tiles.
 use crate::fickle::Fickle;
 use crate::trials::{
-    FileOf, NOTHING, Part, Row, first_harmless, first_wrong, is_number, joined, none_wrong, says,
-    says_in,
+    FileOf, NOTHING, Part, Row, first_harmless, first_wrong, folder_of, is_number, joined,
+    none_wrong, said_in, says, says_in,
 };
 use std::alloc::Global;
 use std::process::Abort;
@@ -178,6 +178,42 @@ fn first_wrong_cut<R: Threads + Sync + Abort>(
 fn cut_cells(rt: HostRuntime) {
     let cell = one_line(&rt, rt.alloc(), 0xb2);
     none_wrong(&rt, first_wrong_cut(&rt, rt.alloc(), &cell, &CUTS));
+}
+
+// What is told, but for the last length, of the first bytes of the cell.
+fn told_of(len: usize) -> &'static [u8] {
+    if len < 3428 {
+        b"ERROR 4: c.dt0: malformed dted (3)\n"
+    } else {
+        b"ERROR 4: c.dt0: needs 3448 bytes, has 34"
+    }
+}
+
+fn is_cut_off<R: Threads + Sync + Abort>(rt: &R, alloc: Global, cell: &[u8], len: usize) -> bool {
+    let (front, _) = cell.split_at(len.min(cell.len()));
+    let mut folder = folder_of(rt, alloc, &[("c.dt0", front)], &[]);
+    let said = said_in(rt, alloc, &mut folder, "gdalinfo c.dt0");
+    said.status == 1 && said.out.got().is_empty() && said.err.got().starts_with(told_of(len))
+}
+
+// The least number of first bytes of a cell of which something else is told.
+fn first_other_length<R: Threads + Sync + Abort>(
+    rt: &R,
+    alloc: Global,
+    cell: &[u8],
+) -> Option<usize> {
+    for len in 0..3448usize {
+        if !is_cut_off(rt, alloc, cell, len) {
+            return Some(len);
+        }
+    }
+    None
+}
+
+#[test]
+fn cells_cut_anywhere(rt: HostRuntime) {
+    let cell = one_line(&rt, rt.alloc(), 0xb2);
+    none_wrong(&rt, first_other_length(&rt, rt.alloc(), &cell));
 }
 
 static LARGE: [Row<'static>; 1] = [(

@@ -1,6 +1,8 @@
 // How runs end of which a call of the outside fails: what is told, what the names hold then, and that no draft is left.
 use crate::stories::{has, has_count};
-use crate::trials::{CALM, FOLDER, Failures, FileOf, NOTHING, Said, WRITING, run_over};
+use crate::trials::{
+    CALM, FOLDER, Failures, Fed, FileOf, NOTHING, READING, Said, WRITING, run_over,
+};
 use outside::{Failing, MemFolder};
 use std::alloc::Global;
 use std::process::Abort;
@@ -30,10 +32,11 @@ pub enum End {
     Whole,
 }
 
-/// Whose calls fail: the folder's, or the output's, of which such a call takes so many bytes first.
+/// Whose calls fail: the folder's, the input's, or the output's, of which such a call takes so many bytes first.
 #[derive(Clone, Copy)]
 pub enum Failer {
     Folder,
+    Input,
     Output(usize),
 }
 
@@ -41,6 +44,13 @@ pub enum Failer {
 fn failures_of(failer: Failer, calls: &[Failing]) -> (Failures<'_>, &'static str) {
     match failer {
         Failer::Folder => (Failures { calls, ..CALM }, FOLDER),
+        Failer::Input => (
+            Failures {
+                takes: calls,
+                ..CALM
+            },
+            READING,
+        ),
         Failer::Output(front) => (
             Failures {
                 puts: calls,
@@ -259,6 +269,62 @@ pub fn first_unmet<R: Threads + Sync + Abort>(
 ) -> Option<usize> {
     for (at, turn) in turns.iter().enumerate() {
         if !turn_holds(rt, alloc, files, works, turn) {
+            return Some(at);
+        }
+    }
+    None
+}
+
+/// A run that publishes nothing: its words and its input, what it prints, whose calls fail in turn, and how many of them it
+/// makes.
+pub type Asking<'a> = (Fed<'a>, &'a str, Failer, u64);
+
+// Whether a run of which this call fails ends early or, where it isn't made, prints all; no draft is open, and there are as
+// many files as before.
+fn asks_so<R: Threads + Sync + Abort>(
+    rt: &R,
+    alloc: Global,
+    files: &[FileOf<'_>],
+    asking: &Asking<'_>,
+    call: u64,
+) -> bool {
+    let (fed, text, failer, count) = *asking;
+    let calls: &[Failing] = &[Failing::Call(call)];
+    let (failures, fault) = failures_of(failer, calls);
+    let ran = run_over(rt, alloc, files, fed, failures);
+    let is_ended = if call <= count {
+        ran.said.ends_in(text, fault)
+    } else {
+        ran.said.is(0, text, "")
+    };
+    is_ended && has_count(rt, &ran.folder, files.len())
+}
+
+// Whether that holds of each call, and of the first one that isn't made.
+fn each_asks_so<R: Threads + Sync + Abort>(
+    rt: &R,
+    alloc: Global,
+    files: &[FileOf<'_>],
+    asking: &Asking<'_>,
+) -> bool {
+    let (_, _, _, count) = *asking;
+    for call in 1..=count.saturating_add(1) {
+        if !asks_so(rt, alloc, files, asking, call) {
+            return false;
+        }
+    }
+    true
+}
+
+/// The first of these of which a call's failing isn't met.
+pub fn first_unasked<R: Threads + Sync + Abort>(
+    rt: &R,
+    alloc: Global,
+    files: &[FileOf<'_>],
+    askings: &[Asking<'_>],
+) -> Option<usize> {
+    for (at, asking) in askings.iter().enumerate() {
+        if !each_asks_so(rt, alloc, files, asking) {
             return Some(at);
         }
     }

@@ -1,4 +1,5 @@
 // Runs over the points of an input, and over mosaics of mosaics.
+use crate::ends::{Asking, Failer, first_unasked};
 use crate::trials::{
     CALM, Calls, FOLDER, Failures, Fed, FileOf, READING, Row, Trial, WRITING, ends_so,
     first_failing, first_harmless, first_wrong, is_number, none_wrong, run_over,
@@ -290,6 +291,26 @@ static FED: [Trial<'static>; 5] = [
 #[test]
 fn failing_inputs(rt: HostRuntime) {
     none_wrong(&rt, first_failing(&rt, rt.alloc(), files(), &FED));
+}
+
+// Three points in pieces, the second of which lies off the raster.
+const THREE: Fed<'static> = (TWO, (b"0 0\n9 9\n2 1\n", 4));
+
+const ANSWERS: &str = "1\n4\n\n9\n12\n";
+
+// The data and their header are opened and the header is read; then the data are opened again, and for two of the points a
+// line of each band is read. Three pieces and the end are taken, and each answer is put.
+static ASKED: [Asking<'static>; 4] = [
+    (THREE, ANSWERS, Failer::Folder, 8),
+    (THREE, ANSWERS, Failer::Input, 4),
+    (THREE, ANSWERS, Failer::Output(0), 3),
+    (THREE, ANSWERS, Failer::Output(1), 3),
+];
+
+// Each call fails in turn, until a run ends in which none did; no draft is left open.
+#[test]
+fn each_failing_call_of_points(rt: HostRuntime) {
+    none_wrong(&rt, first_unasked(&rt, rt.alloc(), files(), &ASKED));
 }
 
 // An answer that can't be put ends the run before the next piece is taken.

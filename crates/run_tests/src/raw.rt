@@ -1,3 +1,4 @@
+use crate::ends::{Asking, Failer, first_unasked};
 use crate::trials::{
     FileOf, NOTHING, Part, Row, Trial, WRITING, first_failing, first_harmless, first_wrong,
     is_number, joined, none_wrong,
@@ -190,6 +191,21 @@ static PUTS: [Trial<'static>; 1] = [(
 #[test]
 fn a_failing_output(rt: HostRuntime) {
     none_wrong(&rt, first_failing(&rt, rt.alloc(), files(), &PUTS));
+}
+
+// The data and their header are opened and the header is read; then the data are opened again, and a line of each band is
+// read. The values are put by one call, and no input is taken.
+static ASKED: [Asking<'static>; 4] = [
+    ((LINE, NOTHING), "9\n12\n", Failer::Folder, 6),
+    ((LINE, NOTHING), "9\n12\n", Failer::Output(0), 1),
+    ((LINE, NOTHING), "9\n12\n", Failer::Output(2), 1),
+    ((LINE, NOTHING), "9\n12\n", Failer::Input, 0),
+];
+
+// Each call fails in turn, until a run ends in which none did; no draft is left open.
+#[test]
+fn each_failing_call(rt: HostRuntime) {
+    none_wrong(&rt, first_unasked(&rt, rt.alloc(), files(), &ASKED));
 }
 
 static WIDEST: [Row<'static>; 1] = [("gdallocationinfo -valonly w.bil 4194303 0", 0, "7\n", "")];
