@@ -24,7 +24,7 @@ use shared_lines::{Lines, Scene};
 use std::marker::Brand;
 use std::sync::ledger::{Blank, Ledger};
 use std::thread::Threads;
-use strip_copies::{StripReader, Translation, strip_height};
+use strip_copies::{StripReader, Translation, shares_blocks, strip_height};
 use translate_plan::Driver;
 use write_back::Target;
 
@@ -103,6 +103,31 @@ fn publish<F: Folder, W: Ledger>(
     }
 }
 
+// The lines that the lanes of several workers share, as many as blocks are held, where they may read the same blocks. There
+// are none where memory is refused for them.
+fn lines_of<F: Folder, S: Scene>(
+    translation: &Translation,
+    folder: &F,
+    writing: &Writing,
+) -> Option<Lines<S>>
+    requires told { S.told ≡ F.names folder.now }
+    requires scene { S.cat ≡ translation.now.cat }
+    requires some { 1 ≤ writing.now.blocks }
+    requires few { writing.now.blocks ≤ 65536 }
+{
+    if !shares_blocks(translation) {
+        return None;
+    }
+    let alloc = translation.alloc;
+    lines_for(
+        alloc,
+        writing.workers,
+        writing.blocks,
+        &translation.cat,
+        folder,
+    )
+}
+
 // Copies the lines of an output, and publishes its files.
 fn write_files<R: Threads + Sync, F: Folder, O: Sink, L: Ledger, W: Ledger, S: Scene>(
     rt: &R,
@@ -134,8 +159,7 @@ fn write_files<R: Threads + Sync, F: Folder, O: Sink, L: Ledger, W: Ledger, S: S
     let alloc = translation.alloc;
     let plan = &translation.plan;
     let blocks = writing.blocks;
-    let cat = &translation.cat;
-    let made: Option<Lines<S>> = lines_for(alloc, writing.workers, blocks, cat, folder);
+    let made: Option<Lines<S>> = lines_of(translation, folder, writing);
     let shared = made.as_ref();
     let mut copier: Copier<F, L, W, S> = copier_for(translation, shared, writing, loads, writes)?;
     let mut samples = room_for(translation, copier.rows)?;

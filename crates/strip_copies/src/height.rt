@@ -1,6 +1,7 @@
 // How many lines are copied at a time.
 ghost use Rattle.std.specs.Prelude.{◌≡◌, ◌<◌, ◌≤◌, ◌*◌, Some, length, slice_get};
 ghost use Rattle.catalog.specs.Drivers.{Dataset};
+ghost use Rattle.strip_copies.specs.declared.height.BlockShape.TheVariants.{Squares};
 ghost use Rattle.strip_copies.specs.Heights.{has_blocks, is_cell, is_cut_in, is_mosaic, is_tall, is_woven, lane_count, lines_copied, lines_held, most_lines, strip_height};
 
 use crate::reading::Translation;
@@ -115,6 +116,14 @@ pub fn most_lines(translation: &Translation, workers: WorkerCount) -> u32
     } else {
         32 * workers.get()
     }
+}
+
+/// Whether several lanes of a translation may read the same blocks: the walk met a mosaic, whose squares each of them may
+/// need. A line of a file is read by one of them.
+pub fn shares_blocks(translation: &Translation) -> bool
+    ensures shares { result ≡ has_blocks Squares translation.now.cat }
+{
+    has_blocks(&translation.cat, BlockShape::Squares)
 }
 
 // Whether the lines of an output hold several bands, pixel by pixel.

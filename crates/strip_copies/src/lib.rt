@@ -13,6 +13,6 @@ mod rows;
 mod spans;
 
 pub use columns::Columns;
-pub use height::strip_height;
+pub use height::{shares_blocks, strip_height};
 pub use laws::plans_are_translations;
 pub use reading::{Lines, StripReader, Translation, read_lines};
