@@ -216,11 +216,12 @@ fn each_failing_call(rt: HostRuntime) {
 }
 
 // Translations, how many bytes a failing call of the output takes first, and how many calls each makes at least.
-static PUTS: [Turn; 5] = [
+static PUTS: [Turn; 6] = [
     (FIVE, Failer::Output(0), (2, 64)),
     (FIVE, Failer::Output(1), (2, 64)),
     (FIVE, Failer::Output(5), (2, 64)),
     (GRID, Failer::Output(3), (2, 64)),
+    (NESTED, Failer::Output(3), (2, 64)),
     (QUIET, Failer::Output(3), (0, 64)),
 ];
 
