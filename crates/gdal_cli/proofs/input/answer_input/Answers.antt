@@ -41,3 +41,9 @@ returns-in-Some-clause-never g c m named name was now is = c.answer_line.ensures
 
 pub returns-in-Some-clause-cause : goal.returns-in-Some-clause-cause
 returns-in-Some-clause-cause g c = causes_later _ _ _ _ _ _ _ c.in_ok-answer_pieces.ensures.cause.folder_later c.in_ok-answer_pieces.ensures.cause.out_later c.answer_line.ensures.cause
+
+pub returns-in-Some-clause-input_cause : goal.returns-in-Some-clause-input_cause
+returns-in-Some-clause-input_cause g c = record {
+  later = c.in_ok-answer_pieces.ensures.input_cause.later;
+  failed = λ is. absurd (c.answer_line.ensures.not_input is);
+}
