@@ -56,6 +56,19 @@ pub fn is_direct(plan: &Plan, columns: &Columns, height: u32, run: Run) -> bool
     are_own(columns.places.as_slice())
 }
 
+/// Whether so are all lines of the output.
+pub fn is_all_direct(plan: &Plan, columns: &Columns, height: u32) -> bool {
+    plan.rules();
+    if plan.window.h != plan.size.h || columns.count != plan.size.w {
+        return false;
+    }
+    let last = plan.size.h - 1;
+    if line_at(plan, height, 0).is_none() || line_at(plan, height, last).is_none() {
+        return false;
+    }
+    are_own(columns.places.as_slice())
+}
+
 /// Makes each sample the nearest one that a band can hold. All are of a type.
 pub fn hold_all(holding: Holding, kind: PixelType, samples: &mut [Sample])
     requires kind { All (λ v. is_in kind v ≡ true) samples.old }

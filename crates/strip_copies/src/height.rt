@@ -126,6 +126,17 @@ pub fn shares_blocks(translation: &Translation) -> bool
     has_blocks(&translation.cat, BlockShape::Squares)
 }
 
+/// How many lines that nothing shows may lie between lines that are read at once: any number where blocks are taller than a
+/// line, none where each line of a file is a block.
+pub fn lines_apart(translation: &Translation) -> u32 {
+    let cat = &translation.cat;
+    if has_blocks(cat, BlockShape::Columns) || has_blocks(cat, BlockShape::Squares) {
+        4_194_304
+    } else {
+        0
+    }
+}
+
 // Whether the lines of an output hold several bands, pixel by pixel.
 fn is_woven(plan: &Plan) -> bool
     ensures woven { result ≡ is_woven plan.now.layout (length plan.now.bands) }

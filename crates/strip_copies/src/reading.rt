@@ -1,5 +1,5 @@
 // Lines of a translation's output, read by a team of lanes.
-ghost use Rattle.std.specs.Prelude.{◌≡◌, ◌<◌, ◌≤◌, ◌+◌, ◌-◌, ◌*◌, All, IfErr, IfOk, OnOk, length, option_map, slice_get, true, Some};
+ghost use Rattle.std.specs.Prelude.{◌≡◌, ◌<◌, ◌≤◌, ◌+◌, ◌-◌, ◌*◌, All, IfErr, IfOk, OnOk, length, option_map, slice_get, false, true, Some};
 ghost use Rattle.geotransform.specs.Geo.{IsRaster};
 ghost use Rattle.outside.specs.Causes.{HasCause};
 ghost use Rattle.outside.specs.Reading.{WhereTold};
@@ -16,14 +16,14 @@ ghost use Rattle.translate_plan.specs.Plan.{out_pixel};
 ghost use Rattle.translate_plan.specs.declared.band.OutBand.{OutBand};
 ghost use Rattle.strip_copies.specs.Copies.{lines_rect, AreOf, IsDirect, IsPart, IsRoomFor, IsTranslation};
 ghost use Rattle.strip_copies.specs.Heights.{lane_count};
-ghost use Rattle.strip_copies.specs.Rows.{strip_rect, AreColumns, IsHeldIn, IsMaking};
+ghost use Rattle.strip_copies.specs.Rows.{strip_rect, AreColumns, AreIn, IsHeldIn, IsMaking};
 
 use crate::columns::Columns;
-use crate::direct::{hold_all, is_direct};
-use crate::height::{height_of, lane_count, most_lines};
+use crate::direct::{hold_all, is_all_direct, is_direct};
+use crate::height::{height_of, lane_count, lines_apart, most_lines};
 use crate::holding::Holding;
 use crate::making::{Making, area, make_lines};
-use crate::spans::{Run, run_from};
+use crate::spans::{Reach, Run, run_from};
 use band_blocks::LoadFault;
 use catalog::Catalog;
 use geotransform::{PixelType, Rect, Sample, Size};
@@ -68,6 +68,20 @@ fn room_height(most: u32, columns: u32, lines: u32) -> u32
     height_of(most, columns).min(lines)
 }
 
+// How many lines of the source there is room for: one where all of them are read straight into their place.
+fn room_lines(translation: &Translation, columns: &Columns, workers: WorkerCount) -> u32
+    requires translation { IsTranslation translation.now.cat translation.now.id translation.now.plan }
+    requires columns { columns.now.count ≤ 4194304 }
+    ensures some { 1 ≤ result }
+    ensures bound { columns.now.count * result ≤ 4194304 }
+{
+    let size = source_size(translation);
+    if is_all_direct(&translation.plan, columns, size.h) {
+        return 1;
+    }
+    room_height(most_lines(translation, workers), columns.count, size.h)
+}
+
 impl<F: Folder, L: Ledger> StripReader<F, L> {
     /// A reader for a translation with a lane for each worker, or with one where the walk met a DTED cell. Each lane holds
     /// so many blocks at a time, 1 to 65,536. It has read nothing. The room for lines has 4,194,304 samples at most.
@@ -92,7 +106,7 @@ impl<F: Folder, L: Ledger> StripReader<F, L> {
         let alloc = translation.alloc;
         let size = source_size(translation);
         let columns = Columns::new(alloc, &translation.plan, size.w)?;
-        let lines = room_height(most_lines(translation, workers), columns.count, size.h);
+        let lines = room_lines(translation, &columns, workers);
         let samples = vec![in alloc; 0; area(columns.count, lines)]?;
         let team = Team::new(alloc, lane_count(translation, workers), capacity, blank)?;
         Ok(StripReader {
@@ -172,15 +186,43 @@ struct Shown<'a, S: Scene> {
     shared: Option<&'a shared_lines::Lines<S>>,
 }
 
-// Whether the samples of a run are the pixels of its part of the source, one for one.
-fn is_direct_part<S: Scene>(shown: &Shown<S>, run: Run) -> bool
+// Lines that are read at once, and whether they are the pixels of their part of the source, one for one.
+#[derive(Clone, Copy)]
+struct Next {
+    run: Run,
+    direct: bool,
+}
+
+// The first of some lines, as many as are read at once: into their place where that can be, else into room for so many
+// lines of the source.
+fn next_run<S: Scene>(shown: &Shown<S>, rows: u32, lines: Lines) -> Next
     requires translation { IsTranslation shown.now.translation.now.cat shown.now.translation.now.id shown.now.translation.now.plan }
-    requires part { IsPart shown.now.translation.now.cat shown.now.translation.now.id shown.now.translation.now.plan shown.now.columns.now run }
-    ensures direct { result ≡ true → (d : Dataset) → slice_get shown.now.translation.now.cat shown.now.translation.now.id ≡ Some d → IsDirect shown.now.translation.now.plan d.head.size.h shown.now.columns.now run }
+    requires columns { length shown.now.columns.now.places.items ≡ shown.now.translation.now.plan.size.w }
+    requires rows { 1 ≤ rows }
+    requires order { lines.first < lines.end }
+    requires end { lines.end ≤ shown.now.translation.now.plan.size.h }
+    ensures band { result.run.band ≡ lines.band }
+    ensures first { result.run.first ≡ lines.first }
+    ensures some { lines.first < result.run.end }
+    ensures end { result.run.end ≤ lines.end }
+    ensures lines { (d : Dataset) → slice_get shown.now.translation.now.cat shown.now.translation.now.id ≡ Some d → AreIn shown.now.translation.now.plan d.head.size.h lines.first result.run.end result.run.span }
+    ensures direct { result.direct ≡ true → (d : Dataset) → slice_get shown.now.translation.now.cat shown.now.translation.now.id ≡ Some d → IsDirect shown.now.translation.now.plan d.head.size.h shown.now.columns.now result.run }
+    ensures few { result.direct ≡ false → result.run.span.height ≤ rows }
 {
-    let translation = shown.translation;
-    let height = source_size(translation).h;
-    is_direct(&translation.plan, shown.columns, height, run)
+    let plan = &shown.translation.plan;
+    let height = source_size(shown.translation).h;
+    let whole = Reach {
+        rows: 4_194_304,
+        apart: 0,
+    };
+    let run = run_from(plan, height, whole, lines.band, lines.first, lines.end);
+    if is_direct(plan, shown.columns, height, run) {
+        return Next { run, direct: true };
+    }
+    let apart = lines_apart(shown.translation);
+    let reach = Reach { rows, apart };
+    let run = run_from(plan, height, reach, lines.band, lines.first, lines.end);
+    Next { run, direct: false }
 }
 
 // The type of a band of the dataset, counted from 0.
@@ -277,22 +319,23 @@ fn read_made<R: Threads + Sync, F: Folder, L: Ledger, S: Scene>(
     Ok(())
 }
 
-// Reads the lines of a run. After a refusal `strip` and `out` are unknown.
+// Reads the lines of a run. After a refusal `samples` and `out` are unknown.
 fn read_part<R: Threads + Sync, F: Folder, L: Ledger, S: Scene>(
     rt: &R,
     shown: &Shown<S>,
     team: &mut Team<F, L>,
     folder: &mut F,
-    run: Run,
-    strip: &mut [Sample],
+    next: Next,
+    samples: &mut [Sample],
     out: &mut [Sample],
 ) -> Result<(), LoadFault>
     requires ready { AreLanesReady F.Folder S.told S.cat folder.old shown.now.translation.now.cat team.old.lanes.items }
     requires translation { IsTranslation shown.now.translation.now.cat shown.now.translation.now.id shown.now.translation.now.plan }
-    requires part { IsPart shown.now.translation.now.cat shown.now.translation.now.id shown.now.translation.now.plan shown.now.columns.now run }
-    requires strip { length strip.old ≡ shown.now.columns.now.count * run.span.height }
-    requires room { length out.old ≡ (run.end - run.first) * shown.now.translation.now.plan.size.w }
-    ensures samples { OnOk result (AreOf (F.names folder.old) shown.now.translation.now.cat shown.now.translation.now.id shown.now.translation.now.plan run.band run.first (length out.old) out.new) }
+    requires part { IsPart shown.now.translation.now.cat shown.now.translation.now.id shown.now.translation.now.plan shown.now.columns.now next.run }
+    requires direct { next.direct ≡ true → (d : Dataset) → slice_get shown.now.translation.now.cat shown.now.translation.now.id ≡ Some d → IsDirect shown.now.translation.now.plan d.head.size.h shown.now.columns.now next.run }
+    requires few { next.direct ≡ false → shown.now.columns.now.count * next.run.span.height ≤ length samples.old }
+    requires room { length out.old ≡ (next.run.end - next.run.first) * shown.now.translation.now.plan.size.w }
+    ensures samples { OnOk result (AreOf (F.names folder.old) shown.now.translation.now.cat shown.now.translation.now.id shown.now.translation.now.plan next.run.band next.run.first (length out.old) out.new) }
     ensures ready { AreLanesReady F.Folder S.told S.cat folder.new shown.now.translation.now.cat team.new.lanes.items }
     ensures lanes { length team.new.lanes.items ≡ length team.old.lanes.items }
     ensures only_read { OnlyReadByViews F.Folder folder.old folder.new }
@@ -302,10 +345,11 @@ fn read_part<R: Threads + Sync, F: Folder, L: Ledger, S: Scene>(
     ensures counted { team.old.loads ≤ team.new.loads }
     ensures reads { length team.old.lanes.items ≡ 1 → F.read_calls folder.new ≤ F.read_calls folder.old + most_calls shown.now.translation.now.cat * (team.new.loads - team.old.loads) }
 {
-    if is_direct_part(shown, run) {
-        return read_direct(rt, shown, team, folder, run, out);
+    if next.direct {
+        return read_direct(rt, shown, team, folder, next.run, out);
     }
-    read_made(rt, shown, team, folder, run, strip, out)
+    let strip = &mut samples[..area(shown.columns.count, next.run.span.height)];
+    read_made(rt, shown, team, folder, next.run, strip, out)
 }
 
 // How many lines of so many columns there is room for, at least one.
@@ -350,18 +394,20 @@ fn read_runs<R: Threads + Sync, F: Folder, L: Ledger, S: Scene>(
 {
     let plan = &shown.translation.plan;
     plan.rules();
-    let count = shown.columns.count;
-    let height = source_size(shown.translation).h;
-    let rows = lines_in(samples.len(), count);
+    let rows = lines_in(samples.len(), shown.columns.count);
     let mut line = lines.first;
     while line < lines.end {
-        let run = run_from(plan, height, rows, lines.band, line, lines.end);
+        let rest = Lines {
+            band: lines.band,
+            first: line,
+            end: lines.end,
+        };
+        let next = next_run(shown, rows, rest);
         let begin = area(line - lines.first, plan.size.w);
-        let end = area(run.end - lines.first, plan.size.w);
+        let end = area(next.run.end - lines.first, plan.size.w);
         let part = &mut out[begin..end];
-        let strip = &mut samples[..area(count, run.span.height)];
-        read_part(rt, shown, team, folder, run, strip, part)?;
-        line = run.end;
+        read_part(rt, shown, team, folder, next, samples, part)?;
+        line = next.run.end;
     }
     Ok(())
 }

@@ -21,6 +21,13 @@ pub struct Run {
     pub span: Span,
 }
 
+/// How far a span may reach: over so many lines, with at most so many between two of them that nothing shows.
+#[derive(Clone, Copy)]
+pub struct Reach {
+    pub rows: u32,
+    pub apart: u32,
+}
+
 // The span of one line, or of none.
 fn span_of(place: Option<u32>) -> Span
     ensures within { (y : ℕ) → place ≡ Some y → IsIn result y }
@@ -33,15 +40,18 @@ fn span_of(place: Option<u32>) -> Span
     }
 }
 
-// The span that has one line more, at most `rows` of them; None where it would have more, or begin earlier.
-fn reached(span: Span, rows: u32, line: u32) -> Option<Span>
+// The span that has one line more; None where it would reach too far, or begin earlier.
+fn reached(span: Span, reach: Reach, line: u32) -> Option<Span>
     requires side { span.top + span.height < 2 ^ 32 }
     ensures within { IfSome result (λ s. IsIn s line) }
     ensures kept { IfSome result (λ s. (y : ℕ) → IsIn span y → IsIn s y) }
-    ensures few { IfSome result (λ s. span.height ≤ rows → s.height ≤ rows) }
+    ensures few { IfSome result (λ s. span.height ≤ reach.rows → s.height ≤ reach.rows) }
     ensures side { IfSome result (λ s. (side : ℕ) → line < side → span.top + span.height ≤ side → s.top + s.height ≤ side) }
 {
-    if line < span.top || line - span.top >= rows {
+    if line < span.top || line - span.top >= reach.rows {
+        return None;
+    }
+    if line.saturating_sub(span.top + span.height) > reach.apart {
         return None;
     }
     let height = span.height.max(line - span.top + 1);
@@ -52,12 +62,12 @@ fn reached(span: Span, rows: u32, line: u32) -> Option<Span>
 }
 
 // The span that has the line at a place too, if there is one.
-fn widened(span: Span, rows: u32, place: Option<u32>) -> Option<Span>
-    requires rows { 1 ≤ rows }
+fn widened(span: Span, reach: Reach, place: Option<u32>) -> Option<Span>
+    requires rows { 1 ≤ reach.rows }
     requires side { span.top + span.height < 2 ^ 32 }
     ensures within { IfSome result (λ s. (y : ℕ) → place ≡ Some y → IsIn s y) }
     ensures kept { IfSome result (λ s. (y : ℕ) → IsIn span y → IsIn s y) }
-    ensures few { IfSome result (λ s. span.height ≤ rows → s.height ≤ rows) }
+    ensures few { IfSome result (λ s. span.height ≤ reach.rows → s.height ≤ reach.rows) }
     ensures side { IfSome result (λ s. (side : ℕ) → IfSome place (λ y. y < side) → span.top + span.height ≤ side → s.top + s.height ≤ side) }
 {
     match place {
@@ -66,27 +76,27 @@ fn widened(span: Span, rows: u32, place: Option<u32>) -> Option<Span>
             top: line,
             height: 1,
         }),
-        Some(line) => reached(span, rows, line),
+        Some(line) => reached(span, reach, line),
     }
 }
 
 /// Lines of the output from `first` on, at most up to `to`, that show lines of one span of a source of this height.
-/// The span has at most `rows` lines.
-pub fn run_from(plan: &Plan, height: u32, rows: u32, band: u32, first: u32, to: u32) -> Run
+/// The span reaches no further than `reach` says.
+pub fn run_from(plan: &Plan, height: u32, reach: Reach, band: u32, first: u32, to: u32) -> Run
     requires height { height ≤ 4194304 }
-    requires rows { 1 ≤ rows }
+    requires rows { 1 ≤ reach.rows }
     requires first { first < to }
     requires to { to ≤ plan.now.size.h }
     ensures band { result.band ≡ band }
     ensures first { result.first ≡ first }
     ensures some { first < result.end }
     ensures end { result.end ≤ to }
-    ensures few { result.span.height ≤ rows }
+    ensures few { result.span.height ≤ reach.rows }
     ensures lines { AreIn plan.now height first result.end result.span }
 {
     let mut span = span_of(line_at(plan, height, first));
     for line in first + 1..to {
-        match widened(span, rows, line_at(plan, height, line)) {
+        match widened(span, reach, line_at(plan, height, line)) {
             Some(wider) => span = wider,
             None => {
                 return Run {

@@ -20,11 +20,11 @@ pub read_part-requires-clause-room : goal.read_part-requires-clause-room
 read_part-requires-clause-room g c κs within =
     let w = c.args.shown.now.translation.now.plan.size.w in
     let wide : c.plan.inside.size.w ≡ w = ap (λ (p : Planned). p.size.w) c.plan.view_is in
-    let run = c.run_from-run.ensures in
+    let run = c.next_run-next.ensures in
     let begin : c.area-begin.result ≡ (c.loop-line.line - c.args.lines.first) * w = c.area-begin.ensures.area ∙ ap (λ n. (c.loop-line.line - c.args.lines.first) * n) wide in
-    let until : c.area-end.result ≡ (c.run_from-run.result.end - c.args.lines.first) * w = c.area-end.ensures.area ∙ ap (λ n. (c.run_from-run.result.end - c.args.lines.first) * n) wide in
-    let f = fits w c.args.lines.first c.loop-line.line c.run_from-run.result.end c.args.lines.end c.area-begin.result c.area-end.result (length c.loop-line.out) c.loop-line.invariant.above run.some run.end begin until (c.loop-line.auto.out ∙ c.requires.size) in
-    part_length c.area-begin.result (c.area-end.result - c.area-begin.result) c.loop-line.out f.1.0 ∙ f.1.1 ∙ ap (λ n. (c.run_from-run.result.end - n) * w) (sym run.first)
+    let until : c.area-end.result ≡ (c.next_run-next.result.run.end - c.args.lines.first) * w = c.area-end.ensures.area ∙ ap (λ n. (c.next_run-next.result.run.end - c.args.lines.first) * n) wide in
+    let f = fits w c.args.lines.first c.loop-line.line c.next_run-next.result.run.end c.args.lines.end c.area-begin.result c.area-end.result (length c.loop-line.out) c.loop-line.invariant.above run.some run.end begin until (c.loop-line.auto.out ∙ c.requires.size) in
+    part_length c.area-begin.result (c.area-end.result - c.area-begin.result) c.loop-line.out f.1.0 ∙ f.1.1 ∙ ap (λ n. (c.next_run-next.result.run.end - n) * w) (sym run.first)
 
 pub returns-in_err-read_part-clause-reads : goal.returns-in_err-read_part-clause-reads
 returns-in_err-read_part-clause-reads g c =
@@ -37,19 +37,19 @@ loop-line-preserved g c =
     let w = c.args.shown.now.translation.now.plan.size.w in
     let first = c.args.lines.first in
     let line = c.loop-line.line in
-    let end = c.run_from-run.result.end in
+    let end = c.next_run-next.result.run.end in
     let a = c.area-begin.result in
     let b = c.area-end.result - c.area-begin.result in
     let before = c.loop-line.invariant in
     let here = c.read_part.ensures in
-    let run = c.run_from-run.ensures in
+    let run = c.next_run-next.ensures in
     let wide : c.plan.inside.size.w ≡ w = ap (λ (p : Planned). p.size.w) c.plan.view_is in
     let begin : a ≡ (line - first) * w = c.area-begin.ensures.area ∙ ap (λ n. (line - first) * n) wide in
     let until : c.area-end.result ≡ (end - first) * w = c.area-end.ensures.area ∙ ap (λ n. (end - first) * n) wide in
     let f = fits w first line end c.args.lines.end a c.area-end.result (length c.loop-line.out) before.above run.some run.end begin until (c.loop-line.auto.out ∙ c.requires.size) in
     let part : length (take b (drop a c.loop-line.out)) ≡ b = part_length a b c.loop-line.out f.1.0 in
     let size : length c.read_part.new.out ≡ b = c.read_part.auto.out ∙ part in
-    let down : c.run_from-run.result.first ≡ first + (line - first) = run.first ∙ (let low = before.above in omega arith) in
+    let down : c.next_run-next.result.run.first ≡ first + (line - first) = run.first ∙ (let low = before.above in omega arith) in
     let some : 0 < w = c.rules.ensures.kept.size.some_columns in
     record {
       below = run.end;

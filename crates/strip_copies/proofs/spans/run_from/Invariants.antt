@@ -6,5 +6,5 @@ use Rattle.strip_copies.proofs.spans.run_from.Given as goal
 abbrev pub invariant-loop-line : goal.invariant-loop-line
 invariant-loop-line l = record {
   lines : AreIn l.plan l.height l.first l.line l.span;
-  few : l.span.height ≤ l.rows;
+  few : l.span.height ≤ l.reach.rows;
 }

@@ -8,11 +8,11 @@ pub returns-clause-room : goal.returns-clause-room
 returns-clause-room g c =
     let t = c.requires.translation in
     let columns = c.in_ok-columns.columns in
-    let lines = c.room_height-lines.ensures.some in
+    let lines = c.room_lines-lines.ensures.some in
     let wide = ap (λ (s : Size). s.w) (c.source_size-size.ensures.size t.dataset t.at) in
-    let most : columns.count * 1 ≤ columns.count * c.room_height-lines.result = mul-le-mul (omega arith) lines in
+    let most : columns.count * 1 ≤ columns.count * c.room_lines-lines.result = mul-le-mul (omega arith) lines in
     let one : columns.count * 1 ≡ columns.count = omega arith in
-    let size : length c.in_ok-samples.samples.items ≡ columns.count * c.room_height-lines.result = sym c.in_ok-samples.samples.ok.0 ∙ c.in_ok-samples.ensures.len ∙ c.area.ensures.area in
+    let size : length c.in_ok-samples.samples.items ≡ columns.count * c.room_lines-lines.result = sym c.in_ok-samples.samples.ok.0 ∙ c.in_ok-samples.ensures.len ∙ c.area.ensures.area in
     record {
       dataset = t.dataset;
       at = t.at;
