@@ -2,7 +2,8 @@
 use outside::{Name, NameFault};
 use std::alloc::{AllocError, Global};
 use std::test::*;
-use vrt_profile::{Document, Source, VrtBand, read, relate, resolve, resolved_len, write};
+use vrt_profile::{Document, Source, VrtBand, read, relate, resolve, resolved_len};
+use vrt_writing::write;
 
 /// Two tiles side by side, in another layout than the written one.
 const LOOSE: &[u8] = b"\xef\xbb\xbf<?xml version='1.0'?><!-- two tiles -->

@@ -1,7 +1,7 @@
 // Documents of mosaics that translations publish.
 ghost use Rattle.std.specs.Prelude.{◌≡◌, ◌++◌, ◌∷◌, [], IfErr, IfOk, Some, slice_get, true};
 ghost use Rattle.outside.specs.Outside.{Files};
-ghost use Rattle.vrt_profile.specs.Spelled.{spelled};
+ghost use Rattle.vrt_writing.specs.Spelled.{spelled};
 ghost use Rattle.catalog.specs.Drivers.{Dataset};
 ghost use Rattle.translate_plan.specs.Documents.{document_by};
 ghost use Rattle.translate_plan.specs.declared.options.Driver.TheVariants.{Vrt};

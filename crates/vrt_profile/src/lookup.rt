@@ -4,13 +4,13 @@ ghost use Rattle.std.specs.Option.{option_map};
 ghost use Rattle.vrt_profile.specs.Values.{IsPair, IsLut};
 ghost use Rattle.vrt_profile.specs.Fields.{pieces, first_piece};
 ghost use Rattle.vrt_profile.specs.Numbers.{is_above, rising_pair, next_pair, lut_from, lut_of};
-ghost use Rattle.vrt_profile.specs.Kept.{Gives};
+ghost use Rattle.vrt_markup.specs.Kept.{Gives};
 
-use crate::fault::VrtFault;
 use crate::fields::{cut_at, pair_of};
 use crate::rectangle::{Lut, LutPair};
 use lists_and_answers::Items;
 use std::alloc::Global;
+use vrt_markup::VrtFault;
 
 // Whether the pair's input is above that of the last pair.
 fn is_above(last: Option<LutPair>, pair: LutPair) -> bool

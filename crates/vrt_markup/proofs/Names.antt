@@ -1,0 +1,167 @@
+-- Names in order, each one once, are as many as before just where no attribute stands twice.
+use Rattle.std.proofs.Common.{◌≡◌, ℕ, ◌+◌, ◌≤◌, Bool, true, false, cond, not, ◌||◌, ◌&&◌, List, [], ◌∷◌, ◌++◌, map, length, Option, Some, refl, sym, ap, ◌∙◌, subst, arith, ◌==◌, IsPermutation, IsSorted}
+use Rattle.std.specs.declared.cmp.Ordering.{Ordering}
+use Rattle.std.specs.Ordering.{nat_cmp, eq_by_cmp, ordering_then}
+use Rattle.std.specs.List.{list_any, AllByRecursion, IsDistinct, dedup, dedup_from}
+use Rattle.std.specs.List.Sorted.{IsStrictlySortedBy}
+use Rattle.std.specs.Cmp.{IsTotalOrder, then_total, on_total, nat_cmp_total, unsigned_ties, both_tied}
+use Rattle.std.specs.Cmp.Lexicographic.{slice_cmp, on_texts, texts_ties, same_text}
+use Rattle.std.proofs.lemmas.Bool.Decides.{nat_tests}
+use Rattle.std.proofs.lemmas.List.{map-append, append_assoc}
+use Rattle.std.proofs.lemmas.List.Kept.{IsStrictlySortedBy-dedup}
+use Rattle.std.proofs.lemmas.List.Sorted.{IsPermutation-sym, length_permutation}
+use Rattle.std.proofs.lemmas.Map.Keys.{IsDistinct-from_sorted, IsDistinct-IsPermutation, IsDistinct-head, IsDistinct-tail, IsDistinct-cons}
+use Rattle.vrt_markup.specs.Items.{Pair, attribute, is_distinct, is_equal, is_some, pair_at, pairs}
+use Rattle.vrt_markup.specs.Keys.{key_of, last_bytes}
+use Rattle.vrt_markup.proofs.Shorter.{pairs_next}
+
+-- whether no element is the same as one behind it
+abbrev pub apart : {X : Type 0} → (X → X → Bool) → List X → Bool
+apart same [] = true
+apart same (x ∷ xs) = not (list_any (same x) xs) && apart same xs
+
+both_ways : (a b : Bool) → (a ≡ true → b ≡ true) → (b ≡ true → a ≡ true) → a ≡ b
+both_ways true b to from = sym (to refl)
+both_ways false true to from = from refl
+both_ways false false to from = refl
+
+any_case : {X : Type 0} (p : X → Bool) (x : X) (xs : List X) (a b : Bool) → p x ≡ a → list_any p xs ≡ b → (list_any p xs ≡ false → AllByRecursion (λ y. p y ≡ false) xs) → (a || b) ≡ false → AllByRecursion (λ y. p y ≡ false) (x ∷ xs)
+any_case p x xs true b e f ih h = absurd cc
+any_case p x xs false true e f ih h = absurd cc
+any_case p x xs false false e f ih h = (e, ih f)
+
+none_same : {X : Type 0} (p : X → Bool) (xs : List X) → list_any p xs ≡ false → AllByRecursion (λ y. p y ≡ false) xs
+none_same p [] h = tt
+none_same p (x ∷ xs) h = any_case p x xs (p x) (list_any p xs) refl refl (none_same p xs) h
+
+same_none : {X : Type 0} (p : X → Bool) (xs : List X) → AllByRecursion (λ y. p y ≡ false) xs → list_any p xs ≡ false
+same_none p [] h = refl
+same_none p (x ∷ xs) h = ap (λ b. b || list_any p xs) h.0 ∙ same_none p xs h.1
+
+apart_case : {X : Type 0} (same : X → X → Bool) (x : X) (xs : List X) (a b : Bool) → list_any (same x) xs ≡ a → apart same xs ≡ b → (apart same xs ≡ true → IsDistinct same xs) → (not a && b) ≡ true → IsDistinct same (x ∷ xs)
+apart_case same x xs true b e f ih h = absurd cc
+apart_case same x xs false false e f ih h = absurd cc
+apart_case same x xs false true e f ih h = IsDistinct-cons same x xs (none_same (same x) xs e) (ih f)
+
+distinct_from_apart : {X : Type 0} (same : X → X → Bool) (xs : List X) → apart same xs ≡ true → IsDistinct same xs
+unfolding IsDistinct
+distinct_from_apart same [] h = tt
+distinct_from_apart same (x ∷ xs) h = apart_case same x xs (list_any (same x) xs) (apart same xs) refl refl (distinct_from_apart same xs) h
+
+apart_from_distinct : {X : Type 0} (same : X → X → Bool) (xs : List X) → IsDistinct same xs → apart same xs ≡ true
+apart_from_distinct same [] d = refl
+apart_from_distinct same (x ∷ xs) d = ap (λ b. not b && apart same xs) (same_none (same x) xs (IsDistinct-head same x xs d)) ∙ apart_from_distinct same xs (IsDistinct-tail same x xs d)
+
+-- A list without two of the same stays as it is.
+stays_from : {X : Type 0} (same : X → X → Bool) (flips : (x y : X) → same x y ≡ same y x) (k : X) (xs : List X) → AllByRecursion (λ y. same k y ≡ false) xs → IsDistinct same xs → dedup_from same k xs ≡ k ∷ xs
+stays_from same flips k [] all d = refl
+stays_from same flips k (x ∷ xs) all d =
+    ap (λ b. cond b (dedup_from same k xs) (k ∷ dedup_from same x xs)) (flips x k ∙ all.0)
+    ∙ ap (λ ys. k ∷ ys) (stays_from same flips x xs (IsDistinct-head same x xs d) (IsDistinct-tail same x xs d))
+
+stays : {X : Type 0} (same : X → X → Bool) (flips : (x y : X) → same x y ≡ same y x) (xs : List X) → IsDistinct same xs → dedup same xs ≡ xs
+stays same flips [] d = refl
+stays same flips (x ∷ xs) d = stays_from same flips x xs (IsDistinct-head same x xs d) (IsDistinct-tail same x xs d)
+
+-- No list gets longer, and one that gets no shorter stays as it is.
+long_case : {X : Type 0} (b : Bool) (us vs : List X) (n : ℕ) → length us ≤ n → length vs ≤ n → length (cond b us vs) ≤ n
+long_case true us vs n u v = u
+long_case false us vs n u v = v
+
+from_long : {X : Type 0} (same : X → X → Bool) (k : X) (xs : List X) → length (dedup_from same k xs) ≤ length xs + 1
+from_long same k [] = omega arith
+from_long same k (x ∷ xs) = long_case (same x k) (dedup_from same k xs) (k ∷ dedup_from same x xs) (length (x ∷ xs) + 1) (omega (arith, from_long same k xs)) (omega (arith, from_long same x xs))
+
+whole_case : {X : Type 0} (b : Bool) (us vs : List X) (k x : X) (xs : List X) → length us ≤ length xs + 1 → (length vs ≡ length xs + 1 → vs ≡ x ∷ xs) → length (cond b us (k ∷ vs)) ≡ length xs + 2 → cond b us (k ∷ vs) ≡ k ∷ x ∷ xs
+whole_case true us vs k x xs le ih e = absurd (omega (arith, le, e))
+whole_case false us vs k x xs le ih e = ap (λ ys. k ∷ ys) (ih (omega (arith, e)))
+
+whole_from : {X : Type 0} (same : X → X → Bool) (k : X) (xs : List X) → length (dedup_from same k xs) ≡ length xs + 1 → dedup_from same k xs ≡ k ∷ xs
+whole_from same k [] e = refl
+whole_from same k (x ∷ xs) e = whole_case (same x k) (dedup_from same k xs) (dedup_from same x xs) k x xs (from_long same k xs) (whole_from same x xs) (omega (arith, e))
+
+whole : {X : Type 0} (same : X → X → Bool) (xs : List X) → length (dedup same xs) ≡ length xs → dedup same xs ≡ xs
+whole same [] e = refl
+whole same (x ∷ xs) e = whole_from same x xs (omega (arith, e))
+
+-- What is left of a list in order tells whether the list had two of the same.
+pub left_tells : {X : Type 0} {R : X → X → Ordering} (o : IsTotalOrder R) (same : X → X → Bool) (ties : (x y : X) → same x y ≡ eq_by_cmp R x y) (flips : (x y : X) → same x y ≡ same y x) (xs ys : List X) → IsPermutation xs ys → IsSorted R ys → (length (dedup same ys) == length xs) ≡ apart same xs
+left_tells {X} {R} o same ties flips xs ys moved sorted = both_ways (length (dedup same ys) == length xs) (apart same xs) to from
+  where
+    to : (length (dedup same ys) == length xs) ≡ true → apart same xs ≡ true
+    to e =
+        let stood = whole same ys (grind (arith, nat_tests, e, length_permutation xs ys moved)) in
+        let rises = IsDistinct-from_sorted R ys (subst (IsStrictlySortedBy R) stood (IsStrictlySortedBy-dedup o ties ys sorted)) in
+        let own : IsDistinct same ys = subst (λ e. IsDistinct e ys) (λ i x y. sym (ties x y) i) rises in
+        apart_from_distinct same xs (IsDistinct-IsPermutation same flips ys xs (IsPermutation-sym xs ys moved) own)
+
+    from : apart same xs ≡ true → (length (dedup same ys) == length xs) ≡ true
+    from e =
+        let own = IsDistinct-IsPermutation same flips xs ys moved (distinct_from_apart same xs e) in
+        grind (arith, nat_tests, ap length (stays same flips ys own), length_permutation xs ys moved)
+
+apart_map : {X Y : Type 0} (f : X → Y) (same : Y → Y → Bool) (xs : List X) → apart (λ x y. same (f x) (f y)) xs ≡ apart same (map f xs)
+apart_map f same [] = refl
+apart_map f same (x ∷ xs) = ap (λ b. not b && apart (λ x y. same (f x) (f y)) xs) (any_map xs) ∙ ap (λ b. not (list_any (same (f x)) (map f xs)) && b) (apart_map f same xs)
+  where
+    any_map : (ys : List _) → list_any (λ y. same (f x) (f y)) ys ≡ list_any (same (f x)) (map f ys)
+    any_map [] = refl
+    any_map (y ∷ ys) = ap (λ b. same (f x) (f y) || b) (any_map ys)
+
+-- keys of names
+abbrev pub same_key : ℕ × List ℕ → ℕ × List ℕ → Bool
+same_key x y = (x.0 == y.0) && is_equal x.1 y.1
+
+nat_flips : (x y : ℕ) → (x == y) ≡ (y == x)
+nat_flips x y = grind (arith, nat_tests)
+
+equal_flips : (a b : List ℕ) → is_equal a b ≡ is_equal b a
+equal_flips [] [] = refl
+equal_flips [] (y ∷ ys) = refl
+equal_flips (x ∷ xs) [] = refl
+equal_flips (x ∷ xs) (y ∷ ys) = ap (λ b. b && is_equal xs ys) (nat_flips x y) ∙ ap (λ b. (y == x) && b) (equal_flips xs ys)
+
+same_itself : (n : ℕ) → (n == n) ≡ true
+same_itself n = grind (arith, nat_tests)
+
+same_names : (a b : List ℕ) → ((last_bytes 0 a == last_bytes 0 b) && is_equal a b) ≡ is_equal b a
+same_names a b = by_case (is_equal a b) refl ∙ equal_flips a b
+  where
+    and_false : (x : Bool) → (x && false) ≡ false
+    and_false true = refl
+    and_false false = refl
+
+    and_true : (x : Bool) → x ≡ true → (x && true) ≡ true
+    and_true x e = ap (λ y. y && true) e
+
+    by_case : (t : Bool) → is_equal a b ≡ t → ((last_bytes 0 a == last_bytes 0 b) && is_equal a b) ≡ is_equal a b
+    by_case true e = ap (λ y. (last_bytes 0 a == last_bytes 0 b) && y) e ∙ and_true (last_bytes 0 a == last_bytes 0 b) (ap (λ n. last_bytes 0 a == last_bytes 0 n) (sym (same_text a b (sym e))) ∙ same_itself (last_bytes 0 a)) ∙ sym e
+    by_case false e = ap (λ y. (last_bytes 0 a == last_bytes 0 b) && y) e ∙ and_false (last_bytes 0 a == last_bytes 0 b) ∙ sym e
+
+any_name : (p : Pair) (ps : List Pair) → list_any (same_key (key_of p)) (map key_of ps) ≡ is_some (attribute p.name ps)
+any_name p [] = refl
+any_name p (q ∷ qs) = ap (λ b. b || list_any (same_key (key_of p)) (map key_of qs)) (same_names p.name q.name) ∙ ap (λ b. is_equal q.name p.name || b) (any_name p qs) ∙ found (is_equal q.name p.name) (attribute p.name qs)
+  where
+    found : (b : Bool) (o : Option (List ℕ)) → (b || is_some o) ≡ is_some (cond b (Some q.value) o)
+    found true o = refl
+    found false o = refl
+
+apart_names : (ps : List Pair) → apart same_key (map key_of ps) ≡ is_distinct ps
+apart_names [] = refl
+apart_names (p ∷ ps) = ap (λ b. not b && apart same_key (map key_of ps)) (any_name p ps) ∙ ap (λ b. not (is_some (attribute p.name ps)) && b) (apart_names ps)
+
+-- One attribute more gives its key.
+pub keys_more : {K : Type 0} (f : K → ℕ × List ℕ) (ks ms : List K) (k : K) (t : List ℕ) (p : Pair) (r : List ℕ) → ms ≡ ks ++ k ∷ [] → f k ≡ key_of p → pair_at t ≡ Some (p, r) → map f ms ++ map key_of (pairs r).0 ≡ map f ks ++ map key_of (pairs t).0
+keys_more f ks ms k t p r more same e =
+    ap (λ xs. map f xs ++ map key_of (pairs r).0) more
+    ∙ ap (λ xs. xs ++ map key_of (pairs r).0) (map-append f ks (k ∷ []))
+    ∙ append_assoc (map f ks) (f k ∷ []) (map key_of (pairs r).0)
+    ∙ ap (λ x. map f ks ++ x ∷ map key_of (pairs r).0) same
+    ∙ ap (λ (x : List Pair × List ℕ). map f ks ++ map key_of x.0) (sym (pairs_next t p r e))
+
+-- What is left of the keys in order tells whether no attribute stands twice.
+pub keys_tell : {K : Type 0} (f : K → ℕ × List ℕ) (xs ys zs : List K) (ps : List Pair) → map f xs ≡ map key_of ps → IsPermutation xs ys → IsSorted (λ x y. ordering_then (nat_cmp (f x).0 (f y).0) (slice_cmp nat_cmp (f x).1 (f y).1)) ys → zs ≡ dedup (λ x y. same_key (f x) (f y)) ys → (length zs == length xs) ≡ is_distinct ps
+keys_tell f xs ys zs ps keys moved sorted left =
+    ap (λ ws. length ws == length xs) left
+    ∙ left_tells (then_total (on_total (λ x. (f x).0) nat_cmp_total) (on_texts (λ x. (f x).1))) (λ x y. same_key (f x) (f y)) (λ x y. both_tied _ _ (nat_cmp (f x).0 (f y).0) (slice_cmp nat_cmp (f x).1 (f y).1) (unsigned_ties (f x).0 (f y).0) (texts_ties (f x).1 (f y).1)) (λ x y. ap (λ b. b && is_equal (f x).1 (f y).1) (nat_flips (f x).0 (f y).0) ∙ ap (λ b. ((f y).0 == (f x).0) && b) (equal_flips (f x).1 (f y).1)) xs ys moved sorted
+    ∙ apart_map f same_key xs ∙ ap (apart same_key) keys ∙ apart_names ps
