@@ -1,6 +1,6 @@
 use Rattle.std.proofs.Common.{◌∙◌, sym}
 use Rattle.catalog.proofs.Listings.{err_is, long_unknown, long_owns, long_of_head, long_cause}
-use Rattle.catalog.proofs.catalog.head_of.Goals as goal
+use Rattle.catalog.proofs.own_files.head_of.Goals as goal
 
 pub returns-in_err-names_within-clause-unknown : goal.returns-in_err-names_within-clause-unknown
 returns-in_err-names_within-clause-unknown g c =
