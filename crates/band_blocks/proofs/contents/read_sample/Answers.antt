@@ -1,7 +1,7 @@
 use Rattle.std.proofs.Common.{ℕ, List, [], ◌∷◌, arith}
 use Rattle.std.proofs.lemmas.List.{length-take-le}
 use Rattle.band_blocks.proofs.Samples.{sample_within}
-use Rattle.band_blocks.proofs.sample.read_sample.Goals as goal
+use Rattle.band_blocks.proofs.contents.read_sample.Goals as goal
 
 pub place_of-requires-clause-long : goal.place_of-requires-clause-long
 place_of-requires-clause-long g c = (g.F.Folder.file_len c.args.file.now, c.requires.long)
