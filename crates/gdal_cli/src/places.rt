@@ -2,7 +2,7 @@
 ghost use Rattle.std.specs.Prelude.{◌≡◌, ◌<◌, IfSome, pos};
 ghost use Rattle.geotransform.specs.Print.{unit};
 ghost use Rattle.geotransform.specs.Places.{floor_of};
-ghost use Rattle.gdal_cli.specs.Location.{within, place_of};
+ghost use Rattle.gdal_cli.specs.Location.{within, column_and_line};
 
 use geotransform::{GeoTransform, Ticks, floor_of};
 use input_points::Position;
@@ -28,8 +28,8 @@ fn floor(number: Position) -> i128
 
 /// The column and the line of a point, which may be off the raster.
 #[tactic(auto, using(crate::proofs::Placed::read_near))]
-pub fn place_of(frame: Option<GeoTransform>, x: Position, y: Position) -> (i128, i128)
-    ensures place { result ≡ place_of frame x y }
+pub fn column_and_line(frame: Option<GeoTransform>, x: Position, y: Position) -> (i128, i128)
+    ensures place { result ≡ column_and_line frame x y }
 {
     match frame {
         None => (floor(x), floor(y)),
