@@ -1,14 +1,7 @@
--- Lemmas on texts.
+-- Products that stay small.
 use Rattle.geotransform.proofs.Numbers.{product_bound}
-use Rattle.std.proofs.Common.{ℤ, pos, ◌*ℤ◌, unsigned_abs, ◌≡◌, ℕ, Bool, List, map, IsTrue, ◌↔◌, ◌≤◌, ◌*◌, ◌^◌, ◌<◌, arith}
+use Rattle.std.proofs.Common.{ℤ, pos, ◌*ℤ◌, unsigned_abs, ℕ, ◌≤◌, ◌*◌, ◌^◌, ◌<◌, arith}
 use Rattle.std.proofs.Math.Nat.{mul-le-mul}
-use Rattle.std.specs.Char.{to_ascii_lowercase}
-use Rattle.std.specs.Cmp.Lexicographic.{bytes_decides}
-use Rattle.std.proofs.lemmas.Bool.Decides.{same_from_decides}
-use Rattle.ascii_grid.specs.Values.{is_same}
-
-pub same_by : (r : Bool) (a b : List ℕ) → IsTrue r ↔ (map to_ascii_lowercase a ≡ map to_ascii_lowercase b) → r ≡ is_same a b
-same_by r a b h = same_from_decides r (is_same a b) (h.0, h.1) (bytes_decides (map to_ascii_lowercase a) (map to_ascii_lowercase b))
 
 pub product_small : (a b : ℕ) → a ≤ 4194304 → b ≤ 4194304 → a * b ≤ 2 ^ 44
 product_small a b p q = mul-le-mul p q
