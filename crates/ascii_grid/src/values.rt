@@ -11,7 +11,9 @@ use crate::faults::GridFault;
 use crate::parts::{Coordinate, Side, Step, Value};
 use crate::tokens::is_white;
 use geotransform::decimal::{digits_at, sign_at};
-use geotransform::{PixelType, holds, is_decimal, read_decimal, read_number, read_whole};
+use geotransform::{
+    MOST_SIDE, PixelType, holds, is_decimal, read_decimal, read_number, read_whole,
+};
 use lists_and_answers::same_letters;
 
 /// Whether a token in a key's place ends the head.
@@ -33,7 +35,7 @@ pub fn side_in(at: u64, text: &[u8]) -> Result<Side, GridFault>
     if text.len() > 9 || n == 0 {
         return Err(GridFault::BadToken(at));
     }
-    if n > 4_194_304 {
+    if n > MOST_SIDE as u64 {
         return Err(GridFault::Limit);
     }
     Ok(Side::new(n as u32))

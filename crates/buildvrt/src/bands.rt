@@ -19,7 +19,7 @@ use std::alloc::{AllocError, Global};
 use vrt_profile::{BandList, MicroRect, Source, SourceList, VrtBand, plain_source, whole_rect};
 
 /// The greatest number of bands, and of sources, of a document.
-const MOST_BANDS: usize = 256;
+const MOST_BANDS: usize = geotransform::MOST_BANDS as usize;
 
 const MOST_SOURCES: usize = 262_144;
 

@@ -5,8 +5,8 @@ ghost use Rattle.esri_hdr.specs.Head.{IsHead};
 ghost use Rattle.translate_plan.specs.Plan.{plan_of, planned_by, first_band, raw_head, IsOutBand, IsPlan};
 ghost use Rattle.translate_plan.specs.declared.options.Driver.TheVariants.{EHdr};
 
-use crate::band::OutBand;
-use crate::bands::{MOST_BANDS, out_table};
+use crate::band::{MOST_BANDS, OutBand};
+use crate::bands::out_table;
 use crate::fits::raw_in;
 use crate::options::{Driver, TranslateOptions};
 use crate::window::Window;
