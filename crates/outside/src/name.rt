@@ -11,8 +11,8 @@ use lists_and_answers::Items;
 use std::alloc::{AllocError, Global};
 use std::marker::Model;
 
-// The greatest length of a name in bytes, before and after it is normalised.
-const LONGEST: usize = 4096;
+/// The greatest length of a name in bytes, before and after it is normalised.
+pub const LONGEST_NAME: usize = 4096;
 
 /// Why a text gives no name.
 #[derive(Clone, Copy, Debug, PartialEq, Eq)]
@@ -179,7 +179,7 @@ impl Name {
         if text.is_empty() {
             return Err(NameFault::Empty);
         }
-        if text.len() > LONGEST {
+        if text.len() > LONGEST_NAME {
             return Err(NameFault::TooLong);
         }
         Ok(Name {
