@@ -26,5 +26,6 @@ pub use driver::DriverHead;
 pub use faults::{Bad, LimitKind, WalkFault};
 pub use head::Head;
 pub use kind::{BandHead, Bands, Kind};
+pub use links::MOST_SOURCES;
 pub use nodata::NodataWord;
 pub use own_files::head_of;
