@@ -9,7 +9,7 @@ ghost use Rattle.gdal_cli.specs.Lanes.{IsReadyWith};
 ghost use Rattle.gdal_cli.specs.Location.{told_text, point_text, PutsText};
 ghost use Rattle.gdal_cli.specs.Pixels.{IsOnRaster, AreBands};
 
-use crate::places::{column_and_line, within};
+use crate::point_pixels::{column_and_line, within};
 use crate::reader::{PixelReader, PointReader, Question, Room};
 use crate::values::read_values;
 use catalog::Catalog;

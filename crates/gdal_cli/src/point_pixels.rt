@@ -1,4 +1,4 @@
-// The places of points.
+// The pixels in which points lie.
 ghost use Rattle.std.specs.Prelude.{◌≡◌, ◌<◌, IfSome, pos};
 ghost use Rattle.geotransform.specs.Print.{unit};
 ghost use Rattle.geotransform.specs.Places.{floor_of};
