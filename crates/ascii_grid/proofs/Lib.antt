@@ -1,4 +1,4 @@
-pub mod Texts
+pub mod Products
 pub mod Bodies
 pub mod Pieces
 pub mod Whole

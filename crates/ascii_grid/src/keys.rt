@@ -5,32 +5,33 @@ ghost use Rattle.ascii_grid.specs.Keys.{key_of, with_value, edge_of, steps_of, p
 
 use crate::faults::GridFault;
 use crate::parts::{Found, Key, LowerLeft, Shape, Side, Step};
-use crate::values::{coordinate_in, is_same, nodata_in, side_in, step_in};
+use crate::values::{coordinate_in, nodata_in, side_in, step_in};
 use geotransform::{GeoTransform, Ticks};
+use lists_and_answers::same_letters;
 
 /// The key that a token names.
 pub fn key_of(text: &[u8]) -> Option<Key>
     ensures { result ≡ key_of text.now }
 {
-    if is_same(text, b"ncols") {
+    if same_letters(text, b"ncols") {
         Some(Key::Ncols)
-    } else if is_same(text, b"nrows") {
+    } else if same_letters(text, b"nrows") {
         Some(Key::Nrows)
-    } else if is_same(text, b"xllcorner") {
+    } else if same_letters(text, b"xllcorner") {
         Some(Key::Xllcorner)
-    } else if is_same(text, b"xllcenter") {
+    } else if same_letters(text, b"xllcenter") {
         Some(Key::Xllcenter)
-    } else if is_same(text, b"yllcorner") {
+    } else if same_letters(text, b"yllcorner") {
         Some(Key::Yllcorner)
-    } else if is_same(text, b"yllcenter") {
+    } else if same_letters(text, b"yllcenter") {
         Some(Key::Yllcenter)
-    } else if is_same(text, b"cellsize") {
+    } else if same_letters(text, b"cellsize") {
         Some(Key::Cellsize)
-    } else if is_same(text, b"dx") {
+    } else if same_letters(text, b"dx") {
         Some(Key::Dx)
-    } else if is_same(text, b"dy") {
+    } else if same_letters(text, b"dy") {
         Some(Key::Dy)
-    } else if is_same(text, b"NODATA_value") {
+    } else if same_letters(text, b"NODATA_value") {
         Some(Key::Nodata)
     } else {
         None
@@ -89,7 +90,7 @@ fn steps_of(cellsize: Option<Step>, dx: Option<Step>, dy: Option<Step>) -> Optio
 }
 
 // The height of so many rows of pixels.
-#[tactic(auto, using(crate::proofs::Texts::height_small))]
+#[tactic(auto, using(crate::proofs::Products::height_small))]
 fn height_of(h: Side, step: Step) -> i128
     ensures value { result ≡ pos (h * step) }
     ensures bound { unsigned_abs result ≤ 4194304 * (18 * 10 ^ 28) }

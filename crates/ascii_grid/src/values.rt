@@ -3,7 +3,7 @@ ghost use Rattle.std.specs.Prelude.{◌≡◌, ◌≤◌, ◌<◌, ℕ, ℤ, tru
 ghost use Rattle.std.specs.List.{list_all};
 ghost use Rattle.std.specs.Char.{is_ascii_digit};
 ghost use Rattle.geotransform.specs.Decimal.{number, signed};
-ghost use Rattle.ascii_grid.specs.Values.{is_same, is_body_start, side_in, coordinate_in, step_in, when_value, nodata_in, is_whole_end, value_in, is_value, has_value};
+ghost use Rattle.ascii_grid.specs.Values.{is_body_start, side_in, coordinate_in, step_in, when_value, nodata_in, is_whole_end, value_in, is_value, has_value};
 ghost use Rattle.ascii_grid.specs.Tokens.{is_white};
 ghost use Rattle.ascii_grid.specs.Row.{value_or_zero};
 
@@ -11,14 +11,10 @@ use crate::faults::GridFault;
 use crate::parts::{Coordinate, Side, Step, Value};
 use crate::tokens::is_white;
 use geotransform::decimal::{digits_at, sign_at};
-use geotransform::{PixelType, holds, is_decimal, read_decimal, read_number, read_whole};
-
-/// Whether two texts differ at most in the case of ASCII letters.
-pub fn is_same(a: &[u8], b: &[u8]) -> bool
-    ensures { result ≡ is_same a.now b.now }
-{
-    a.eq_ignore_ascii_case(b)
-}
+use geotransform::{
+    MOST_SIDE, PixelType, holds, is_decimal, read_decimal, read_number, read_whole,
+};
+use lists_and_answers::same_letters;
 
 /// Whether a token in a key's place ends the head.
 pub fn is_body_start(text: &[u8]) -> bool
@@ -39,7 +35,7 @@ pub fn side_in(at: u64, text: &[u8]) -> Result<Side, GridFault>
     if text.len() > 9 || n == 0 {
         return Err(GridFault::BadToken(at));
     }
-    if n > 4_194_304 {
+    if n > MOST_SIDE as u64 {
         return Err(GridFault::Limit);
     }
     Ok(Side::new(n as u32))
@@ -82,7 +78,7 @@ fn when_value(n: Option<i128>) -> Option<Value>
 pub fn nodata_in(at: u64, text: &[u8]) -> Result<Option<Value>, GridFault>
     ensures { result ≡ nodata_in at text.now }
 {
-    if is_decimal(text) || is_same(text, b"nan") {
+    if is_decimal(text) || same_letters(text, b"nan") {
         Ok(when_value(read_whole(text)))
     } else {
         Err(GridFault::BadToken(at))

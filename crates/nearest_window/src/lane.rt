@@ -21,17 +21,17 @@ ghost use Rattle.nearest_window.specs.Taken.{place_at};
 ghost use Rattle.nearest_window.specs.Wanted.{IsWanted, numbers_of};
 
 use crate::asking::{Asked, asked_of};
+use crate::block_parts::{
+    Part, Rows, cost_of, has_cells, has_large_sources, is_straight, part_of, pixel_rect, rows_end,
+    rows_of,
+};
 use crate::canvas::{Canvas, is_wanted};
 use crate::indexes::Indexes;
 use crate::indexing::wanted_in;
 use crate::missed::Missed;
 use crate::paint::paint_rows;
-use crate::parts::{
-    Part, Rows, cost_of, has_cells, has_large_sources, is_straight, part_of, pixel_rect, rows_end,
-    rows_of,
-};
 use crate::picture::Picture;
-use crate::places::Span;
+use crate::picture_places::Span;
 use crate::recalled::Recalled;
 use crate::sharing::{Supply, offer_to, shown_in};
 use crate::taking::taking_of;

@@ -2,6 +2,7 @@
 #![tactic(auto)]
 
 mod asking;
+mod block_parts;
 mod canvas;
 mod indexes;
 mod indexing;
@@ -10,9 +11,8 @@ mod laws;
 mod merging;
 mod missed;
 mod paint;
-mod parts;
 mod picture;
-mod places;
+mod picture_places;
 mod recalled;
 mod sharing;
 mod taking;

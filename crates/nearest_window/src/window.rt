@@ -15,7 +15,7 @@ ghost use Rattle.nearest_window.specs.Shown.{IsInBand, IsWindow, IsPictureOf, Is
 
 use crate::Lane;
 use crate::picture::Picture;
-use crate::places::Places;
+use crate::picture_places::Places;
 use crate::sharing::Supply;
 use crate::taking::Taking;
 use band_blocks::{LoadFault, Steps};

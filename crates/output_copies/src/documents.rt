@@ -10,8 +10,8 @@ ghost use Rattle.error_lines.specs.Steps.{Publishes, all_done, Goes};
 ghost use Rattle.output_copies.specs.Copying.{MayEnd};
 ghost use Rattle.output_copies.specs.Steps.{progress, unless_quiet};
 
-use crate::output::Writing;
 use crate::progress::put_progress;
+use crate::writing::Writing;
 use error_lines::Fault;
 use outside::{Folder, Name, Sink};
 use published_files::publish_document;

@@ -6,5 +6,7 @@ mod documents;
 mod output;
 mod progress;
 mod texts;
+mod writing;
 
-pub use output::{Writing, write_output};
+pub use output::write_output;
+pub use writing::Writing;

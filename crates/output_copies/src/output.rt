@@ -16,10 +16,11 @@ ghost use Rattle.output_copies.specs.Steps.{files_by, progress, raster_of, trans
 use crate::copying::{Copier, area, copy_all};
 use crate::documents::write_document;
 use crate::texts::{put_end, put_size};
+use crate::writing::Writing;
 use error_lines::Fault;
 use geotransform::Sample;
-use lane_teams::{WorkerCount, lines_for};
-use outside::{Folder, Name, Sink, Steps};
+use lane_teams::lines_for;
+use outside::{Folder, Sink, Steps};
 use shared_lines::{Lines, Scene};
 use std::marker::Brand;
 use std::sync::ledger::{Blank, Ledger};
@@ -27,16 +28,6 @@ use std::thread::Threads;
 use strip_copies::{StripReader, Translation, shares_blocks, strip_height};
 use translate_plan::Driver;
 use write_back::Target;
-
-/// How an output is written: under which name, with how many blocks held at a time by each worker that reads and by what
-/// is written, by how many workers, and whether nothing is told of the work.
-#[derive(Clone, Copy)]
-pub struct Writing<'a> {
-    pub name: &'a Name,
-    pub blocks: u32,
-    pub workers: WorkerCount,
-    pub quiet: bool,
-}
 
 // What a translation's lines are copied with.
 fn copier_for<'a, F: Folder, L: Ledger, W: Ledger, S: Scene>(
