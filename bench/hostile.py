@@ -11,6 +11,7 @@ past its bound. With WORDs only those rows are run whose names have one of them.
 past a bound or end otherwise than they have to; the status is 0 where there is none.
 
 The machine has to be idle. A peak of less than about 9 MiB isn't seen. The files take 70 MB at a time."""
+import argparse
 import os
 import shutil
 import subprocess
@@ -316,20 +317,16 @@ def try_row(program, times, start, what, files, words, status, line):
     return is_said and is_within
 
 
-def value_of(flag, words, otherwise):
-    if flag not in words:
-        return otherwise
-    at = words.index(flag)
-    value = words[at + 1]
-    del words[at : at + 2]
-    return value
-
-
 def main(words):
-    times, folder = int(value_of("--times", words, "3")), value_of("--folder", words, None)
-    if not words or not os.access(words[0], os.X_OK):
-        sys.exit("bench/hostile.py PROGRAM [--times N] [--folder FOLDER] [WORD..]: the built program")
-    program, wanted = os.path.realpath(words[0]), words[1:]
+    parser = argparse.ArgumentParser(prog="bench/hostile.py", description="files that are made to cost a reader much")
+    parser.add_argument("program", help="the built program")
+    parser.add_argument("wanted", nargs="*", metavar="WORD", help="rows whose names have this word; all, if there is none")
+    parser.add_argument("--times", type=int, default=3, help="runs of each")
+    parser.add_argument("--folder", help="where the files are made")
+    said = parser.parse_intermixed_args(words)
+    if not os.access(said.program, os.X_OK):
+        parser.error(f"{said.program} is no program")
+    program, wanted, times, folder = os.path.realpath(said.program), said.wanted, said.times, said.folder
     room = folder or tempfile.mkdtemp(prefix="hostile-")
     os.makedirs(room, exist_ok=True)
     os.chdir(room)

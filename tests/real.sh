@@ -11,19 +11,23 @@ trap 'chmod -R u+w "$room"; rm -rf "$room"' EXIT
 cp "$sample"/hills.* .
 tried=0 failed=0
 
+# judge WHAT CAME STATUS ERROR-LINE: the status that came, and the first line on the error stream
+judge() {
+    tried=$((tried + 1))
+    if [ "$2" -eq "$3" ] && [ "$(head -n 1 err.txt)" = "$4" ]; then
+        echo "as it is to be: $1"
+    else
+        failed=$((failed + 1))
+        echo "FAILED: $1: status $2, $(head -n 1 err.txt)"
+    fi
+}
+
 # expect WHAT STATUS ERROR-LINE WORDS..: the status and the first line on the error stream
 expect() {
     what=$1 status=$2 line=$3
     shift 3
-    tried=$((tried + 1))
     timeout 20 "$program" "$@" >out.txt 2>err.txt </dev/null
-    came=$?
-    if [ "$came" -eq "$status" ] && [ "$(head -n 1 err.txt)" = "$line" ]; then
-        echo "as it is to be: $what"
-    else
-        failed=$((failed + 1))
-        echo "FAILED: $what: status $came, $(head -n 1 err.txt)"
-    fi
+    judge "$what" $? "$status" "$line"
 }
 
 # holds WHAT COMMAND..
@@ -92,16 +96,9 @@ fi
 streams() {
     what=$1 status=$2 line=$3 how=$4
     shift 4
-    tried=$((tried + 1))
     rm -f err.txt
     bash -c "\"\$@\" $how" bash timeout 20 "$program" "$@"
-    came=$?
-    if [ "$came" -eq "$status" ] && [ "$(head -n 1 err.txt)" = "$line" ]; then
-        echo "as it is to be: $what"
-    else
-        failed=$((failed + 1))
-        echo "FAILED: $what: status $came, $(head -n 1 err.txt)"
-    fi
+    judge "$what" $? "$status" "$line"
 }
 streams 'an output stream that is closed' 2 'ERROR 3: writing the output failed' '2>err.txt >&-' gdal_translate hills.bil closed.bil
 holds 'without which nothing is made' test ! -e closed.bil
