@@ -110,32 +110,38 @@ const DOCUMENTS: [(&[u8], u8, u64); 46] = [
         0,
     ),
     (
-        b"<VRTDataset rasterXSize='1' rasterYSize='1'><VRTRasterBand><NoDataValue/><NoDataValue/></VRTRasterBand></VRTDataset>",
+        b"<VRTDataset rasterXSize='1' rasterYSize='1'><VRTRasterBand><NoDataValue/><NoDataValue/></VRTRasterBand>\
+        </VRTDataset>",
         5,
         0,
     ),
     (
-        b"<VRTDataset rasterXSize='1' rasterYSize='1'><VRTRasterBand><SimpleSource resampling='cubic'/></VRTRasterBand></VRTDataset>",
+        b"<VRTDataset rasterXSize='1' rasterYSize='1'><VRTRasterBand><SimpleSource resampling='cubic'/></VRTRasterBand>\
+        </VRTDataset>",
         5,
         0,
     ),
     (
-        b"<VRTDataset rasterXSize='1' rasterYSize='1'><VRTRasterBand><SimpleSource resampling='NEAR'/></VRTRasterBand></VRTDataset>",
+        b"<VRTDataset rasterXSize='1' rasterYSize='1'><VRTRasterBand><SimpleSource resampling='NEAR'/></VRTRasterBand>\
+        </VRTDataset>",
         3,
         0,
     ),
     (
-        b"\xef\xbb\xbf<?xml version='1.0'?><!-- a --> <VRTDataset rasterXSize='1' rasterYSize='1'><VRTRasterBand/></VRTDataset>\n",
+        b"\xef\xbb\xbf<?xml version='1.0'?><!-- a --> <VRTDataset rasterXSize='1' rasterYSize='1'><VRTRasterBand/>\
+        </VRTDataset>\n",
         0,
         0,
     ),
     (
-        b"<VRTDataset rasterXSize='1' rasterYSize='1'><GeoTransform> 0, 1,0,0,0,-1 </GeoTransform><Metadata><a>x</a></Metadata><VRTRasterBand/></VRTDataset>",
+        b"<VRTDataset rasterXSize='1' rasterYSize='1'><GeoTransform> 0, 1,0,0,0,-1 </GeoTransform><Metadata><a>x</a>\
+        </Metadata><VRTRasterBand/></VRTDataset>",
         0,
         0,
     ),
     (
-        b"<VRTDataset rasterXSize='1' rasterYSize='1'><VRTRasterBand><NoDataValue> 256 </NoDataValue></VRTRasterBand></VRTDataset>",
+        b"<VRTDataset rasterXSize='1' rasterYSize='1'><VRTRasterBand><NoDataValue> 256 </NoDataValue></VRTRasterBand>\
+        </VRTDataset>",
         0,
         0,
     ),
@@ -165,7 +171,8 @@ fn dataset_fault(alloc: Global, inside: &[u8]) -> Result<(u8, u64), Fail> {
     Ok(fault_of(alloc, &text))
 }
 
-// What stands in a dataset, each with the number of its fault and its place, where the dataset's start tag has 44 bytes.
+// What stands in a dataset, each with the number of its fault and its place, where the dataset's start tag has 44
+// bytes.
 const RULES: [(&[u8], u8, u64); 26] = [
     (b"", 3, 0),
     (b"<VRTRasterBand/>", 0, 0),
@@ -232,7 +239,8 @@ const RULES: [(&[u8], u8, u64); 26] = [
         0,
     ),
     (
-        b"<VRTRasterBand><SimpleSource><SourceFilename relativeToVRT='2'>a</SourceFilename></SimpleSource></VRTRasterBand>",
+        b"<VRTRasterBand><SimpleSource><SourceFilename relativeToVRT='2'>a</SourceFilename></SimpleSource>\
+        </VRTRasterBand>",
         4,
         0,
     ),

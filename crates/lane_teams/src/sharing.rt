@@ -7,9 +7,9 @@ use outside::Folder;
 use shared_lines::{Lines, Scene};
 use std::alloc::Global;
 
-/// So many empty lines, from 1 to 65,536, for what several workers read of a catalog. They stand for the catalog and for
-/// the folder's files, as both are now. There are none where one worker reads, nor where memory is refused for them: all is
-/// read without lines then.
+/// So many empty lines, from 1 to 65,536, for what several workers read of a catalog. They stand for the catalog and
+/// for the folder's files, as both are now. There are none where one worker reads, nor where memory is refused for
+/// them: all is read without lines then.
 pub fn lines_for<F: Folder, S: Scene>(
     alloc: Global,
     workers: WorkerCount,

@@ -17,8 +17,8 @@ use std::thread::Threads;
 use strip_copies::{Lines, StripReader, Translation, read_lines};
 use write_back::Target;
 
-/// What lines are copied with: a reader, the lines that its lanes share, if there are any, the count of the blocks that are
-/// written, how many lines are copied at a time, and whether nothing is told.
+/// What lines are copied with: a reader, the lines that its lanes share, if there are any, the count of the blocks that
+/// are written, how many lines are copied at a time, and whether nothing is told.
 #[derive(Drop)]
 pub struct Copier<'a, F: Folder, L: Ledger, W: Ledger, S: Scene> {
     pub reader: StripReader<F, L>,

@@ -1,4 +1,5 @@
-// Outputs of translations: copied strip by strip from a team of lanes into a target, or made as a document, and published.
+// Outputs of translations: copied strip by strip from a team of lanes into a target, or made as a document, and
+// published.
 #![tactic(auto)]
 
 mod copying;

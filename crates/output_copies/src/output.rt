@@ -94,8 +94,8 @@ fn publish<F: Folder, W: Ledger>(
     }
 }
 
-// The lines that the lanes of several workers share, as many as blocks are held, where they may read the same blocks. There
-// are none where memory is refused for them.
+// The lines that the lanes of several workers share, as many as blocks are held, where they may read the same blocks.
+// There are none where memory is refused for them.
 fn lines_of<F: Folder, S: Scene>(
     translation: &Translation,
     folder: &F,
@@ -205,9 +205,10 @@ fn write_planned<R: Threads + Sync, F: Folder, O: Sink>(
 }
 
 /// Does a translation: tells the size of the source, copies the pixels of the output strip by strip, telling how far
-/// it is, publishes the files of the output, each whole, its data first, and tells that it is done. Of a mosaic no pixel
-/// is copied, and its document is published. The name's extension is one of the plan's driver, and 1 to 65,536 blocks
-/// are held at a time by each worker. What is told and published is the same for every number of blocks and of workers.
+/// it is, publishes the files of the output, each whole, its data first, and tells that it is done. Of a mosaic no
+/// pixel is copied, and its document is published. The name's extension is one of the plan's driver, and 1 to 65,536
+/// blocks are held at a time by each worker. What is told and published is the same for every number of blocks and of
+/// workers.
 ///
 /// FolderFault and OutFault come only where the count of the folder and of the output rose, Changed only where a file
 /// was opened again and had another length than the walk found, or was absent, and Memory freely. All names but those

@@ -2,8 +2,8 @@
 use lane_teams::WorkerCount;
 use outside::Name;
 
-/// How an output is written: under which name, with how many blocks held at a time by each worker that reads and by what
-/// is written, by how many workers, and whether nothing is told of the work.
+/// How an output is written: under which name, with how many blocks held at a time by each worker that reads and by
+/// what is written, by how many workers, and whether nothing is told of the work.
 #[derive(Clone, Copy)]
 pub struct Writing<'a> {
     pub name: &'a Name,

@@ -14,8 +14,8 @@ use std::marker::Brand;
 use std::sync::ledger::{Blank, Ledger};
 use std::test::*;
 
-// How the mosaics name one another: so many times, each shifted, by sources without a test or by sources whose NODATA is
-// everywhere, so that each of them has to be asked.
+// How the mosaics name one another: so many times, each shifted, by sources without a test or by sources whose NODATA
+// is everywhere, so that each of them has to be asked.
 #[derive(Clone, Copy)]
 struct Shape {
     // The rectangle of each time, as the document has it.
@@ -117,7 +117,8 @@ fn push_source(text: &mut Vec<u8>, below: &str, place: &[u8], tested: bool) -> R
 
 // What stands before the sources of a document.
 const OPENING: &[u8] =
-    b"<VRTDataset rasterXSize=\"24\" rasterYSize=\"24\"><VRTRasterBand dataType=\"Byte\"><NoDataValue>255</NoDataValue>";
+    b"<VRTDataset rasterXSize=\"24\" rasterYSize=\"24\"><VRTRasterBand dataType=\"Byte\">\
+    <NoDataValue>255</NoDataValue>";
 
 // The document of a mosaic.
 fn document(alloc: Global, below: &str, shape: Shape) -> Result<Vec<u8>, Fail> {

@@ -1,17 +1,17 @@
-// Bands of more than 16 sources: they are indexed by lines, and each line's list has to be the band's own, in the order of
-// the document.
+// Bands of more than 16 sources: they are indexed by lines, and each line's list has to be the band's own, in the order
+// of the document.
 use crate::reads::{Job, Picture, Place, shows};
 use geotransform::Sample;
 use outside::{CalmFolder, Name, Never};
 use std::alloc::Global;
 use std::test::*;
 
-// A source: its first column, its top in tenths of a line, its columns, and its height in tenths of a line. It shows the
-// columns and lines of the file from the first on.
+// A source: its first column, its top in tenths of a line, its columns, and its height in tenths of a line. It shows
+// the columns and lines of the file from the first on.
 type Source = (u32, u32, u32, u32);
 
-// They begin and end above and below the centres of lines, overlap, and stand in no order; one has a line alone, and one
-// lies between two centres.
+// They begin and end above and below the centres of lines, overlap, and stand in no order; one has a line alone, and
+// one lies between two centres.
 const FIRST: [Source; 20] = [
     (128, 30, 9, 35),
     (135, 164, 10, 72),

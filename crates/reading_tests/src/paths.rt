@@ -10,8 +10,8 @@ use std::test::*;
 // NODATA, and that of each source, is 255.
 const SHIFTS: [(usize, usize); 3] = [(0, 0), (0, 1), (1, 0)];
 
-// The mosaics, from the last to the first, and the file that the last one names. They have 24 columns and lines, but for the
-// first mosaic, whose 24 columns stand behind 128 in which there is nothing.
+// The mosaics, from the last to the first, and the file that the last one names. They have 24 columns and lines, but
+// for the first mosaic, whose 24 columns stand behind 128 in which there is nothing.
 const NAMES: [&str; 17] = [
     "a.bil", "m15.vrt", "m14.vrt", "m13.vrt", "m12.vrt", "m11.vrt", "m10.vrt", "m9.vrt", "m8.vrt",
     "m7.vrt", "m6.vrt", "m5.vrt", "m4.vrt", "m3.vrt", "m2.vrt", "m1.vrt", "m0.vrt",
@@ -116,7 +116,8 @@ fn push_source(
 fn document(alloc: Global, below: &str, columns: usize) -> Result<Vec<u8>, Fail> {
     let width = columns.saturating_add(24);
     let opening = format!(in alloc;
-        "<VRTDataset rasterXSize=\"{width}\" rasterYSize=\"24\"><VRTRasterBand dataType=\"Byte\"><NoDataValue>255</NoDataValue>"
+        "<VRTDataset rasterXSize=\"{width}\" rasterYSize=\"24\"><VRTRasterBand dataType=\"Byte\">\
+        <NoDataValue>255</NoDataValue>"
     )?;
     let mut text = Vec::from_slice(alloc, opening.as_bytes())?;
     for (right, down) in SHIFTS {

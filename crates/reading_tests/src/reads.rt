@@ -227,8 +227,8 @@ fn count_in(windows: &[Place]) -> usize {
     count as usize
 }
 
-/// The samples of windows of the dataset of a name, one behind the other, or marks in their place. None where the walk is
-/// refused, or the dataset has another size.
+/// The samples of windows of the dataset of a name, one behind the other, or marks in their place. None where the walk
+/// is refused, or the dataset has another size.
 pub fn samples_of<F: Folder>(alloc: Global, folder: &mut F, job: Job) -> Result<Vec<Sample>, Fail> {
     let mut samples = vec![in alloc; REFUSED; count_in(job.windows)]?;
     if read_into(alloc, folder, job, samples.as_mut_slice())? {

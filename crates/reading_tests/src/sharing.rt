@@ -121,7 +121,8 @@ fn lanes_give<F: Folder>(
 }
 
 const MOSAIC: &[u8] =
-    b"<VRTDataset rasterXSize=\"4\" rasterYSize=\"4\"><VRTRasterBand dataType=\"Byte\" band=\"1\"><SimpleSource><SourceFilename relativeToVRT=\"1\">four.bil</SourceFilename></SimpleSource></VRTRasterBand></VRTDataset>";
+    b"<VRTDataset rasterXSize=\"4\" rasterYSize=\"4\"><VRTRasterBand dataType=\"Byte\" band=\"1\"><SimpleSource>\
+    <SourceFilename relativeToVRT=\"1\">four.bil</SourceFilename></SimpleSource></VRTRasterBand></VRTDataset>";
 
 const FOUR: [u8; 16] = [1, 2, 3, 4, 5, 6, 7, 8, 9, 10, 11, 12, 13, 14, 15, 16];
 

@@ -126,13 +126,36 @@ fn pixel(image: Image, x: u32, y: u32) -> u8 {
 }
 
 const ONE: &[u8] =
-    b"<VRTDataset rasterXSize=\"1100\" rasterYSize=\"1000\"><VRTRasterBand dataType=\"Byte\" band=\"1\"><NoDataValue>255</NoDataValue><SimpleSource><SourceFilename relativeToVRT=\"1\">first.bil</SourceFilename><SourceBand>1</SourceBand><SrcRect xOff=\"0\" yOff=\"0\" xSize=\"300\" ySize=\"200\"/><DstRect xOff=\"20\" yOff=\"10\" xSize=\"300\" ySize=\"200\"/></SimpleSource><ComplexSource><SourceFilename relativeToVRT=\"1\">second.bil</SourceFilename><SourceBand>1</SourceBand><SrcRect xOff=\"0\" yOff=\"0\" xSize=\"260\" ySize=\"150\"/><DstRect xOff=\"131\" yOff=\"35\" xSize=\"260\" ySize=\"150\"/><NODATA>0</NODATA></ComplexSource><SimpleSource><SourceFilename relativeToVRT=\"1\">first.bil</SourceFilename><SourceBand>1</SourceBand><SrcRect xOff=\"0\" yOff=\"0\" xSize=\"300\" ySize=\"200\"/><DstRect xOff=\"350\" yOff=\"60\" xSize=\"150\" ySize=\"100\"/></SimpleSource></VRTRasterBand></VRTDataset>";
+    b"<VRTDataset rasterXSize=\"1100\" rasterYSize=\"1000\"><VRTRasterBand dataType=\"Byte\" band=\"1\">\
+    <NoDataValue>255</NoDataValue><SimpleSource><SourceFilename relativeToVRT=\"1\">first.bil</SourceFilename>\
+    <SourceBand>1</SourceBand><SrcRect xOff=\"0\" yOff=\"0\" xSize=\"300\" ySize=\"200\"/>\
+    <DstRect xOff=\"20\" yOff=\"10\" xSize=\"300\" ySize=\"200\"/></SimpleSource><ComplexSource>\
+    <SourceFilename relativeToVRT=\"1\">second.bil</SourceFilename><SourceBand>1</SourceBand>\
+    <SrcRect xOff=\"0\" yOff=\"0\" xSize=\"260\" ySize=\"150\"/>\
+    <DstRect xOff=\"131\" yOff=\"35\" xSize=\"260\" ySize=\"150\"/><NODATA>0</NODATA></ComplexSource><SimpleSource>\
+    <SourceFilename relativeToVRT=\"1\">first.bil</SourceFilename><SourceBand>1</SourceBand>\
+    <SrcRect xOff=\"0\" yOff=\"0\" xSize=\"300\" ySize=\"200\"/>\
+    <DstRect xOff=\"350\" yOff=\"60\" xSize=\"150\" ySize=\"100\"/></SimpleSource></VRTRasterBand></VRTDataset>";
 
 const TWO: &[u8] =
-    b"<VRTDataset rasterXSize=\"1100\" rasterYSize=\"1000\"><VRTRasterBand dataType=\"Byte\" band=\"1\"><SimpleSource><SourceFilename relativeToVRT=\"1\">one.vrt</SourceFilename><SourceBand>1</SourceBand><SrcRect xOff=\"0\" yOff=\"0\" xSize=\"1000\" ySize=\"900\"/><DstRect xOff=\"7\" yOff=\"5\" xSize=\"1000\" ySize=\"900\"/></SimpleSource><ComplexSource><SourceFilename relativeToVRT=\"1\">first.bil</SourceFilename><SourceBand>1</SourceBand><SrcRect xOff=\"0\" yOff=\"0\" xSize=\"300\" ySize=\"200\"/><DstRect xOff=\"100\" yOff=\"100\" xSize=\"300\" ySize=\"200\"/><NODATA>40</NODATA></ComplexSource></VRTRasterBand></VRTDataset>";
+    b"<VRTDataset rasterXSize=\"1100\" rasterYSize=\"1000\"><VRTRasterBand dataType=\"Byte\" band=\"1\"><SimpleSource>\
+    <SourceFilename relativeToVRT=\"1\">one.vrt</SourceFilename><SourceBand>1</SourceBand>\
+    <SrcRect xOff=\"0\" yOff=\"0\" xSize=\"1000\" ySize=\"900\"/>\
+    <DstRect xOff=\"7\" yOff=\"5\" xSize=\"1000\" ySize=\"900\"/></SimpleSource><ComplexSource>\
+    <SourceFilename relativeToVRT=\"1\">first.bil</SourceFilename><SourceBand>1</SourceBand>\
+    <SrcRect xOff=\"0\" yOff=\"0\" xSize=\"300\" ySize=\"200\"/>\
+    <DstRect xOff=\"100\" yOff=\"100\" xSize=\"300\" ySize=\"200\"/><NODATA>40</NODATA></ComplexSource></VRTRasterBand>\
+    </VRTDataset>";
 
 const THREE: &[u8] =
-    b"<VRTDataset rasterXSize=\"1100\" rasterYSize=\"1000\"><VRTRasterBand dataType=\"Byte\" band=\"1\"><SimpleSource><SourceFilename relativeToVRT=\"1\">two.vrt</SourceFilename><SourceBand>1</SourceBand><SrcRect xOff=\"3\" yOff=\"2\" xSize=\"1000\" ySize=\"900\"/><DstRect xOff=\"0\" yOff=\"0\" xSize=\"1000\" ySize=\"900\"/></SimpleSource><ComplexSource><SourceFilename relativeToVRT=\"1\">one.vrt</SourceFilename><SourceBand>1</SourceBand><SrcRect xOff=\"0\" yOff=\"0\" xSize=\"800\" ySize=\"900\"/><DstRect xOff=\"200\" yOff=\"50\" xSize=\"800\" ySize=\"900\"/><NODATA>255</NODATA></ComplexSource></VRTRasterBand></VRTDataset>";
+    b"<VRTDataset rasterXSize=\"1100\" rasterYSize=\"1000\"><VRTRasterBand dataType=\"Byte\" band=\"1\"><SimpleSource>\
+    <SourceFilename relativeToVRT=\"1\">two.vrt</SourceFilename><SourceBand>1</SourceBand>\
+    <SrcRect xOff=\"3\" yOff=\"2\" xSize=\"1000\" ySize=\"900\"/>\
+    <DstRect xOff=\"0\" yOff=\"0\" xSize=\"1000\" ySize=\"900\"/></SimpleSource><ComplexSource>\
+    <SourceFilename relativeToVRT=\"1\">one.vrt</SourceFilename><SourceBand>1</SourceBand>\
+    <SrcRect xOff=\"0\" yOff=\"0\" xSize=\"800\" ySize=\"900\"/>\
+    <DstRect xOff=\"200\" yOff=\"50\" xSize=\"800\" ySize=\"900\"/><NODATA>255</NODATA></ComplexSource></VRTRasterBand>\
+    </VRTDataset>";
 
 // The headers of the files, and the mosaics.
 const TEXTS: [(&str, &[u8]); 5] = [

@@ -104,19 +104,33 @@ fn read_name<F: Folder>(
 const HEADER: &[u8] = b"NROWS 1\nNCOLS 3\nNBITS 16\nPIXELTYPE SIGNEDINT\nBYTEORDER I\n";
 
 const MOSAIC: &[u8] =
-    b"<VRTDataset rasterXSize=\"3\" rasterYSize=\"1\"><VRTRasterBand dataType=\"Int16\" band=\"1\"><NoDataValue>-1</NoDataValue><ComplexSource><SourceFilename relativeToVRT=\"1\">a.bil</SourceFilename><SourceBand>1</SourceBand><NODATA>0</NODATA></ComplexSource><ComplexSource><SourceFilename relativeToVRT=\"1\">b.bil</SourceFilename><SourceBand>1</SourceBand><NODATA>0</NODATA></ComplexSource></VRTRasterBand></VRTDataset>";
+    b"<VRTDataset rasterXSize=\"3\" rasterYSize=\"1\"><VRTRasterBand dataType=\"Int16\" band=\"1\">\
+    <NoDataValue>-1</NoDataValue><ComplexSource><SourceFilename relativeToVRT=\"1\">a.bil</SourceFilename>\
+    <SourceBand>1</SourceBand><NODATA>0</NODATA></ComplexSource><ComplexSource>\
+    <SourceFilename relativeToVRT=\"1\">b.bil</SourceFilename><SourceBand>1</SourceBand><NODATA>0</NODATA>\
+    </ComplexSource></VRTRasterBand></VRTDataset>";
 
 const SIMPLE: &[u8] =
-    b"<VRTDataset rasterXSize=\"3\" rasterYSize=\"1\"><VRTRasterBand dataType=\"Int16\" band=\"1\"><NoDataValue>-1</NoDataValue><SimpleSource><SourceFilename relativeToVRT=\"1\">a.bil</SourceFilename><SourceBand>1</SourceBand></SimpleSource><SimpleSource><SourceFilename relativeToVRT=\"1\">b.bil</SourceFilename><SourceBand>1</SourceBand></SimpleSource></VRTRasterBand></VRTDataset>";
+    b"<VRTDataset rasterXSize=\"3\" rasterYSize=\"1\"><VRTRasterBand dataType=\"Int16\" band=\"1\">\
+    <NoDataValue>-1</NoDataValue><SimpleSource><SourceFilename relativeToVRT=\"1\">a.bil</SourceFilename>\
+    <SourceBand>1</SourceBand></SimpleSource><SimpleSource><SourceFilename relativeToVRT=\"1\">b.bil</SourceFilename>\
+    <SourceBand>1</SourceBand></SimpleSource></VRTRasterBand></VRTDataset>";
 
 const INNER: &[u8] =
-    b"<VRTDataset rasterXSize=\"3\" rasterYSize=\"1\"><VRTRasterBand dataType=\"Int16\" band=\"1\"><SimpleSource><SourceFilename relativeToVRT=\"1\">m.vrt</SourceFilename><SourceBand>1</SourceBand></SimpleSource></VRTRasterBand></VRTDataset>";
+    b"<VRTDataset rasterXSize=\"3\" rasterYSize=\"1\"><VRTRasterBand dataType=\"Int16\" band=\"1\"><SimpleSource>\
+    <SourceFilename relativeToVRT=\"1\">m.vrt</SourceFilename><SourceBand>1</SourceBand></SimpleSource></VRTRasterBand>\
+    </VRTDataset>";
 
 const OUTER: &[u8] =
-    b"<VRTDataset rasterXSize=\"3\" rasterYSize=\"1\"><VRTRasterBand dataType=\"Int16\" band=\"1\"><SimpleSource><SourceFilename relativeToVRT=\"1\">n.vrt</SourceFilename><SourceBand>1</SourceBand></SimpleSource></VRTRasterBand></VRTDataset>";
+    b"<VRTDataset rasterXSize=\"3\" rasterYSize=\"1\"><VRTRasterBand dataType=\"Int16\" band=\"1\"><SimpleSource>\
+    <SourceFilename relativeToVRT=\"1\">n.vrt</SourceFilename><SourceBand>1</SourceBand></SimpleSource></VRTRasterBand>\
+    </VRTDataset>";
 
 const SCALED: &[u8] =
-    b"<VRTDataset rasterXSize=\"2\" rasterYSize=\"1\"><VRTRasterBand dataType=\"Byte\" band=\"1\"><SimpleSource><SourceFilename relativeToVRT=\"1\">five.bil</SourceFilename><SourceBand>1</SourceBand><SrcRect xOff=\"0\" yOff=\"0\" xSize=\"5\" ySize=\"1\"/><DstRect xOff=\"0\" yOff=\"0\" xSize=\"2\" ySize=\"1\"/></SimpleSource></VRTRasterBand></VRTDataset>";
+    b"<VRTDataset rasterXSize=\"2\" rasterYSize=\"1\"><VRTRasterBand dataType=\"Byte\" band=\"1\"><SimpleSource>\
+    <SourceFilename relativeToVRT=\"1\">five.bil</SourceFilename><SourceBand>1</SourceBand>\
+    <SrcRect xOff=\"0\" yOff=\"0\" xSize=\"5\" ySize=\"1\"/><DstRect xOff=\"0\" yOff=\"0\" xSize=\"2\" ySize=\"1\"/>\
+    </SimpleSource></VRTRasterBand></VRTDataset>";
 
 const FILES: [(&str, &[u8]); 11] = [
     ("a.bil", &[5, 0, 0, 0, 7, 0]),
@@ -329,10 +343,22 @@ fn pixel(image: Image, x: u32, y: u32) -> u8
 }
 
 const WIDE: &[u8] =
-    b"<VRTDataset rasterXSize=\"140\" rasterYSize=\"3\"><VRTRasterBand dataType=\"Byte\" band=\"1\"><NoDataValue>255</NoDataValue><SimpleSource><SourceFilename relativeToVRT=\"1\">left.bil</SourceFilename><SourceBand>1</SourceBand><SrcRect xOff=\"0\" yOff=\"0\" xSize=\"130\" ySize=\"3\"/><DstRect xOff=\"0\" yOff=\"0\" xSize=\"130\" ySize=\"3\"/></SimpleSource><ComplexSource><SourceFilename relativeToVRT=\"1\">right.bil</SourceFilename><SourceBand>1</SourceBand><SrcRect xOff=\"0\" yOff=\"0\" xSize=\"80\" ySize=\"3\"/><DstRect xOff=\"60\" yOff=\"0\" xSize=\"80\" ySize=\"3\"/><NODATA>0</NODATA></ComplexSource></VRTRasterBand></VRTDataset>";
+    b"<VRTDataset rasterXSize=\"140\" rasterYSize=\"3\"><VRTRasterBand dataType=\"Byte\" band=\"1\">\
+    <NoDataValue>255</NoDataValue><SimpleSource><SourceFilename relativeToVRT=\"1\">left.bil</SourceFilename>\
+    <SourceBand>1</SourceBand><SrcRect xOff=\"0\" yOff=\"0\" xSize=\"130\" ySize=\"3\"/>\
+    <DstRect xOff=\"0\" yOff=\"0\" xSize=\"130\" ySize=\"3\"/></SimpleSource><ComplexSource>\
+    <SourceFilename relativeToVRT=\"1\">right.bil</SourceFilename><SourceBand>1</SourceBand>\
+    <SrcRect xOff=\"0\" yOff=\"0\" xSize=\"80\" ySize=\"3\"/><DstRect xOff=\"60\" yOff=\"0\" xSize=\"80\" ySize=\"3\"/>\
+    <NODATA>0</NODATA></ComplexSource></VRTRasterBand></VRTDataset>";
 
 const NESTED: &[u8] =
-    b"<VRTDataset rasterXSize=\"155\" rasterYSize=\"5\"><VRTRasterBand dataType=\"Byte\" band=\"1\"><SimpleSource><SourceFilename relativeToVRT=\"1\">wide.vrt</SourceFilename><SourceBand>1</SourceBand><SrcRect xOff=\"0\" yOff=\"0\" xSize=\"140\" ySize=\"3\"/><DstRect xOff=\"10\" yOff=\"1\" xSize=\"140\" ySize=\"3\"/></SimpleSource><SimpleSource><SourceFilename relativeToVRT=\"1\">left.bil</SourceFilename><SourceBand>1</SourceBand><SrcRect xOff=\"0\" yOff=\"0\" xSize=\"130\" ySize=\"3\"/><DstRect xOff=\"0\" yOff=\"0\" xSize=\"65\" ySize=\"3\"/></SimpleSource></VRTRasterBand></VRTDataset>";
+    b"<VRTDataset rasterXSize=\"155\" rasterYSize=\"5\"><VRTRasterBand dataType=\"Byte\" band=\"1\"><SimpleSource>\
+    <SourceFilename relativeToVRT=\"1\">wide.vrt</SourceFilename><SourceBand>1</SourceBand>\
+    <SrcRect xOff=\"0\" yOff=\"0\" xSize=\"140\" ySize=\"3\"/>\
+    <DstRect xOff=\"10\" yOff=\"1\" xSize=\"140\" ySize=\"3\"/></SimpleSource><SimpleSource>\
+    <SourceFilename relativeToVRT=\"1\">left.bil</SourceFilename><SourceBand>1</SourceBand>\
+    <SrcRect xOff=\"0\" yOff=\"0\" xSize=\"130\" ySize=\"3\"/><DstRect xOff=\"0\" yOff=\"0\" xSize=\"65\" ySize=\"3\"/>\
+    </SimpleSource></VRTRasterBand></VRTDataset>";
 
 // The bytes of a file of 3 lines.
 fn raw(alloc: Global, image: Image, columns: u32) -> Result<Vec<u8>, Fail>

@@ -271,9 +271,11 @@ const DATASETS: [(&[File<'static>], &[u8]); 5] = [
     (
         &[(
             "d/s.vrt",
-            b"<VRTDataset rasterXSize='1' rasterYSize='2'><SRS>GEOGCS[&quot;a&quot;]</SRS><VRTRasterBand/></VRTDataset>",
+            b"<VRTDataset rasterXSize='1' rasterYSize='2'><SRS>GEOGCS[&quot;a&quot;]</SRS><VRTRasterBand/>\
+            </VRTDataset>",
         )],
-        b"Driver: VRT\nFiles: d/s.vrt\nSize is 1, 2\nCoordinate System is:\nGEOGCS[\"a\"]\nBand 1 Block=128x128 Type=Byte\n",
+        b"Driver: VRT\nFiles: d/s.vrt\nSize is 1, 2\nCoordinate System is:\nGEOGCS[\"a\"]\n\
+        Band 1 Block=128x128 Type=Byte\n",
     ),
     (
         &[(
@@ -285,9 +287,13 @@ const DATASETS: [(&[File<'static>], &[u8]); 5] = [
     (
         &[(
             "d/t.vrt",
-            b"<VRTDataset rasterXSize='1' rasterYSize='1'><VRTRasterBand><SimpleSource><SourceFilename relativeToVRT='1'>a.bil</SourceFilename></SimpleSource></VRTRasterBand><VRTRasterBand><SimpleSource><SourceFilename>./b.bil</SourceFilename></SimpleSource><SimpleSource><SourceFilename relativeToVRT='1'>../d/a.bil</SourceFilename></SimpleSource></VRTRasterBand></VRTDataset>",
+            b"<VRTDataset rasterXSize='1' rasterYSize='1'><VRTRasterBand><SimpleSource>\
+            <SourceFilename relativeToVRT='1'>a.bil</SourceFilename></SimpleSource></VRTRasterBand><VRTRasterBand>\
+            <SimpleSource><SourceFilename>./b.bil</SourceFilename></SimpleSource><SimpleSource>\
+            <SourceFilename relativeToVRT='1'>../d/a.bil</SourceFilename></SimpleSource></VRTRasterBand></VRTDataset>",
         )],
-        b"Driver: VRT\nFiles: d/t.vrt\n       d/a.bil\n       b.bil\nSize is 1, 1\nBand 1 Block=128x128 Type=Byte\nBand 2 Block=128x128 Type=Byte\n",
+        b"Driver: VRT\nFiles: d/t.vrt\n       d/a.bil\n       b.bil\nSize is 1, 1\nBand 1 Block=128x128 Type=Byte\n\
+        Band 2 Block=128x128 Type=Byte\n",
     ),
 ];
 

@@ -223,8 +223,8 @@ struct Long {
 
 const OF_LIST: &str = "gdalbuildvrt -q out.vrt -input_file_list list.txt";
 
-// A name of the greatest length, one that is longer, and one behind an input that isn't there; so many inputs as there may
-// be, and one more.
+// A name of the greatest length, one that is longer, and one behind an input that isn't there; so many inputs as there
+// may be, and one more.
 static LONG: [Long; 6] = [
     Long {
         front: b"a.bil\n",
@@ -319,8 +319,8 @@ static STRICT: [Row<'static>; 1] = [(
     "ERROR 1: two.bil: skipped (bands)\n",
 )];
 
-// Whether each call of the folder ends a build where it fails, each of the output does, the first one behind the warning
-// and the document, and nothing is changed where no input may be skipped.
+// Whether each call of the folder ends a build where it fails, each of the output does, the first one behind the
+// warning and the document, and nothing is changed where no input may be skipped.
 fn tiles_end<R: Threads + Sync + Abort>(
     rt: &R,
     alloc: Global,

@@ -61,7 +61,8 @@ static FILES: [FileOf<'static>; 6] = [
     ),
     (
         "itself.vrt",
-        b"<VRTDataset rasterXSize='3' rasterYSize='1'><SRS/><VRTRasterBand><SimpleSource><SourceFilename>itself.vrt</SourceFilename></SimpleSource></VRTRasterBand></VRTDataset>",
+        b"<VRTDataset rasterXSize='3' rasterYSize='1'><SRS/><VRTRasterBand><SimpleSource>\
+        <SourceFilename>itself.vrt</SourceFilename></SimpleSource></VRTRasterBand></VRTDataset>",
     ),
     (
         "wide_less.VRT",
@@ -75,7 +76,8 @@ static ROWS: [Row<'static>; 9] = [
     (
         "gdalinfo itself.vrt",
         0,
-        "Driver: VRT\nFiles: itself.vrt\n       itself.vrt\nSize is 3, 1\nCoordinate System is:\n\nBand 1 Block=128x128 Type=Byte\n",
+        "Driver: VRT\nFiles: itself.vrt\n       itself.vrt\nSize is 3, 1\nCoordinate System is:\n\n\
+        Band 1 Block=128x128 Type=Byte\n",
         "",
     ),
     (
@@ -136,7 +138,8 @@ static NAMES: [Long<'static>; 2] = [(4096, ""), (4097, "ERROR 6: limit of name p
 fn with_name<R: Abort>(rt: &R, alloc: Global, len: usize) -> Vec<u8> {
     let parts: [Part<'_>; 3] = [
         (
-            b"<VRTDataset rasterXSize='1' rasterYSize='1'><VRTRasterBand><SimpleSource><SourceFilename relativeToVRT='1'>",
+            b"<VRTDataset rasterXSize='1' rasterYSize='1'><VRTRasterBand><SimpleSource>\
+            <SourceFilename relativeToVRT='1'>",
             1,
         ),
         (b"n", len.saturating_sub(2)),

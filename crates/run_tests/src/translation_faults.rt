@@ -199,8 +199,8 @@ fn failing_calls_of_a_raster(rt: HostRuntime) {
     none_wrong(&rt, first_other(&rt, rt.alloc(), files(), works(), &CALLS));
 }
 
-// Translations, and how many calls of the folder each makes at least. Of two workers that read a hundred lines one reads
-// fifty or more, and each line is written.
+// Translations, and how many calls of the folder each makes at least. Of two workers that read a hundred lines one
+// reads fifty or more, and each line is written.
 static EACH: [Turn; 5] = [
     (FIVE, Failer::Folder, (9, 256)),
     (QUIET, Failer::Folder, (9, 256)),

@@ -83,8 +83,9 @@ fn room_lines(translation: &Translation, columns: &Columns, workers: WorkerCount
 }
 
 impl<F: Folder, L: Ledger> StripReader<F, L> {
-    /// A reader for a translation with a lane for each worker, or with one where the walk met a DTED cell. Each lane holds
-    /// so many blocks at a time, 1 to 65,536. It has read nothing. The room for lines has 4,194,304 samples at most.
+    /// A reader for a translation with a lane for each worker, or with one where the walk met a DTED cell. Each lane
+    /// holds so many blocks at a time, 1 to 65,536. It has read nothing. The room for lines has 4,194,304 samples at
+    /// most.
     pub fn new(
         translation: &Translation,
         workers: WorkerCount,
@@ -414,11 +415,12 @@ fn read_runs<R: Threads + Sync, F: Folder, L: Ledger, S: Scene>(
 
 /// Fills `out` with lines of a band of the translation's output, row by row: each pixel of the output that lies outside
 /// the raster is the band's NODATA, or 0. The lanes of the reader's team read beside each other, and are ready for the
-/// catalog and the folder; the samples are the same for every number of them. Where lines are given, which stand for the
-/// catalog and the folder's files, they look for blocks in them and offer theirs.
+/// catalog and the folder; the samples are the same for every number of them. Where lines are given, which stand for
+/// the catalog and the folder's files, they look for blocks in them and offer theirs.
 ///
-/// FolderFault comes only where the folder's count rose, Memory freely. Changed comes only where a file was opened again
-/// and had another length than the walk found, or was absent: never over a folder that tells its files. After a refusal
+/// FolderFault comes only where the folder's count rose, Memory freely. Changed comes only where a file was opened
+/// again and had another length than the walk found, or was absent: never over a folder that tells its files. After a
+/// refusal
 /// `out` is unknown, and the lanes are still ready. Of one lane each read is behind a load that is counted.
 pub fn read_lines<R: Threads + Sync, F: Folder, L: Ledger, S: Scene>(
     rt: &R,
