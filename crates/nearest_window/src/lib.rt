@@ -7,6 +7,7 @@ mod canvas;
 mod indexes;
 mod indexing;
 mod lane;
+mod lane_reading;
 mod laws;
 mod merging;
 mod missed;
