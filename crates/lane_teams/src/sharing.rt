@@ -1,5 +1,5 @@
 // Lines for the lanes of several workers.
-ghost use Rattle.std.specs.Prelude.{◌≡◌, ◌≤◌};
+ghost use Rattle.std.specs.Prelude.{◌≡◌, ◌≤◌, IfSome, None};
 
 use crate::WorkerCount;
 use catalog::Catalog;
@@ -21,6 +21,8 @@ pub fn lines_for<F: Folder, S: Scene>(
     requires scene { S.cat ≡ cat.now }
     requires some { 1 ≤ count }
     requires few { count ≤ 65536 }
+    ensures alone { workers ≡ 1 → result ≡ None }
+    ensures count { IfSome result (λ lines. lines ≡ count) }
 {
     if workers.get() == 1 {
         return None;
