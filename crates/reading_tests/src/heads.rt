@@ -8,6 +8,7 @@ use esri_hdr::HdrFault;
 use geotransform::{GeoTransform, PixelType, Size};
 use hgt_tiles::HgtFault;
 use outside::MemFolder;
+use outside_fakes::TWO_TILES;
 use std::alloc::Global;
 use std::process::Abort;
 use std::test::*;
@@ -19,29 +20,6 @@ const TWELVE: [u8; 12] = [0; 12];
 
 // The data and the header of `d/A.BIL`.
 const DATA: [File<'static>; 2] = [("d/A.BIL", &TWELVE), ("d/A.HDR", HEADER)];
-
-// The mosaic of two tiles beside each other.
-const TWO_TILES: &[u8] = b"<VRTDataset rasterXSize=\"2401\" rasterYSize=\"1201\">
-  <GeoTransform>-0.0004166666666667, 0.0008333333333333, 0, 1.0004166666666667, 0, -0.0008333333333333</GeoTransform>
-  <VRTRasterBand dataType=\"Int16\" band=\"1\">
-    <NoDataValue>-32768</NoDataValue>
-    <ComplexSource>
-      <SourceFilename relativeToVRT=\"1\">N00E000.hgt</SourceFilename>
-      <SourceBand>1</SourceBand>
-      <SrcRect xOff=\"0\" yOff=\"0\" xSize=\"1201\" ySize=\"1201\"/>
-      <DstRect xOff=\"0\" yOff=\"0\" xSize=\"1201\" ySize=\"1201\"/>
-      <NODATA>-32768</NODATA>
-    </ComplexSource>
-    <ComplexSource>
-      <SourceFilename relativeToVRT=\"1\">N00E001.hgt</SourceFilename>
-      <SourceBand>1</SourceBand>
-      <SrcRect xOff=\"0\" yOff=\"0\" xSize=\"1201\" ySize=\"1201\"/>
-      <DstRect xOff=\"1200\" yOff=\"0\" xSize=\"1201\" ySize=\"1201\"/>
-      <NODATA>-32768</NODATA>
-    </ComplexSource>
-  </VRTRasterBand>
-</VRTDataset>
-";
 
 const ROWS: [Row<'static>; 18] = [
     ("a.tif", &[], 0, Some(Said::Unknown("a.tif"))),

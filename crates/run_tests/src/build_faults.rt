@@ -4,10 +4,10 @@ use crate::ends::{
     End, Failed, Failer, Output, Telling, Turn, Untold, Work, each_cuts, ends, first_other,
     first_told, first_unmet,
 };
-use crate::mosaics::WIDE;
 use crate::stories::first_unrefused;
 use crate::trials::{FileOf, Part, Row, folder_of, joined, none_wrong, put, said_in, says_in};
 use outside::{Failing, MemFolder, Method};
+use outside_fakes::TWO_TILES;
 use std::alloc::Global;
 use std::process::Abort;
 use std::test::*;
@@ -308,7 +308,7 @@ const TILES: Work<'static> = Work {
     line: "gdalbuildvrt out.vrt N00E000.hgt N00E001.hgt two.bil",
     text: DONE,
     told: "Warning 1: two.bil: skipped (bands)\n",
-    outputs: &[("out.vrt", b"old", WIDE)],
+    outputs: &[("out.vrt", b"old", TWO_TILES)],
 };
 
 // What is told where no input may be skipped; then nothing is published.

@@ -1,10 +1,10 @@
 // Files and lines that are made to break a reader: what is told of them.
-use crate::mosaics::WIDE;
 use crate::trials::{
     FileOf, Part, Row, Trial, add_parts, ends_so, first_wrong, folder_of, joined, none_wrong, put,
     said_in, says, says_in,
 };
 use outside::MemFolder;
+use outside_fakes::TWO_TILES;
 use std::alloc::Global;
 use std::process::Abort;
 use std::test::*;
@@ -148,7 +148,7 @@ fn first_unrefused_cut<R: Threads + Sync + Abort>(
 
 #[test]
 fn cut_documents(rt: HostRuntime) {
-    none_wrong(&rt, first_unrefused_cut(&rt, rt.alloc(), WIDE));
+    none_wrong(&rt, first_unrefused_cut(&rt, rt.alloc(), TWO_TILES));
 }
 
 // A line of so many digits, and a point.

@@ -3,33 +3,11 @@ use crate::trials::{
     FileOf, NOTHING, Part, Row, first_harmless, first_wrong, folder_of, is_number, joined,
     none_wrong, said_in,
 };
+use outside_fakes::TWO_TILES;
 use std::alloc::Global;
 use std::process::Abort;
 use std::test::*;
 use std::thread::Threads;
-
-/// The document that `gdalbuildvrt` makes of two tiles which lie side by side.
-pub const WIDE: &[u8] = b"<VRTDataset rasterXSize=\"2401\" rasterYSize=\"1201\">
-  <GeoTransform>-0.0004166666666667, 0.0008333333333333, 0, 1.0004166666666667, 0, -0.0008333333333333</GeoTransform>
-  <VRTRasterBand dataType=\"Int16\" band=\"1\">
-    <NoDataValue>-32768</NoDataValue>
-    <ComplexSource>
-      <SourceFilename relativeToVRT=\"1\">N00E000.hgt</SourceFilename>
-      <SourceBand>1</SourceBand>
-      <SrcRect xOff=\"0\" yOff=\"0\" xSize=\"1201\" ySize=\"1201\"/>
-      <DstRect xOff=\"0\" yOff=\"0\" xSize=\"1201\" ySize=\"1201\"/>
-      <NODATA>-32768</NODATA>
-    </ComplexSource>
-    <ComplexSource>
-      <SourceFilename relativeToVRT=\"1\">N00E001.hgt</SourceFilename>
-      <SourceBand>1</SourceBand>
-      <SrcRect xOff=\"0\" yOff=\"0\" xSize=\"1201\" ySize=\"1201\"/>
-      <DstRect xOff=\"1200\" yOff=\"0\" xSize=\"1201\" ySize=\"1201\"/>
-      <NODATA>-32768</NODATA>
-    </ComplexSource>
-  </VRTRasterBand>
-</VRTDataset>
-";
 
 const WIDE_REPORT: &str = "Driver: VRT
 Files: wide.vrt
@@ -50,7 +28,7 @@ Band 1 Block=128x128 Type=Int16
 // Mosaics whose sources aren't there, which nothing opens: one that names itself, two that are refused, and one whose
 // band takes a kind that isn't read.
 static FILES: [FileOf<'static>; 6] = [
-    ("wide.vrt", WIDE),
+    ("wide.vrt", TWO_TILES),
     (
         "m.vrt",
         b"<VRTDataset rasterXSize=\"1\" rasterYSize=\"1\"><Foo/></VRTDataset>",
