@@ -4,7 +4,7 @@ ghost use Rattle.catalog.specs.Drivers.{Dataset};
 ghost use Rattle.strip_copies.specs.declared.height.BlockShape.TheVariants.{Squares};
 ghost use Rattle.strip_copies.specs.Heights.{has_blocks, is_cell, is_cut_in, is_mosaic, is_tall, is_woven, lane_count, lines_copied, lines_held, most_lines, strip_height};
 
-use crate::reading::Translation;
+use crate::translation::Translation;
 use catalog::{Catalog, Kind};
 use esri_hdr::Layout;
 use lane_teams::WorkerCount;

@@ -24,26 +24,16 @@ use crate::height::{height_of, lane_count, lines_apart, most_lines};
 use crate::holding::Holding;
 use crate::making::{Making, area, make_lines};
 use crate::spans::{Reach, Run, run_from};
+use crate::translation::Translation;
 use band_blocks::LoadFault;
-use catalog::Catalog;
 use geotransform::{PixelType, Rect, Sample, Size};
 use lane_teams::{Team, WorkerCount};
 use nearest_window::{Supply, Window};
 use outside::Folder;
 use shared_lines::Scene;
-use std::alloc::{AllocError, Global};
+use std::alloc::AllocError;
 use std::sync::ledger::{Blank, Ledger};
 use std::thread::Threads;
-use translate_plan::Plan;
-
-/// What is translated: a dataset of a catalog, by its number, and the plan of its output.
-#[derive(Drop)]
-pub struct Translation {
-    pub alloc: Global,
-    pub cat: Catalog,
-    pub id: u32,
-    pub plan: Plan,
-}
 
 /// What lines of a translation are read with: a team of lanes, the columns of the source that are read, and room for
 /// lines of them, which is made once.
