@@ -1,5 +1,5 @@
 -- Names in order, each one once, are as many as before just where no attribute stands twice.
-use Rattle.std.proofs.Common.{◌≡◌, ℕ, ◌+◌, ◌≤◌, Bool, true, false, cond, not, ◌||◌, ◌&&◌, List, [], ◌∷◌, ◌++◌, map, length, Option, Some, None, refl, sym, ap, ◌∙◌, subst, arith, ◌==◌, IsPermutation, IsSorted}
+use Rattle.std.proofs.Common.{◌≡◌, ℕ, ◌+◌, ◌<◌, ◌≤◌, Bool, true, false, cond, not, ◌||◌, ◌&&◌, List, [], ◌∷◌, ◌++◌, map, length, Option, Some, None, refl, sym, ap, ◌∙◌, subst, arith, ◌==◌, IsPermutation, IsSorted}
 use Rattle.std.specs.declared.cmp.Ordering.{Ordering}
 use Rattle.std.specs.Ordering.{nat_cmp, eq_by_cmp, ordering_then}
 use Rattle.std.specs.List.{list_any, AllByRecursion, IsDistinct, dedup, dedup_from}
@@ -11,7 +11,8 @@ use Rattle.std.proofs.lemmas.List.{map-append, append_assoc}
 use Rattle.std.proofs.lemmas.List.Kept.{IsStrictlySortedBy-dedup}
 use Rattle.std.proofs.lemmas.List.Sorted.{IsPermutation-sym, length_permutation}
 use Rattle.std.proofs.lemmas.Map.Keys.{IsDistinct-from_sorted, IsDistinct-IsPermutation, IsDistinct-head, IsDistinct-tail, IsDistinct-cons}
-use Rattle.vrt_markup.specs.Items.{Pair, attribute, is_distinct, is_equal, is_some, pair_at, pairs}
+use Rattle.vrt_markup.specs.Items.{Pair, attribute, is_distinct, is_equal, is_some, pair_at, pairs, name_at, trim_front, tag_end, tag_front, tag_at, Tag}
+use Rattle.lists_and_answers.specs.Options.{◌>>=◌}
 use Rattle.vrt_markup.specs.Keys.{key_of, last_bytes, number_of, apart, double_from, double_of}
 use Rattle.vrt_markup.proofs.Shorter.{pairs_next}
 
@@ -219,6 +220,12 @@ numbers_tell (p ∷ ps) h =
     let both = and_both (not (list_any (λ n. number_of p == n) (map number_of ps))) (apart (λ x y. x == y) (map number_of ps)) h in
     ap (λ b. not b && is_distinct ps) (absent p ps (not_true (list_any (λ n. number_of p == n) (map number_of ps)) both.0)) ∙ numbers_tell ps both.1
 
+-- one name alone
+pub few_differ : (ps : List Pair) (ns : List ℕ) → ns ≡ map number_of ps → length ns < 2 → is_distinct ps ≡ true
+few_differ [] ns e less = refl
+few_differ (p ∷ []) ns e less = refl
+few_differ (p ∷ q ∷ qs) ns e less = absurd (omega (arith, ap length e, less))
+
 and_none : (a : Bool) → (a && false) ≡ false
 and_none true = refl
 and_none false = refl
@@ -234,3 +241,27 @@ pub twice_here : (t : List ℕ) (p : Pair) (r : List ℕ) → pair_at t ≡ Some
 twice_here t p r e h =
     ap (λ (x : List Pair × List ℕ). is_distinct x.0) (pairs_next t p r e)
     ∙ ap (λ b. not b && is_distinct (pairs r).0) h
+
+-- why a text begins with no tag: it has no name, no end, or an attribute twice
+abbrev front_by : List ℕ × List ℕ → Option (Bool × List ℕ) → Option (Tag × List ℕ)
+front_by n end = end >>= λ e. Some (record { name = n.0; pairs = (pairs n.1).0; empty = e.0 }, e.1)
+
+abbrev tag_by : Option (List ℕ × List ℕ) → Option (Tag × List ℕ)
+tag_by name = (name >>= λ n. front_by n (tag_end (trim_front (pairs n.1).1))) >>= λ x. cond (is_distinct x.0.pairs) (Some x) None
+
+by_tag : (t : List ℕ) → tag_at t ≡ tag_by (name_at t)
+unfolding tag_at tag_front
+by_tag t = refl
+
+pub tag_nameless : (t : List ℕ) → name_at t ≡ None → tag_at t ≡ None
+tag_nameless t h = by_tag t ∙ ap tag_by h
+
+pub tag_endless : (t name rest : List ℕ) → name_at t ≡ Some (name, rest) → tag_end (trim_front (pairs rest).1) ≡ None → tag_at t ≡ None
+tag_endless t name rest e h = by_tag t ∙ ap tag_by e ∙ ap (λ end. front_by (name, rest) end >>= λ x. cond (is_distinct x.0.pairs) (Some x) None) h
+
+twice_case : (n : List ℕ × List ℕ) (end : Option (Bool × List ℕ)) → is_distinct (pairs n.1).0 ≡ false → (front_by n end >>= λ x. cond (is_distinct x.0.pairs) (Some x) None) ≡ None
+twice_case n None h = refl
+twice_case n (Some e) h = ap (λ b. cond b (Some (record { name = n.0; pairs = (pairs n.1).0; empty = e.0 }, e.1)) None) h
+
+pub tag_twice : (t name rest : List ℕ) → name_at t ≡ Some (name, rest) → is_distinct (pairs rest).0 ≡ false → tag_at t ≡ None
+tag_twice t name rest e h = by_tag t ∙ ap tag_by e ∙ twice_case (name, rest) (tag_end (trim_front (pairs rest).1)) h

@@ -111,7 +111,7 @@ fn after_comment(text: &[u8]) -> Option<&[u8]>
 }
 
 /// The byte that an entity stands for, and its length behind the `&`.
-pub(crate) fn entity_at(text: &[u8]) -> Option<(u8, usize)>
+pub(crate) fn entity_at(text: &[u8]) -> Option<(u8, u8)>
     ensures { result ≡ entity_at text.now }
 {
     if begins(text, b"lt;") {
@@ -261,22 +261,6 @@ fn differ_by_name(alloc: Global, text: &[u8]) -> Result<bool, AllocError>
     Ok(keys.len() == count)
 }
 
-/// The numbers of the attributes' names, and what stands behind all attributes in front.
-#[tactic(auto, using(crate::proofs::Shorter::pairs_next, crate::proofs::Shorter::pairs_none))]
-fn numbers_of(alloc: Global, text: &[u8]) -> Result<(Vec<u64>, &[u8]), AllocError>
-    ensures numbers { IfOk result (λ x. x.0.items ≡ map number_of (pairs text.now).0) }
-    ensures rest { IfOk result (λ x. x.1.now ≡ (pairs text.now).1) }
-    ensures shorter { IfOk result (λ x. length x.1.now ≤ length text.now) }
-{
-    let mut numbers = Vec::new(alloc);
-    let mut rest = text;
-    while let Some((pair, more)) = pair_at(rest) {
-        numbers.push(last_bytes(pair.name))?;
-        rest = more;
-    }
-    Ok((numbers, rest))
-}
-
 /// The first number that is the same as the one in front of it.
 fn double_from(first: u64, numbers: &[u64]) -> Option<u64>
     ensures double { result ≡ double_from first numbers.now }
@@ -331,13 +315,51 @@ fn stands_twice(text: &[u8], number: u64) -> bool
     false
 }
 
+/// Whether one of the first 64 attributes stands twice, asked as soon as their numbers are there, so
+/// that a tag of a few names again and again ends soon.
+fn stands_twice_early(alloc: Global, text: &[u8], numbers: &[u64]) -> Result<bool, AllocError>
+    ensures twice { IfOk result (λ b. b ≡ true → is_distinct (pairs text.now).0 ≡ false) }
+{
+    if numbers.len() != 64 {
+        return Ok(false);
+    }
+    match double_in(Vec::from_slice(alloc, numbers)?) {
+        None => Ok(false),
+        Some(number) => Ok(stands_twice(text, number)),
+    }
+}
+
+/// The numbers of the attributes' names, and what stands behind all attributes in front; none where
+/// one of the first attributes stands twice.
+#[tactic(auto, using(crate::proofs::Shorter::pairs_next, crate::proofs::Shorter::pairs_none))]
+fn numbers_of(alloc: Global, text: &[u8]) -> Result<Option<(Vec<u64>, &[u8])>, AllocError>
+    ensures numbers { IfOk result (λ o. IfSome o (λ x. x.0.items ≡ map number_of (pairs text.now).0)) }
+    ensures rest { IfOk result (λ o. IfSome o (λ x. x.1.now ≡ (pairs text.now).1)) }
+    ensures shorter { IfOk result (λ o. IfSome o (λ x. length x.1.now ≤ length text.now)) }
+    ensures twice { IfOk result (λ o. o ≡ None → is_distinct (pairs text.now).0 ≡ false) }
+{
+    let mut numbers = Vec::new(alloc);
+    let mut rest = text;
+    while let Some((pair, more)) = pair_at(rest) {
+        numbers.push(last_bytes(pair.name))?;
+        if stands_twice_early(alloc, text, &numbers)? {
+            return Ok(None);
+        }
+        rest = more;
+    }
+    Ok(Some((numbers, rest)))
+}
+
 /// Whether no attribute stands twice. A tag may have any number of attributes, so their numbers are
 /// sorted first; the names are asked only where two numbers are the same.
-#[tactic(auto, using(crate::proofs::Names::numbers_tell))]
+#[tactic(auto, using(crate::proofs::Names::numbers_tell, crate::proofs::Names::few_differ))]
 fn is_distinct(alloc: Global, text: &[u8], numbers: Vec<u64>) -> Result<bool, AllocError>
     requires numbers { numbers.items ≡ map number_of (pairs text.now).0 }
     ensures { IfOk result (λ b. b ≡ is_distinct (pairs text.now).0) }
 {
+    if numbers.len() < 2 {
+        return Ok(true);
+    }
     match double_in(numbers) {
         None => Ok(true),
         Some(number) => {
@@ -372,17 +394,21 @@ pub struct Tag<'a> {
     pub empty: bool,
 }
 
-/// A tag whatever its attributes, what stands behind it, and the numbers of its attributes' names.
-#[tactic(auto, unfolding(crate::specs::Items::tag_front))]
+/// A tag, what stands behind it, and the numbers of its attributes' names; none also where one of the
+/// first attributes stands twice.
+#[tactic(auto, unfolding(crate::specs::Items::tag_front), using(crate::proofs::Names::tag_nameless, crate::proofs::Names::tag_endless, crate::proofs::Names::tag_twice))]
 fn tag_front(alloc: Global, text: &[u8]) -> Result<Option<(Tag, &[u8], Vec<u64>)>, AllocError>
-    ensures tag { IfOk result (λ o. option_map (λ x. (tag_view x.0, x.1.now)) o ≡ tag_front text.now) }
+    ensures tag { IfOk result (λ o. IfSome o (λ x. Some (tag_view x.0, x.1.now) ≡ tag_front text.now)) }
+    ensures none { IfOk result (λ o. o ≡ None → tag_at text.now ≡ None) }
     ensures numbers { IfOk result (λ o. IfSome o (λ x. x.2.items ≡ map number_of (pairs x.0.attributes.now).0)) }
     ensures shorter { IfOk result (λ o. IfSome o (λ x. length x.1.now < length text.now)) }
 {
     let Some((name, attributes)) = name_at(text) else {
         return Ok(None);
     };
-    let (numbers, behind) = numbers_of(alloc, attributes)?;
+    let Some((numbers, behind)) = numbers_of(alloc, attributes)? else {
+        return Ok(None);
+    };
     let Some((empty, rest)) = tag_end(trim_front(behind)) else {
         return Ok(None);
     };
