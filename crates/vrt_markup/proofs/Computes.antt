@@ -1,5 +1,5 @@
 -- The definitions compute on small texts.
-use Rattle.std.proofs.Common.{◌≡◌, [], ◌∷◌, Ok, refl, codes, true}
+use Rattle.std.proofs.Common.{◌≡◌, [], Ok, refl, codes, true}
 use Rattle.vrt_markup.specs.Items.{item_at, tag_at, tag_front, close_at, pair_at, run, comment}
 use Rattle.vrt_markup.specs.Forest.{nodes, stop, text, element}
 

@@ -1,5 +1,5 @@
 pub mod Shorter
-mod Names
+pub mod Names
 pub mod Next
 mod Behind
 pub mod Reading

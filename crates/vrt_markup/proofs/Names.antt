@@ -1,5 +1,5 @@
 -- Names in order, each one once, are as many as before just where no attribute stands twice.
-use Rattle.std.proofs.Common.{◌≡◌, ℕ, ◌+◌, ◌≤◌, Bool, true, false, cond, not, ◌||◌, ◌&&◌, List, [], ◌∷◌, ◌++◌, map, length, Option, Some, refl, sym, ap, ◌∙◌, subst, arith, ◌==◌, IsPermutation, IsSorted}
+use Rattle.std.proofs.Common.{◌≡◌, ℕ, ◌+◌, ◌<◌, ◌≤◌, Bool, true, false, cond, not, ◌||◌, ◌&&◌, List, [], ◌∷◌, ◌++◌, map, length, Option, Some, None, refl, sym, ap, ◌∙◌, subst, arith, ◌==◌, IsPermutation, IsSorted}
 use Rattle.std.specs.declared.cmp.Ordering.{Ordering}
 use Rattle.std.specs.Ordering.{nat_cmp, eq_by_cmp, ordering_then}
 use Rattle.std.specs.List.{list_any, AllByRecursion, IsDistinct, dedup, dedup_from}
@@ -11,14 +11,10 @@ use Rattle.std.proofs.lemmas.List.{map-append, append_assoc}
 use Rattle.std.proofs.lemmas.List.Kept.{IsStrictlySortedBy-dedup}
 use Rattle.std.proofs.lemmas.List.Sorted.{IsPermutation-sym, length_permutation}
 use Rattle.std.proofs.lemmas.Map.Keys.{IsDistinct-from_sorted, IsDistinct-IsPermutation, IsDistinct-head, IsDistinct-tail, IsDistinct-cons}
-use Rattle.vrt_markup.specs.Items.{Pair, attribute, is_distinct, is_equal, is_some, pair_at, pairs}
-use Rattle.vrt_markup.specs.Keys.{key_of, last_bytes}
+use Rattle.vrt_markup.specs.Items.{Pair, attribute, is_distinct, is_equal, is_some, pair_at, pairs, name_at, trim_front, tag_end, tag_front, tag_at, Tag}
+use Rattle.lists_and_answers.specs.Options.{◌>>=◌}
+use Rattle.vrt_markup.specs.Keys.{key_of, last_bytes, number_of, apart, double_from, double_of}
 use Rattle.vrt_markup.proofs.Shorter.{pairs_next}
-
--- whether no element is the same as one behind it
-abbrev pub apart : {X : Type 0} → (X → X → Bool) → List X → Bool
-apart same [] = true
-apart same (x ∷ xs) = not (list_any (same x) xs) && apart same xs
 
 both_ways : (a b : Bool) → (a ≡ true → b ≡ true) → (b ≡ true → a ≡ true) → a ≡ b
 both_ways true b to from = sym (to refl)
@@ -165,3 +161,107 @@ keys_tell f xs ys zs ps keys moved sorted left =
     ap (λ ws. length ws == length xs) left
     ∙ left_tells (then_total (on_total (λ x. (f x).0) nat_cmp_total) (on_texts (λ x. (f x).1))) (λ x y. same_key (f x) (f y)) (λ x y. both_tied _ _ (nat_cmp (f x).0 (f y).0) (slice_cmp nat_cmp (f x).1 (f y).1) (unsigned_ties (f x).0 (f y).0) (texts_ties (f x).1 (f y).1)) (λ x y. ap (λ b. b && is_equal (f x).1 (f y).1) (nat_flips (f x).0 (f y).0) ∙ ap (λ b. ((f y).0 == (f x).0) && b) (equal_flips (f x).1 (f y).1)) xs ys moved sorted
     ∙ apart_map f same_key xs ∙ ap (apart same_key) keys ∙ apart_names ps
+
+-- The same of numbers alone: one number more, and names whose numbers all differ.
+pub numbers_more : (ns ms : List ℕ) (n : ℕ) (t : List ℕ) (p : Pair) (r : List ℕ) → ms ≡ ns ++ n ∷ [] → n ≡ number_of p → pair_at t ≡ Some (p, r) → ms ++ map number_of (pairs r).0 ≡ ns ++ map number_of (pairs t).0
+numbers_more ns ms n t p r more same e =
+    ap (λ xs. xs ++ map number_of (pairs r).0) more
+    ∙ append_assoc ns (n ∷ []) (map number_of (pairs r).0)
+    ∙ ap (λ x. ns ++ x ∷ map number_of (pairs r).0) same
+    ∙ ap (λ (x : List Pair × List ℕ). ns ++ map number_of x.0) (sym (pairs_next t p r e))
+
+single_case : (b : Bool) (k : ℕ) (us vs ws : List ℕ) (o : Option ℕ) → cond b (Some k) o ≡ None → (o ≡ None → vs ≡ ws) → cond b us (k ∷ vs) ≡ k ∷ ws
+single_case true k us vs ws o h ih = absurd cc
+single_case false k us vs ws o h ih = ap (λ zs. k ∷ zs) (ih h)
+
+single_from : (k : ℕ) (xs : List ℕ) → double_from k xs ≡ None → dedup_from (λ x y. x == y) k xs ≡ k ∷ xs
+single_from k [] h = refl
+single_from k (x ∷ xs) h = single_case (x == k) k (dedup_from (λ x y. x == y) k xs) (dedup_from (λ x y. x == y) x xs) (x ∷ xs) (double_from x xs) h (single_from x xs)
+
+single : (xs : List ℕ) → double_of xs ≡ None → dedup (λ x y. x == y) xs ≡ xs
+single [] h = refl
+single (x ∷ xs) h = single_from x xs h
+
+-- Numbers in order, none of which is the one in front of it, all differ.
+pub no_double : (xs ys : List ℕ) → IsPermutation xs ys → IsSorted nat_cmp ys → double_of ys ≡ None → apart (λ x y. x == y) xs ≡ true
+no_double xs ys moved sorted none =
+    sym (left_tells nat_cmp_total (λ x y. x == y) (λ x y. unsigned_ties x y) (λ x y. nat_flips x y) xs ys moved sorted)
+    ∙ grind (arith, nat_tests, ap length (single ys none), length_permutation xs ys moved)
+
+and_both : (a b : Bool) → (a && b) ≡ true → (a ≡ true) × (b ≡ true)
+and_both true true h = (refl, refl)
+and_both true false h = absurd cc
+and_both false b h = absurd cc
+
+or_both : (a b : Bool) → (a || b) ≡ false → (a ≡ false) × (b ≡ false)
+or_both false false h = (refl, refl)
+or_both false true h = absurd cc
+or_both true b h = absurd cc
+
+not_true : (a : Bool) → not a ≡ true → a ≡ false
+not_true false h = refl
+not_true true h = absurd cc
+
+absent_case : (p q : Pair) (qs : List Pair) (b : Bool) → is_equal q.name p.name ≡ b → (number_of p == number_of q) ≡ false → is_some (attribute p.name qs) ≡ false → is_some (cond b (Some q.value) (attribute p.name qs)) ≡ false
+absent_case p q qs true e apart later =
+    let hit : (number_of p == number_of q) ≡ true = ap (λ n. number_of p == last_bytes 0 n) (same_text q.name p.name (sym e)) ∙ same_itself (number_of p) in
+    absurd cc
+absent_case p q qs false e apart later = later
+
+absent : (p : Pair) (ps : List Pair) → list_any (λ n. number_of p == n) (map number_of ps) ≡ false → is_some (attribute p.name ps) ≡ false
+absent p [] h = refl
+absent p (q ∷ qs) h =
+    let both = or_both (number_of p == number_of q) (list_any (λ n. number_of p == n) (map number_of qs)) h in
+    absent_case p q qs (is_equal q.name p.name) refl both.0 (absent p qs both.1)
+
+pub numbers_tell : (ps : List Pair) → apart (λ x y. x == y) (map number_of ps) ≡ true → is_distinct ps ≡ true
+numbers_tell [] h = refl
+numbers_tell (p ∷ ps) h =
+    let both = and_both (not (list_any (λ n. number_of p == n) (map number_of ps))) (apart (λ x y. x == y) (map number_of ps)) h in
+    ap (λ b. not b && is_distinct ps) (absent p ps (not_true (list_any (λ n. number_of p == n) (map number_of ps)) both.0)) ∙ numbers_tell ps both.1
+
+-- one name alone
+pub few_differ : (ps : List Pair) (ns : List ℕ) → ns ≡ map number_of ps → length ns < 2 → is_distinct ps ≡ true
+few_differ [] ns e less = refl
+few_differ (p ∷ []) ns e less = refl
+few_differ (p ∷ q ∷ qs) ns e less = absurd (omega (arith, ap length e, less))
+
+and_none : (a : Bool) → (a && false) ≡ false
+and_none true = refl
+and_none false = refl
+
+-- a name that stands twice among what is left, or first here and then once more
+pub twice_later : (t : List ℕ) (p : Pair) (r : List ℕ) → pair_at t ≡ Some (p, r) → is_distinct (pairs r).0 ≡ false → is_distinct (pairs t).0 ≡ false
+twice_later t p r e h =
+    ap (λ (x : List Pair × List ℕ). is_distinct x.0) (pairs_next t p r e)
+    ∙ ap (λ b. not (is_some (attribute p.name (pairs r).0)) && b) h
+    ∙ and_none (not (is_some (attribute p.name (pairs r).0)))
+
+pub twice_here : (t : List ℕ) (p : Pair) (r : List ℕ) → pair_at t ≡ Some (p, r) → is_some (attribute p.name (pairs r).0) ≡ true → is_distinct (pairs t).0 ≡ false
+twice_here t p r e h =
+    ap (λ (x : List Pair × List ℕ). is_distinct x.0) (pairs_next t p r e)
+    ∙ ap (λ b. not b && is_distinct (pairs r).0) h
+
+-- why a text begins with no tag: it has no name, no end, or an attribute twice
+abbrev front_by : List ℕ × List ℕ → Option (Bool × List ℕ) → Option (Tag × List ℕ)
+front_by n end = end >>= λ e. Some (record { name = n.0; pairs = (pairs n.1).0; empty = e.0 }, e.1)
+
+abbrev tag_by : Option (List ℕ × List ℕ) → Option (Tag × List ℕ)
+tag_by name = (name >>= λ n. front_by n (tag_end (trim_front (pairs n.1).1))) >>= λ x. cond (is_distinct x.0.pairs) (Some x) None
+
+by_tag : (t : List ℕ) → tag_at t ≡ tag_by (name_at t)
+unfolding tag_at tag_front
+by_tag t = refl
+
+pub tag_nameless : (t : List ℕ) → name_at t ≡ None → tag_at t ≡ None
+tag_nameless t h = by_tag t ∙ ap tag_by h
+
+pub tag_endless : (t name rest : List ℕ) → name_at t ≡ Some (name, rest) → tag_end (trim_front (pairs rest).1) ≡ None → tag_at t ≡ None
+tag_endless t name rest e h = by_tag t ∙ ap tag_by e ∙ ap (λ end. front_by (name, rest) end >>= λ x. cond (is_distinct x.0.pairs) (Some x) None) h
+
+twice_case : (n : List ℕ × List ℕ) (end : Option (Bool × List ℕ)) → is_distinct (pairs n.1).0 ≡ false → (front_by n end >>= λ x. cond (is_distinct x.0.pairs) (Some x) None) ≡ None
+twice_case n None h = refl
+twice_case n (Some e) h = ap (λ b. cond b (Some (record { name = n.0; pairs = (pairs n.1).0; empty = e.0 }, e.1)) None) h
+
+pub tag_twice : (t name rest : List ℕ) → name_at t ≡ Some (name, rest) → is_distinct (pairs rest).0 ≡ false → tag_at t ≡ None
+tag_twice t name rest e h = by_tag t ∙ ap tag_by e ∙ twice_case (name, rest) (tag_end (trim_front (pairs rest).1)) h

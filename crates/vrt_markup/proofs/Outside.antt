@@ -3,7 +3,7 @@ use Rattle.std.proofs.Common.{◌≡◌, ℕ, zero, suc, ◌-◌, ◌<◌, ◌�
 use Rattle.vrt_markup.specs.Items.{item_at, Item, bad, comment, run, open_tag, close_tag, Tag}
 use Rattle.vrt_markup.specs.Forest.{is_blank}
 use Rattle.vrt_markup.specs.Views.{IsShorter}
-use Rattle.vrt_markup.specs.Tree.{space_step, space_by, space}
+use Rattle.vrt_markup.specs.Tree.{space_step, space_by, space, Root, root_item, root_behind}
 use Rattle.vrt_markup.specs.declared.fault.VrtFault.{VrtFault}
 use Rattle.vrt_markup.specs.declared.fault.VrtFault.TheVariants.{BadText}
 use Rattle.lists_and_answers.specs.Answers.{◌>>=◌}
@@ -61,6 +61,28 @@ space_run T t raw r e blank = next T t (run raw r) e ∙ ap (λ b. cond b (space
 
 pub space_text : (T : ℕ) (t raw r : List ℕ) → run raw r ≡ item_at t → is_blank raw ≡ false → space T t ≡ Err (BadText (T - length t))
 space_text T t raw r e blank = next T t (run raw r) e ∙ ap (λ b. cond b (space T r) (Err (BadText (T - length t)))) blank
+
+-- the root's tag, by the item in front
+abbrev from_start : (T : ℕ) → Result (List ℕ) VrtFault → Result Root VrtFault
+from_start T s = s >>= λ start. root_item T start (item_at start)
+
+pub root_bad : (T : ℕ) (t : List ℕ) → bad ≡ item_at t → root_behind T t ≡ Err (BadText (T - length t))
+root_bad T t e = ap (from_start T) (space_bad T t e) ∙ ap (root_item T t) (sym e)
+
+pub root_open : (T : ℕ) (t : List ℕ) (tag : Tag) (r : List ℕ) → open_tag tag r ≡ item_at t → root_behind T t ≡ Ok (record { place = T - length t; tag = tag; rest = r })
+root_open T t tag r e = ap (from_start T) (space_open T t tag r e) ∙ ap (root_item T t) (sym e)
+
+pub root_close : (T : ℕ) (t n r : List ℕ) → close_tag n r ≡ item_at t → root_behind T t ≡ Err (BadText (T - length t))
+root_close T t n r e = ap (from_start T) (space_close T t n r e) ∙ ap (root_item T t) (sym e)
+
+pub root_comment : (T : ℕ) (t r : List ℕ) → comment r ≡ item_at t → root_behind T t ≡ root_behind T r
+root_comment T t r e = ap (from_start T) (space_comment T t r e)
+
+pub root_run : (T : ℕ) (t raw r : List ℕ) → run raw r ≡ item_at t → is_blank raw ≡ true → root_behind T t ≡ root_behind T r
+root_run T t raw r e blank = ap (from_start T) (space_run T t raw r e blank)
+
+pub root_text : (T : ℕ) (t raw r : List ℕ) → run raw r ≡ item_at t → is_blank raw ≡ false → root_behind T t ≡ Err (BadText (T - length t))
+root_text T t raw r e blank = ap (from_start T) (space_text T t raw r e blank)
 
 -- a first step that fails
 pub fails_bind : {A B : Type 0} (e : VrtFault) (r : Result A VrtFault) (f : A → Result B VrtFault) → Fails e r → Fails e (r >>= f)

@@ -1,5 +1,5 @@
 -- The bytes of a file that is UTF-8.
-use Rattle.std.proofs.Common.{◌≡◌, ℕ, Bool, true, false, cond, List, length, Ok, Err, refl, ap, ◌∙◌, arith, nat_lt, IsUtf8}
+use Rattle.std.proofs.Common.{◌≡◌, ℕ, true, false, cond, List, length, Ok, Err, ap, ◌∙◌, arith, nat_lt, IsUtf8}
 use Rattle.std.proofs.lemmas.Bool.Decides.{nat_tests}
 use Rattle.std.specs.Str.{IsValidUpTo}
 use Rattle.std.specs.Str.Lossy.{utf8_valid_len}

@@ -50,6 +50,10 @@ root_item total bytes (comment rest) = Err (BadText (total - length bytes))
 root_item total bytes (run raw rest) = Err (BadText (total - length bytes))
 root_item total bytes (close_tag name rest) = Err (BadText (total - length bytes))
 
+-- the same behind comments and white space
+abbrev pub root_behind : ℕ → List ℕ → Result Root VrtFault
+root_behind total bytes = space total bytes >>= λ start. root_item total start (item_at start)
+
 unfoldable pub root_at : ℕ → List ℕ → Result Root VrtFault
 root_at total bytes = do
   front ← declared_at total (without_mark bytes)

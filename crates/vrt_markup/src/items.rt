@@ -1,9 +1,9 @@
 // The items of a document: comments, tags and runs of text.
-ghost use Rattle.std.specs.Prelude.{◌≡◌, ℕ, ◌<◌, ◌≤◌, ◌+◌, length, map, IfSome, IfOk, List, Option, Some, None, [], ◌∷◌};
+ghost use Rattle.std.specs.Prelude.{◌≡◌, ℕ, ◌<◌, ◌≤◌, ◌+◌, ◌==◌, length, map, true, false, IfSome, IfOk, List, Option, Some, None, [], ◌∷◌};
 ghost use Rattle.std.specs.Option.{option_map};
 ghost use Rattle.std.specs.List.{prefix_len};
-ghost use Rattle.vrt_markup.specs.Items.{strip, is_white, trim_front, is_first, is_later, has_first, name_at, byte_at, after_comment, entity_at, ends_at, plain_len, spaces_at, quote_at, value_at, pair_at, is_equal, begins, pairs, pairs_by, attribute, is_distinct, tag_end, tag_front, tag_item, tag_at, close_at, run_at, item_at};
-ghost use Rattle.vrt_markup.specs.Keys.{last_bytes, key_of};
+ghost use Rattle.vrt_markup.specs.Items.{is_some, strip, is_white, trim_front, is_first, is_later, has_first, name_at, byte_at, after_comment, entity_at, ends_at, plain_len, spaces_at, quote_at, value_at, pair_at, is_equal, begins, pairs, pairs_by, attribute, is_distinct, tag_end, tag_front, tag_item, tag_at, close_at, run_at, item_at};
+ghost use Rattle.vrt_markup.specs.Keys.{last_bytes, key_of, number_of, apart, double_from, double_of};
 ghost use Rattle.vrt_markup.specs.Views.{pair_view, tag_view, Finds, Shortens};
 
 use std::alloc::{AllocError, Global};
@@ -111,7 +111,7 @@ fn after_comment(text: &[u8]) -> Option<&[u8]>
 }
 
 /// The byte that an entity stands for, and its length behind the `&`.
-pub(crate) fn entity_at(text: &[u8]) -> Option<(u8, usize)>
+pub(crate) fn entity_at(text: &[u8]) -> Option<(u8, u8)>
     ensures { result ≡ entity_at text.now }
 {
     if begins(text, b"lt;") {
@@ -206,19 +206,6 @@ fn pair_at(text: &[u8]) -> Option<(Pair, &[u8])>
     Some((Pair { name, value }, rest))
 }
 
-#[tactic(auto, using(crate::proofs::Shorter::pairs_next, crate::proofs::Shorter::pairs_none))]
-/// What stands behind all attributes in front.
-fn after_pairs(text: &[u8]) -> &[u8]
-    ensures rest { result.now ≡ (pairs text.now).1 }
-    ensures shorter { length result.now ≤ length text.now }
-{
-    let mut rest = text;
-    while let Some((_, more)) = pair_at(rest) {
-        rest = more;
-    }
-    rest
-}
-
 /// The value of the first attribute with this name.
 #[tactic(auto, using(crate::proofs::Shorter::pairs_next, crate::proofs::Shorter::pairs_none))]
 pub fn attribute<'a>(text: &'a [u8], name: &[u8]) -> Option<&'a [u8]>
@@ -262,9 +249,9 @@ fn keys_of(alloc: Global, text: &[u8]) -> Result<Vec<(u64, &[u8])>, AllocError>
     Ok(keys)
 }
 
-/// Whether no attribute stands twice. The names are sorted, since a tag may have any number of
-/// attributes: what stands twice stands side by side then.
-fn is_distinct(alloc: Global, text: &[u8]) -> Result<bool, AllocError>
+/// Whether no attribute stands twice, by the names: what stands twice stands side by side once they
+/// are sorted.
+fn differ_by_name(alloc: Global, text: &[u8]) -> Result<bool, AllocError>
     ensures { IfOk result (λ b. b ≡ is_distinct (pairs text.now).0) }
 {
     let mut keys = keys_of(alloc, text)?;
@@ -272,6 +259,116 @@ fn is_distinct(alloc: Global, text: &[u8]) -> Result<bool, AllocError>
     keys.sort_unstable();
     keys.dedup();
     Ok(keys.len() == count)
+}
+
+/// The first number that is the same as the one in front of it.
+fn double_from(first: u64, numbers: &[u64]) -> Option<u64>
+    ensures double { result ≡ double_from first numbers.now }
+{
+    let mut last = first;
+    let mut rest = numbers;
+    while let [number, more @ ..] = rest {
+        if *number == last {
+            return Some(last);
+        }
+        last = *number;
+        rest = more;
+    }
+    None
+}
+
+fn double_of(numbers: &[u64]) -> Option<u64>
+    ensures double { result ≡ double_of numbers.now }
+{
+    match numbers {
+        [] => None,
+        [first, rest @ ..] => double_from(*first, rest),
+    }
+}
+
+/// The least number that stands twice.
+fn double_in(mut numbers: Vec<u64>) -> Option<u64>
+    ensures none { result ≡ None → apart (λ x y. x == y) numbers.items ≡ true }
+{
+    numbers.sort_unstable();
+    double_of(&numbers)
+}
+
+fn has_attribute(text: &[u8], name: &[u8]) -> bool
+    ensures { result ≡ is_some (attribute name.now (pairs text.now).0) }
+{
+    attribute(text, name).is_some()
+}
+
+/// Whether the first attribute whose name has this number stands twice.
+#[tactic(auto, using(crate::proofs::Names::twice_here, crate::proofs::Names::twice_later))]
+fn stands_twice(text: &[u8], number: u64) -> bool
+    ensures twice { result ≡ true → is_distinct (pairs text.now).0 ≡ false }
+{
+    let mut rest = text;
+    while let Some((pair, more)) = pair_at(rest) {
+        if last_bytes(pair.name) == number {
+            return has_attribute(more, pair.name);
+        }
+        rest = more;
+    }
+    false
+}
+
+/// Whether one of the first 64 attributes stands twice, asked as soon as their numbers are there, so
+/// that a tag of a few names again and again ends soon.
+fn stands_twice_early(alloc: Global, text: &[u8], numbers: &[u64]) -> Result<bool, AllocError>
+    ensures twice { IfOk result (λ b. b ≡ true → is_distinct (pairs text.now).0 ≡ false) }
+{
+    if numbers.len() != 64 {
+        return Ok(false);
+    }
+    match double_in(Vec::from_slice(alloc, numbers)?) {
+        None => Ok(false),
+        Some(number) => Ok(stands_twice(text, number)),
+    }
+}
+
+/// The numbers of the attributes' names, and what stands behind all attributes in front; none where
+/// one of the first attributes stands twice.
+#[tactic(auto, using(crate::proofs::Shorter::pairs_next, crate::proofs::Shorter::pairs_none))]
+fn numbers_of(alloc: Global, text: &[u8]) -> Result<Option<(Vec<u64>, &[u8])>, AllocError>
+    ensures numbers { IfOk result (λ o. IfSome o (λ x. x.0.items ≡ map number_of (pairs text.now).0)) }
+    ensures rest { IfOk result (λ o. IfSome o (λ x. x.1.now ≡ (pairs text.now).1)) }
+    ensures shorter { IfOk result (λ o. IfSome o (λ x. length x.1.now ≤ length text.now)) }
+    ensures twice { IfOk result (λ o. o ≡ None → is_distinct (pairs text.now).0 ≡ false) }
+{
+    let mut numbers = Vec::new(alloc);
+    let mut rest = text;
+    while let Some((pair, more)) = pair_at(rest) {
+        numbers.push(last_bytes(pair.name))?;
+        if stands_twice_early(alloc, text, &numbers)? {
+            return Ok(None);
+        }
+        rest = more;
+    }
+    Ok(Some((numbers, rest)))
+}
+
+/// Whether no attribute stands twice. A tag may have any number of attributes, so their numbers are
+/// sorted first; the names are asked only where two numbers are the same.
+#[tactic(auto, using(crate::proofs::Names::numbers_tell, crate::proofs::Names::few_differ))]
+fn is_distinct(alloc: Global, text: &[u8], numbers: Vec<u64>) -> Result<bool, AllocError>
+    requires numbers { numbers.items ≡ map number_of (pairs text.now).0 }
+    ensures { IfOk result (λ b. b ≡ is_distinct (pairs text.now).0) }
+{
+    if numbers.len() < 2 {
+        return Ok(true);
+    }
+    match double_in(numbers) {
+        None => Ok(true),
+        Some(number) => {
+            if stands_twice(text, number) {
+                return Ok(false);
+            }
+            differ_by_name(alloc, text)
+        }
+    }
 }
 
 /// Whether a tag ends as an empty one, and what stands behind it.
@@ -297,21 +394,30 @@ pub struct Tag<'a> {
     pub empty: bool,
 }
 
-#[tactic(auto, unfolding(crate::specs::Items::tag_front))]
-fn tag_front(text: &[u8]) -> Option<(Tag, &[u8])>
-    ensures tag { option_map (λ x. (tag_view x.0, x.1.now)) result ≡ tag_front text.now }
-    ensures shorter { IfSome result (λ x. length x.1.now < length text.now) }
+/// A tag, what stands behind it, and the numbers of its attributes' names; none also where one of the
+/// first attributes stands twice.
+#[tactic(auto, unfolding(crate::specs::Items::tag_front), using(crate::proofs::Names::tag_nameless, crate::proofs::Names::tag_endless, crate::proofs::Names::tag_twice))]
+fn tag_front(alloc: Global, text: &[u8]) -> Result<Option<(Tag, &[u8], Vec<u64>)>, AllocError>
+    ensures tag { IfOk result (λ o. IfSome o (λ x. Some (tag_view x.0, x.1.now) ≡ tag_front text.now)) }
+    ensures none { IfOk result (λ o. o ≡ None → tag_at text.now ≡ None) }
+    ensures numbers { IfOk result (λ o. IfSome o (λ x. x.2.items ≡ map number_of (pairs x.0.attributes.now).0)) }
+    ensures shorter { IfOk result (λ o. IfSome o (λ x. length x.1.now < length text.now)) }
 {
-    let (name, attributes) = name_at(text)?;
-    let (empty, rest) = tag_end(trim_front(after_pairs(attributes)))?;
-    Some((
-        Tag {
-            name,
-            attributes,
-            empty,
-        },
-        rest,
-    ))
+    let Some((name, attributes)) = name_at(text) else {
+        return Ok(None);
+    };
+    let Some((numbers, behind)) = numbers_of(alloc, attributes)? else {
+        return Ok(None);
+    };
+    let Some((empty, rest)) = tag_end(trim_front(behind)) else {
+        return Ok(None);
+    };
+    let tag = Tag {
+        name,
+        attributes,
+        empty,
+    };
+    Ok(Some((tag, rest, numbers)))
 }
 
 // The item of a tag behind its `<`.
@@ -320,9 +426,10 @@ fn tag_item(alloc: Global, text: &[u8]) -> Item
     ensures item { Finds result (tag_item text.now) }
     ensures shorter { Shortens result text.now }
 {
-    match tag_front(text) {
-        None => Item::Bad,
-        Some((tag, rest)) => match is_distinct(alloc, tag.attributes) {
+    match tag_front(alloc, text) {
+        Err(_) => Item::NoMemory,
+        Ok(None) => Item::Bad,
+        Ok(Some((tag, rest, numbers))) => match is_distinct(alloc, tag.attributes, numbers) {
             Ok(true) => Item::Open(tag, rest),
             Ok(false) => Item::Bad,
             Err(_) => Item::NoMemory,

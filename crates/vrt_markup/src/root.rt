@@ -1,10 +1,9 @@
 // The root of a document, and what stands outside it.
 ghost use Rattle.std.specs.Prelude.{◌≡◌, ℕ, ◌<◌, ◌≤◌, ◌-◌, length, IfOk, IfSome, List, Result, Ok, Err, Option};
 ghost use Rattle.std.specs.Option.{option_map};
-ghost use Rattle.vrt_markup.specs.Items.{item_at};
 ghost use Rattle.vrt_markup.specs.Views.{tag_view, result_view, root_view};
 ghost use Rattle.vrt_markup.specs.Kept.{Gives};
-ghost use Rattle.vrt_markup.specs.Tree.{utf8_of, space, without_mark, after_declaration, declared_at, root_item, root_at, end_by, end_at};
+ghost use Rattle.vrt_markup.specs.Tree.{utf8_of, space, without_mark, after_declaration, declared_at, root_behind, root_at, end_by, end_at};
 
 use crate::fault::VrtFault;
 use crate::items::{Item, Tag, item_at, strip};
@@ -94,19 +93,33 @@ pub struct Root<'a> {
     pub rest: &'a [u8],
 }
 
-fn root_item(alloc: Global, total: usize, bytes: &[u8]) -> Result<Root, VrtFault>
+/// The root's start tag, behind comments and white space.
+#[tactic(auto, using(crate::proofs::Outside::root_bad, crate::proofs::Outside::root_open, crate::proofs::Outside::root_close, crate::proofs::Outside::root_comment, crate::proofs::Outside::root_run, crate::proofs::Outside::root_text))]
+fn root_behind(alloc: Global, total: usize, bytes: &[u8]) -> Result<Root, VrtFault>
     requires within { length bytes.now ≤ total }
-    ensures root { Gives root_view result (root_item total bytes.now (item_at bytes.now)) }
+    ensures root { Gives root_view result (root_behind total bytes.now) }
     ensures shorter { IfOk result (λ r. length r.rest.now ≤ length bytes.now) }
 {
-    match item_at(alloc, bytes) {
-        Item::Open(tag, rest) => Ok(Root {
-            place: (total - bytes.len()) as u64,
-            tag,
-            rest,
-        }),
-        Item::NoMemory => Err(VrtFault::Memory),
-        _ => Err(VrtFault::BadText((total - bytes.len()) as u64)),
+    let mut rest = bytes;
+    'items: loop {
+        let place = (total - rest.len()) as u64;
+        match item_at(alloc, rest) {
+            Item::NoMemory => return Err(VrtFault::Memory),
+            Item::Comment(more) => rest = more,
+            Item::Run(raw, more) => {
+                if !is_blank(raw) {
+                    return Err(VrtFault::BadText(place));
+                }
+                rest = more;
+            }
+            Item::Open(tag, more) => return Ok(Root {
+                place,
+                tag,
+                rest: more,
+            }),
+            Item::Bad => return Err(VrtFault::BadText(place)),
+            Item::Close(_, _) => return Err(VrtFault::BadText(place)),
+        }
     }
 }
 
@@ -119,10 +132,7 @@ pub fn root_at(alloc: Global, total: usize, bytes: &[u8]) -> Result<Root, VrtFau
 {
     match declared_at(total, without_mark(bytes)) {
         Err(fault) => Err(fault),
-        Ok(front) => match space(alloc, total, front) {
-            Err(error) => Err(error),
-            Ok(start) => root_item(alloc, total, start),
-        },
+        Ok(front) => root_behind(alloc, total, front),
     }
 }
 

@@ -18,7 +18,7 @@ pub fn is_blank(raw: &[u8]) -> bool
 }
 
 // The byte that stands here, and how many bytes behind it belong to it.
-fn plain_at(c: u8, rest: &[u8]) -> (u8, usize)
+fn plain_at(c: u8, rest: &[u8]) -> (u8, u8)
     ensures { result ≡ plain_at c rest.now }
 {
     if c == b'&' {

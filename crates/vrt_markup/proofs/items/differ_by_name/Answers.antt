@@ -2,7 +2,7 @@ use Rattle.std.proofs.Common.{◌∙◌, ap, length, ◌==◌}
 use Rattle.std.proofs.lemmas.List.Filters.{dedup_is}
 use Rattle.vrt_markup.specs.Items.{pairs}
 use Rattle.vrt_markup.proofs.Names.{keys_tell}
-use Rattle.vrt_markup.proofs.items.is_distinct.Goals as goal
+use Rattle.vrt_markup.proofs.items.differ_by_name.Goals as goal
 
 pub returns : goal.returns
 returns c =
