@@ -13,3 +13,4 @@ pub mod Again
 mod Computes
 pub mod Fronts
 pub mod Runs
+pub mod Whites

@@ -14,7 +14,7 @@ use Rattle.std.proofs.lemmas.List.Sums.{fold-append}
 use Rattle.ascii_grid.proofs.Pieces.{fed_more, open_at, stuck_bytes}
 
 -- the place behind these bytes
-abbrev behind : List ℕ → ℕ → ℕ
+abbrev pub behind : List ℕ → ℕ → ℕ
 behind [] at = at
 behind (c ∷ cs) at = behind cs (next at)
 

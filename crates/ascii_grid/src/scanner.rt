@@ -15,7 +15,7 @@ use crate::keys::shape_of;
 use crate::open::Open;
 use crate::parts::{Found, Shape, Stage};
 use crate::steps::{add_number, add_token, needed};
-use crate::tokens::{dark_len, is_white};
+use crate::tokens::{dark_len, is_white, white_len};
 use crate::values::value_at;
 use geotransform::Size;
 use lists_and_answers::Items;
@@ -135,8 +135,19 @@ impl Scanner {
         }
     }
 
-    // Takes the first of these bytes: a whole token with the white space behind it, where none is open,
-    // else one byte. How many it took.
+    // Takes white space, where no token is open.
+    fn add_white(&mut self, white: &[u8])
+        requires some { 0 < length white.now }
+        requires white { (k : ℕ) → k < length white.now → is_white (get_or white.now k 0) ≡ true }
+        requires closed { (s : State) → self.old ≡ Ok s → s.held.text ≡ [] }
+        ensures state { self.new ≡ fed self.old white.now }
+        ensures stays { (f : GridFault) → self.old ≡ Err f → self.new ≡ Err f }
+    {
+        self.held.pass_white(white.len());
+    }
+
+    // Takes the first of these bytes: white space, or a whole token with the white space behind it, where
+    // none is open, else one byte. How many it took.
     fn add_part(&mut self, bytes: &[u8]) -> usize
         requires { 0 < length bytes.now }
         ensures some { 0 < result }
@@ -148,6 +159,11 @@ impl Scanner {
             if let Some((n, _)) = value_at(bytes) {
                 self.add_number(&bytes[..n]);
                 return n + 1;
+            }
+            let n = white_len(bytes);
+            if n > 0 {
+                self.add_white(&bytes[..n]);
+                return n;
             }
             let n = dark_len(bytes);
             if n > 0 && n <= 64 && n < bytes.len() {

@@ -29,3 +29,16 @@ pub fn dark_len(bytes: &[u8]) -> usize
     }
     bytes.len()
 }
+
+/// How many bytes stand in front of the first one that isn't white, or of the end.
+pub fn white_len(bytes: &[u8]) -> usize
+    ensures within { result ≤ length bytes.now }
+    ensures white { (k : ℕ) → k < result → is_white (get_or bytes.now k 0) ≡ true }
+{
+    for i in 0..bytes.len() {
+        if !is_white(bytes[i]) {
+            return i;
+        }
+    }
+    bytes.len()
+}
