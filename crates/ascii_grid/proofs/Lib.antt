@@ -14,3 +14,5 @@ mod Computes
 pub mod Fronts
 pub mod Runs
 pub mod Whites
+pub mod Ticks
+pub mod KeyValues

@@ -12,14 +12,14 @@ use Rattle.ascii_grid.proofs.Runs.{behind}
 abbrev pub white_passed : Open → ℕ → Open
 white_passed o n = record { at = min (o.at + n) 18446744073709551615; begun = o.begun; text = [] }
 
-abbrev AreWhite : List ℕ → Type 0
+abbrev pub AreWhite : List ℕ → Type 0
 AreWhite ws = (k : ℕ) → k < length ws → is_white (get_or ws k 0) ≡ true
 
 behind_is : (c : ℕ) (cs : List ℕ) (at : ℕ) → behind (c ∷ cs) at ≡ min (at + length (c ∷ cs)) 18446744073709551615
 behind_is c [] at = omega arith
 behind_is c (d ∷ ds) at = let rest = behind_is d ds (next at) in omega arith
 
-white_fed : (ws : List ℕ) (at begun : ℕ) (r : Read) → AreWhite ws → fed (Ok (record { held = open_at at begun []; read = r })) ws ≡ Ok (record { held = open_at (behind ws at) begun []; read = r })
+pub white_fed : (ws : List ℕ) (at begun : ℕ) (r : Read) → AreWhite ws → fed (Ok (record { held = open_at at begun []; read = r })) ws ≡ Ok (record { held = open_at (behind ws at) begun []; read = r })
 unfolding add_byte
 white_fed [] at begun r white = refl
 white_fed (c ∷ cs) at begun r white =

@@ -6,6 +6,7 @@ pub mod head;
 mod keys;
 pub mod laws;
 mod open;
+mod pairs;
 mod parts;
 mod placing;
 pub mod row;

@@ -11,8 +11,9 @@ ghost use Rattle.ascii_grid.specs.Scan.{State, then_byte, fed, start, Reaches, a
 
 use crate::faults::GridFault;
 use crate::head::{GridHead, Starts};
-use crate::keys::shape_of;
+use crate::keys::{set_value, shape_of};
 use crate::open::Open;
+use crate::pairs::pair_at;
 use crate::parts::{Found, Shape, Stage};
 use crate::steps::{add_number, add_token, needed};
 use crate::tokens::{dark_len, is_white, white_len};
@@ -146,6 +147,39 @@ impl Scanner {
         self.held.pass_white(white.len());
     }
 
+    // Takes a key of `n` bytes and its value, with the white space behind them, where that is what stands in front
+    // and no token is open. How many bytes it took, 0 where something else stands there.
+    fn add_pair(&mut self, bytes: &[u8], n: usize) -> usize
+        requires some { 0 < n }
+        requires few { n ≤ 64 }
+        requires within { n < length bytes.now }
+        requires dark { (k : ℕ) → k < n → is_white (get_or bytes.now k 0) ≡ false }
+        requires closed { (s : State) → self.old ≡ Ok s → s.held.text ≡ [] }
+        ensures within { result ≤ length bytes.now }
+        ensures state { self.new ≡ fed self.old (take result bytes.now) }
+        ensures stays { (f : GridFault) → self.old ≡ Err f → self.new ≡ Err f }
+    {
+        if self.fault.is_some() {
+            return 0;
+        }
+        if let Stage::AtKey(found) = &mut self.stage {
+            if let Some(pair) = pair_at(bytes, n) {
+                self.held.pass_white(pair.from);
+                match set_value(
+                    found,
+                    pair.key,
+                    self.held.place(),
+                    &bytes[pair.from..pair.end],
+                ) {
+                    Ok(()) => self.held.pass_token(pair.end - pair.from),
+                    Err(fault) => self.fault = Some(fault),
+                }
+                return pair.end + 1;
+            }
+        }
+        0
+    }
+
     // Takes the first of these bytes: white space, or a whole token with the white space behind it, where
     // none is open, else one byte. How many it took.
     fn add_part(&mut self, bytes: &[u8]) -> usize
@@ -167,6 +201,10 @@ impl Scanner {
             }
             let n = dark_len(bytes);
             if n > 0 && n <= 64 && n < bytes.len() {
+                let taken = self.add_pair(bytes, n);
+                if taken > 0 {
+                    return taken;
+                }
                 self.add_whole(&bytes[..n]);
                 return n + 1;
             }
