@@ -10,16 +10,16 @@ ghost use Rattle.lists_and_answers.specs.Places.{StandsAt};
 ghost use Rattle.ascii_grid.specs.Scan.{State, then_byte, fed, start, Reaches, answer_of, grid_after, IsAt, with_read, ended, body_closed, closed, Reads, IsFaultOf, HasScanned, IsFaultIn};
 
 use crate::faults::GridFault;
-use crate::head::{GridHead, Starts};
+use crate::head::GridHead;
 use crate::keys::{set_value, shape_of};
 use crate::open::Open;
 use crate::pairs::pair_at;
 use crate::parts::{Found, Shape, Stage};
+use crate::starts::Starts;
 use crate::steps::{add_number, add_token, needed};
 use crate::tokens::{dark_len, is_white, white_len};
 use crate::values::value_at;
 use geotransform::Size;
-use lists_and_answers::Items;
 use std::alloc::Global;
 use std::marker::Model;
 
@@ -64,7 +64,7 @@ impl Scanner {
                 dy: None,
                 nodata: None,
             }),
-            rows: Items::new(alloc),
+            rows: Starts::new(alloc),
         }
     }
 
