@@ -13,3 +13,6 @@ pub mod Again
 mod Computes
 pub mod Fronts
 pub mod Runs
+pub mod Whites
+pub mod Ticks
+pub mod KeyValues

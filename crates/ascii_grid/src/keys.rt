@@ -1,5 +1,5 @@
 // The keys of the head, and what they say.
-ghost use Rattle.std.specs.Prelude.{◌≡◌, ℤ, pos, neg_ℤ, ◌+ℤ◌, ◌<◌, ◌≤◌, ◌*◌, ◌/◌, ◌^◌, unsigned_abs, IfSome};
+ghost use Rattle.std.specs.Prelude.{◌≡◌, ℤ, pos, neg_ℤ, ◌+ℤ◌, ◌<◌, ◌≤◌, ◌*◌, ◌/◌, ◌^◌, unsigned_abs, Ok, Err, IfSome, IfErr, OnOk};
 ghost use Rattle.geotransform.specs.Geo.{IsTransform};
 ghost use Rattle.ascii_grid.specs.Keys.{key_of, with_value, edge_of, steps_of, placed, shape_of};
 
@@ -38,12 +38,12 @@ pub fn key_of(text: &[u8]) -> Option<Key>
     }
 }
 
-/// What was found, and a key's value that is found now.
+/// Keeps a key's value that is found now.
 #[tactic(auto, unfolding(crate::specs::Keys::with_value))]
-pub fn with_value(found: Found, key: Key, at: u64, text: &[u8]) -> Result<Found, GridFault>
-    ensures { result ≡ with_value found key (record { at = at; text = text.now }) }
+pub fn set_value(found: &mut Found, key: Key, at: u64, text: &[u8]) -> Result<(), GridFault>
+    ensures ok { OnOk result (with_value found.old key (record { at = at; text = text.now }) ≡ Ok found.new) }
+    ensures err { IfErr result (λ f. with_value found.old key (record { at = at; text = text.now }) ≡ Err f) }
 {
-    let mut found = found;
     match key {
         Key::Ncols => found.ncols = Some(side_in(at, text)?),
         Key::Nrows => found.nrows = Some(side_in(at, text)?),
@@ -56,6 +56,15 @@ pub fn with_value(found: Found, key: Key, at: u64, text: &[u8]) -> Result<Found,
         Key::Dy => found.dy = Some(step_in(at, text)?),
         Key::Nodata => found.nodata = nodata_in(at, text)?,
     }
+    Ok(())
+}
+
+/// What was found, and a key's value that is found now.
+pub fn with_value(found: Found, key: Key, at: u64, text: &[u8]) -> Result<Found, GridFault>
+    ensures { result ≡ with_value found key (record { at = at; text = text.now }) }
+{
+    let mut found = found;
+    set_value(&mut found, key, at, text)?;
     Ok(found)
 }
 

@@ -7,9 +7,9 @@ ghost use Rattle.ascii_grid.specs.declared.parts.Stage.TheVariants.{AtKey, InBod
 ghost use Rattle.ascii_grid.specs.Scan.{Reaches, IsBody, IsAt, add_token, with_rows, with_read};
 
 use crate::faults::GridFault;
-use crate::head::Starts;
 use crate::keys::{key_of, shape_of, with_value};
 use crate::parts::{Found, Shape, Stage};
+use crate::starts::Starts;
 use crate::values::{is_body_start, value_in};
 
 /// How many values the body has.
