@@ -3,23 +3,23 @@ use Rattle.std.proofs.Common.{◌≡◌, ℕ, ℤ, pos, ◌+◌, ◌*◌, ◌^�
 use Rattle.std.specs.List.{list_all, prefix_len, suffix_len}
 use Rattle.std.specs.Char.{is_ascii_digit}
 use Rattle.std.proofs.Math.Seq.{take-append_seam, drop-append_seam, take-length, drop-length}
-use Rattle.std.proofs.lemmas.List.{take-append-drop, length-append, append-nil, take_all}
+use Rattle.std.proofs.lemmas.List.{take-append-drop, length-append, take_all}
 use Rattle.std.proofs.lemmas.List.Folds.{list_all-append}
 use Rattle.std.proofs.lemmas.List.Sums.{AllPass-from_list_all, suffix_len-take_no}
 use Rattle.std.proofs.lemmas.List.Elements.{All-get_or}
 use Rattle.std.proofs.lemmas.Bool.Decides.{nat_tests}
+use Rattle.std.proofs.lemmas.Int.{ints}
+use Rattle.std.proofs.lemmas.Nat.{pow-add}
+use Rattle.std.proofs.Math.Nat.{add-mul, mul_assoc, mul-le-mul_right}
+use Rattle.std.specs.Prelude.{◌+ℤ◌, ◌-ℤ◌}
 use Rattle.lists_and_answers.specs.Options.{◌>>=◌}
-use Rattle.geotransform.specs.Decimal.{number, signed, sign_at, digits_at, fraction_at, exponent_of, Decimal, parts_of, places_of, near_at, magnitude, magnitude_at}
-use Rattle.geotransform.proofs.Numbers.{number_short}
+use Rattle.geotransform.specs.Decimal.{number, scaled, signed, sign_at, digits_at, fraction_at, exponent_of, Decimal, parts_of, places_of, near_at, magnitude, magnitude_at}
+use Rattle.geotransform.proofs.Numbers.{number_short, number-append}
 use Rattle.vrt_markup.specs.Items.{is_white, option_case}
 use Rattle.vrt_profile.specs.Fields.{length_before, cut_by, cut_at, first_piece, trim, trim_end, near_by, near_number, pair_of}
-use Rattle.vrt_profile.specs.Fronts.{DigitsFront, MicrosFront}
+use Rattle.vrt_profile.specs.Fronts.{is_inner, DigitsFront, FractionFront, DecimalFront, MicrosFront}
 use Rattle.vrt_profile.specs.Values.{million}
 use Rattle.vrt_profile.proofs.Rules.{signed_size}
-
--- a byte that neither parts nor is white space
-abbrev is_inner : ℕ → Bool
-is_inner c = not (c == 58) && (not (c == 44) && not (is_white c))
 
 digit_inner : (c : ℕ) → is_ascii_digit c ≡ true → is_inner c ≡ true
 digit_inner c h = grind (arith, nat_tests, h)
@@ -98,31 +98,124 @@ guards true b x g h = absurd cc
 guards false true x g h = absurd cc
 guards false false x g h = refl
 
-parts_digits : (text ds : List ℕ) (negative : Bool) → sign_at text ≡ (negative, ds) → length text ≤ 64 → 0 < length ds → list_all is_ascii_digit ds ≡ true → parts_of text ≡ Some (record { negative = negative; whole = ds; fraction = []; exponent = pos 0 })
+abbrev decimal : Bool → List ℕ → List ℕ → Decimal
+decimal negative digits fraction = record { negative = negative; whole = digits; fraction = fraction; exponent = pos 0 }
+
+abbrev parts_then : List ℕ → Bool → List ℕ → Option (List ℕ × List ℕ) → Option Decimal
+parts_then text negative digits o = if nat_lt 64 (length text) then None else (do
+  f ← o
+  e ← exponent_of f.1
+  if length digits + length f.0 == 0 then None else Some (record { negative = negative; whole = digits; fraction = f.0; exponent = e }))
+
+parts_at : (text body digits tail fraction : List ℕ) (negative : Bool) → sign_at text ≡ (negative, body) → digits_at body ≡ (digits, tail) → fraction_at tail ≡ Some (fraction, []) → length text ≤ 64 → 0 < length digits → parts_of text ≡ Some (decimal negative digits fraction)
 unfolding parts_of
-parts_digits text ds negative sign short some all =
+parts_at text body digits tail fraction negative sign cut behind short some =
     ap (λ s. parts_by text s (digits_at s.1)) sign
-    ∙ ap (λ w. parts_by text (negative, ds) w) (digits_all ds all)
-    ∙ guards (nat_lt 64 (length text)) (length ds + 0 == 0) (Some (record { negative = negative; whole = ds; fraction = []; exponent = pos 0 })) (grind (arith, nat_tests, short)) (grind (arith, nat_tests, some))
+    ∙ ap (λ w. parts_by text (negative, body) w) cut
+    ∙ ap (parts_then text negative digits) behind
+    ∙ guards (nat_lt 64 (length text)) (length digits + length fraction == 0) (Some (decimal negative digits fraction)) (grind (arith, nat_tests, short)) (grind (arith, nat_tests, some))
 
 guard : {A : Type 0} (b : Bool) (x : A) → b ≡ true → cond b (Some x) None ≡ Some x
 guard true x h = refl
 guard false x h = absurd cc
 
-near_digits : (text ds : List ℕ) (negative : Bool) → list_all is_inner text ≡ true → sign_at text ≡ (negative, ds) → length text ≤ 64 → 0 < length ds → length ds ≤ 9 → list_all is_ascii_digit ds ≡ true → near_number text ≡ Some (signed negative (number ds * 1000000))
+-- the digits of a number and of its fraction, as units of a place behind the last of them
+grown_by : (a b p q r : ℕ) → p * q ≡ r → (a * p + b) * q ≡ a * r + b * q
+grown_by a b p q r e = add-mul (a * p) b q ∙ ap (λ n. n + b * q) (mul_assoc a p q ∙ ap (λ n. a * n) e)
+
+places : (k n : ℕ) → k ≤ n → 10 ^ k * 10 ^ (n - k) ≡ 10 ^ n
+places k n le = sym (pow-add 10 k (n - k)) ∙ ap (λ m. 10 ^ m) (omega (arith, le))
+
+magnitude_is : (n : ℕ) (negative : Bool) (digits fraction : List ℕ) → length fraction ≤ n → magnitude_at n (decimal negative digits fraction) ≡ number digits * 10 ^ n + number fraction * 10 ^ (n - length fraction)
+magnitude_is n negative digits fraction le =
+    let power : (pos 0 -ℤ pos (length fraction)) +ℤ pos n ≡ pos (n - length fraction) = omega (arith, ints, le) in
+    ap (scaled (number (digits ++ fraction))) power
+    ∙ ap (λ m. m * 10 ^ (n - length fraction)) (number-append digits fraction)
+    ∙ grown_by (number digits) (number fraction) (10 ^ length fraction) (10 ^ (n - length fraction)) (10 ^ n) (places (length fraction) n le)
+
+-- a fraction is below a whole
+below_whole : (n : ℕ) (fraction : List ℕ) → list_all is_ascii_digit fraction ≡ true → length fraction ≤ n → number fraction * 10 ^ (n - length fraction) ≤ 10 ^ n
+below_whole n fraction all le =
+    let small : number fraction < 10 ^ length fraction = number_short fraction (length fraction) all (omega arith) in
+    let product : number fraction * 10 ^ (n - length fraction) ≤ 10 ^ length fraction * 10 ^ (n - length fraction) = mul-le-mul_right (10 ^ (n - length fraction)) (omega (arith, small)) in
+    omega (arith, product, places (length fraction) n le)
+
+near_decimal : (text rest : List ℕ) (m : ℕ) (number_text : List ℕ) (negative : Bool) (d : DecimalFront text m rest) → list_all is_inner number_text ≡ true → sign_at number_text ≡ (negative, d.body) → length number_text ≤ 64 → near_number number_text ≡ Some (signed negative m)
 unfolding places_of
-near_digits text ds negative inner sign short some few all =
-    let d : Decimal = record { negative = negative; whole = ds; fraction = []; exponent = pos 0 } in
-    let small : number ds < 10 ^ 9 = number_short ds 9 all few in
-    let plain : number (ds ++ []) ≡ number ds = ap number (append-nil ds) in
-    let near : nat_lt (magnitude d) (10 ^ 28) ≡ true = ap (λ n. nat_lt (n * 10 ^ 16) (10 ^ 28)) plain ∙ grind (arith, nat_tests, small) in
-    let value : near_at 6 d ≡ Some (number ds * 1000000) = guard (nat_lt (magnitude d) (10 ^ 28)) (magnitude_at 6 d) near ∙ ap (λ n. Some (n * 10 ^ 6)) plain in
-    let size = signed_size negative (number ds * 1000000) in
-    let low : nat_lt (unsigned_abs (signed negative (number ds * 1000000))) (5000000000 * million) ≡ true = ap (λ n. nat_lt n (5000000000 * million)) size ∙ grind (arith, nat_tests, small) in
-    ap (λ t. near_by (places_of 6 t)) (trim_inner text inner)
-    ∙ ap (λ p. near_by (p >>= λ d. near_at 6 d >>= λ n. Some (signed d.negative n))) (parts_digits text ds negative sign short some all)
+near_decimal text rest m t negative d inner sign short =
+    let p : Decimal = decimal negative d.digits d.fraction in
+    let few : length d.fraction ≤ 16 = omega (arith, d.few_behind) in
+    let small : number d.digits < 10 ^ 9 = number_short d.digits 9 d.all d.few in
+    let wide : magnitude p < 10 ^ 28 = omega (arith, magnitude_is 16 negative d.digits d.fraction few, below_whole 16 d.fraction d.all_behind few, small) in
+    let near : nat_lt (magnitude p) (10 ^ 28) ≡ true = grind (arith, nat_tests, wide) in
+    let value : near_at 6 p ≡ Some m = guard (nat_lt (magnitude p) (10 ^ 28)) (magnitude_at 6 p) near ∙ ap (λ n. Some n) (magnitude_is 6 negative d.digits d.fraction d.few_behind ∙ sym d.value) in
+    let size = signed_size negative m in
+    let bound : m < 5000000000 * million = omega (arith, d.value, below_whole 6 d.fraction d.all_behind d.few_behind, small) in
+    let low : nat_lt (unsigned_abs (signed negative m)) (5000000000 * million) ≡ true = ap (λ n. nat_lt n (5000000000 * million)) size ∙ grind (arith, nat_tests, bound) in
+    ap (λ t. near_by (places_of 6 t)) (trim_inner t inner)
+    ∙ ap (λ p. near_by (p >>= λ d. near_at 6 d >>= λ n. Some (signed d.negative n))) (parts_at t d.body d.digits d.tail d.fraction negative sign d.cut d.behind short d.some)
     ∙ ap (λ v. near_by (v >>= λ n. Some (signed negative n))) value
-    ∙ guard (nat_lt (unsigned_abs (signed negative (number ds * 1000000))) (5000000000 * million)) (signed negative (number ds * 1000000)) low
+    ∙ guard (nat_lt (unsigned_abs (signed negative m)) (5000000000 * million)) (signed negative m) low
+
+all_joined : (p : ℕ → Bool) (xs ys : List ℕ) → list_all p xs ≡ true → list_all p ys ≡ true → list_all p (xs ++ ys) ≡ true
+all_joined p xs ys f g = list_all-append p xs ys ∙ and_both (list_all p xs) (list_all p ys) f g
+
+-- digits alone, and digits with a fraction
+pub whole_front : (text rest : List ℕ) (n : ℕ) → DigitsFront text n rest → DecimalFront text (n * 1000000) rest
+whole_front text rest n d = record {
+  body = d.digits;
+  digits = d.digits;
+  tail = [];
+  fraction = [];
+  whole = d.whole;
+  inner = all_by is_ascii_digit is_inner d.digits digit_inner d.all;
+  short = omega (arith, d.few);
+  cut = digits_all d.digits d.all;
+  behind = refl;
+  all = d.all;
+  some = d.some;
+  few = d.few;
+  all_behind = refl;
+  few_behind = omega arith;
+  value = omega (arith, d.value);
+}
+
+stops : (digits behind : List ℕ) → list_all is_ascii_digit digits ≡ true → prefix_len is_ascii_digit behind ≡ 0 → prefix_len is_ascii_digit (digits ++ behind) ≡ length digits
+stops [] behind all none = none
+stops (c ∷ cs) behind all none =
+    ap (λ b. cond b (1 + prefix_len is_ascii_digit (cs ++ behind)) 0) (and_left (is_ascii_digit c) (list_all is_ascii_digit cs) all)
+    ∙ ap (λ n. 1 + n) (stops cs behind (and_right (is_ascii_digit c) (list_all is_ascii_digit cs) all) none)
+    ∙ omega arith
+
+digits_then : (digits behind : List ℕ) → list_all is_ascii_digit digits ≡ true → prefix_len is_ascii_digit behind ≡ 0 → digits_at (digits ++ behind) ≡ (digits, behind)
+digits_then digits behind all none =
+    ap (λ n. (take n (digits ++ behind), drop n (digits ++ behind))) (stops digits behind all none)
+    ∙ ap (λ t. (t, drop (length digits) (digits ++ behind))) (take-append_seam digits behind)
+    ∙ ap (λ t. (digits, t)) (drop-append_seam digits behind)
+
+some_fraction : (fraction : List ℕ) → 0 < length fraction → list_all is_ascii_digit fraction ≡ true → fraction_at (46 ∷ fraction) ≡ Some (fraction, [])
+some_fraction fraction some all =
+    let none : (prefix_len is_ascii_digit fraction == 0) ≡ false = grind (arith, nat_tests, some, prefix_all fraction all) in
+    ap (λ b. cond b None (Some (digits_at fraction))) none ∙ ap (λ x. Some x) (digits_all fraction all)
+
+pub point_front : (text more rest : List ℕ) (n m : ℕ) → DigitsFront text n (46 ∷ more) → FractionFront more m rest → DecimalFront text (n * 1000000 + m) rest
+point_front text more rest n m d f = record {
+  body = d.digits ++ 46 ∷ f.digits;
+  digits = d.digits;
+  tail = 46 ∷ f.digits;
+  fraction = f.digits;
+  whole = d.whole ∙ ap (λ t. d.digits ++ 46 ∷ t) f.whole ∙ sym (append_assoc d.digits (46 ∷ f.digits) rest);
+  inner = all_joined is_inner d.digits (46 ∷ f.digits) (all_by is_ascii_digit is_inner d.digits digit_inner d.all) (all_by is_ascii_digit is_inner f.digits digit_inner f.all);
+  short = omega (arith, length-append d.digits (46 ∷ f.digits), d.few, f.few);
+  cut = digits_then d.digits (46 ∷ f.digits) d.all refl;
+  behind = some_fraction f.digits f.some f.all;
+  all = d.all;
+  some = d.some;
+  few = d.few;
+  all_behind = f.all;
+  few_behind = f.few;
+  value = omega (arith, d.value, f.value);
+}
 
 -- a sign in front
 record Signed (text : List ℕ) (negative : Bool) (behind : List ℕ) : Type 0 where
@@ -130,7 +223,7 @@ record Signed (text : List ℕ) (negative : Bool) (behind : List ℕ) : Type 0 w
   whole : text ≡ sign ++ behind
   inner : list_all is_inner sign ≡ true
   short : length sign ≤ 1
-  same : (ds : List ℕ) → 0 < length ds → list_all is_ascii_digit ds ≡ true → sign_at (sign ++ ds) ≡ (negative, ds)
+  same : (ds digits tail : List ℕ) → digits_at ds ≡ (digits, tail) → 0 < length digits → sign_at (sign ++ ds) ≡ (negative, ds)
 
 abbrev plus_by : ℕ → List ℕ → Bool → Bool × List ℕ
 plus_by c cs y = cond y (false, cs) (false, c ∷ cs)
@@ -138,10 +231,18 @@ plus_by c cs y = cond y (false, cs) (false, c ∷ cs)
 abbrev minus_by : ℕ → List ℕ → Bool → Bool × List ℕ
 minus_by c cs x = cond x (true, cs) (plus_by c cs (c == 43))
 
-plain_digits : (ds : List ℕ) → 0 < length ds → list_all is_ascii_digit ds ≡ true → sign_at ds ≡ (false, ds)
-plain_digits [] some all = absurd (omega (arith, some))
-plain_digits (c ∷ cs) some all =
-    let digit = and_left (is_ascii_digit c) (list_all is_ascii_digit cs) all in
+first_digit : (c : ℕ) (cs digits tail : List ℕ) (b : Bool) → b ≡ is_ascii_digit c → ◌≡◌ {A = List ℕ × List ℕ} (take (cond b (1 + prefix_len is_ascii_digit cs) 0) (c ∷ cs), drop (cond b (1 + prefix_len is_ascii_digit cs) 0) (c ∷ cs)) (digits, tail) → 0 < length digits → is_ascii_digit c ≡ true
+first_digit c cs digits tail true e cut some = sym e
+first_digit c cs digits tail false e cut some =
+    let none : [] ≡ digits = ap (λ (x : List ℕ × List ℕ). x.0) cut in
+    absurd (omega (arith, some, ap length none))
+
+plain_digits : (ds digits tail : List ℕ) → digits_at ds ≡ (digits, tail) → 0 < length digits → sign_at ds ≡ (false, ds)
+plain_digits [] digits tail cut some =
+    let none : [] ≡ digits = ap (λ (x : List ℕ × List ℕ). x.0) cut in
+    absurd (omega (arith, some, ap length none))
+plain_digits (c ∷ cs) digits tail cut some =
+    let digit = first_digit c cs digits tail (is_ascii_digit c) refl cut some in
     let minus : (c == 45) ≡ false = grind (arith, nat_tests, digit) in
     let plus : (c == 43) ≡ false = grind (arith, nat_tests, digit) in
     ap (minus_by c cs) minus ∙ ap (plus_by c cs) plus
@@ -152,7 +253,7 @@ signed_plus c cs true e minus = record {
   whole = refl;
   inner = grind (arith, nat_tests, e);
   short = omega arith;
-  same = λ ds some all. ap (minus_by c ds) minus ∙ ap (plus_by c ds) (sym e);
+  same = λ ds digits tail cut some. ap (minus_by c ds) minus ∙ ap (plus_by c ds) (sym e);
 }
 signed_plus c cs false e minus = record { sign = []; whole = refl; inner = refl; short = omega arith; same = plain_digits }
 
@@ -162,7 +263,7 @@ signed_minus c cs true e = record {
   whole = refl;
   inner = grind (arith, nat_tests, e);
   short = omega arith;
-  same = λ ds some all. ap (minus_by c ds) (sym e);
+  same = λ ds digits tail cut some. ap (minus_by c ds) (sym e);
 }
 signed_minus c cs false e = signed_plus c cs (c == 43) refl (sym e)
 
@@ -170,24 +271,21 @@ signed_at : (text : List ℕ) → Signed text (sign_at text).0 (sign_at text).1
 signed_at [] = record { sign = []; whole = refl; inner = refl; short = omega arith; same = plain_digits }
 signed_at (c ∷ cs) = signed_minus c cs (c == 45) refl
 
-all_joined : (p : ℕ → Bool) (xs ys : List ℕ) → list_all p xs ≡ true → list_all p ys ≡ true → list_all p (xs ++ ys) ≡ true
-all_joined p xs ys f g = list_all-append p xs ys ∙ and_both (list_all p xs) (list_all p ys) f g
-
-front_of : (text : List ℕ) (negative : Bool) (behind : List ℕ) (n : ℕ) (rest : List ℕ) → Signed text negative behind → DigitsFront behind n rest → MicrosFront text (signed negative (n * 1000000)) rest
-front_of text negative behind n rest s d =
-    let inner = all_joined is_inner s.sign d.digits s.inner (all_by is_ascii_digit is_inner d.digits digit_inner d.all) in
+front_of : (text : List ℕ) (negative : Bool) (behind : List ℕ) (m : ℕ) (rest : List ℕ) → Signed text negative behind → DecimalFront behind m rest → MicrosFront text (signed negative m) rest
+front_of text negative behind m rest s d =
+    let inner = all_joined is_inner s.sign d.body s.inner d.inner in
     record {
-      front = s.sign ++ d.digits;
-      whole = s.whole ∙ ap (λ t. s.sign ++ t) d.whole ∙ sym (append_assoc s.sign d.digits rest);
-      colons = all_by is_inner (λ c. not (c == 58)) (s.sign ++ d.digits) not_colon inner;
-      commas = all_by is_inner (λ c. not (c == 44)) (s.sign ++ d.digits) not_comma inner;
-      value = near_digits (s.sign ++ d.digits) d.digits negative inner (s.same d.digits d.some d.all) (omega (arith, length-append s.sign d.digits, s.short, d.few)) d.some d.few d.all ∙ ap (λ k. Some (signed negative (k * 1000000))) (sym d.value);
+      front = s.sign ++ d.body;
+      whole = s.whole ∙ ap (λ t. s.sign ++ t) d.whole ∙ sym (append_assoc s.sign d.body rest);
+      colons = all_by is_inner (λ c. not (c == 58)) (s.sign ++ d.body) not_colon inner;
+      commas = all_by is_inner (λ c. not (c == 44)) (s.sign ++ d.body) not_comma inner;
+      value = near_decimal behind rest m (s.sign ++ d.body) negative d inner (s.same d.body d.digits d.tail d.cut d.some) (omega (arith, length-append s.sign d.body, s.short, d.short));
     }
 
-pub micros_at : (text : List ℕ) (negative : Bool) (behind : List ℕ) (n : ℕ) (rest : List ℕ) (v : ℤ) → (negative, behind) ≡ sign_at text → v ≡ signed negative (n * 1000000) → DigitsFront behind n rest → MicrosFront text v rest
-micros_at text negative behind n rest v sign value digits =
+pub micros_at : (text : List ℕ) (negative : Bool) (behind : List ℕ) (m : ℕ) (rest : List ℕ) (v : ℤ) → (negative, behind) ≡ sign_at text → v ≡ signed negative m → DecimalFront behind m rest → MicrosFront text v rest
+micros_at text negative behind m rest v sign value digits =
     let from : Signed text negative behind = subst (λ (s : Bool × List ℕ). Signed text s.0 s.1) (sym sign) (signed_at text) in
-    subst (λ u. MicrosFront text u rest) (sym value) (front_of text negative behind n rest from digits)
+    subst (λ u. MicrosFront text u rest) (sym value) (front_of text negative behind m rest from digits)
 
 pub digits_front : (text digits rest : List ℕ) (n : ℕ) → (digits, rest) ≡ digits_at text → list_all is_ascii_digit digits ≡ true → 0 < length digits → length digits ≤ 9 → n ≡ number digits → DigitsFront text n rest
 digits_front text digits rest n cut all some few value = record {
