@@ -6,3 +6,4 @@ mod Answered
 mod Computes
 mod Related
 mod Built
+mod ShortNumbers

@@ -7,7 +7,7 @@ use Rattle.geotransform.specs.Geo.{Transform, IsTransform, transform_of, is_near
 use Rattle.vrt_profile.specs.Values.{IsDecimal}
 use Rattle.vrt_markup.proofs.Shorter.{bind_some, guard_some}
 
-signed_size : (b : Bool) (n : ℕ) → unsigned_abs (signed b n) ≡ n
+pub signed_size : (b : Bool) (n : ℕ) → unsigned_abs (signed b n) ≡ n
 signed_size true n = omega (arith, ints)
 signed_size false n = refl
 

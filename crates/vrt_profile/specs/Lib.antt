@@ -2,6 +2,7 @@ pub mod Built
 pub mod Cover
 pub mod Document
 pub mod Fields
+pub mod Fronts
 pub mod Means
 pub mod NumberViews
 pub mod Numbers

@@ -6,6 +6,7 @@ mod building;
 mod dataset;
 pub mod document;
 mod fields;
+mod fronts;
 mod kept;
 mod lookup;
 mod numbers;
