@@ -16,3 +16,4 @@ pub mod Runs
 pub mod Whites
 pub mod Ticks
 pub mod KeyValues
+pub mod Names

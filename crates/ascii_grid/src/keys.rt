@@ -1,5 +1,6 @@
 // The keys of the head, and what they say.
 ghost use Rattle.std.specs.Prelude.{◌≡◌, ℤ, pos, neg_ℤ, ◌+ℤ◌, ◌<◌, ◌≤◌, ◌*◌, ◌/◌, ◌^◌, unsigned_abs, Ok, Err, IfSome, IfErr, OnOk};
+ghost use Rattle.lists_and_answers.specs.Texts.{same_letters};
 ghost use Rattle.geotransform.specs.Geo.{IsTransform};
 ghost use Rattle.ascii_grid.specs.Keys.{key_of, with_value, edge_of, steps_of, placed, shape_of};
 
@@ -9,29 +10,37 @@ use crate::values::{coordinate_in, nodata_in, side_in, step_in};
 use geotransform::{GeoTransform, Ticks};
 use lists_and_answers::same_letters;
 
+// Whether a text is a name but for the case of its letters. Most texts that aren't have another length.
+#[tactic(auto, using(crate::proofs::Names::other_length))]
+fn is_name(text: &[u8], name: &[u8]) -> bool
+    ensures { result ≡ same_letters text.now name.now }
+{
+    text.len() == name.len() && same_letters(text, name)
+}
+
 /// The key that a token names.
 pub fn key_of(text: &[u8]) -> Option<Key>
     ensures { result ≡ key_of text.now }
 {
-    if same_letters(text, b"ncols") {
+    if is_name(text, b"ncols") {
         Some(Key::Ncols)
-    } else if same_letters(text, b"nrows") {
+    } else if is_name(text, b"nrows") {
         Some(Key::Nrows)
-    } else if same_letters(text, b"xllcorner") {
+    } else if is_name(text, b"xllcorner") {
         Some(Key::Xllcorner)
-    } else if same_letters(text, b"xllcenter") {
+    } else if is_name(text, b"xllcenter") {
         Some(Key::Xllcenter)
-    } else if same_letters(text, b"yllcorner") {
+    } else if is_name(text, b"yllcorner") {
         Some(Key::Yllcorner)
-    } else if same_letters(text, b"yllcenter") {
+    } else if is_name(text, b"yllcenter") {
         Some(Key::Yllcenter)
-    } else if same_letters(text, b"cellsize") {
+    } else if is_name(text, b"cellsize") {
         Some(Key::Cellsize)
-    } else if same_letters(text, b"dx") {
+    } else if is_name(text, b"dx") {
         Some(Key::Dx)
-    } else if same_letters(text, b"dy") {
+    } else if is_name(text, b"dy") {
         Some(Key::Dy)
-    } else if same_letters(text, b"NODATA_value") {
+    } else if is_name(text, b"NODATA_value") {
         Some(Key::Nodata)
     } else {
         None
