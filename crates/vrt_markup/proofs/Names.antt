@@ -1,8 +1,8 @@
 -- Names in order, each one once, are as many as before just where no attribute stands twice.
-use Rattle.std.proofs.Common.{◌≡◌, ℕ, ◌+◌, ◌<◌, ◌≤◌, Bool, true, false, cond, not, ◌||◌, ◌&&◌, List, [], ◌∷◌, ◌++◌, map, length, Option, Some, None, refl, sym, ap, ◌∙◌, subst, arith, ◌==◌, IsPermutation, IsSorted}
+use Rattle.std.proofs.Common.{◌≡◌, ℕ, ◌+◌, ◌<◌, ◌≤◌, Bool, true, false, cond, not, ◌||◌, ◌&&◌, List, [], ◌∷◌, ◌++◌, map, length, drop, Option, Some, None, refl, sym, ap, ◌∙◌, subst, arith, ◌==◌, IsPermutation, IsSorted}
 use Rattle.std.specs.declared.cmp.Ordering.{Ordering}
 use Rattle.std.specs.Ordering.{nat_cmp, eq_by_cmp, ordering_then}
-use Rattle.std.specs.List.{list_any, AllByRecursion, IsDistinct, dedup, dedup_from}
+use Rattle.std.specs.List.{prefix_len, list_any, AllByRecursion, IsDistinct, dedup, dedup_from}
 use Rattle.std.specs.List.Sorted.{IsStrictlySortedBy}
 use Rattle.std.specs.Cmp.{IsTotalOrder, then_total, on_total, nat_cmp_total, unsigned_ties, both_tied}
 use Rattle.std.specs.Cmp.Lexicographic.{slice_cmp, on_texts, texts_ties, same_text}
@@ -11,10 +11,10 @@ use Rattle.std.proofs.lemmas.List.{map-append, append_assoc}
 use Rattle.std.proofs.lemmas.List.Kept.{IsStrictlySortedBy-dedup}
 use Rattle.std.proofs.lemmas.List.Sorted.{IsPermutation-sym, length_permutation}
 use Rattle.std.proofs.lemmas.Map.Keys.{IsDistinct-from_sorted, IsDistinct-IsPermutation, IsDistinct-head, IsDistinct-tail, IsDistinct-cons}
-use Rattle.vrt_markup.specs.Items.{Pair, attribute, is_distinct, is_equal, is_some, pair_at, pairs, name_at, trim_front, tag_end, tag_front, tag_at, Tag}
+use Rattle.vrt_markup.specs.Items.{Pair, attribute, is_distinct, is_equal, is_some, is_white, spaces_at, pair_at, pairs, name_at, byte_at, value_at, trim_front, tag_end, tag_front, tag_at, Tag}
 use Rattle.lists_and_answers.specs.Options.{◌>>=◌}
 use Rattle.vrt_markup.specs.Keys.{key_of, last_bytes, number_of, apart, double_from, double_of}
-use Rattle.vrt_markup.proofs.Shorter.{pairs_next}
+use Rattle.vrt_markup.proofs.Shorter.{pairs_next, pairs_none}
 
 both_ways : (a b : Bool) → (a ≡ true → b ≡ true) → (b ≡ true → a ≡ true) → a ≡ b
 both_ways true b to from = sym (to refl)
@@ -265,3 +265,24 @@ twice_case n (Some e) h = ap (λ b. cond b (Some (record { name = n.0; pairs = (
 
 pub tag_twice : (t name rest : List ℕ) → name_at t ≡ Some (name, rest) → is_distinct (pairs rest).0 ≡ false → tag_at t ≡ None
 tag_twice t name rest e h = by_tag t ∙ ap tag_by e ∙ twice_case (name, rest) (tag_end (trim_front (pairs rest).1)) h
+
+-- an attribute begins with white space
+pub space_tells : (c : ℕ) (cs : List ℕ) → is_white c ≡ is_some (spaces_at (c ∷ cs))
+space_tells c cs = by_case (is_white c) (prefix_len is_white cs)
+  where
+    by_case : (b : Bool) (n : ℕ) → b ≡ is_some (cond (cond b (1 + n) 0 == 0) None (Some (drop (cond b (1 + n) 0) (c ∷ cs))))
+    by_case true n =
+        let some : (1 + n == 0) ≡ false = grind (arith, nat_tests) in
+        sym (ap (λ b. is_some (cond b None (Some (drop (1 + n) (c ∷ cs))))) some)
+    by_case false n = refl
+
+none_of : {A : Type 0} (o : Option A) → is_some o ≡ false → o ≡ None
+none_of None h = refl
+none_of (Some x) h = absurd cc
+
+no_pair : (t : List ℕ) → spaces_at t ≡ None → pair_at t ≡ None
+unfolding pair_at
+no_pair t h = ap (λ o. o >>= λ front. name_at front >>= λ name. byte_at 61 (trim_front name.1) >>= λ equals. value_at (trim_front equals) >>= λ value. Some (record { name = name.0; value = value.0 }, value.1)) h
+
+pub spaceless : (t : List ℕ) → is_some (spaces_at t) ≡ false → pairs t ≡ ([], t)
+spaceless t h = pairs_none t (no_pair t (none_of (spaces_at t) h))

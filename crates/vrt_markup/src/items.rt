@@ -329,9 +329,20 @@ fn stands_twice_early(alloc: Global, text: &[u8], numbers: &[u64]) -> Result<boo
     }
 }
 
+/// Whether an attribute may stand in front.
+#[tactic(auto, using(crate::proofs::Names::space_tells))]
+fn has_space(text: &[u8]) -> bool
+    ensures space { result ≡ is_some (spaces_at text.now) }
+{
+    match text {
+        [c, ..] => is_white(*c),
+        [] => false,
+    }
+}
+
 /// The numbers of the attributes' names, and what stands behind all attributes in front; none where
 /// one of the first attributes stands twice.
-#[tactic(auto, using(crate::proofs::Shorter::pairs_next, crate::proofs::Shorter::pairs_none))]
+#[tactic(auto, using(crate::proofs::Names::spaceless, crate::proofs::Shorter::pairs_none))]
 fn numbers_of(alloc: Global, text: &[u8]) -> Result<Option<(Vec<u64>, &[u8])>, AllocError>
     ensures numbers { IfOk result (λ o. IfSome o (λ x. x.0.items ≡ map number_of (pairs text.now).0)) }
     ensures rest { IfOk result (λ o. IfSome o (λ x. x.1.now ≡ (pairs text.now).1)) }
@@ -339,6 +350,9 @@ fn numbers_of(alloc: Global, text: &[u8]) -> Result<Option<(Vec<u64>, &[u8])>, A
     ensures twice { IfOk result (λ o. o ≡ None → is_distinct (pairs text.now).0 ≡ false) }
 {
     let mut numbers = Vec::new(alloc);
+    if !has_space(text) {
+        return Ok(Some((numbers, text)));
+    }
     let mut rest = text;
     while let Some((pair, more)) = pair_at(rest) {
         numbers.push(last_bytes(pair.name))?;
