@@ -112,7 +112,7 @@ fn read_pair<'x, R: Threads + Sync, F: Folder, S: Scene>(
     requires back { AreReady F.Folder S.told supply.now.cat.now job.now halves.middle lanes.1.now turns.1.now out.1.now }
     requires back_few { length lanes.1.now ≤ halves.most }
     ensures front { HaveRead F.Folder S.told supply.now.cat.now job.now halves.first (length lanes.entry.0.now) lanes.exit.0.now turns.exit.0.now out.exit.0.now }
-    ensures back { HaveRead F.Folder S.told supply.now.cat.now job.now halves.middle (length lanes.entry.1.now) lanes.exit.1.now turns.exit.1.now out.exit.1.now }
+    ensures back { HaveRead F.Folder S.told supply.now.cat.now job.now halves.middle (length lanes.entry.1.now) lanes.exit.1.0.now turns.exit.1.0.now out.exit.1.0.now }
 {
     let (first_lanes, other_lanes) = lanes;
     let (first_turns, other_turns) = turns;
