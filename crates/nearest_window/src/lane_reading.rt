@@ -164,7 +164,7 @@ impl<F: Folder> Lane<F> {
         ensures changed { IfErr result (TellsChangeIn supply.now.cat.now) }
         ensures never { WhereTold F.Folder folder.old (λ _. IfErr result IsUnchanged) }
         ensures canvas { OnOk result (IsCanvas canvas.new) }
-        ensures taken { (d : Dataset) → slice_get supply.now.cat.now source.entry.key.dataset ≡ Some d → OnOk result (IsSourceTaken (F.names folder.new) supply.now.cat.now d source.entry.key.band source.entry.number source.entry.source.now canvas.old canvas.new) }
+        ensures taken { (d : Dataset) → slice_get supply.now.cat.now source.entry.key.dataset ≡ Some d → OnOk result (IsSourceTaken (F.names folder.new) supply.now.cat.now d source.entry.source.now canvas.old canvas.new) }
     {
         let Some(asked) = asked_of(supply.alloc, supply.cat, source, canvas)? else {
             return Ok(());
