@@ -164,9 +164,9 @@ mosaic_is_of_targets m cat id band x y d doc b sizes pixels is at has there same
     shown_is look images d.head.name doc.size s t.name x y (when_ok (source_name d.head.name s) _ t.name t.resolves)
     ∙ given_same s doc.size (size_of (look t.name)) (sizes s) (images t.name (s.band - 1)) (pixels s) x y (ap size_of found ∙ sym q.0)
     (λ u v. ap (λ o. pixel_step look (pixel_within look m 15) m o (s.band - 1) u v) found
-        ∙ same_pixels cat look look m (by_name cat) (by_name cat) 15 15 16 t.dataset (omega arith) (omega arith) t.asked (s.band - 1) u v
-        ∙ sym (pixel_is m cat p.number (s.band - 1) u v t.dataset p.there)
-        ∙ sym (q.1 u v)))
+    ∙ same_pixels cat look look m (by_name cat) (by_name cat) 15 15 16 t.dataset (omega arith) (omega arith) t.asked (s.band - 1) u v
+    ∙ sym (pixel_is m cat p.number (s.band - 1) u v t.dataset p.there)
+    ∙ sym (q.1 u v)))
 
 pub own_targets : (m : Files) (cat : List Dataset) (d : Dataset) (band : ℕ) → AreOfTargets m cat d band (target_size cat d) (target_pixel m cat d)
 own_targets m cat d band source t s e stands is there = (
