@@ -61,7 +61,7 @@ fn read_twice<R: Abort, F: Folder>(
     capacity: u32,
 ) -> Reading {
     let (name, wanted) = *line;
-    let columns = wanted.len() as u32;
+    let columns = wanted.len().min(0xffff_ffff) as u32;
     let windows: [Place; 2] = [(0, (0, 0, columns, 1)), (0, (0, 0, columns, 1))];
     let job = Job {
         name,
@@ -391,7 +391,7 @@ fn count_of((w, h): (u32, u32)) -> u64 {
 fn point_at(size: (u32, u32), step: u64) -> Place {
     let columns = size.0.max(1) as u64;
     let number = step.saturating_mul(59) % count_of(size).max(1);
-    let (x, y) = (number % columns, number / columns);
+    let (x, y) = (number % columns, (number / columns).min(0xffff_ffff));
     (0, (x as u32, y as u32, 1, 1))
 }
 
