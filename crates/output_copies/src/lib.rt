@@ -1,9 +1,12 @@
 // Outputs of translations: copied strip by strip from a team of lanes into a target, or made as a document, and published.
 #![tactic(auto)]
 
+mod ahead;
+mod calls;
 mod copying;
 mod documents;
 mod output;
+mod parts;
 mod progress;
 mod texts;
 mod writing;

@@ -13,8 +13,9 @@ ghost use Rattle.error_lines.specs.Steps.{all_done, publishes, Goes};
 ghost use Rattle.output_copies.specs.Copying.{IsFilled, MayEnd};
 ghost use Rattle.output_copies.specs.Steps.{files_by, progress, raster_of, translation_steps, unless_quiet, written};
 
-use crate::copying::{Copier, area, copy_all};
+use crate::copying::{Copier, copy_all};
 use crate::documents::write_document;
+use crate::parts::area;
 use crate::texts::{put_end, put_size};
 use crate::writing::Writing;
 use error_lines::Fault;
