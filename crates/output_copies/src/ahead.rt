@@ -401,6 +401,14 @@ fn tell_and_answer<O: Sink>(
     }
 }
 
+// The next lines are those that are written next.
+fn turn(rooms: &mut Rooms)
+    ensures ready { rooms.new.ready.items ≡ rooms.old.next.items }
+    ensures next { rooms.new.next.items ≡ rooms.old.ready.items }
+{
+    std::mem::swap(&mut rooms.ready, &mut rooms.next);
+}
+
 /// As `copy_all`, with a second room: the next lines are read into it while the last ones are written.
 pub fn copy_ahead<R: Threads + Sync, F: Folder, O: Sink, L: Ledger + Send, W: Ledger, S: Scene>(
     rt: &R,
@@ -448,7 +456,7 @@ pub fn copy_ahead<R: Threads + Sync, F: Folder, O: Sink, L: Ledger + Send, W: Le
         let pair = Pair { last, next };
         let read = write_and_read(rt, translation, copier, folder, target, pair, rooms)?;
         told = tell_and_answer(out, quiet, told, plan, last, read)?;
-        std::mem::swap(&mut rooms.ready, &mut rooms.next);
+        turn(rooms);
         last = next;
     }
     let writes = &mut copier.writes;

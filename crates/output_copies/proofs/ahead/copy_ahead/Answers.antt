@@ -1,4 +1,4 @@
-use Rattle.std.proofs.Common.{◌≡◌, ◌∙◌, ◌+◌, ◌*◌, ◌≤◌, refl, arith, sym, subst, take, length, ℕ, Option, Result, Err}
+use Rattle.std.proofs.Common.{◌≡◌, ◌∙◌, ◌+◌, ◌*◌, ◌≤◌, ap, refl, arith, sym, subst, take, length, ℕ, ℤ, List, Option, Result, Err}
 use Rattle.std.specs.Prelude.{OnErr, OnOk}
 use Rattle.outside.specs.Outside.{Files}
 use Rattle.outside.specs.Streams.{Gets, GetsPart}
@@ -118,12 +118,12 @@ loop-next-preserved g c =
       few = c.in-Some.ensures.few;
       ready = done.ready;
       room = done.room;
-      long = (let size = done.size in let long = before.long_next in omega (arith, size, long));
-      long_next = (let size = done.kept in let long = before.long in omega (arith, size, long));
+      long = (let n = ap length c.turn.ensures.ready in let size = done.size in let long = before.long_next in omega (arith, n, size, long));
+      long_next = (let n = ap length c.turn.ensures.next in let size = done.kept in let long = before.long in omega (arith, n, size, long));
       filled = filled_on told t.cat t.id t.plan c.rules.ensures.kept c.write_and_read.new.target c.loop-next.last next before.part c.in-Some.ensures.behind
           (subst (λ (o : Option Files). IsFilled o t.cat t.id t.plan c.write_and_read.new.target c.loop-next.last.first c.loop-next.last.end (c.loop-next.last.band + 1)) names done.filled);
-      read = subst (λ (o : Option Files). BeginsWith o t.cat t.id t.plan next c.write_and_read.new.rooms.next.items) names
-          (subst (λ (r : Result (Unit {0}) Fault). OnOk r (BeginsWith (g.F.Folder.names c.write_and_read.new.folder) t.cat t.id t.plan next c.write_and_read.new.rooms.next.items)) c.in_ok-told-2.ensures.read done.read);
+      read = subst (λ (r : List ℤ). BeginsWith told t.cat t.id t.plan next r) (sym c.turn.ensures.ready) (subst (λ (o : Option Files). BeginsWith o t.cat t.id t.plan next c.write_and_read.new.rooms.next.items) names
+          (subst (λ (r : Result (Unit {0}) Fault). OnOk r (BeginsWith (g.F.Folder.names c.write_and_read.new.folder) t.cat t.id t.plan next c.write_and_read.new.rooms.next.items)) c.in_ok-told-2.ensures.read done.read));
       name = done.name ∙ before.name;
       names = names;
       folder_later = (let a = before.folder_later in let b = done.ends.cause.folder_later in omega (arith, a, b));
@@ -147,3 +147,6 @@ returns-in_err-write_front-clause-ends g c =
     ends_so told _ _ _ _ x c.from_residual-in_err-write_front.result (err_is c.from_residual-in_err-write_front.result x c.from_residual-in_err-write_front.ensures)
     (ends_after told (g.F.Folder.names c.loop-next.folder) (g.F.Folder.faults c.args.folder.now) (g.F.Folder.faults c.loop-next.folder) (g.F.Folder.faults c.write_front.new.folder) (g.O.Sink.faults c.args.out.now) o o (Err x) before.names before.folder_later before.out_later
     (ends_beside (g.F.Folder.names c.loop-next.folder) (g.F.Folder.faults c.loop-next.folder) (g.F.Folder.faults c.write_front.new.folder) o (Err x) c.in_err-write_front.ensures.were.ends))
+
+pub returns-clause-filled : goal.returns-clause-filled
+returns-clause-filled g c = ?
