@@ -148,5 +148,19 @@ returns-in_err-write_front-clause-ends g c =
     (ends_after told (g.F.Folder.names c.loop-next.folder) (g.F.Folder.faults c.args.folder.now) (g.F.Folder.faults c.loop-next.folder) (g.F.Folder.faults c.write_front.new.folder) (g.O.Sink.faults c.args.out.now) o o (Err x) before.names before.folder_later before.out_later
     (ends_beside (g.F.Folder.names c.loop-next.folder) (g.F.Folder.faults c.loop-next.folder) (g.F.Folder.faults c.write_front.new.folder) o (Err x) c.in_err-write_front.ensures.were.ends))
 
+pub returns-in_err-tell-clause-err : goal.returns-in_err-tell-clause-err
+returns-in_err-tell-clause-err g c = ?
+
+pub returns-in_err-tell-clause-ends : goal.returns-in_err-tell-clause-ends
+returns-in_err-tell-clause-ends g c = ?
+
+-- by `filled_next` from the clause `none` of `lines_behind` and `filled` of `write_front`
 pub returns-clause-filled : goal.returns-clause-filled
 returns-clause-filled g c = ?
+
+-- as in `copy_all`, by the clause `whole` of the last `tell`
+pub returns-clause-ok : goal.returns-clause-ok
+returns-clause-ok g c = ?
+
+pub returns-clause-ends : goal.returns-clause-ends
+returns-clause-ends g c = ?
