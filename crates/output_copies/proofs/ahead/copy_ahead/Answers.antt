@@ -8,7 +8,7 @@ use Rattle.output_copies.specs.Parts.{BeginsWith}
 use Rattle.output_copies.specs.Steps.{progress}
 use Rattle.output_copies.proofs.Beside.{fewer_left, filled_on, room_for_fewer}
 use Rattle.output_copies.proofs.Copied.{filled_next, filled_to}
-use Rattle.output_copies.proofs.Ends.{ends_after, ends_beside, ends_so, err_is}
+use Rattle.output_copies.proofs.Ends.{ends_after, ends_beside, ends_ok, ends_so, err_is}
 use Rattle.output_copies.proofs.Told.{told_none, told_so_far}
 use Rattle.output_copies.proofs.ahead.copy_ahead.Goals as goal
 
@@ -149,18 +149,43 @@ returns-in_err-write_front-clause-ends g c =
     (ends_beside (g.F.Folder.names c.loop-next.folder) (g.F.Folder.faults c.loop-next.folder) (g.F.Folder.faults c.write_front.new.folder) o (Err x) c.in_err-write_front.ensures.were.ends))
 
 pub returns-in_err-tell-clause-err : goal.returns-in_err-tell-clause-err
-returns-in_err-tell-clause-err g c = ?
+returns-in_err-tell-clause-err g c =
+    subst (λ (r : Result (Unit {0}) Fault). OnErr r (GetsPart (spoken c.args.copier.now.quiet progress) (g.O.Sink.got c.args.out.now) (g.O.Sink.got c.tell-2.new.out))) (sym (err_is c.from_residual-in_err-tell.result c.in_err-tell.field-0.0 c.from_residual-in_err-tell.ensures))
+    (c.in_err-tell.ensures.told (g.O.Sink.got c.args.out.now) c.loop-next.invariant.text)
 
 pub returns-in_err-tell-clause-ends : goal.returns-in_err-tell-clause-ends
-returns-in_err-tell-clause-ends g c = ?
+returns-in_err-tell-clause-ends g c =
+    let told = g.F.Folder.names c.args.folder.now in
+    let before = c.loop-next.invariant in
+    let x = c.in_err-tell.field-0.0 in
+    let f = g.F.Folder.faults c.write_front.new.folder in
+    ends_so told _ _ _ _ x c.from_residual-in_err-tell.result (err_is c.from_residual-in_err-tell.result x c.from_residual-in_err-tell.ensures)
+    (ends_after told told (g.F.Folder.faults c.args.folder.now) f f (g.O.Sink.faults c.args.out.now) (g.O.Sink.faults c.loop-next.out) (g.O.Sink.faults c.tell-2.new.out) (Err x) refl
+    (let a = before.folder_later in let b = c.in_ok-write_front.ensures.were.ends.cause.folder_later in omega (arith, a, b)) before.out_later (c.in_err-tell.ensures.ends told f))
 
--- by `filled_next` from the clause `none` of `lines_behind` and `filled` of `write_front`
 pub returns-clause-filled : goal.returns-clause-filled
-returns-clause-filled g c = ?
+returns-clause-filled g c =
+    let t = c.args.translation.now in
+    let here = g.F.Folder.names c.write_front.new.folder in
+    let u = c.write_front.new.target in
+    let last = c.loop-next.last in
+    let s = c.in_default.ensures.none refl in
+    subst (λ (n : ℕ). IsFilled here t.cat t.id t.plan u n t.plan.size.h 0) s.1
+    (filled_next here t.cat t.id t.plan c.rules.ensures.kept u last.first last.end t.plan.size.h c.loop-next.invariant.part.order
+    (subst (λ (n : ℕ). IsFilled here t.cat t.id t.plan u last.first last.end n) s.0 c.in_ok-write_front.ensures.were.filled))
 
--- as in `copy_all`, by the clause `whole` of the last `tell`
 pub returns-clause-ok : goal.returns-clause-ok
-returns-clause-ok g c = ?
+returns-clause-ok g c =
+    let before = g.O.Sink.got c.args.out.now in
+    subst (λ (n : ℕ). Gets (spoken c.args.copier.now.quiet (take n progress)) before (g.O.Sink.got c.tell-2.new.out)) (c.in_ok-tell.ensures.whole refl)
+    (c.in_ok-tell.ensures.told before c.loop-next.invariant.text)
 
 pub returns-clause-ends : goal.returns-clause-ends
-returns-clause-ends g c = ?
+returns-clause-ends g c =
+    let told = g.F.Folder.names c.args.folder.now in
+    let before = c.loop-next.invariant in
+    let f = g.F.Folder.faults c.write_front.new.folder in
+    let put = c.in_ok-tell.ensures.ends told f in
+    ends_ok tt told _ _ _ _
+    (let a = before.folder_later in let b = c.in_ok-write_front.ensures.were.ends.cause.folder_later in omega (arith, a, b))
+    (let a = before.out_later in let b = put.cause.out_later in omega (arith, a, b))
