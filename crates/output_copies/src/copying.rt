@@ -19,13 +19,15 @@ use strip_copies::{Lines, StripReader, Translation};
 use write_back::Target;
 
 /// What lines are copied with: a reader, the lines that its lanes share, if there are any, the count of the blocks that are
-/// written, how many lines are copied at a time, and whether nothing is told.
+/// written, how many lines are copied at a time, whether the next ones are read while the last ones are written, and
+/// whether nothing is told.
 #[derive(Drop)]
 pub struct Copier<'a, F: Folder, L: Ledger, W: Ledger, S: Scene> {
     pub reader: StripReader<F, L>,
     pub shared: Option<&'a shared_lines::Lines<S>>,
     pub writes: Steps<W>,
     pub rows: u32,
+    pub ahead: bool,
     pub quiet: bool,
 }
 
