@@ -1,5 +1,5 @@
 -- Lines that are read while those before them are written.
-use Rattle.std.proofs.Common.{◌≡◌, ◌∙◌, ap, sym, subst, refl, ◌+◌, ◌-◌, ◌*◌, ◌<◌, ◌≤◌, arith, ℕ, ℤ, List, length, inl, inr, Option, Result, Ok, Err}
+use Rattle.std.proofs.Common.{◌≡◌, ap, sym, subst, ◌+◌, ◌-◌, ◌*◌, ◌<◌, ◌≤◌, arith, ℕ, ℤ, List, length, inl, inr, Option, Result, Err}
 use Rattle.std.proofs.lemmas.Bool.{cases_lt}
 use Rattle.outside.specs.Causes.{Rose}
 use Rattle.outside.specs.Outside.{Files}

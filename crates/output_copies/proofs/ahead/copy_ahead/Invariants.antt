@@ -1,4 +1,4 @@
-use Rattle.std.proofs.Common.{◌≡◌, ◌≤◌, ◌+◌, ◌-◌, ◌*◌, length, take, true}
+use Rattle.std.proofs.Common.{◌≡◌, ◌≤◌, ◌+◌, ◌*◌, length, take, true}
 use Rattle.outside.specs.Streams.{Gets}
 use Rattle.lane_teams.specs.Ready.{AreLanesReady}
 use Rattle.strip_copies.specs.Copies.{IsRoomFor}
