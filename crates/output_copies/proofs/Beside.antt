@@ -11,25 +11,21 @@ use Rattle.write_back.specs.View.{TargetView}
 use Rattle.strip_copies.specs.declared.columns.Columns.{Columns}
 use Rattle.strip_copies.specs.declared.reading.Lines.{Lines}
 use Rattle.error_lines.specs.declared.faults.Fault.{Fault}
-use Rattle.output_copies.specs.Ahead.{WereRead, WereWritten}
+use Rattle.output_copies.specs.Ahead.{MayBeRead}
 use Rattle.output_copies.specs.Copying.{IsFilled, MayEnd}
 use Rattle.output_copies.specs.Parts.{AreBehind, ArePart}
 use Rattle.output_copies.proofs.Copied.{filled_next}
 
 module _ {F File Draft : Type 0} (calls : Ghosts F File Draft) (cat : List Dataset) (id : ℕ) (p : Planned) (lines : Lines) where
-  -- what was written, by what the folder and the target are
-  pub written_at : (before folder folder' : F) (was t t' : TargetView) (answer : Result (Unit {0}) Fault) → WereWritten calls cat id p lines before folder was t answer → folder ≡ folder' → t ≡ t' → WereWritten calls cat id p lines before folder' was t' answer
-  written_at before folder folder' was t t' answer were e f =
-      subst (λ (g : F). WereWritten calls cat id p lines before g was t' answer) e (subst (λ (u : TargetView). WereWritten calls cat id p lines before folder was u answer) f were)
-
-  -- what was read, by what the reader and the room are
-  pub read_at : (told : Option Files) (scene : List Dataset) (before view : F) (lanes lanes' : List (LaneView File)) (columns columns' : Columns) (strip strip' : List ℤ) (size : ℕ) (room room' : List ℤ) (answer : Result (Unit {0}) Fault)
-      → WereRead calls cat id p lines told scene before view lanes columns strip size room answer → lanes ≡ lanes' → columns ≡ columns' → strip ≡ strip' → room ≡ room' → WereRead calls cat id p lines told scene before view lanes' columns' strip' size room' answer
-  read_at told scene before view lanes lanes' columns columns' strip strip' size room room' answer were e f g h =
-      subst (λ (x : List (LaneView File)). WereRead calls cat id p lines told scene before view x columns' strip' size room' answer) e
-      (subst (λ (x : Columns). WereRead calls cat id p lines told scene before view lanes x strip' size room' answer) f
-      (subst (λ (x : List ℤ). WereRead calls cat id p lines told scene before view lanes columns x size room' answer) g
-      (subst (λ (x : List ℤ). WereRead calls cat id p lines told scene before view lanes columns strip size x answer) h were)))
+  -- what may be read, by what the view, the reader and the room are
+  pub may_read_at : (told : Option Files) (scene : List Dataset) (view view' : F) (lanes lanes' : List (LaneView File)) (columns columns' : Columns) (strip strip' room room' : List ℤ)
+      → MayBeRead calls cat id p lines told scene view lanes columns strip room → view ≡ view' → lanes ≡ lanes' → columns ≡ columns' → strip ≡ strip' → room ≡ room' → MayBeRead calls cat id p lines told scene view' lanes' columns' strip' room'
+  may_read_at told scene view view' lanes lanes' columns columns' strip strip' room room' may d e f g h =
+      subst (λ (x : F). MayBeRead calls cat id p lines told scene x lanes' columns' strip' room') d
+      (subst (λ (x : List (LaneView File)). MayBeRead calls cat id p lines told scene view x columns' strip' room') e
+      (subst (λ (x : Columns). MayBeRead calls cat id p lines told scene view lanes x strip' room') f
+      (subst (λ (x : List ℤ). MayBeRead calls cat id p lines told scene view lanes columns x room') g
+      (subst (λ (x : List ℤ). MayBeRead calls cat id p lines told scene view lanes columns strip x) h may))))
 
 -- a fault that comes while the output is put to
 pub ends_beside_put : {T U : Type 0} (told : Option Files) (f g o q : ℕ) (x : Fault) → o ≤ q → MayEnd {T = T} told f g 0 0 (Err x) → MayEnd {T = U} told f g o q (Err x)

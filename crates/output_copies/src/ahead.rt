@@ -62,7 +62,6 @@ struct Writing<'a, F: Folder, W: Ledger> {
     folder: &'a mut F,
     target: &'a mut Target<F>,
     writes: &'a mut Steps<W>,
-    samples: &'a [Sample],
     answer: &'a mut Result<(), Fault>,
 }
 
@@ -145,7 +144,7 @@ fn read_next<R: Threads + Sync, F: Folder, L: Ledger, S: Scene>(
 
 // Who writes does so.
 fn write_last<F: Folder, W: Ledger>(task: &Task, writing: &mut Writing<F, W>)
-    requires may { MayBeWritten F.Folder task.now.translation.now.cat task.now.translation.now.id task.now.translation.now.plan task.now.last writing.old.folder.now writing.old.target.now writing.old.samples.now }
+    requires may { MayBeWritten F.Folder task.now.translation.now.cat task.now.translation.now.id task.now.translation.now.plan task.now.last writing.old.folder.now writing.old.target.now task.now.samples.now }
     ensures folder { writing.new.folder.ghost_name ≡ writing.old.folder.ghost_name }
     ensures target { writing.new.target.ghost_name ≡ writing.old.target.ghost_name }
     ensures writes { writing.new.writes.ghost_name ≡ writing.old.writes.ghost_name }
@@ -155,9 +154,8 @@ fn write_last<F: Folder, W: Ledger>(task: &Task, writing: &mut Writing<F, W>)
     let folder = &mut *writing.folder;
     let target = &mut *writing.target;
     let writes = &mut *writing.writes;
-    let samples = writing.samples;
     let translation = task.translation;
-    *writing.answer = write_front(translation, folder, target, task.last, samples, writes);
+    *writing.answer = write_front(translation, folder, target, task.last, task.samples, writes);
 }
 
 // Both do, beside each other where a thread can be started.
@@ -169,7 +167,7 @@ fn do_both<'a, 'b, R: Threads + Sync, F: Folder, L: Ledger + Send, W: Ledger, S:
     writing: &mut Writing<'b, F, W>,
 )
     requires may_read { MayBeRead F.Folder task.now.translation.now.cat task.now.translation.now.id task.now.translation.now.plan task.now.next S.told S.cat reading.old.view.now reading.old.reader.now.team.lanes.items reading.old.reader.now.columns reading.old.reader.now.samples.items reading.old.room.now.items }
-    requires may_write { MayBeWritten F.Folder task.now.translation.now.cat task.now.translation.now.id task.now.translation.now.plan task.now.last writing.old.folder.now writing.old.target.now writing.old.samples.now }
+    requires may_write { MayBeWritten F.Folder task.now.translation.now.cat task.now.translation.now.id task.now.translation.now.plan task.now.last writing.old.folder.now writing.old.target.now task.now.samples.now }
     ensures reader { reading.new.reader.ghost_name ≡ reading.old.reader.ghost_name }
     ensures view { reading.new.view.ghost_name ≡ reading.old.view.ghost_name }
     ensures room { reading.new.room.ghost_name ≡ reading.old.room.ghost_name }
@@ -188,7 +186,7 @@ fn do_both<'a, 'b, R: Threads + Sync, F: Folder, L: Ledger + Send, W: Ledger, S:
         read_next::<R, F, L, S>(rt, task, shared, half);
     };
     let write = |half: &mut Writing<F, W>|
-        requires { MayBeWritten F.Folder task.now.translation.now.cat task.now.translation.now.id task.now.translation.now.plan task.now.last half.old.folder.now half.old.target.now half.old.samples.now }
+        requires { MayBeWritten F.Folder task.now.translation.now.cat task.now.translation.now.id task.now.translation.now.plan task.now.last half.old.folder.now half.old.target.now task.now.samples.now }
         ensures { (half.new.folder.ghost_name ≡ half.old.folder.ghost_name) × (half.new.target.ghost_name ≡ half.old.target.ghost_name) × (half.new.writes.ghost_name ≡ half.old.writes.ghost_name) × (half.new.answer.ghost_name ≡ half.old.answer.ghost_name) × WereWritten F.Folder task.entry.now.translation.now.cat task.entry.now.translation.now.id task.entry.now.translation.now.plan task.entry.now.last half.old.folder.now half.new.folder.now half.old.target.now half.new.target.now half.new.answer.now }
     {
         write_last::<F, W>(task, half);
@@ -196,40 +194,44 @@ fn do_both<'a, 'b, R: Threads + Sync, F: Folder, L: Ledger + Send, W: Ledger, S:
     at_once(rt, &read, reading, &write, writing);
 }
 
-// Both do, with what each works on.
-fn do_pair<'x, 't, R: Threads + Sync, F: Folder, L: Ledger + Send, W: Ledger, S: Scene>(
-    rt: &R,
-    task: &Task<'t, 'x>,
-    shared: Option<&shared_lines::Lines<S>>,
+// Who reads what.
+fn who_reads<'x, F: Folder, L: Ledger>(
     reader: &'x mut StripReader<F, L>,
     view: &'x mut F,
     room: &'x mut Vec<Sample>,
-    read: &'x mut Result<(), Fault>,
-    folder: &'x mut F,
-    target: &'x mut Target<F>,
-    writes: &'x mut Steps<W>,
-    written: &'x mut Result<(), Fault>,
-)
-    requires may_read { MayBeRead F.Folder task.now.translation.now.cat task.now.translation.now.id task.now.translation.now.plan task.now.next S.told S.cat view.old reader.old.team.lanes.items reader.old.columns reader.old.samples.items room.old.items }
-    requires may_write { MayBeWritten F.Folder task.now.translation.now.cat task.now.translation.now.id task.now.translation.now.plan task.now.last folder.old target.old task.now.samples.now }
-    ensures were_read { WereRead F.Folder task.now.translation.now.cat task.now.translation.now.id task.now.translation.now.plan task.now.next S.told S.cat view.old view.new reader.new.team.lanes.items reader.new.columns reader.new.samples.items (length room.old.items) room.new.items read.new }
-    ensures were_written { WereWritten F.Folder task.now.translation.now.cat task.now.translation.now.id task.now.translation.now.plan task.now.last folder.old folder.new target.old target.new written.new }
+    answer: &'x mut Result<(), Fault>,
+) -> Reading<'x, F, L>
+    ensures reader { result.reader ≡ reader.entry }
+    ensures view { result.view ≡ view.entry }
+    ensures room { result.room ≡ room.entry }
+    ensures answer { result.answer ≡ answer.entry }
 {
-    let samples = task.samples;
-    let mut reading = Reading {
+    Reading {
         reader,
         view,
         room,
-        answer: read,
-    };
-    let mut writing = Writing {
+        answer,
+    }
+}
+
+// Who writes where.
+fn who_writes<'x, F: Folder, W: Ledger>(
+    folder: &'x mut F,
+    target: &'x mut Target<F>,
+    writes: &'x mut Steps<W>,
+    answer: &'x mut Result<(), Fault>,
+) -> Writing<'x, F, W>
+    ensures folder { result.folder ≡ folder.entry }
+    ensures target { result.target ≡ target.entry }
+    ensures writes { result.writes ≡ writes.entry }
+    ensures answer { result.answer ≡ answer.entry }
+{
+    Writing {
         folder,
         target,
         writes,
-        samples,
-        answer: written,
-    };
-    do_both(rt, task, shared, &mut reading, &mut writing);
+        answer,
+    }
 }
 
 // Drops an answer behind an earlier refusal.
@@ -279,19 +281,10 @@ fn write_and_read<R: Threads + Sync, F: Folder, L: Ledger + Send, W: Ledger, S: 
     let shared = copier.shared;
     let mut read = Ok(());
     let mut written = Ok(());
-    do_pair(
-        rt,
-        &task,
-        shared,
-        &mut copier.reader,
-        &mut view,
-        &mut rooms.next,
-        &mut read,
-        folder,
-        target,
-        &mut copier.writes,
-        &mut written,
-    );
+    let room = &mut rooms.next;
+    let mut reading = who_reads(&mut copier.reader, &mut view, room, &mut read);
+    let mut writing = who_writes(folder, target, &mut copier.writes, &mut written);
+    do_both(rt, &task, shared, &mut reading, &mut writing);
     folder.absorb(view);
     match written {
         Ok(()) => Ok(read),
