@@ -2,9 +2,12 @@
 // published.
 #![tactic(auto)]
 
+mod ahead;
+mod calls;
 mod copying;
 mod documents;
 mod output;
+mod parts;
 mod progress;
 mod texts;
 mod writing;
