@@ -30,7 +30,8 @@ use Rattle.ascii_grid.specs.declared.parts.Key.{Key}
 use Rattle.ascii_grid.specs.declared.parts.Key.TheVariants.{Ncols, Nrows, Xllcorner, Yllcorner, Cellsize, Dx, Dy, Nodata}
 use Rattle.ascii_grid.specs.declared.placing.Placing.{Placing}
 use Rattle.ascii_grid.specs.Tokens.{Token, tokens_from, tokens, token, is_white, is_dark, next}
-use Rattle.ascii_grid.specs.Values.{side_in, coordinate_in, step_in, nodata_in, when_value, is_same, is_body_start, value_in, is_value, is_whole_text, is_whole_end, whole_value}
+use Rattle.lists_and_answers.specs.Texts.{same_letters}
+use Rattle.ascii_grid.specs.Values.{side_in, coordinate_in, step_in, nodata_in, when_value, is_body_start, value_in, is_value, is_whole_text, is_whole_end, whole_value}
 use Rattle.ascii_grid.specs.Keys.{key_of, with_value, steps_of, placed, shape_of}
 use Rattle.ascii_grid.specs.Grid.{head_of, body_of, rows_of, nothing, grid_in, grid_of}
 use Rattle.ascii_grid.specs.Text.{more_text, row_text, line, placing_of, size_lines, edge_lines, are_same, step_lines, nodata_line, head_lines, head_text, joined, AreRows, IsReadAgain, IsGridOf}
@@ -227,7 +228,7 @@ unfolding nodata_in
 nodata_again at n int small =
     let whole : whole_of (signed_decimal n) ≡ Some n = whole_again n (omega (arith, small)) in
     let dec : is_decimal (signed_decimal n) ≡ true = decimal_of_whole (parts_of (signed_decimal n)) (signed_decimal n) n refl whole in
-    ap (λ b. cond (b || is_same (signed_decimal n) (codes "nan")) (Ok (when_value (whole_of (signed_decimal n)))) (Err (BadToken at))) dec
+    ap (λ b. cond (b || same_letters (signed_decimal n) (codes "nan")) (Ok (when_value (whole_of (signed_decimal n)))) (Err (BadToken at))) dec
     ∙ ap (λ (q : Option ℤ). Ok (when_value q)) whole ∙ ap (λ b. Ok (cond b (Some n) None)) int
 
 head_put : (f g : Found) (k : Key) (key : List ℕ) (a b : ℕ) (v : List ℕ) (more : List Token) → is_body_start key ≡ false → key_of key ≡ Some k → with_value f k (record { at = b; text = v }) ≡ Ok g → head_of f (record { at = a; text = key } ∷ (record { at = b; text = v } ∷ more)) ≡ head_of g more

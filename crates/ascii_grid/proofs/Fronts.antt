@@ -1,18 +1,15 @@
 -- Tokens of digits that stand in front of bytes.
-use Rattle.std.proofs.Common.{◌≡◌, ◌≢◌, ℕ, ℤ, pos, Bool, true, false, List, [], ◌∷◌, ◌++◌, refl, sym, ap, ◌∙◌, take, drop, length, ◌≤◌, ◌<◌, ◌+◌, ◌-◌, ◌*◌, arith, cond, suc, zero, Result, Ok, Err, get_or}
+use Rattle.std.proofs.Common.{◌≡◌, ◌≢◌, ℕ, ℤ, pos, Bool, true, false, List, [], ◌∷◌, ◌++◌, refl, sym, ap, ◌∙◌, take, drop, length, ◌≤◌, ◌<◌, ◌+◌, ◌-◌, ◌*◌, arith, cond, suc, zero, Ok, Err, get_or}
 use Rattle.std.specs.Prelude.{neg_ℤ, ◌&&◌}
-use Rattle.std.specs.List.{list_all}
 use Rattle.std.specs.Char.{is_ascii_digit}
 use Rattle.std.proofs.lemmas.Bool.{ne_eqb}
 use Rattle.std.proofs.lemmas.Bool.Decides.{nat_tests}
 use Rattle.std.proofs.lemmas.Int.{ints}
 use Rattle.std.proofs.lemmas.List.{append-nil, get_or-take, length-take-le, take_all}
 use lib.Dec.{eqb}
-use Rattle.lists_and_answers.specs.Answers.{◌>>=◌}
-use Rattle.geotransform.specs.Decimal.{sign_at, number, signed, is_decimal}
+use Rattle.geotransform.specs.Decimal.{sign_at, number, is_decimal}
 use Rattle.geotransform.proofs.RoundTrip.{AreDigits, digits-cons, sign_none}
 use Rattle.ascii_grid.specs.declared.faults.GridFault.{GridFault}
-use Rattle.ascii_grid.specs.declared.faults.GridFault.TheVariants.{BadToken, NotInteger, Limit}
 use Rattle.ascii_grid.specs.declared.parts.Shape.{Shape}
 use Rattle.ascii_grid.specs.declared.parts.Stage.TheVariants.{InBody}
 use Rattle.ascii_grid.specs.Tokens.{is_white}

@@ -1,4 +1,4 @@
-pub mod Texts
+pub mod Products
 pub mod Bodies
 pub mod Pieces
 pub mod Whole
@@ -13,3 +13,7 @@ pub mod Again
 mod Computes
 pub mod Fronts
 pub mod Runs
+pub mod Whites
+pub mod Ticks
+pub mod KeyValues
+pub mod Names

@@ -14,7 +14,7 @@ use Rattle.std.proofs.lemmas.List.Sums.{fold-append}
 use Rattle.ascii_grid.proofs.Pieces.{fed_more, open_at, stuck_bytes}
 
 -- the place behind these bytes
-abbrev behind : List ℕ → ℕ → ℕ
+abbrev pub behind : List ℕ → ℕ → ℕ
 behind [] at = at
 behind (c ∷ cs) at = behind cs (next at)
 
@@ -82,7 +82,7 @@ whole_refused token held r new f c closed some few dark white (inr is) =
     ∙ sym (token_fed token c held.at held.begun r some few dark white)
     ∙ ap (λ (l : List ℕ). fed (Ok (record { held = open_at held.at held.begun l; read = r })) (token ++ c ∷ [])) (sym closed))
 
-taken_more : (xs : List ℕ) (a n : ℕ) → take (a + n) xs ≡ take a xs ++ take n (drop a xs)
+pub taken_more : (xs : List ℕ) (a n : ℕ) → take (a + n) xs ≡ take a xs ++ take n (drop a xs)
 taken_more xs zero n = (let e : 0 + n ≡ n = omega arith in ap (λ k. take k xs) e)
 taken_more [] (suc a) n = let none : List ℕ = [] in take_all (suc a + n) none (omega arith) ∙ sym (take_all n none (omega arith))
 taken_more (x ∷ xs) (suc a) n = (let e : suc a + n ≡ suc (a + n) = omega arith in ap (λ k. take k (x ∷ xs)) e ∙ ap (λ (l : List ℕ). x ∷ l) (taken_more xs a n))

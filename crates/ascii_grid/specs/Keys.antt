@@ -1,6 +1,7 @@
 -- The keys of the head, and what they say.
 use Rattle.std.specs.Prelude.{ℕ, ℤ, pos, neg_ℤ, ◌+ℤ◌, ◌-ℤ◌, ◌*◌, ◌/◌, List, codes, Option, Some, None, Result, Ok, ok_or, if◌then◌else◌}
 use Rattle.lists_and_answers.specs.Answers.{◌>>=◌}
+use Rattle.lists_and_answers.specs.Texts.{same_letters}
 use Rattle.geotransform.specs.Geo.{Transform, transform_of}
 use Rattle.ascii_grid.specs.declared.faults.GridFault.{GridFault}
 use Rattle.ascii_grid.specs.declared.faults.GridFault.TheVariants.{MissingKey, Limit}
@@ -11,21 +12,21 @@ use Rattle.ascii_grid.specs.declared.parts.LowerLeft.TheVariants.{Edge, Centre}
 use Rattle.ascii_grid.specs.declared.parts.Found.{Found}
 use Rattle.ascii_grid.specs.declared.parts.Shape.{Shape}
 use Rattle.ascii_grid.specs.Tokens.{Token}
-use Rattle.ascii_grid.specs.Values.{is_same, side_in, coordinate_in, step_in, nodata_in}
+use Rattle.ascii_grid.specs.Values.{side_in, coordinate_in, step_in, nodata_in}
 
 -- the key that a token names
 abbrev pub key_of : List ℕ → Option Key
 key_of text =
-    if is_same text (codes "ncols") then Some Ncols else
-    (if is_same text (codes "nrows") then Some Nrows else
-    (if is_same text (codes "xllcorner") then Some Xllcorner else
-    (if is_same text (codes "xllcenter") then Some Xllcenter else
-    (if is_same text (codes "yllcorner") then Some Yllcorner else
-    (if is_same text (codes "yllcenter") then Some Yllcenter else
-    (if is_same text (codes "cellsize") then Some Cellsize else
-    (if is_same text (codes "dx") then Some Dx else
-    (if is_same text (codes "dy") then Some Dy else
-    (if is_same text (codes "NODATA_value") then Some Nodata else None)))))))))
+    if same_letters text (codes "ncols") then Some Ncols else
+    (if same_letters text (codes "nrows") then Some Nrows else
+    (if same_letters text (codes "xllcorner") then Some Xllcorner else
+    (if same_letters text (codes "xllcenter") then Some Xllcenter else
+    (if same_letters text (codes "yllcorner") then Some Yllcorner else
+    (if same_letters text (codes "yllcenter") then Some Yllcenter else
+    (if same_letters text (codes "cellsize") then Some Cellsize else
+    (if same_letters text (codes "dx") then Some Dx else
+    (if same_letters text (codes "dy") then Some Dy else
+    (if same_letters text (codes "NODATA_value") then Some Nodata else None)))))))))
 
 -- what was found, and a key's value that is found now
 unfoldable pub with_value : Found → Key → Token → Result Found GridFault

@@ -1,8 +1,9 @@
-pub mod Faults
+-- What public clauses and laws speak of: to be read and trusted.
 pub mod Tokens
 pub mod Values
 pub mod Keys
 pub mod Grid
+pub mod Faults
+pub mod Text
 pub mod Scan
 pub mod Row
-pub mod Text

@@ -1,18 +1,14 @@
 -- What a token says.
-use Rattle.std.specs.Prelude.{ℕ, ℤ, pos, Bool, true, false, ◌&&◌, ◌||◌, List, [], ◌∷◌, length, map, codes, Option, Some, None, Result, Ok, Err, ok_or, nat_lt, nat_le, ◌==◌, if◌then◌else◌, int_lt, unsigned_abs}
+use Rattle.std.specs.Prelude.{ℕ, ℤ, pos, Bool, true, false, ◌&&◌, ◌||◌, List, [], ◌∷◌, length, codes, Option, Some, None, Result, Ok, Err, ok_or, nat_lt, nat_le, ◌==◌, if◌then◌else◌, int_lt, unsigned_abs}
 use Rattle.std.specs.List.{list_all}
-use Rattle.std.specs.Char.{is_ascii_digit, to_ascii_lowercase}
-use Rattle.std.specs.Cmp.Lexicographic.{pointwise}
+use Rattle.std.specs.Char.{is_ascii_digit}
 use Rattle.lists_and_answers.specs.Answers.{◌>>=◌}
+use Rattle.lists_and_answers.specs.Texts.{same_letters}
 use Rattle.geotransform.specs.Decimal.{ticks_of, whole_of, is_decimal, sign_at, digits_at, number, signed, number_of}
 use Rattle.geotransform.specs.Types.{is_in}
 use Rattle.geotransform.specs.declared.types.PixelType.TheVariants.{Int32}
 use Rattle.ascii_grid.specs.declared.faults.GridFault.{GridFault}
 use Rattle.ascii_grid.specs.declared.faults.GridFault.TheVariants.{BadToken, NotInteger, Limit}
-
--- two texts that differ at most in the case of ASCII letters
-abbrev pub is_same : List ℕ → List ℕ → Bool
-is_same a b = pointwise (λ x y. x == y) (map to_ascii_lowercase a) (map to_ascii_lowercase b)
 
 -- a number of columns or rows: one to nine digits that write a number above 0
 unfoldable pub side_in : ℕ → List ℕ → Result ℕ GridFault
@@ -40,7 +36,7 @@ when_value (Some n) = if is_value n then Some n else None
 
 -- a NODATA: none where the number isn't whole or isn't of the band
 unfoldable pub nodata_in : ℕ → List ℕ → Result (Option ℤ) GridFault
-nodata_in at text = if is_decimal text || is_same text (codes "nan") then Ok (when_value (whole_of text)) else Err (BadToken at)
+nodata_in at text = if is_decimal text || same_letters text (codes "nan") then Ok (when_value (whole_of text)) else Err (BadToken at)
 
 -- an optional point with at least one zero behind it and nothing else
 abbrev pub is_whole_end : List ℕ → Bool

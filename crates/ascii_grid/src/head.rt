@@ -1,10 +1,7 @@
 // The head of a grid.
+use crate::starts::Starts;
 use geotransform::{GeoTransform, Sample, Size};
-use lists_and_answers::Items;
 use std::marker::Model;
-
-/// The place of the first byte of the first token of each row, counted from the text's first byte.
-pub type Starts = Items<u64>;
 
 /// The head of a grid. It keeps the limits of a raster: the sides are from 1 to 4,194,304. There is
 /// one place for each row, and the NODATA is a number of Int32.

@@ -1,48 +1,58 @@
 // The keys of the head, and what they say.
-ghost use Rattle.std.specs.Prelude.{◌≡◌, ℤ, pos, neg_ℤ, ◌+ℤ◌, ◌<◌, ◌≤◌, ◌*◌, ◌/◌, ◌^◌, unsigned_abs, IfSome};
+ghost use Rattle.std.specs.Prelude.{◌≡◌, ℤ, pos, neg_ℤ, ◌+ℤ◌, ◌<◌, ◌≤◌, ◌*◌, ◌/◌, ◌^◌, unsigned_abs, Ok, Err, IfSome, IfErr, OnOk};
+ghost use Rattle.lists_and_answers.specs.Texts.{same_letters};
 ghost use Rattle.geotransform.specs.Geo.{IsTransform};
 ghost use Rattle.ascii_grid.specs.Keys.{key_of, with_value, edge_of, steps_of, placed, shape_of};
 
 use crate::faults::GridFault;
 use crate::parts::{Found, Key, LowerLeft, Shape, Side, Step};
-use crate::values::{coordinate_in, is_same, nodata_in, side_in, step_in};
+use crate::values::{coordinate_in, nodata_in, side_in, step_in};
 use geotransform::{GeoTransform, Ticks};
+use lists_and_answers::same_letters;
+
+// Whether a text is a name but for the case of its letters. Most texts that aren't have another length.
+#[tactic(auto, using(crate::proofs::Names::other_length))]
+fn is_name(text: &[u8], name: &[u8]) -> bool
+    ensures { result ≡ same_letters text.now name.now }
+{
+    text.len() == name.len() && same_letters(text, name)
+}
 
 /// The key that a token names.
 pub fn key_of(text: &[u8]) -> Option<Key>
     ensures { result ≡ key_of text.now }
 {
-    if is_same(text, b"ncols") {
+    if is_name(text, b"ncols") {
         Some(Key::Ncols)
-    } else if is_same(text, b"nrows") {
+    } else if is_name(text, b"nrows") {
         Some(Key::Nrows)
-    } else if is_same(text, b"xllcorner") {
+    } else if is_name(text, b"xllcorner") {
         Some(Key::Xllcorner)
-    } else if is_same(text, b"xllcenter") {
+    } else if is_name(text, b"xllcenter") {
         Some(Key::Xllcenter)
-    } else if is_same(text, b"yllcorner") {
+    } else if is_name(text, b"yllcorner") {
         Some(Key::Yllcorner)
-    } else if is_same(text, b"yllcenter") {
+    } else if is_name(text, b"yllcenter") {
         Some(Key::Yllcenter)
-    } else if is_same(text, b"cellsize") {
+    } else if is_name(text, b"cellsize") {
         Some(Key::Cellsize)
-    } else if is_same(text, b"dx") {
+    } else if is_name(text, b"dx") {
         Some(Key::Dx)
-    } else if is_same(text, b"dy") {
+    } else if is_name(text, b"dy") {
         Some(Key::Dy)
-    } else if is_same(text, b"NODATA_value") {
+    } else if is_name(text, b"NODATA_value") {
         Some(Key::Nodata)
     } else {
         None
     }
 }
 
-/// What was found, and a key's value that is found now.
+/// Keeps a key's value that is found now.
 #[tactic(auto, unfolding(crate::specs::Keys::with_value))]
-pub fn with_value(found: Found, key: Key, at: u64, text: &[u8]) -> Result<Found, GridFault>
-    ensures { result ≡ with_value found key (record { at = at; text = text.now }) }
+pub fn set_value(found: &mut Found, key: Key, at: u64, text: &[u8]) -> Result<(), GridFault>
+    ensures ok { OnOk result (with_value found.old key (record { at = at; text = text.now }) ≡ Ok found.new) }
+    ensures err { IfErr result (λ f. with_value found.old key (record { at = at; text = text.now }) ≡ Err f) }
 {
-    let mut found = found;
     match key {
         Key::Ncols => found.ncols = Some(side_in(at, text)?),
         Key::Nrows => found.nrows = Some(side_in(at, text)?),
@@ -55,6 +65,15 @@ pub fn with_value(found: Found, key: Key, at: u64, text: &[u8]) -> Result<Found,
         Key::Dy => found.dy = Some(step_in(at, text)?),
         Key::Nodata => found.nodata = nodata_in(at, text)?,
     }
+    Ok(())
+}
+
+/// What was found, and a key's value that is found now.
+pub fn with_value(found: Found, key: Key, at: u64, text: &[u8]) -> Result<Found, GridFault>
+    ensures { result ≡ with_value found key (record { at = at; text = text.now }) }
+{
+    let mut found = found;
+    set_value(&mut found, key, at, text)?;
     Ok(found)
 }
 
@@ -89,7 +108,7 @@ fn steps_of(cellsize: Option<Step>, dx: Option<Step>, dy: Option<Step>) -> Optio
 }
 
 // The height of so many rows of pixels.
-#[tactic(auto, using(crate::proofs::Texts::height_small))]
+#[tactic(auto, using(crate::proofs::Products::height_small))]
 fn height_of(h: Side, step: Step) -> i128
     ensures value { result ≡ pos (h * step) }
     ensures bound { unsigned_abs result ≤ 4194304 * (18 * 10 ^ 28) }

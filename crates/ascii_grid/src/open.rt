@@ -1,5 +1,5 @@
 // The token that is open while bytes come in pieces.
-ghost use Rattle.std.specs.Prelude.{◌≡◌, ℕ, ◌≤◌, length, Bool, []};
+ghost use Rattle.std.specs.Prelude.{◌≡◌, ℕ, ◌≤◌, ◌+◌, length, Bool, [], min};
 ghost use Rattle.ascii_grid.specs.Scan.{Open, opened, passed, passed_over, is_open};
 
 use crate::tokens::next;
@@ -74,6 +74,14 @@ impl Open {
         self.begun = self.at;
         self.len = 0;
         self.at = self.at.saturating_add(len as u64).saturating_add(1);
+    }
+
+    /// Takes so many bytes of white space, where no token is open.
+    pub fn pass_white(&mut self, len: usize)
+        ensures { self.new ≡ record { at = min (self.old.at + len) 18446744073709551615; begun = self.old.begun; text = [] } }
+    {
+        self.len = 0;
+        self.at = self.at.saturating_add(len as u64);
     }
 
     /// Takes a byte of a token.

@@ -6,7 +6,7 @@ ghost use Rattle.ascii_grid.specs.Scan.{is_open};
 ghost use Rattle.ascii_grid.specs.Row.{value_or_zero, put, reading, row_ended, row_byte, row_fed, padded, Fills, row_of, ended_in, ended_from, fresh, HasRead};
 
 use crate::open::Open;
-use crate::tokens::{dark_len, is_white};
+use crate::tokens::{dark_len, is_white, white_len};
 use crate::values::{value_at, value_in};
 use std::marker::Model;
 
@@ -76,8 +76,20 @@ impl RowState {
         self.held.pass_token(token.len());
     }
 
-    // Reads the first of these bytes: a whole token with the white space behind it, where none is open,
-    // else one byte. How many it read.
+    // Reads white space, where no token is open.
+    fn add_white(&mut self, white: &[u8])
+        requires some { 0 < length white.now }
+        requires white { (k : ℕ) → k < length white.now → is_white (get_or white.now k 0) ≡ true }
+        requires closed { self.old.held.text ≡ [] }
+        ensures fed { (out : List ℤ) → reading self.new out ≡ row_fed (reading self.old out) white.now }
+        ensures over { self.new.over ≡ self.old.over }
+        ensures filled { self.new.filled ≡ self.old.filled }
+    {
+        self.held.pass_white(white.len());
+    }
+
+    // Reads the first of these bytes: white space, or a whole token with the white space behind it, where
+    // none is open, else one byte. How many it read.
     fn add_part(&mut self, bytes: &[u8], out: &mut [i32]) -> usize
         requires filled { self.old.filled ≤ length out.old }
         requires some { 0 < length bytes.now }
@@ -92,6 +104,11 @@ impl RowState {
             if let Some((n, value)) = value_at(bytes) {
                 self.add_whole(&bytes[..n], value, out);
                 return n + 1;
+            }
+            let n = white_len(bytes);
+            if n > 0 {
+                self.add_white(&bytes[..n]);
+                return n;
             }
             let n = dark_len(bytes);
             if n > 0 && n <= 64 && n < bytes.len() {

@@ -10,15 +10,16 @@ ghost use Rattle.lists_and_answers.specs.Places.{StandsAt};
 ghost use Rattle.ascii_grid.specs.Scan.{State, then_byte, fed, start, Reaches, answer_of, grid_after, IsAt, with_read, ended, body_closed, closed, Reads, IsFaultOf, HasScanned, IsFaultIn};
 
 use crate::faults::GridFault;
-use crate::head::{GridHead, Starts};
-use crate::keys::shape_of;
+use crate::head::GridHead;
+use crate::keys::{set_value, shape_of};
 use crate::open::Open;
+use crate::pairs::pair_at;
 use crate::parts::{Found, Shape, Stage};
+use crate::starts::Starts;
 use crate::steps::{add_number, add_token, needed};
-use crate::tokens::{dark_len, is_white};
+use crate::tokens::{dark_len, is_white, white_len};
 use crate::values::value_at;
 use geotransform::Size;
-use lists_and_answers::Items;
 use std::alloc::Global;
 use std::marker::Model;
 
@@ -63,7 +64,7 @@ impl Scanner {
                 dy: None,
                 nodata: None,
             }),
-            rows: Items::new(alloc),
+            rows: Starts::new(alloc),
         }
     }
 
@@ -135,8 +136,52 @@ impl Scanner {
         }
     }
 
-    // Takes the first of these bytes: a whole token with the white space behind it, where none is open,
-    // else one byte. How many it took.
+    // Takes white space, where no token is open.
+    fn add_white(&mut self, white: &[u8])
+        requires some { 0 < length white.now }
+        requires white { (k : ℕ) → k < length white.now → is_white (get_or white.now k 0) ≡ true }
+        requires closed { (s : State) → self.old ≡ Ok s → s.held.text ≡ [] }
+        ensures state { self.new ≡ fed self.old white.now }
+        ensures stays { (f : GridFault) → self.old ≡ Err f → self.new ≡ Err f }
+    {
+        self.held.pass_white(white.len());
+    }
+
+    // Takes a key of `n` bytes and its value, with the white space behind them, where that is what stands in front
+    // and no token is open. How many bytes it took, 0 where something else stands there.
+    fn add_pair(&mut self, bytes: &[u8], n: usize) -> usize
+        requires some { 0 < n }
+        requires few { n ≤ 64 }
+        requires within { n < length bytes.now }
+        requires dark { (k : ℕ) → k < n → is_white (get_or bytes.now k 0) ≡ false }
+        requires closed { (s : State) → self.old ≡ Ok s → s.held.text ≡ [] }
+        ensures within { result ≤ length bytes.now }
+        ensures state { self.new ≡ fed self.old (take result bytes.now) }
+        ensures stays { (f : GridFault) → self.old ≡ Err f → self.new ≡ Err f }
+    {
+        if self.fault.is_some() {
+            return 0;
+        }
+        if let Stage::AtKey(found) = &mut self.stage {
+            if let Some(pair) = pair_at(bytes, n) {
+                self.held.pass_white(pair.from);
+                match set_value(
+                    found,
+                    pair.key,
+                    self.held.place(),
+                    &bytes[pair.from..pair.end],
+                ) {
+                    Ok(()) => self.held.pass_token(pair.end - pair.from),
+                    Err(fault) => self.fault = Some(fault),
+                }
+                return pair.end + 1;
+            }
+        }
+        0
+    }
+
+    // Takes the first of these bytes: white space, or a whole token with the white space behind it, where
+    // none is open, else one byte. How many it took.
     fn add_part(&mut self, bytes: &[u8]) -> usize
         requires { 0 < length bytes.now }
         ensures some { 0 < result }
@@ -149,8 +194,17 @@ impl Scanner {
                 self.add_number(&bytes[..n]);
                 return n + 1;
             }
+            let n = white_len(bytes);
+            if n > 0 {
+                self.add_white(&bytes[..n]);
+                return n;
+            }
             let n = dark_len(bytes);
             if n > 0 && n <= 64 && n < bytes.len() {
+                let taken = self.add_pair(bytes, n);
+                if taken > 0 {
+                    return taken;
+                }
                 self.add_whole(&bytes[..n]);
                 return n + 1;
             }

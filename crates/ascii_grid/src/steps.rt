@@ -7,13 +7,13 @@ ghost use Rattle.ascii_grid.specs.declared.parts.Stage.TheVariants.{AtKey, InBod
 ghost use Rattle.ascii_grid.specs.Scan.{Reaches, IsBody, IsAt, add_token, with_rows, with_read};
 
 use crate::faults::GridFault;
-use crate::head::Starts;
 use crate::keys::{key_of, shape_of, with_value};
 use crate::parts::{Found, Shape, Stage};
+use crate::starts::Starts;
 use crate::values::{is_body_start, value_in};
 
 /// How many values the body has.
-#[tactic(auto, using(crate::proofs::Texts::product_small, crate::proofs::Texts::product_some))]
+#[tactic(auto, using(crate::proofs::Products::product_small, crate::proofs::Products::product_some))]
 pub fn needed(shape: &Shape) -> u64
     ensures value { result ≡ shape.now.w * shape.now.h }
     ensures some { 0 < result }

@@ -16,16 +16,50 @@ pub fn next(at: u64) -> u64
     at.saturating_add(1)
 }
 
+/// Where the first white byte from a place on stands, or the end.
+pub fn dark_end(bytes: &[u8], from: usize) -> usize
+    requires { from ≤ length bytes.now }
+    ensures least { from ≤ result }
+    ensures within { result ≤ length bytes.now }
+    ensures dark { (k : ℕ) → from ≤ k → k < result → is_white (get_or bytes.now k 0) ≡ false }
+    ensures white { result < length bytes.now → is_white (get_or bytes.now result 0) ≡ true }
+{
+    for i in from..bytes.len() {
+        if is_white(bytes[i]) {
+            return i;
+        }
+    }
+    bytes.len()
+}
+
+/// Where the first byte from a place on stands that isn't white, or the end.
+pub fn white_end(bytes: &[u8], from: usize) -> usize
+    requires { from ≤ length bytes.now }
+    ensures least { from ≤ result }
+    ensures within { result ≤ length bytes.now }
+    ensures white { (k : ℕ) → from ≤ k → k < result → is_white (get_or bytes.now k 0) ≡ true }
+{
+    for i in from..bytes.len() {
+        if !is_white(bytes[i]) {
+            return i;
+        }
+    }
+    bytes.len()
+}
+
 /// How many bytes stand in front of the first white one, or of the end.
 pub fn dark_len(bytes: &[u8]) -> usize
     ensures within { result ≤ length bytes.now }
     ensures dark { (k : ℕ) → k < result → is_white (get_or bytes.now k 0) ≡ false }
     ensures white { result < length bytes.now → is_white (get_or bytes.now result 0) ≡ true }
 {
-    for i in 0..bytes.len() {
-        if is_white(bytes[i]) {
-            return i;
-        }
-    }
-    bytes.len()
+    dark_end(bytes, 0)
+}
+
+/// How many bytes stand in front of the first one that isn't white, or of the end.
+pub fn white_len(bytes: &[u8]) -> usize
+    ensures within { result ≤ length bytes.now }
+    ensures white { (k : ℕ) → k < result → is_white (get_or bytes.now k 0) ≡ true }
+{
+    white_end(bytes, 0)
 }

@@ -1,9 +1,9 @@
 // What a token says.
-ghost use Rattle.std.specs.Prelude.{◌≡◌, ◌≤◌, ◌<◌, ℕ, ℤ, true, false, length, take, get_or, IfSome, ◌+◌, ◌-◌, ◌*◌, ◌==◌, min, Some, None, if◌then◌else◌};
+ghost use Rattle.std.specs.Prelude.{◌≡◌, ◌≤◌, ◌<◌, ℕ, ℤ, pos, ◌^◌, true, false, length, take, get_or, IfSome, ◌+◌, ◌-◌, ◌*◌, ◌==◌, min, Some, None, if◌then◌else◌};
 ghost use Rattle.std.specs.List.{list_all};
 ghost use Rattle.std.specs.Char.{is_ascii_digit};
-ghost use Rattle.geotransform.specs.Decimal.{number, signed};
-ghost use Rattle.ascii_grid.specs.Values.{is_same, is_body_start, side_in, coordinate_in, step_in, when_value, nodata_in, is_whole_end, value_in, is_value, has_value};
+ghost use Rattle.geotransform.specs.Decimal.{IsRead, number, signed, ticks_of};
+ghost use Rattle.ascii_grid.specs.Values.{is_body_start, side_in, coordinate_in, step_in, when_value, nodata_in, is_whole_end, value_in, is_value, has_value};
 ghost use Rattle.ascii_grid.specs.Tokens.{is_white};
 ghost use Rattle.ascii_grid.specs.Row.{value_or_zero};
 
@@ -11,14 +11,10 @@ use crate::faults::GridFault;
 use crate::parts::{Coordinate, Side, Step, Value};
 use crate::tokens::is_white;
 use geotransform::decimal::{digits_at, sign_at};
-use geotransform::{PixelType, holds, is_decimal, read_decimal, read_number, read_whole};
-
-/// Whether two texts differ at most in the case of ASCII letters.
-pub fn is_same(a: &[u8], b: &[u8]) -> bool
-    ensures { result ≡ is_same a.now b.now }
-{
-    a.eq_ignore_ascii_case(b)
-}
+use geotransform::{
+    MOST_SIDE, PixelType, Ticks, holds, is_decimal, read_decimal, read_number, read_whole,
+};
+use lists_and_answers::same_letters;
 
 /// Whether a token in a key's place ends the head.
 pub fn is_body_start(text: &[u8]) -> bool
@@ -39,17 +35,52 @@ pub fn side_in(at: u64, text: &[u8]) -> Result<Side, GridFault>
     if text.len() > 9 || n == 0 {
         return Err(GridFault::BadToken(at));
     }
-    if n > 4_194_304 {
+    if n > MOST_SIDE as u64 {
         return Err(GridFault::Limit);
     }
     Ok(Side::new(n as u32))
+}
+
+// So many units.
+#[tactic(auto, using(crate::proofs::Ticks::units_read))]
+fn units(n: u32) -> Ticks
+    ensures value { result ≡ pos (18 * (n * 10 ^ 16)) }
+    ensures read { IsRead result }
+{
+    let n = i128::from(n);
+    Ticks::of(n * 180_000_000_000_000_000)
+}
+
+// The ticks of a few digits, or none where the text is another one.
+#[tactic(auto, using(crate::proofs::Ticks::digits_ticks))]
+fn whole_ticks(text: &[u8]) -> Option<Ticks>
+    ensures value { IfSome result (λ t. ticks_of text.now ≡ Some t) }
+    ensures read { IfSome result IsRead }
+{
+    let (n, value) = digits_in(text);
+    if n > 0 && n <= 64 && n == text.len() {
+        Some(units(value))
+    } else {
+        None
+    }
+}
+
+// The ticks of a decimal text. Digits alone need no powers of ten.
+fn ticks_in(text: &[u8]) -> Option<Ticks>
+    ensures value { result ≡ ticks_of text.now }
+    ensures read { IfSome result IsRead }
+{
+    match whole_ticks(text) {
+        Some(ticks) => Some(ticks),
+        None => read_decimal(text),
+    }
 }
 
 /// A coordinate.
 pub fn coordinate_in(at: u64, text: &[u8]) -> Result<Coordinate, GridFault>
     ensures { result ≡ coordinate_in at text.now }
 {
-    let ticks = read_decimal(text).ok_or(GridFault::BadToken(at))?;
+    let ticks = ticks_in(text).ok_or(GridFault::BadToken(at))?;
     Ok(Coordinate::new(ticks))
 }
 
@@ -58,7 +89,7 @@ pub fn coordinate_in(at: u64, text: &[u8]) -> Result<Coordinate, GridFault>
 pub fn step_in(at: u64, text: &[u8]) -> Result<Step, GridFault>
     ensures { result ≡ step_in at text.now }
 {
-    let ticks = read_decimal(text).ok_or(GridFault::BadToken(at))?;
+    let ticks = ticks_in(text).ok_or(GridFault::BadToken(at))?;
     let n = ticks.get();
     if n > 0 {
         Ok(Step::new(n.unsigned_abs()))
@@ -82,7 +113,7 @@ fn when_value(n: Option<i128>) -> Option<Value>
 pub fn nodata_in(at: u64, text: &[u8]) -> Result<Option<Value>, GridFault>
     ensures { result ≡ nodata_in at text.now }
 {
-    if is_decimal(text) || is_same(text, b"nan") {
+    if is_decimal(text) || same_letters(text, b"nan") {
         Ok(when_value(read_whole(text)))
     } else {
         Err(GridFault::BadToken(at))

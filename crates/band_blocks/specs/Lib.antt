@@ -1,7 +1,9 @@
+-- What public clauses and laws speak of: to be read and trusted.
+pub mod Keys
 pub mod Blocks
 pub mod Contents
-pub mod Keys
-pub mod Open
 pub mod Samples
-pub mod Views
+pub mod Open
 pub mod Spread
+-- What private clauses, views and proofs speak of.
+pub mod Views

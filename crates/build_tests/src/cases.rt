@@ -6,7 +6,8 @@ use lists_and_answers::{Items, push_all};
 use outside::{MemFolder, Name};
 use std::alloc::{AllocError, Global};
 use std::test::*;
-use vrt_profile::{Document, write};
+use vrt_profile::Document;
+use vrt_writing::write;
 
 /// What a row shows, the names of the inputs, what is asked for, and what comes.
 #[derive(Clone, Copy)]

@@ -11,31 +11,38 @@ type FileOf = (&'static str, &'static str);
 static PLAIN: [FileOf; 10] = [
     (
         "a.vrt",
-        "<VRTDataset rasterXSize='2' rasterYSize='1'><GeoTransform>0,1,0,1,0,-1</GeoTransform><VRTRasterBand dataType='Byte'/></VRTDataset>",
+        "<VRTDataset rasterXSize='2' rasterYSize='1'><GeoTransform>0,1,0,1,0,-1</GeoTransform>\
+        <VRTRasterBand dataType='Byte'/></VRTDataset>",
     ),
     (
         "b.vrt",
-        "<VRTDataset rasterXSize='2' rasterYSize='1'><GeoTransform>2,1,0,1,0,-1</GeoTransform><VRTRasterBand dataType='Byte'/></VRTDataset>",
+        "<VRTDataset rasterXSize='2' rasterYSize='1'><GeoTransform>2,1,0,1,0,-1</GeoTransform>\
+        <VRTRasterBand dataType='Byte'/></VRTDataset>",
     ),
     (
         "d/c.vrt",
-        "<VRTDataset rasterXSize='2' rasterYSize='1'><GeoTransform>4,1,0,1,0,-1</GeoTransform><VRTRasterBand dataType='Byte'/></VRTDataset>",
+        "<VRTDataset rasterXSize='2' rasterYSize='1'><GeoTransform>4,1,0,1,0,-1</GeoTransform>\
+        <VRTRasterBand dataType='Byte'/></VRTDataset>",
     ),
     (
         "two.vrt",
-        "<VRTDataset rasterXSize='2' rasterYSize='1'><GeoTransform>0,1,0,1,0,-1</GeoTransform><VRTRasterBand dataType='Byte'/><VRTRasterBand dataType='Byte'/></VRTDataset>",
+        "<VRTDataset rasterXSize='2' rasterYSize='1'><GeoTransform>0,1,0,1,0,-1</GeoTransform>\
+        <VRTRasterBand dataType='Byte'/><VRTRasterBand dataType='Byte'/></VRTDataset>",
     ),
     (
         "int.vrt",
-        "<VRTDataset rasterXSize='2' rasterYSize='1'><GeoTransform>0,1,0,1,0,-1</GeoTransform><VRTRasterBand dataType='Int16'/></VRTDataset>",
+        "<VRTDataset rasterXSize='2' rasterYSize='1'><GeoTransform>0,1,0,1,0,-1</GeoTransform>\
+        <VRTRasterBand dataType='Int16'/></VRTDataset>",
     ),
     (
         "byte_int.vrt",
-        "<VRTDataset rasterXSize='2' rasterYSize='1'><GeoTransform>0,1,0,1,0,-1</GeoTransform><VRTRasterBand dataType='Byte'/><VRTRasterBand dataType='Int16'/></VRTDataset>",
+        "<VRTDataset rasterXSize='2' rasterYSize='1'><GeoTransform>0,1,0,1,0,-1</GeoTransform>\
+        <VRTRasterBand dataType='Byte'/><VRTRasterBand dataType='Int16'/></VRTDataset>",
     ),
     (
         "int_byte.vrt",
-        "<VRTDataset rasterXSize='2' rasterYSize='1'><GeoTransform>0,1,0,1,0,-1</GeoTransform><VRTRasterBand dataType='Int16'/><VRTRasterBand dataType='Byte'/></VRTDataset>",
+        "<VRTDataset rasterXSize='2' rasterYSize='1'><GeoTransform>0,1,0,1,0,-1</GeoTransform>\
+        <VRTRasterBand dataType='Int16'/><VRTRasterBand dataType='Byte'/></VRTDataset>",
     ),
     (
         "placeless.vrt",
@@ -43,11 +50,13 @@ static PLAIN: [FileOf; 10] = [
     ),
     (
         "west.vrt",
-        "<VRTDataset rasterXSize='2' rasterYSize='1'><GeoTransform>0,-1,0,1,0,-1</GeoTransform><VRTRasterBand dataType='Byte'/></VRTDataset>",
+        "<VRTDataset rasterXSize='2' rasterYSize='1'><GeoTransform>0,-1,0,1,0,-1</GeoTransform>\
+        <VRTRasterBand dataType='Byte'/></VRTDataset>",
     ),
     (
         "north.vrt",
-        "<VRTDataset rasterXSize='2' rasterYSize='1'><GeoTransform>0,1,0,1,0,1</GeoTransform><VRTRasterBand dataType='Byte'/></VRTDataset>",
+        "<VRTDataset rasterXSize='2' rasterYSize='1'><GeoTransform>0,1,0,1,0,1</GeoTransform>\
+        <VRTRasterBand dataType='Byte'/></VRTDataset>",
     ),
 ];
 
@@ -56,31 +65,38 @@ static PLAIN: [FileOf; 10] = [
 static NAMED: [FileOf; 7] = [
     (
         "x.vrt",
-        "<VRTDataset rasterXSize='2' rasterYSize='1'><SRS>X&lt;1&gt;</SRS><GeoTransform>0,1,0,1,0,-1</GeoTransform><VRTRasterBand dataType='Byte'/></VRTDataset>",
+        "<VRTDataset rasterXSize='2' rasterYSize='1'><SRS>X&lt;1&gt;</SRS><GeoTransform>0,1,0,1,0,-1</GeoTransform>\
+        <VRTRasterBand dataType='Byte'/></VRTDataset>",
     ),
     (
         "y.vrt",
-        "<VRTDataset rasterXSize='2' rasterYSize='1'><SRS>X&lt;2&gt;</SRS><GeoTransform>0,1,0,1,0,-1</GeoTransform><VRTRasterBand dataType='Byte'/></VRTDataset>",
+        "<VRTDataset rasterXSize='2' rasterYSize='1'><SRS>X&lt;2&gt;</SRS><GeoTransform>0,1,0,1,0,-1</GeoTransform>\
+        <VRTRasterBand dataType='Byte'/></VRTDataset>",
     ),
     (
         "empty.vrt",
-        "<VRTDataset rasterXSize='2' rasterYSize='1'><SRS></SRS><GeoTransform>0,1,0,1,0,-1</GeoTransform><VRTRasterBand dataType='Byte'/></VRTDataset>",
+        "<VRTDataset rasterXSize='2' rasterYSize='1'><SRS></SRS><GeoTransform>0,1,0,1,0,-1</GeoTransform>\
+        <VRTRasterBand dataType='Byte'/></VRTDataset>",
     ),
     (
         "x_pair.vrt",
-        "<VRTDataset rasterXSize='2' rasterYSize='1'><SRS>X&lt;1&gt;</SRS><GeoTransform>2,1,0,1,0,-1</GeoTransform><VRTRasterBand dataType='Byte'/><VRTRasterBand dataType='Byte'/></VRTDataset>",
+        "<VRTDataset rasterXSize='2' rasterYSize='1'><SRS>X&lt;1&gt;</SRS><GeoTransform>2,1,0,1,0,-1</GeoTransform>\
+        <VRTRasterBand dataType='Byte'/><VRTRasterBand dataType='Byte'/></VRTDataset>",
     ),
     (
         "lost.vrt",
-        "<VRTDataset rasterXSize='2' rasterYSize='1'><SRS>X&lt;1&gt;</SRS><VRTRasterBand dataType='Int16'/><VRTRasterBand dataType='Byte'/></VRTDataset>",
+        "<VRTDataset rasterXSize='2' rasterYSize='1'><SRS>X&lt;1&gt;</SRS><VRTRasterBand dataType='Int16'/>\
+        <VRTRasterBand dataType='Byte'/></VRTDataset>",
     ),
     (
         "other.vrt",
-        "<VRTDataset rasterXSize='2' rasterYSize='1'><SRS>X&lt;1&gt;</SRS><GeoTransform>0,1,0,1,0,-1</GeoTransform><VRTRasterBand dataType='Int16'/><VRTRasterBand dataType='Byte'/></VRTDataset>",
+        "<VRTDataset rasterXSize='2' rasterYSize='1'><SRS>X&lt;1&gt;</SRS><GeoTransform>0,1,0,1,0,-1</GeoTransform>\
+        <VRTRasterBand dataType='Int16'/><VRTRasterBand dataType='Byte'/></VRTDataset>",
     ),
     (
         "ints.vrt",
-        "<VRTDataset rasterXSize='2' rasterYSize='1'><GeoTransform>0,1,0,1,0,-1</GeoTransform><VRTRasterBand dataType='Int16'/><VRTRasterBand dataType='Int16'/></VRTDataset>",
+        "<VRTDataset rasterXSize='2' rasterYSize='1'><GeoTransform>0,1,0,1,0,-1</GeoTransform>\
+        <VRTRasterBand dataType='Int16'/><VRTRasterBand dataType='Int16'/></VRTDataset>",
     ),
 ];
 
@@ -88,19 +104,24 @@ static NAMED: [FileOf; 7] = [
 static MARKED: [FileOf; 4] = [
     (
         "nine.vrt",
-        "<VRTDataset rasterXSize='2' rasterYSize='1'><GeoTransform>0,1,0,1,0,-1</GeoTransform><VRTRasterBand dataType='Byte'><NoDataValue>9</NoDataValue></VRTRasterBand></VRTDataset>",
+        "<VRTDataset rasterXSize='2' rasterYSize='1'><GeoTransform>0,1,0,1,0,-1</GeoTransform>\
+        <VRTRasterBand dataType='Byte'><NoDataValue>9</NoDataValue></VRTRasterBand></VRTDataset>",
     ),
     (
         "seven.vrt",
-        "<VRTDataset rasterXSize='2' rasterYSize='1'><GeoTransform>2,1,0,1,0,-1</GeoTransform><VRTRasterBand dataType='Byte'><NoDataValue>7</NoDataValue></VRTRasterBand></VRTDataset>",
+        "<VRTDataset rasterXSize='2' rasterYSize='1'><GeoTransform>2,1,0,1,0,-1</GeoTransform>\
+        <VRTRasterBand dataType='Byte'><NoDataValue>7</NoDataValue></VRTRasterBand></VRTDataset>",
     ),
     (
         "below.vrt",
-        "<VRTDataset rasterXSize='2' rasterYSize='1'><GeoTransform>0,1,0,1,0,-1</GeoTransform><VRTRasterBand dataType='Int16'><NoDataValue>-5</NoDataValue></VRTRasterBand></VRTDataset>",
+        "<VRTDataset rasterXSize='2' rasterYSize='1'><GeoTransform>0,1,0,1,0,-1</GeoTransform>\
+        <VRTRasterBand dataType='Int16'><NoDataValue>-5</NoDataValue></VRTRasterBand></VRTDataset>",
     ),
     (
         "nine_none.vrt",
-        "<VRTDataset rasterXSize='2' rasterYSize='1'><GeoTransform>0,1,0,1,0,-1</GeoTransform><VRTRasterBand dataType='Byte'><NoDataValue>9</NoDataValue></VRTRasterBand><VRTRasterBand dataType='Byte'/></VRTDataset>",
+        "<VRTDataset rasterXSize='2' rasterYSize='1'><GeoTransform>0,1,0,1,0,-1</GeoTransform>\
+        <VRTRasterBand dataType='Byte'><NoDataValue>9</NoDataValue></VRTRasterBand><VRTRasterBand dataType='Byte'/>\
+        </VRTDataset>",
     ),
 ];
 
@@ -108,64 +129,78 @@ static MARKED: [FileOf; 4] = [
 static PLACED: [FileOf; 14] = [
     (
         "one.vrt",
-        "<VRTDataset rasterXSize='4' rasterYSize='2'><GeoTransform>0,1,0,2,0,-1</GeoTransform><VRTRasterBand/></VRTDataset>",
+        "<VRTDataset rasterXSize='4' rasterYSize='2'><GeoTransform>0,1,0,2,0,-1</GeoTransform><VRTRasterBand/>\
+        </VRTDataset>",
     ),
     (
         "fine.vrt",
-        "<VRTDataset rasterXSize='4' rasterYSize='4'><GeoTransform>4,0.5,0,2,0,-0.5</GeoTransform><VRTRasterBand/></VRTDataset>",
+        "<VRTDataset rasterXSize='4' rasterYSize='4'><GeoTransform>4,0.5,0,2,0,-0.5</GeoTransform><VRTRasterBand/>\
+        </VRTDataset>",
     ),
     (
         "flat.vrt",
-        "<VRTDataset rasterXSize='2' rasterYSize='8'><GeoTransform>6,2,0,2,0,-0.25</GeoTransform><VRTRasterBand/></VRTDataset>",
+        "<VRTDataset rasterXSize='2' rasterYSize='8'><GeoTransform>6,2,0,2,0,-0.25</GeoTransform><VRTRasterBand/>\
+        </VRTDataset>",
     ),
     (
         "small_int.vrt",
-        "<VRTDataset rasterXSize='4' rasterYSize='2'><GeoTransform>90,0.125,0,90,0,-0.125</GeoTransform><VRTRasterBand dataType='Int16'/></VRTDataset>",
+        "<VRTDataset rasterXSize='4' rasterYSize='2'><GeoTransform>90,0.125,0,90,0,-0.125</GeoTransform>\
+        <VRTRasterBand dataType='Int16'/></VRTDataset>",
     ),
     (
         "west_and_south.vrt",
-        "<VRTDataset rasterXSize='1' rasterYSize='1'><GeoTransform>-3,1,0,-7,0,-1</GeoTransform><VRTRasterBand/></VRTDataset>",
+        "<VRTDataset rasterXSize='1' rasterYSize='1'><GeoTransform>-3,1,0,-7,0,-1</GeoTransform><VRTRasterBand/>\
+        </VRTDataset>",
     ),
     (
         "three.vrt",
-        "<VRTDataset rasterXSize='3' rasterYSize='3'><GeoTransform>0,1,0,0,0,-1</GeoTransform><VRTRasterBand/></VRTDataset>",
+        "<VRTDataset rasterXSize='3' rasterYSize='3'><GeoTransform>0,1,0,0,0,-1</GeoTransform><VRTRasterBand/>\
+        </VRTDataset>",
     ),
     (
         "double.vrt",
-        "<VRTDataset rasterXSize='3' rasterYSize='3'><GeoTransform>2.5,2,0,0,0,-2</GeoTransform><VRTRasterBand/></VRTDataset>",
+        "<VRTDataset rasterXSize='3' rasterYSize='3'><GeoTransform>2.5,2,0,0,0,-2</GeoTransform><VRTRasterBand/>\
+        </VRTDataset>",
     ),
     (
         "least.vrt",
-        "<VRTDataset rasterXSize='100' rasterYSize='1'><GeoTransform>0,0.0000000000000001,0,0,0,-0.0000000000000001</GeoTransform><VRTRasterBand/></VRTDataset>",
+        "<VRTDataset rasterXSize='100' rasterYSize='1'>\
+        <GeoTransform>0,0.0000000000000001,0,0,0,-0.0000000000000001</GeoTransform><VRTRasterBand/></VRTDataset>",
     ),
     (
         "twice_least.vrt",
-        "<VRTDataset rasterXSize='100' rasterYSize='1'><GeoTransform>0,0.0000000000000002,0,0,0,-0.0000000000000002</GeoTransform><VRTRasterBand/></VRTDataset>",
+        "<VRTDataset rasterXSize='100' rasterYSize='1'>\
+        <GeoTransform>0,0.0000000000000002,0,0,0,-0.0000000000000002</GeoTransform><VRTRasterBand/></VRTDataset>",
     ),
     (
         "origin.vrt",
-        "<VRTDataset rasterXSize='1' rasterYSize='1'><GeoTransform>0,1,0,0,0,-1</GeoTransform><VRTRasterBand/></VRTDataset>",
+        "<VRTDataset rasterXSize='1' rasterYSize='1'><GeoTransform>0,1,0,0,0,-1</GeoTransform><VRTRasterBand/>\
+        </VRTDataset>",
     ),
     (
         "last.vrt",
-        "<VRTDataset rasterXSize='1' rasterYSize='1'><GeoTransform>4194303,1,0,-4194303,0,-1</GeoTransform><VRTRasterBand/></VRTDataset>",
+        "<VRTDataset rasterXSize='1' rasterYSize='1'><GeoTransform>4194303,1,0,-4194303,0,-1</GeoTransform>\
+        <VRTRasterBand/></VRTDataset>",
     ),
     (
         "wide.vrt",
-        "<VRTDataset rasterXSize='4194304' rasterYSize='1'><GeoTransform>0,2,0,1,0,-1</GeoTransform><VRTRasterBand/></VRTDataset>",
+        "<VRTDataset rasterXSize='4194304' rasterYSize='1'><GeoTransform>0,2,0,1,0,-1</GeoTransform><VRTRasterBand/>\
+        </VRTDataset>",
     ),
     (
         "tall.vrt",
-        "<VRTDataset rasterXSize='1' rasterYSize='4194304'><GeoTransform>0,1,0,1,0,-2</GeoTransform><VRTRasterBand/></VRTDataset>",
+        "<VRTDataset rasterXSize='1' rasterYSize='4194304'><GeoTransform>0,1,0,1,0,-2</GeoTransform><VRTRasterBand/>\
+        </VRTDataset>",
     ),
     (
         "far.vrt",
-        "<VRTDataset rasterXSize='1' rasterYSize='1'><GeoTransform>4194304,1,0,0,0,-1</GeoTransform><VRTRasterBand/></VRTDataset>",
+        "<VRTDataset rasterXSize='1' rasterYSize='1'><GeoTransform>4194304,1,0,0,0,-1</GeoTransform><VRTRasterBand/>\
+        </VRTDataset>",
     ),
 ];
 
-// Pixels at the ends of what a place can be: the west side of the first lies half a part of 10^16 within the limit, that
-// of the second a part and a half, and the top of the third half a part.
+// Pixels at the ends of what a place can be: the west side of the first lies half a part of 10^16 within the limit,
+// that of the second a part and a half, and the top of the third half a part.
 static FAR: [FileOf; 8] = [
     ("at_the_end.bil", "0"),
     (
@@ -184,11 +219,13 @@ static FAR: [FileOf; 8] = [
     ),
     (
         "south.vrt",
-        "<VRTDataset rasterXSize='1' rasterYSize='1'><GeoTransform>0,1,0,-4194304,0,-1</GeoTransform><VRTRasterBand/></VRTDataset>",
+        "<VRTDataset rasterXSize='1' rasterYSize='1'><GeoTransform>0,1,0,-4194304,0,-1</GeoTransform><VRTRasterBand/>\
+        </VRTDataset>",
     ),
     (
         "four.vrt",
-        "<VRTDataset rasterXSize='1' rasterYSize='1'><GeoTransform>0,1,0,0,0,-1</GeoTransform><VRTRasterBand/><VRTRasterBand/><VRTRasterBand/><VRTRasterBand/></VRTDataset>",
+        "<VRTDataset rasterXSize='1' rasterYSize='1'><GeoTransform>0,1,0,0,0,-1</GeoTransform><VRTRasterBand/>\
+        <VRTRasterBand/><VRTRasterBand/><VRTRasterBand/></VRTDataset>",
     ),
 ];
 

@@ -24,8 +24,9 @@ asked holds reason = if holds then Ok tt else Err reason
 abbrev pub north_up : Transform → Option Transform
 north_up g = if is_north_up g then Some g else None
 
-abbrev pub place_of : DatasetHead → Option Transform
-place_of h = option_and_then north_up h.geo
+-- that of a dataset, where it is so
+abbrev pub north_up_of : DatasetHead → Option Transform
+north_up_of h = option_and_then north_up h.geo
 
 -- whether two texts, where they stand, are the same
 abbrev pub same_text : Option (List ℕ) → Option (List ℕ) → Bool
@@ -76,14 +77,14 @@ same_count o reference h = if no_choice o.bands && not o.separate then length h.
 -- An input before there is a reference: what it is in the mosaic, or the first reason to skip it.
 unfoldable pub judged_alone : Options → DatasetHead → Result TileValue Reason
 judged_alone o h = do
-  place ← ok_or (place_of h) Geotransform
+  place ← ok_or (north_up_of h) Geotransform
   bands ← asked (has_bands h o.bands) Bands
   Ok (record { head = h; place = place })
 
 -- an input beside the reference
 unfoldable pub judged_beside : Options → DatasetHead → DatasetHead → Result TileValue Reason
 judged_beside o reference h = do
-  place ← ok_or (place_of h) Geotransform
+  place ← ok_or (north_up_of h) Geotransform
   srs ← asked (same_text h.srs reference.srs) Srs
   bands ← asked (has_bands h o.bands && same_count o reference h) Bands
   types ← asked (o.separate || same_types h reference (taken_bands o reference)) BandType

@@ -19,9 +19,9 @@ use std::alloc::{AllocError, Global};
 use vrt_profile::{BandList, MicroRect, Source, SourceList, VrtBand, plain_source, whole_rect};
 
 /// The greatest number of bands, and of sources, of a document.
-const MOST_BANDS: usize = 256;
+const MOST_BANDS: usize = geotransform::MOST_BANDS as usize;
 
-const MOST_SOURCES: usize = 262_144;
+const MOST_SOURCES: usize = catalog::MOST_SOURCES as usize;
 
 // The NODATA of a source, from that of the input's band.
 fn source_nodata(word: NodataWord, own: Option<Sample>) -> Option<Sample>

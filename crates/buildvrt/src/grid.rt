@@ -8,7 +8,7 @@ ghost use Rattle.buildvrt.specs.Grids.{measure, IsMeasure, IsSide, less_of, grea
 
 use crate::options::{BuildOptions, Extent, Resolution};
 use crate::tile::Tile;
-use geotransform::{GeoTransform, Size, Ticks, half, round16, rounded_up};
+use geotransform::{GeoTransform, MOST_SIDE, Size, Ticks, half, round16, rounded_up};
 use std::marker::Model;
 
 /// A number of an input.
@@ -25,7 +25,7 @@ pub enum Measure {
 }
 
 /// The greatest number of columns, and of lines.
-const MOST: i128 = 4_194_304;
+const MOST: i128 = MOST_SIDE as i128;
 
 // The grid of a mosaic.
 #[derive(Drop)]

@@ -7,7 +7,7 @@ ghost use Rattle.std.specs.List.{All, range_with_len};
 ghost use Rattle.lists_and_answers.specs.Answers.{Gives};
 ghost use Rattle.buildvrt.specs.Mosaic.{IsMemory};
 ghost use Rattle.buildvrt.specs.Options.{IsBandNumber};
-ghost use Rattle.buildvrt.specs.Judging.{north_up, place_of, same_text, has_bands, band_of, taken_bands, numbers_or_all, type_number, band_type, same_type, same_types, same_count, judged_alone, judged_beside, joined, one_judged, none_judged, judged_behind, judged_from, judged_of, IsOneOf, first_refused, strictly};
+ghost use Rattle.buildvrt.specs.Judging.{north_up, north_up_of, same_text, has_bands, band_of, taken_bands, numbers_or_all, type_number, band_type, same_type, same_types, same_count, judged_alone, judged_beside, joined, one_judged, none_judged, judged_behind, judged_from, judged_of, IsOneOf, first_refused, strictly};
 
 use crate::faults::{BuildFault, Reason, SkipList, Skipped};
 use crate::options::BuildOptions;
@@ -35,8 +35,8 @@ fn north_up(geo: GeoTransform) -> Option<GeoTransform>
     if is_north_up(&geo) { Some(geo) } else { None }
 }
 
-fn place_of(head: &Head) -> Option<GeoTransform>
-    ensures place { result ≡ place_of head.now }
+fn north_up_of(head: &Head) -> Option<GeoTransform>
+    ensures place { result ≡ north_up_of head.now }
     ensures rules { IfSome result (λ g. IsTransform g × (pos 0 <ℤ g.dx) × (g.dy <ℤ pos 0)) }
 {
     match head.geo {
@@ -180,7 +180,7 @@ fn judge_alone<'a>(options: &BuildOptions, head: &'a Head) -> Result<Tile<'a>, R
     ensures verdict { result ≡ judged_alone options.now head.now }
 {
     head_rules(head);
-    match place_of(head) {
+    match north_up_of(head) {
         None => Err(Reason::Geotransform),
         Some(place) => {
             if has_bands(head, options.bands.as_slice()) {
@@ -205,7 +205,7 @@ fn judge_beside<'a>(
     ensures verdict { result ≡ judged_beside options.now reference.now head.now }
 {
     head_rules(head);
-    match place_of(head) {
+    match north_up_of(head) {
         None => Err(Reason::Geotransform),
         Some(place) => {
             if !same_text(&head.srs, &reference.srs) {

@@ -17,7 +17,7 @@ use std::marker::Model;
 use vrt_profile::{MicroRect, pixel_rect};
 
 /// The greatest offset and size of a rectangle, in pixels.
-const FARTHEST: u128 = 8_388_608;
+const FARTHEST: u128 = geotransform::FARTHEST as u128;
 
 // A rectangle in whole pixels of the mosaic.
 #[derive(Clone, Copy)]

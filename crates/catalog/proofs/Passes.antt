@@ -13,7 +13,7 @@ use Rattle.catalog.specs.declared.faults.WalkFault.{WalkFault}
 use Rattle.catalog.specs.declared.faults.Bad.TheVariants as bad
 use Rattle.catalog.specs.declared.faults.WalkFault.TheVariants.{Limit, Malformed, SourceBand}
 use Rattle.catalog.specs.Dataset.{band_at}
-use Rattle.vrt_profile.specs.declared.fault.VrtFault.TheVariants as vrt
+use Rattle.vrt_markup.specs.declared.fault.VrtFault.TheVariants as vrt
 use Rattle.vrt_profile.specs.Value.{is_plain}
 use Rattle.catalog.specs.declared.walk.Wanted.{Wanted}
 use Rattle.catalog.specs.Drivers.{Dataset}

@@ -6,7 +6,7 @@ use Rattle.lists_and_answers.specs.Options.{◌>>=◌}
 use Rattle.geotransform.specs.declared.types.Size.{Size}
 use Rattle.outside.specs.Outside.{Files}
 use Rattle.vrt_profile.specs.Values.{SourceValue, BandValue, DocumentValue}
-use Rattle.vrt_profile.specs.Value.{mosaic_pixel}
+use Rattle.vrt_profile.specs.Value.{given_of, mosaic_pixel}
 use Rattle.catalog.specs.declared.driver.Content.{Content}
 use Rattle.catalog.specs.declared.driver.Content.TheVariants.{File, Mosaic}
 use Rattle.catalog.specs.declared.driver.DriverHead.{DriverHead}
@@ -15,10 +15,10 @@ use Rattle.catalog.specs.Mosaics.{source_name}
 use Rattle.catalog.specs.Heads.{dataset_in}
 use Rattle.catalog.specs.Walk.{number_from, number_of, dataset_named, sources_in, HasTarget, IsNested, IsCatalog, IsWalked}
 use Rattle.catalog.specs.Links.{target_of, source_at, target_at}
-use Rattle.catalog.specs.Pixels.{size_of, band_pixel, content_pixel, pixel_step, pixel_within, found_in_folder, told, file_pixel, pixel_of, pixel_of_name, target_size, target_pixel, IsTaken, AreOfTargets}
+use Rattle.catalog.specs.Pixels.{size_of, shown, band_pixel, content_pixel, pixel_step, pixel_within, found_in_folder, told, file_pixel, pixel_of, pixel_of_name, target_size, target_pixel, IsTaken, AreOfTargets}
 use Rattle.catalog.specs.Places.{block_rect_of, row_by_row}
 use Rattle.catalog.specs.Blocks.{block_by, block_pixels}
-use Rattle.catalog.proofs.Pixels.{Finds, same_pixels, mosaic_same, none≢some, same_item, at_number, item, part, when_ok, source_is, band_is}
+use Rattle.catalog.proofs.Pixels.{Finds, same_pixels, mosaic_same, given_same, shown_is, none≢some, same_item, item, part, when_ok}
 
 -- the dataset of a name stands under a number, and has the name
 
@@ -132,8 +132,12 @@ source_target cat d band source s nested is =
     let P = HasTarget (λ t. IsNested 15 cat t) cat d.head.name in
     item P b.0.sources source s (part P (λ (v : BandValue). v.sources) doc.0.bands band b.0 (subst (λ c. All P (sources_in c)) (is_mosaic d.content doc.0 doc.1) nested) b.1) b.2
 
+-- the number of the dataset that a source names
+target_named : (cat : List Dataset) (base : List ℕ) (s : SourceValue) (P : Dataset → Type 0) (t : HasTarget P cat base s) (n : ℕ) → number_of cat t.name ≡ Some n → target_of cat base s ≡ Some n
+target_named cat base s P t n found = ap (option_and_then (number_of cat)) (when_ok (source_name base s) _ t.name t.resolves) ∙ found
+
 target_is : (cat : List Dataset) (d : Dataset) (band source : ℕ) (s : SourceValue) (P : Dataset → Type 0) (t : HasTarget P cat d.head.name s) (n : ℕ) → source_at d band source ≡ Some s → number_of cat t.name ≡ Some n → target_at cat d band source ≡ Some n
-target_is cat d band source s P t n is found = ap (λ (o : Option SourceValue). o >>= λ s. target_of cat d.head.name s) is ∙ ap (option_and_then (number_of cat)) (when_ok (source_name d.head.name s) _ t.name t.resolves) ∙ found
+target_is cat d band source s P t n is found = ap (λ (o : Option SourceValue). o >>= λ s. target_of cat d.head.name s) is ∙ target_named cat d.head.name s P t n found
 
 pub has_target : (cat : List Dataset) (id band source : ℕ) (d : Dataset) (s : SourceValue) → IsCatalog cat → slice_get cat id ≡ Some d → source_at d band source ≡ Some s → IsTaken cat d band source s
 has_target cat id band source d s is at stands =
@@ -142,43 +146,38 @@ has_target cat id band source d s is at stands =
     let n = named_is cat t.name t.dataset t.named in
     record { target = n.number; dataset = t.dataset; is = target_is cat d band source s P t n.number stands n.found; there = n.there; has_band = t.band; takes = t.takes }
 
-pub mosaic_is_of_targets : (m : Files) (cat : List Dataset) (id band x y : ℕ) (d : Dataset) (doc : DocumentValue) (b : BandValue) (sizes : ℕ → Size) (pixels : ℕ → ℕ → ℕ → ℤ)
+pub mosaic_is_of_targets : (m : Files) (cat : List Dataset) (id band x y : ℕ) (d : Dataset) (doc : DocumentValue) (b : BandValue) (sizes : SourceValue → Size) (pixels : SourceValue → ℕ → ℕ → ℤ)
     → IsCatalog cat → slice_get cat id ≡ Some d → document_of d.content ≡ Some doc → slice_get doc.bands band ≡ Some b → AreOfTargets m cat d band sizes pixels
-    → pixel_of m cat id band x y ≡ mosaic_pixel b doc.size sizes pixels x y
+    → pixel_of m cat id band x y ≡ mosaic_pixel b (λ s. given_of s doc.size (sizes s) (pixels s)) x y
 mosaic_is_of_targets m cat id band x y d doc b sizes pixels is at has there same =
     let look = dataset_named cat in
     let images = pixel_within look m 16 in
     pixel_is m cat id band x y d at
     ∙ ap (λ c. content_pixel look images m d.head.name c band x y) (is_mosaic d.content doc has)
     ∙ ap (λ o. band_pixel look images d.head.name doc.size o x y) there
-    ∙ mosaic_same b doc.size _ _ _ _ x y (λ k h.
-    let s = at_number b.sources k h in
-    let stands : source_at d band k ≡ Some s.0 = ap (λ (o : Option DocumentValue). o >>= λ doc. slice_get doc.bands band >>= λ b. slice_get b.sources k) has ∙ ap (λ (o : Option BandValue). o >>= λ b. slice_get b.sources k) there ∙ s.1 in
-    let t = source_target cat d band k s.0 (nested cat id d is at) stands in
+    ∙ mosaic_same b (shown look images d.head.name doc.size) (λ s. given_of s doc.size (sizes s) (pixels s)) x y (λ k s stands_here.
+    let stands : source_at d band k ≡ Some s = ap (λ (o : Option DocumentValue). o >>= λ doc. slice_get doc.bands band >>= λ b. slice_get b.sources k) has ∙ ap (λ (o : Option BandValue). o >>= λ b. slice_get b.sources k) there ∙ stands_here in
+    let t = source_target cat d band k s (nested cat id d is at) stands in
     let p = named_is cat t.name t.dataset t.named in
-    let q = same k p.number s.0 t.dataset stands (target_is cat d band k s.0 (λ x. IsNested 15 cat x) t p.number stands p.found) p.there in
-    let n = source_is d.head.name b k s.0 t.name s.1 (when_ok (source_name d.head.name s.0) _ t.name t.resolves) in
-    let c = band_is b k s.0 s.1 in
-    let found : look t.name ≡ Some t.dataset = t.named in (
-      ap (λ n. size_of (look n)) n ∙ ap size_of found ∙ sym q.0,
-      λ u v. (λ i. images (n i) (c i) u v)
-          ∙ ap (λ o. pixel_step look (pixel_within look m 15) m o (s.0.band - 1) u v) found
-          ∙ same_pixels cat look look m (by_name cat) (by_name cat) 15 15 16 t.dataset (omega arith) (omega arith) t.asked (s.0.band - 1) u v
-          ∙ sym (pixel_is m cat p.number (s.0.band - 1) u v t.dataset p.there)
-          ∙ sym (q.1 u v),
-    ))
+    let q = same k p.number s t.dataset stands (target_named cat d.head.name s (λ x. IsNested 15 cat x) t p.number p.found) p.there in
+    let found : look t.name ≡ Some t.dataset = t.named in
+    shown_is look images d.head.name doc.size s t.name x y (when_ok (source_name d.head.name s) _ t.name t.resolves)
+    ∙ given_same s doc.size (size_of (look t.name)) (sizes s) (images t.name (s.band - 1)) (pixels s) x y (ap size_of found ∙ sym q.0)
+    (λ u v. ap (λ o. pixel_step look (pixel_within look m 15) m o (s.band - 1) u v) found
+    ∙ same_pixels cat look look m (by_name cat) (by_name cat) 15 15 16 t.dataset (omega arith) (omega arith) t.asked (s.band - 1) u v
+    ∙ sym (pixel_is m cat p.number (s.band - 1) u v t.dataset p.there)
+    ∙ sym (q.1 u v)))
 
-pub own_targets : (m : Files) (cat : List Dataset) (d : Dataset) (band : ℕ) → AreOfTargets m cat d band (target_size cat d band) (target_pixel m cat d band)
+pub own_targets : (m : Files) (cat : List Dataset) (d : Dataset) (band : ℕ) → AreOfTargets m cat d band (target_size cat d) (target_pixel m cat d)
 own_targets m cat d band source t s e stands is there = (
   ap (λ (o : Option ℕ). size_of (o >>= λ t. slice_get cat t)) is ∙ ap size_of there,
-  λ x y. ap (λ (o : Option ℕ). unwrap_or (o >>= λ t. option_map (λ s. pixel_of m cat t (s.band - 1) x y) (source_at d band source)) (pos 0)) is
-      ∙ ap (λ (o : Option SourceValue). unwrap_or (option_map (λ s. pixel_of m cat t (s.band - 1) x y) o) (pos 0)) stands,
+  λ x y. ap (λ (o : Option ℕ). unwrap_or (option_map (λ t. pixel_of m cat t (s.band - 1) x y) o) (pos 0)) is,
 )
 
 pub mosaic_is_of_its_targets : (m : Files) (cat : List Dataset) (id band x y : ℕ) (d : Dataset) (doc : DocumentValue) (b : BandValue)
     → IsCatalog cat → slice_get cat id ≡ Some d → document_of d.content ≡ Some doc → slice_get doc.bands band ≡ Some b
-    → pixel_of m cat id band x y ≡ mosaic_pixel b doc.size (target_size cat d band) (target_pixel m cat d band) x y
-mosaic_is_of_its_targets m cat id band x y d doc b is at has there = mosaic_is_of_targets m cat id band x y d doc b (target_size cat d band) (target_pixel m cat d band) is at has there (own_targets m cat d band)
+    → pixel_of m cat id band x y ≡ mosaic_pixel b (λ s. given_of s doc.size (target_size cat d s) (target_pixel m cat d s)) x y
+mosaic_is_of_its_targets m cat id band x y d doc b is at has there = mosaic_is_of_targets m cat id band x y d doc b (target_size cat d) (target_pixel m cat d) is at has there (own_targets m cat d band)
 
 -- the blocks of datasets by what their pixels are
 
@@ -190,10 +189,10 @@ pub file_block : (m : Files) (cat : List Dataset) (id band block : ℕ) (d : Dat
     → block_pixels m cat id band block ≡ row_by_row (file_pixel m d.head.name h band) (block_rect_of d.head block)
 file_block m cat id band block d h at is = block_is m cat id band block d (file_pixel m d.head.name h band) at (λ x y. file_is_sample m cat id band x y d h at is)
 
-pub mosaic_block : (m : Files) (cat : List Dataset) (id band block : ℕ) (d : Dataset) (doc : DocumentValue) (b : BandValue) (sizes : ℕ → Size) (pixels : ℕ → ℕ → ℕ → ℤ)
+pub mosaic_block : (m : Files) (cat : List Dataset) (id band block : ℕ) (d : Dataset) (doc : DocumentValue) (b : BandValue) (sizes : SourceValue → Size) (pixels : SourceValue → ℕ → ℕ → ℤ)
     → IsCatalog cat → slice_get cat id ≡ Some d → document_of d.content ≡ Some doc → slice_get doc.bands band ≡ Some b → AreOfTargets m cat d band sizes pixels
-    → block_pixels m cat id band block ≡ row_by_row (mosaic_pixel b doc.size sizes pixels) (block_rect_of d.head block)
-mosaic_block m cat id band block d doc b sizes pixels is at has there same = block_is m cat id band block d (mosaic_pixel b doc.size sizes pixels) at (λ x y. mosaic_is_of_targets m cat id band x y d doc b sizes pixels is at has there same)
+    → block_pixels m cat id band block ≡ row_by_row (mosaic_pixel b (λ s. given_of s doc.size (sizes s) (pixels s))) (block_rect_of d.head block)
+mosaic_block m cat id band block d doc b sizes pixels is at has there same = block_is m cat id band block d (mosaic_pixel b (λ s. given_of s doc.size (sizes s) (pixels s))) at (λ x y. mosaic_is_of_targets m cat id band x y d doc b sizes pixels is at has there same)
 
 pub more_block : (m : Files) (cat more : List Dataset) (id band block : ℕ) (d : Dataset) → IsCatalog cat → slice_get cat id ≡ Some d → block_pixels m (cat ++ more) id band block ≡ block_pixels m cat id band block
 more_block m cat more id band block d is at =

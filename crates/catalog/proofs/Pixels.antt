@@ -1,10 +1,9 @@
 -- The pixels of a mosaic depend on nothing of a catalog but the datasets that its sources name.
-use Rattle.std.proofs.Common.{◌≡◌, ◌∙◌, ap, sym, subst, refl, ◌+◌, ◌-◌, ◌<◌, ◌≤◌, ℕ, ℤ, zero, suc, List, [], ◌∷◌, ◌++◌, length, Option, Some, None, is_some, Ok, Err, arith, true≢false}
+use Rattle.std.proofs.Common.{◌≡◌, ◌∙◌, ap, sym, subst, refl, ◌-◌, ◌<◌, ◌≤◌, ℕ, ℤ, zero, suc, List, [], ◌∷◌, ◌++◌, length, Option, Some, None, is_some, Ok, Err, arith, true≢false}
 use Rattle.std.specs.Prelude.{All, slice_get, flat_map, option_map, ok_or, unwrap_or, pos}
 use Rattle.std.specs.Option.{option_or}
 use Rattle.std.proofs.lemmas.Option.{slice_get_within, get_or_from_slice_get}
 use Rattle.std.proofs.lemmas.List.Elements.{All-nil, All-cons, All-head, All-tail, All-weaker}
-use Rattle.lists_and_answers.specs.Options.{◌>>=◌}
 use Rattle.geotransform.specs.Types.{clamp}
 use Rattle.geotransform.specs.declared.types.Size.{Size}
 use Rattle.outside.specs.Outside.{Files}
@@ -16,23 +15,27 @@ use Rattle.catalog.specs.declared.faults.WalkFault.{WalkFault}
 use Rattle.catalog.specs.Drivers.{Dataset}
 use Rattle.catalog.specs.Mosaics.{source_name}
 use Rattle.catalog.specs.Walk.{dataset_named, sources_in, HasTarget, IsNested, IsNoMosaic}
-use Rattle.catalog.specs.Pixels.{Lookup, Images, size_of, name_of_source, band_of_source, band_pixel, content_pixel, pixel_step, pixel_within}
+use Rattle.catalog.specs.Pixels.{Lookup, Images, size_of, shown, band_pixel, content_pixel, pixel_step, pixel_within}
 
--- what the last of some sources gives depends on the sizes and the pixels of their datasets alone
+-- what the last of some sources gives depends on what each of them gives alone
 
-pub last_same : (ss : List SourceValue) (number : ℕ) (target : Size) (sizes other : ℕ → Size) (pixels others : ℕ → ℕ → ℕ → ℤ) (x y : ℕ)
-    → ((k : ℕ) → number ≤ k → k < number + length ss → (sizes k ≡ other k) × ((c r : ℕ) → pixels k c r ≡ others k c r))
-    → last_given ss number target sizes pixels x y ≡ last_given ss number target other others x y
-last_same [] number target sizes other pixels others x y same = refl
-last_same (s ∷ ss) number target sizes other pixels others x y same =
-    let here = same number (omega arith) (omega arith) in
-    let rest = last_same ss (suc number) target sizes other pixels others x y (λ k low high. same k (omega arith) (omega arith)) in
-    λ i. option_or (rest i) (given_of s target (here.0 i) (λ c r. here.1 c r i) x y)
+pub last_same : (given other : SourceValue → Option ℤ) (ss : List SourceValue) → ((k : ℕ) (s : SourceValue) → slice_get ss k ≡ Some s → given s ≡ other s) → last_given given ss ≡ last_given other ss
+last_same given other [] same = refl
+last_same given other (s ∷ ss) same =
+    let here = same 0 s refl in
+    let rest = last_same given other ss (λ k t at. same (suc k) t at) in
+    λ i. option_or (rest i) (here i)
 
-pub mosaic_same : (b : BandValue) (target : Size) (sizes other : ℕ → Size) (pixels others : ℕ → ℕ → ℕ → ℤ) (x y : ℕ)
-    → ((k : ℕ) → k < length b.sources → (sizes k ≡ other k) × ((c r : ℕ) → pixels k c r ≡ others k c r))
-    → mosaic_pixel b target sizes pixels x y ≡ mosaic_pixel b target other others x y
-mosaic_same b target sizes other pixels others x y same = ap (λ o. unwrap_or (option_map (clamp b.kind) o) (unwrap_or b.nodata (pos 0))) (last_same b.sources 0 target sizes other pixels others x y (λ k low high. same k (omega arith)))
+pub mosaic_same : (b : BandValue) (given other : SourceValue → ℕ → ℕ → Option ℤ) (x y : ℕ) → ((k : ℕ) (s : SourceValue) → slice_get b.sources k ≡ Some s → given s x y ≡ other s x y) → mosaic_pixel b given x y ≡ mosaic_pixel b other x y
+mosaic_same b given other x y same = ap (λ o. unwrap_or (option_map (clamp b.kind) o) (unwrap_or b.nodata (pos 0))) (last_same (λ s. given s x y) (λ s. other s x y) b.sources same)
+
+-- what a source gives depends on the size and the pixels of its dataset alone
+
+pub given_same : (s : SourceValue) (target size other : Size) (pixels others : ℕ → ℕ → ℤ) (x y : ℕ) → size ≡ other → ((c r : ℕ) → pixels c r ≡ others c r) → given_of s target size pixels x y ≡ given_of s target other others x y
+given_same s target size other pixels others x y same each = λ i. given_of s target (same i) (λ c r. each c r i) x y
+
+pub shown_is : (look : Lookup) (images : Images) (base : List ℕ) (size : Size) (s : SourceValue) (name : List ℕ) (x y : ℕ) → source_name base s ≡ Some name → shown look images base size s x y ≡ given_of s size (size_of (look name)) (images name (s.band - 1)) x y
+shown_is look images base size s name x y is = ap (λ (o : Option (List ℕ)). given_of s size (size_of (look (unwrap_or o []))) (images (unwrap_or o []) (s.band - 1)) x y) is
 
 -- an item by its number
 
@@ -74,12 +77,6 @@ when_ok None e x is = absurd (err≢ok is)
     err≢ok : {T : Type 0} {e : WalkFault} {x : T} → Err e ≡ Ok x → ⊥
     err≢ok is = cc
 
-pub source_is : (base : List ℕ) (b : BandValue) (k : ℕ) (s : SourceValue) (name : List ℕ) → slice_get b.sources k ≡ Some s → source_name base s ≡ Some name → name_of_source base b k ≡ name
-source_is base b k s name at is = ap (λ (o : Option SourceValue). unwrap_or (o >>= λ s. source_name base s) []) at ∙ ap (λ o. unwrap_or o []) is
-
-pub band_is : (b : BandValue) (k : ℕ) (s : SourceValue) → slice_get b.sources k ≡ Some s → band_of_source b k ≡ s.band - 1
-band_is b k s at = ap (λ (o : Option SourceValue). unwrap_or (option_map (λ s. s.band - 1) o) 0) at
-
 -- two ways to find datasets and their pixels that agree on a source
 record SameSource (one two : Lookup) (here there : Images) (base : List ℕ) (s : SourceValue) : Type 0 where
   name : List ℕ
@@ -91,14 +88,11 @@ of_band : (one two : Lookup) (here there : Images) (base : List ℕ) (size : Siz
     → band_pixel one here base size b x y ≡ band_pixel two there base size b x y
 of_band one two here there base size None x y same = refl
 of_band one two here there base size (Some v) x y same =
-    mosaic_same v size _ _ _ _ x y (λ k h.
-    let s = at_number v.sources k h in
-    let r = item (SameSource one two here there base) v.sources k s.0 (same v refl) s.1 in
-    let n = source_is base v k s.0 r.name s.1 r.is in
-    let c = band_is v k s.0 s.1 in (
-      ap (λ n. size_of (one n)) n ∙ r.size ∙ sym (ap (λ n. size_of (two n)) n),
-      λ x y. (λ i. here (n i) (c i) x y) ∙ r.pixel x y ∙ sym (λ i. there (n i) (c i) x y),
-    ))
+    mosaic_same v (shown one here base size) (shown two there base size) x y (λ k s at.
+    let r = item (SameSource one two here there base) v.sources k s (same v refl) at in
+    shown_is one here base size s r.name x y r.is
+    ∙ given_same s size (size_of (one r.name)) (size_of (two r.name)) (here r.name (s.band - 1)) (there r.name (s.band - 1)) x y r.size r.pixel
+    ∙ sym (shown_is two there base size s r.name x y r.is))
 
 of_content : (one two : Lookup) (here there : Images) (m : Files) (base : List ℕ) (content : Content) → All (SameSource one two here there base) (sources_in content) → (band x y : ℕ)
     → content_pixel one here m base content band x y ≡ content_pixel two there m base content band x y

@@ -21,7 +21,7 @@ use Rattle.ascii_grid.specs.declared.faults.GridFault.TheVariants as grid
 use Rattle.vrt_profile.specs.Values.{DocumentValue, SourceValue}
 use Rattle.vrt_profile.specs.Resolve.{resolved_text}
 use Rattle.vrt_profile.specs.Document.{document_of}
-use Rattle.vrt_profile.specs.declared.fault.VrtFault.TheVariants as vrt
+use Rattle.vrt_markup.specs.declared.fault.VrtFault.TheVariants as vrt
 use Rattle.catalog.specs.Mosaics.{source_name, sources_of}
 use Rattle.catalog.specs.Dataset.{DatasetHead}
 use Rattle.catalog.specs.Drivers.{Dataset, dataset_of}

@@ -1,14 +1,16 @@
-pub mod Blocks
+-- What public clauses and laws speak of: to be read and trusted.
 pub mod Dataset
 pub mod Drivers
 pub mod Heads
-pub mod Linked
-pub mod Links
-pub mod Listed
 pub mod Mosaics
-pub mod Outcomes
-pub mod Pixels
 pub mod Places
+pub mod Blocks
+pub mod Pixels
+pub mod Links
+pub mod Walk
+pub mod Outcomes
+-- What private clauses, views and proofs speak of.
+pub mod Linked
+pub mod Listed
 pub mod Scanned
 pub mod Steps
-pub mod Walk

@@ -10,13 +10,13 @@ use Rattle.dted_records.specs.Records.{dted_at}
 use Rattle.hgt_tiles.specs.Samples.{hgt_at}
 use Rattle.ascii_grid.specs.Grid.{ascii_at, grid_head}
 use Rattle.vrt_profile.specs.Values.{BandValue, SourceValue}
-use Rattle.vrt_profile.specs.Value.{is_plain, mosaic_pixel}
+use Rattle.vrt_profile.specs.Value.{is_plain, given_of, mosaic_pixel}
 use Rattle.catalog.specs.Dataset.{band_at, band_count}
 use Rattle.catalog.specs.Drivers.{Dataset}
 use Rattle.catalog.specs.Mosaics.{source_name}
 use Rattle.catalog.specs.Heads.{dataset_in}
 use Rattle.catalog.specs.Walk.{dataset_named, is_narrow_band}
-use Rattle.catalog.specs.Links.{source_at, target_at}
+use Rattle.catalog.specs.Links.{target_of, source_at, target_at}
 use Rattle.catalog.specs.declared.driver.Content.{Content}
 use Rattle.catalog.specs.declared.driver.Content.TheVariants.{File, Mosaic}
 use Rattle.catalog.specs.declared.driver.DriverHead.{DriverHead}
@@ -54,18 +54,19 @@ abbrev pub size_of : Option Dataset → Size
 size_of None = record { w = 0; h = 0 }
 size_of (Some d) = d.head.size
 
--- the name of the dataset of a band's source, by the source's number
-abbrev pub name_of_source : List ℕ → BandValue → ℕ → List ℕ
-name_of_source base b source = unwrap_or (slice_get b.sources source >>= λ s. source_name base s) []
+-- the name of the dataset of a source
+abbrev pub name_of_source : List ℕ → SourceValue → List ℕ
+name_of_source base s = unwrap_or (source_name base s) []
 
--- the band of this dataset that the source takes, counted from 0
-abbrev pub band_of_source : BandValue → ℕ → ℕ
-band_of_source b source = unwrap_or (option_map (λ s. s.band - 1) (slice_get b.sources source)) 0
+-- What a source shows at a pixel of its mosaic, which has the name `base` and this size, by the datasets that are found
+-- and their pixels.
+abbrev pub shown : Lookup → Images → List ℕ → Size → SourceValue → ℕ → ℕ → Option ℤ
+shown look images base size s x y = given_of s size (size_of (look (name_of_source base s))) (images (name_of_source base s) (s.band - 1)) x y
 
 -- the pixel of a band of the mosaic with the name `base`, by the pixels of the datasets that its sources name
 abbrev pub band_pixel : Lookup → Images → List ℕ → Size → Option BandValue → ℕ → ℕ → ℤ
 band_pixel look images base size None x y = pos 0
-band_pixel look images base size (Some b) x y = mosaic_pixel b size (λ source. size_of (look (name_of_source base b source))) (λ source. images (name_of_source base b source) (band_of_source b source)) x y
+band_pixel look images base size (Some b) x y = mosaic_pixel b (shown look images base size) x y
 
 -- the pixel of a dataset by its content
 abbrev pub content_pixel : Lookup → Images → Files → List ℕ → Content → ℕ → ℕ → ℕ → ℤ
@@ -98,13 +99,13 @@ pixel_of_name m name band x y = pixel_within (found_in_folder m) m 17 name band 
 unfoldable pub pixel_of : Files → List Dataset → ℕ → ℕ → ℕ → ℕ → ℤ
 pixel_of m cat id band x y = pixel_step (dataset_named cat) (pixel_within (dataset_named cat) m 16) m (slice_get cat id) band x y
 
--- The size of the dataset that a source of a band names, by the source's number in the band.
-abbrev pub target_size : List Dataset → Dataset → ℕ → ℕ → Size
-target_size cat d band source = size_of (target_at cat d band source >>= λ t. slice_get cat t)
+-- The size of the dataset of a catalog that a source of a dataset names.
+abbrev pub target_size : List Dataset → Dataset → SourceValue → Size
+target_size cat d s = size_of (target_of cat d.head.name s >>= λ t. slice_get cat t)
 
--- The pixel of the dataset that a source of a band names, in the band that the source takes.
-abbrev pub target_pixel : Files → List Dataset → Dataset → ℕ → ℕ → ℕ → ℕ → ℤ
-target_pixel m cat d band source x y = unwrap_or (target_at cat d band source >>= λ t. option_map (λ s. pixel_of m cat t (s.band - 1) x y) (source_at d band source)) (pos 0)
+-- The pixel of the dataset that a source names, in the band that the source takes.
+abbrev pub target_pixel : Files → List Dataset → Dataset → SourceValue → ℕ → ℕ → ℤ
+target_pixel m cat d s x y = unwrap_or (option_map (λ t. pixel_of m cat t (s.band - 1) x y) (target_of cat d.head.name s)) (pos 0)
 
 -- what a source of a band names: a dataset of the catalog that has the source's band, with samples that it takes
 pub record IsTaken (cat : List Dataset) (d : Dataset) (band source : ℕ) (s : SourceValue) : Type 0 where
@@ -116,6 +117,6 @@ pub record IsTaken (cat : List Dataset) (d : Dataset) (band source : ℕ) (s : S
   pub takes : is_plain s || is_narrow_band (band_at dataset.head (s.band - 1)) ≡ true
 
 -- for each source of a band, this is the size of the dataset that it names, and these are the pixels of its band
-abbrev pub AreOfTargets : Files → List Dataset → Dataset → ℕ → (ℕ → Size) → (ℕ → ℕ → ℕ → ℤ) → Type 0
-AreOfTargets m cat d band sizes pixels = (source t : ℕ) (s : SourceValue) (e : Dataset) → source_at d band source ≡ Some s → target_at cat d band source ≡ Some t → slice_get cat t ≡ Some e
-    → (sizes source ≡ e.head.size) × ((x y : ℕ) → pixels source x y ≡ pixel_of m cat t (s.band - 1) x y)
+abbrev pub AreOfTargets : Files → List Dataset → Dataset → ℕ → (SourceValue → Size) → (SourceValue → ℕ → ℕ → ℤ) → Type 0
+AreOfTargets m cat d band sizes pixels = (source t : ℕ) (s : SourceValue) (e : Dataset) → source_at d band source ≡ Some s → target_of cat d.head.name s ≡ Some t → slice_get cat t ≡ Some e
+    → (sizes s ≡ e.head.size) × ((x y : ℕ) → pixels s x y ≡ pixel_of m cat t (s.band - 1) x y)

@@ -6,7 +6,7 @@ use Rattle.outside.specs.Outside.{Files}
 use Rattle.geotransform.specs.Types.{bytes_of}
 use Rattle.vrt_profile.specs.Value.{is_plain}
 use Rattle.vrt_profile.specs.Values.{SourceValue}
-use Rattle.vrt_profile.specs.declared.fault.VrtFault.TheVariants as vrt
+use Rattle.vrt_markup.specs.declared.fault.VrtFault.TheVariants as vrt
 use Rattle.catalog.specs.declared.kind.BandHead.{BandHead}
 use Rattle.catalog.specs.declared.kind.Kind.{Kind}
 use Rattle.catalog.specs.declared.kind.Kind.TheVariants as kinds

@@ -1,124 +1,24 @@
 // Catalogs of datasets, and the walk that finds them.
-ghost use Rattle.std.specs.Prelude.{◌≡◌, false, ◌<◌, ◌≤◌, ◌++◌, ◌∷◌, ℕ, List, [], length, slice_get, Some, None, Ok, Err, option_map, option_and_then, IfOk, IfErr, OnOk, OnErr, IsTrue, is_some};
+ghost use Rattle.std.specs.Prelude.{◌≡◌, ◌<◌, ◌≤◌, ◌++◌, List, [], length, slice_get, Some, Err, option_map, option_and_then, IfOk, OnErr, IsTrue, is_some};
 ghost use Rattle.lists_and_answers.specs.Answers.{Gives};
 ghost use Rattle.outside.specs.Outside.{Files};
 ghost use Rattle.outside.specs.Causes.{HasCause};
 ghost use Rattle.catalog.specs.Outcomes.{IsOutside};
-ghost use Rattle.catalog.specs.Dataset.{IsDatasetHead};
-ghost use Rattle.catalog.specs.Drivers.{content_kind, driver_of, document_of, Fits};
-ghost use Rattle.catalog.specs.Heads.{kind_in, found_in, dataset_by, dataset_in, head_in, IsOfFile, IsOfHead, RefusesUnknown, OwnsFaults};
+ghost use Rattle.catalog.specs.Drivers.{driver_of, document_of};
+ghost use Rattle.catalog.specs.Heads.{OwnsFaults};
 ghost use Rattle.catalog.specs.Drivers.{Dataset as Known};
 ghost use Rattle.catalog.specs.Links.{source_at, target_at, height_of};
-ghost use Rattle.catalog.specs.Walk.{number_of, walked, WalksUnknown, IsDataset, IsCatalog, IsWalked};
+ghost use Rattle.catalog.specs.Walk.{number_of, walked, WalksUnknown, IsCatalog, IsWalked};
 
 use crate::dataset::Dataset;
-use crate::driver::{Content, Found};
-use crate::dted::find_cell;
-use crate::grid::find_grid;
-use crate::heads::content_head;
-use crate::hgt::find_tile;
-use crate::kind::kind_of;
+use crate::driver::Content;
 use crate::links::Met;
-use crate::mosaic::find_mosaic;
-use crate::mosaic_head::names_within;
-use crate::raw::find_raw;
 use crate::walk::visit;
-use crate::{DriverHead, Head, Kind, WalkFault};
+use crate::{DriverHead, Head, WalkFault};
 use outside::{Folder, Name};
 use std::alloc::Global;
 use std::marker::Model;
 use vrt_profile::Document;
-
-// Finds what the files of a dataset say, by the kind that its name tells.
-fn find<F: Folder>(
-    alloc: Global,
-    folder: &mut F,
-    kind: Kind,
-    name: &Name,
-    verify: bool,
-) -> Result<Found, WalkFault>
-    requires kind { kind_in name.now ≡ Ok kind }
-    ensures told { (m : Files) → F.names folder.old ≡ Some m → Gives IsOutside (λ found. found) result (found_in kind m verify name.now) }
-    ensures kind { IfOk result (λ found. content_kind found.content ≡ kind) }
-    ensures fits { IfOk result (λ found. Fits name.now found.content found.length) }
-    ensures names { F.names folder.new ≡ F.names folder.old }
-    ensures write_calls { F.write_calls folder.new ≡ F.write_calls folder.old }
-    ensures cause { HasCause WalkFault.FolderFault (F.faults folder.old) (F.faults folder.new) result }
-    ensures of_file { IfErr result IsOfFile }
-{
-    match kind {
-        Kind::Raw => find_raw(alloc, folder, name),
-        Kind::Dted => find_cell(alloc, folder, name, verify),
-        Kind::Hgt => find_tile(folder, name),
-        Kind::Ascii => find_grid(alloc, folder, name),
-        Kind::Vrt => find_mosaic(alloc, folder, name),
-    }
-}
-
-// Reads the dataset of a name whose kind is known, by its own files.
-#[tactic(auto, using(crate::proofs::Headers::outside_fails, crate::proofs::Headers::memory_is_outside), unfolding(crate::specs::Heads::dataset_by))]
-pub fn read_dataset<F: Folder>(
-    alloc: Global,
-    folder: &mut F,
-    kind: Kind,
-    name: &Name,
-    verify: bool,
-) -> Result<Dataset, WalkFault>
-    requires kind { kind_in name.now ≡ Ok kind }
-    ensures told { (m : Files) → F.names folder.old ≡ Some m → Gives IsOutside (λ d. d) result (dataset_by kind m verify name.now) }
-    ensures valid { IfOk result IsDataset }
-    ensures name { IfOk result (λ d. d.head.name ≡ name.now) }
-    ensures names { F.names folder.new ≡ F.names folder.old }
-    ensures write_calls { F.write_calls folder.new ≡ F.write_calls folder.old }
-    ensures cause { HasCause WalkFault.FolderFault (F.faults folder.old) (F.faults folder.new) result }
-    ensures of_file { IfErr result IsOfFile }
-{
-    let found = find(alloc, folder, kind, name, verify)?;
-    let head = content_head(alloc, name, &found.content)?;
-    Ok(Dataset {
-        head,
-        content: found.content,
-        length: found.length,
-    })
-}
-
-/// The head of the dataset of a name: what its extension and its own files say. `verify` asks for the
-/// sums of DTED records.
-///
-/// NotRecognized comes exactly where the extension is none of the list. For raw data Absent comes where
-/// the data or the header isn't there, Malformed where the header is longer than 1,048,576 bytes or has
-/// a fault, Short where the data are shorter than the header asks. For a DTED cell (MIL-PRF-89020B)
-/// Malformed comes where its head has a fault, Short where it is shorter than its head asks, Malformed
-/// with the first line from the west whose record has a wrong mark or sum where `verify` asks for it.
-/// For a tile Malformed comes where the name, and then the length, isn't that of a tile; for a grid
-/// where the scan of it, from the first byte to the last, has a fault. For a mosaic Malformed comes where
-/// its document is longer than 67,108,864 bytes or has a fault, and then Limit with the kind Name where a
-/// source's name is resolved from a text of more than 4,096 bytes, with the length of the first such
-/// text; no source is opened. The checks are made in this order, and the first refusal counts. FolderFault
-/// comes only where the folder's count rose, Memory freely, and never within Malformed. It takes memory
-/// for the header, the front of the cell or the document, for one record or piece of 65,536 bytes, and
-/// for the head.
-#[tactic(auto, using(crate::proofs::Headers::outside_fails), unfolding(crate::specs::Heads::head_in, crate::specs::Heads::dataset_in))]
-pub fn head_of<F: Folder>(
-    alloc: Global,
-    folder: &mut F,
-    name: &Name,
-    verify: bool,
-) -> Result<Head, WalkFault>
-    ensures told { (m : Files) → F.names folder.old ≡ Some m → Gives IsOutside (λ h. h) result (head_in m verify name.now) }
-    ensures valid { IfOk result IsDatasetHead }
-    ensures unknown { RefusesUnknown name.now result }
-    ensures names { F.names folder.new ≡ F.names folder.old }
-    ensures write_calls { F.write_calls folder.new ≡ F.write_calls folder.old }
-    ensures cause { HasCause WalkFault.FolderFault (F.faults folder.old) (F.faults folder.new) result }
-    ensures of_head { IfErr result IsOfHead }
-    ensures own { OwnsFaults result }
-{
-    let kind = kind_of(name)?;
-    let dataset = read_dataset(alloc, folder, kind, name, verify)?;
-    names_within(name, &dataset.content)?;
-    Ok(dataset.head)
-}
 
 /// The most mosaics on a path.
 const DEEPEST: u32 = 16;

@@ -3,7 +3,7 @@ ghost use Rattle.std.specs.Prelude.{◌≡◌, ◌++◌, ℕ, ℤ, List, Some, s
 ghost use Rattle.geotransform.specs.declared.types.Size.{Size};
 ghost use Rattle.outside.specs.Outside.{Files};
 ghost use Rattle.vrt_profile.specs.Values.{SourceValue, BandValue, DocumentValue};
-ghost use Rattle.vrt_profile.specs.Value.{mosaic_pixel};
+ghost use Rattle.vrt_profile.specs.Value.{given_of, mosaic_pixel};
 ghost use Rattle.catalog.specs.declared.driver.DriverHead.{DriverHead};
 ghost use Rattle.catalog.specs.Drivers.{Dataset, document_of, driver_of};
 ghost use Rattle.catalog.specs.Walk.{IsCatalog, IsWalked};
@@ -27,10 +27,10 @@ pub fn file_pixels_are_samples()
 /// The pixels of a mosaic are made of the pixels of the datasets that its band's sources name, whatever these sizes and
 /// pixels are elsewhere.
 pub fn mosaic_pixels_are_of_sources()
-    ensures pixel { (m : Files) (cat : List Dataset) (id band x y : ℕ) (d : Dataset) (doc : DocumentValue) (b : BandValue) (sizes : ℕ → Size) (pixels : ℕ → ℕ → ℕ → ℤ) → IsCatalog cat → slice_get cat id ≡ Some d → document_of d.content ≡ Some doc → slice_get doc.bands band ≡ Some b → AreOfTargets m cat d band sizes pixels → pixel_of m cat id band x y ≡ mosaic_pixel b doc.size sizes pixels x y }
-    ensures targets { (m : Files) (cat : List Dataset) (d : Dataset) (band : ℕ) → AreOfTargets m cat d band (target_size cat d band) (target_pixel m cat d band) }
-    ensures own { (m : Files) (cat : List Dataset) (id band x y : ℕ) (d : Dataset) (doc : DocumentValue) (b : BandValue) → IsCatalog cat → slice_get cat id ≡ Some d → document_of d.content ≡ Some doc → slice_get doc.bands band ≡ Some b → pixel_of m cat id band x y ≡ mosaic_pixel b doc.size (target_size cat d band) (target_pixel m cat d band) x y }
-    ensures block { (m : Files) (cat : List Dataset) (id band block : ℕ) (d : Dataset) (doc : DocumentValue) (b : BandValue) (sizes : ℕ → Size) (pixels : ℕ → ℕ → ℕ → ℤ) → IsCatalog cat → slice_get cat id ≡ Some d → document_of d.content ≡ Some doc → slice_get doc.bands band ≡ Some b → AreOfTargets m cat d band sizes pixels → block_pixels m cat id band block ≡ row_by_row (mosaic_pixel b doc.size sizes pixels) (block_rect_of d.head block) }
+    ensures pixel { (m : Files) (cat : List Dataset) (id band x y : ℕ) (d : Dataset) (doc : DocumentValue) (b : BandValue) (sizes : SourceValue → Size) (pixels : SourceValue → ℕ → ℕ → ℤ) → IsCatalog cat → slice_get cat id ≡ Some d → document_of d.content ≡ Some doc → slice_get doc.bands band ≡ Some b → AreOfTargets m cat d band sizes pixels → pixel_of m cat id band x y ≡ mosaic_pixel b (λ s. given_of s doc.size (sizes s) (pixels s)) x y }
+    ensures targets { (m : Files) (cat : List Dataset) (d : Dataset) (band : ℕ) → AreOfTargets m cat d band (target_size cat d) (target_pixel m cat d) }
+    ensures own { (m : Files) (cat : List Dataset) (id band x y : ℕ) (d : Dataset) (doc : DocumentValue) (b : BandValue) → IsCatalog cat → slice_get cat id ≡ Some d → document_of d.content ≡ Some doc → slice_get doc.bands band ≡ Some b → pixel_of m cat id band x y ≡ mosaic_pixel b (λ s. given_of s doc.size (target_size cat d s) (target_pixel m cat d s)) x y }
+    ensures block { (m : Files) (cat : List Dataset) (id band block : ℕ) (d : Dataset) (doc : DocumentValue) (b : BandValue) (sizes : SourceValue → Size) (pixels : SourceValue → ℕ → ℕ → ℤ) → IsCatalog cat → slice_get cat id ≡ Some d → document_of d.content ≡ Some doc → slice_get doc.bands band ≡ Some b → AreOfTargets m cat d band sizes pixels → block_pixels m cat id band block ≡ row_by_row (mosaic_pixel b (λ s. given_of s doc.size (sizes s) (pixels s))) (block_rect_of d.head block) }
 {}
 
 /// Each source of a mosaic names a dataset of the catalog, which has the band that the source takes, with samples that

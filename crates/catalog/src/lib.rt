@@ -17,12 +17,15 @@ mod links;
 mod mosaic;
 mod mosaic_head;
 mod nodata;
+mod own_files;
 mod raw;
 mod walk;
 
-pub use catalog::{Catalog, head_of, open_all};
+pub use catalog::{Catalog, open_all};
 pub use driver::DriverHead;
 pub use faults::{Bad, LimitKind, WalkFault};
 pub use head::Head;
 pub use kind::{BandHead, Bands, Kind};
+pub use links::MOST_SOURCES;
 pub use nodata::NodataWord;
+pub use own_files::head_of;

@@ -21,8 +21,8 @@ use std::collections::BTreeMap;
 use std::marker::Model;
 use vrt_profile::{Document, VrtBand};
 
-/// The most sources of all mosaics of a catalog.
-const MOST_SOURCES: u32 = 262_144;
+/// The most sources of all mosaics of a catalog, and so of one mosaic.
+pub const MOST_SOURCES: u32 = 262_144;
 
 /// The numbers of the datasets that the sources of a band name, in order.
 pub type Targets = Items<u32>;

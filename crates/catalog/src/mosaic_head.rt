@@ -20,7 +20,7 @@ use vrt_profile::{Document, Source, VrtBand, resolve, resolved_len};
 const SIDE: u32 = 128;
 
 /// The greatest length of a text that is normalised to a name, in bytes.
-const LONGEST_NAME: u64 = 4096;
+const LONGEST_NAME: u64 = outside::LONGEST_NAME as u64;
 
 // The files of a mosaic: its own name, then distinct names of sources, which `seen` looks up.
 #[derive(Drop)]

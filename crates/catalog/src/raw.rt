@@ -18,7 +18,7 @@ use outside::{Folder, Name};
 use std::alloc::Global;
 
 /// The greatest length of a header, in bytes.
-const LONGEST_HEADER: u64 = 1_048_576;
+const LONGEST_HEADER: u64 = esri_hdr::LONGEST_HEADER as u64;
 
 // Reads the header of a name.
 #[tactic(auto, using(crate::proofs::Headers::outside_fails), unfolding(crate::specs::Heads::header_in))]

@@ -11,10 +11,10 @@ ghost use Rattle.vrt_profile.specs.Value.{is_plain};
 ghost use Rattle.catalog.specs.Linked.{IsLinked, IsPath, IsLow, IsMosaicAt, HasBand, HasSource, met_of};
 ghost use Rattle.catalog.specs.Steps.{IsPlain, Meets, Visits, Passes, Names, Reaches, ReachesRows, seen};
 
-use crate::catalog::read_dataset;
 use crate::driver::Content;
 use crate::kind::kind_of;
 use crate::links::{Link, Met, Targets};
+use crate::own_files::read_dataset;
 use crate::{Bad, Kind, LimitKind, WalkFault};
 use lists_and_answers::Items;
 use outside::{Folder, Name, NameFault};

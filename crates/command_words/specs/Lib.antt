@@ -1,6 +1,7 @@
-pub mod Jobs
+-- What public clauses and laws speak of: to be read and trusted.
 pub mod Options
+pub mod Values
 pub mod Said
 pub mod Uses
-pub mod Values
 pub mod Words
+pub mod Jobs

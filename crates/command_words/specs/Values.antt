@@ -1,7 +1,7 @@
 -- The values of options.
 use Rattle.std.specs.Prelude.{ℕ, ℤ, pos, neg_ℤ, ◌-◌, ◌==◌, ◌&&◌, ◌||◌, ◌^◌, Bool, false, nat_le, List, [], ◌∷◌, length, take, drop, codes, bytes_eq, Option, Some, None, option_map, option_and_then, if◌then◌else◌, int_le, int_lt}
+use Rattle.lists_and_answers.specs.Texts.{same_letters}
 use Rattle.geotransform.specs.Decimal.{number_of, whole_of, ticks_of}
-use Rattle.outside.specs.Names.{same_letters}
 use Rattle.outside.specs.Paths.{normal}
 use Rattle.esri_hdr.specs.declared.parts.Layout.{Layout}
 use Rattle.esri_hdr.specs.declared.parts.Layout.TheVariants.{Bil, Bip, Bsq}

@@ -5,6 +5,7 @@ ghost use Rattle.buildvrt.specs.Options.{IsResolution, IsExtent};
 
 use buildvrt::{Extent, Resolution};
 use catalog::NodataWord;
+use geotransform::MOST_BANDS;
 use std::marker::Model;
 use translate_plan::{OutSize, View};
 
@@ -31,7 +32,7 @@ impl BandNumber {
     pub fn new(number: u32) -> Option<BandNumber>
         ensures exact { result ≡ (if nat_le 1 number && nat_le number 256 then Some number else None) }
     {
-        if number >= 1 && number <= 256 {
+        if number >= 1 && number <= MOST_BANDS {
             Some(BandNumber { number })
         } else {
             None

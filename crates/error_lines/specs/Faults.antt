@@ -8,8 +8,8 @@ use Rattle.catalog.specs.declared.faults.WalkFault.{WalkFault}
 use Rattle.catalog.specs.declared.faults.WalkFault.TheVariants as walk
 use Rattle.buildvrt.specs.declared.faults.BuildFault.{BuildFault}
 use Rattle.buildvrt.specs.declared.faults.BuildFault.TheVariants as build
-use Rattle.band_blocks.specs.declared.load.LoadFault.{LoadFault}
-use Rattle.band_blocks.specs.declared.load.LoadFault.TheVariants as load
+use Rattle.band_blocks.specs.declared.fault.LoadFault.{LoadFault}
+use Rattle.band_blocks.specs.declared.fault.LoadFault.TheVariants as load
 use Rattle.info_report.specs.declared.report.ReportFault.{ReportFault}
 use Rattle.info_report.specs.declared.report.ReportFault.TheVariants as report
 use Rattle.write_back.specs.declared.fault.TargetFault.{TargetFault}

@@ -7,7 +7,7 @@ use Rattle.dted_records.specs.declared.head.DtedFault.{DtedFault}
 use Rattle.dted_records.specs.declared.head.DtedFault.TheVariants as dted_fault
 use Rattle.hgt_tiles.specs.Names as hgt
 use Rattle.ascii_grid.specs.Faults as grid
-use Rattle.vrt_profile.specs.Faults as vrt
+use Rattle.vrt_markup.specs.Faults as vrt
 use Rattle.geotransform.specs.declared.faults.PlanFault.{PlanFault}
 use Rattle.geotransform.specs.declared.faults.PlanFault.TheVariants as plan
 use Rattle.catalog.specs.declared.faults.LimitKind.{LimitKind}

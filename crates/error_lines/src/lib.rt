@@ -1,4 +1,5 @@
-// The faults of a run: where they come from, how they end it, and the line that tells each. Warnings, which end nothing.
+// The faults of a run: where they come from, how they end it, and the line that tells each. Warnings, which end
+// nothing.
 #![tactic(auto)]
 
 mod faults;

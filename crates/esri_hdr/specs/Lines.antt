@@ -1,10 +1,9 @@
 -- The lines of a header, their keys and values.
-use Rattle.std.specs.Prelude.{ℕ, Bool, ◌||◌, not, List, [], ◌∷◌, length, map, drop, Option, Some, None, ◌==◌, if◌then◌else◌, slice_index_or}
+use Rattle.std.specs.Prelude.{ℕ, Bool, ◌||◌, List, [], ◌∷◌, length, Option, Some, None, ◌==◌, if◌then◌else◌, slice_index_or}
 use Rattle.std.specs.Option.{option_map}
 use denote.Bor.{Bor}
-use Rattle.std.specs.List.{prefix_len, take_while, slice_split, position}
-use Rattle.std.specs.Char.{to_ascii_lowercase}
-use Rattle.std.specs.Cmp.Lexicographic.{pointwise}
+use Rattle.std.specs.List.{slice_split, position}
+use Rattle.lists_and_answers.specs.Texts.{same_letters, token_at}
 use Rattle.esri_hdr.specs.Keys.{names}
 
 -- a line ends with a line feed, a carriage return, or both: between both there is one empty line more, which has no token
@@ -15,29 +14,9 @@ is_line_end c = (c == 10) || (c == 13)
 abbrev pub lines : List ℕ → List (List ℕ)
 lines text = slice_split is_line_end text
 
--- space or tab
-abbrev pub is_blank : ℕ → Bool
-is_blank c = (c == 9) || (c == 32)
-
--- a text without the blanks in front
-abbrev pub without_blanks : List ℕ → List ℕ
-without_blanks text = drop (prefix_len is_blank text) text
-
--- a token is all that stands between blanks
-abbrev pub is_in_token : ℕ → Bool
-is_in_token c = not (is_blank c)
-
--- the first token of a line, which is empty where there is none, and what stands behind it
-abbrev pub token_at : List ℕ → List ℕ × List ℕ
-token_at line = (take_while is_in_token (without_blanks line), drop (prefix_len is_in_token (without_blanks line)) (without_blanks line))
-
--- two texts that differ at most in the case of ASCII letters
-abbrev pub is_same : List ℕ → List ℕ → Bool
-is_same a b = pointwise (λ x y. x == y) (map to_ascii_lowercase a) (map to_ascii_lowercase b)
-
 -- the number of the key that a token names
 abbrev pub key_of : List ℕ → Option ℕ
-key_of token = position (is_same token) names
+key_of token = position (same_letters token) names
 
 -- a value with its key, where there is one
 abbrev pub with_key : Option ℕ → List ℕ → Option (ℕ × List ℕ)

@@ -1,22 +1,18 @@
 // The lines of a header, their keys and values.
 ghost use Rattle.std.specs.Prelude.{slice_index_or, ◌≡◌, ℕ, ◌<◌, ◌≤◌, ◌+◌, length, IfSome, List, Option, map};
 ghost use Rattle.std.specs.Option.{option_map};
-ghost use Rattle.std.specs.List.{prefix_len, before_first, after_first, position_or_len, position};
+ghost use Rattle.std.specs.List.{before_first, after_first, position_or_len, position};
+ghost use Rattle.lists_and_answers.specs.Texts.{same_letters};
 ghost use Rattle.esri_hdr.specs.Keys.{names};
-ghost use Rattle.esri_hdr.specs.Lines.{is_line_end, is_blank, is_in_token, without_blanks, token_at, is_same, key_of, entry_at, last_of, lookup};
+ghost use Rattle.esri_hdr.specs.Lines.{is_line_end, key_of, entry_at, last_of, lookup};
 
 use crate::keys::NAMES;
+use lists_and_answers::{same_letters, token_at};
 
 fn is_line_end(c: u8) -> bool
     ensures { result ≡ is_line_end c }
 {
     c == b'\n' || c == b'\r'
-}
-
-fn is_blank(c: u8) -> bool
-    ensures { result ≡ is_blank c }
-{
-    c == b'\t' || c == b' '
 }
 
 fn line_len(text: &[u8]) -> usize
@@ -38,40 +34,13 @@ fn line_at(text: &[u8]) -> (&[u8], &[u8])
     }
 }
 
-fn blanks(text: &[u8]) -> usize
-    ensures count { result ≡ prefix_len is_blank text.now }
-    ensures bound { result ≤ length text.now }
-{
-    text.iter().take_while(|c| is_blank(**c)).count()
-}
-
-fn token_len(text: &[u8]) -> usize
-    ensures count { result ≡ prefix_len is_in_token text.now }
-    ensures bound { result ≤ length text.now }
-{
-    text.iter().take_while(|c| !is_blank(**c)).count()
-}
-
-fn token_at(line: &[u8]) -> (&[u8], &[u8])
-    ensures { (result.0.now, result.1.now) ≡ token_at line.now }
-{
-    let (_, line) = line.split_at(blanks(line));
-    line.split_at(token_len(line))
-}
-
-pub fn is_same(a: &[u8], b: &[u8]) -> bool
-    ensures { result ≡ is_same a.now b.now }
-{
-    a.eq_ignore_ascii_case(b)
-}
-
 /// The place of the first name that the token is.
 fn first_named(names: &[&str], token: &[u8]) -> Option<usize>
-    ensures { result ≡ position (λ name. is_same token.now name.now) names.now }
+    ensures { result ≡ position (λ name. same_letters token.now name.now) names.now }
 {
     names
         .iter()
-        .position(|name| is_same(token, name.as_bytes()))
+        .position(|name| same_letters(token, name.as_bytes()))
 }
 
 fn key_of(token: &[u8]) -> Option<usize>

@@ -200,13 +200,16 @@ fn head_of(found: &Found<'_>) -> Result<RawHead, HdrFault>
     Ok(head_from(&shape, &rows, geo, found[NODATA]))
 }
 
+/// The greatest length of a header, in bytes.
+pub const LONGEST_HEADER: usize = 1_048_576;
+
 /// The head that the header's text gives, or its first fault.
 #[tactic(auto, unfolding(crate::specs::Head::esri_head))]
 pub fn read(bytes: &[u8]) -> Result<RawHead, HdrFault>
     ensures head { result ≡ esri_head bytes.now }
     ensures valid { IfOk result IsHead }
 {
-    if bytes.len() > 1_048_576 {
+    if bytes.len() > LONGEST_HEADER {
         return Err(HdrFault::Limit);
     }
     head_of(&scan(bytes))

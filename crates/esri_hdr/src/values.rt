@@ -4,9 +4,9 @@ ghost use Rattle.std.specs.Option.{option_map};
 ghost use Rattle.geotransform.specs.Decimal.{number_of};
 ghost use Rattle.esri_hdr.specs.Values.{number_in, number_or, at_most, counted, side_in, bands_in, bits_in, order_of, big_in, layout_in, skip_in, is_negative, signed_in, kind_of, row_in, band_row_in, total_row_in, gap_in, BandRowFits, TotalRowFits, GapFits};
 
-use crate::lines::is_same;
 use crate::parts::{HdrFault, Layout};
-use geotransform::{PixelType, is_negative_decimal, read_number};
+use geotransform::{MOST_BANDS, MOST_SIDE, PixelType, is_negative_decimal, read_number};
+use lists_and_answers::same_letters;
 
 fn number_in(text: &[u8]) -> Result<u64, HdrFault>
     ensures { result ≡ number_in text.now }
@@ -49,7 +49,7 @@ pub fn side_in(text: &[u8]) -> Result<u32, HdrFault>
     ensures value { result ≡ side_in text.now }
     ensures bound { IfOk result (λ n. (0 < n) × (n ≤ 4194304)) }
 {
-    counted(4_194_304, number_in(text)?)
+    counted(MOST_SIDE, number_in(text)?)
 }
 
 #[tactic(auto, unfolding(crate::specs::Values::bands_in))]
@@ -57,7 +57,7 @@ pub fn bands_in(text: Option<&[u8]>) -> Result<u32, HdrFault>
     ensures value { result ≡ bands_in (option_map (λ v. v.now) text.entry) }
     ensures bound { IfOk result (λ n. (0 < n) × (n ≤ 256)) }
 {
-    counted(256, number_or(1, text)?)
+    counted(MOST_BANDS, number_or(1, text)?)
 }
 
 #[tactic(auto, unfolding(crate::specs::Values::bits_in))]
@@ -101,13 +101,13 @@ pub fn layout_in(text: Option<&[u8]>) -> Result<Layout, HdrFault>
     let Some(text) = text else {
         return Ok(Layout::Bil);
     };
-    if is_same(text, b"BIL") {
+    if same_letters(text, b"BIL") {
         return Ok(Layout::Bil);
     }
-    if is_same(text, b"BIP") {
+    if same_letters(text, b"BIP") {
         return Ok(Layout::Bip);
     }
-    if is_same(text, b"BSQ") {
+    if same_letters(text, b"BSQ") {
         return Ok(Layout::Bsq);
     }
     Err(HdrFault::BadValue)
@@ -137,13 +137,13 @@ pub fn signed_in(bits: u32, text: Option<&[u8]>, nodata: Option<&[u8]>) -> Resul
     let Some(text) = text else {
         return Ok(bits > 8 && is_negative(nodata));
     };
-    if is_same(text, b"SIGNEDINT") {
+    if same_letters(text, b"SIGNEDINT") {
         return Ok(true);
     }
-    if is_same(text, b"UNSIGNEDINT") {
+    if same_letters(text, b"UNSIGNEDINT") {
         return Ok(false);
     }
-    if is_same(text, b"FLOAT") {
+    if same_letters(text, b"FLOAT") {
         return Err(HdrFault::Unsupported);
     }
     Err(HdrFault::BadValue)

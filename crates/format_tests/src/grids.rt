@@ -531,7 +531,8 @@ const SAME: &[u8] =
     b"ncols        2\nnrows        2\nxllcorner    9\nyllcorner    19\ncellsize     2\n";
 
 const OTHER: &[u8] =
-    b"ncols        2\nnrows        2\nxllcorner    9\nyllcorner    17\ndx           2\ndy           3\nNODATA_value -7\n";
+    b"ncols        2\nnrows        2\nxllcorner    9\nyllcorner    17\ndx           2\ndy           3\n\
+    NODATA_value -7\n";
 
 const NOWHERE: &[u8] =
     b"ncols        2\nnrows        2\nxllcorner    0\nyllcorner    0\ncellsize     1\n";

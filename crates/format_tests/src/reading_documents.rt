@@ -1,4 +1,5 @@
 // Documents that are read, and those that are refused.
+use outside_fakes::TWO_TILES;
 use std::alloc::Global;
 use std::test::*;
 use vrt_profile::{Document, Source, VrtBand, VrtFault, read};
@@ -110,32 +111,38 @@ const DOCUMENTS: [(&[u8], u8, u64); 46] = [
         0,
     ),
     (
-        b"<VRTDataset rasterXSize='1' rasterYSize='1'><VRTRasterBand><NoDataValue/><NoDataValue/></VRTRasterBand></VRTDataset>",
+        b"<VRTDataset rasterXSize='1' rasterYSize='1'><VRTRasterBand><NoDataValue/><NoDataValue/></VRTRasterBand>\
+        </VRTDataset>",
         5,
         0,
     ),
     (
-        b"<VRTDataset rasterXSize='1' rasterYSize='1'><VRTRasterBand><SimpleSource resampling='cubic'/></VRTRasterBand></VRTDataset>",
+        b"<VRTDataset rasterXSize='1' rasterYSize='1'><VRTRasterBand><SimpleSource resampling='cubic'/></VRTRasterBand>\
+        </VRTDataset>",
         5,
         0,
     ),
     (
-        b"<VRTDataset rasterXSize='1' rasterYSize='1'><VRTRasterBand><SimpleSource resampling='NEAR'/></VRTRasterBand></VRTDataset>",
+        b"<VRTDataset rasterXSize='1' rasterYSize='1'><VRTRasterBand><SimpleSource resampling='NEAR'/></VRTRasterBand>\
+        </VRTDataset>",
         3,
         0,
     ),
     (
-        b"\xef\xbb\xbf<?xml version='1.0'?><!-- a --> <VRTDataset rasterXSize='1' rasterYSize='1'><VRTRasterBand/></VRTDataset>\n",
+        b"\xef\xbb\xbf<?xml version='1.0'?><!-- a --> <VRTDataset rasterXSize='1' rasterYSize='1'><VRTRasterBand/>\
+        </VRTDataset>\n",
         0,
         0,
     ),
     (
-        b"<VRTDataset rasterXSize='1' rasterYSize='1'><GeoTransform> 0, 1,0,0,0,-1 </GeoTransform><Metadata><a>x</a></Metadata><VRTRasterBand/></VRTDataset>",
+        b"<VRTDataset rasterXSize='1' rasterYSize='1'><GeoTransform> 0, 1,0,0,0,-1 </GeoTransform><Metadata><a>x</a>\
+        </Metadata><VRTRasterBand/></VRTDataset>",
         0,
         0,
     ),
     (
-        b"<VRTDataset rasterXSize='1' rasterYSize='1'><VRTRasterBand><NoDataValue> 256 </NoDataValue></VRTRasterBand></VRTDataset>",
+        b"<VRTDataset rasterXSize='1' rasterYSize='1'><VRTRasterBand><NoDataValue> 256 </NoDataValue></VRTRasterBand>\
+        </VRTDataset>",
         0,
         0,
     ),
@@ -165,7 +172,8 @@ fn dataset_fault(alloc: Global, inside: &[u8]) -> Result<(u8, u64), Fail> {
     Ok(fault_of(alloc, &text))
 }
 
-// What stands in a dataset, each with the number of its fault and its place, where the dataset's start tag has 44 bytes.
+// What stands in a dataset, each with the number of its fault and its place, where the dataset's start tag has 44
+// bytes.
 const RULES: [(&[u8], u8, u64); 26] = [
     (b"", 3, 0),
     (b"<VRTRasterBand/>", 0, 0),
@@ -232,7 +240,8 @@ const RULES: [(&[u8], u8, u64); 26] = [
         0,
     ),
     (
-        b"<VRTRasterBand><SimpleSource><SourceFilename relativeToVRT='2'>a</SourceFilename></SimpleSource></VRTRasterBand>",
+        b"<VRTRasterBand><SimpleSource><SourceFilename relativeToVRT='2'>a</SourceFilename></SimpleSource>\
+        </VRTRasterBand>",
         4,
         0,
     ),
@@ -517,33 +526,10 @@ fn elements_in_one_another(rt: HostRuntime) -> Result<(), Fail> {
     Ok(())
 }
 
-/// Two tiles side by side.
-const MOSAIC: &[u8] = b"<VRTDataset rasterXSize=\"2401\" rasterYSize=\"1201\">
-  <GeoTransform>-0.0004166666666667, 0.0008333333333333, 0, 1.0004166666666667, 0, -0.0008333333333333</GeoTransform>
-  <VRTRasterBand dataType=\"Int16\" band=\"1\">
-    <NoDataValue>-32768</NoDataValue>
-    <ComplexSource>
-      <SourceFilename relativeToVRT=\"1\">N00E000.hgt</SourceFilename>
-      <SourceBand>1</SourceBand>
-      <SrcRect xOff=\"0\" yOff=\"0\" xSize=\"1201\" ySize=\"1201\"/>
-      <DstRect xOff=\"0\" yOff=\"0\" xSize=\"1201\" ySize=\"1201\"/>
-      <NODATA>-32768</NODATA>
-    </ComplexSource>
-    <ComplexSource>
-      <SourceFilename relativeToVRT=\"1\">N00E001.hgt</SourceFilename>
-      <SourceBand>1</SourceBand>
-      <SrcRect xOff=\"0\" yOff=\"0\" xSize=\"1201\" ySize=\"1201\"/>
-      <DstRect xOff=\"1200\" yOff=\"0\" xSize=\"1201\" ySize=\"1201\"/>
-      <NODATA>-32768</NODATA>
-    </ComplexSource>
-  </VRTRasterBand>
-</VRTDataset>
-";
-
 // The first number of bytes of the mosaic that are no front of a document; None where there is none.
 fn first_whole_front(alloc: Global) -> Option<usize> {
-    for count in 0..MOSAIC.len().saturating_sub(1) {
-        let (front, _) = MOSAIC.split_at(count);
+    for count in 0..TWO_TILES.len().saturating_sub(1) {
+        let (front, _) = TWO_TILES.split_at(count);
         let (number, place) = fault_of(alloc, front);
         if number != 1 || place > count as u64 {
             return Some(count);
@@ -575,7 +561,7 @@ fn is_second(source: &Source) -> bool {
 
 // Whether the mosaic is read.
 fn is_mosaic(alloc: Global) -> bool {
-    match read(alloc, MOSAIC) {
+    match read(alloc, TWO_TILES) {
         Ok(document) => {
             document.size.w == 2401
                 && document.srs.is_none()

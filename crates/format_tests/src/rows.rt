@@ -36,7 +36,8 @@ fn index_in(
     }
 }
 
-// Sources with the height of the mosaic and the number of stretches, and a line with the numbers of those that cover it.
+// Sources with the height of the mosaic and the number of stretches, and a line with the numbers of those that cover
+// it.
 const LINES: [(&[u8], u32, u32, u32, &[u32]); 12] = [
     (b"", 3, 1, 2, &[]),
     (HALVES, 2, 2, 0, &[0]),
@@ -54,19 +55,25 @@ const LINES: [(&[u8], u32, u32, u32, &[u32]); 12] = [
 
 // From the centre of line 0 up to that of line 1, and line 1.
 const HALVES: &[u8] =
-    b"<SimpleSource><SourceFilename>a</SourceFilename><DstRect xOff='0' yOff='0.5' xSize='1' ySize='1'/></SimpleSource><SimpleSource><SourceFilename>b</SourceFilename><DstRect xOff='0' yOff='1' xSize='1' ySize='1'/></SimpleSource>";
+    b"<SimpleSource><SourceFilename>a</SourceFilename><DstRect xOff='0' yOff='0.5' xSize='1' ySize='1'/></SimpleSource>\
+    <SimpleSource><SourceFilename>b</SourceFilename><DstRect xOff='0' yOff='1' xSize='1' ySize='1'/></SimpleSource>";
 
 // Twice all lines.
 const WHOLE: &[u8] =
-    b"<SimpleSource><SourceFilename>a</SourceFilename></SimpleSource><SimpleSource><SourceFilename>b</SourceFilename></SimpleSource>";
+    b"<SimpleSource><SourceFilename>a</SourceFilename></SimpleSource><SimpleSource><SourceFilename>b</SourceFilename>\
+    </SimpleSource>";
 
 // Line 1, and less than the centre of line 2.
 const GAP: &[u8] =
-    b"<SimpleSource><SourceFilename>a</SourceFilename><DstRect xOff='0' yOff='1' xSize='1' ySize='1'/></SimpleSource><SimpleSource><SourceFilename>b</SourceFilename><DstRect xOff='0' yOff='2.000001' xSize='1' ySize='0.499999'/></SimpleSource>";
+    b"<SimpleSource><SourceFilename>a</SourceFilename><DstRect xOff='0' yOff='1' xSize='1' ySize='1'/></SimpleSource>\
+    <SimpleSource><SourceFilename>b</SourceFilename><DstRect xOff='0' yOff='2.000001' xSize='1' ySize='0.499999'/>\
+    </SimpleSource>";
 
 // Lines 0 to 2, line 1 and all lines from 1 on.
 const LAYERS: &[u8] =
-    b"<SimpleSource><SourceFilename>a</SourceFilename><DstRect xOff='0' yOff='0' xSize='1' ySize='3'/></SimpleSource><SimpleSource><SourceFilename>b</SourceFilename><DstRect xOff='0' yOff='1' xSize='1' ySize='1'/></SimpleSource><SimpleSource><SourceFilename>c</SourceFilename><DstRect xOff='0' yOff='1' xSize='1' ySize='9'/></SimpleSource>";
+    b"<SimpleSource><SourceFilename>a</SourceFilename><DstRect xOff='0' yOff='0' xSize='1' ySize='3'/></SimpleSource>\
+    <SimpleSource><SourceFilename>b</SourceFilename><DstRect xOff='0' yOff='1' xSize='1' ySize='1'/></SimpleSource>\
+    <SimpleSource><SourceFilename>c</SourceFilename><DstRect xOff='0' yOff='1' xSize='1' ySize='9'/></SimpleSource>";
 
 // The number of stretches, and whether the list of a line is this one.
 fn looked_up(index: &RowIndex, height: u32, y: u32, want: &[u32]) -> (u32, bool)

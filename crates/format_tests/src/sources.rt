@@ -83,12 +83,14 @@ const VALUES: [(&[u8], i32, Option<i128>); 22] = [
         Some(3),
     ),
     (
-        b"<ComplexSource><SourceFilename>a</SourceFilename><ScaleRatio>0.0000004</ScaleRatio><LUT>0:0,0.000001:100</LUT></ComplexSource>",
+        b"<ComplexSource><SourceFilename>a</SourceFilename><ScaleRatio>0.0000004</ScaleRatio>\
+        <LUT>0:0,0.000001:100</LUT></ComplexSource>",
         1,
         Some(0),
     ),
     (
-        b"<ComplexSource><SourceFilename>a</SourceFilename><ScaleRatio>0.0000005</ScaleRatio><LUT>0:0,0.000001:100</LUT></ComplexSource>",
+        b"<ComplexSource><SourceFilename>a</SourceFilename><ScaleRatio>0.0000005</ScaleRatio>\
+        <LUT>0:0,0.000001:100</LUT></ComplexSource>",
         1,
         Some(100),
     ),
@@ -103,7 +105,8 @@ const VALUES: [(&[u8], i32, Option<i128>); 22] = [
         Some(-2),
     ),
     (
-        b"<ComplexSource><SourceFilename>a</SourceFilename><ScaleOffset>1</ScaleOffset><ScaleRatio>2</ScaleRatio></ComplexSource>",
+        b"<ComplexSource><SourceFilename>a</SourceFilename><ScaleOffset>1</ScaleOffset><ScaleRatio>2</ScaleRatio>\
+        </ComplexSource>",
         3,
         Some(7),
     ),
@@ -113,12 +116,14 @@ const VALUES: [(&[u8], i32, Option<i128>); 22] = [
         Some(2147483647997852516352),
     ),
     (
-        b"<ComplexSource><SourceFilename>a</SourceFilename><NODATA>6</NODATA><ScaleRatio>2</ScaleRatio></ComplexSource>",
+        b"<ComplexSource><SourceFilename>a</SourceFilename><NODATA>6</NODATA><ScaleRatio>2</ScaleRatio>\
+        </ComplexSource>",
         3,
         Some(6),
     ),
     (
-        b"<ComplexSource><SourceFilename>a</SourceFilename><NODATA>6</NODATA><ScaleRatio>2</ScaleRatio></ComplexSource>",
+        b"<ComplexSource><SourceFilename>a</SourceFilename><NODATA>6</NODATA><ScaleRatio>2</ScaleRatio>\
+        </ComplexSource>",
         6,
         None,
     ),
@@ -412,11 +417,13 @@ fn pixels(alloc: Global, sources: &[u8]) -> Result<Option<(i128, i128, i128)>, F
 // Two sources of a kind, and the pixels of their mosaic.
 const MOSAICS: [(&[u8], (i128, i128, i128)); 2] = [
     (
-        b"<ComplexSource><SourceFilename>a.bil</SourceFilename><NODATA>0</NODATA></ComplexSource><ComplexSource><SourceFilename>b.bil</SourceFilename><NODATA>0</NODATA></ComplexSource>",
+        b"<ComplexSource><SourceFilename>a.bil</SourceFilename><NODATA>0</NODATA></ComplexSource><ComplexSource>\
+        <SourceFilename>b.bil</SourceFilename><NODATA>0</NODATA></ComplexSource>",
         (5, -1, 9),
     ),
     (
-        b"<SimpleSource><SourceFilename>a.bil</SourceFilename></SimpleSource><SimpleSource><SourceFilename>b.bil</SourceFilename></SimpleSource>",
+        b"<SimpleSource><SourceFilename>a.bil</SourceFilename></SimpleSource><SimpleSource>\
+        <SourceFilename>b.bil</SourceFilename></SimpleSource>",
         (0, 0, 9),
     ),
 ];

@@ -1,8 +1,10 @@
 // Documents that are written, and names of sources.
 use outside::{Name, NameFault};
+use outside_fakes::TWO_TILES;
 use std::alloc::{AllocError, Global};
 use std::test::*;
-use vrt_profile::{Document, Source, VrtBand, read, relate, resolve, resolved_len, write};
+use vrt_profile::{Document, Source, VrtBand, read, relate, resolve, resolved_len};
+use vrt_writing::write;
 
 /// Two tiles side by side, in another layout than the written one.
 const LOOSE: &[u8] = b"\xef\xbb\xbf<?xml version='1.0'?><!-- two tiles -->
@@ -15,28 +17,6 @@ const LOOSE: &[u8] = b"\xef\xbb\xbf<?xml version='1.0'?><!-- two tiles -->
 <NODATA>-32768</NODATA><ScaleRatio>1.000</ScaleRatio></ComplexSource><NoDataValue> -32768 </NoDataValue></VRTRasterBand>
 <GeoTransform>-0.0004166666666667,0.0008333333333333,0,1.0004166666666667,0,-0.0008333333333333</GeoTransform>
 </VRTDataset>";
-
-const WRITTEN: &[u8] = b"<VRTDataset rasterXSize=\"2401\" rasterYSize=\"1201\">
-  <GeoTransform>-0.0004166666666667, 0.0008333333333333, 0, 1.0004166666666667, 0, -0.0008333333333333</GeoTransform>
-  <VRTRasterBand dataType=\"Int16\" band=\"1\">
-    <NoDataValue>-32768</NoDataValue>
-    <ComplexSource>
-      <SourceFilename relativeToVRT=\"1\">N00E000.hgt</SourceFilename>
-      <SourceBand>1</SourceBand>
-      <SrcRect xOff=\"0\" yOff=\"0\" xSize=\"1201\" ySize=\"1201\"/>
-      <DstRect xOff=\"0\" yOff=\"0\" xSize=\"1201\" ySize=\"1201\"/>
-      <NODATA>-32768</NODATA>
-    </ComplexSource>
-    <ComplexSource>
-      <SourceFilename relativeToVRT=\"1\">N00E001.hgt</SourceFilename>
-      <SourceBand>1</SourceBand>
-      <SrcRect xOff=\"0\" yOff=\"0\" xSize=\"1201\" ySize=\"1201\"/>
-      <DstRect xOff=\"1200\" yOff=\"0\" xSize=\"1201\" ySize=\"1201\"/>
-      <NODATA>-32768</NODATA>
-    </ComplexSource>
-  </VRTRasterBand>
-</VRTDataset>
-";
 
 /// Every part of a document, and a band without parts.
 const WHOLE: &[u8] = b"<VRTDataset rasterXSize=\"2\" rasterYSize=\"1\">
@@ -80,8 +60,8 @@ const FILLED: &[u8] = b"<VRTDataset rasterXSize=\"1\" rasterYSize=\"1\">
 
 // Documents, each with the text that is written of it.
 const LAYOUTS: [(&[u8], &[u8]); 4] = [
-    (LOOSE, WRITTEN),
-    (WRITTEN, WRITTEN),
+    (LOOSE, TWO_TILES),
+    (TWO_TILES, TWO_TILES),
     (WHOLE, WHOLE),
     (SPARSE, FILLED),
 ];

@@ -54,6 +54,11 @@ pub always_ok : (r : Result (Unit {0}) Fault) (P : Type 0) → P → OnOk r P
 always_ok (Ok done) P p = p
 always_ok (Err f) P p = tt
 
+-- what follows from what holds of a value
+pub then_ok : (r : Result (Unit {0}) Fault) (P Q : Type 0) → OnOk r P → (P → Q) → OnOk r Q
+then_ok (Ok done) P Q held then = then held
+then_ok (Err f) P Q held then = tt
+
 input_no_folder : stopped_by InputFault ≡ Err FolderFault → ⊥
 input_no_folder is = cc
 

@@ -4,7 +4,7 @@ use Rattle.std.specs.Prelude.{IfErr}
 use Rattle.std.specs.List.{range_with_len}
 use Rattle.outside.specs.Outside.{Files}
 use Rattle.catalog.specs.Drivers.{Dataset}
-use Rattle.vrt_profile.specs.Spelled.{spelled}
+use Rattle.vrt_writing.specs.Spelled.{spelled}
 use Rattle.buildvrt.specs.declared.faults.BuildFault.TheVariants as build
 use Rattle.command_words.specs.declared.command.Job.TheVariants as job
 use Rattle.error_lines.specs.declared.faults.Fault.{Fault}

@@ -16,7 +16,7 @@ use Rattle.location_report.specs.declared.report.Form.{Form}
 use Rattle.location_report.specs.declared.report.Form.TheVariants.{Report, ValuesOnly, FilesOnly}
 use Rattle.gdal_cli.specs.declared.asked.Asked.{Asked}
 use Rattle.gdal_cli.specs.Location.{within, values_at, files_at, told_text}
-use Rattle.gdal_cli.specs.Pixels.{IsPixel}
+use Rattle.gdal_cli.specs.Pixels.{IsOnRaster}
 use Rattle.gdal_cli.proofs.Reached.{one_dataset}
 
 -- the pixel of a window of one
@@ -93,7 +93,7 @@ module _ (m : Files) (cat : List Dataset) (d : Dataset) (asked : Asked) where
       ∙ no_files asked.form (pos x) (pos y) _ _ other ∙ inside x y column line
 
   -- the text of the names of files, made behind an empty one
-  pub files_told : (id x y : ℕ) (text old : List ℕ) (column line : ℤ) (bands : List ℕ) (files : List (List ℕ)) → IsPixel cat id x y → slice_get cat id ≡ Some d → asked.form ≡ FilesOnly → text ≡ old ++ location_text asked.form column line None bands files → old ≡ [] → column ≡ pos x → line ≡ pos y → bands ≡ asked.bands → files ≡ covering_files cat d x y bands → text ≡ told_text m cat d asked (pos x, pos y)
+  pub files_told : (id x y : ℕ) (text old : List ℕ) (column line : ℤ) (bands : List ℕ) (files : List (List ℕ)) → IsOnRaster cat id x y → slice_get cat id ≡ Some d → asked.form ≡ FilesOnly → text ≡ old ++ location_text asked.form column line None bands files → old ≡ [] → column ≡ pos x → line ≡ pos y → bands ≡ asked.bands → files ≡ covering_files cat d x y bands → text ≡ told_text m cat d asked (pos x, pos y)
   files_told id x y text old column line bands files p at form is empty col row same names =
       let here : p.dataset ≡ d = one_dataset cat id p.dataset d p.at at in
       is
@@ -105,7 +105,7 @@ module _ (m : Files) (cat : List Dataset) (d : Dataset) (asked : Asked) where
       ∙ told_files x y (subst (λ (e : Dataset). x < e.head.size.w) here p.column) (subst (λ (e : Dataset). y < e.head.size.h) here p.line) form
 
   -- the same of values
-  pub values_told : (id x y : ℕ) (text old : List ℕ) (column line : ℤ) (bands : List ℕ) (values : List ℤ) (files : List (List ℕ)) → IsCatalog cat → IsWalked m cat → IsPixel cat id x y → slice_get cat id ≡ Some d → (asked.form ≡ FilesOnly → ⊥) → text ≡ old ++ location_text asked.form column line (Some values) bands files → old ≡ [] → column ≡ pos x → line ≡ pos y → bands ≡ asked.bands → files ≡ [] → values ≡ map (λ band. pixel_of m cat id (band - 1) x y) bands → text ≡ told_text m cat d asked (pos x, pos y)
+  pub values_told : (id x y : ℕ) (text old : List ℕ) (column line : ℤ) (bands : List ℕ) (values : List ℤ) (files : List (List ℕ)) → IsCatalog cat → IsWalked m cat → IsOnRaster cat id x y → slice_get cat id ≡ Some d → (asked.form ≡ FilesOnly → ⊥) → text ≡ old ++ location_text asked.form column line (Some values) bands files → old ≡ [] → column ≡ pos x → line ≡ pos y → bands ≡ asked.bands → files ≡ [] → values ≡ map (λ band. pixel_of m cat id (band - 1) x y) bands → text ≡ told_text m cat d asked (pos x, pos y)
   values_told id x y text old column line bands values files valid walked p at other is empty col row same none are =
       let here : p.dataset ≡ d = one_dataset cat id p.dataset d p.at at in
       let named : values ≡ map (λ band. pixel_of_name m d.head.name (band - 1) x y) asked.bands = are ∙ values_named m cat id x y d bands valid walked at ∙ ap (map (λ band. pixel_of_name m d.head.name (band - 1) x y)) same in

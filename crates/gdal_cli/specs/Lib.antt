@@ -1,8 +1,10 @@
-pub mod Faults
-pub mod Input
-pub mod Lanes
-pub mod Location
-pub mod Pixels
-pub mod Published
+-- What public clauses and laws speak of: to be read and trusted.
 pub mod Run
 pub mod Work
+pub mod Location
+pub mod Faults
+pub mod Input
+-- What private clauses, views and proofs speak of.
+pub mod Lanes
+pub mod Pixels
+pub mod Published

@@ -49,9 +49,9 @@ frame_in true None = Err (Plan NoGeo)
 frame_in true (Some geo) = Ok (Some geo)
 
 -- the column and the line of a point, which may be off the raster
-abbrev pub place_of : Option Transform → ℤ → ℤ → ℤ × ℤ
-place_of None x y = (floor_of x (pos unit), floor_of y (pos unit))
-place_of (Some geo) x y = located geo x y
+abbrev pub column_and_line : Option Transform → ℤ → ℤ → ℤ × ℤ
+column_and_line None x y = (floor_of x (pos unit), floor_of y (pos unit))
+column_and_line (Some geo) x y = located geo x y
 
 -- what is asked of a dataset, or that it lacks a band or a geotransform
 unfoldable pub asked_in : Form → List ℕ → Bool → DatasetHead → Result Asked Fault
@@ -81,7 +81,7 @@ told_text m cat d asked place =
 
 -- what is told of a point
 unfoldable pub point_text : Files → List Dataset → Dataset → Asked → ℤ → ℤ → List ℕ
-point_text m cat d asked x y = told_text m cat d asked (place_of asked.frame x y)
+point_text m cat d asked x y = told_text m cat d asked (column_and_line asked.frame x y)
 
 -- what is told of a line, where `tell` tells of a point
 abbrev pub line_text : (ℤ → ℤ → List ℕ) → LineKind → List ℕ

@@ -4,7 +4,7 @@ use Rattle.catalog.specs.Dataset.{band_count}
 use Rattle.catalog.specs.Drivers.{Dataset}
 
 -- the column and the line are in the raster
-pub record IsPixel (cat : List Dataset) (id x y : ℕ) : Type 0 where
+pub record IsOnRaster (cat : List Dataset) (id x y : ℕ) : Type 0 where
   pub dataset : Dataset
   pub at : slice_get cat id ≡ Some dataset
   pub column : x < dataset.head.size.w

@@ -64,7 +64,8 @@ fn answer_line<F: Folder, O: Sink, L: Ledger, S: Scene>(
     }
 }
 
-// Answers the next line that ends in a piece, if there is one, and gives the number of the piece's bytes that were read.
+// Answers the next line that ends in a piece, if there is one, and gives the number of the piece's bytes that were
+// read.
 fn answer_next<F: Folder, O: Sink, L: Ledger, S: Scene>(
     question: &Question,
     points: &mut PointReader<F, L, S>,
@@ -200,7 +201,8 @@ pub fn answer_input<F: Folder, I: Input, O: Sink, L: Ledger, S: Scene>(
     requires room { length points.old.room.values.items ≡ length question.now.asked.bands }
     ensures told { (m : Files) → F.names folder.old ≡ Some m → (d : Dataset) → slice_get question.now.cat question.now.id ≡ Some d → (i : List ℕ) → I.left input.old ≡ Some i → AnswersInput (point_text m question.now.cat d question.now.asked) i (I.left input.new) result (O.got out.old) (O.got out.new) }
     ensures stopped { result ≡ Err Fault.InputFault → (m : Files) → F.names folder.old ≡ Some m → (d : Dataset) → slice_get question.now.cat question.now.id ≡ Some d → (i : List ℕ) → I.left input.old ≡ Some i → StopsBehind (answers (point_text m question.now.cat d question.now.asked) None) i (I.left input.new) (O.got out.old) (O.got out.new) }
-    // over every folder, success is at the end of the input; over one that tells its names, no length is said to have changed
+    // over every folder, success is at the end of the input; over one that tells its names, no length is said to have
+    // changed
     ensures read { OnOk result ((i : List ℕ) → I.left input.old ≡ Some i → I.left input.new ≡ Some []) }
     ensures never { (m : Files) → F.names folder.old ≡ Some m → (name : List ℕ) (was : ℕ) (now : Option ℕ) → result ≡ Err (Fault.Changed name was now) → ⊥ }
     ensures cause { HasCauses (F.faults folder.old) (F.faults folder.new) (O.faults out.old) (O.faults out.new) result }

@@ -94,8 +94,8 @@ fn put_info<F: Folder, O: Sink>(
     Ok(())
 }
 
-// Answers a point of a dataset, or the lines of the input where none is given, through one lane. Of several workers this
-// one has lines besides, as many as its pool has blocks.
+// Answers a point of a dataset, or the lines of the input where none is given, through one lane. Of several workers
+// this one has lines besides, as many as its pool has blocks.
 fn put_answers<F: Folder, I: Input, O: Sink, L: Ledger, S: Scene>(
     question: &Question,
     folder: &mut F,
@@ -187,11 +187,11 @@ fn put_location<F: Folder, I: Input, O: Sink>(
 /// output's name is one of its driver. Inputs that a mosaic skips are warned of on `err`; where that fails, `failed` is
 /// set, and nothing more is put there.
 ///
-/// Each refusal comes where the files are judged, before anything is put, but for BadPoint and the limit of points, which
-/// come at their line of the input, and for the run from a number, whose later parts read what the earlier ones published:
-/// it is refused by nothing over a folder that tells its files. FolderFault, InputFault and OutFault come only where the
-/// count of the folder, of the input and of the output rose, Changed only over a folder that doesn't tell its names, Memory
-/// freely.
+/// Each refusal comes where the files are judged, before anything is put, but for BadPoint and the limit of points,
+/// which come at their line of the input, and for the run from a number, whose later parts read what the earlier ones
+/// published: it is refused by nothing over a folder that tells its files. FolderFault, InputFault and OutFault come
+/// only where the count of the folder, of the input and of the output rose, Changed only over a folder that doesn't
+/// tell its names, Memory freely.
 pub fn put_job<R: Threads + Sync, F: Folder, I: Input, O: Sink, E: Sink>(
     host: &Host<R>,
     folder: &mut F,

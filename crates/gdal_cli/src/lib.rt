@@ -7,7 +7,7 @@ mod input;
 mod jobs;
 mod laws;
 mod mosaics;
-mod places;
+mod point_pixels;
 mod points;
 mod reader;
 mod running;

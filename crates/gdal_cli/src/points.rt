@@ -7,9 +7,9 @@ ghost use Rattle.location_report.specs.Covering.{covering_files};
 ghost use Rattle.error_lines.specs.Faults.{IsOutside, Differs, HasCauses, IsOfReading};
 ghost use Rattle.gdal_cli.specs.Lanes.{IsReadyWith};
 ghost use Rattle.gdal_cli.specs.Location.{told_text, point_text, PutsText};
-ghost use Rattle.gdal_cli.specs.Pixels.{IsPixel, AreBands};
+ghost use Rattle.gdal_cli.specs.Pixels.{IsOnRaster, AreBands};
 
-use crate::places::{place_of, within};
+use crate::point_pixels::{column_and_line, within};
 use crate::reader::{PixelReader, PointReader, Question, Room};
 use crate::values::read_values;
 use catalog::Catalog;
@@ -53,7 +53,7 @@ fn make_inside<F: Folder, L: Ledger, S: Scene>(
     requires ready { IsReadyWith F.Folder S.told S.cat folder.old question.now.cat pixels.old.lane }
     requires bands { AreBands question.now.cat question.now.id (λ count. All (λ band. (1 ≤ band) × (band ≤ count)) question.now.asked.bands) }
     requires room { length room.old.values.items ≡ length question.now.asked.bands }
-    requires pixel { IsPixel question.now.cat question.now.id x y }
+    requires pixel { IsOnRaster question.now.cat question.now.id x y }
     requires empty { room.old.text.items ≡ [] }
     ensures text { (m : Files) → F.names folder.old ≡ Some m → (d : Dataset) → slice_get question.now.cat question.now.id ≡ Some d → OnOk result (room.new.text.items ≡ told_text m question.now.cat d question.now.asked (pos x, pos y)) }
     ensures never { (m : Files) → F.names folder.old ≡ Some m → IfErr result IsOutside }
@@ -168,7 +168,7 @@ pub fn put_point<F: Folder, O: Sink, L: Ledger, S: Scene>(
     ensures names { F.names folder.new ≡ F.names folder.old }
     ensures writes { F.write_calls folder.new ≡ F.write_calls folder.old }
 {
-    let (column, line) = place_of(question.asked.frame, x, y);
+    let (column, line) = column_and_line(question.asked.frame, x, y);
     let pixels = &mut points.pixels;
     make_text(question, pixels, folder, &mut points.room, column, line)?;
     match out.put(&points.room.text) {

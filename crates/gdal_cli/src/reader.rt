@@ -22,7 +22,8 @@ pub struct Question {
     pub asked: Asked,
 }
 
-/// What pixels are read with: a lane, the count of its loads, and the lines that it looks for blocks in, if there are any.
+/// What pixels are read with: a lane, the count of its loads, and the lines that it looks for blocks in, if there are
+/// any.
 #[derive(Drop)]
 pub struct PixelReader<'a, F: Folder, L: Ledger, S: Scene> {
     pub lane: Lane<F>,

@@ -80,8 +80,8 @@ pub fn run<R: Threads + Sync, F: Folder, I: Input, O: Sink, E: Sink>(
         → (part : List Step) × IsFirstPart part (run_of (map string_bytes words.now) m i).steps × AreDone part m (F.names folder.new) (O.got out.old) (O.got out.new)
         × AreTold part result.fault (E.faults err.old) (E.faults err.new) (E.got err.old) (E.got err.new) }
 
-    // A run that is refused before a line of the input has printed, taken and published nothing: over every folder, and the
-    // run from a number, whose later parts read what the earlier ones published, over one that tells its files.
+    // A run that is refused before a line of the input has printed, taken and published nothing: over every folder, and
+    // the run from a number, whose later parts read what the earlier ones published, over one that tells its files.
     ensures refused { (words_make_rasters (words_of (map string_bytes words.now)) ≡ true → IsSome (F.names folder.old)) → IsRefusal result.fault → (out.new ≡ out.old) × (input.new ≡ input.old) × (F.names folder.new ≡ F.names folder.old) }
 
     // Over a folder that tells its files, the run from a number is refused by nothing.
@@ -97,7 +97,8 @@ pub fn run<R: Threads + Sync, F: Folder, I: Input, O: Sink, E: Sink>(
     ensures input { words_read_input (words_of (map string_bytes words.now)) ≡ false → input.new ≡ input.old }
     ensures input_read { words_read_input (words_of (map string_bytes words.now)) ≡ true → result.status ≡ 0 → (i : List ℕ) → I.left input.old ≡ Some i → I.left input.new ≡ Some [] }
 
-    // Where the input failed, exactly the whole lines among the bytes that it gave are answered, none of which is refused.
+    // Where the input failed, exactly the whole lines among the bytes that it gave are answered, none of which is
+    // refused.
     ensures input_stopped { result.fault ≡ Some Fault.InputFault → (m : Files) → F.names folder.old ≡ Some m → (i : List ℕ) → I.left input.old ≡ Some i
         → StopsBehind (run_over (map string_bytes words.now) m) i (I.left input.new) (O.got out.old) (O.got out.new) }
 
@@ -128,8 +129,8 @@ pub fn run<R: Threads + Sync, F: Folder, I: Input, O: Sink, E: Sink>(
         → (Rose (F.faults folder.old) (F.faults folder.new) → ⊥) → (Rose (I.faults input.old) (I.faults input.new) → ⊥) → (Rose (O.faults out.old) (O.faults out.new) → ⊥)
         → (result.fault ≡ (run_of (map string_bytes words.now) m i).fault) ⊎ (result.fault ≡ Some Fault.Memory) }
 
-    // Over every folder, the error stream gets warnings and the line of the fault, or a first part where it fails. Only the
-    // making of a mosaic of inputs warns, and what is refused doesn't.
+    // Over every folder, the error stream gets warnings and the line of the fault, or a first part where it fails. Only
+    // the making of a mosaic of inputs warns, and what is refused doesn't.
     ensures fault_told { TellsFault (words_warn (words_of (map string_bytes words.now))) result.fault (E.faults err.old) (E.faults err.new) (E.got err.old) (E.got err.new) }
 
     // Where the status is 0 or 1, it gets the warnings of all steps before that line, or a first part where it fails.

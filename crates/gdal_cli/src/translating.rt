@@ -17,8 +17,8 @@ use std::thread::Threads;
 use translate_plan::TranslateOptions;
 use translation_runs::{Way, put_translation};
 
-/// Does a translation: walks from a dataset, plans its output, sees that no name of this is that of a file that is read,
-/// and then does the work. The extension of the output's name is one of its driver.
+/// Does a translation: walks from a dataset, plans its output, sees that no name of this is that of a file that is
+/// read, and then does the work. The extension of the output's name is one of its driver.
 ///
 /// All refusals come before anything is put or published. FolderFault and OutFault come only where the count of the
 /// folder and of the output rose, Changed only over a folder that doesn't tell its names, Memory freely.

@@ -5,7 +5,7 @@ ghost use Rattle.outside.specs.Causes.{HasCause};
 ghost use Rattle.catalog.specs.Pixels.{pixel_of};
 ghost use Rattle.error_lines.specs.Faults.{IsOutside, Differs, IsOfReading};
 ghost use Rattle.gdal_cli.specs.Lanes.{IsReadyWith};
-ghost use Rattle.gdal_cli.specs.Pixels.{IsPixel, AreBands};
+ghost use Rattle.gdal_cli.specs.Pixels.{IsOnRaster, AreBands};
 
 use crate::reader::{PixelReader, Question};
 use error_lines::Fault;
@@ -25,7 +25,7 @@ fn read_value<F: Folder, L: Ledger, S: Scene>(
     y: u32,
 ) -> Result<Sample, Fault>
     requires ready { IsReadyWith F.Folder S.told S.cat folder.old question.now.cat pixels.old.lane }
-    requires pixel { IsPixel question.now.cat question.now.id x y }
+    requires pixel { IsOnRaster question.now.cat question.now.id x y }
     requires band { AreBands question.now.cat question.now.id (λ count. band < count) }
     ensures value { (m : Files) → F.names folder.old ≡ Some m → IfOk result (λ v. v ≡ pixel_of m question.now.cat question.now.id band x y) }
     ensures ready { IsReadyWith F.Folder S.told S.cat folder.new question.now.cat pixels.new.lane }
@@ -70,7 +70,7 @@ pub fn read_values<F: Folder, L: Ledger, S: Scene>(
     values: &mut [Sample],
 ) -> Result<(), Fault>
     requires ready { IsReadyWith F.Folder S.told S.cat folder.old question.now.cat pixels.old.lane }
-    requires pixel { IsPixel question.now.cat question.now.id x y }
+    requires pixel { IsOnRaster question.now.cat question.now.id x y }
     requires bands { AreBands question.now.cat question.now.id (λ count. All (λ band. (1 ≤ band) × (band ≤ count)) bands.now) }
     requires room { length values.old ≡ length bands.now }
     ensures values { (m : Files) → F.names folder.old ≡ Some m → OnOk result (values.new ≡ map (λ band. pixel_of m question.now.cat question.now.id (band - 1) x y) bands.now) }

@@ -4,6 +4,7 @@
 pub mod decimal;
 mod faults;
 mod geo;
+mod limits;
 mod parts;
 mod places;
 pub mod print;
@@ -17,6 +18,7 @@ pub use decimal::{
 };
 pub use faults::{PlanFault, Unfit};
 pub use geo::{GeoTransform, corner_is_located};
+pub use limits::{FARTHEST, MOST_BANDS, MOST_SIDE};
 pub use places::{floor_is_exact, floor_of, half, half_is_nearest, is_near, round16, rounded_up};
 pub use print::{print_decimal, print_short, short_reads_back};
 pub use sizes::{is_north_up, sizes_held};

@@ -3,7 +3,7 @@
 
 mod bands;
 mod dataset;
-mod places;
 mod report;
+mod transform_lines;
 
 pub use report::{ReportFault, write_info};

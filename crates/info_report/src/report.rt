@@ -7,7 +7,7 @@ ghost use Rattle.info_report.specs.declared.report.ReportFault.TheVariants as re
 
 use crate::bands::push_bands;
 use crate::dataset::{push_driver, push_files, push_size, push_srs};
-use crate::places::push_geo;
+use crate::transform_lines::push_geo;
 use catalog::Head;
 use outside::{Failed, Sink};
 use std::alloc::{AllocError, Global};

@@ -1,6 +1,5 @@
 -- What is still to come where an input was read up to here.
-use Rattle.std.specs.Prelude.{ℕ, ◌+◌, Bool, false, List, [], ◌++◌, if◌then◌else◌, flat_map}
-use denote.Ref.{Bor}
+use Rattle.std.specs.Prelude.{ℕ, ◌+◌, Bool, false, List, [], ◌++◌, if◌then◌else◌}
 use Rattle.input_points.specs.declared.entry.Entry.{Entry}
 use Rattle.input_points.specs.declared.entry.LineKind.{LineKind}
 use Rattle.input_points.specs.Entries.{ends, entries_from}
@@ -25,7 +24,3 @@ behind number kind = record { line = if ends kind then number else number + 1; h
 -- the entries that are still to come where this text follows, by a way to cut a text into lines
 unfoldable pub coming : (List ℕ → List (List ℕ)) → Reading → List ℕ → List Entry
 coming lines_of r text = if r.over then [] else entries_from r.line (lines_of (r.held ++ text))
-
--- these pieces, one after another
-abbrev pub joined : List (Bor (List ℕ)) → List ℕ
-joined pieces = flat_map (λ piece. piece.now) pieces

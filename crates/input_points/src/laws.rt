@@ -1,8 +1,9 @@
 // What an input says doesn't depend on the pieces in which it comes.
 ghost use Rattle.std.specs.Prelude.{◌≡◌, ℕ, List, ◌++◌, IfOk, OnOk};
 ghost use Rattle.std.specs.Str.Lines.{lines};
+ghost use Rattle.lists_and_answers.specs.Texts.{joined};
 ghost use Rattle.input_points.specs.Entries.{entries};
-ghost use Rattle.input_points.specs.Reading.{coming, joined};
+ghost use Rattle.input_points.specs.Reading.{coming};
 
 use crate::entry::Entry;
 use crate::reading::PointLines;

@@ -7,11 +7,13 @@ use std::alloc::{AllocError, Global};
 use std::io::ErrorKind;
 use std::process::{self, ExitCode};
 
-/// How much room is taken and given back at the start, in bytes: less than the 32 MiB past which nothing is learnt of it.
+/// How much room is taken and given back at the start, in bytes: less than the 32 MiB past which nothing is learnt of
+/// it.
 const LARGE: usize = 25_165_824;
 
 // Takes room and gives it back, untouched. The C library's allocator then keeps what blocks of up to this size give
-// back, in place of returning their pages to the system and asking for them again. Where it is refused, nothing is lost.
+// back, in place of returning their pages to the system and asking for them again. Where it is refused, nothing is
+// lost.
 fn keep_pages(alloc: Global) {
     let _room: Result<Vec<u8>, AllocError> = Vec::with_capacity(alloc, LARGE);
 }

@@ -1,6 +1,6 @@
 -- Windows cut among lanes.
 use Rattle.std.proofs.Common.{◌≡◌, refl, [], ◌∷◌, Ok, Err}
-use Rattle.band_blocks.specs.declared.load.LoadFault.TheVariants.{FolderFault, Memory}
+use Rattle.band_blocks.specs.declared.fault.LoadFault.TheVariants.{FolderFault, Memory}
 use Rattle.lane_teams.specs.Parts.{lines_before, part_of}
 use Rattle.lane_teams.specs.Turns.{first_refusal}
 

@@ -9,7 +9,7 @@ use Rattle.std.proofs.Math.Seq.{take-append_seam}
 use Rattle.outside.specs.Causes.{Rose}
 use Rattle.outside.specs.Outside.{Files, IsView}
 use Rattle.catalog.specs.Drivers.{Dataset}
-use Rattle.band_blocks.specs.declared.load.LoadFault.{LoadFault}
+use Rattle.band_blocks.specs.declared.fault.LoadFault.{LoadFault}
 use Rattle.lane_teams.specs.declared.turns.Turn.{Turn}
 use Rattle.lane_teams.specs.Turns.{first_of, first_refusal, IsTurn, IsDone}
 

@@ -12,7 +12,7 @@ use Rattle.catalog.specs.Drivers.{Dataset}
 use Rattle.catalog.specs.Pixels.{pixel_of, pixel_of_name}
 use Rattle.catalog.specs.Places.{row_by_row}
 use Rattle.band_blocks.proofs.Corners.{length-row_by_row, get_or-row_by_row, filled-row_by_row}
-use Rattle.band_blocks.specs.declared.load.LoadFault.{LoadFault}
+use Rattle.band_blocks.specs.declared.fault.LoadFault.{LoadFault}
 use Rattle.nearest_window.specs.declared.window.Window.{Window}
 use Rattle.nearest_window.specs.Shown.{IsInBand, IsWindow}
 use Rattle.lane_teams.specs.Parts.{lines_before, lines_of, part_of, AreOfWindow}

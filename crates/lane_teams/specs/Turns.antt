@@ -5,8 +5,8 @@ use Rattle.outside.specs.Outside.{Files}
 use Rattle.outside.specs.declared.folder.Folder.{Ghosts}
 use Rattle.catalog.specs.Drivers.{Dataset}
 use Rattle.catalog.specs.Walk.{IsWalked}
-use Rattle.band_blocks.specs.declared.load.LoadFault.{LoadFault}
-use Rattle.band_blocks.specs.declared.load.LoadFault.TheVariants.{FolderFault}
+use Rattle.band_blocks.specs.declared.fault.LoadFault.{LoadFault}
+use Rattle.band_blocks.specs.declared.fault.LoadFault.TheVariants.{FolderFault}
 use Rattle.band_blocks.specs.Open.{IsUnchanged}
 use Rattle.nearest_window.specs.Lanes.{LaneView}
 use Rattle.nearest_window.specs.Right.{IsRight, TellsChangeIn}

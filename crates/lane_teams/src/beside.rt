@@ -102,30 +102,30 @@ fn read_pair<'x, R: Threads + Sync, F: Folder, S: Scene>(
     supply: &Supply<S>,
     job: &Job,
     halves: Halves,
-    a: &'x mut [Lane<F>],
-    t: &'x mut [Turn<F>],
-    p: &'x mut [Sample],
-    b: &'x mut [Lane<F>],
-    u: &'x mut [Turn<F>],
-    q: &'x mut [Sample],
+    lanes: (&'x mut [Lane<F>], &'x mut [Lane<F>]),
+    turns: (&'x mut [Turn<F>], &'x mut [Turn<F>]),
+    out: (&'x mut [Sample], &'x mut [Sample]),
 )
     requires scene { S.cat ≡ supply.now.cat.now }
-    requires front { AreReady F.Folder S.told supply.now.cat.now job.now halves.first a.old t.old p.old }
-    requires front_few { length a.old ≤ halves.most }
-    requires back { AreReady F.Folder S.told supply.now.cat.now job.now halves.middle b.old u.old q.old }
-    requires back_few { length b.old ≤ halves.most }
-    ensures front { HaveRead F.Folder S.told supply.now.cat.now job.now halves.first (length a.old) a.new t.new p.new }
-    ensures back { HaveRead F.Folder S.told supply.now.cat.now job.now halves.middle (length b.old) b.new u.new q.new }
+    requires front { AreReady F.Folder S.told supply.now.cat.now job.now halves.first lanes.0.now turns.0.now out.0.now }
+    requires front_few { length lanes.0.now ≤ halves.most }
+    requires back { AreReady F.Folder S.told supply.now.cat.now job.now halves.middle lanes.1.now turns.1.now out.1.now }
+    requires back_few { length lanes.1.now ≤ halves.most }
+    ensures front { HaveRead F.Folder S.told supply.now.cat.now job.now halves.first (length lanes.entry.0.now) lanes.exit.0.now turns.exit.0.now out.exit.0.now }
+    ensures back { HaveRead F.Folder S.told supply.now.cat.now job.now halves.middle (length lanes.entry.1.now) lanes.exit.1.0.now turns.exit.1.0.now out.exit.1.0.now }
 {
+    let (first_lanes, other_lanes) = lanes;
+    let (first_turns, other_turns) = turns;
+    let (first_out, other_out) = out;
     let mut front = Half {
-        lanes: a,
-        turns: t,
-        out: p,
+        lanes: first_lanes,
+        turns: first_turns,
+        out: first_out,
     };
     let mut back = Half {
-        lanes: b,
-        turns: u,
-        out: q,
+        lanes: other_lanes,
+        turns: other_turns,
+        out: other_out,
     };
     read_both::<R, F, S>(rt, supply, job, halves, &mut front, &mut back);
 }
@@ -160,10 +160,10 @@ fn read_all<'x, R: Threads + Sync, F: Folder, S: Scene>(
     };
     let rect = part_of(job, first, halves.middle).rect;
     let size = rect.w as usize * rect.h as usize;
-    let (a, b) = lanes.split_at_mut(low);
-    let (t, u) = turns.split_at_mut(low);
-    let (p, q) = out.split_at_mut(size);
-    read_pair::<R, F, S>(rt, supply, job, halves, a, t, p, b, u, q);
+    let lanes = lanes.split_at_mut(low);
+    let turns = turns.split_at_mut(low);
+    let out = out.split_at_mut(size);
+    read_pair::<R, F, S>(rt, supply, job, halves, lanes, turns, out);
 }
 
 // The same, for lanes of a folder.

@@ -1,5 +1,5 @@
 // Lines for the lanes of several workers.
-ghost use Rattle.std.specs.Prelude.{◌≡◌, ◌≤◌};
+ghost use Rattle.std.specs.Prelude.{◌≡◌, ◌≤◌, IfSome, None};
 
 use crate::WorkerCount;
 use catalog::Catalog;
@@ -7,9 +7,9 @@ use outside::Folder;
 use shared_lines::{Lines, Scene};
 use std::alloc::Global;
 
-/// So many empty lines, from 1 to 65,536, for what several workers read of a catalog. They stand for the catalog and for
-/// the folder's files, as both are now. There are none where one worker reads, nor where memory is refused for them: all is
-/// read without lines then.
+/// So many empty lines, from 1 to 65,536, for what several workers read of a catalog. They stand for the catalog and
+/// for the folder's files, as both are now. There are none where one worker reads, nor where memory is refused for
+/// them: all is read without lines then.
 pub fn lines_for<F: Folder, S: Scene>(
     alloc: Global,
     workers: WorkerCount,
@@ -21,6 +21,8 @@ pub fn lines_for<F: Folder, S: Scene>(
     requires scene { S.cat ≡ cat.now }
     requires some { 1 ≤ count }
     requires few { count ≤ 65536 }
+    ensures alone { workers ≡ 1 → result ≡ None }
+    ensures count { IfSome result (λ lines. lines ≡ count) }
 {
     if workers.get() == 1 {
         return None;

@@ -73,11 +73,11 @@ impl<F: Folder, L: Ledger> Team<F, L> {
         Ok(Team { lanes, loads })
     }
 
-    /// Fills `out` with the pixels of a window, row by row, as `Lane::read_window` does, by all lanes beside each other:
-    /// of n lanes the lane k reads the lines from floor(k*h/n) up to floor((k+1)*h/n) of the window's h, through a view
-    /// of the folder, into its part of `out`. Where no thread can be started, a lane's part is read in the thread that
-    /// would have started it. A window of fewer lines than lanes is read by the first lane, and so is one of a team of
-    /// one, through the folder itself. Each lane is ready for the catalog and the folder.
+    /// Fills `out` with the pixels of a window, row by row, as `Lane::read_window` does, by all lanes beside each
+    /// other: of n lanes the lane k reads the lines from floor(k*h/n) up to floor((k+1)*h/n) of the window's h, through
+    /// a view of the folder, into its part of `out`. Where no thread can be started, a lane's part is read in the
+    /// thread that would have started it. A window of fewer lines than lanes is read by the first lane, and so is one
+    /// of a team of one, through the folder itself. Each lane is ready for the catalog and the folder.
     ///
     /// A refusal is that of the first lane that refused, in their order, and its causes are those of
     /// `Lane::read_window`. All views are ended, and all lanes ready, after every answer. `loads` counts the loads of a
@@ -155,8 +155,9 @@ impl<F: Folder, L: Ledger> Team<F, L> {
         self.read_window_with(rt, &supply, folder, window, out)
     }
 
-    /// As `read_window`, with the memory and the catalog of a supply, and through the lines that lanes share, where it has
-    /// any: they stand for its catalog and for the folder's files. Each lane looks for blocks in them and offers its own, as
+    /// As `read_window`, with the memory and the catalog of a supply, and through the lines that lanes share, where it
+    /// has any: they stand for its catalog and for the folder's files. Each lane looks for blocks in them and offers
+    /// its own, as
     /// `Lane::read_window_with` does.
     pub fn read_window_with<R: Threads + Sync, S: Scene>(
         &mut self,

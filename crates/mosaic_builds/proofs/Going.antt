@@ -11,7 +11,7 @@ use Rattle.error_lines.specs.Steps.{Step, Prints, Warns, Publishes, printed, pub
 use Rattle.error_lines.proofs.Warned.{warned_both, none_warned}
 use Rattle.error_lines.proofs.Silent.{part_silent}
 use Rattle.mosaic_builds.specs.Steps.{progress_line, progress_steps, publishing_steps, mosaic_done, warns}
-use Rattle.vrt_profile.specs.Spelled.{spelled}
+use Rattle.vrt_writing.specs.Spelled.{spelled}
 use Rattle.vrt_profile.specs.Values.{DocumentValue}
 use Rattle.mosaic_builds.specs.Built.{Built}
 

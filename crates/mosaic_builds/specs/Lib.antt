@@ -1,5 +1,6 @@
-pub mod Built
-pub mod Ends
+-- What public clauses and laws speak of: to be read and trusted.
 pub mod Inputs
-pub mod Steps
 pub mod Walks
+pub mod Built
+pub mod Steps
+pub mod Ends

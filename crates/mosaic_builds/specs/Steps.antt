@@ -1,6 +1,6 @@
 -- What the making of a mosaic does, a step at a time.
 use Rattle.std.specs.Prelude.{ℕ, Bool, true, false, List, [], ◌∷◌, ◌++◌, map, codes, Result, Ok, Err}
-use Rattle.vrt_profile.specs.Spelled.{spelled}
+use Rattle.vrt_writing.specs.Spelled.{spelled}
 use Rattle.vrt_profile.specs.Values.{DocumentValue}
 use Rattle.error_lines.specs.declared.faults.Fault.{Fault}
 use Rattle.error_lines.specs.Steps.{Step, Done, Prints, Warns, Publishes, all_done, refused}

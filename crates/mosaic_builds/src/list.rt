@@ -207,9 +207,9 @@ fn with_list<F: Folder>(
 /// there is one. A line ends with a line feed, or with a carriage return and a line feed; an empty line is passed over.
 ///
 /// The refusals come in this order: Absent where there is no list of the name; Limit with the kind List and its length
-/// where it has more than 67,108,864 bytes, before it is read; Malformed where it isn't UTF-8; and of the first name that
-/// fails Limit with the kind Name and its length where it has more than 4,096 bytes, and then Limit with the kind Files
-/// and the value 65537 where it is one too many. FolderFault comes only where the count rose, Memory freely.
+/// where it has more than 67,108,864 bytes, before it is read; Malformed where it isn't UTF-8; and of the first name
+/// that fails Limit with the kind Name and its length where it has more than 4,096 bytes, and then Limit with the kind
+/// Files and the value 65537 where it is one too many. FolderFault comes only where the count rose, Memory freely.
 pub fn list_names<F: Folder>(
     alloc: Global,
     folder: &mut F,

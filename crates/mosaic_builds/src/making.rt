@@ -65,8 +65,8 @@ fn build(alloc: Global, cat: Catalog, ids: Numbers, options: &BuildOptions) -> R
     }
 }
 
-/// Makes a mosaic: lists the names of its inputs, walks from each in order, builds the document of their heads, and sees
-/// that its name is none of a file that was read.
+/// Makes a mosaic: lists the names of its inputs, walks from each in order, builds the document of their heads, and
+/// sees that its name is none of a file that was read.
 pub fn make<F: Folder>(
     alloc: Global,
     folder: &mut F,

@@ -100,7 +100,8 @@ fn put_made<F: Folder, O: Sink, E: Sink>(
 /// inputs that are skipped, publishes the document, and tells that it is done, unless nothing may be told.
 ///
 /// Refusals come in that order, all before anything is put or published. A failing `err` sets `failed` and changes
-/// nothing else. FolderFault and OutFault come only where the count of the folder and of the output rose, Memory freely.
+/// nothing else. FolderFault and OutFault come only where the count of the folder and of the output rose, Memory
+/// freely.
 pub fn put_mosaic<F: Folder, O: Sink, E: Sink>(
     alloc: Global,
     folder: &mut F,

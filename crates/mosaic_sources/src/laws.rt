@@ -1,5 +1,5 @@
 // What follows from the definitions.
-ghost use Rattle.std.specs.Prelude.{◌≡◌, ℕ, ℤ, pos, ◌<ℤ◌, ◌≤◌, ◌+◌, List, [], ◌∷◌, ◌++◌, length, drop, slice_get, Some, None, true, ◌<◌};
+ghost use Rattle.std.specs.Prelude.{◌≡◌, ℕ, ℤ, pos, ◌<ℤ◌, ◌≤◌, List, [], ◌∷◌, ◌++◌, length, drop, slice_get, Option, Some, None, true, ◌<◌};
 ghost use Rattle.std.specs.List.{Contains};
 ghost use Rattle.std.specs.List.Sorted.{IsStrictlyIncreasing};
 ghost use Rattle.std.specs.Option.{option_or};
@@ -26,7 +26,7 @@ pub fn columns_rise()
 
 /// What a further source behind all others gives counts before what they give.
 pub fn last_counts()
-    ensures last { (sources : List SourceValue) → (source : SourceValue) → (number : ℕ) → (target : Size) → (sizes : ℕ → Size) → (pixels : ℕ → ℕ → ℕ → ℤ) → (x : ℕ) → (y : ℕ) → last_given (sources ++ source ∷ []) number target sizes pixels x y ≡ option_or (given_of source target (sizes (number + length sources)) (pixels (number + length sources)) x y) (last_given sources number target sizes pixels x y) }
+    ensures last { (given : SourceValue → Option ℤ) → (sources : List SourceValue) → (source : SourceValue) → last_given given (sources ++ source ∷ []) ≡ option_or (given source) (last_given given sources) }
 {}
 
 /// A source that covers a pixel covers its line.
@@ -43,7 +43,7 @@ pub fn unlisted_give_none()
 /// What is given from a source on is what is given from a later one on, where no source between is in the line's
 /// list.
 pub fn unlisted_are_skipped()
-    ensures skipped { (sources : List SourceValue) → (from : ℕ) → (to : ℕ) → (target : Size) → (sizes : ℕ → Size) → (pixels : ℕ → ℕ → ℕ → ℤ) → (x : ℕ) → (y : ℕ) → from ≤ to → to ≤ length sources → ((n : ℕ) → from ≤ n → n < to → ¬ Contains (covering_lines sources target y) n) → last_given (drop from sources) from target sizes pixels x y ≡ last_given (drop to sources) to target sizes pixels x y }
+    ensures skipped { (sources : List SourceValue) → (from : ℕ) → (to : ℕ) → (target : Size) → (sizes : SourceValue → Size) → (pixels : SourceValue → ℕ → ℕ → ℤ) → (x : ℕ) → (y : ℕ) → from ≤ to → to ≤ length sources → ((n : ℕ) → from ≤ n → n < to → ¬ Contains (covering_lines sources target y) n) → last_given (λ s. given_of s target (sizes s) (pixels s) x y) (drop from sources) ≡ last_given (λ s. given_of s target (sizes s) (pixels s) x y) (drop to sources) }
 {}
 
 /// The numbers of a line's list rise.

@@ -13,7 +13,7 @@ use Rattle.geotransform.specs.Types.{clamp, is_in}
 use Rattle.lists_and_answers.specs.Options.{◌>>=◌}
 use Rattle.outside.specs.Outside.{Files}
 use Rattle.vrt_profile.specs.Values.{SourceValue, BandValue, DocumentValue, IsBand, source_count}
-use Rattle.vrt_profile.specs.Value.{mosaic_pixel}
+use Rattle.vrt_profile.specs.Value.{given_of, mosaic_pixel}
 use Rattle.catalog.specs.declared.kind.BandHead.{BandHead}
 use Rattle.catalog.specs.declared.kind.Kind.TheVariants as kinds
 use Rattle.catalog.specs.declared.driver.Content.{Content}
@@ -31,6 +31,7 @@ use Rattle.band_blocks.specs.declared.key.BlockKey.{BlockKey}
 use Rattle.band_blocks.specs.Blocks.{BlockView}
 use Rattle.band_blocks.specs.Contents.{IsBlock}
 use Rattle.nearest_window.specs.Right.{IsPartBlock, IsMosaicKey}
+use Rattle.nearest_window.specs.Canvases.{source_given}
 use Rattle.nearest_window.proofs.Canvases.{in_itself}
 
 content_is : (c : Content) (doc : DocumentValue) → document_of c ≡ Some doc → c ≡ Mosaic doc
@@ -76,8 +77,8 @@ module _ (cat : List Dataset) (valid : IsCatalog cat) (id : ℕ) (d : Dataset) (
   pub low : (n : ℕ) → (block_rect_of d.head n).h ≤ 128
   low n = subst (λ h. (block_rect_of h n).h ≤ 128) (sym as_told) (omega arith)
 
-  pub pixels_are : (m : Files) (band x y : ℕ) (b : BandValue) → slice_get doc.bands band ≡ Some b → pixel_of m cat id band x y ≡ mosaic_pixel b d.head.size (target_size cat d band) (target_pixel m cat d band) x y
-  pixels_are m band x y b e = mosaic_is_of_its_targets m cat id band x y d doc b valid at is e ∙ ap (λ s. mosaic_pixel b s (target_size cat d band) (target_pixel m cat d band) x y) (sym size_told)
+  pub pixels_are : (m : Files) (band x y : ℕ) (b : BandValue) → slice_get doc.bands band ≡ Some b → pixel_of m cat id band x y ≡ mosaic_pixel b (source_given m cat d) x y
+  pixels_are m band x y b e = mosaic_is_of_its_targets m cat id band x y d doc b valid at is e ∙ ap (λ size. mosaic_pixel b (λ s. given_of s size (target_size cat d s) (target_pixel m cat d s)) x y) (sym size_told)
 
 -- a rectangle that has no more pixels than a block of a mosaic
 pub few_pixels : (cat : List Dataset) (key : BlockKey) (b : BandValue) → IsCatalog cat → IsMosaicKey cat key b → (d : Dataset) → slice_get cat key.dataset ≡ Some d → (block part : Rect) → block ≡ block_rect_of d.head key.block → part.w * part.h ≤ block.w * block.h → part.w * part.h < 2 ^ 32

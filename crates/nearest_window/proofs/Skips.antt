@@ -30,21 +30,21 @@ bound_here numbers k sources less = ap (λ t. cond t (slice_index numbers k) (le
 pub bound_behind : (numbers : List ℕ) (k : ℕ) (sources : List SourceValue) → length numbers ≤ k → bound numbers k sources ≡ length sources
 bound_behind numbers k sources end = ap (λ t. cond t (slice_index numbers k) (length sources)) (less_false k (length numbers) end)
 
-module _ (told : Option Files) (cat : List Dataset) (d : Dataset) (band : ℕ) (sources : List SourceValue) (numbers : List ℕ) (c : Canvas) where
+module _ (told : Option Files) (cat : List Dataset) (d : Dataset) (sources : List SourceValue) (numbers : List ℕ) (c : Canvas) where
   -- behind the last wanted number: behind the last source
-  pub taken_end : AreTaken told cat d band (length sources) sources c → AreTaken told cat d band (bound numbers (length numbers) sources) sources c
-  taken_end taken = subst (λ (n : ℕ). AreTaken told cat d band n sources c) (sym (bound_behind numbers (length numbers) sources (omega arith))) taken
+  pub taken_end : AreTaken told cat d (length sources) sources c → AreTaken told cat d (bound numbers (length numbers) sources) sources c
+  taken_end taken = subst (λ (n : ℕ). AreTaken told cat d n sources c) (sym (bound_behind numbers (length numbers) sources (omega arith))) taken
 
   -- from the number at a place on
-  pub taken_here : (k : ℕ) → k < length numbers → AreTaken told cat d band (slice_index numbers k) sources c → AreTaken told cat d band (bound numbers k sources) sources c
-  taken_here k less taken = subst (λ (n : ℕ). AreTaken told cat d band n sources c) (sym (bound_here numbers k sources less)) taken
+  pub taken_here : (k : ℕ) → k < length numbers → AreTaken told cat d (slice_index numbers k) sources c → AreTaken told cat d (bound numbers k sources) sources c
+  taken_here k less taken = subst (λ (n : ℕ). AreTaken told cat d n sources c) (sym (bound_here numbers k sources less)) taken
 
-module _ (told : Option Files) (cat : List Dataset) (d : Dataset) (band : ℕ) (sources : List SourceValue) (numbers : List ℕ) (c : Canvas) (wanted : IsWanted sources d.head.size c.rect numbers) where
+module _ (told : Option Files) (cat : List Dataset) (d : Dataset) (sources : List SourceValue) (numbers : List ℕ) (c : Canvas) (wanted : IsWanted sources d.head.size c.rect numbers) where
   -- where no number from one on up to another is wanted
-  taken_before : (from to : ℕ) → from ≤ to → to ≤ length sources → ((n : ℕ) → from ≤ n → n < to → Contains numbers n → ⊥) → AreTaken told cat d band to sources c → AreTaken told cat d band from sources c
+  taken_before : (from to : ℕ) → from ≤ to → to ≤ length sources → ((n : ℕ) → from ≤ n → n < to → Contains numbers n → ⊥) → AreTaken told cat d to sources c → AreTaken told cat d from sources c
   taken_before from to order within none taken m e x y at =
       taken m e x y at
-      ∙ ap (option_map (clamp c.kind)) (sym (skipped sources from to d.head.size (target_size cat d band) (target_pixel m cat d band) x y order within (λ n low high there. none n low high (wanted.listed y (record { top = at.top; bottom = at.bottom }) n there))))
+      ∙ ap (option_map (clamp c.kind)) (sym (skipped sources from to d.head.size (target_size cat d) (target_pixel m cat d) x y order within (λ n low high there. none n low high (wanted.listed y (record { top = at.top; bottom = at.bottom }) n there))))
 
   rising_keeps : (i j : ℕ) → i ≤ j → j < length numbers → slice_index numbers i ≤ slice_index numbers j
   rising_keeps i j order less = ⊎_elim
@@ -73,7 +73,7 @@ module _ (told : Option Files) (cat : List Dataset) (d : Dataset) (band : ℕ) (
       (cases_lt j (length numbers))
 
   -- from a place's number on: also from behind the number before it
-  pub taken_behind : (left : ℕ) → 0 < left → left ≤ length numbers → AreTaken told cat d band (bound numbers left sources) sources c → AreTaken told cat d band (slice_index numbers (left - 1) + 1) sources c
+  pub taken_behind : (left : ℕ) → 0 < left → left ≤ length numbers → AreTaken told cat d (bound numbers left sources) sources c → AreTaken told cat d (slice_index numbers (left - 1) + 1) sources c
   taken_behind left some end taken =
       taken_before (slice_index numbers (left - 1) + 1) (bound numbers left sources) (below_bound (left - 1) left (omega (arith, some)) end) (bound_within left)
       (λ n low high there.
@@ -85,15 +85,15 @@ module _ (told : Option Files) (cat : List Dataset) (d : Dataset) (band : ℕ) (
       taken
 
   -- from the first wanted number on: from the first source on
-  pub taken_first : AreTaken told cat d band (bound numbers 0 sources) sources c → AreTaken told cat d band 0 sources c
+  pub taken_first : AreTaken told cat d (bound numbers 0 sources) sources c → AreTaken told cat d 0 sources c
   taken_first taken =
       taken_before 0 (bound numbers 0 sources) (omega arith) (bound_within 0)
       (λ n low high there. let p = place_of n there in let e = bound_le 0 p.0 (omega arith) p.1 in absurd (omega (arith, e, high, p.2)))
       taken
 
   -- where no number is left, or nothing is open, all sources are taken
-  pub taken_done : (left : ℕ) → AreTaken told cat d band (bound numbers left sources) sources c → (left ≡ 0) ⊎ ((k : ℕ) → k < c.rect.w * c.rect.h → is_some (stands c.samples.items k) ≡ true) → AreTaken told cat d band 0 sources c
+  pub taken_done : (left : ℕ) → AreTaken told cat d (bound numbers left sources) sources c → (left ≡ 0) ⊎ ((k : ℕ) → k < c.rect.w * c.rect.h → is_some (stands c.samples.items k) ≡ true) → AreTaken told cat d 0 sources c
   taken_done left taken done = ⊎_elim
-      (λ (none : left ≡ 0). taken_first (subst (λ (n : ℕ). AreTaken told cat d band (bound numbers n sources) sources c) none taken))
-      (λ (filled : (k : ℕ) → k < c.rect.w * c.rect.h → is_some (stands c.samples.items k) ≡ true). all_taken told cat d band (bound numbers left sources) sources c taken (inr filled))
+      (λ (none : left ≡ 0). taken_first (subst (λ (n : ℕ). AreTaken told cat d (bound numbers n sources) sources c) none taken))
+      (λ (filled : (k : ℕ) → k < c.rect.w * c.rect.h → is_some (stands c.samples.items k) ≡ true). all_taken told cat d (bound numbers left sources) sources c taken (inr filled))
       done

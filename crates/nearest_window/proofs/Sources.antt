@@ -23,7 +23,7 @@ use Rattle.band_blocks.specs.Blocks.{BlockView, IsPacked}
 use Rattle.nearest_window.specs.declared.asking.Asked.{Asked}
 use Rattle.nearest_window.specs.declared.canvas.Canvas.{Canvas}
 use Rattle.nearest_window.specs.declared.taking.Taking.{Taking}
-use Rattle.nearest_window.specs.Canvases.{stands, stands_at, IsSame, IsIn, IsTaken, IsUnasked, IsAsked, IsSourceTaken, AreTaken, IsPackedOf}
+use Rattle.nearest_window.specs.Canvases.{stands, stands_at, source_given, IsSame, IsIn, IsTaken, IsUnasked, IsAsked, IsSourceTaken, AreTaken, IsPackedOf}
 use Rattle.nearest_window.specs.Painted.{IsPainted, in_columns}
 use Rattle.nearest_window.specs.Right.{IsPartBlock, IsMosaicKey}
 use Rattle.nearest_window.specs.Shown.{shown, IsShown}
@@ -47,48 +47,46 @@ drop_all [] (suc n) p = refl
 drop_all (x ∷ xs) zero p = absurd (omega arith)
 drop_all (x ∷ xs) (suc n) p = drop_all xs n (omega arith)
 
-module _ (m : Files) (cat : List Dataset) (d : Dataset) (band x y : ℕ) where
-  abbrev last : List SourceValue → ℕ → Option ℤ
-  last ss number = last_given ss number d.head.size (target_size cat d band) (target_pixel m cat d band) x y
+module _ (m : Files) (cat : List Dataset) (d : Dataset) (x y : ℕ) where
+  abbrev one : SourceValue → Option ℤ
+  one s = source_given m cat d s x y
 
-  abbrev one : SourceValue → ℕ → Option ℤ
-  one s number = given_of s d.head.size (target_size cat d band number) (target_pixel m cat d band number) x y
+  abbrev last : List SourceValue → Option ℤ
+  last ss = last_given (λ s. source_given m cat d s x y) ss
 
   -- one source more, before those so far
-  last_from : (ss : List SourceValue) (k : ℕ) (s : SourceValue) → slice_get ss k ≡ Some s → last (drop k ss) k ≡ option_or (last (drop (k + 1) ss) (k + 1)) (one s k)
-  last_from ss k s at = let e : suc k ≡ k + 1 = omega arith in ap (λ l. last l k) (drop_one ss k s at) ∙ ap (λ n. option_or (last (drop n ss) n) (one s k)) e
+  last_from : (ss : List SourceValue) (k : ℕ) (s : SourceValue) → slice_get ss k ≡ Some s → last (drop k ss) ≡ option_or (last (drop (k + 1) ss)) (one s)
+  last_from ss k s at = let e : suc k ≡ k + 1 = omega arith in ap (λ (l : List SourceValue). last l) (drop_one ss k s at) ∙ ap (λ n. option_or (last (drop n ss)) (one s)) e
 
   or_some : (a b : Option ℤ) (v : ℤ) → a ≡ Some v → option_or a b ≡ Some v
   or_some a b v e = ap (λ o. option_or o b) e
 
   -- what the sources from a number on give, all give
-  last_stays : (ss : List SourceValue) (i j : ℕ) (v : ℤ) → last (drop j ss) (i + j) ≡ Some v → last ss i ≡ Some v
-  last_stays ss i zero v e = let z : i + 0 ≡ i = omega arith in ap (last ss) (sym z) ∙ e
-  last_stays [] i (suc j) v e = e
-  last_stays (s ∷ ss) i (suc j) v e =
-      let z : i + suc j ≡ suc i + j = omega arith in
-      or_some (last ss (suc i)) (one s i) v (last_stays ss (suc i) j v (ap (last (drop j ss)) (sym z) ∙ e))
+  last_stays : (ss : List SourceValue) (j : ℕ) (v : ℤ) → last (drop j ss) ≡ Some v → last ss ≡ Some v
+  last_stays ss zero v e = e
+  last_stays [] (suc j) v e = e
+  last_stays (s ∷ ss) (suc j) v e = or_some (last ss) (one s) v (last_stays ss j v e)
 
 some_of : (o : Option ℤ) → is_some o ≡ true → (v : ℤ) × (o ≡ Some v)
 some_of (Some v) h = (v, refl)
 some_of None h = cc
 
-module _ (told : Option Files) (cat : List Dataset) (d : Dataset) (band : ℕ) (ss : List SourceValue) where
+module _ (told : Option Files) (cat : List Dataset) (d : Dataset) (ss : List SourceValue) where
   -- nothing stands, and no source is left behind the last
-  pub none_taken : (n : ℕ) (c : Canvas) → length ss ≤ n → ((k : ℕ) → stands c.samples.items k ≡ None) → AreTaken told cat d band n ss c
+  pub none_taken : (n : ℕ) (c : Canvas) → length ss ≤ n → ((k : ℕ) → stands c.samples.items k ≡ None) → AreTaken told cat d n ss c
   none_taken n c end unfilled m e x y at =
       ap (option_map (clamp c.kind)) (unfilled ((y - c.rect.y) * c.rect.w + (x - c.rect.x)))
-      ∙ sym (ap (λ l. option_map (clamp c.kind) (last_given l n d.head.size (target_size cat d band) (target_pixel m cat d band) x y)) (drop_all ss n end))
+      ∙ sym (ap (λ l. option_map (clamp c.kind) (last_given (λ s. source_given m cat d s x y) l)) (drop_all ss n end))
 
   -- one source more
-  pub taken_more : (told' : Option Files) (k : ℕ) (s : SourceValue) (c c' : Canvas) → told' ≡ told → slice_get ss k ≡ Some s → AreTaken told cat d band (k + 1) ss c → IsSourceTaken told' cat d band k s c c' → AreTaken told' cat d band k ss c'
+  pub taken_more : (told' : Option Files) (k : ℕ) (s : SourceValue) (c c' : Canvas) → told' ≡ told → slice_get ss k ≡ Some s → AreTaken told cat d (k + 1) ss c → IsSourceTaken told' cat d s c c' → AreTaken told' cat d k ss c'
   taken_more told' k s c c' same at before here m e x y in_new =
       let in_old : IsIn c.rect x y = subst (λ r. IsIn r x y) here.rect in_new in
       ap (λ t. option_map (clamp t) (stands_at c' x y)) here.kind
       ∙ here.given m e x y in_old
-      ∙ same_under c.kind (stands_at c x y) (last_given (drop (k + 1) ss) (k + 1) d.head.size (target_size cat d band) (target_pixel m cat d band) x y) (given_of s d.head.size (target_size cat d band k) (target_pixel m cat d band k) x y) (before m (sym same ∙ e) x y in_old)
-      ∙ ap (option_map (clamp c.kind)) (sym (last_from m cat d band x y ss k s at))
-      ∙ ap (λ t. option_map (clamp t) (last_given (drop k ss) k d.head.size (target_size cat d band) (target_pixel m cat d band) x y)) (sym here.kind)
+      ∙ same_under c.kind (stands_at c x y) (last_given (λ s. source_given m cat d s x y) (drop (k + 1) ss)) (source_given m cat d s x y) (before m (sym same ∙ e) x y in_old)
+      ∙ ap (option_map (clamp c.kind)) (sym (last_from m cat d x y ss k s at))
+      ∙ ap (λ t. option_map (clamp t) (last_given (λ s. source_given m cat d s x y) (drop k ss))) (sym here.kind)
 
 -- where all is filled the sources so far count
 filled_same : (kind : PixelType) (a b : Option ℤ) → IsSame kind a b → is_some a ≡ true → (v : ℤ) × (b ≡ Some v)
@@ -97,17 +95,16 @@ filled_same kind None None h s = cc
 filled_same kind (Some x) None h s = cc
 
 -- what stands where no source is left, or nothing is open
-pub all_taken : (told : Option Files) (cat : List Dataset) (d : Dataset) (band n : ℕ) (ss : List SourceValue) (c : Canvas) → AreTaken told cat d band n ss c
-    → (n ≡ 0) ⊎ ((k : ℕ) → k < c.rect.w * c.rect.h → is_some (stands c.samples.items k) ≡ true) → AreTaken told cat d band 0 ss c
-all_taken told cat d band n ss c h done m e x y at = elim done [
-  | inl zero_is ↦ subst (λ n. AreTaken told cat d band n ss c) zero_is h m e x y at
+pub all_taken : (told : Option Files) (cat : List Dataset) (d : Dataset) (n : ℕ) (ss : List SourceValue) (c : Canvas) → AreTaken told cat d n ss c
+    → (n ≡ 0) ⊎ ((k : ℕ) → k < c.rect.w * c.rect.h → is_some (stands c.samples.items k) ≡ true) → AreTaken told cat d 0 ss c
+all_taken told cat d n ss c h done m e x y at = elim done [
+  | inl zero_is ↦ subst (λ n. AreTaken told cat d n ss c) zero_is h m e x y at
   | inr filled ↦
       let l = at.left in let r = at.right in let t = at.top in let b = at.bottom in
       let place = mul-add-lt (y - c.rect.y) c.rect.w (x - c.rect.x) c.rect.h (omega arith) (omega arith) in
       let there = h m e x y at in
-      let v = filled_same c.kind (stands_at c x y) (last_given (drop n ss) n d.head.size (target_size cat d band) (target_pixel m cat d band) x y) there (filled ((y - c.rect.y) * c.rect.w + (x - c.rect.x)) place) in
-      let z : 0 + n ≡ n = omega arith in
-      there ∙ ap (option_map (clamp c.kind)) (v.1 ∙ sym (last_stays m cat d band x y ss 0 n v.0 (ap (λ i. last_given (drop n ss) i d.head.size (target_size cat d band) (target_pixel m cat d band) x y) z ∙ v.1)))
+      let v = filled_same c.kind (stands_at c x y) (last_given (λ s. source_given m cat d s x y) (drop n ss)) there (filled ((y - c.rect.y) * c.rect.w + (x - c.rect.x)) place) in
+      there ∙ ap (option_map (clamp c.kind)) (v.1 ∙ sym (last_stays m cat d x y ss n v.0 v.1))
 ]
 
 -- the search is over
@@ -119,10 +116,10 @@ not_wanted b P is h = elim h [
 
 -- what a source gives is what is made of the pixels that it was asked for
 
-module _ (told : Option Files) (cat : List Dataset) (key : BlockKey) (number : ℕ) (s : SourceValue) (c : Canvas) (a : Asked) (asked : IsAsked cat key number s c a) (d : Dataset) (at : slice_get cat key.dataset ≡ Some d)
+module _ (told : Option Files) (cat : List Dataset) (key : BlockKey) (s : SourceValue) (c : Canvas) (a : Asked) (asked : IsAsked cat key s c a) (d : Dataset) (at : slice_get cat key.dataset ≡ Some d)
     (taking : Taking) (makes : (pixel : ℤ) → taken_by taking pixel ≡ value_of s pixel) (zeros pixels : List ℤ) (size : length zeros ≡ a.part.w * a.part.h) where
   abbrev target : Size
-  target = target_size cat d key.band number
+  target = target_size cat d s
 
   pixel_there : (m : Files) → IsPainted (in_columns a.picture.stride (a.picture.to + 0) (a.picture.to + 0 + a.picture.width) (shown m cat a.picture 0 0)) zeros pixels → (i j : ℕ) → i < a.part.w → j < a.part.h
       → get_or pixels (j * a.part.w + i) (pos 0) ≡ pixel_of m cat a.picture.dataset a.picture.band (place_at a.picture.columns i) (place_at a.picture.lines j)
@@ -141,14 +138,14 @@ module _ (told : Option Files) (cat : List Dataset) (key : BlockKey) (number : �
       ∙ ap (λ n. Some (pixel_of m cat a.picture.dataset a.picture.band (place_at a.picture.columns n) (place_at a.picture.lines (0 + j)))) column
       ∙ ap (λ n. Some (pixel_of m cat a.picture.dataset a.picture.band (place_at a.picture.columns i) (place_at a.picture.lines n))) line)
 
-  given_there : (m : Files) (x y : ℕ) → IsIn a.part x y → given_of s d.head.size target (target_pixel m cat d key.band number) x y ≡ value_of s (pixel_of m cat a.picture.dataset a.picture.band (place_at a.picture.columns (x - a.part.x)) (place_at a.picture.lines (y - a.part.y)))
+  given_there : (m : Files) (x y : ℕ) → IsIn a.part x y → given_of s d.head.size target (target_pixel m cat d s) x y ≡ value_of s (pixel_of m cat a.picture.dataset a.picture.band (place_at a.picture.columns (x - a.part.x)) (place_at a.picture.lines (y - a.part.y)))
   given_there m x y p =
       let l = p.left in let r = p.right in let t = p.top in let b = p.bottom in
       let across : a.part.x + (x - a.part.x) ≡ x = omega arith in
       let down : a.part.y + (y - a.part.y) ≡ y = omega arith in
       let column = subst (λ n. axis_at (columns_of s d.head.size target) target.w n ≡ Some (place_at a.picture.columns (x - a.part.x))) across (asked.across d at (x - a.part.x) (omega arith)) in
       let line = subst (λ n. axis_at (lines_of s d.head.size target) target.h n ≡ Some (place_at a.picture.lines (y - a.part.y))) down (asked.down d at (y - a.part.y) (omega arith)) in
-      pixel_given s d.head.size target x y (target_pixel m cat d key.band number) (place_at a.picture.columns (x - a.part.x)) (place_at a.picture.lines (y - a.part.y))
+      pixel_given s d.head.size target x y (target_pixel m cat d s) (place_at a.picture.columns (x - a.part.x)) (place_at a.picture.lines (y - a.part.y))
       (seen_there s d.head.size target x y (place_at a.picture.columns (x - a.part.x)) (place_at a.picture.lines (y - a.part.y)) column line)
       ∙ ap (value_of s) (asked.pixels m d at (place_at a.picture.columns (x - a.part.x)) (place_at a.picture.lines (y - a.part.y)))
 
@@ -175,7 +172,7 @@ module _ (told : Option Files) (cat : List Dataset) (key : BlockKey) (number : �
   or_filled (Some v) g h = refl
   or_filled None g h = cc
 
-  pub source_taken : (c' : Canvas) → IsShown told cat a.picture 0 a.picture.width 0 zeros pixels → IsTaken taking pixels a.part c c' → IsSourceTaken told cat d key.band number s c c'
+  pub source_taken : (c' : Canvas) → IsShown told cat a.picture 0 a.picture.width 0 zeros pixels → IsTaken taking pixels a.part c c' → IsSourceTaken told cat d s c c'
   source_taken c' painted taken = record {
     rect = taken.rect;
     kind = taken.kind;
@@ -188,20 +185,20 @@ module _ (told : Option Files) (cat : List Dataset) (key : BlockKey) (number : �
           ∙ makes (pixel_of m cat a.picture.dataset a.picture.band (place_at a.picture.columns (x - a.part.x)) (place_at a.picture.lines (y - a.part.y)))
           ∙ sym (given_there m x y p))
       | inr p ↦ ap (option_map (clamp c.kind)) (taken.outside x y there p ∙ elim (asked.outside d at x y there p) [
-        | inl q ↦ sym (or_filled (stands_at c x y) (given_of s d.head.size target (target_pixel m cat d key.band number) x y) q)
-        | inr q ↦ sym (ap (option_or (stands_at c x y)) (nothing_given s d.head.size target x y (target_pixel m cat d key.band number) q) ∙ or_nothing (stands_at c x y))
+        | inl q ↦ sym (or_filled (stands_at c x y) (given_of s d.head.size target (target_pixel m cat d s) x y) q)
+        | inr q ↦ sym (ap (option_or (stands_at c x y)) (nothing_given s d.head.size target x y (target_pixel m cat d s) q) ∙ or_nothing (stands_at c x y))
       ])
     ];
   }
 
 -- a source that isn't asked changes nothing
-pub source_unasked : (told : Option Files) (cat : List Dataset) (d : Dataset) (band number : ℕ) (s : SourceValue) (c : Canvas) → IsUnasked s d.head.size (target_size cat d band number) c → IsSourceTaken told cat d band number s c c
-source_unasked told cat d band number s c unasked = record {
+pub source_unasked : (told : Option Files) (cat : List Dataset) (d : Dataset) (s : SourceValue) (c : Canvas) → IsUnasked s d.head.size (target_size cat d s) c → IsSourceTaken told cat d s c c
+source_unasked told cat d s c unasked = record {
   rect = refl;
   kind = refl;
   given = λ m e x y there. ap (option_map (clamp c.kind)) (elim (unasked x y there) [
-    | inl q ↦ sym (filled (stands_at c x y) (given_of s d.head.size (target_size cat d band number) (target_pixel m cat d band number) x y) q)
-    | inr q ↦ sym (ap (option_or (stands_at c x y)) (nothing_given s d.head.size (target_size cat d band number) x y (target_pixel m cat d band number) q) ∙ nothing (stands_at c x y))
+    | inl q ↦ sym (filled (stands_at c x y) (source_given m cat d s x y) q)
+    | inr q ↦ sym (ap (option_or (stands_at c x y)) (nothing_given s d.head.size (target_size cat d s) x y (target_pixel m cat d s) q) ∙ nothing (stands_at c x y))
   ]);
 }
   where
@@ -219,7 +216,7 @@ same_value : (kind : PixelType) (a b : Option ℤ) (v : ℤ) → clamp kind v �
 same_value kind a b v kept h = clamp_given kind a v kept ∙ ap (λ o. unwrap_or o v) h
 
 pub packed_part : (told : Option Files) (cat : List Dataset) (key : BlockKey) (b : BandValue) (mosaic : IsMosaicKey cat key b) (rect : Rect) (c : Canvas) (block : BlockView) → IsCatalog cat → IsBand b → 0 < rect.w → c.rect ≡ rect → c.kind ≡ b.kind
-    → AreTaken told cat mosaic.dataset key.band 0 b.sources c → IsPackedOf c (unwrap_or b.nodata (pos 0)) block → IsPacked block → IsPartBlock told cat key rect block
+    → AreTaken told cat mosaic.dataset 0 b.sources c → IsPackedOf c (unwrap_or b.nodata (pos 0)) block → IsPacked block → IsPartBlock told cat key rect block
 packed_part told cat key b mosaic rect c block valid rules some same_rect same_kind taken packed fits = record {
   dataset = mosaic.dataset;
   in_range = mosaic.in_range;
@@ -252,11 +249,11 @@ packed_part told cat key b mosaic rect c block valid rules some same_rect same_k
         let line = div_below k rect.w rect.h some (let f = mul_comm rect.w rect.h in omega arith) in
         let inside : IsIn rect (rect.x + k % rect.w) (rect.y + k / rect.w) = record { left = omega arith; right = omega arith; top = omega arith; bottom = omega arith } in
         let back : (rect.y + k / rect.w - rect.y) * rect.w + (rect.x + k % rect.w - rect.x) ≡ k = (let i : rect.y + k / rect.w - rect.y ≡ k / rect.w = omega arith in let j : rect.x + k % rect.w - rect.x ≡ k % rect.w = omega arith in ap (λ n. n * rect.w + (rect.x + k % rect.w - rect.x)) i ∙ ap (λ n. k / rect.w * rect.w + n) j ∙ div-add-mod' k rect.w) in
-        let there = subst (λ r. IsSame c.kind (stands c.samples.items ((rect.y + k / rect.w - r.y) * r.w + (rect.x + k % rect.w - r.x))) (last_given b.sources 0 mosaic.dataset.head.size (target_size cat mosaic.dataset key.band) (target_pixel m cat mosaic.dataset key.band) (rect.x + k % rect.w) (rect.y + k / rect.w))) same_rect
+        let there = subst (λ r. IsSame c.kind (stands c.samples.items ((rect.y + k / rect.w - r.y) * r.w + (rect.x + k % rect.w - r.x))) (last_given (λ s. source_given m cat mosaic.dataset s (rect.x + k % rect.w) (rect.y + k / rect.w)) b.sources)) same_rect
         (taken m e (rect.x + k % rect.w) (rect.y + k / rect.w) (subst (λ r. IsIn r (rect.x + k % rect.w) (rect.y + k / rect.w)) (sym same_rect) inside)) in
         ap (λ l. get_or l k (pos 0)) made
         ∙ get_or-map (clamp c.kind) packed.samples k (pos 0) (pos 0) q
         ∙ ap (clamp c.kind) (packed.each k (subst (λ (r : Rect). k < r.w * r.h) (sym same_rect) p) ∙ ap (λ n. unwrap_or (stands c.samples.items n) (unwrap_or b.nodata (pos 0))) (sym back))
         ∙ same_value c.kind _ _ (unwrap_or b.nodata (pos 0)) kept there
-        ∙ ap (λ t. unwrap_or (option_map (clamp t) (last_given b.sources 0 mosaic.dataset.head.size (target_size cat mosaic.dataset key.band) (target_pixel m cat mosaic.dataset key.band) (rect.x + k % rect.w) (rect.y + k / rect.w))) (unwrap_or b.nodata (pos 0))) same_kind
+        ∙ ap (λ t. unwrap_or (option_map (clamp t) (last_given (λ s. source_given m cat mosaic.dataset s (rect.x + k % rect.w) (rect.y + k / rect.w)) b.sources)) (unwrap_or b.nodata (pos 0))) same_kind
         ∙ sym (pixels_are cat valid key.dataset mosaic.dataset mosaic.in_range.at mosaic.document mosaic.content m key.band (rect.x + k % rect.w) (rect.y + k / rect.w) b mosaic.band_at))

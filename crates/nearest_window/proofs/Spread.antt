@@ -8,7 +8,7 @@ use Rattle.geotransform.specs.declared.types.Rect.{Rect}
 use Rattle.band_blocks.specs.Blocks.{BlockView}
 use Rattle.band_blocks.specs.Spread.{IsBeside, IsSpread}
 use Rattle.nearest_window.specs.declared.picture.Picture.{Picture}
-use Rattle.nearest_window.specs.declared.places.Places.TheVariants.{Row}
+use Rattle.nearest_window.specs.declared.picture_places.Places.TheVariants.{Row}
 use Rattle.nearest_window.specs.declared.taking.Taking.TheVariants.{All}
 use Rattle.nearest_window.specs.Painted.{IsPainted, in_columns}
 use Rattle.nearest_window.specs.Pictures.{from_block}

@@ -103,9 +103,9 @@ pub record IsPackedOf (c : Canvas) (value : ℤ) (block : BlockView) : Type 0 wh
 abbrev pub IsUnasked : SourceValue → Size → Size → Canvas → Type 0
 IsUnasked s mosaic size c = (x y : ℕ) → IsIn c.rect x y → (is_some (stands_at c x y) ≡ true) ⊎ (cover_of s mosaic size x y ≡ None)
 
--- pixels of the dataset that this source of the mosaic that a key is of names: those of a part of a canvas, all of which the
+-- pixels of the dataset that a source of the mosaic that a key is of names: those of a part of a canvas, all of which the
 -- source covers; beside the part something stands, or the source covers nothing
-pub record IsAsked (cat : List Dataset) (key : BlockKey) (number : ℕ) (s : SourceValue) (c : Canvas) (a : Asked) : Type 0 where
+pub record IsAsked (cat : List Dataset) (key : BlockKey) (s : SourceValue) (c : Canvas) (a : Asked) : Type 0 where
   pub picture : IsPictureOf cat a.picture
   pub falls : height_at cat a.picture.dataset < height_at cat key.dataset
   pub inside : IsInside c.rect a.part
@@ -116,19 +116,21 @@ pub record IsAsked (cat : List Dataset) (key : BlockKey) (number : ℕ) (s : Sou
   pub taking : a.picture.taking ≡ All
   pub takes : TakesBand cat s a.picture
   pub size : length a.pixels.items ≡ a.part.w * a.part.h
-  pub pixels : (m : Files) (d : Dataset) → slice_get cat key.dataset ≡ Some d → (x y : ℕ) → target_pixel m cat d key.band number x y ≡ pixel_of m cat a.picture.dataset a.picture.band x y
-  pub across : (d : Dataset) → slice_get cat key.dataset ≡ Some d → (k : ℕ) → k < a.part.w → axis_at (columns_of s d.head.size (target_size cat d key.band number)) (target_size cat d key.band number).w (a.part.x + k) ≡ Some (place_at a.picture.columns k)
-  pub down : (d : Dataset) → slice_get cat key.dataset ≡ Some d → (k : ℕ) → k < a.part.h → axis_at (lines_of s d.head.size (target_size cat d key.band number)) (target_size cat d key.band number).h (a.part.y + k) ≡ Some (place_at a.picture.lines k)
-  pub outside : (d : Dataset) → slice_get cat key.dataset ≡ Some d → (x y : ℕ) → IsIn c.rect x y → (IsIn a.part x y → ⊥) → (is_some (stands_at c x y) ≡ true) ⊎ (cover_of s d.head.size (target_size cat d key.band number) x y ≡ None)
+  pub pixels : (m : Files) (d : Dataset) → slice_get cat key.dataset ≡ Some d → (x y : ℕ) → target_pixel m cat d s x y ≡ pixel_of m cat a.picture.dataset a.picture.band x y
+  pub across : (d : Dataset) → slice_get cat key.dataset ≡ Some d → (k : ℕ) → k < a.part.w → axis_at (columns_of s d.head.size (target_size cat d s)) (target_size cat d s).w (a.part.x + k) ≡ Some (place_at a.picture.columns k)
+  pub down : (d : Dataset) → slice_get cat key.dataset ≡ Some d → (k : ℕ) → k < a.part.h → axis_at (lines_of s d.head.size (target_size cat d s)) (target_size cat d s).h (a.part.y + k) ≡ Some (place_at a.picture.lines k)
+  pub outside : (d : Dataset) → slice_get cat key.dataset ≡ Some d → (x y : ℕ) → IsIn c.rect x y → (IsIn a.part x y → ⊥) → (is_some (stands_at c x y) ≡ true) ⊎ (cover_of s d.head.size (target_size cat d s) x y ≡ None)
 
--- what a source of a dataset's band gives stands where the canvas was open
-pub record IsSourceTaken (told : Option Files) (cat : List Dataset) (d : Dataset) (band number : ℕ) (s : SourceValue) (old new : Canvas) : Type 0 where
+-- what a source of a dataset gives at a pixel, of the dataset of the catalog that it names
+abbrev pub source_given : Files → List Dataset → Dataset → SourceValue → ℕ → ℕ → Option ℤ
+source_given m cat d s x y = given_of s d.head.size (target_size cat d s) (target_pixel m cat d s) x y
+
+-- what a source of a dataset gives stands where the canvas was open
+pub record IsSourceTaken (told : Option Files) (cat : List Dataset) (d : Dataset) (s : SourceValue) (old new : Canvas) : Type 0 where
   pub rect : new.rect ≡ old.rect
   pub kind : new.kind ≡ old.kind
-  pub given : (m : Files) → told ≡ Some m → (x y : ℕ) → IsIn old.rect x y
-      → IsSame old.kind (stands_at new x y) (option_or (stands_at old x y) (given_of s d.head.size (target_size cat d band number) (target_pixel m cat d band number) x y))
+  pub given : (m : Files) → told ≡ Some m → (x y : ℕ) → IsIn old.rect x y → IsSame old.kind (stands_at new x y) (option_or (stands_at old x y) (source_given m cat d s x y))
 
--- on a canvas stands what the sources of a band give from this number on
-abbrev pub AreTaken : Option Files → List Dataset → Dataset → ℕ → ℕ → List SourceValue → Canvas → Type 0
-AreTaken told cat d band number sources c = (m : Files) → told ≡ Some m → (x y : ℕ) → IsIn c.rect x y
-    → IsSame c.kind (stands_at c x y) (last_given (drop number sources) number d.head.size (target_size cat d band) (target_pixel m cat d band) x y)
+-- on a canvas stands what the sources of a band of a dataset give from this number on
+abbrev pub AreTaken : Option Files → List Dataset → Dataset → ℕ → List SourceValue → Canvas → Type 0
+AreTaken told cat d number sources c = (m : Files) → told ≡ Some m → (x y : ℕ) → IsIn c.rect x y → IsSame c.kind (stands_at c x y) (last_given (λ s. source_given m cat d s x y) (drop number sources))

@@ -18,8 +18,8 @@ use Rattle.band_blocks.specs.declared.key.PixelKey.{PixelKey}
 use Rattle.band_blocks.specs.Blocks.{BlockView}
 use Rattle.band_blocks.specs.Contents.{IsBlock, IsOfBand, most_calls}
 use Rattle.band_blocks.specs.Keys.{IsKeyOf}
-use Rattle.band_blocks.specs.declared.load.LoadFault.{LoadFault}
-use Rattle.band_blocks.specs.declared.load.LoadFault.TheVariants.{FolderFault, Changed, Memory}
+use Rattle.band_blocks.specs.declared.fault.LoadFault.{LoadFault}
+use Rattle.band_blocks.specs.declared.fault.LoadFault.TheVariants.{FolderFault, Changed, Memory}
 use Rattle.band_blocks.specs.Open.{AreGood, TellsChange}
 use Rattle.block_cache.specs.declared.pool.Entry.{Entry}
 use Rattle.block_cache.specs.Entries.{PoolView, IsPool}

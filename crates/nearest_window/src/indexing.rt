@@ -19,7 +19,7 @@ use vrt_profile::{Sources, VrtBand};
 const FEW: usize = 16;
 
 // An index has at most so many sources.
-const MOST_SOURCES: usize = 262_144;
+const MOST_SOURCES: usize = catalog::MOST_SOURCES as usize;
 
 // Whether the sources of a band are indexed.
 fn is_indexed(sources: &Sources) -> bool

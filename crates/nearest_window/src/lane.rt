@@ -1,5 +1,5 @@
 // A lane: a pool of blocks and open files, through which windows of pixels are read.
-ghost use Rattle.std.specs.Prelude.{◌≡◌, ⊤, ℕ, Option, ◌+◌, ◌*◌, ◌^◌, ◌<◌, ◌≤◌, List, [], Some, None, length, IfErr, IfOk, OnOk, OnErr, IfSome, IsSome, is_some, false, true, slice_get};
+ghost use Rattle.std.specs.Prelude.{◌≡◌, ⊤, ℕ, Option, ◌+◌, ◌*◌, ◌<◌, ◌≤◌, List, [], Some, None, length, IfErr, IfOk, OnOk, OnErr, IfSome, is_some, false, true, slice_get};
 ghost use Rattle.std.specs.Option.{IsSomeAnd};
 ghost use Rattle.std.specs.List.{All};
 ghost use Rattle.outside.specs.Causes.{HasCause};
@@ -16,26 +16,22 @@ ghost use Rattle.nearest_window.specs.Lanes.{IsHeldWith, IsKept, IsUsed, LaneVie
 ghost use Rattle.nearest_window.specs.Painted.{IsPainted, in_columns};
 ghost use Rattle.nearest_window.specs.Pictures.{IsPicture, from_block};
 ghost use Rattle.nearest_window.specs.Right.{AreRecalled, IsFresh, IsIndexIn, IsPartBlock, IsReady, IsRight, IsFileKey, IsMosaicKey, Served, Serves, state_of, TellsChangeIn};
-ghost use Rattle.nearest_window.specs.Shown.{AreTyped, IsAreaOf, IsPictureOf, IsShown, IsTyped, IsBandOf, IsPartOf, IsLonePart, IsSourceOf};
+ghost use Rattle.nearest_window.specs.Shown.{IsAreaOf, IsPictureOf, IsPartOf, IsLonePart};
 ghost use Rattle.nearest_window.specs.Taken.{place_at};
 ghost use Rattle.nearest_window.specs.Wanted.{IsWanted, numbers_of};
 
-use crate::asking::{Asked, asked_of};
-use crate::canvas::{Canvas, is_wanted};
+use crate::block_parts::{
+    Part, Rows, cost_of, has_cells, has_large_sources, is_straight, part_of, rows_end, rows_of,
+};
 use crate::indexes::Indexes;
 use crate::indexing::wanted_in;
 use crate::missed::Missed;
 use crate::paint::paint_rows;
-use crate::parts::{
-    Part, Rows, cost_of, has_cells, has_large_sources, is_straight, part_of, pixel_rect, rows_end,
-    rows_of,
-};
 use crate::picture::Picture;
-use crate::places::Span;
+use crate::picture_places::Span;
 use crate::recalled::Recalled;
 use crate::sharing::{Supply, offer_to, shown_in};
-use crate::taking::taking_of;
-use crate::targets::{Area, Around, Numbered, Piece, band_of, block_around, kind_of, mosaic_rect};
+use crate::targets::{Piece, band_of, kind_of};
 use crate::wanted::Wanted;
 use band_blocks::{
     Block, BlockKey, LoadFault, OpenFiles, PixelKey, Steps, has_places, load_block, load_sample,
@@ -162,7 +158,7 @@ impl<F: Folder> Lane<F> {
     }
 
     // Begins a call that gives so many pixels.
-    fn begin(&mut self, cat: &Catalog, pixels: usize)
+    pub(crate) fn begin(&mut self, cat: &Catalog, pixels: usize)
         ensures same { self.new ≡ self.old }
     {
         let more = (pixels as u64).saturating_mul(TIMES_ITS_OWN);
@@ -173,7 +169,7 @@ impl<F: Folder> Lane<F> {
     }
 
     // Counts the pixels of a rectangle that is filled.
-    fn spend(&mut self, rect: Rect)
+    pub(crate) fn spend(&mut self, rect: Rect)
         ensures same { self.new ≡ self.old }
     {
         self.left = self.left.saturating_sub(cost_of(rect));
@@ -225,7 +221,7 @@ impl<F: Folder> Lane<F> {
     }
 
     // Keeps a block of a mosaic: in the pool while that isn't full, else beside it, where it pushes no file's out.
-    fn keep_made(&mut self, key: BlockKey, block: Block) -> Result<(), LoadFault>
+    pub(crate) fn keep_made(&mut self, key: BlockKey, block: Block) -> Result<(), LoadFault>
         requires valid { IsPool self.old.pool }
         requires made_valid { IsPool self.old.made }
         ensures kept { OnOk result (IsKept key (entry_of block false) self.old self.new) }
@@ -242,7 +238,7 @@ impl<F: Folder> Lane<F> {
 
     // Paints a piece of a picture over the rows of `out`, from its block, which is held in the pool or beside it.
     #[tactic(auto, using(crate::proofs::Keys::found_there, crate::proofs::Keys::found_beside))]
-    fn paint_held(&mut self, picture: &Picture, piece: Piece, out: &mut [Sample])
+    pub(crate) fn paint_held(&mut self, picture: &Picture, piece: Piece, out: &mut [Sample])
         requires held { IsHeldWith piece.key self.old (λ e. length e.block.samples ≡ piece.rect.w * piece.rect.h) }
         requires picture { IsPicture picture.now }
         requires area { IsAreaOf picture.now piece.area }
@@ -299,7 +295,7 @@ impl<F: Folder> Lane<F> {
     }
 
     // Whether a block is held, or is so now since the lines showed it.
-    fn finds<S: Scene>(&mut self, supply: &Supply<S>, folder: &F, key: BlockKey) -> bool
+    pub(crate) fn finds<S: Scene>(&mut self, supply: &Supply<S>, folder: &F, key: BlockKey) -> bool
         requires ready { IsReady F.Folder folder.now supply.now.cat.now self.old }
         requires told { S.told ≡ F.names folder.now }
         requires scene { S.cat ≡ supply.now.cat.now }
@@ -316,7 +312,7 @@ impl<F: Folder> Lane<F> {
     }
 
     // Loads a block of a file that isn't held, and keeps it.
-    fn load_kept<L: Ledger, S: Scene>(
+    pub(crate) fn load_kept<L: Ledger, S: Scene>(
         &mut self,
         supply: &Supply<S>,
         folder: &mut F,
@@ -348,7 +344,7 @@ impl<F: Folder> Lane<F> {
 
     // Whether a piece of a picture is read by itself: the picture is one pixel of a file whose block isn't held
     // and wasn't missed before, and the pool is full.
-    fn is_jump(&mut self, cat: &Catalog, picture: &Picture, piece: Piece) -> bool
+    pub(crate) fn is_jump(&mut self, cat: &Catalog, picture: &Picture, piece: Piece) -> bool
         requires known { piece.key.dataset < length cat.now }
         ensures same { self.new ≡ self.old }
         ensures absent { result ≡ true → held_at piece.key self.old.pool.entries ≡ None }
@@ -376,7 +372,7 @@ impl<F: Folder> Lane<F> {
     }
 
     // Reads a pixel of a file by itself, as a block of its own that isn't kept.
-    fn load_alone<L: Ledger>(
+    pub(crate) fn load_alone<L: Ledger>(
         &mut self,
         alloc: Global,
         cat: &Catalog,
@@ -422,7 +418,13 @@ impl<F: Folder> Lane<F> {
     }
 
     // The block of a rectangle of one pixel whose sample is remembered.
-    fn recall(&self, alloc: Global, cat: &Catalog, key: BlockKey, rect: Rect) -> Option<Block>
+    pub(crate) fn recall(
+        &self,
+        alloc: Global,
+        cat: &Catalog,
+        key: BlockKey,
+        rect: Rect,
+    ) -> Option<Block>
         requires key { IsKey cat.now key }
         requires recalled { (told : Option Files) × AreRecalled told cat.now self.now.recalled }
         ensures block { IfSome result (λ b. (told : Option Files) → AreRecalled told cat.now self.now.recalled → IsPartBlock told cat.now key rect b) }
@@ -438,7 +440,7 @@ impl<F: Folder> Lane<F> {
     }
 
     // Remembers the sample of a rectangle of one pixel, where memory isn't refused.
-    fn note(&mut self, key: BlockKey, rect: Rect, block: &Block)
+    pub(crate) fn note(&mut self, key: BlockKey, rect: Rect, block: &Block)
         requires count { length block.now.samples ≡ rect.w * rect.h }
         ensures same { self.new ≡ lane_view self.old.pool self.old.files self.old.made self.old.indexes self.new.recalled }
         ensures pixels { (told : Option Files) → (cat : List Dataset) → IsPartBlock told cat key rect block.now → AreRecalled told cat self.old.recalled → AreRecalled told cat self.new.recalled }
@@ -449,41 +451,8 @@ impl<F: Folder> Lane<F> {
         let _put = self.recalled.put(pixel_at(key, rect), block.get(0));
     }
 
-    // Sees that the block of a key is held.
-    #[cycle(read)]
-    fn hold<L: Ledger, S: Scene>(
-        &mut self,
-        supply: &Supply<S>,
-        folder: &mut F,
-        key: BlockKey,
-        loads: &mut Steps<L>,
-    ) -> Result<(), LoadFault>
-        requires ready { IsReady F.Folder folder.old supply.now.cat.now self.old }
-        requires told { S.told ≡ F.names folder.old }
-        requires scene { S.cat ≡ supply.now.cat.now }
-        requires key { IsKey supply.now.cat.now key }
-        ensures serves { Served F.Folder supply.now.cat.now result folder.old self.old loads.old folder.new self.new loads.new }
-        ensures cause { HasCause LoadFault.FolderFault (F.faults folder.old) (F.faults folder.new) result }
-        ensures changed { IfErr result (TellsChangeIn supply.now.cat.now) }
-        ensures never { WhereTold F.Folder folder.old (λ _. IfErr result IsUnchanged) }
-        ensures held { OnOk result (IsHeldWith key self.new (λ _. ⊤)) }
-    {
-        if self.finds(supply, folder, key) {
-            return Ok(());
-        }
-        match band_of(supply.cat, key) {
-            None => return self.load_kept(supply, folder, key, loads),
-            Some(band) => {
-                let rect = mosaic_rect(supply.cat, key);
-                let block = self.fill(supply, folder, key, band, rect, loads)?;
-                offer_to(supply, key, &block);
-                return self.keep_made(key, block);
-            }
-        }
-    }
-
     // The sources of a mosaic's band that are asked for a rectangle of it. It is refused where memory is.
-    fn wanted(
+    pub(crate) fn wanted(
         &mut self,
         alloc: Global,
         cat: &Catalog,
@@ -501,123 +470,6 @@ impl<F: Folder> Lane<F> {
         wanted_in(&mut self.indexes, alloc, cat, key, band, rect)
     }
 
-    // The samples of a part of a mosaic's block. Those of single pixels are remembered.
-    #[cycle(read)]
-    fn part_block<L: Ledger, S: Scene>(
-        &mut self,
-        supply: &Supply<S>,
-        folder: &mut F,
-        key: BlockKey,
-        part: Part,
-        loads: &mut Steps<L>,
-    ) -> Result<Block, LoadFault>
-        requires ready { IsReady F.Folder folder.old supply.now.cat.now self.old }
-        requires told { S.told ≡ F.names folder.old }
-        requires scene { S.cat ≡ supply.now.cat.now }
-        requires key { IsMosaicKey supply.now.cat.now key part.band.now }
-        requires sources { length part.band.now.sources < 2 ^ 32 }
-        requires within { (d : Dataset) → slice_get supply.now.cat.now key.dataset ≡ Some d → IsWithin part.rect d.head.size }
-        requires few { part.rect.w * part.rect.h < 2 ^ 32 }
-        ensures serves { Served F.Folder supply.now.cat.now result folder.old self.old loads.old folder.new self.new loads.new }
-        ensures cause { HasCause LoadFault.FolderFault (F.faults folder.old) (F.faults folder.new) result }
-        ensures changed { IfErr result (TellsChangeIn supply.now.cat.now) }
-        ensures never { WhereTold F.Folder folder.old (λ _. IfErr result IsUnchanged) }
-        ensures block { IfOk result (λ b. IsPartBlock (F.names folder.new) supply.now.cat.now key part.entry.rect b) }
-    {
-        if let Some(block) = self.recall(supply.alloc, supply.cat, key, part.rect) {
-            return Ok(block);
-        }
-        let block = self.fill(supply, folder, key, part.band, part.rect, loads)?;
-        self.note(key, part.rect, &block);
-        Ok(block)
-    }
-
-    // The samples of a rectangle of a mosaic's band: from the last to the first each source that the rectangle may
-    // need is asked for what is still open, until nothing is.
-    #[cycle(read)]
-    fn fill<L: Ledger, S: Scene>(
-        &mut self,
-        supply: &Supply<S>,
-        folder: &mut F,
-        key: BlockKey,
-        band: &VrtBand,
-        rect: Rect,
-        loads: &mut Steps<L>,
-    ) -> Result<Block, LoadFault>
-        requires ready { IsReady F.Folder folder.old supply.now.cat.now self.old }
-        requires told { S.told ≡ F.names folder.old }
-        requires scene { S.cat ≡ supply.now.cat.now }
-        requires key { IsMosaicKey supply.now.cat.now key band.now }
-        requires sources { length band.now.sources < 2 ^ 32 }
-        requires within { (d : Dataset) → slice_get supply.now.cat.now key.dataset ≡ Some d → IsWithin rect d.head.size }
-        requires few { rect.w * rect.h < 2 ^ 32 }
-        ensures serves { Served F.Folder supply.now.cat.now result folder.old self.old loads.old folder.new self.new loads.new }
-        ensures cause { HasCause LoadFault.FolderFault (F.faults folder.old) (F.faults folder.new) result }
-        ensures changed { IfErr result (TellsChangeIn supply.now.cat.now) }
-        ensures never { WhereTold F.Folder folder.old (λ _. IfErr result IsUnchanged) }
-        ensures block { IfOk result (λ b. IsPartBlock (F.names folder.new) supply.now.cat.now key rect b) }
-    {
-        // This call is made for the proof: it says what holds of every catalog.
-        let _count = supply.cat.count();
-        band.rules();
-        self.spend(rect);
-        let wanted = self.wanted(supply.alloc, supply.cat, key, band, rect)?;
-        let mut canvas = Canvas::of(supply.alloc, rect, band.kind);
-        let mut left = wanted.len();
-        while is_wanted(left, &canvas) {
-            left -= 1;
-            let number = wanted.at(left);
-            let source = band.sources.get(number);
-            let numbered = Numbered {
-                key,
-                number: number as u32,
-                source,
-            };
-            self.paint(supply, folder, numbered, &mut canvas, loads)?;
-        }
-        let block = canvas.packed(supply.alloc, band.nodata.unwrap_or(0))?;
-        // This call is made for the proof: it says what holds of every block.
-        let _len = block.len();
-        Ok(block)
-    }
-
-    // Takes what a source of a mosaic's band gives where a canvas is open.
-    #[cycle(read)]
-    fn paint<L: Ledger, S: Scene>(
-        &mut self,
-        supply: &Supply<S>,
-        folder: &mut F,
-        source: Numbered,
-        canvas: &mut Canvas,
-        loads: &mut Steps<L>,
-    ) -> Result<(), LoadFault>
-        requires ready { IsReady F.Folder folder.old supply.now.cat.now self.old }
-        requires told { S.told ≡ F.names folder.old }
-        requires scene { S.cat ≡ supply.now.cat.now }
-        requires source { IsSourceOf supply.now.cat.now source.key source.number source.source.now }
-        requires within { (d : Dataset) → slice_get supply.now.cat.now source.key.dataset ≡ Some d → IsWithin canvas.old.rect d.head.size }
-        requires canvas { IsCanvas canvas.old }
-        ensures serves { Served F.Folder supply.now.cat.now result folder.old self.old loads.old folder.new self.new loads.new }
-        ensures cause { HasCause LoadFault.FolderFault (F.faults folder.old) (F.faults folder.new) result }
-        ensures changed { IfErr result (TellsChangeIn supply.now.cat.now) }
-        ensures never { WhereTold F.Folder folder.old (λ _. IfErr result IsUnchanged) }
-        ensures canvas { OnOk result (IsCanvas canvas.new) }
-        ensures taken { (d : Dataset) → slice_get supply.now.cat.now source.entry.key.dataset ≡ Some d → OnOk result (IsSourceTaken (F.names folder.new) supply.now.cat.now d source.entry.key.band source.entry.number source.entry.source.now canvas.old canvas.new) }
-    {
-        let Some(asked) = asked_of(supply.alloc, supply.cat, source, canvas)? else {
-            return Ok(());
-        };
-        let Asked {
-            picture,
-            part,
-            mut pixels,
-        } = asked;
-        self.paint_picture(supply, folder, &picture, pixels.as_mut_slice(), loads)?;
-        let taking = taking_of(source.source);
-        canvas.take(supply.alloc, &taking, part, pixels)?;
-        Ok(())
-    }
-
     // Whether all columns of lines of a picture are filled at a time, from this line on: the call's window is large
     // and may still paint pixels without blocks, nothing is scaled, and the sources are large.
     fn goes_wide(&self, cat: &Catalog, picture: &Picture, line: u32) -> bool
@@ -631,7 +483,7 @@ impl<F: Folder> Lane<F> {
     }
 
     // The end of the lines of a picture from `line` on, before `end`, that are painted at a time.
-    fn end_of(&self, cat: &Catalog, picture: &Picture, line: u32, end: u32) -> u32
+    pub(crate) fn end_of(&self, cat: &Catalog, picture: &Picture, line: u32, end: u32) -> u32
         requires picture { IsPictureOf cat.now picture.now }
         requires order { line < end }
         requires there { end ≤ picture.now.height }
@@ -644,128 +496,6 @@ impl<F: Folder> Lane<F> {
         rows_end(picture, line, end)
     }
 
-    // Paints a picture over its rows, one row of blocks after the other, or fewer lines at a time.
-    #[cycle(read)]
-    fn paint_picture<L: Ledger, S: Scene>(
-        &mut self,
-        supply: &Supply<S>,
-        folder: &mut F,
-        picture: &Picture,
-        out: &mut [Sample],
-        loads: &mut Steps<L>,
-    ) -> Result<(), LoadFault>
-        requires ready { IsReady F.Folder folder.old supply.now.cat.now self.old }
-        requires told { S.told ≡ F.names folder.old }
-        requires scene { S.cat ≡ supply.now.cat.now }
-        requires picture { IsPictureOf supply.now.cat.now picture.now }
-        requires rows { length out.old ≡ picture.now.height * picture.now.stride }
-        ensures serves { Served F.Folder supply.now.cat.now result folder.old self.old loads.old folder.new self.new loads.new }
-        ensures cause { HasCause LoadFault.FolderFault (F.faults folder.old) (F.faults folder.new) result }
-        ensures changed { IfErr result (TellsChangeIn supply.now.cat.now) }
-        ensures never { WhereTold F.Folder folder.old (λ _. IfErr result IsUnchanged) }
-        ensures painted { OnOk result (IsShown (F.names folder.new) supply.now.cat.now picture.now 0 picture.now.width 0 out.old out.new) }
-        ensures typed { OnOk result (AreTyped supply.now.cat.now picture.now (picture.now.height * picture.now.stride) out.new) }
-    {
-        let mut line = 0;
-        while line < picture.height {
-            let rect = block_around(supply.cat, picture, 0, line).rect;
-            let last = picture
-                .lines
-                .run_end(line, picture.height, rect.y, rect.y + rect.h);
-            let end = self.end_of(supply.cat, picture, line, last);
-            let lines = Span {
-                first: line,
-                count: end - line,
-            };
-            let from = line as usize * picture.stride;
-            let part = &mut out[from..end as usize * picture.stride];
-            self.paint_band(supply, folder, picture, lines, part, loads)?;
-            line = end;
-        }
-        Ok(())
-    }
-
-    // Paints lines of a picture that lie in one row of blocks, all columns at a time or one block after the other.
-    #[cycle(read)]
-    fn paint_band<L: Ledger, S: Scene>(
-        &mut self,
-        supply: &Supply<S>,
-        folder: &mut F,
-        picture: &Picture,
-        lines: Span,
-        out: &mut [Sample],
-        loads: &mut Steps<L>,
-    ) -> Result<(), LoadFault>
-        requires ready { IsReady F.Folder folder.old supply.now.cat.now self.old }
-        requires told { S.told ≡ F.names folder.old }
-        requires scene { S.cat ≡ supply.now.cat.now }
-        requires picture { IsPictureOf supply.now.cat.now picture.now }
-        requires lines { lines.first + lines.count ≤ picture.now.height }
-        requires some { 0 < lines.count }
-        requires band { IsBandOf supply.now.cat.now picture.now lines.first lines.count }
-        requires rows { length out.old ≡ lines.count * picture.now.stride }
-        ensures serves { Served F.Folder supply.now.cat.now result folder.old self.old loads.old folder.new self.new loads.new }
-        ensures cause { HasCause LoadFault.FolderFault (F.faults folder.old) (F.faults folder.new) result }
-        ensures changed { IfErr result (TellsChangeIn supply.now.cat.now) }
-        ensures never { WhereTold F.Folder folder.old (λ _. IfErr result IsUnchanged) }
-        ensures painted { OnOk result (IsShown (F.names folder.new) supply.now.cat.now picture.now 0 picture.now.width lines.first out.old out.new) }
-        ensures typed { OnOk result (IsTyped supply.now.cat.now picture.now 0 picture.now.width out.old out.new) }
-    {
-        if let Some(rows) = self.wide_rows(supply.cat, picture, lines) {
-            let Rows { band, piece } = rows;
-            let Piece { key, rect, area } = piece;
-            let block = self.fill(supply, folder, key, band, rect, loads)?;
-            paint_rows(&block, rect, picture, area, out);
-            return Ok(());
-        }
-        self.paint_pieces(supply, folder, picture, lines, out, loads)
-    }
-
-    // Paints lines of a picture that lie in one row of blocks, one block after the other.
-    #[cycle(read)]
-    fn paint_pieces<L: Ledger, S: Scene>(
-        &mut self,
-        supply: &Supply<S>,
-        folder: &mut F,
-        picture: &Picture,
-        lines: Span,
-        out: &mut [Sample],
-        loads: &mut Steps<L>,
-    ) -> Result<(), LoadFault>
-        requires ready { IsReady F.Folder folder.old supply.now.cat.now self.old }
-        requires told { S.told ≡ F.names folder.old }
-        requires scene { S.cat ≡ supply.now.cat.now }
-        requires picture { IsPictureOf supply.now.cat.now picture.now }
-        requires lines { lines.first + lines.count ≤ picture.now.height }
-        requires some { 0 < lines.count }
-        requires band { IsBandOf supply.now.cat.now picture.now lines.first lines.count }
-        requires rows { length out.old ≡ lines.count * picture.now.stride }
-        ensures serves { Served F.Folder supply.now.cat.now result folder.old self.old loads.old folder.new self.new loads.new }
-        ensures cause { HasCause LoadFault.FolderFault (F.faults folder.old) (F.faults folder.new) result }
-        ensures changed { IfErr result (TellsChangeIn supply.now.cat.now) }
-        ensures never { WhereTold F.Folder folder.old (λ _. IfErr result IsUnchanged) }
-        ensures painted { OnOk result (IsShown (F.names folder.new) supply.now.cat.now picture.now 0 picture.now.width lines.first out.old out.new) }
-        ensures typed { OnOk result (IsTyped supply.now.cat.now picture.now 0 picture.now.width out.old out.new) }
-    {
-        let mut column = 0;
-        while column < picture.width {
-            let Around { key, rect } = block_around(supply.cat, picture, column, lines.first);
-            let end = picture
-                .columns
-                .run_end(column, picture.width, rect.x, rect.x + rect.w);
-            let area = Area {
-                column,
-                columns: end - column,
-                line: lines.first,
-                lines: lines.count,
-            };
-            let piece = Piece { key, rect, area };
-            self.paint_block(supply, folder, picture, piece, out, loads)?;
-            column = end;
-        }
-        Ok(())
-    }
-
     // Whether no blocks of mosaics are made: the call may still paint pixels without them, and the pool has no room
     // for them, or the call's window is large, so that they wouldn't be used again.
     fn is_alone(&self) -> bool {
@@ -776,7 +506,12 @@ impl<F: Folder> Lane<F> {
     }
 
     // All columns of some lines of a picture, where they are filled at a time.
-    fn wide_rows<'a>(&self, cat: &'a Catalog, picture: &Picture, lines: Span) -> Option<Rows<'a>>
+    pub(crate) fn wide_rows<'a>(
+        &self,
+        cat: &'a Catalog,
+        picture: &Picture,
+        lines: Span,
+    ) -> Option<Rows<'a>>
         requires picture { IsPictureOf cat.now picture.now }
         requires lines { lines.first + lines.count ≤ picture.now.height }
         requires some { 0 < lines.count }
@@ -793,7 +528,12 @@ impl<F: Folder> Lane<F> {
 
     // The part of a block that is painted without the block: that of a mosaic, where no block is held and none is
     // made.
-    fn lone_part<'a>(&self, cat: &'a Catalog, picture: &Picture, piece: Piece) -> Option<Part<'a>>
+    pub(crate) fn lone_part<'a>(
+        &self,
+        cat: &'a Catalog,
+        picture: &Picture,
+        piece: Piece,
+    ) -> Option<Part<'a>>
         requires picture { IsPictureOf cat.now picture.now }
         requires piece { IsPartOf cat.now picture.now piece }
         requires area { IsAreaOf picture.now piece.area }
@@ -803,71 +543,5 @@ impl<F: Folder> Lane<F> {
             return None;
         }
         part_of(cat, picture, piece)
-    }
-
-    // Paints a piece of a picture.
-    #[cycle(read)]
-    fn paint_block<L: Ledger, S: Scene>(
-        &mut self,
-        supply: &Supply<S>,
-        folder: &mut F,
-        picture: &Picture,
-        piece: Piece,
-        out: &mut [Sample],
-        loads: &mut Steps<L>,
-    ) -> Result<(), LoadFault>
-        requires ready { IsReady F.Folder folder.old supply.now.cat.now self.old }
-        requires told { S.told ≡ F.names folder.old }
-        requires scene { S.cat ≡ supply.now.cat.now }
-        requires picture { IsPictureOf supply.now.cat.now picture.now }
-        requires piece { IsPartOf supply.now.cat.now picture.now piece }
-        requires area { IsAreaOf picture.now piece.area }
-        requires rows { length out.old ≡ piece.area.lines * picture.now.stride }
-        ensures serves { Served F.Folder supply.now.cat.now result folder.old self.old loads.old folder.new self.new loads.new }
-        ensures cause { HasCause LoadFault.FolderFault (F.faults folder.old) (F.faults folder.new) result }
-        ensures changed { IfErr result (TellsChangeIn supply.now.cat.now) }
-        ensures never { WhereTold F.Folder folder.old (λ _. IfErr result IsUnchanged) }
-        ensures painted { OnOk result (IsShown (F.names folder.new) supply.now.cat.now picture.now piece.area.column piece.area.columns piece.area.line out.old out.new) }
-        ensures typed { OnOk result (IsTyped supply.now.cat.now picture.now piece.area.column piece.area.columns out.old out.new) }
-    {
-        if let Some(part) = self.lone_part(supply.cat, picture, piece) {
-            let block = self.part_block(supply, folder, piece.key, part, loads)?;
-            paint_rows(&block, part.rect, picture, piece.area, out);
-            return Ok(());
-        }
-        if self.is_jump(supply.cat, picture, piece) {
-            let rect = pixel_rect(picture, piece.area);
-            let block = self.load_alone(supply.alloc, supply.cat, folder, piece.key, rect, loads)?;
-            paint_rows(&block, rect, picture, piece.area, out);
-            return Ok(());
-        }
-        self.hold(supply, folder, piece.key, loads)?;
-        self.paint_held(picture, piece, out);
-        Ok(())
-    }
-
-    // Paints the picture of a window, as `paint_picture`, in a new count of pixels.
-    pub(crate) fn paint_window<L: Ledger, S: Scene>(
-        &mut self,
-        supply: &Supply<S>,
-        folder: &mut F,
-        picture: &Picture,
-        out: &mut [Sample],
-        loads: &mut Steps<L>,
-    ) -> Result<(), LoadFault>
-        requires ready { IsReady F.Folder folder.old supply.now.cat.now self.old }
-        requires told { S.told ≡ F.names folder.old }
-        requires scene { S.cat ≡ supply.now.cat.now }
-        requires picture { IsPictureOf supply.now.cat.now picture.now }
-        requires rows { length out.old ≡ picture.now.height * picture.now.stride }
-        ensures serves { Served F.Folder supply.now.cat.now result folder.old self.old loads.old folder.new self.new loads.new }
-        ensures cause { HasCause LoadFault.FolderFault (F.faults folder.old) (F.faults folder.new) result }
-        ensures changed { IfErr result (TellsChangeIn supply.now.cat.now) }
-        ensures never { WhereTold F.Folder folder.old (λ _. IfErr result IsUnchanged) }
-        ensures painted { OnOk result (IsShown (F.names folder.new) supply.now.cat.now picture.now 0 picture.now.width 0 out.old out.new) }
-        ensures typed { OnOk result (AreTyped supply.now.cat.now picture.now (picture.now.height * picture.now.stride) out.new) }
-    {
-        self.begin(supply.cat, out.len());
-        self.paint_picture(supply, folder, picture, out, loads)
     }
 }

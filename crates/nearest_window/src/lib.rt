@@ -2,17 +2,18 @@
 #![tactic(auto)]
 
 mod asking;
+mod block_parts;
 mod canvas;
 mod indexes;
 mod indexing;
 mod lane;
+mod lane_reading;
 mod laws;
 mod merging;
 mod missed;
 mod paint;
-mod parts;
 mod picture;
-mod places;
+mod picture_places;
 mod recalled;
 mod sharing;
 mod taking;

@@ -15,7 +15,7 @@ ghost use Rattle.nearest_window.specs.Shown.{IsInBand, IsWindow, IsPictureOf, Is
 
 use crate::Lane;
 use crate::picture::Picture;
-use crate::places::Places;
+use crate::picture_places::Places;
 use crate::sharing::Supply;
 use crate::taking::Taking;
 use band_blocks::{LoadFault, Steps};
@@ -152,9 +152,10 @@ impl<F: Folder> Lane<F> {
     }
 
     /// As `read_window`, with the memory and the catalog of a supply, and through the lines that lanes share, where it
-    /// has any: they stand for its catalog and for the folder's files. A block that isn't held is looked for in the lines, and kept where they show it; else it is
-    /// loaded or made, and then offered to them. Where memory is refused for either, the block is read as without lines.
-    /// Parts of a mosaic's block and single pixels are neither looked for nor offered.
+    /// has any: they stand for its catalog and for the folder's files. A block that isn't held is looked for in the
+    /// lines, and kept where they show it; else it is loaded or made, and then offered to them. Where memory is refused
+    /// for either, the block is read as without lines. Parts of a mosaic's block and single pixels are neither looked
+    /// for nor offered.
     pub fn read_window_with<L: Ledger, S: Scene>(
         &mut self,
         supply: &Supply<S>,

@@ -6,8 +6,8 @@ use Rattle.outside.specs.Causes.{HasCause, Rose}
 use Rattle.outside.specs.Outside.{Files}
 use Rattle.catalog.specs.Drivers.{Dataset}
 use Rattle.band_blocks.specs.Open.{IsUnchanged}
-use Rattle.band_blocks.specs.declared.load.LoadFault.{LoadFault}
-use Rattle.band_blocks.specs.declared.load.LoadFault.TheVariants as load
+use Rattle.band_blocks.specs.declared.fault.LoadFault.{LoadFault}
+use Rattle.band_blocks.specs.declared.fault.LoadFault.TheVariants as load
 use Rattle.nearest_window.specs.Right.{TellsChangeIn}
 use Rattle.write_back.specs.declared.fault.TargetFault.{TargetFault}
 use Rattle.write_back.specs.declared.fault.TargetFault.TheVariants as target

@@ -1,4 +1,5 @@
 pub mod Alike
+mod Beside
 pub mod Copied
 pub mod Ends
 pub mod Goes

@@ -2,7 +2,7 @@
 use Rattle.std.proofs.Common.{◌≡◌, ap, refl, sym, ℕ, Bool, List, [], ◌∷◌, ◌++◌}
 use Rattle.std.specs.Prelude.{◌≢◌}
 use Rattle.outside.specs.Outside.{Files}
-use Rattle.vrt_profile.specs.Spelled.{spelled}
+use Rattle.vrt_writing.specs.Spelled.{spelled}
 use Rattle.catalog.specs.Drivers.{Dataset}
 use Rattle.translate_plan.specs.Documents.{document_by}
 use Rattle.translate_plan.specs.Plan.{Planned}

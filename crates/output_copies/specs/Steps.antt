@@ -4,7 +4,7 @@ use Rattle.std.specs.Fmt.{decimal}
 use Rattle.lists_and_answers.specs.Texts.{text}
 use Rattle.geotransform.specs.declared.types.Size.{Size}
 use Rattle.outside.specs.Outside.{Files}
-use Rattle.vrt_profile.specs.Spelled.{spelled}
+use Rattle.vrt_writing.specs.Spelled.{spelled}
 use Rattle.catalog.specs.Drivers.{Dataset}
 use Rattle.catalog.specs.Pixels.{pixel_of_name}
 use Rattle.translate_plan.specs.Documents.{document_by}

@@ -7,32 +7,28 @@ ghost use Rattle.strip_copies.specs.Copies.{IsRoomFor, IsTranslation};
 ghost use Rattle.output_copies.specs.Copying.{spoken, IsFilled, MayEnd};
 ghost use Rattle.output_copies.specs.Steps.{progress};
 
+use crate::parts::{area, read_part, write_part};
 use crate::progress::{Share, tell};
 use error_lines::Fault;
-use geotransform::{Rect, Sample};
+use geotransform::Sample;
 use outside::{Folder, Sink, Steps};
 use shared_lines::Scene;
 use std::sync::ledger::Ledger;
 use std::thread::Threads;
-use strip_copies::{Lines, StripReader, Translation, read_lines};
+use strip_copies::{Lines, StripReader, Translation};
 use write_back::Target;
 
-/// What lines are copied with: a reader, the lines that its lanes share, if there are any, the count of the blocks that are
-/// written, how many lines are copied at a time, and whether nothing is told.
+/// What lines are copied with: a reader, the lines that its lanes share, if there are any, the count of the blocks that
+/// are written, how many lines are copied at a time, whether the next ones are read while the last ones are written,
+/// and whether nothing is told.
 #[derive(Drop)]
 pub struct Copier<'a, F: Folder, L: Ledger, W: Ledger, S: Scene> {
     pub reader: StripReader<F, L>,
     pub shared: Option<&'a shared_lines::Lines<S>>,
     pub writes: Steps<W>,
     pub rows: u32,
+    pub ahead: bool,
     pub quiet: bool,
-}
-
-/// The samples of so many lines of so many columns.
-pub fn area(columns: u32, lines: u32) -> usize
-    ensures area { result ≡ columns * lines }
-{
-    columns as usize * lines as usize
 }
 
 // Lines of an output from `first` up to `end`.
@@ -67,24 +63,13 @@ fn copy_band<R: Threads + Sync, F: Folder, L: Ledger, W: Ledger, S: Scene>(
     ensures names { F.names folder.new ≡ F.names folder.old }
     ensures ends { MayEnd (F.names folder.old) (F.faults folder.old) (F.faults folder.new) 0 0 result }
 {
-    let plan = &translation.plan;
-    plan.rules();
-    let size = plan.size;
-    let height = lines.end - lines.first;
-    let rect = Rect {
-        x: 0,
-        y: lines.first,
-        w: size.w,
-        h: height,
-    };
+    let count = area(translation.plan.size.w, lines.end - lines.first);
     let shared = copier.shared;
     let reader = &mut copier.reader;
     let writes = &mut copier.writes;
-    let part = &mut samples[..area(size.w, height)];
-    read_lines(rt, translation, reader, folder, shared, lines, part)?;
-    let alloc = translation.alloc;
-    target.write_window(alloc, folder, lines.band, rect, part, writes)?;
-    Ok(())
+    let part = &mut samples[..count];
+    read_part(rt, translation, reader, folder, shared, lines, part)?;
+    write_part(translation, folder, target, lines, part, writes)
 }
 
 // Copies the lines of a strip of all bands.

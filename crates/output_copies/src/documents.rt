@@ -1,7 +1,7 @@
 // Documents of mosaics that translations publish.
 ghost use Rattle.std.specs.Prelude.{◌≡◌, ◌++◌, ◌∷◌, [], IfErr, IfOk, Some, slice_get, true};
 ghost use Rattle.outside.specs.Outside.{Files};
-ghost use Rattle.vrt_profile.specs.Spelled.{spelled};
+ghost use Rattle.vrt_writing.specs.Spelled.{spelled};
 ghost use Rattle.catalog.specs.Drivers.{Dataset};
 ghost use Rattle.translate_plan.specs.Documents.{document_by};
 ghost use Rattle.translate_plan.specs.declared.options.Driver.TheVariants.{Vrt};
@@ -10,8 +10,8 @@ ghost use Rattle.error_lines.specs.Steps.{Publishes, all_done, Goes};
 ghost use Rattle.output_copies.specs.Copying.{MayEnd};
 ghost use Rattle.output_copies.specs.Steps.{progress, unless_quiet};
 
-use crate::output::Writing;
 use crate::progress::put_progress;
+use crate::writing::Writing;
 use error_lines::Fault;
 use outside::{Folder, Name, Sink};
 use published_files::publish_document;

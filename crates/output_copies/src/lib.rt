@@ -1,10 +1,16 @@
-// Outputs of translations: copied strip by strip from a team of lanes into a target, or made as a document, and published.
+// Outputs of translations: copied strip by strip from a team of lanes into a target, or made as a document, and
+// published.
 #![tactic(auto)]
 
+mod ahead;
+mod calls;
 mod copying;
 mod documents;
 mod output;
+mod parts;
 mod progress;
 mod texts;
+mod writing;
 
-pub use output::{Writing, write_output};
+pub use output::write_output;
+pub use writing::Writing;

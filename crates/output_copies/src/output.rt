@@ -1,25 +1,29 @@
 // A translation, from its first text to its last.
-ghost use Rattle.std.specs.Prelude.{◌≡◌, ◌≢◌, ◌≤◌, ◌<◌, ◌*◌, ◌++◌, ℕ, List, Option, IfErr, IfOk, Some, length, slice_get, true};
+ghost use Rattle.std.specs.Prelude.{◌≡◌, ◌≢◌, ◌≤◌, ◌<◌, ◌*◌, ◌++◌, ℕ, List, Option, IfErr, IfOk, IfSome, OnErr, OnOk, Some, length, slice_get, true};
 ghost use Rattle.outside.specs.Outside.{Files};
 ghost use Rattle.outside.specs.Reading.{WhereTold};
+ghost use Rattle.outside.specs.Streams.{Gets, GetsPart};
 ghost use Rattle.catalog.specs.Drivers.{Dataset};
 ghost use Rattle.catalog.specs.Walk.{IsWalked};
-ghost use Rattle.lane_teams.specs.Ready.{AreLanesFresh};
+ghost use Rattle.lane_teams.specs.Ready.{AreLanesFresh, AreLanesReady};
 ghost use Rattle.translate_plan.specs.declared.options.Driver.TheVariants.{Vrt};
 ghost use Rattle.write_back.specs.Plans.{output_of, IsNamedFor};
 ghost use Rattle.strip_copies.specs.Copies.{IsRoomFor, IsTranslation};
 ghost use Rattle.error_lines.specs.Faults.{Differs, HasCauses, IsOfReading};
 ghost use Rattle.error_lines.specs.Steps.{all_done, publishes, Goes};
-ghost use Rattle.output_copies.specs.Copying.{IsFilled, MayEnd};
+ghost use Rattle.output_copies.specs.Copying.{spoken, IsFilled, MayEnd};
 ghost use Rattle.output_copies.specs.Steps.{files_by, progress, raster_of, translation_steps, unless_quiet, written};
 
-use crate::copying::{Copier, area, copy_all};
+use crate::ahead::{Rooms, copy_ahead};
+use crate::copying::{Copier, copy_all};
 use crate::documents::write_document;
+use crate::parts::area;
 use crate::texts::{put_end, put_size};
+use crate::writing::Writing;
 use error_lines::Fault;
 use geotransform::Sample;
-use lane_teams::{WorkerCount, lines_for};
-use outside::{Folder, Name, Sink, Steps};
+use lane_teams::lines_for;
+use outside::{Folder, Sink, Steps};
 use shared_lines::{Lines, Scene};
 use std::marker::Brand;
 use std::sync::ledger::{Blank, Ledger};
@@ -27,16 +31,6 @@ use std::thread::Threads;
 use strip_copies::{StripReader, Translation, shares_blocks, strip_height};
 use translate_plan::Driver;
 use write_back::Target;
-
-/// How an output is written: under which name, with how many blocks held at a time by each worker that reads and by what
-/// is written, by how many workers, and whether nothing is told of the work.
-#[derive(Clone, Copy)]
-pub struct Writing<'a> {
-    pub name: &'a Name,
-    pub blocks: u32,
-    pub workers: WorkerCount,
-    pub quiet: bool,
-}
 
 // What a translation's lines are copied with.
 fn copier_for<'a, F: Folder, L: Ledger, W: Ledger, S: Scene>(
@@ -64,12 +58,14 @@ fn copier_for<'a, F: Folder, L: Ledger, W: Ledger, S: Scene>(
     let reader = StripReader::new(translation, writing.workers, writing.blocks, loads)?;
     let writes = Steps::open(writes);
     let rows = strip_height(translation, writing.workers, writing.blocks);
+    let ahead = writing.workers.get() > 1;
     let quiet = writing.quiet;
     Ok(Copier {
         reader,
         shared,
         writes,
         rows,
+        ahead,
         quiet,
     })
 }
@@ -83,6 +79,52 @@ fn room_for(translation: &Translation, rows: u32) -> Result<Vec<Sample>, Fault>
     let count = area(plan.size.w, rows);
     let samples = vec![in translation.alloc; 0; count]?;
     Ok(samples)
+}
+
+// A second room, for lines that are read while others are written: where that is wanted, there are any others, and
+// memory is had for it.
+fn second_room(translation: &Translation, ahead: bool, rows: u32) -> Option<Vec<Sample>>
+    ensures long { IfSome result (λ samples. translation.now.plan.size.w * rows ≤ length samples.items) }
+{
+    let plan = &translation.plan;
+    let some = rows < plan.size.h || plan.count() > 1;
+    if !ahead || !some {
+        return None;
+    }
+    room_for(translation, rows).ok()
+}
+
+// Copies all lines of all bands; where a second room is had, the next ones are read while the last ones are written.
+fn copy_lines<R: Threads + Sync, F: Folder, O: Sink, L: Ledger + Send, W: Ledger, S: Scene>(
+    rt: &R,
+    translation: &Translation,
+    copier: &mut Copier<F, L, W, S>,
+    folder: &mut F,
+    target: &mut Target<F>,
+    out: &mut O,
+    mut ready: Vec<Sample>,
+) -> Result<(), Fault>
+    requires translation { IsTranslation translation.now.cat translation.now.id translation.now.plan }
+    requires ready { AreLanesReady F.Folder S.told S.cat folder.old translation.now.cat copier.old.reader.team.lanes.items }
+    requires room { IsRoomFor translation.now.cat translation.now.id translation.now.plan copier.old.reader.columns copier.old.reader.samples.items }
+    requires rows { 1 ≤ copier.old.rows }
+    requires long { translation.now.plan.size.w * copier.old.rows ≤ length ready.items }
+    requires filled { IsFilled (F.names folder.old) translation.now.cat translation.now.id translation.now.plan target.old 0 0 0 }
+    ensures filled { OnOk result (IsFilled (F.names folder.new) translation.now.cat translation.now.id translation.now.plan target.new translation.now.plan.size.h translation.now.plan.size.h 0) }
+    ensures name { target.new.name ≡ target.old.name }
+    ensures names { F.names folder.new ≡ F.names folder.old }
+    ensures ok { OnOk result (Gets (spoken copier.old.quiet progress) (O.got out.old) (O.got out.new)) }
+    ensures err { OnErr result (GetsPart (spoken copier.old.quiet progress) (O.got out.old) (O.got out.new)) }
+    ensures quiet { copier.old.quiet ≡ true → out.new ≡ out.old }
+    ensures ends { MayEnd (F.names folder.old) (F.faults folder.old) (F.faults folder.new) (O.faults out.old) (O.faults out.new) result }
+{
+    match second_room(translation, copier.ahead, copier.rows) {
+        Some(next) => {
+            let mut rooms = Rooms { ready, next };
+            copy_ahead(rt, translation, copier, folder, target, out, &mut rooms)
+        }
+        None => copy_all(rt, translation, copier, folder, target, out, &mut ready),
+    }
 }
 
 // Publishes the files of an output, all lines of which were written.
@@ -103,8 +145,8 @@ fn publish<F: Folder, W: Ledger>(
     }
 }
 
-// The lines that the lanes of several workers share, as many as blocks are held, where they may read the same blocks. There
-// are none where memory is refused for them.
+// The lines that the lanes of several workers share, as many as blocks are held, where they may read the same blocks.
+// There are none where memory is refused for them.
 fn lines_of<F: Folder, S: Scene>(
     translation: &Translation,
     folder: &F,
@@ -129,7 +171,7 @@ fn lines_of<F: Folder, S: Scene>(
 }
 
 // Copies the lines of an output, and publishes its files.
-fn write_files<R: Threads + Sync, F: Folder, O: Sink, L: Ledger, W: Ledger, S: Scene>(
+fn write_files<R: Threads + Sync, F: Folder, O: Sink, L: Ledger + Send, W: Ledger, S: Scene>(
     rt: &R,
     translation: &Translation,
     folder: &mut F,
@@ -162,16 +204,16 @@ fn write_files<R: Threads + Sync, F: Folder, O: Sink, L: Ledger, W: Ledger, S: S
     let made: Option<Lines<S>> = lines_of(translation, folder, writing);
     let shared = made.as_ref();
     let mut copier: Copier<F, L, W, S> = copier_for(translation, shared, writing, loads, writes)?;
-    let mut samples = room_for(translation, copier.rows)?;
+    let samples = room_for(translation, copier.rows)?;
     let mut target = Target::create(alloc, folder, plan, writing.name, blocks)?;
-    match copy_all(
+    match copy_lines(
         rt,
         translation,
         &mut copier,
         folder,
         &mut target,
         out,
-        &mut samples,
+        samples,
     ) {
         Ok(()) => publish(translation, folder, target, &mut copier.writes),
         Err(fault) => {
@@ -214,9 +256,10 @@ fn write_planned<R: Threads + Sync, F: Folder, O: Sink>(
 }
 
 /// Does a translation: tells the size of the source, copies the pixels of the output strip by strip, telling how far
-/// it is, publishes the files of the output, each whole, its data first, and tells that it is done. Of a mosaic no pixel
-/// is copied, and its document is published. The name's extension is one of the plan's driver, and 1 to 65,536 blocks
-/// are held at a time by each worker. What is told and published is the same for every number of blocks and of workers.
+/// it is, publishes the files of the output, each whole, its data first, and tells that it is done. Of a mosaic no
+/// pixel is copied, and its document is published. The name's extension is one of the plan's driver, and 1 to 65,536
+/// blocks are held at a time by each worker. What is told and published is the same for every number of blocks and of
+/// workers.
 ///
 /// FolderFault and OutFault come only where the count of the folder and of the output rose, Changed only where a file
 /// was opened again and had another length than the walk found, or was absent, and Memory freely. All names but those

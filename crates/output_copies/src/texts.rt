@@ -1,7 +1,8 @@
 // What is told of a translation.
 ghost use Rattle.std.specs.Prelude.{◌≡◌, ℕ, ◌∷◌, [], Option, Some, OnOk, OnErr, slice_get, codes, decimal, true};
+ghost use Rattle.lists_and_answers.specs.Texts.{joined};
 ghost use Rattle.outside.specs.Outside.{Files};
-ghost use Rattle.outside.specs.Streams.{Gets, GetsPart, joined};
+ghost use Rattle.outside.specs.Streams.{Gets, GetsPart};
 ghost use Rattle.catalog.specs.Drivers.{Dataset};
 ghost use Rattle.strip_copies.specs.Copies.{IsTranslation};
 ghost use Rattle.output_copies.specs.Copying.{spoken, MayEnd};

@@ -8,8 +8,9 @@ use Rattle.std.proofs.lemmas.List.{take_at, drop-append-le, append_cancel_right,
 use Rattle.std.proofs.lemmas.Bool.{and_parts}
 use Rattle.std.proofs.lemmas.Slice.Eq.{bytes_eq-Decides}
 use Rattle.std.proofs.lemmas.Grind.{flat_map-append}
+use Rattle.lists_and_answers.specs.Texts.{same_letters}
 use Rattle.outside.specs.Paths.{with_part, parts_of, pieces, joined, is_absolute, is_kept, spelled, normal, IsName}
-use Rattle.outside.specs.Names.{kinds, same_letters, kind_in, kind_of, extension_of, ending_of, is_raw, has_no_lower, header_ending, with_header_ending, header_of}
+use Rattle.outside.specs.Names.{kinds, kind_in, kind_of, extension_of, ending_of, is_raw, has_no_lower, header_ending, with_header_ending, header_of}
 use Rattle.outside.specs.declared.name.Ext.{Ext}
 use Rattle.outside.proofs.PathParts.{parts_of-push}
 use Rattle.outside.proofs.Normal.{Free, step, pieces-one, pieces-append}

@@ -3,7 +3,8 @@ use Rattle.std.proofs.Common.{◌≡◌, ℕ, ◌+◌, ◌<◌, List, [], ◌∷
 use Rattle.std.proofs.lemmas.List.{take_more, drop_more, append-nil, take-append-drop}
 use Rattle.std.proofs.lemmas.Grind.{flat_map-append}
 use Rattle.std.specs.Prelude.{OnErr, Result, Ok, Err}
-use Rattle.outside.specs.Streams.{Gets, GetsPart, joined}
+use Rattle.lists_and_answers.specs.Texts.{joined}
+use Rattle.outside.specs.Streams.{Gets, GetsPart}
 use Rattle.outside.proofs.Sinks.{gets-then, gets-then-part, part-first}
 
 -- one part more

@@ -1,10 +1,12 @@
-pub mod Causes
-pub mod Histories
-pub mod Memory
+-- What public clauses and laws speak of: to be read and trusted.
 pub mod Names
-pub mod Outside
 pub mod Paths
+pub mod Outside
 pub mod Reading
-pub mod Schedules
 pub mod Streams
+pub mod Causes
+pub mod Memory
+pub mod Schedules
 pub mod Tallies
+-- What private clauses, views and proofs speak of.
+pub mod Histories

@@ -1,8 +1,9 @@
 -- Names of files, as bytes: their parts, the kinds of files, and the header beside raw data.
-use Rattle.std.specs.Prelude.{ℕ, ◌-◌, ◌==◌, Bool, true, false, not, List, [], ◌∷◌, ◌++◌, length, take, map, codes, bytes_eq, Option, Some, None, option_map, option_and_then, if◌then◌else◌}
+use Rattle.std.specs.Prelude.{ℕ, ◌-◌, ◌==◌, Bool, true, false, not, List, [], ◌∷◌, ◌++◌, length, take, codes, Option, Some, None, option_map, option_and_then, if◌then◌else◌}
 use Rattle.std.specs.List.{list_all}
 use Rattle.std.specs.Option.{unwrap_or}
-use Rattle.std.specs.Char.{to_ascii_lowercase, is_ascii_lowercase}
+use Rattle.std.specs.Char.{is_ascii_lowercase}
+use Rattle.lists_and_answers.specs.Texts.{same_letters}
 use Rattle.outside.specs.declared.name.Ext.{Ext}
 use Rattle.outside.specs.declared.name.Ext.TheVariants.{Bil, Bip, Bsq, Dt0, Dt1, Dt2, Hgt, Asc, Grd, Vrt}
 
@@ -45,10 +46,6 @@ kinds = (codes "bil", Bil)
     ∷ (codes "grd", Grd)
     ∷ (codes "vrt", Vrt)
     ∷ []
-
--- the same letters, in upper or lower case
-abbrev pub same_letters : List ℕ → List ℕ → Bool
-same_letters a b = bytes_eq (map to_ascii_lowercase a) (map to_ascii_lowercase b)
 
 -- the kind that a table has for an ending
 abbrev pub kind_in : List (List ℕ × Ext) → List ℕ → Option Ext

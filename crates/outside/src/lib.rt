@@ -24,7 +24,7 @@ pub use disk::{DiskDraft, DiskFile, DiskFolder};
 pub use folder::{Failed, Folder, OpenFault, WriteFault};
 pub use memory::{CalmFolder, MemDraft, MemFile, MemFolder, MemoryFolder};
 pub use memory_streams::{CalmInput, MemInput, MemSink, MemoryInput};
-pub use name::{Ext, Name, NameFault, Names};
+pub use name::{Ext, LONGEST_NAME, Name, NameFault, Names};
 pub use schedule::{Failing, Listed, Made, Method, Never, Schedule};
 pub use standard::{StdInput, StdSink};
 pub use steps::Steps;

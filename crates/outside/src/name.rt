@@ -1,8 +1,9 @@
 // Names of files.
 ghost use Rattle.std.specs.Prelude.{◌≡◌, ◌↔◌, ◌<◌, ℕ, length, take, ◌-◌, option_map, IsTrue, IfOk, IsErrOf, [], codes};
 ghost use Rattle.std.specs.Option.{unwrap_or};
+ghost use Rattle.lists_and_answers.specs.Texts.{same_letters};
 ghost use Rattle.outside.specs.Paths.{normal, IsName};
-ghost use Rattle.outside.specs.Names.{cut_last, behind_last, folder_part, last_part, ending_of, same_letters, kind_of, extension_of, is_raw, has_no_lower, header_ending, header_of};
+ghost use Rattle.outside.specs.Names.{cut_last, behind_last, folder_part, last_part, ending_of, kind_of, extension_of, is_raw, has_no_lower, header_ending, header_of};
 ghost use Rattle.outside.specs.declared.name.NameFault.TheVariants as name_fault;
 
 use crate::path::normalise;
@@ -10,8 +11,8 @@ use lists_and_answers::Items;
 use std::alloc::{AllocError, Global};
 use std::marker::Model;
 
-// The greatest length of a name in bytes, before and after it is normalised.
-const LONGEST: usize = 4096;
+/// The greatest length of a name in bytes, before and after it is normalised.
+pub const LONGEST_NAME: usize = 4096;
 
 /// Why a text gives no name.
 #[derive(Clone, Copy, Debug, PartialEq, Eq)]
@@ -178,7 +179,7 @@ impl Name {
         if text.is_empty() {
             return Err(NameFault::Empty);
         }
-        if text.len() > LONGEST {
+        if text.len() > LONGEST_NAME {
             return Err(NameFault::TooLong);
         }
         Ok(Name {

@@ -163,8 +163,8 @@ type Near = (i16, u32, i16, (i64, i64, i64, i64), bool);
 
 /// A thousandth of a spacing is 1,500,000,000,000 ticks in latitude, and as often that in longitude as the zone says.
 /// Where columns are widened, the first one stays in its place, and the last is moved by 120 times as much. Where lines
-/// are widened, the last one stays, and the first is moved by 120 times as much: the upper edge then moves by 120.5 times
-/// as much.
+/// are widened, the last one stays, and the first is moved by 120 times as much: the upper edge then moves by 120.5
+/// times as much.
 const NEAR: [Near; 19] = [
     (0, 121, 300, (1_500_000_000_000, 0, 0, 0), true),
     (0, 121, 300, (1_500_000_000_001, 0, 0, 0), false),

@@ -7,7 +7,8 @@ use outside::Name;
 use std::alloc::{AllocError, Global};
 use std::test::*;
 use translate_plan::{Driver, Plan, document, plan};
-use vrt_profile::{Document, write};
+use vrt_profile::Document;
+use vrt_writing::write;
 
 /// The files, the first of which is the source, what is asked for, and the text of the document.
 type Row<'a> = (Files<'a>, &'a str, &'a [u8]);

@@ -7,8 +7,9 @@ use std::process::Abort;
 use std::test::*;
 use translate_plan::{Plan, plan};
 
-/// The source, what is asked for, and what is planned: the name of a refusal, or the sides of the output, of the column,
-/// the line and the sides of the window; and then the source's number from 0, the type and NODATA or `-` of each band.
+/// The source, what is asked for, and what is planned: the name of a refusal, or the sides of the output, of the
+/// column, the line and the sides of the window; and then the source's number from 0, the type and NODATA or `-` of
+/// each band.
 pub type Row<'a> = (&'a str, &'a str, &'a str);
 
 fn is_text(word: Option<&str>, text: &str) -> bool {

@@ -2,14 +2,15 @@
 ghost use Rattle.std.specs.Prelude.{◌≡◌, ℕ, List, [], ◌∷◌, Option, Some, IfOk, IfErr, OnErr};
 ghost use Rattle.outside.specs.Outside.{Files};
 ghost use Rattle.outside.specs.Causes.{HasCause};
-ghost use Rattle.vrt_profile.specs.Spelled.{spelled};
+ghost use Rattle.vrt_writing.specs.Spelled.{spelled};
 ghost use Rattle.error_lines.specs.Steps.{Publishes, Goes, all_done};
 ghost use Rattle.published_files.specs.Documents.{IsOfFolder};
 
 use error_lines::Fault;
 use outside::{Folder, Name, WriteFault};
 use std::alloc::{AllocError, Global};
-use vrt_profile::{Document, write};
+use vrt_profile::Document;
+use vrt_writing::write;
 
 // A fault of writing as that of the run.
 fn write_fault(fault: WriteFault) -> Fault

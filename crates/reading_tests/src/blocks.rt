@@ -1,9 +1,14 @@
+use crate::fixtures::none_wrong;
 use band_blocks::Block;
 use geotransform::{PixelType, Sample, holds};
-use std::alloc::{AllocError, Global};
+use std::alloc::Global;
+use std::process::Abort;
 use std::test::*;
 
-const EXTREMES: [(PixelType, [Sample; 4]); 8] = [
+// A type, and samples of it.
+type Extreme = (PixelType, [Sample; 4]);
+
+const EXTREMES: [Extreme; 8] = [
     (PixelType::Byte, [0, 255, 1, 254]),
     (PixelType::Int8, [-128, 127, -1, 126]),
     (PixelType::UInt16, [0, 65_535, 256, 255]),
@@ -33,6 +38,10 @@ const EXTREMES: [(PixelType, [Sample; 4]); 8] = [
     ),
 ];
 
+fn extremes() -> &'static [Extreme] {
+    &EXTREMES
+}
+
 fn put(block: &mut Block, at: u32, sample: Sample) {
     if at < block.len() && holds(block.kind(), sample) {
         block.set(at, sample);
@@ -56,104 +65,124 @@ fn pair_at(block: &Block, at: u32) -> Option<[Sample; 2]> {
     Some(pair)
 }
 
-// Whether a new block of a type has zeros.
-fn begins(alloc: Global, kind: PixelType) -> Result<bool, AllocError> {
-    let block = Block::new(alloc, kind, 3)?;
-    Ok(
-        block.kind() == kind
-            && block.len() == 3
-            && pair_at(&block, 1) == Some([0, 0])
-            && sample_at(&block, 0) == Some(0),
-    )
+// Whether a block of a type has three zeros.
+fn has_zeros(block: &Block, kind: PixelType) -> bool {
+    block.kind() == kind
+        && block.len() == 3
+        && pair_at(block, 1) == Some([0, 0])
+        && sample_at(block, 0) == Some(0)
 }
 
-// The first type of which that isn't so, or how many types there are.
-fn first_begun(alloc: Global) -> Result<usize, AllocError> {
-    for (at, (kind, _)) in EXTREMES.iter().enumerate() {
-        if !begins(alloc, *kind)? {
-            return Ok(at);
+// Whether a new block of a type has zeros.
+fn begins<R: Abort>(rt: &R, alloc: Global, kind: PixelType) -> bool {
+    let block = Block::new(alloc, kind, 3).expect(rt, "memory");
+    has_zeros(&block, kind)
+}
+
+// The first type of which that isn't so.
+fn first_begun<R: Abort>(rt: &R, alloc: Global, rows: &[Extreme]) -> Option<usize> {
+    for (at, row) in rows.iter().enumerate() {
+        if !begins(rt, alloc, row.0) {
+            return Some(at);
         }
     }
-    Ok(EXTREMES.len())
+    None
 }
 
 #[test]
-fn begins_with_zeros(rt: HostRuntime) -> Result<(), Fail> {
-    assert_eq!(rt; first_begun(rt.alloc())?, EXTREMES.len());
-    Ok(())
+fn begins_with_zeros(rt: HostRuntime) {
+    none_wrong(&rt, first_begun(&rt, rt.alloc(), extremes()));
 }
 
 // A block of these samples, each of which was put.
-fn block_of(alloc: Global, kind: PixelType, samples: &[Sample; 4]) -> Result<Block, AllocError> {
-    let mut block = Block::new(alloc, kind, 4)?;
+fn block_of<R: Abort>(rt: &R, alloc: Global, row: &Extreme) -> Block {
+    let (kind, samples) = *row;
+    let mut block = Block::new(alloc, kind, 4).expect(rt, "memory");
     for at in 0..4 {
         put(&mut block, at, samples[at as usize]);
     }
-    Ok(block)
+    block
+}
+
+// Whether a block has these samples.
+fn has_samples(block: &Block, samples: &[Sample; 4]) -> bool {
+    for at in 0..4 {
+        if sample_at(block, at) != Some(samples[at as usize]) {
+            return false;
+        }
+    }
+    pair_at(block, 2) == Some([samples[2], samples[3]])
 }
 
 // Whether a block keeps what was put.
-fn keeps(alloc: Global, kind: PixelType, samples: &[Sample; 4]) -> Result<bool, AllocError> {
-    let block = block_of(alloc, kind, samples)?;
-    for at in 0..4 {
-        if sample_at(&block, at) != Some(samples[at as usize]) {
-            return Ok(false);
-        }
-    }
-    Ok(pair_at(&block, 2) == Some([samples[2], samples[3]]))
+fn keeps<R: Abort>(rt: &R, alloc: Global, row: &Extreme) -> bool {
+    let block = block_of(rt, alloc, row);
+    has_samples(&block, &row.1)
 }
 
-// The first type of which a block doesn't, or how many types there are.
-fn first_lost(alloc: Global) -> Result<usize, AllocError> {
-    for (at, (kind, samples)) in EXTREMES.iter().enumerate() {
-        if !keeps(alloc, *kind, samples)? {
-            return Ok(at);
+// The first type of which a block doesn't keep what was put.
+fn first_lost<R: Abort>(rt: &R, alloc: Global, rows: &[Extreme]) -> Option<usize> {
+    for (at, row) in rows.iter().enumerate() {
+        if !keeps(rt, alloc, row) {
+            return Some(at);
         }
     }
-    Ok(EXTREMES.len())
+    None
 }
 
 #[test]
-fn keeps_extremes(rt: HostRuntime) -> Result<(), Fail> {
-    assert_eq!(rt; first_lost(rt.alloc())?, EXTREMES.len());
-    Ok(())
+fn keeps_extremes(rt: HostRuntime) {
+    none_wrong(&rt, first_lost(&rt, rt.alloc(), extremes()));
 }
 
-// Whether the middle of a block goes into the middle of another, and into one of its own.
-fn moves(alloc: Global, kind: PixelType, samples: &[Sample; 4]) -> Result<bool, AllocError> {
-    let mut block = block_of(alloc, kind, samples)?;
+// Packs the middle of a block of four, and puts it over its back.
+fn moved<R: Abort>(rt: &R, alloc: Global, block: &mut Block) -> Option<Block> {
     if block.len() != 4 {
-        return Ok(false);
+        return None;
     }
     let mut run = [7; 2];
     block.copy_run(1, &mut run);
-    let packed = Block::pack(alloc, block.kind(), &run)?;
+    let packed = Block::pack(alloc, block.kind(), &run).expect(rt, "memory");
     block.write_run(2, &run);
-    Ok(
-        packed.kind() == kind
-            && pair_at(&packed, 0) == Some([samples[1], samples[2]])
-            && pair_at(&block, 0) == Some([samples[0], samples[1]])
-            && pair_at(&block, 2) == Some([samples[1], samples[2]]),
-    )
+    Some(packed)
 }
 
-// The first type of which it doesn't, or how many types there are.
-fn first_unmoved(alloc: Global) -> Result<usize, AllocError> {
-    for (at, (kind, samples)) in EXTREMES.iter().enumerate() {
-        if !moves(alloc, *kind, samples)? {
-            return Ok(at);
+// Whether a block is of a type and begins with these samples.
+fn begins_with(block: &Block, kind: PixelType, pair: [Sample; 2]) -> bool {
+    block.kind() == kind && pair_at(block, 0) == Some(pair)
+}
+
+// Whether the middle of a block goes into another, and over the back of its own.
+fn moves<R: Abort>(rt: &R, alloc: Global, row: &Extreme) -> bool {
+    let (kind, samples) = *row;
+    let mut block = block_of(rt, alloc, row);
+    let Some(packed) = moved(rt, alloc, &mut block) else {
+        return false;
+    };
+    begins_with(&packed, kind, [samples[1], samples[2]])
+        && begins_with(&block, kind, [samples[0], samples[1]])
+        && pair_at(&block, 2) == Some([samples[1], samples[2]])
+}
+
+// The first type of which it doesn't.
+fn first_unmoved<R: Abort>(rt: &R, alloc: Global, rows: &[Extreme]) -> Option<usize> {
+    for (at, row) in rows.iter().enumerate() {
+        if !moves(rt, alloc, row) {
+            return Some(at);
         }
     }
-    Ok(EXTREMES.len())
+    None
 }
 
 #[test]
-fn moves_runs(rt: HostRuntime) -> Result<(), Fail> {
-    assert_eq!(rt; first_unmoved(rt.alloc())?, EXTREMES.len());
-    Ok(())
+fn moves_runs(rt: HostRuntime) {
+    none_wrong(&rt, first_unmoved(&rt, rt.alloc(), extremes()));
 }
 
-const CLAMPED: [(PixelType, [Sample; 2]); 8] = [
+// A type, and its least and its greatest sample.
+type Ends = (PixelType, [Sample; 2]);
+
+const CLAMPED: [Ends; 8] = [
     (PixelType::Byte, [0, 255]),
     (PixelType::Int8, [-128, 127]),
     (PixelType::UInt16, [0, 65_535]),
@@ -168,27 +197,24 @@ const CLAMPED: [(PixelType, [Sample; 2]); 8] = [
 ];
 
 // Whether samples beyond the range of a type become these.
-fn clamps(alloc: Global, kind: PixelType, wanted: [Sample; 2]) -> Result<bool, AllocError> {
-    let block = Block::pack_clamped(
-        alloc,
-        kind,
-        &[-20_000_000_000_000_000_000, 20_000_000_000_000_000_000],
-    )?;
-    Ok(block.kind() == kind && pair_at(&block, 0) == Some(wanted))
+fn clamps<R: Abort>(rt: &R, alloc: Global, row: &Ends) -> bool {
+    let (kind, wanted) = *row;
+    let beyond: [Sample; 2] = [-20_000_000_000_000_000_000, 20_000_000_000_000_000_000];
+    let block = Block::pack_clamped(alloc, kind, &beyond).expect(rt, "memory");
+    begins_with(&block, kind, wanted)
 }
 
-// The first type of which they don't, or how many types there are.
-fn first_unclamped(alloc: Global) -> Result<usize, AllocError> {
-    for (at, (kind, wanted)) in CLAMPED.iter().enumerate() {
-        if !clamps(alloc, *kind, *wanted)? {
-            return Ok(at);
+// The first type of which they don't.
+fn first_unclamped<R: Abort>(rt: &R, alloc: Global, rows: &[Ends]) -> Option<usize> {
+    for (at, row) in rows.iter().enumerate() {
+        if !clamps(rt, alloc, row) {
+            return Some(at);
         }
     }
-    Ok(CLAMPED.len())
+    None
 }
 
 #[test]
-fn clamps_to_the_type(rt: HostRuntime) -> Result<(), Fail> {
-    assert_eq!(rt; first_unclamped(rt.alloc())?, CLAMPED.len());
-    Ok(())
+fn clamps_to_the_type(rt: HostRuntime) {
+    none_wrong(&rt, first_unclamped(&rt, rt.alloc(), &CLAMPED));
 }

@@ -1,9 +1,9 @@
 use crate::calls::is_written;
+use crate::fixtures::{calm_folder, is_number, name_of};
 use crate::folders::{PARTS, first_failing, folder_of, has_bytes, listed};
-use outside::{
-    CalmFolder, Failed, Failing, Folder, MemFolder, MemSink, Name, NameFault, Never, Sink, put_all,
-};
-use std::alloc::{AllocError, Global};
+use outside::{CalmFolder, Failed, Failing, Folder, MemFolder, MemSink, Name, Sink, put_all};
+use std::alloc::Global;
+use std::process::Abort;
 use std::test::*;
 
 // Whether the calls before a number are made, and that call fails: it is counted, no draft is left, and nothing is put.
@@ -24,11 +24,11 @@ enum Trial {
     Wrong,
 }
 
-fn tried(alloc: Global, number: u64) -> Result<Trial, NameFault> {
-    let a = Name::read(alloc, "a")?;
-    let b = Name::read(alloc, "b")?;
-    let mut folder = folder_of(alloc, &a, &[Failing::Call(number)])?;
-    Ok(judged(&mut folder, &a, &b))
+fn tried<R: Abort>(rt: &R, alloc: Global, number: u64) -> Trial {
+    let a = name_of(rt, alloc, "a");
+    let b = name_of(rt, alloc, "b");
+    let mut folder = folder_of(rt, alloc, &a, &[Failing::Call(number)]);
+    judged(&mut folder, &a, &b)
 }
 
 fn judged(folder: &mut MemFolder, a: &Name, b: &Name) -> Trial {
@@ -41,21 +41,21 @@ fn judged(folder: &mut MemFolder, a: &Name, b: &Name) -> Trial {
     Trial::Wrong
 }
 
-// How many calls fail in turn, each cleanly, until a run ends in which none failed; 0 where one goes wrong.
-fn failing_calls(alloc: Global) -> u64 {
+// How many calls fail in turn, each cleanly, until a run ends in which none failed; None where one goes wrong.
+fn failing_calls<R: Abort>(rt: &R, alloc: Global) -> Option<u64> {
     for number in 1..1000u64 {
-        match tried(alloc, number) {
-            Ok(Trial::Failed) => {}
-            Ok(Trial::Whole) => return number - 1,
-            _ => return 0,
+        match tried(rt, alloc, number) {
+            Trial::Failed => {}
+            Trial::Whole => return Some(number - 1),
+            Trial::Wrong => return None,
         }
     }
-    0
+    None
 }
 
 #[test]
 fn calls_fail_in_turn(rt: HostRuntime) {
-    assert!(rt; failing_calls(rt.alloc()) == 8);
+    is_number(&rt, failing_calls(&rt, rt.alloc()), 8);
 }
 
 // Whether a draft counts from its creation on until it is published or given up.
@@ -87,31 +87,27 @@ fn are_names(held: &[Name], names: [&str; 2]) -> bool {
 }
 
 // Whether a folder tells its drafts and its names, each once.
-fn tells(alloc: Global) -> Result<bool, NameFault> {
-    let a = Name::read(alloc, "a")?;
-    let b = Name::read(alloc, "b")?;
-    let mut folder = CalmFolder::new(alloc, Never);
-    folder.put(&b, b"abc")?;
-    let counts = counts_drafts(&mut folder, &a) && is_written(&mut folder, &b);
-    Ok(counts && has_names(&folder, ["b", "a"]))
+fn tells<R: Abort>(rt: &R, alloc: Global) -> bool {
+    let a = name_of(rt, alloc, "a");
+    let b = name_of(rt, alloc, "b");
+    let mut folder = calm_folder(rt, alloc, &[("b", b"abc".as_slice())]);
+    counts_drafts(&mut folder, &a) && is_written(&mut folder, &b) && has_names(&folder, ["b", "a"])
 }
 
 #[test]
-fn drafts_and_names_are_told(rt: HostRuntime) -> Result<(), NameFault> {
-    assert!(rt; tells(rt.alloc())?);
-    Ok(())
+fn drafts_and_names_are_told(rt: HostRuntime) {
+    assert!(rt; tells(&rt, rt.alloc()));
 }
 
 // Whether a sink gets the first byte of the part at which it fails, and goes on behind it.
-fn gets_fronts(alloc: Global) -> Result<bool, AllocError> {
-    let mut sink = MemSink::in_part(alloc, listed(alloc, &[Failing::Call(3)])?, 1);
+fn gets_fronts<R: Abort>(rt: &R, alloc: Global) -> bool {
+    let mut sink = MemSink::in_part(alloc, listed(rt, alloc, &[Failing::Call(3)]), 1);
     let first = put_all(&mut sink, &PARTS) == Err(Failed) && sink.got() == b"abc".as_slice();
     let second = sink.put(b"d") == Ok(()) && sink.got() == b"abcd".as_slice();
-    Ok(first && second && sink.faults() == 1)
+    first && second && sink.faults() == 1
 }
 
 #[test]
-fn a_sink_takes_a_part(rt: HostRuntime) -> Result<(), AllocError> {
-    assert!(rt; gets_fronts(rt.alloc())?);
-    Ok(())
+fn a_sink_takes_a_part(rt: HostRuntime) {
+    assert!(rt; gets_fronts(&rt, rt.alloc()));
 }

@@ -1,22 +1,24 @@
 use crate::calls::{has_two, is_written, open_fault, read_two, write_file};
+use crate::fixtures::{calm_folder, name_of, none_wrong};
 use lists_and_answers::Items;
 use outside::{
-    CalmFolder, CalmInput, CalmSink, Failed, Failing, Folder, Input, Listed, MemFolder, MemInput,
-    MemSink, MemoryFolder, Method, Name, NameFault, Never, OpenFault, Schedule, Sink, StdInput,
-    StdSink, Tally, put_all,
+    CalmInput, CalmSink, Failed, Failing, Folder, Input, Listed, MemFolder, MemInput, MemSink,
+    MemoryFolder, Method, Name, Never, OpenFault, Schedule, Sink, StdInput, StdSink, Tally,
+    put_all,
 };
-use std::alloc::{AllocError, Global};
+use std::alloc::Global;
 use std::cell::Cell;
 use std::io::{self, ErrorKind, Read, Write};
+use std::process::Abort;
 use std::test::*;
 
 // These calls are to fail.
-pub fn listed(alloc: Global, calls: &[Failing]) -> Result<Listed, AllocError> {
+pub fn listed<R: Abort>(rt: &R, alloc: Global, calls: &[Failing]) -> Listed {
     let mut failing = Items::new(alloc);
     for call in calls {
-        failing.push(*call)?;
+        failing.push(*call).expect(rt, "memory");
     }
-    Ok(Listed::new(failing))
+    Listed::new(failing)
 }
 
 // Reads `a`, and copies two of its bytes and three more to `b`: the method whose call fails first.
@@ -28,10 +30,10 @@ pub fn first_failing(folder: &mut MemFolder, a: &Name, b: &Name) -> Option<Metho
 }
 
 // A folder with `abc` in the file `a`, of which these calls fail.
-pub fn folder_of(alloc: Global, a: &Name, calls: &[Failing]) -> Result<MemFolder, AllocError> {
-    let mut folder = MemFolder::new(alloc, listed(alloc, calls)?);
-    folder.put(a, b"abc")?;
-    Ok(folder)
+pub fn folder_of<R: Abort>(rt: &R, alloc: Global, a: &Name, calls: &[Failing]) -> MemFolder {
+    let mut folder = MemFolder::new(alloc, listed(rt, alloc, calls));
+    folder.put(a, b"abc").expect(rt, "memory");
+    folder
 }
 
 // Whether a file of a folder has these bytes.
@@ -49,15 +51,15 @@ fn fails_once(folder: &mut MemFolder, a: &Name, b: &Name, method: Method) -> boo
 }
 
 // Whether this call of a folder fails, which is one of this method.
-fn fails_in(alloc: Global, failing: Failing, method: Method) -> Result<bool, NameFault> {
-    let a = Name::read(alloc, "a")?;
-    let b = Name::read(alloc, "b")?;
-    let mut folder = folder_of(alloc, &a, &[failing])?;
-    Ok(fails_once(&mut folder, &a, &b, method))
+fn fails_in<R: Abort>(rt: &R, alloc: Global, failing: Failing, method: Method) -> bool {
+    let a = name_of(rt, alloc, "a");
+    let b = name_of(rt, alloc, "b");
+    let mut folder = folder_of(rt, alloc, &a, &[failing]);
+    fails_once(&mut folder, &a, &b, method)
 }
 
 // The methods of a folder, as `first_failing` calls them.
-static METHODS: [Method; 8] = [
+const METHODS: [Method; 8] = [
     Method::Open,
     Method::ReadAt,
     Method::Create,
@@ -68,22 +70,25 @@ static METHODS: [Method; 8] = [
     Method::Publish,
 ];
 
-// The first of the methods whose call doesn't fail, or how many methods there are.
-fn first_unfailed(alloc: Global) -> Result<usize, NameFault> {
-    for (at, method) in METHODS.iter().enumerate() {
-        let number = (at as u64).saturating_add(1);
-        let first = fails_in(alloc, Failing::Of(*method, 1), *method)?;
-        if !first || !fails_in(alloc, Failing::Call(number), *method)? {
-            return Ok(at);
+// Whether the first call of a method fails, and the call of its number.
+fn fails_both<R: Abort>(rt: &R, alloc: Global, method: Method, number: u64) -> bool {
+    fails_in(rt, alloc, Failing::Of(method, 1), method)
+        && fails_in(rt, alloc, Failing::Call(number), method)
+}
+
+// The first of the methods whose call doesn't fail.
+fn first_unfailed<R: Abort>(rt: &R, alloc: Global, methods: &[Method]) -> Option<usize> {
+    for (at, method) in methods.iter().enumerate() {
+        if !fails_both(rt, alloc, *method, (at as u64).saturating_add(1)) {
+            return Some(at);
         }
     }
-    Ok(METHODS.len())
+    None
 }
 
 #[test]
-fn each_listed_call_fails(rt: HostRuntime) -> Result<(), NameFault> {
-    assert_eq!(rt; first_unfailed(rt.alloc())?, METHODS.len());
-    Ok(())
+fn each_listed_call_fails(rt: HostRuntime) {
+    none_wrong(&rt, first_unfailed(&rt, rt.alloc(), &METHODS));
 }
 
 // Whether a read fails.
@@ -104,25 +109,26 @@ fn view_fails(folder: &mut MemFolder, a: &Name) -> bool {
 }
 
 // Whether the third and the fourth read fail, of which the first comes in a view.
-fn counts_on(alloc: Global) -> Result<bool, NameFault> {
-    let a = Name::read(alloc, "a")?;
+fn fails_in_turn(folder: &mut MemFolder, a: &Name) -> bool {
+    has_two(folder, a, *b"bc")
+        && view_fails(folder, a)
+        && fails_to_read(folder, a)
+        && has_two(folder, a, *b"bc")
+}
+
+fn counts_on<R: Abort>(rt: &R, alloc: Global) -> bool {
+    let a = name_of(rt, alloc, "a");
     let failing = [
         Failing::Of(Method::ReadAt, 3),
         Failing::Of(Method::ReadAt, 4),
     ];
-    let mut folder = folder_of(alloc, &a, &failing)?;
-    Ok(
-        has_two(&mut folder, &a, *b"bc")
-            && view_fails(&mut folder, &a)
-            && fails_to_read(&mut folder, &a)
-            && has_two(&mut folder, &a, *b"bc"),
-    )
+    let mut folder = folder_of(rt, alloc, &a, &failing);
+    fails_in_turn(&mut folder, &a)
 }
 
 #[test]
-fn a_view_counts_on(rt: HostRuntime) -> Result<(), NameFault> {
-    assert!(rt; counts_on(rt.alloc())?);
-    Ok(())
+fn a_view_counts_on(rt: HostRuntime) {
+    assert!(rt; counts_on(&rt, rt.alloc()));
 }
 
 // Whether a folder has opened, read and written so many times.
@@ -152,48 +158,48 @@ fn counts_calls<F: Folder>(folder: &mut Tally<F>, a: &Name, b: &Name) -> bool {
 }
 
 // Whether a tally counts, and its folder gets what was put.
-fn tallies(alloc: Global) -> Result<bool, NameFault> {
-    let a = Name::read(alloc, "a")?;
-    let b = Name::read(alloc, "b")?;
-    let mut inner = CalmFolder::new(alloc, Never);
-    inner.put(&a, b"abc")?;
-    let mut folder = Tally::new(inner);
+fn tallies<R: Abort>(rt: &R, alloc: Global) -> bool {
+    let a = name_of(rt, alloc, "a");
+    let b = name_of(rt, alloc, "b");
+    let mut folder = Tally::new(calm_folder(rt, alloc, &[("a", b"abc".as_slice())]));
     let counts = counts_calls(&mut folder, &a, &b);
-    Ok(counts && has_bytes(&folder.into_inner(), &b, b"\0xy\0z"))
+    counts && has_bytes(&folder.into_inner(), &b, b"\0xy\0z")
 }
 
 #[test]
-fn a_tally_counts(rt: HostRuntime) -> Result<(), NameFault> {
-    assert!(rt; tallies(rt.alloc())?);
-    Ok(())
+fn a_tally_counts(rt: HostRuntime) {
+    assert!(rt; tallies(&rt, rt.alloc()));
 }
 
 const LETTERS: &[u8] = b"abcdefg";
 
+fn letters<R: Abort>(rt: &R, alloc: Global) -> Vec<u8> {
+    LETTERS.to_vec(alloc).expect(rt, "memory")
+}
+
 // Whether an input of four and three bytes gives them, and then nothing.
-fn gives_all(alloc: Global) -> Result<bool, AllocError> {
+fn gives_all<R: Abort>(rt: &R, alloc: Global) -> bool {
     let mut out = [0; 4];
-    let mut calm = CalmInput::new(LETTERS.to_vec(alloc)?, Never);
+    let mut calm = CalmInput::new(letters(rt, alloc), Never);
     let first = calm.take(&mut out) == Ok(4) && out == *b"abcd";
     let second = calm.take(&mut out) == Ok(3) && calm.left().is_empty();
-    Ok(first && second && calm.take(&mut out) == Ok(0))
+    first && second && calm.take(&mut out) == Ok(0)
 }
 
 // Whether an input gives two bytes at a time, and none at the call that fails.
-fn gives_pieces(alloc: Global) -> Result<bool, AllocError> {
+fn gives_pieces<R: Abort>(rt: &R, alloc: Global) -> bool {
     let mut out = [0; 4];
-    let schedule = listed(alloc, &[Failing::Of(Method::Take, 2)])?;
-    let mut pieces = MemInput::in_pieces(LETTERS.to_vec(alloc)?, 2, schedule);
+    let schedule = listed(rt, alloc, &[Failing::Of(Method::Take, 2)]);
+    let mut pieces = MemInput::in_pieces(letters(rt, alloc), 2, schedule);
     let first = pieces.take(&mut out) == Ok(2);
     let second = pieces.take(&mut out) == Err(Failed) && pieces.left() == b"cdefg".as_slice();
     let third = pieces.take(&mut out) == Ok(2) && pieces.left() == b"efg".as_slice();
-    Ok(first && second && third)
+    first && second && third
 }
 
 #[test]
-fn inputs_give_pieces(rt: HostRuntime) -> Result<(), AllocError> {
-    assert!(rt; gives_all(rt.alloc())? && gives_pieces(rt.alloc())?);
-    Ok(())
+fn inputs_give_pieces(rt: HostRuntime) {
+    assert!(rt; gives_all(&rt, rt.alloc()) && gives_pieces(&rt, rt.alloc()));
 }
 
 pub const PARTS: [&[u8]; 3] = [b"ab", b"", b"cd"];
@@ -207,17 +213,16 @@ fn gets_all(alloc: Global) -> bool {
 }
 
 // Whether a sink gets the parts before the call that fails, and all of them at the next time.
-fn gets_parts(alloc: Global) -> Result<bool, AllocError> {
-    let mut sink = MemSink::new(alloc, listed(alloc, &[Failing::Call(3)])?);
+fn gets_parts<R: Abort>(rt: &R, alloc: Global) -> bool {
+    let mut sink = MemSink::new(alloc, listed(rt, alloc, &[Failing::Call(3)]));
     let first = put_all(&mut sink, &PARTS) == Err(Failed) && sink.got() == b"ab".as_slice();
     let second = put_all(&mut sink, &PARTS) == Ok(()) && sink.got() == b"ababcd".as_slice();
-    Ok(first && second)
+    first && second
 }
 
 #[test]
-fn sinks_get_parts(rt: HostRuntime) -> Result<(), AllocError> {
-    assert!(rt; gets_all(rt.alloc()) && gets_parts(rt.alloc())?);
-    Ok(())
+fn sinks_get_parts(rt: HostRuntime) {
+    assert!(rt; gets_all(rt.alloc()) && gets_parts(&rt, rt.alloc()));
 }
 
 // A stream of which the first call is interrupted and each later one moves one byte, up to a number.

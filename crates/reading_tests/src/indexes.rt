@@ -1,17 +1,19 @@
-// Bands of more than 16 sources: they are indexed by lines, and each line's list has to be the band's own, in the order of
-// the document.
+// Bands of more than 16 sources: they are indexed by lines, and each line's list has to be the band's own, in the order
+// of the document.
+use crate::fixtures::{File, add, calm_folder, none_wrong};
 use crate::reads::{Job, Picture, Place, shows};
 use geotransform::Sample;
-use outside::{CalmFolder, Name, Never};
+use outside::CalmFolder;
 use std::alloc::Global;
+use std::process::Abort;
 use std::test::*;
 
-// A source: its first column, its top in tenths of a line, its columns, and its height in tenths of a line. It shows the
-// columns and lines of the file from the first on.
+// A source: its first column, its top in tenths of a line, its columns, and its height in tenths of a line. It shows
+// the columns and lines of the file from the first on.
 type Source = (u32, u32, u32, u32);
 
-// They begin and end above and below the centres of lines, overlap, and stand in no order; one has a line alone, and one
-// lies between two centres.
+// They begin and end above and below the centres of lines, overlap, and stand in no order; one has a line alone, and
+// one lies between two centres.
 const FIRST: [Source; 20] = [
     (128, 30, 9, 35),
     (135, 164, 10, 72),
@@ -100,63 +102,80 @@ impl Picture for Bands<'_> {
     }
 }
 
-// The document's text of a source.
-fn push_source(alloc: Global, text: &mut Vec<u8>, source: Source) -> Result<(), Fail> {
-    let (left, top, columns, height) = source;
+// The attributes of a source's size, whose height is in tenths of a line.
+fn size_of<R: Abort>(rt: &R, alloc: Global, columns: u32, height: u32) -> String {
     let (lines, tenths) = (height / 10, height % 10);
+    format!(in alloc; "xSize=\"{columns}\" ySize=\"{lines}.{tenths}\"/>").expect(rt, "memory")
+}
+
+// The attributes of a source's corner, whose top is in tenths of a line.
+fn corner_of<R: Abort>(rt: &R, alloc: Global, left: u32, top: u32) -> String {
     let (line, tenth) = (top / 10, top % 10);
-    let size = format!(in alloc; "xSize=\"{columns}\" ySize=\"{lines}.{tenths}\"/>")?;
-    let place = format!(in alloc; "<DstRect xOff=\"{left}\" yOff=\"{line}.{tenth}\" ")?;
-    text.extend_from_slice(
+    format!(in alloc; "<DstRect xOff=\"{left}\" yOff=\"{line}.{tenth}\" ").expect(rt, "memory")
+}
+
+// The document's text of a source.
+fn push_source<R: Abort>(rt: &R, alloc: Global, text: &mut Vec<u8>, source: &Source) {
+    let (left, top, columns, height) = *source;
+    let size = size_of(rt, alloc, columns, height);
+    let corner = corner_of(rt, alloc, left, top);
+    add(
+        rt,
+        text,
         b"<SimpleSource><SourceFilename relativeToVRT=\"1\">a.bil</SourceFilename><SrcRect xOff=\"0\" yOff=\"0\" ",
-    )?;
-    text.extend_from_slice(size.as_bytes())?;
-    text.extend_from_slice(place.as_bytes())?;
-    text.extend_from_slice(size.as_bytes())?;
-    text.extend_from_slice(b"</SimpleSource>")?;
-    Ok(())
+    );
+    add(rt, text, size.as_bytes());
+    add(rt, text, corner.as_bytes());
+    add(rt, text, size.as_bytes());
+    add(rt, text, b"</SimpleSource>");
 }
 
 // The document's text of a band.
-fn push_band(alloc: Global, text: &mut Vec<u8>, sources: &[Source]) -> Result<(), Fail> {
-    text.extend_from_slice(b"<VRTRasterBand dataType=\"Byte\"><NoDataValue>255</NoDataValue>")?;
+fn push_band<R: Abort>(rt: &R, alloc: Global, text: &mut Vec<u8>, sources: &[Source]) {
+    add(
+        rt,
+        text,
+        b"<VRTRasterBand dataType=\"Byte\"><NoDataValue>255</NoDataValue>",
+    );
     for source in sources {
-        push_source(alloc, text, *source)?;
+        push_source(rt, alloc, text, source);
     }
-    text.extend_from_slice(b"</VRTRasterBand>")?;
-    Ok(())
+    add(rt, text, b"</VRTRasterBand>");
 }
 
 // The mosaic, of 168 columns in two blocks, the first of which no source meets, and 40 lines.
-fn document(alloc: Global, bands: Bands) -> Result<Vec<u8>, Fail> {
-    let mut text = Vec::from_slice(
-        alloc,
+fn document<R: Abort>(rt: &R, alloc: Global, bands: Bands<'_>) -> Vec<u8> {
+    let mut text = Vec::new(alloc);
+    add(
+        rt,
+        &mut text,
         b"<VRTDataset rasterXSize=\"168\" rasterYSize=\"40\">",
-    )?;
-    push_band(alloc, &mut text, bands.first)?;
-    push_band(alloc, &mut text, bands.second)?;
-    text.extend_from_slice(b"</VRTDataset>")?;
-    Ok(text)
+    );
+    push_band(rt, alloc, &mut text, bands.first);
+    push_band(rt, alloc, &mut text, bands.second);
+    add(rt, &mut text, b"</VRTDataset>");
+    text
 }
 
 // The bytes of the file.
-fn raw(alloc: Global) -> Result<Vec<u8>, Fail> {
+fn raw<R: Abort>(rt: &R, alloc: Global) -> Vec<u8> {
     let mut bytes = Vec::new(alloc);
     for at in 0..24 * 12u32 {
-        bytes.push(sample(at % 24, at / 24))?;
+        add(rt, &mut bytes, &[sample(at % 24, at / 24)]);
     }
-    Ok(bytes)
+    bytes
 }
 
 // A folder that holds the mosaic and the file.
-fn holding(alloc: Global, bands: Bands) -> Result<CalmFolder, Fail> {
-    let text = document(alloc, bands)?;
-    let bytes = raw(alloc)?;
-    let mut folder = CalmFolder::new(alloc, Never);
-    folder.put(&Name::read(alloc, "m.vrt")?, text.as_slice())?;
-    folder.put(&Name::read(alloc, "a.bil")?, bytes.as_slice())?;
-    folder.put(&Name::read(alloc, "a.hdr")?, b"NROWS 12\nNCOLS 24\n")?;
-    Ok(folder)
+fn holding<R: Abort>(rt: &R, alloc: Global, bands: Bands<'_>) -> CalmFolder {
+    let text = document(rt, alloc, bands);
+    let bytes = raw(rt, alloc);
+    let files: [File<'_>; 3] = [
+        ("m.vrt", text.as_slice()),
+        ("a.bil", bytes.as_slice()),
+        ("a.hdr", b"NROWS 12\nNCOLS 24\n"),
+    ];
+    calm_folder(rt, alloc, &files)
 }
 
 // The first pixel makes the block in which no source lies, which fills a pool of one block; from then on that paints
@@ -180,30 +199,48 @@ const WINDOWS: [Place; 15] = [
     (0, (144, 16, 1, 1)),
 ];
 
-// The first capacity at which the windows show something else, or 0.
-fn first_wrong(alloc: Global, bands: Bands, windows: &[Place]) -> Result<u32, Fail> {
-    let mut folder = holding(alloc, bands)?;
-    for capacity in [1, 64, 1000] {
-        let job = Job {
-            name: "m.vrt",
-            size: (168, 40),
-            capacity,
-            windows,
-        };
-        if !shows(alloc, &mut folder, job, &bands)? {
-            return Ok(capacity);
+fn windows() -> &'static [Place] {
+    &WINDOWS
+}
+
+// Whether the windows show the bands through a lane of this capacity.
+fn are_right<R: Abort>(
+    rt: &R,
+    alloc: Global,
+    folder: &mut CalmFolder,
+    bands: Bands<'_>,
+    capacity: u32,
+) -> bool {
+    let job = Job {
+        name: "m.vrt",
+        size: (168, 40),
+        capacity,
+        windows: windows(),
+    };
+    shows(rt, alloc, folder, job, &bands)
+}
+
+// The first capacity at which the windows show something else.
+fn first_wrong<R: Abort>(
+    rt: &R,
+    alloc: Global,
+    bands: Bands<'_>,
+    capacities: &[u32],
+) -> Option<usize> {
+    let mut folder = holding(rt, alloc, bands);
+    for (at, capacity) in capacities.iter().enumerate() {
+        if !are_right(rt, alloc, &mut folder, bands, *capacity) {
+            return Some(at);
         }
     }
-    Ok(0)
+    None
 }
 
 #[test]
-fn indexed_bands_have_their_pixels(rt: HostRuntime) -> Result<(), Fail> {
+fn indexed_bands_have_their_pixels(rt: HostRuntime) {
     let bands = Bands {
         first: &FIRST,
         second: &SECOND,
     };
-    let wrong = first_wrong(rt.alloc(), bands, &WINDOWS)?;
-    assert!(rt; wrong == 0, "with {wrong} blocks");
-    Ok(())
+    none_wrong(&rt, first_wrong(&rt, rt.alloc(), bands, &[1, 64, 1000]));
 }

@@ -3,12 +3,14 @@ ghost use Rattle.catalog.specs.Drivers.{Dataset, driver_of};
 ghost use Rattle.band_blocks.specs.Keys.{IsKey};
 ghost use Rattle.band_blocks.specs.Open.{AreGood};
 
+use crate::fixtures::{File, add, calm_folder, cell, name_of, none_wrong, put};
 use band_blocks::{Block, BlockKey, LoadFault, OpenFiles, Steps, block_at, load_block};
 use catalog::{Catalog, open_all};
 use geotransform::Sample;
 use outside::{CalmFolder, Folder, Name, Never, Tally};
-use std::alloc::Global;
+use std::alloc::{AllocError, Global};
 use std::marker::Brand;
+use std::process::Abort;
 use std::sync::ledger::{Blank, Ledger};
 use std::test::*;
 
@@ -130,38 +132,46 @@ fn first_load<F: Folder, G: Folder>(
     alloc: Global,
     walked: &mut F,
     folder: &mut G,
-    name: &str,
+    name: &Name,
     place: (u32, u32, u32),
-) -> Result<Loaded, Fail> {
-    let name = Name::read(alloc, name)?;
+) -> Result<Loaded, AllocError> {
     let mut cat = Catalog::new(alloc);
-    let Ok(id) = open_all(alloc, &mut cat, walked, &name, false) else {
+    let Ok(id) = open_all(alloc, &mut cat, walked, name, false) else {
         return Ok(Loaded::NoWalk);
     };
     let mut files: OpenFiles<G> = OpenFiles::new(alloc)?;
     Ok(load_at(alloc, &cat, folder, &mut files, id, place))
 }
 
-// A folder that holds these files.
-fn holding(alloc: Global, files: &[(&str, &[u8])]) -> Result<CalmFolder, Fail> {
-    let mut folder = CalmFolder::new(alloc, Never);
-    for (name, bytes) in files {
-        folder.put(&Name::read(alloc, name)?, bytes)?;
-    }
-    Ok(folder)
-}
-
-// Whether a first load gives that where the files stay the same.
-fn answers(
+// Whether a first load gives that, once the catalog was walked over one folder, from another.
+fn gives<R: Abort, F: Folder, G: Folder>(
+    rt: &R,
     alloc: Global,
-    files: &[(&str, &[u8])],
+    walked: &mut F,
+    folder: &mut G,
     name: &str,
     place: (u32, u32, u32),
     want: Want<'_>,
-) -> Result<bool, Fail> {
-    let mut walked = holding(alloc, files)?;
-    let mut folder = holding(alloc, files)?;
-    Ok(first_load(alloc, &mut walked, &mut folder, name, place)?.is(want))
+) -> bool {
+    let name = name_of(rt, alloc, name);
+    match first_load(alloc, walked, folder, &name, place) {
+        Ok(loaded) => loaded.is(want),
+        Err(_) => false,
+    }
+}
+
+// Whether a first load gives that where the files stay the same.
+fn answers<R: Abort>(
+    rt: &R,
+    alloc: Global,
+    files: &[File<'_>],
+    name: &str,
+    place: (u32, u32, u32),
+    want: Want<'_>,
+) -> bool {
+    let mut walked = calm_folder(rt, alloc, files);
+    let mut folder = calm_folder(rt, alloc, files);
+    gives(rt, alloc, &mut walked, &mut folder, name, place, want)
 }
 
 // Each byte is its place.
@@ -194,74 +204,61 @@ const ROWS: [Row<'static>; 5] = [
     ("NROWS 2\nNCOLS 3\n", (0, 3, 0), Want::NoPixel),
 ];
 
-// The first row of the table that is loaded otherwise, or how many rows there are.
-fn first_unloaded(alloc: Global) -> Result<usize, Fail> {
-    for (at, (header, place, want)) in ROWS.iter().enumerate() {
-        let files = [("a.bil", PLACES.as_slice()), ("a.hdr", header.as_bytes())];
-        if !answers(alloc, &files, "a.bil", *place, *want)? {
-            return Ok(at);
+// Whether a row is loaded so.
+fn is_loaded<R: Abort>(rt: &R, alloc: Global, row: &Row<'_>) -> bool {
+    let (header, place, want) = *row;
+    let files: [File<'_>; 2] = [("a.bil", &PLACES), ("a.hdr", header.as_bytes())];
+    answers(rt, alloc, &files, "a.bil", place, want)
+}
+
+// The first row that is loaded otherwise.
+fn first_unloaded<R: Abort>(rt: &R, alloc: Global, rows: &[Row<'_>]) -> Option<usize> {
+    for (at, row) in rows.iter().enumerate() {
+        if !is_loaded(rt, alloc, row) {
+            return Some(at);
         }
     }
-    Ok(ROWS.len())
+    None
 }
 
 #[test]
-fn loads_rows(rt: HostRuntime) -> Result<(), Fail> {
-    assert_eq!(rt; first_unloaded(rt.alloc())?, ROWS.len());
-    Ok(())
+fn loads_rows(rt: HostRuntime) {
+    none_wrong(&rt, first_unloaded(&rt, rt.alloc(), &ROWS));
 }
 
-// A cell of one line of longitude and four points, whose elevations are 0, the null elevation, -5 and 5
-// from the north.
-fn cell(alloc: Global) -> Result<Vec<u8>, Fail> {
-    let mut file = vec![in alloc; b' '; 3428]?;
-    file[..33].copy_from_slice(b"UHL10100000E0200000N03000300NA  U");
-    file[47..56].copy_from_slice(b"000100040");
-    file[80..84].copy_from_slice(b"DSIU");
-    file[728..731].copy_from_slice(b"ACC");
-    file.extend_from_slice(&[0xaa, 0, 0, 0, 0, 0, 0, 0])?;
-    file.extend_from_slice(&[0, 5, 0x80, 5, 0xff, 0xff, 0x80, 0, 0, 0, 3, 0xb2])?;
-    Ok(file)
+// A tile, whose third sample of the second line is -2, and all others 0.
+fn tile<R: Abort>(rt: &R, alloc: Global) -> Vec<u8> {
+    let mut file = vec![in alloc; 0u8; 2406].expect(rt, "memory");
+    add(rt, &mut file, &[0xff, 0xfe]);
+    file.resize(2_884_802, 0).expect(rt, "memory");
+    file
 }
 
-// A tile of so many bytes, whose third sample of the second line is -2, and all others 0.
-fn tile(alloc: Global, len: usize) -> Result<Vec<u8>, Fail>
-    requires { 2408 < len }
-{
-    let mut file = vec![in alloc; 0u8; len]?;
-    file[2406..2408].copy_from_slice(&[0xff, 0xfe]);
-    Ok(file)
-}
-
-// Whether the column of a cell is loaded.
-fn loads_column(alloc: Global) -> Result<bool, Fail> {
-    let column = cell(alloc)?;
+// Whether the column of a cell is loaded, whose elevations are 0, the null elevation, -5 and 5 from the north.
+fn loads_column<R: Abort>(rt: &R, alloc: Global) -> bool {
+    let column = cell(rt, alloc, 0xb2);
+    let files: [File<'_>; 1] = [("c.dt0", column.as_slice())];
     let want = Want::Samples(4, &[0, -32767, -5, 5]);
-    answers(
-        alloc,
-        &[("c.dt0", column.as_slice())],
-        "c.dt0",
-        (0, 0, 2),
-        want,
-    )
+    answers(rt, alloc, &files, "c.dt0", (0, 0, 2), want)
 }
 
 // Whether a line of a tile is loaded.
-fn loads_line(alloc: Global) -> Result<bool, Fail> {
-    let lines = tile(alloc, 2_884_802)?;
-    let files = [("N00E000.hgt", lines.as_slice())];
+fn loads_line<R: Abort>(rt: &R, alloc: Global) -> bool {
+    let lines = tile(rt, alloc);
+    let files: [File<'_>; 1] = [("N00E000.hgt", lines.as_slice())];
     let want = Want::Samples(1201, &[0, 0, -2, 0, 0]);
-    answers(alloc, &files, "N00E000.hgt", (0, 5, 1), want)
+    answers(rt, alloc, &files, "N00E000.hgt", (0, 5, 1), want)
 }
 
 #[test]
-fn loads_columns_and_lines(rt: HostRuntime) -> Result<(), Fail> {
-    assert!(rt; loads_column(rt.alloc())? && loads_line(rt.alloc())?);
-    Ok(())
+fn loads_columns_and_lines(rt: HostRuntime) {
+    assert!(rt; loads_column(&rt, rt.alloc()) && loads_line(&rt, rt.alloc()));
 }
 
 // The files where a raster is loaded that had four bytes when the walk found it, and what comes of it.
-const CHANGES: [(&[(&str, &[u8])], Want<'static>); 4] = [
+type Change<'a> = (&'a [File<'a>], Want<'a>);
+
+const CHANGES: [Change<'static>; 4] = [
     (&[("a.bsq", &[0, 1, 2, 3])], Want::Samples(2, &[0, 1])),
     (&[("a.bsq", &[0, 1, 2])], Want::Changed("a.bsq", 4, Some(3))),
     (
@@ -271,84 +268,92 @@ const CHANGES: [(&[(&str, &[u8])], Want<'static>); 4] = [
     (&[], Want::Changed("a.bsq", 4, None)),
 ];
 
+// The files that the walk finds.
+const FOUND: [File<'static>; 2] = [("a.bsq", &[0, 1, 2, 3]), ("a.hdr", b"NROWS 2\nNCOLS 2\n")];
+
 // Whether that comes of a load from these files.
-fn tells(alloc: Global, files: &[(&str, &[u8])], want: Want<'_>) -> Result<bool, Fail> {
-    let found: [(&str, &[u8]); 2] = [("a.bsq", &[0, 1, 2, 3]), ("a.hdr", b"NROWS 2\nNCOLS 2\n")];
-    let mut walked = holding(alloc, &found)?;
-    let mut later = holding(alloc, files)?;
-    Ok(first_load(alloc, &mut walked, &mut later, "a.bsq", (0, 0, 0))?.is(want))
+fn tells<R: Abort>(rt: &R, alloc: Global, change: &Change<'_>) -> bool {
+    let (files, want) = *change;
+    let mut walked = calm_folder(rt, alloc, &FOUND);
+    let mut later = calm_folder(rt, alloc, files);
+    gives(rt, alloc, &mut walked, &mut later, "a.bsq", (0, 0, 0), want)
 }
 
-// The first of the changes of which something else comes, or how many changes there are.
-fn first_untold(alloc: Global) -> Result<usize, Fail> {
-    for (at, (files, want)) in CHANGES.iter().enumerate() {
-        if !tells(alloc, files, *want)? {
-            return Ok(at);
+// The first of the changes of which something else comes.
+fn first_untold<R: Abort>(rt: &R, alloc: Global, changes: &[Change<'_>]) -> Option<usize> {
+    for (at, change) in changes.iter().enumerate() {
+        if !tells(rt, alloc, change) {
+            return Some(at);
         }
     }
-    Ok(CHANGES.len())
+    None
 }
 
 // A file that has another length than the walk found, or is gone.
 #[test]
-fn tells_changes(rt: HostRuntime) -> Result<(), Fail> {
-    assert_eq!(rt; first_untold(rt.alloc())?, CHANGES.len());
-    Ok(())
+fn tells_changes(rt: HostRuntime) {
+    none_wrong(&rt, first_untold(&rt, rt.alloc(), &CHANGES));
 }
 
 // A row of a raster of 256 bands and these columns, all of whose samples are 7.
-fn raster(alloc: Global, columns: usize) -> Result<CalmFolder, Fail>
-    requires { columns ≤ 1000 }
-{
-    let header = format!(in alloc; "NROWS 1\nNCOLS {columns}\nNBANDS 256\nLAYOUT BIP\n")?;
-    let data = vec![in alloc; 7u8; 256 * columns]?;
-    holding(
-        alloc,
-        &[("a.bip", data.as_slice()), ("a.hdr", header.as_bytes())],
-    )
-}
-
-// How often the load of that row reads, where it gives that.
-fn counted(alloc: Global, columns: usize, want: Want<'_>) -> Result<Option<u64>, Fail>
-    requires { columns ≤ 1000 }
-{
-    let mut walked = raster(alloc, columns)?;
-    let mut folder = Tally::new(raster(alloc, columns)?);
-    let loaded = first_load(alloc, &mut walked, &mut folder, "a.bip", (255, 1, 0))?;
-    Ok(if loaded.is(want) {
-        Some(folder.reads())
-    } else {
-        None
-    })
+fn raster<R: Abort>(rt: &R, alloc: Global, columns: usize) -> CalmFolder {
+    let header = format!(in alloc; "NROWS 1\nNCOLS {columns}\nNBANDS 256\nLAYOUT BIP\n").expect(
+        rt, "memory",
+    );
+    let data = vec![in alloc; 7u8; columns.saturating_mul(256)].expect(rt, "memory");
+    let files: [File<'_>; 2] = [("a.bip", data.as_slice()), ("a.hdr", header.as_bytes())];
+    calm_folder(rt, alloc, &files)
 }
 
 const SEVENS: [Sample; 5] = [7; 5];
 
-// The first number of columns whose row is loaded otherwise, or 0.
-fn first_uncounted(alloc: Global) -> Result<usize, Fail> {
-    for (columns, want, calls) in [
-        (2usize, Want::Samples(2, &[7, 7]), 1u64),
-        (256, Want::Samples(256, &SEVENS), 1),
-        (257, Want::Samples(257, &SEVENS), 2),
-        (600, Want::Samples(600, &SEVENS), 3),
-    ] {
-        if counted(alloc, columns, want)? != Some(calls) {
-            return Ok(columns);
+// Columns of such a row, of which the first at most five are looked at, and how often its load reads.
+const COUNTS: [(u32, u64); 4] = [(2, 1), (256, 1), (257, 2), (600, 3)];
+
+// Samples of which all are 7, of which the first at most five are looked at.
+fn sevens_of(columns: u32) -> Want<'static> {
+    let sevens: &'static [Sample] = &SEVENS;
+    let (samples, _) = sevens.split_at((columns as usize).min(5));
+    Want::Samples(columns, samples)
+}
+
+// Whether the load of a row of so many columns gives it, and reads so often.
+fn is_counted<R: Abort>(rt: &R, alloc: Global, (columns, calls): (u32, u64)) -> bool {
+    let mut walked = raster(rt, alloc, columns as usize);
+    let mut folder = Tally::new(raster(rt, alloc, columns as usize));
+    let want = sevens_of(columns);
+    gives(
+        rt,
+        alloc,
+        &mut walked,
+        &mut folder,
+        "a.bip",
+        (255, 1, 0),
+        want,
+    ) && folder.reads() == calls
+}
+
+// The first number of columns whose row is loaded otherwise.
+fn first_uncounted<R: Abort>(rt: &R, alloc: Global, rows: &[(u32, u64)]) -> Option<usize> {
+    for (at, row) in rows.iter().enumerate() {
+        if !is_counted(rt, alloc, *row) {
+            return Some(at);
         }
     }
-    Ok(0)
+    None
 }
 
 #[test]
-fn reads_in_pieces(rt: HostRuntime) -> Result<(), Fail> {
-    assert_eq!(rt; first_uncounted(rt.alloc())?, 0);
-    Ok(())
+fn reads_in_pieces(rt: HostRuntime) {
+    none_wrong(&rt, first_uncounted(&rt, rt.alloc(), &COUNTS));
 }
 
 const GRID_HEAD: &str = "xllcorner 0\nyllcorner 0\ncellsize 1\n";
 
 // The body of a grid of three columns and two rows, the line of a pixel, and its block.
-const GRID_ROWS: [(&str, u32, [Sample; 3]); 6] = [
+type GridRow<'a> = (&'a str, u32, [Sample; 3]);
+
+const GRID_ROWS: [GridRow<'static>; 6] = [
     ("1 -2 3\n40 50 60\n", 0, [1, -2, 3]),
     ("1 -2 3\n40 50 60\n", 1, [40, 50, 60]),
     ("1 -2 3\n40 50 60", 1, [40, 50, 60]),
@@ -362,61 +367,79 @@ const GRID_ROWS: [(&str, u32, [Sample; 3]); 6] = [
 ];
 
 // A folder with a grid of this size and this body.
-fn grid(alloc: Global, size: &str, body: &[u8]) -> Result<CalmFolder, Fail> {
-    let mut text = Vec::from_slice(alloc, size.as_bytes())?;
-    text.extend_from_slice(GRID_HEAD.as_bytes())?;
-    text.extend_from_slice(body)?;
-    holding(alloc, &[("g.asc", text.as_slice())])
+fn grid<R: Abort>(rt: &R, alloc: Global, size: &str, body: &[u8]) -> CalmFolder {
+    let mut text = Vec::new(alloc);
+    add(rt, &mut text, size.as_bytes());
+    add(rt, &mut text, GRID_HEAD.as_bytes());
+    add(rt, &mut text, body);
+    calm_folder(rt, alloc, &[("g.asc", text.as_slice())])
+}
+
+// The size of a grid, its body as the walk finds it, and its body by then.
+#[derive(Clone, Copy)]
+struct Bodies<'a> {
+    size: &'a str,
+    found: &'a [u8],
+    later: &'a [u8],
 }
 
 // How often a load of a line of a grid reads, whose file has other bytes by then, where it gives that.
-fn counted_line(
+fn counted_line<R: Abort>(
+    rt: &R,
     alloc: Global,
-    size: &str,
-    bodies: (&[u8], &[u8]),
+    bodies: Bodies<'_>,
     (x, y): (u32, u32),
     want: Want<'_>,
-) -> Result<Option<u64>, Fail> {
-    let mut found = grid(alloc, size, bodies.0)?;
-    let mut folder = Tally::new(grid(alloc, size, bodies.1)?);
-    let loaded = first_load(alloc, &mut found, &mut folder, "g.asc", (0, x, y))?;
-    Ok(if loaded.is(want) {
-        Some(folder.reads())
-    } else {
-        None
-    })
+) -> Option<u64> {
+    let mut found = grid(rt, alloc, bodies.size, bodies.found);
+    let mut folder = Tally::new(grid(rt, alloc, bodies.size, bodies.later));
+    if gives(rt, alloc, &mut found, &mut folder, "g.asc", (0, x, y), want) {
+        return Some(folder.reads());
+    }
+    None
 }
 
-// The first of these rows that is loaded otherwise, or how many rows there are.
-fn first_ungridded(alloc: Global) -> Result<usize, Fail> {
-    let size = "ncols 3\nnrows 2\n";
-    for (at, (body, line, samples)) in GRID_ROWS.iter().enumerate() {
-        let bodies = (body.as_bytes(), body.as_bytes());
-        let want = Want::Samples(3, samples);
-        if counted_line(alloc, size, bodies, (2, *line), want)?.is_none() {
-            return Ok(at);
+// Whether a row of a grid is loaded so.
+fn is_gridded<R: Abort>(rt: &R, alloc: Global, row: &GridRow<'_>) -> bool {
+    let (body, line, samples) = *row;
+    let bodies = Bodies {
+        size: "ncols 3\nnrows 2\n",
+        found: body.as_bytes(),
+        later: body.as_bytes(),
+    };
+    let want = Want::Samples(3, &samples);
+    counted_line(rt, alloc, bodies, (2, line), want).is_some()
+}
+
+// The first of these rows that is loaded otherwise.
+fn first_ungridded<R: Abort>(rt: &R, alloc: Global, rows: &[GridRow<'_>]) -> Option<usize> {
+    for (at, row) in rows.iter().enumerate() {
+        if !is_gridded(rt, alloc, row) {
+            return Some(at);
         }
     }
-    Ok(GRID_ROWS.len())
+    None
 }
 
 #[test]
-fn loads_rows_of_grids(rt: HostRuntime) -> Result<(), Fail> {
-    assert_eq!(rt; first_ungridded(rt.alloc())?, GRID_ROWS.len());
-    Ok(())
+fn loads_rows_of_grids(rt: HostRuntime) {
+    none_wrong(&rt, first_ungridded(&rt, rt.alloc(), &GRID_ROWS));
 }
 
 // 100,000 bytes between two others.
-fn between(alloc: Global, front: u8, fill: u8, back: u8) -> Result<Vec<u8>, Fail> {
-    let mut bytes = vec![in alloc; fill; 100_002]?;
-    bytes[0] = front;
-    bytes[100_001] = back;
-    Ok(bytes)
+fn between<R: Abort>(rt: &R, alloc: Global, front: u8, fill: u8, back: u8) -> Vec<u8> {
+    let mut bytes = Vec::new(alloc);
+    add(rt, &mut bytes, &[front]);
+    bytes.resize(100_001, fill).expect(rt, "memory");
+    add(rt, &mut bytes, &[back]);
+    bytes
 }
 
 // The bytes that a grid of one column and two rows has by then: the first, the 100,000 behind it and the
 // last. The line that is loaded, its sample, and how often it is read.
-const LATER: [(u8, u8, u8, u32, Sample, u64); 6] = [
+type LaterRow = (u8, u8, u8, u32, Sample, u64);
+
+const LATER: [LaterRow; 6] = [
     (b'7', b' ', b'8', 0, 7, 1),
     (b'7', b' ', b'8', 1, 8, 1),
     (b' ', b' ', b'8', 0, 0, 2),
@@ -425,87 +448,78 @@ const LATER: [(u8, u8, u8, u32, Sample, u64); 6] = [
     (b'x', b'\n', b'9', 1, 9, 1),
 ];
 
-// How often a load of a line reads, where it gives this sample, over the bytes that the grid has by then.
-fn counted_later(
-    alloc: Global,
-    walked: &[u8],
-    (front, fill, back): (u8, u8, u8),
-    line: u32,
-    sample: Sample,
-) -> Result<Option<u64>, Fail> {
-    let later = between(alloc, front, fill, back)?;
+// Whether a load of a line gives its sample and reads so often, over the bytes that the grid has by then.
+fn is_past<R: Abort>(rt: &R, alloc: Global, found: &[u8], row: &LaterRow) -> bool {
+    let (front, fill, back, line, sample, calls) = *row;
+    let later = between(rt, alloc, front, fill, back);
+    let bodies = Bodies {
+        size: "ncols 1\nnrows 2\n",
+        found,
+        later: later.as_slice(),
+    };
     let want = Want::Samples(1, &[sample]);
-    counted_line(
-        alloc,
-        "ncols 1\nnrows 2\n",
-        (walked, &later),
-        (0, line),
-        want,
-    )
+    counted_line(rt, alloc, bodies, (0, line), want) == Some(calls)
 }
 
-// The first of these rows that is loaded otherwise, or how many rows there are.
-fn first_past(alloc: Global, walked: &[u8]) -> Result<usize, Fail> {
-    for (at, (front, fill, back, line, sample, calls)) in LATER.iter().enumerate() {
-        let bytes = (*front, *fill, *back);
-        if counted_later(alloc, walked, bytes, *line, *sample)? != Some(*calls) {
-            return Ok(at);
+// The first of these rows that is loaded otherwise.
+fn first_past<R: Abort>(rt: &R, alloc: Global, rows: &[LaterRow]) -> Option<usize> {
+    let found = between(rt, alloc, b'7', b' ', b'8');
+    for (at, row) in rows.iter().enumerate() {
+        if !is_past(rt, alloc, found.as_slice(), row) {
+            return Some(at);
         }
     }
-    Ok(LATER.len())
-}
-
-fn load_later(alloc: Global) -> Result<usize, Fail> {
-    let walked = between(alloc, b'7', b' ', b'8')?;
-    first_past(alloc, &walked)
+    None
 }
 
 // The walk finds a 7, 100,000 spaces and an 8. No load reads past the place of the next row.
 #[test]
-fn stops_at_the_next_row(rt: HostRuntime) -> Result<(), Fail> {
-    assert_eq!(rt; load_later(rt.alloc())?, LATER.len());
-    Ok(())
+fn stops_at_the_next_row(rt: HostRuntime) {
+    none_wrong(&rt, first_past(&rt, rt.alloc(), &LATER));
 }
 
 // The row of a grid of so many columns, all of whose values are 7.
-fn sevens(alloc: Global, columns: u32) -> Result<Vec<u8>, Fail>
-    requires { columns ≤ 100000 }
-{
-    let mut body = vec![in alloc; b' '; 2 * columns as usize]?;
-    for at in 0..columns as usize {
-        body[2 * at] = b'7';
+fn sevens<R: Abort>(rt: &R, alloc: Global, columns: u32) -> Vec<u8> {
+    let mut body = Vec::new(alloc);
+    for _ in 0..columns {
+        add(rt, &mut body, b"7 ");
     }
-    Ok(body)
+    body
 }
 
-// How often a load of that row reads, where it gives the row.
-fn counted_sevens(alloc: Global, size: &str, columns: u32) -> Result<Option<u64>, Fail>
-    requires { columns ≤ 100000 }
-{
-    let body = sevens(alloc, columns)?;
-    let want = Want::Samples(columns, &SEVENS);
-    counted_line(alloc, size, (&body, &body), (0, 0), want)
+// The columns of such a grid, its size as it is written, and how often the load of its row reads.
+const SIZES: [(u32, &str, u64); 4] = [
+    (5, "ncols 5\nnrows 1\n", 1),
+    (32_768, "ncols 32768\nnrows 1\n", 1),
+    (32_769, "ncols 32769\nnrows 1\n", 2),
+    (65_537, "ncols 65537\nnrows 1\n", 3),
+];
+
+// Whether the load of such a row gives it, and reads so often.
+fn is_read_so<R: Abort>(rt: &R, alloc: Global, row: &(u32, &str, u64)) -> bool {
+    let (columns, size, calls) = *row;
+    let body = sevens(rt, alloc, columns);
+    let bodies = Bodies {
+        size,
+        found: body.as_slice(),
+        later: body.as_slice(),
+    };
+    counted_line(rt, alloc, bodies, (0, 0), sevens_of(columns)) == Some(calls)
 }
 
-// The first number of columns whose row is loaded otherwise, or 0.
-fn first_unread(alloc: Global) -> Result<u32, Fail> {
-    for (columns, size, calls) in [
-        (5u32, "ncols 5\nnrows 1\n", 1u64),
-        (32_768, "ncols 32768\nnrows 1\n", 1),
-        (32_769, "ncols 32769\nnrows 1\n", 2),
-        (65_537, "ncols 65537\nnrows 1\n", 3),
-    ] {
-        if counted_sevens(alloc, size, columns)? != Some(calls) {
-            return Ok(columns);
+// The first of these grids whose row is loaded otherwise.
+fn first_unread<R: Abort>(rt: &R, alloc: Global, rows: &[(u32, &str, u64)]) -> Option<usize> {
+    for (at, row) in rows.iter().enumerate() {
+        if !is_read_so(rt, alloc, row) {
+            return Some(at);
         }
     }
-    Ok(0)
+    None
 }
 
 #[test]
-fn reads_rows_of_grids_in_pieces(rt: HostRuntime) -> Result<(), Fail> {
-    assert_eq!(rt; first_unread(rt.alloc())?, 0);
-    Ok(())
+fn reads_rows_of_grids_in_pieces(rt: HostRuntime) {
+    none_wrong(&rt, first_unread(&rt, rt.alloc(), &SIZES));
 }
 
 // Whether loads of the first blocks of datasets in turn give one sample each: the number of the dataset.
@@ -529,38 +543,56 @@ fn load_each<F: Folder>(
 }
 
 // Puts a file of one pixel, whose sample is its number.
-fn put_pixel(alloc: Global, folder: &mut CalmFolder, number: u8) -> Result<Name, Fail> {
-    let header = Name::read(alloc, &format!(in alloc; "{number}.hdr")?)?;
-    folder.put(&header, b"NROWS 1\nNCOLS 1\n")?;
-    let data = Name::read(alloc, &format!(in alloc; "{number}.bsq")?)?;
-    folder.put(&data, &[number])?;
-    Ok(data)
+fn put_pixel<R: Abort>(rt: &R, alloc: Global, folder: &mut CalmFolder, number: u8) -> Name {
+    let header = format!(in alloc; "{number}.hdr").expect(rt, "memory");
+    put(rt, alloc, folder, header.as_str(), b"NROWS 1\nNCOLS 1\n");
+    let data = format!(in alloc; "{number}.bsq").expect(rt, "memory");
+    put(rt, alloc, folder, data.as_str(), &[number]);
+    name_of(rt, alloc, data.as_str())
+}
+
+// Puts a file of one pixel, and adds it to a catalog.
+fn add_pixel<R: Abort>(
+    rt: &R,
+    alloc: Global,
+    cat: &mut Catalog,
+    folder: &mut CalmFolder,
+    number: u8,
+) {
+    let data = put_pixel(rt, alloc, folder, number);
+    let _id = open_all(alloc, cat, folder, &data, false);
 }
 
 // Seventeen files of one pixel each, whose sample is their number, and a catalog of them.
-fn seventeen(alloc: Global, cat: &mut Catalog) -> Result<CalmFolder, Fail> {
+fn seventeen<R: Abort>(rt: &R, alloc: Global, cat: &mut Catalog) -> CalmFolder {
     let mut folder = CalmFolder::new(alloc, Never);
-    for number in 0..17u8 {
-        let data = put_pixel(alloc, &mut folder, number)?;
-        if open_all(alloc, cat, &mut folder, &data, false).is_err() {
-            return Ok(folder);
-        }
+    for number in 0..17 {
+        add_pixel(rt, alloc, cat, &mut folder, number);
     }
-    Ok(folder)
+    folder
 }
 
 // How many files are opened where the first blocks of these datasets are loaded one after the other; None where they
 // aren't loaded.
 #[tactic(auto, using(band_blocks::proofs::Opened::good_none))]
-fn opened(alloc: Global, ids: &[u32]) -> Result<Option<u64>, Fail> {
-    let mut cat = Catalog::new(alloc);
-    let mut folder = Tally::new(seventeen(alloc, &mut cat)?);
+fn opened(
+    alloc: Global,
+    cat: &Catalog,
+    folder: &mut Tally<CalmFolder>,
+    ids: &[u32],
+) -> Result<Option<u64>, AllocError> {
+    let before = folder.opens();
     let mut files = OpenFiles::new(alloc)?;
-    let loaded = load_each(alloc, &cat, &mut folder, &mut files, ids);
-    Ok(if loaded { Some(folder.opens()) } else { None })
+    if load_each(alloc, cat, folder, &mut files, ids) {
+        return Ok(Some(folder.opens().saturating_sub(before)));
+    }
+    Ok(None)
 }
 
-const TURNS: [(&[u32], u64); 3] = [
+// Datasets in turn, and how many files are opened.
+type Turn<'a> = (&'a [u32], u64);
+
+const TURNS: [Turn<'static>; 3] = [
     (&[3, 3, 16, 3], 2),
     (
         &[
@@ -574,19 +606,29 @@ const TURNS: [(&[u32], u64); 3] = [
     ),
 ];
 
-// The first of these turns that opens another number of files, or how many turns there are.
-fn first_unopened(alloc: Global) -> Result<usize, Fail> {
-    for (at, (ids, opens)) in TURNS.iter().enumerate() {
-        if opened(alloc, ids)? != Some(*opens) {
-            return Ok(at);
+// Whether a turn opens as many files.
+fn opens_so(alloc: Global, cat: &Catalog, folder: &mut Tally<CalmFolder>, turn: &Turn<'_>) -> bool {
+    let (ids, opens) = *turn;
+    match opened(alloc, cat, folder, ids) {
+        Ok(found) => found == Some(opens),
+        Err(_) => false,
+    }
+}
+
+// The first of these turns that opens another number of files.
+fn first_unopened<R: Abort>(rt: &R, alloc: Global, turns: &[Turn<'_>]) -> Option<usize> {
+    let mut cat = Catalog::new(alloc);
+    let mut folder = Tally::new(seventeen(rt, alloc, &mut cat));
+    for (at, turn) in turns.iter().enumerate() {
+        if !opens_so(alloc, &cat, &mut folder, turn) {
+            return Some(at);
         }
     }
-    Ok(TURNS.len())
+    None
 }
 
 // The file that was used longest ago is closed for a seventeenth.
 #[test]
-fn keeps_sixteen_open(rt: HostRuntime) -> Result<(), Fail> {
-    assert_eq!(rt; first_unopened(rt.alloc())?, TURNS.len());
-    Ok(())
+fn keeps_sixteen_open(rt: HostRuntime) {
+    none_wrong(&rt, first_unopened(&rt, rt.alloc(), &TURNS));
 }

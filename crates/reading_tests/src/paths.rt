@@ -1,20 +1,22 @@
 // Mosaics that name one another again and again, of which single pixels are asked: each of them is made once, and no
 // other pixel stands for it.
+use crate::fixtures::{add, put};
 use crate::reads::{Job, Picture, Place, shows};
 use geotransform::Sample;
-use outside::{CalmFolder, Name, Never, Tally};
+use outside::{CalmFolder, Never, Tally};
 use std::alloc::Global;
+use std::process::Abort;
 use std::test::*;
 
 // Each mosaic shows the next one three times: as it is, over it a line lower, and over both a column to the right. Its
 // NODATA, and that of each source, is 255.
 const SHIFTS: [(usize, usize); 3] = [(0, 0), (0, 1), (1, 0)];
 
-// The mosaics, from the last to the first, and the file that the last one names. They have 24 columns and lines, but for the
-// first mosaic, whose 24 columns stand behind 128 in which there is nothing.
-const NAMES: [&str; 17] = [
+// The file that the last mosaic names, and the mosaics, from the last to the second. They have 24 columns and lines.
+// The first mosaic, `m0.vrt`, names `m1.vrt`, and its 24 columns stand behind 128 in which there is nothing.
+const NAMES: [&str; 16] = [
     "a.bil", "m15.vrt", "m14.vrt", "m13.vrt", "m12.vrt", "m11.vrt", "m10.vrt", "m9.vrt", "m8.vrt",
-    "m7.vrt", "m6.vrt", "m5.vrt", "m4.vrt", "m3.vrt", "m2.vrt", "m1.vrt", "m0.vrt",
+    "m7.vrt", "m6.vrt", "m5.vrt", "m4.vrt", "m3.vrt", "m2.vrt", "m1.vrt",
 ];
 
 // The pixel of the file: nearly each is 255.
@@ -27,12 +29,12 @@ fn sample(x: usize, y: usize) -> u8 {
 }
 
 // The pixels of the file.
-fn raw(alloc: Global) -> Result<Vec<u8>, Fail> {
+fn raw<R: Abort>(rt: &R, alloc: Global) -> Vec<u8> {
     let mut bytes = Vec::new(alloc);
     for at in 0..24 * 24usize {
-        bytes.push(sample(at % 24, at / 24))?;
+        add(rt, &mut bytes, &[sample(at % 24, at / 24)]);
     }
-    Ok(bytes)
+    bytes
 }
 
 // The pixel of a dataset that stands at a shifted place, or 255.
@@ -58,12 +60,12 @@ fn pixel(below: &[u8], at: usize) -> u8 {
 }
 
 // The pixels of a mosaic of a dataset.
-fn above(alloc: Global, below: &[u8]) -> Result<Vec<u8>, Fail> {
+fn above<R: Abort>(rt: &R, alloc: Global, below: &[u8]) -> Vec<u8> {
     let mut pixels = Vec::new(alloc);
     for at in 0..24 * 24 {
-        pixels.push(pixel(below, at))?;
+        add(rt, &mut pixels, &[pixel(below, at)]);
     }
-    Ok(pixels)
+    pixels
 }
 
 // The pixels of the first mosaic, behind its 128 columns.
@@ -84,77 +86,102 @@ impl Picture for Pixels {
     }
 }
 
-fn first(alloc: Global) -> Result<Pixels, Fail> {
-    let mut pixels = raw(alloc)?;
-    for _ in 1..NAMES.len() {
-        pixels = above(alloc, pixels.as_slice())?;
+// The pixels of the first mosaic, which stands 16 above the file.
+fn first<R: Abort>(rt: &R, alloc: Global) -> Pixels {
+    let mut pixels = raw(rt, alloc);
+    for _ in 0..16 {
+        pixels = above(rt, alloc, pixels.as_slice());
     }
-    Ok(Pixels { pixels })
+    Pixels { pixels }
+}
+
+// The name of a source's dataset, as the document has it.
+fn file_of<R: Abort>(rt: &R, alloc: Global, below: &str) -> String {
+    format!(in alloc;
+        "<ComplexSource><SourceFilename relativeToVRT=\"1\">{below}</SourceFilename>"
+    ).expect(rt, "memory")
+}
+
+// The place of a source.
+fn place_of<R: Abort>(rt: &R, alloc: Global, (x, y): (usize, usize)) -> String {
+    format!(in alloc; "<DstRect xOff=\"{x}\" yOff=\"{y}\" xSize=\"24\" ySize=\"24\"/>").expect(
+        rt, "memory",
+    )
 }
 
 // Adds a source to a document.
-fn push_source(
+fn push_source<R: Abort>(
+    rt: &R,
     alloc: Global,
     text: &mut Vec<u8>,
     below: &str,
-    (x, y): (usize, usize),
-) -> Result<(), Fail> {
-    let file = format!(in alloc;
-        "<ComplexSource><SourceFilename relativeToVRT=\"1\">{below}</SourceFilename>"
-    )?;
-    let place = format!(in alloc;
-        "<DstRect xOff=\"{x}\" yOff=\"{y}\" xSize=\"24\" ySize=\"24\"/>"
-    )?;
-    text.extend_from_slice(file.as_bytes())?;
-    text.extend_from_slice(b"<SrcRect xOff=\"0\" yOff=\"0\" xSize=\"24\" ySize=\"24\"/>")?;
-    text.extend_from_slice(place.as_bytes())?;
-    text.extend_from_slice(b"<NODATA>255</NODATA></ComplexSource>")?;
-    Ok(())
+    place: (usize, usize),
+) {
+    let file = file_of(rt, alloc, below);
+    let place = place_of(rt, alloc, place);
+    add(rt, text, file.as_bytes());
+    add(
+        rt,
+        text,
+        b"<SrcRect xOff=\"0\" yOff=\"0\" xSize=\"24\" ySize=\"24\"/>",
+    );
+    add(rt, text, place.as_bytes());
+    add(rt, text, b"<NODATA>255</NODATA></ComplexSource>");
+}
+
+// What stands before the sources of a mosaic with so many columns before its pixels.
+fn opening<R: Abort>(rt: &R, alloc: Global, columns: usize) -> String {
+    let width = columns.saturating_add(24);
+    format!(in alloc;
+        "<VRTDataset rasterXSize=\"{width}\" rasterYSize=\"24\"><VRTRasterBand dataType=\"Byte\">\
+        <NoDataValue>255</NoDataValue>"
+    )
+    .expect(rt, "memory")
 }
 
 // The document of a mosaic with so many columns before its pixels.
-fn document(alloc: Global, below: &str, columns: usize) -> Result<Vec<u8>, Fail> {
-    let width = columns.saturating_add(24);
-    let opening = format!(in alloc;
-        "<VRTDataset rasterXSize=\"{width}\" rasterYSize=\"24\"><VRTRasterBand dataType=\"Byte\"><NoDataValue>255</NoDataValue>"
-    )?;
-    let mut text = Vec::from_slice(alloc, opening.as_bytes())?;
+fn document<R: Abort>(rt: &R, alloc: Global, below: &str, columns: usize) -> Vec<u8> {
+    let mut text = Vec::new(alloc);
+    let opening = opening(rt, alloc, columns);
+    add(rt, &mut text, opening.as_bytes());
     for (right, down) in SHIFTS {
-        push_source(
-            alloc,
-            &mut text,
-            below,
-            (columns.saturating_add(right), down),
-        )?;
+        let place = (columns.saturating_add(right), down);
+        push_source(rt, alloc, &mut text, below, place);
     }
-    text.extend_from_slice(b"</VRTRasterBand></VRTDataset>")?;
-    Ok(text)
+    add(rt, &mut text, b"</VRTRasterBand></VRTDataset>");
+    text
 }
 
 // Puts a mosaic.
-fn put(
+fn put_mosaic<R: Abort>(
+    rt: &R,
     alloc: Global,
     folder: &mut CalmFolder,
     name: &str,
     below: &str,
     columns: usize,
-) -> Result<(), Fail> {
-    let text = document(alloc, below, columns)?;
-    folder.put(&Name::read(alloc, name)?, text.as_slice())?;
-    Ok(())
+) {
+    let text = document(rt, alloc, below, columns);
+    put(rt, alloc, folder, name, text.as_slice());
+}
+
+// Puts mosaics, each of which names the one before.
+fn put_mosaics<R: Abort>(rt: &R, alloc: Global, folder: &mut CalmFolder, names: &[&str]) {
+    let (_, above) = names.split_at(names.len().min(1));
+    for (below, name) in names.iter().zip(above) {
+        put_mosaic(rt, alloc, folder, name, below, 0);
+    }
 }
 
 // A folder that holds the mosaics and the file.
-fn nested(alloc: Global) -> Result<CalmFolder, Fail> {
-    let bytes = raw(alloc)?;
+fn nested<R: Abort>(rt: &R, alloc: Global) -> CalmFolder {
+    let bytes = raw(rt, alloc);
     let mut folder = CalmFolder::new(alloc, Never);
-    folder.put(&Name::read(alloc, "a.bil")?, bytes.as_slice())?;
-    folder.put(&Name::read(alloc, "a.hdr")?, b"NROWS 24\nNCOLS 24\n")?;
-    for at in 1..NAMES.len() {
-        let columns = if at == NAMES.len() - 1 { 128 } else { 0 };
-        put(alloc, &mut folder, NAMES[at], NAMES[at - 1], columns)?;
-    }
-    Ok(folder)
+    put(rt, alloc, &mut folder, "a.bil", bytes.as_slice());
+    put(rt, alloc, &mut folder, "a.hdr", b"NROWS 24\nNCOLS 24\n");
+    put_mosaics(rt, alloc, &mut folder, &NAMES);
+    put_mosaic(rt, alloc, &mut folder, "m0.vrt", "m1.vrt", 128);
+    folder
 }
 
 // The first pixel makes the block in which nothing lies, which fills a pool of one block. Those behind it are made of
@@ -169,24 +196,21 @@ const POINTS: [Place; 7] = [
     (0, (148, 20, 1, 1)),
 ];
 
-// How many reads the walk and the points take, where they have their pixels.
-fn reads_of(alloc: Global) -> Result<Option<u64>, Fail> {
-    let mut folder = Tally::new(nested(alloc)?);
-    let picture = first(alloc)?;
+// Whether the points have their pixels, and the walk and they take fewer reads than this.
+fn reads_fewer<R: Abort>(rt: &R, alloc: Global, most: u64) -> bool {
+    let mut folder = Tally::new(nested(rt, alloc));
+    let picture = first(rt, alloc);
     let job = Job {
         name: "m0.vrt",
         size: (152, 24),
         capacity: 1,
         windows: &POINTS,
     };
-    let shown = shows(alloc, &mut folder, job, &picture)?;
-    Ok(if shown { Some(folder.reads()) } else { None })
+    shows(rt, alloc, &mut folder, job, &picture) && folder.reads() < most
 }
 
 // 43,046,721 paths lead from a pixel to the file, which has 576 of them. No point asks for as many.
 #[test]
-fn pixels_that_many_paths_reach_are_their_own(rt: HostRuntime) -> Result<(), Fail> {
-    let reads = reads_of(rt.alloc())?.unwrap_or(u64::MAX);
-    assert!(rt; reads < 6 * 576, "{reads} reads");
-    Ok(())
+fn pixels_that_many_paths_reach_are_their_own(rt: HostRuntime) {
+    assert!(rt; reads_fewer(&rt, rt.alloc(), 6 * 576));
 }

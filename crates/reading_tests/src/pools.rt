@@ -1,7 +1,9 @@
+use crate::fixtures::none_wrong;
 use band_blocks::{Block, BlockKey};
 use block_cache::Pool;
 use geotransform::{PixelType, Sample, holds};
 use std::alloc::Global;
+use std::process::Abort;
 use std::test::*;
 
 // A call of a pool whose blocks have one sample, and what it answers.
@@ -72,22 +74,26 @@ fn sample_of(block: &Block) -> Sample {
     -1
 }
 
-fn admit(
+fn block_of<R: Abort>(rt: &R, alloc: Global, sample: Sample) -> Block {
+    Block::pack_clamped(alloc, PixelType::Int16, &[sample]).expect(rt, "memory")
+}
+
+// Whether a block is admitted, and that is dropped.
+fn admits<R: Abort>(
+    rt: &R,
     alloc: Global,
     pool: &mut Pool,
-    number: u64,
-    sample: Sample,
-    dirty: bool,
-) -> Result<Option<(u64, Sample, bool)>, Fail> {
-    let block = Block::pack_clamped(alloc, PixelType::Int16, &[sample])?;
+    (number, sample, dirty): (u64, Sample, bool),
+    wanted: Option<(u64, Sample, bool)>,
+) -> bool {
+    let block = block_of(rt, alloc, sample);
     match pool.admit(key(number), block, dirty) {
-        Ok(Some(dropped)) => Ok(Some((
-            dropped.key.block,
-            sample_of(&dropped.block),
-            dropped.dirty,
-        ))),
-        Ok(None) => Ok(None),
-        Err(_) => Err("memory was refused".into()),
+        Ok(Some(dropped)) => {
+            let block = sample_of(&dropped.block);
+            wanted == Some((dropped.key.block, block, dropped.dirty))
+        }
+        Ok(None) => wanted.is_none(),
+        Err(_) => false,
     }
 }
 
@@ -120,47 +126,50 @@ fn patch(pool: &mut Pool, number: u64, sample: Sample) -> bool {
 }
 
 // Whether a call answers so.
-fn is_told(alloc: Global, pool: &mut Pool, step: Step) -> Result<bool, Fail> {
-    Ok(match step {
+fn is_told<R: Abort>(rt: &R, alloc: Global, pool: &mut Pool, step: Step) -> bool {
+    match step {
         Admit(number, sample, dirty, dropped) => {
-            admit(alloc, pool, number, sample, dirty)? == dropped
+            admits(rt, alloc, pool, (number, sample, dirty), dropped)
         }
         Find(number, sample) => find(pool, number) == sample,
         Patch(number, sample, held) => patch(pool, number, sample) == held,
         TakeDirty(taken) => take_dirty(pool) == taken,
         Held(count) => pool.held() == count,
-    })
+    }
 }
 
-// The first of these calls that answers otherwise, or how many calls there are.
-fn first_untold(alloc: Global, pool: &mut Pool, steps: &[Step]) -> Result<usize, Fail> {
+// The first of these calls that answers otherwise.
+fn first_untold<R: Abort>(rt: &R, alloc: Global, pool: &mut Pool, steps: &[Step]) -> Option<usize> {
     for (at, step) in steps.iter().enumerate() {
-        if !is_told(alloc, pool, *step)? {
-            return Ok(at);
+        if !is_told(rt, alloc, pool, *step) {
+            return Some(at);
         }
     }
-    Ok(steps.len())
+    None
+}
+
+// The first of these calls to a new pool that answers otherwise, or how many there are where the pool has another
+// capacity or still holds the third block.
+fn first_wrong<R: Abort>(rt: &R, alloc: Global, capacity: u32, steps: &[Step]) -> Option<usize> {
+    let mut pool = Pool::new(alloc, capacity.clamp(1, 3)).expect(rt, "memory");
+    let untold = first_untold(rt, alloc, &mut pool, steps);
+    if pool.capacity() == capacity && !pool.holds(&key(3)) {
+        return untold;
+    }
+    Some(untold.unwrap_or(steps.len()))
 }
 
 #[test]
-fn a_pool_of_one(rt: HostRuntime) -> Result<(), Fail> {
-    let mut pool = Pool::new(rt.alloc(), 1)?;
-    let untold = first_untold(rt.alloc(), &mut pool, &ONE)?;
-    assert_eq!(rt; (untold, pool.capacity()), (ONE.len(), 1));
-    Ok(())
+fn a_pool_of_one(rt: HostRuntime) {
+    none_wrong(&rt, first_wrong(&rt, rt.alloc(), 1, &ONE));
 }
 
 #[test]
-fn a_pool_of_two(rt: HostRuntime) -> Result<(), Fail> {
-    let mut pool = Pool::new(rt.alloc(), 2)?;
-    assert_eq!(rt; first_untold(rt.alloc(), &mut pool, &TWO)?, TWO.len());
-    Ok(())
+fn a_pool_of_two(rt: HostRuntime) {
+    none_wrong(&rt, first_wrong(&rt, rt.alloc(), 2, &TWO));
 }
 
 #[test]
-fn a_pool_of_three(rt: HostRuntime) -> Result<(), Fail> {
-    let mut pool = Pool::new(rt.alloc(), 3)?;
-    let untold = first_untold(rt.alloc(), &mut pool, &THREE)?;
-    assert_eq!(rt; (untold, pool.holds(&key(3))), (THREE.len(), false));
-    Ok(())
+fn a_pool_of_three(rt: HostRuntime) {
+    none_wrong(&rt, first_wrong(&rt, rt.alloc(), 3, &THREE));
 }

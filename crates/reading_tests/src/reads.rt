@@ -4,15 +4,16 @@ ghost use Rattle.outside.specs.Outside.{Files};
 ghost use Rattle.catalog.specs.Walk.{IsWalked};
 ghost use Rattle.nearest_window.specs.Right.{IsReady};
 
+use crate::fixtures::name_of;
 use band_blocks::{LoadFault, Steps};
 use catalog::{Catalog, open_all};
 use geotransform::{Rect, Sample, Size};
 use nearest_window::{Lane, Window};
-use outside::{Folder, Name};
-use std::alloc::Global;
+use outside::{Folder, Name, Tally};
+use std::alloc::{AllocError, Global};
 use std::marker::Brand;
+use std::process::Abort;
 use std::sync::ledger::{Blank, Ledger};
-use std::test::*;
 
 /// A band, counted from 0, and a rectangle of it: a column, a line, and so many columns and lines.
 pub type Place = (u32, (u32, u32, u32, u32));
@@ -173,7 +174,7 @@ fn read_through<F: Folder, L: Ledger>(
     job: Job,
     out: &mut [Sample],
     blank: Blank,
-) -> Result<(), Fail>
+) -> Result<(), AllocError>
     requires known { dataset < length cat.now }
     requires walked { (m : Files) → F.names folder.old ≡ Some m → IsWalked m cat.now }
     requires name { blank.name ≡ L.name }
@@ -203,19 +204,18 @@ fn has_size(cat: &Catalog, dataset: u32, size: (u32, u32)) -> bool
 fn read_into<F: Folder>(
     alloc: Global,
     folder: &mut F,
+    name: &Name,
     job: Job,
     out: &mut [Sample],
-) -> Result<bool, Fail> {
-    let name = Name::read(alloc, job.name)?;
+) -> bool {
     let mut cat = Catalog::new(alloc);
-    let Ok(dataset) = open_all(alloc, &mut cat, folder, &name, false) else {
-        return Ok(false);
+    let Ok(dataset) = open_all(alloc, &mut cat, folder, name, false) else {
+        return false;
     };
     if !has_size(&cat, dataset, job.size) {
-        return Ok(false);
+        return false;
     }
-    read_through::<F, Brand>(alloc, &cat, folder, dataset, job, out, Blank::new(1))?;
-    Ok(true)
+    read_through::<F, Brand>(alloc, &cat, folder, dataset, job, out, Blank::new(1)).is_ok()
 }
 
 // How many pixels windows have.
@@ -227,14 +227,48 @@ fn count_in(windows: &[Place]) -> usize {
     count as usize
 }
 
-/// The samples of windows of the dataset of a name, one behind the other, or marks in their place. None where the walk is
-/// refused, or the dataset has another size.
-pub fn samples_of<F: Folder>(alloc: Global, folder: &mut F, job: Job) -> Result<Vec<Sample>, Fail> {
-    let mut samples = vec![in alloc; REFUSED; count_in(job.windows)]?;
-    if read_into(alloc, folder, job, samples.as_mut_slice())? {
-        return Ok(samples);
+// Room for the samples of windows.
+fn room_for<R: Abort>(rt: &R, alloc: Global, windows: &[Place]) -> Vec<Sample> {
+    vec![in alloc; REFUSED; count_in(windows)].expect(rt, "memory")
+}
+
+/// The samples of windows of the dataset of a name, one behind the other, or marks in their place. None where the walk
+/// is refused, or the dataset has another size.
+pub fn samples_of<R: Abort, F: Folder>(
+    rt: &R,
+    alloc: Global,
+    folder: &mut F,
+    job: Job,
+) -> Vec<Sample> {
+    let name = name_of(rt, alloc, job.name);
+    let mut samples = room_for(rt, alloc, job.windows);
+    if read_into(alloc, folder, &name, job, samples.as_mut_slice()) {
+        return samples;
     }
-    Ok(Vec::new(alloc))
+    Vec::new(alloc)
+}
+
+/// How many reads of a folder windows take, beside those of the walk.
+pub fn reads_in<R: Abort, F: Folder>(
+    rt: &R,
+    alloc: Global,
+    folder: &mut Tally<F>,
+    job: Job,
+) -> u64 {
+    let before = folder.reads();
+    let _none = samples_of(
+        rt,
+        alloc,
+        folder,
+        Job {
+            windows: &[],
+            ..job
+        },
+    );
+    let walked = folder.reads();
+    let _samples = samples_of(rt, alloc, folder, job);
+    let both = walked.saturating_mul(2).saturating_sub(before);
+    folder.reads().saturating_sub(both)
 }
 
 // Whether these are the samples of a picture in a window.
@@ -268,12 +302,30 @@ fn are_shown<P: Picture>(picture: &P, windows: &[Place], samples: &[Sample]) -> 
 }
 
 /// Whether windows of the dataset of a name show a picture.
-pub fn shows<F: Folder, P: Picture>(
+pub fn shows<R: Abort, F: Folder, P: Picture>(
+    rt: &R,
     alloc: Global,
     folder: &mut F,
     job: Job,
     picture: &P,
-) -> Result<bool, Fail> {
-    let samples = samples_of(alloc, folder, job)?;
-    Ok(are_shown(picture, job.windows, samples.as_slice()))
+) -> bool {
+    let samples = samples_of(rt, alloc, folder, job);
+    are_shown(picture, job.windows, samples.as_slice())
+}
+
+/// Adds a window.
+pub fn add_window<R: Abort>(rt: &R, windows: &mut Vec<Place>, window: Place) {
+    windows.push(window).expect(rt, "memory");
+}
+
+/// Where a pixel lies in a rectangle, counted from its corner.
+pub fn place_in(rect: (u32, u32, u32, u32), x: u32, y: u32) -> Option<(u32, u32)> {
+    let (left, top, width, height) = rect;
+    if x < left || y < top {
+        return None;
+    }
+    if x - left >= width || y - top >= height {
+        return None;
+    }
+    Some((x - left, y - top))
 }

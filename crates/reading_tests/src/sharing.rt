@@ -3,15 +3,16 @@ ghost use Rattle.std.specs.Prelude.{◌≡◌, ◌<◌, Some, length};
 ghost use Rattle.outside.specs.Outside.{Files};
 ghost use Rattle.catalog.specs.Walk.{IsWalked};
 
-use crate::fixtures::{File, folder_of};
+use crate::fixtures::{File, folder_of, name_of};
 use band_blocks::Steps;
 use catalog::{Catalog, open_all};
 use geotransform::{Rect, Sample, Size};
 use nearest_window::{Lane, Supply, Window};
-use outside::{Folder, Name, Tally};
+use outside::{Folder, MemFolder, Name, Tally};
 use shared_lines::{Lines, Scene};
 use std::alloc::{AllocError, Global};
 use std::marker::Brand;
+use std::process::Abort;
 use std::sync::ledger::{Blank, Ledger};
 use std::test::*;
 
@@ -86,7 +87,7 @@ fn each_gives<F: Folder, S: Scene>(
     id: u32,
     wanted: &[Sample],
     lanes: u32,
-) -> Result<bool, Fail>
+) -> Result<bool, AllocError>
     requires id { id < length cat.now }
     requires walked { (m : Files) → F.names folder.old ≡ Some m → IsWalked m cat.now }
     requires told { S.told ≡ F.names folder.old }
@@ -105,23 +106,26 @@ fn each_gives<F: Folder, S: Scene>(
 fn lanes_give<F: Folder>(
     alloc: Global,
     folder: &mut F,
-    name: &str,
+    name: &Name,
     wanted: &[Sample],
     lanes: u32,
-) -> Result<bool, Fail> {
-    let name = Name::read(alloc, name)?;
+) -> bool {
     let mut cat = Catalog::new(alloc);
-    let Ok(id) = open_all(alloc, &mut cat, folder, &name, false) else {
-        return Ok(false);
+    let Ok(id) = open_all(alloc, &mut cat, folder, name, false) else {
+        return false;
     };
     if id >= cat.count() {
-        return Ok(false);
+        return false;
     }
-    each_gives::<F, Brand>(alloc, &cat, folder, id, wanted, lanes)
+    matches!(
+        each_gives::<F, Brand>(alloc, &cat, folder, id, wanted, lanes),
+        Ok(true)
+    )
 }
 
 const MOSAIC: &[u8] =
-    b"<VRTDataset rasterXSize=\"4\" rasterYSize=\"4\"><VRTRasterBand dataType=\"Byte\" band=\"1\"><SimpleSource><SourceFilename relativeToVRT=\"1\">four.bil</SourceFilename></SimpleSource></VRTRasterBand></VRTDataset>";
+    b"<VRTDataset rasterXSize=\"4\" rasterYSize=\"4\"><VRTRasterBand dataType=\"Byte\" band=\"1\"><SimpleSource>\
+    <SourceFilename relativeToVRT=\"1\">four.bil</SourceFilename></SimpleSource></VRTRasterBand></VRTDataset>";
 
 const FOUR: [u8; 16] = [1, 2, 3, 4, 5, 6, 7, 8, 9, 10, 11, 12, 13, 14, 15, 16];
 
@@ -134,28 +138,35 @@ const FILES: [File<'static>; 3] = [
 const SAMPLES: [Sample; 16] = [1, 2, 3, 4, 5, 6, 7, 8, 9, 10, 11, 12, 13, 14, 15, 16];
 
 // How many reads the walk and the views of so many lanes take, where each gives the samples.
-fn reads_by(alloc: Global, name: &str, lanes: u32) -> Result<Option<u64>, Fail> {
-    let mut folder = Tally::new(folder_of(alloc, 0, &FILES)?);
-    if !lanes_give(alloc, &mut folder, name, &SAMPLES, lanes)? {
-        return Ok(None);
+fn reads_by(alloc: Global, folder: &mut Tally<MemFolder>, name: &Name, lanes: u32) -> Option<u64> {
+    let before = folder.reads();
+    if !lanes_give(alloc, folder, name, &SAMPLES, lanes) {
+        return None;
     }
-    Ok(Some(folder.reads()))
+    Some(folder.reads().saturating_sub(before))
+}
+
+// Whether so many lanes take four reads more than the walk alone.
+fn takes_four(alloc: Global, folder: &mut Tally<MemFolder>, name: &Name, lanes: u32) -> bool {
+    let walked = reads_by(alloc, folder, name, 0);
+    let all = reads_by(alloc, folder, name, lanes);
+    match (walked, all) {
+        (Some(walked), Some(all)) => all == walked.saturating_add(4),
+        _ => false,
+    }
 }
 
 // Whether the first lane reads each of the four lines, and the lanes behind it read nothing.
-fn reads_once(alloc: Global, name: &str) -> Result<bool, Fail> {
-    let Some(walked) = reads_by(alloc, name, 0)? else {
-        return Ok(false);
-    };
-    let once = Some(walked.saturating_add(4));
-    let second = reads_by(alloc, name, 2)?;
-    let third = reads_by(alloc, name, 3)?;
-    Ok(reads_by(alloc, name, 1)? == once && second == once && third == once)
+fn reads_once<R: Abort>(rt: &R, alloc: Global, name: &str) -> bool {
+    let mut folder = Tally::new(folder_of(rt, alloc, 0, &FILES));
+    let name = name_of(rt, alloc, name);
+    takes_four(alloc, &mut folder, &name, 1)
+        && takes_four(alloc, &mut folder, &name, 2)
+        && takes_four(alloc, &mut folder, &name, 3)
 }
 
 // A file and a mosaic of it.
 #[test]
-fn a_second_lane_reads_nothing(rt: HostRuntime) -> Result<(), Fail> {
-    assert!(rt; reads_once(rt.alloc(), "four.bil")? && reads_once(rt.alloc(), "m.vrt")?);
-    Ok(())
+fn a_second_lane_reads_nothing(rt: HostRuntime) {
+    assert!(rt; reads_once(&rt, rt.alloc(), "four.bil") && reads_once(&rt, rt.alloc(), "m.vrt"));
 }

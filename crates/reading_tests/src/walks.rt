@@ -1,46 +1,64 @@
-use crate::fixtures::{Said, Source, document, folder_of, put_all, told};
+use crate::fixtures::{
+    File, Said, Source, document, folder_of, is_number, name_of, none_wrong, put, told,
+};
 use catalog::{Catalog, LimitKind, open_all};
 use outside::{Folder, MemFolder, Name, Tally};
-use std::alloc::{AllocError, Global};
+use std::alloc::Global;
+use std::process::Abort;
 use std::test::*;
 
 /// The name that a walk begins with, the number of its dataset or what is said, and the number of
 /// datasets then.
 pub type Step<'a> = (&'a str, Result<u32, Said<'a>>, u32);
 
-/// Whether the walk goes so; `verify` asks for sums.
-pub fn goes<F: Folder>(
+// Whether the walk over a name goes so.
+fn goes_over<F: Folder>(
     alloc: Global,
     cat: &mut Catalog,
     folder: &mut F,
     verify: bool,
-    (name, expected, count): Step,
-) -> Result<bool, Fail> {
-    let name = Name::read(alloc, name)?;
-    let goes = match open_all(alloc, cat, folder, &name, verify) {
+    name: &Name,
+    expected: Result<u32, Said<'_>>,
+) -> bool {
+    match open_all(alloc, cat, folder, name, verify) {
         Ok(id) => expected == Ok(id),
         Err(fault) => expected == Err(told(&fault)),
-    };
-    Ok(goes && cat.count() == count)
+    }
+}
+
+/// Whether the walk goes so; `verify` asks for sums.
+pub fn goes<R: Abort, F: Folder>(
+    rt: &R,
+    alloc: Global,
+    cat: &mut Catalog,
+    folder: &mut F,
+    verify: bool,
+    step: Step<'_>,
+) -> bool {
+    let (name, expected, count) = step;
+    let name = name_of(rt, alloc, name);
+    goes_over(alloc, cat, folder, verify, &name, expected) && cat.count() == count
 }
 
 // A mosaic: its name and its sources.
 type Mosaic<'a> = (&'a str, &'a [Source<'a>]);
 
-fn put_mosaics(alloc: Global, folder: &mut MemFolder, mosaics: &[Mosaic]) -> Result<(), Fail> {
-    for (name, sources) in mosaics {
-        let text = document(alloc, sources)?;
-        put_all(alloc, folder, &[(*name, text.as_slice())])?;
-    }
-    Ok(())
+fn put_mosaic<R: Abort>(rt: &R, alloc: Global, folder: &mut MemFolder, mosaic: &Mosaic<'_>) {
+    let (name, sources) = *mosaic;
+    let text = document(rt, alloc, sources);
+    put(rt, alloc, folder, name, text.as_slice());
 }
 
+// The data of one pixel.
+const DATA: [File<'static>; 2] = [("t.bil", &[7]), ("t.hdr", b"NROWS 1\nNCOLS 1\n")];
+
 // A folder with these mosaics, and with the data of one pixel under `t.bil`, whose call of this number fails.
-fn with_mosaics(alloc: Global, call: u64, mosaics: &[Mosaic]) -> Result<MemFolder, Fail> {
-    let files: [(&str, &[u8]); 2] = [("t.bil", &[7]), ("t.hdr", b"NROWS 1\nNCOLS 1\n")];
-    let mut folder = folder_of(alloc, call, &files)?;
-    put_mosaics(alloc, &mut folder, mosaics)?;
-    Ok(folder)
+fn with_mosaics<R: Abort>(rt: &R, alloc: Global, call: u64, mosaics: &[Mosaic<'_>]) -> MemFolder {
+    let mut folder = folder_of(rt, alloc, call, &DATA);
+    for mosaic in mosaics {
+        put_mosaic(rt, alloc, &mut folder, mosaic);
+    }
+    folder
 }
 
 // The mosaics, the call that fails, and how the walk goes.
@@ -107,25 +125,26 @@ const ROWS: [Row<'static>; 16] = [
 ];
 
 // Whether the first walk over these mosaics goes so.
-fn goes_first(alloc: Global, (mosaics, call, step): Row) -> Result<bool, Fail> {
-    let mut folder = with_mosaics(alloc, call, mosaics)?;
-    goes(alloc, &mut Catalog::new(alloc), &mut folder, false, step)
+fn goes_first<R: Abort>(rt: &R, alloc: Global, row: &Row<'_>) -> bool {
+    let (mosaics, call, step) = *row;
+    let mut folder = with_mosaics(rt, alloc, call, mosaics);
+    let mut cat = Catalog::new(alloc);
+    goes(rt, alloc, &mut cat, &mut folder, false, step)
 }
 
-// The first of these walks that goes otherwise, or how many walks there are.
-fn first_astray(alloc: Global) -> Result<usize, Fail> {
-    for (at, row) in ROWS.iter().enumerate() {
-        if !goes_first(alloc, *row)? {
-            return Ok(at);
+// The first of these walks that goes otherwise.
+fn first_astray<R: Abort>(rt: &R, alloc: Global, rows: &[Row<'_>]) -> Option<usize> {
+    for (at, row) in rows.iter().enumerate() {
+        if !goes_first(rt, alloc, row) {
+            return Some(at);
         }
     }
-    Ok(ROWS.len())
+    None
 }
 
 #[test]
-fn walks_of_mosaics(rt: HostRuntime) -> Result<(), Fail> {
-    assert_eq!(rt; first_astray(rt.alloc())?, ROWS.len());
-    Ok(())
+fn walks_of_mosaics(rt: HostRuntime) {
+    none_wrong(&rt, first_astray(&rt, rt.alloc(), &ROWS));
 }
 
 // The number of the dataset that a source of a mosaic names, where there is such a source.
@@ -153,26 +172,35 @@ fn height(cat: &Catalog, id: u32) -> Option<u32> {
     Some(cat.height(id))
 }
 
-// Seventeen mosaics, each of which names the next.
-const CHAIN: [Mosaic<'static>; 17] = [
-    ("m0.vrt", &[("m1.vrt", "1")]),
-    ("m1.vrt", &[("m2.vrt", "1")]),
-    ("m2.vrt", &[("m3.vrt", "1")]),
-    ("m3.vrt", &[("m4.vrt", "1")]),
-    ("m4.vrt", &[("m5.vrt", "1")]),
-    ("m5.vrt", &[("m6.vrt", "1")]),
-    ("m6.vrt", &[("m7.vrt", "1")]),
-    ("m7.vrt", &[("m8.vrt", "1")]),
-    ("m8.vrt", &[("m9.vrt", "1")]),
-    ("m9.vrt", &[("m10.vrt", "1")]),
-    ("m10.vrt", &[("m11.vrt", "1")]),
-    ("m11.vrt", &[("m12.vrt", "1")]),
-    ("m12.vrt", &[("m13.vrt", "1")]),
-    ("m13.vrt", &[("m14.vrt", "1")]),
-    ("m14.vrt", &[("m15.vrt", "1")]),
-    ("m15.vrt", &[("m16.vrt", "1")]),
-    ("m16.vrt", &[("t.bil", "1")]),
+// Seventeen mosaics, each of which names the next, and the data.
+const CHAIN: [&str; 18] = [
+    "m0.vrt", "m1.vrt", "m2.vrt", "m3.vrt", "m4.vrt", "m5.vrt", "m6.vrt", "m7.vrt", "m8.vrt",
+    "m9.vrt", "m10.vrt", "m11.vrt", "m12.vrt", "m13.vrt", "m14.vrt", "m15.vrt", "m16.vrt", "t.bil",
 ];
+
+// Puts a mosaic that names another so many times, at most twice.
+fn put_link<R: Abort>(
+    rt: &R,
+    alloc: Global,
+    folder: &mut MemFolder,
+    name: &str,
+    below: &str,
+    times: usize,
+) {
+    let twice: [Source<'_>; 2] = [(below, "1"), (below, "1")];
+    let (sources, _) = twice.split_at(times.min(2));
+    put_mosaic(rt, alloc, folder, &(name, sources));
+}
+
+// A folder with the data, and with mosaics, each of which names the next so many times.
+fn with_chain<R: Abort>(rt: &R, alloc: Global, names: &[&str], times: usize) -> MemFolder {
+    let mut folder = with_mosaics(rt, alloc, 0, &[]);
+    let (_, behind) = names.split_at(names.len().min(1));
+    for (name, below) in names.iter().zip(behind) {
+        put_link(rt, alloc, &mut folder, name, below, times);
+    }
+    folder
+}
 
 const STEPS: [Step<'static>; 4] = [
     ("m0.vrt", Err(Said::Deep("m16.vrt")), 0),
@@ -181,55 +209,43 @@ const STEPS: [Step<'static>; 4] = [
     ("m2.vrt", Ok(1), 17),
 ];
 
-// The first of these steps that goes otherwise, or how many steps there are.
-fn first_wrong_step(
+// The first of these steps that goes otherwise.
+fn first_wrong_step<R: Abort>(
+    rt: &R,
     alloc: Global,
     cat: &mut Catalog,
     folder: &mut MemFolder,
-    steps: &[Step],
-) -> Result<usize, Fail> {
+    steps: &[Step<'_>],
+) -> Option<usize> {
     for (at, step) in steps.iter().enumerate() {
-        if !goes(alloc, cat, folder, false, *step)? {
-            return Ok(at);
+        if !goes(rt, alloc, cat, folder, false, *step) {
+            return Some(at);
         }
     }
-    Ok(steps.len())
+    None
 }
 
-// The first of these steps that goes otherwise, and the height of the first dataset then.
-fn walk_chain(alloc: Global) -> Result<(usize, Option<u32>), Fail> {
-    let mut folder = with_mosaics(alloc, 0, &CHAIN)?;
+// The first of these steps that goes otherwise, or how many there are where the first dataset has another height then.
+fn walk_chain<R: Abort>(rt: &R, alloc: Global, steps: &[Step<'_>]) -> Option<usize> {
+    let mut folder = with_chain(rt, alloc, &CHAIN, 1);
     let mut cat = Catalog::new(alloc);
-    let wrong = first_wrong_step(alloc, &mut cat, &mut folder, &STEPS)?;
-    Ok((wrong, height(&cat, 0)))
+    let wrong = first_wrong_step(rt, alloc, &mut cat, &mut folder, steps);
+    if height(&cat, 0) == Some(16) {
+        return wrong;
+    }
+    Some(wrong.unwrap_or(steps.len()))
 }
 
 // The seventeenth mosaic on a path is one too many, also where it was met whole on a shorter one.
 #[test]
-fn deep_mosaics(rt: HostRuntime) -> Result<(), Fail> {
-    let (wrong, height) = walk_chain(rt.alloc())?;
-    assert!(rt; wrong == STEPS.len() && height == Some(16), "step {wrong}");
-    Ok(())
+fn deep_mosaics(rt: HostRuntime) {
+    none_wrong(&rt, walk_chain(&rt, rt.alloc(), &STEPS));
 }
 
-// Sixteen mosaics, each of which names the next twice.
-const TWICE: [Mosaic<'static>; 16] = [
-    ("m0.vrt", &[("m1.vrt", "1"), ("m1.vrt", "1")]),
-    ("m1.vrt", &[("m2.vrt", "1"), ("m2.vrt", "1")]),
-    ("m2.vrt", &[("m3.vrt", "1"), ("m3.vrt", "1")]),
-    ("m3.vrt", &[("m4.vrt", "1"), ("m4.vrt", "1")]),
-    ("m4.vrt", &[("m5.vrt", "1"), ("m5.vrt", "1")]),
-    ("m5.vrt", &[("m6.vrt", "1"), ("m6.vrt", "1")]),
-    ("m6.vrt", &[("m7.vrt", "1"), ("m7.vrt", "1")]),
-    ("m7.vrt", &[("m8.vrt", "1"), ("m8.vrt", "1")]),
-    ("m8.vrt", &[("m9.vrt", "1"), ("m9.vrt", "1")]),
-    ("m9.vrt", &[("m10.vrt", "1"), ("m10.vrt", "1")]),
-    ("m10.vrt", &[("m11.vrt", "1"), ("m11.vrt", "1")]),
-    ("m11.vrt", &[("m12.vrt", "1"), ("m12.vrt", "1")]),
-    ("m12.vrt", &[("m13.vrt", "1"), ("m13.vrt", "1")]),
-    ("m13.vrt", &[("m14.vrt", "1"), ("m14.vrt", "1")]),
-    ("m14.vrt", &[("m15.vrt", "1"), ("m15.vrt", "1")]),
-    ("m15.vrt", &[("t.bil", "1"), ("t.bil", "1")]),
+// Sixteen mosaics, each of which names the next twice, and the data.
+const TWICE: [&str; 17] = [
+    "m0.vrt", "m1.vrt", "m2.vrt", "m3.vrt", "m4.vrt", "m5.vrt", "m6.vrt", "m7.vrt", "m8.vrt",
+    "m9.vrt", "m10.vrt", "m11.vrt", "m12.vrt", "m13.vrt", "m14.vrt", "m15.vrt", "t.bil",
 ];
 
 // Whether the mosaics and the data are linked as they name each other.
@@ -240,33 +256,61 @@ fn is_linked(cat: &Catalog) -> bool {
         && target(cat, 15, 0, 0) == Some(16)
 }
 
-// Whether the walk goes to its end, and links the mosaics; and how many files it opens.
-fn walk_twice(alloc: Global) -> Result<(bool, u64), Fail> {
-    let mut folder = Tally::new(with_mosaics(alloc, 0, &TWICE)?);
+// How many files a walk opens that goes to its end and links the mosaics.
+fn walk_twice<R: Abort>(rt: &R, alloc: Global) -> Option<u64> {
+    let mut folder = Tally::new(with_chain(rt, alloc, &TWICE, 2));
     let mut cat = Catalog::new(alloc);
-    let goes = goes(alloc, &mut cat, &mut folder, false, ("m0.vrt", Ok(0), 17))?;
-    Ok((goes && is_linked(&cat), folder.opens()))
+    let goes = goes(
+        rt,
+        alloc,
+        &mut cat,
+        &mut folder,
+        false,
+        ("m0.vrt", Ok(0), 17),
+    );
+    if goes && is_linked(&cat) {
+        return Some(folder.opens());
+    }
+    None
 }
 
 // Each name is read once, however often it is named.
 #[test]
-fn each_name_once(rt: HostRuntime) -> Result<(), Fail> {
-    assert!(rt; walk_twice(rt.alloc())? == (true, 18));
-    Ok(())
+fn each_name_once(rt: HostRuntime) {
+    is_number(&rt, walk_twice(&rt, rt.alloc()), 18);
+}
+
+// Adds a text to a document.
+fn add<R: Abort>(rt: &R, document: &mut String, text: &str) {
+    document.push_str(text).expect(rt, "memory");
+}
+
+// Adds so many sources to a document.
+fn add_sources<R: Abort>(rt: &R, document: &mut String, count: u32) {
+    for _ in 0..count {
+        add(
+            rt,
+            document,
+            "<SimpleSource><SourceFilename>t.bil</SourceFilename></SimpleSource>",
+        );
+    }
 }
 
 // A document of 262,143 sources, the last of which is `b.vrt`.
-fn long_document(alloc: Global) -> Result<String, AllocError> {
-    let mut text = String::from_str(
-        alloc,
+fn long_document<R: Abort>(rt: &R, alloc: Global) -> String {
+    let mut text = String::new(alloc);
+    add(
+        rt,
+        &mut text,
         "<VRTDataset rasterXSize=\"1\" rasterYSize=\"1\"><VRTRasterBand dataType=\"Byte\">",
-    )?;
-    for _ in 0..262_142 {
-        text.push_str("<SimpleSource><SourceFilename>t.bil</SourceFilename></SimpleSource>")?;
-    }
-    text.push_str("<SimpleSource><SourceFilename>b.vrt</SourceFilename></SimpleSource>")?;
-    text.push_str("</VRTRasterBand></VRTDataset>")?;
-    Ok(text)
+    );
+    add_sources(rt, &mut text, 262_142);
+    add(
+        rt,
+        &mut text,
+        "<SimpleSource><SourceFilename>b.vrt</SourceFilename></SimpleSource></VRTRasterBand></VRTDataset>",
+    );
+    text
 }
 
 const FEW: [Mosaic<'static>; 2] = [("b.vrt", &[("t.bil", "1")]), ("c.vrt", &[("x.tif", "1")])];
@@ -277,21 +321,22 @@ const COUNTED: [Step<'static>; 2] = [
 ];
 
 // A folder with the long document and the others.
-fn long_folder(alloc: Global) -> Result<MemFolder, Fail> {
-    let text = long_document(alloc)?;
-    let mut folder = with_mosaics(alloc, 0, &FEW)?;
-    put_all(alloc, &mut folder, &[("a.vrt", text.as_bytes())])?;
-    Ok(folder)
+fn long_folder<R: Abort>(rt: &R, alloc: Global) -> MemFolder {
+    let text = long_document(rt, alloc);
+    let mut folder = with_mosaics(rt, alloc, 0, &FEW);
+    put(rt, alloc, &mut folder, "a.vrt", text.as_bytes());
+    folder
 }
 
-fn walk_long(alloc: Global) -> Result<usize, Fail> {
-    let mut folder = long_folder(alloc)?;
-    first_wrong_step(alloc, &mut Catalog::new(alloc), &mut folder, &COUNTED)
+// The first of these steps that goes otherwise.
+fn walk_long<R: Abort>(rt: &R, alloc: Global, steps: &[Step<'_>]) -> Option<usize> {
+    let mut folder = long_folder(rt, alloc);
+    let mut cat = Catalog::new(alloc);
+    first_wrong_step(rt, alloc, &mut cat, &mut folder, steps)
 }
 
 // The sources of all mosaics are counted together, and each before its name is resolved.
 #[test]
-fn sources_of_all_mosaics(rt: HostRuntime) -> Result<(), Fail> {
-    assert_eq!(rt; walk_long(rt.alloc())?, COUNTED.len());
-    Ok(())
+fn sources_of_all_mosaics(rt: HostRuntime) {
+    none_wrong(&rt, walk_long(&rt, rt.alloc(), &COUNTED));
 }

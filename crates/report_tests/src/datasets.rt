@@ -3,6 +3,7 @@ use geotransform::{GeoTransform, PixelType, Size, Ticks};
 use info_report::{ReportFault, write_info};
 use lists_and_answers::Items;
 use outside::{CalmFolder, Failing, Listed, MemSink, Name, Never, Tally, Text};
+use outside_fakes::TWO_TILES;
 use std::alloc::{AllocError, Global};
 use std::test::*;
 
@@ -218,29 +219,6 @@ Band 2 Block=2x1 Type=Byte
   NoData Value=9
 ";
 
-// The document that `gdalbuildvrt` makes of two tiles which lie side by side.
-const WIDE: &[u8] = b"<VRTDataset rasterXSize=\"2401\" rasterYSize=\"1201\">
-  <GeoTransform>-0.0004166666666667, 0.0008333333333333, 0, 1.0004166666666667, 0, -0.0008333333333333</GeoTransform>
-  <VRTRasterBand dataType=\"Int16\" band=\"1\">
-    <NoDataValue>-32768</NoDataValue>
-    <ComplexSource>
-      <SourceFilename relativeToVRT=\"1\">N00E000.hgt</SourceFilename>
-      <SourceBand>1</SourceBand>
-      <SrcRect xOff=\"0\" yOff=\"0\" xSize=\"1201\" ySize=\"1201\"/>
-      <DstRect xOff=\"0\" yOff=\"0\" xSize=\"1201\" ySize=\"1201\"/>
-      <NODATA>-32768</NODATA>
-    </ComplexSource>
-    <ComplexSource>
-      <SourceFilename relativeToVRT=\"1\">N00E001.hgt</SourceFilename>
-      <SourceBand>1</SourceBand>
-      <SrcRect xOff=\"0\" yOff=\"0\" xSize=\"1201\" ySize=\"1201\"/>
-      <DstRect xOff=\"1200\" yOff=\"0\" xSize=\"1201\" ySize=\"1201\"/>
-      <NODATA>-32768</NODATA>
-    </ComplexSource>
-  </VRTRasterBand>
-</VRTDataset>
-";
-
 const WIDE_REPORT: &[u8] = b"Driver: VRT
 Files: m.vrt
        N00E000.hgt
@@ -267,13 +245,15 @@ const DATASETS: [(&[File<'static>], &[u8]); 5] = [
         ],
         UPPER_REPORT,
     ),
-    (&[("m.vrt", WIDE)], WIDE_REPORT),
+    (&[("m.vrt", TWO_TILES)], WIDE_REPORT),
     (
         &[(
             "d/s.vrt",
-            b"<VRTDataset rasterXSize='1' rasterYSize='2'><SRS>GEOGCS[&quot;a&quot;]</SRS><VRTRasterBand/></VRTDataset>",
+            b"<VRTDataset rasterXSize='1' rasterYSize='2'><SRS>GEOGCS[&quot;a&quot;]</SRS><VRTRasterBand/>\
+            </VRTDataset>",
         )],
-        b"Driver: VRT\nFiles: d/s.vrt\nSize is 1, 2\nCoordinate System is:\nGEOGCS[\"a\"]\nBand 1 Block=128x128 Type=Byte\n",
+        b"Driver: VRT\nFiles: d/s.vrt\nSize is 1, 2\nCoordinate System is:\nGEOGCS[\"a\"]\n\
+        Band 1 Block=128x128 Type=Byte\n",
     ),
     (
         &[(
@@ -285,9 +265,13 @@ const DATASETS: [(&[File<'static>], &[u8]); 5] = [
     (
         &[(
             "d/t.vrt",
-            b"<VRTDataset rasterXSize='1' rasterYSize='1'><VRTRasterBand><SimpleSource><SourceFilename relativeToVRT='1'>a.bil</SourceFilename></SimpleSource></VRTRasterBand><VRTRasterBand><SimpleSource><SourceFilename>./b.bil</SourceFilename></SimpleSource><SimpleSource><SourceFilename relativeToVRT='1'>../d/a.bil</SourceFilename></SimpleSource></VRTRasterBand></VRTDataset>",
+            b"<VRTDataset rasterXSize='1' rasterYSize='1'><VRTRasterBand><SimpleSource>\
+            <SourceFilename relativeToVRT='1'>a.bil</SourceFilename></SimpleSource></VRTRasterBand><VRTRasterBand>\
+            <SimpleSource><SourceFilename>./b.bil</SourceFilename></SimpleSource><SimpleSource>\
+            <SourceFilename relativeToVRT='1'>../d/a.bil</SourceFilename></SimpleSource></VRTRasterBand></VRTDataset>",
         )],
-        b"Driver: VRT\nFiles: d/t.vrt\n       d/a.bil\n       b.bil\nSize is 1, 1\nBand 1 Block=128x128 Type=Byte\nBand 2 Block=128x128 Type=Byte\n",
+        b"Driver: VRT\nFiles: d/t.vrt\n       d/a.bil\n       b.bil\nSize is 1, 1\nBand 1 Block=128x128 Type=Byte\n\
+        Band 2 Block=128x128 Type=Byte\n",
     ),
 ];
 

@@ -4,10 +4,10 @@ use crate::ends::{
     End, Failed, Failer, Output, Telling, Turn, Untold, Work, each_cuts, ends, first_other,
     first_told, first_unmet,
 };
-use crate::mosaics::WIDE;
 use crate::stories::first_unrefused;
 use crate::trials::{FileOf, Part, Row, folder_of, joined, none_wrong, put, said_in, says_in};
 use outside::{Failing, MemFolder, Method};
+use outside_fakes::TWO_TILES;
 use std::alloc::Global;
 use std::process::Abort;
 use std::test::*;
@@ -223,8 +223,8 @@ struct Long {
 
 const OF_LIST: &str = "gdalbuildvrt -q out.vrt -input_file_list list.txt";
 
-// A name of the greatest length, one that is longer, and one behind an input that isn't there; so many inputs as there may
-// be, and one more.
+// A name of the greatest length, one that is longer, and one behind an input that isn't there; so many inputs as there
+// may be, and one more.
 static LONG: [Long; 6] = [
     Long {
         front: b"a.bil\n",
@@ -308,7 +308,7 @@ const TILES: Work<'static> = Work {
     line: "gdalbuildvrt out.vrt N00E000.hgt N00E001.hgt two.bil",
     text: DONE,
     told: "Warning 1: two.bil: skipped (bands)\n",
-    outputs: &[("out.vrt", b"old", WIDE)],
+    outputs: &[("out.vrt", b"old", TWO_TILES)],
 };
 
 // What is told where no input may be skipped; then nothing is published.
@@ -319,8 +319,8 @@ static STRICT: [Row<'static>; 1] = [(
     "ERROR 1: two.bil: skipped (bands)\n",
 )];
 
-// Whether each call of the folder ends a build where it fails, each of the output does, the first one behind the warning
-// and the document, and nothing is changed where no input may be skipped.
+// Whether each call of the folder ends a build where it fails, each of the output does, the first one behind the
+// warning and the document, and nothing is changed where no input may be skipped.
 fn tiles_end<R: Threads + Sync + Abort>(
     rt: &R,
     alloc: Global,

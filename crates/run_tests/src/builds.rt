@@ -6,9 +6,9 @@ use std::test::*;
 /// The progress line.
 pub const DONE: &str = "0...10...20...30...40...50...60...70...80...90...100 - done.\n";
 
-// Two pixels at (0, 1), and two beside them; the same with NODATA; with two bands; of another type; and without a place.
-// A pixel far in the east, and one that lacks bytes. Mosaics of the first, of which one names the other, and one that
-// names itself. Lists of names.
+// Two pixels at (0, 1), and two beside them; the same with NODATA; with two bands; of another type; and without a
+// place. A pixel far in the east, and one that lacks bytes. Mosaics of the first, of which one names the other, and one
+// that names itself. Lists of names.
 static FILES: [FileOf<'static>; 35] = [
     ("a.bil", &[1, 2]),
     ("a.hdr", b"NROWS 1\nNCOLS 2\nULXMAP 0.5\nULYMAP 0.5\n"),
@@ -41,27 +41,33 @@ static FILES: [FileOf<'static>; 35] = [
     ("headless.bil", &[1]),
     (
         "inner.vrt",
-        b"<VRTDataset rasterXSize='2' rasterYSize='1'><GeoTransform>0,1,0,1,0,-1</GeoTransform><VRTRasterBand><SimpleSource><SourceFilename>a.bil</SourceFilename></SimpleSource></VRTRasterBand></VRTDataset>",
+        b"<VRTDataset rasterXSize='2' rasterYSize='1'><GeoTransform>0,1,0,1,0,-1</GeoTransform><VRTRasterBand>\
+        <SimpleSource><SourceFilename>a.bil</SourceFilename></SimpleSource></VRTRasterBand></VRTDataset>",
     ),
     (
         "outer.vrt",
-        b"<VRTDataset rasterXSize='2' rasterYSize='1'><GeoTransform>0,1,0,1,0,-1</GeoTransform><VRTRasterBand><SimpleSource><SourceFilename>inner.vrt</SourceFilename></SimpleSource></VRTRasterBand></VRTDataset>",
+        b"<VRTDataset rasterXSize='2' rasterYSize='1'><GeoTransform>0,1,0,1,0,-1</GeoTransform><VRTRasterBand>\
+        <SimpleSource><SourceFilename>inner.vrt</SourceFilename></SimpleSource></VRTRasterBand></VRTDataset>",
     ),
     (
         "placeless.vrt",
-        b"<VRTDataset rasterXSize='2' rasterYSize='1'><VRTRasterBand><SimpleSource><SourceFilename>inner.vrt</SourceFilename></SimpleSource></VRTRasterBand></VRTDataset>",
+        b"<VRTDataset rasterXSize='2' rasterYSize='1'><VRTRasterBand><SimpleSource>\
+        <SourceFilename>inner.vrt</SourceFilename></SimpleSource></VRTRasterBand></VRTDataset>",
     ),
     (
         "x.vrt",
-        b"<VRTDataset rasterXSize='2' rasterYSize='1'><SRS>X</SRS><GeoTransform>0,1,0,1,0,-1</GeoTransform><VRTRasterBand/></VRTDataset>",
+        b"<VRTDataset rasterXSize='2' rasterYSize='1'><SRS>X</SRS><GeoTransform>0,1,0,1,0,-1</GeoTransform>\
+        <VRTRasterBand/></VRTDataset>",
     ),
     (
         "itself.vrt",
-        b"<VRTDataset rasterXSize='2' rasterYSize='1'><VRTRasterBand><SimpleSource><SourceFilename>itself.vrt</SourceFilename></SimpleSource></VRTRasterBand></VRTDataset>",
+        b"<VRTDataset rasterXSize='2' rasterYSize='1'><VRTRasterBand><SimpleSource>\
+        <SourceFilename>itself.vrt</SourceFilename></SimpleSource></VRTRasterBand></VRTDataset>",
     ),
     (
         "bandless.vrt",
-        b"<VRTDataset rasterXSize='2' rasterYSize='1'><VRTRasterBand><SimpleSource><SourceFilename>a.bil</SourceFilename><SourceBand>2</SourceBand></SimpleSource></VRTRasterBand></VRTDataset>",
+        b"<VRTDataset rasterXSize='2' rasterYSize='1'><VRTRasterBand><SimpleSource>\
+        <SourceFilename>a.bil</SourceFilename><SourceBand>2</SourceBand></SimpleSource></VRTRasterBand></VRTDataset>",
     ),
     ("lf.txt", b"a.bil\nb.bil\n"),
     ("crlf.txt", b"a.bil\r\n\r\nb.bil\r\n"),

@@ -3,8 +3,8 @@ use crate::stories::{Story, first_astray};
 use crate::trials::{FileOf, none_wrong};
 use std::test::*;
 
-// A line of five pixels; four that have a place; two bands; a pixel in another folder; a mosaic of two rasters and one of
-// that mosaic; bands of three types with a coordinate system; and a pixel with the least sides.
+// A line of five pixels; four that have a place; two bands; a pixel in another folder; a mosaic of two rasters and one
+// of that mosaic; bands of three types with a coordinate system; and a pixel with the least sides.
 static RASTERS: [FileOf<'static>; 16] = [
     ("five.bil", &[1, 2, 3, 4, 5]),
     ("five.hdr", b"NROWS 1\nNCOLS 5\n"),
@@ -26,19 +26,25 @@ static RASTERS: [FileOf<'static>; 16] = [
     ),
     (
         "m.vrt",
-        b"<VRTDataset rasterXSize='3' rasterYSize='1'><VRTRasterBand dataType='Int16'><NoDataValue>-1</NoDataValue><ComplexSource><SourceFilename>a.bil</SourceFilename><NODATA>0</NODATA></ComplexSource><ComplexSource><SourceFilename>b.bil</SourceFilename><NODATA>0</NODATA></ComplexSource></VRTRasterBand></VRTDataset>",
+        b"<VRTDataset rasterXSize='3' rasterYSize='1'><VRTRasterBand dataType='Int16'><NoDataValue>-1</NoDataValue>\
+        <ComplexSource><SourceFilename>a.bil</SourceFilename><NODATA>0</NODATA></ComplexSource><ComplexSource>\
+        <SourceFilename>b.bil</SourceFilename><NODATA>0</NODATA></ComplexSource></VRTRasterBand></VRTDataset>",
     ),
     (
         "o.vrt",
-        b"<VRTDataset rasterXSize='3' rasterYSize='1'><VRTRasterBand dataType='Int16'><SimpleSource><SourceFilename>m.vrt</SourceFilename></SimpleSource></VRTRasterBand></VRTDataset>",
+        b"<VRTDataset rasterXSize='3' rasterYSize='1'><VRTRasterBand dataType='Int16'><SimpleSource>\
+        <SourceFilename>m.vrt</SourceFilename></SimpleSource></VRTRasterBand></VRTDataset>",
     ),
     (
         "mixed.vrt",
-        b"<VRTDataset rasterXSize='2' rasterYSize='1'><SRS>X&lt;1&gt;</SRS><GeoTransform>0,-1,0,0,0,0.5</GeoTransform><VRTRasterBand dataType='Byte'><NoDataValue>9</NoDataValue></VRTRasterBand><VRTRasterBand dataType='Int16'><NoDataValue>-5</NoDataValue></VRTRasterBand><VRTRasterBand dataType='UInt32'/></VRTDataset>",
+        b"<VRTDataset rasterXSize='2' rasterYSize='1'><SRS>X&lt;1&gt;</SRS><GeoTransform>0,-1,0,0,0,0.5</GeoTransform>\
+        <VRTRasterBand dataType='Byte'><NoDataValue>9</NoDataValue></VRTRasterBand><VRTRasterBand dataType='Int16'>\
+        <NoDataValue>-5</NoDataValue></VRTRasterBand><VRTRasterBand dataType='UInt32'/></VRTDataset>",
     ),
     (
         "least.vrt",
-        b"<VRTDataset rasterXSize='1' rasterYSize='1'><GeoTransform>0,0.0000000000000001,0,0,0,-0.0000000000000001</GeoTransform><VRTRasterBand/></VRTDataset>",
+        b"<VRTDataset rasterXSize='1' rasterYSize='1'>\
+        <GeoTransform>0,0.0000000000000001,0,0,0,-0.0000000000000001</GeoTransform><VRTRasterBand/></VRTDataset>",
     ),
 ];
 

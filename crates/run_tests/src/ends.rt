@@ -226,8 +226,8 @@ fn first_uncut<R: Threads + Sync + Abort>(
     0
 }
 
-/// Whether each call ends the run by its failing, up to one that isn't made, whose number is above the first of these and
-/// not above the second.
+/// Whether each call ends the run by its failing, up to one that isn't made, whose number is above the first of these
+/// and not above the second.
 pub fn each_cuts<R: Threads + Sync + Abort>(
     rt: &R,
     alloc: Global,
@@ -275,12 +275,12 @@ pub fn first_unmet<R: Threads + Sync + Abort>(
     None
 }
 
-/// A run that publishes nothing: its words and its input, what it prints, whose calls fail in turn, and how many of them it
-/// makes.
+/// A run that publishes nothing: its words and its input, what it prints, whose calls fail in turn, and how many of
+/// them it makes.
 pub type Asking<'a> = (Fed<'a>, &'a str, Failer, u64);
 
-// Whether a run of which this call fails ends early or, where it isn't made, prints all; no draft is open, and there are as
-// many files as before.
+// Whether a run of which this call fails ends early or, where it isn't made, prints all; no draft is open, and there
+// are as many files as before.
 fn asks_so<R: Threads + Sync + Abort>(
     rt: &R,
     alloc: Global,

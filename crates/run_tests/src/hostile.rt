@@ -1,10 +1,10 @@
 // Files and lines that are made to break a reader: what is told of them.
-use crate::mosaics::WIDE;
 use crate::trials::{
     FileOf, Part, Row, Trial, add_parts, ends_so, first_wrong, folder_of, joined, none_wrong, put,
     said_in, says, says_in,
 };
 use outside::MemFolder;
+use outside_fakes::TWO_TILES;
 use std::alloc::Global;
 use std::process::Abort;
 use std::test::*;
@@ -15,8 +15,8 @@ const BIG: &[u8] = b"NROWS 4194304\nNCOLS 4194304\nNBANDS 256\nNBITS 32\nLAYOUT 
 const BIG_GRID: &[u8] = b"ncols 4194304\nnrows 4194304\nxllcorner 0\nyllcorner 0\ncellsize 1\n";
 
 // A token of 65 digits behind a head of 55 bytes.
-const LONG_TOKEN: &[u8] =
-    b"ncols 1\nnrows 1\nxllcorner 0\nyllcorner 0\ncellsize 1\n\n\n\n\n00000000000000000000000000000000000000000000000000000000000000001\n";
+const LONG_TOKEN: &[u8] = b"ncols 1\nnrows 1\nxllcorner 0\nyllcorner 0\ncellsize 1\n\n\n\n\n\
+    00000000000000000000000000000000000000000000000000000000000000001\n";
 
 // A source as far right as one may lie, and one a pixel farther.
 const FAR: &[u8] =
@@ -148,7 +148,7 @@ fn first_unrefused_cut<R: Threads + Sync + Abort>(
 
 #[test]
 fn cut_documents(rt: HostRuntime) {
-    none_wrong(&rt, first_unrefused_cut(&rt, rt.alloc(), WIDE));
+    none_wrong(&rt, first_unrefused_cut(&rt, rt.alloc(), TWO_TILES));
 }
 
 // A line of so many digits, and a point.

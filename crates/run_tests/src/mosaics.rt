@@ -3,33 +3,11 @@ use crate::trials::{
     FileOf, NOTHING, Part, Row, first_harmless, first_wrong, folder_of, is_number, joined,
     none_wrong, said_in,
 };
+use outside_fakes::TWO_TILES;
 use std::alloc::Global;
 use std::process::Abort;
 use std::test::*;
 use std::thread::Threads;
-
-/// The document that `gdalbuildvrt` makes of two tiles which lie side by side.
-pub const WIDE: &[u8] = b"<VRTDataset rasterXSize=\"2401\" rasterYSize=\"1201\">
-  <GeoTransform>-0.0004166666666667, 0.0008333333333333, 0, 1.0004166666666667, 0, -0.0008333333333333</GeoTransform>
-  <VRTRasterBand dataType=\"Int16\" band=\"1\">
-    <NoDataValue>-32768</NoDataValue>
-    <ComplexSource>
-      <SourceFilename relativeToVRT=\"1\">N00E000.hgt</SourceFilename>
-      <SourceBand>1</SourceBand>
-      <SrcRect xOff=\"0\" yOff=\"0\" xSize=\"1201\" ySize=\"1201\"/>
-      <DstRect xOff=\"0\" yOff=\"0\" xSize=\"1201\" ySize=\"1201\"/>
-      <NODATA>-32768</NODATA>
-    </ComplexSource>
-    <ComplexSource>
-      <SourceFilename relativeToVRT=\"1\">N00E001.hgt</SourceFilename>
-      <SourceBand>1</SourceBand>
-      <SrcRect xOff=\"0\" yOff=\"0\" xSize=\"1201\" ySize=\"1201\"/>
-      <DstRect xOff=\"1200\" yOff=\"0\" xSize=\"1201\" ySize=\"1201\"/>
-      <NODATA>-32768</NODATA>
-    </ComplexSource>
-  </VRTRasterBand>
-</VRTDataset>
-";
 
 const WIDE_REPORT: &str = "Driver: VRT
 Files: wide.vrt
@@ -50,7 +28,7 @@ Band 1 Block=128x128 Type=Int16
 // Mosaics whose sources aren't there, which nothing opens: one that names itself, two that are refused, and one whose
 // band takes a kind that isn't read.
 static FILES: [FileOf<'static>; 6] = [
-    ("wide.vrt", WIDE),
+    ("wide.vrt", TWO_TILES),
     (
         "m.vrt",
         b"<VRTDataset rasterXSize=\"1\" rasterYSize=\"1\"><Foo/></VRTDataset>",
@@ -61,7 +39,8 @@ static FILES: [FileOf<'static>; 6] = [
     ),
     (
         "itself.vrt",
-        b"<VRTDataset rasterXSize='3' rasterYSize='1'><SRS/><VRTRasterBand><SimpleSource><SourceFilename>itself.vrt</SourceFilename></SimpleSource></VRTRasterBand></VRTDataset>",
+        b"<VRTDataset rasterXSize='3' rasterYSize='1'><SRS/><VRTRasterBand><SimpleSource>\
+        <SourceFilename>itself.vrt</SourceFilename></SimpleSource></VRTRasterBand></VRTDataset>",
     ),
     (
         "wide_less.VRT",
@@ -75,7 +54,8 @@ static ROWS: [Row<'static>; 9] = [
     (
         "gdalinfo itself.vrt",
         0,
-        "Driver: VRT\nFiles: itself.vrt\n       itself.vrt\nSize is 3, 1\nCoordinate System is:\n\nBand 1 Block=128x128 Type=Byte\n",
+        "Driver: VRT\nFiles: itself.vrt\n       itself.vrt\nSize is 3, 1\nCoordinate System is:\n\n\
+        Band 1 Block=128x128 Type=Byte\n",
         "",
     ),
     (
@@ -136,7 +116,8 @@ static NAMES: [Long<'static>; 2] = [(4096, ""), (4097, "ERROR 6: limit of name p
 fn with_name<R: Abort>(rt: &R, alloc: Global, len: usize) -> Vec<u8> {
     let parts: [Part<'_>; 3] = [
         (
-            b"<VRTDataset rasterXSize='1' rasterYSize='1'><VRTRasterBand><SimpleSource><SourceFilename relativeToVRT='1'>",
+            b"<VRTDataset rasterXSize='1' rasterYSize='1'><VRTRasterBand><SimpleSource>\
+            <SourceFilename relativeToVRT='1'>",
             1,
         ),
         (b"n", len.saturating_sub(2)),

@@ -29,31 +29,41 @@ static FILES: [FileOf<'static>; 19] = [
     ),
     (
         "m.vrt",
-        b"<VRTDataset rasterXSize='3' rasterYSize='1'><VRTRasterBand dataType='Int16'><NoDataValue>-1</NoDataValue><ComplexSource><SourceFilename>a.bil</SourceFilename><NODATA>0</NODATA></ComplexSource><ComplexSource><SourceFilename>b.bil</SourceFilename><NODATA>0</NODATA></ComplexSource></VRTRasterBand></VRTDataset>",
+        b"<VRTDataset rasterXSize='3' rasterYSize='1'><VRTRasterBand dataType='Int16'><NoDataValue>-1</NoDataValue>\
+        <ComplexSource><SourceFilename>a.bil</SourceFilename><NODATA>0</NODATA></ComplexSource><ComplexSource>\
+        <SourceFilename>b.bil</SourceFilename><NODATA>0</NODATA></ComplexSource></VRTRasterBand></VRTDataset>",
     ),
     (
         "simple.vrt",
-        b"<VRTDataset rasterXSize='3' rasterYSize='1'><VRTRasterBand dataType='Int16'><NoDataValue>-1</NoDataValue><SimpleSource><SourceFilename>a.bil</SourceFilename></SimpleSource><SimpleSource><SourceFilename>b.bil</SourceFilename></SimpleSource></VRTRasterBand></VRTDataset>",
+        b"<VRTDataset rasterXSize='3' rasterYSize='1'><VRTRasterBand dataType='Int16'><NoDataValue>-1</NoDataValue>\
+        <SimpleSource><SourceFilename>a.bil</SourceFilename></SimpleSource><SimpleSource>\
+        <SourceFilename>b.bil</SourceFilename></SimpleSource></VRTRasterBand></VRTDataset>",
     ),
     (
         "n.vrt",
-        b"<VRTDataset rasterXSize='3' rasterYSize='1'><VRTRasterBand dataType='Int16'><SimpleSource><SourceFilename>m.vrt</SourceFilename></SimpleSource></VRTRasterBand></VRTDataset>",
+        b"<VRTDataset rasterXSize='3' rasterYSize='1'><VRTRasterBand dataType='Int16'><SimpleSource>\
+        <SourceFilename>m.vrt</SourceFilename></SimpleSource></VRTRasterBand></VRTDataset>",
     ),
     (
         "o.vrt",
-        b"<VRTDataset rasterXSize='3' rasterYSize='1'><VRTRasterBand dataType='Int16'><SimpleSource><SourceFilename>n.vrt</SourceFilename></SimpleSource></VRTRasterBand></VRTDataset>",
+        b"<VRTDataset rasterXSize='3' rasterYSize='1'><VRTRasterBand dataType='Int16'><SimpleSource>\
+        <SourceFilename>n.vrt</SourceFilename></SimpleSource></VRTRasterBand></VRTDataset>",
     ),
     (
         "c.vrt",
-        b"<VRTDataset rasterXSize='1' rasterYSize='1'><VRTRasterBand><SimpleSource><SourceFilename>./d.vrt</SourceFilename></SimpleSource></VRTRasterBand></VRTDataset>",
+        b"<VRTDataset rasterXSize='1' rasterYSize='1'><VRTRasterBand><SimpleSource>\
+        <SourceFilename>./d.vrt</SourceFilename></SimpleSource></VRTRasterBand></VRTDataset>",
     ),
     (
         "d.vrt",
-        b"<VRTDataset rasterXSize='1' rasterYSize='1'><VRTRasterBand><SimpleSource><SourceFilename>c.vrt</SourceFilename></SimpleSource></VRTRasterBand></VRTDataset>",
+        b"<VRTDataset rasterXSize='1' rasterYSize='1'><VRTRasterBand><SimpleSource>\
+        <SourceFilename>c.vrt</SourceFilename></SimpleSource></VRTRasterBand></VRTDataset>",
     ),
     (
         "twice.vrt",
-        b"<VRTDataset rasterXSize='3' rasterYSize='1'><VRTRasterBand dataType='Int16'><SimpleSource><SourceFilename>m.vrt</SourceFilename></SimpleSource><SimpleSource><SourceFilename>m.vrt</SourceFilename></SimpleSource></VRTRasterBand></VRTDataset>",
+        b"<VRTDataset rasterXSize='3' rasterYSize='1'><VRTRasterBand dataType='Int16'><SimpleSource>\
+        <SourceFilename>m.vrt</SourceFilename></SimpleSource><SimpleSource><SourceFilename>m.vrt</SourceFilename>\
+        </SimpleSource></VRTRasterBand></VRTDataset>",
     ),
     ("s.bil", &[255, 255, 3, 0, 10, 0, 11, 0, 253, 255]),
     (
@@ -62,11 +72,14 @@ static FILES: [FileOf<'static>; 19] = [
     ),
     (
         "lut.vrt",
-        b"<VRTDataset rasterXSize='5' rasterYSize='1'><VRTRasterBand dataType='Int16'><ComplexSource><SourceFilename>s.bil</SourceFilename><LUT>0:0,10:100</LUT></ComplexSource></VRTRasterBand></VRTDataset>",
+        b"<VRTDataset rasterXSize='5' rasterYSize='1'><VRTRasterBand dataType='Int16'><ComplexSource>\
+        <SourceFilename>s.bil</SourceFilename><LUT>0:0,10:100</LUT></ComplexSource></VRTRasterBand></VRTDataset>",
     ),
     (
         "half.vrt",
-        b"<VRTDataset rasterXSize='5' rasterYSize='1'><VRTRasterBand dataType='Int16'><ComplexSource><SourceFilename>s.bil</SourceFilename><ScaleRatio>0.5</ScaleRatio></ComplexSource></VRTRasterBand></VRTDataset>",
+        b"<VRTDataset rasterXSize='5' rasterYSize='1'><VRTRasterBand dataType='Int16'><ComplexSource>\
+        <SourceFilename>s.bil</SourceFilename><ScaleRatio>0.5</ScaleRatio></ComplexSource></VRTRasterBand>\
+        </VRTDataset>",
     ),
     ("g.bil", &[1, 2, 3, 4]),
     (
@@ -298,8 +311,8 @@ const THREE: Fed<'static> = (TWO, (b"0 0\n9 9\n2 1\n", 4));
 
 const ANSWERS: &str = "1\n4\n\n9\n12\n";
 
-// The data and their header are opened and the header is read; then the data are opened again, and for two of the points a
-// line of each band is read. Three pieces and the end are taken, and each answer is put.
+// The data and their header are opened and the header is read; then the data are opened again, and for two of the
+// points a line of each band is read. Three pieces and the end are taken, and each answer is put.
 static ASKED: [Asking<'static>; 4] = [
     (THREE, ANSWERS, Failer::Folder, 8),
     (THREE, ANSWERS, Failer::Input, 4),

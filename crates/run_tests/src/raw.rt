@@ -193,8 +193,8 @@ fn a_failing_output(rt: HostRuntime) {
     none_wrong(&rt, first_failing(&rt, rt.alloc(), files(), &PUTS));
 }
 
-// The data and their header are opened and the header is read; then the data are opened again, and a line of each band is
-// read. The values are put by one call, and no input is taken.
+// The data and their header are opened and the header is read; then the data are opened again, and a line of each band
+// is read. The values are put by one call, and no input is taken.
 static ASKED: [Asking<'static>; 4] = [
     ((LINE, NOTHING), "9\n12\n", Failer::Folder, 6),
     ((LINE, NOTHING), "9\n12\n", Failer::Output(0), 1),

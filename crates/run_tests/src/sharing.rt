@@ -57,8 +57,8 @@ fn tally<R: Abort>(rt: &R, alloc: Global) -> Tally<MemFolder> {
 // The words of a run, and its least and its most reads.
 type Reads<'a> = (&'a str, u64, u64);
 
-// A pool of 64 blocks lacks each of the 65 lines of a grid when it is asked for again. With 64 lines that are shared, only
-// the first and the last block have one in common: so 65 are loaded at first, and then two for each time.
+// A pool of 64 blocks lacks each of the 65 lines of a grid when it is asked for again. With 64 lines that are shared,
+// only the first and the last block have one in common: so 65 are loaded at first, and then two for each time.
 static READS: [Reads<'static>; 3] = [
     (
         "gdallocationinfo --blocks 64 -valonly column.asc",

@@ -15,8 +15,8 @@ const TWO: &str = "Size: 4 x 4\nValues: 15\nSum: 4450\nLeast: 0\nGreatest: 1020\
 
 const ONE: &str = "Size: 2 x 2\nValues: 4\nSum: 1093\nLeast: 0\nGreatest: 1000\n";
 
-// Tiles of three sides, with one block, with many and with three workers; leading zeros; a setting without effect; and a repeated option, of
-// which the last use counts.
+// Tiles of three sides, with one block, with many and with three workers; leading zeros; a setting without effect; and
+// a repeated option, of which the last use counts.
 static TOLD: [Row<'static>; 8] = [
     ("synth 45 --blocks 1", 0, FORTY_FIVE, ""),
     ("synth --blocks 64 45", 0, FORTY_FIVE, ""),

@@ -20,15 +20,19 @@ static FILES: [FileOf<'static>; 16] = [
     ),
     (
         "m.vrt",
-        b"<VRTDataset rasterXSize='3' rasterYSize='1'><VRTRasterBand dataType='Int16'><NoDataValue>-1</NoDataValue><ComplexSource><SourceFilename>a.bil</SourceFilename><NODATA>0</NODATA></ComplexSource><ComplexSource><SourceFilename>b.bil</SourceFilename><NODATA>0</NODATA></ComplexSource></VRTRasterBand></VRTDataset>",
+        b"<VRTDataset rasterXSize='3' rasterYSize='1'><VRTRasterBand dataType='Int16'><NoDataValue>-1</NoDataValue>\
+        <ComplexSource><SourceFilename>a.bil</SourceFilename><NODATA>0</NODATA></ComplexSource><ComplexSource>\
+        <SourceFilename>b.bil</SourceFilename><NODATA>0</NODATA></ComplexSource></VRTRasterBand></VRTDataset>",
     ),
     (
         "n.vrt",
-        b"<VRTDataset rasterXSize='3' rasterYSize='1'><VRTRasterBand dataType='Int16'><SimpleSource><SourceFilename>m.vrt</SourceFilename></SimpleSource></VRTRasterBand></VRTDataset>",
+        b"<VRTDataset rasterXSize='3' rasterYSize='1'><VRTRasterBand dataType='Int16'><SimpleSource>\
+        <SourceFilename>m.vrt</SourceFilename></SimpleSource></VRTRasterBand></VRTDataset>",
     ),
     (
         "o.vrt",
-        b"<VRTDataset rasterXSize='3' rasterYSize='1'><VRTRasterBand dataType='Int16'><SimpleSource><SourceFilename>n.vrt</SourceFilename></SimpleSource></VRTRasterBand></VRTDataset>",
+        b"<VRTDataset rasterXSize='3' rasterYSize='1'><VRTRasterBand dataType='Int16'><SimpleSource>\
+        <SourceFilename>n.vrt</SourceFilename></SimpleSource></VRTRasterBand></VRTDataset>",
     ),
     ("two.bil", &[1, 2, 3, 4, 5, 6, 7, 8, 9, 10, 11, 12]),
     ("two.hdr", b"NROWS 2\nNCOLS 3\nNBANDS 2\n"),

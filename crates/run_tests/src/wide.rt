@@ -1,5 +1,5 @@
-// Bands of 8 bits with a sign and of 64 bits: their ends in each layout and order, through mosaics and translations, and
-// mosaics that scale them.
+// Bands of 8 bits with a sign and of 64 bits: their ends in each layout and order, through mosaics and translations,
+// and mosaics that scale them.
 use crate::stories::{Story, first_astray, first_unrefused};
 use crate::trials::{FileOf, Row, first_wrong, none_wrong};
 use std::test::*;
@@ -56,27 +56,39 @@ static FILES: [FileOf<'static>; 44] = [
     ),
     (
         "w.vrt",
-        b"<VRTDataset rasterXSize='1' rasterYSize='1'><VRTRasterBand dataType='UInt64'><ComplexSource><SourceFilename>u.bsq</SourceFilename><ScaleRatio>2</ScaleRatio></ComplexSource></VRTRasterBand></VRTDataset>",
+        b"<VRTDataset rasterXSize='1' rasterYSize='1'><VRTRasterBand dataType='UInt64'><ComplexSource>\
+        <SourceFilename>u.bsq</SourceFilename><ScaleRatio>2</ScaleRatio></ComplexSource></VRTRasterBand></VRTDataset>",
     ),
     (
         "o.vrt",
-        b"<VRTDataset rasterXSize='1' rasterYSize='1'><VRTRasterBand dataType='UInt64'><ComplexSource><SourceFilename>s.bsq</SourceFilename><ScaleOffset>1</ScaleOffset></ComplexSource></VRTRasterBand></VRTDataset>",
+        b"<VRTDataset rasterXSize='1' rasterYSize='1'><VRTRasterBand dataType='UInt64'><ComplexSource>\
+        <SourceFilename>s.bsq</SourceFilename><ScaleOffset>1</ScaleOffset></ComplexSource></VRTRasterBand>\
+        </VRTDataset>",
     ),
     (
         "l.vrt",
-        b"<VRTDataset rasterXSize='1' rasterYSize='1'><VRTRasterBand dataType='Byte'><ComplexSource><SourceFilename>u.bsq</SourceFilename><LUT>0:1</LUT></ComplexSource></VRTRasterBand></VRTDataset>",
+        b"<VRTDataset rasterXSize='1' rasterYSize='1'><VRTRasterBand dataType='Byte'><ComplexSource>\
+        <SourceFilename>u.bsq</SourceFilename><LUT>0:1</LUT></ComplexSource></VRTRasterBand></VRTDataset>",
     ),
     (
         "v.vrt",
-        b"<VRTDataset rasterXSize='1' rasterYSize='1'><VRTRasterBand dataType='UInt64'><NoDataValue>7</NoDataValue><ComplexSource><SourceFilename>u.bsq</SourceFilename><NODATA>18446744073709551615</NODATA></ComplexSource></VRTRasterBand></VRTDataset>",
+        b"<VRTDataset rasterXSize='1' rasterYSize='1'><VRTRasterBand dataType='UInt64'><NoDataValue>7</NoDataValue>\
+        <ComplexSource><SourceFilename>u.bsq</SourceFilename><NODATA>18446744073709551615</NODATA></ComplexSource>\
+        </VRTRasterBand></VRTDataset>",
     ),
     (
         "one.vrt",
-        b"<VRTDataset rasterXSize='1' rasterYSize='1'><VRTRasterBand dataType='UInt64'><ComplexSource><SourceFilename>u.bsq</SourceFilename><ScaleOffset>0</ScaleOffset><ScaleRatio>1</ScaleRatio></ComplexSource></VRTRasterBand></VRTDataset>",
+        b"<VRTDataset rasterXSize='1' rasterYSize='1'><VRTRasterBand dataType='UInt64'><ComplexSource>\
+        <SourceFilename>u.bsq</SourceFilename><ScaleOffset>0</ScaleOffset><ScaleRatio>1</ScaleRatio></ComplexSource>\
+        </VRTRasterBand></VRTDataset>",
     ),
     (
         "ends.vrt",
-        b"<VRTDataset rasterXSize='2' rasterYSize='1'><VRTRasterBand dataType='Int64'><SimpleSource><SourceFilename>sl.bil</SourceFilename></SimpleSource></VRTRasterBand><VRTRasterBand dataType='UInt64'><SimpleSource><SourceFilename>ub.bsq</SourceFilename></SimpleSource></VRTRasterBand><VRTRasterBand dataType='Int8'><SimpleSource><SourceFilename>ii.bil</SourceFilename></SimpleSource></VRTRasterBand></VRTDataset>",
+        b"<VRTDataset rasterXSize='2' rasterYSize='1'><VRTRasterBand dataType='Int64'><SimpleSource>\
+        <SourceFilename>sl.bil</SourceFilename></SimpleSource></VRTRasterBand><VRTRasterBand dataType='UInt64'>\
+        <SimpleSource><SourceFilename>ub.bsq</SourceFilename></SimpleSource></VRTRasterBand>\
+        <VRTRasterBand dataType='Int8'><SimpleSource><SourceFilename>ii.bil</SourceFilename></SimpleSource>\
+        </VRTRasterBand></VRTDataset>",
     ),
     ("b8.bil", &[0, 255]),
     ("b8.hdr", b"NROWS 1\nNCOLS 2\n"),
@@ -96,44 +108,67 @@ static FILES: [FileOf<'static>; 44] = [
     ),
     (
         "five.vrt",
-        b"<VRTDataset rasterXSize='2' rasterYSize='1'><VRTRasterBand dataType='Byte'><SimpleSource><SourceFilename>b8.bil</SourceFilename></SimpleSource></VRTRasterBand><VRTRasterBand dataType='UInt16'><SimpleSource><SourceFilename>u16.bil</SourceFilename></SimpleSource></VRTRasterBand><VRTRasterBand dataType='Int16'><SimpleSource><SourceFilename>i16.bil</SourceFilename></SimpleSource></VRTRasterBand><VRTRasterBand dataType='UInt32'><SimpleSource><SourceFilename>u32.bil</SourceFilename></SimpleSource></VRTRasterBand><VRTRasterBand dataType='Int32'><SimpleSource><SourceFilename>i32.bil</SourceFilename></SimpleSource></VRTRasterBand></VRTDataset>",
+        b"<VRTDataset rasterXSize='2' rasterYSize='1'><VRTRasterBand dataType='Byte'><SimpleSource>\
+        <SourceFilename>b8.bil</SourceFilename></SimpleSource></VRTRasterBand><VRTRasterBand dataType='UInt16'>\
+        <SimpleSource><SourceFilename>u16.bil</SourceFilename></SimpleSource></VRTRasterBand>\
+        <VRTRasterBand dataType='Int16'><SimpleSource><SourceFilename>i16.bil</SourceFilename></SimpleSource>\
+        </VRTRasterBand><VRTRasterBand dataType='UInt32'><SimpleSource><SourceFilename>u32.bil</SourceFilename>\
+        </SimpleSource></VRTRasterBand><VRTRasterBand dataType='Int32'><SimpleSource>\
+        <SourceFilename>i32.bil</SourceFilename></SimpleSource></VRTRasterBand></VRTDataset>",
     ),
     (
         "cut.vrt",
-        b"<VRTDataset rasterXSize='2' rasterYSize='1'><VRTRasterBand dataType='UInt64'><SimpleSource><SourceFilename>ends.vrt</SourceFilename></SimpleSource></VRTRasterBand><VRTRasterBand dataType='Int64'><SimpleSource><SourceFilename>ends.vrt</SourceFilename><SourceBand>2</SourceBand></SimpleSource></VRTRasterBand><VRTRasterBand dataType='Int8'><SimpleSource><SourceFilename>ends.vrt</SourceFilename></SimpleSource></VRTRasterBand></VRTDataset>",
+        b"<VRTDataset rasterXSize='2' rasterYSize='1'><VRTRasterBand dataType='UInt64'><SimpleSource>\
+        <SourceFilename>ends.vrt</SourceFilename></SimpleSource></VRTRasterBand><VRTRasterBand dataType='Int64'>\
+        <SimpleSource><SourceFilename>ends.vrt</SourceFilename><SourceBand>2</SourceBand></SimpleSource>\
+        </VRTRasterBand><VRTRasterBand dataType='Int8'><SimpleSource><SourceFilename>ends.vrt</SourceFilename>\
+        </SimpleSource></VRTRasterBand></VRTDataset>",
     ),
     (
         "eight.vrt",
-        b"<VRTDataset rasterXSize='2' rasterYSize='1'><VRTRasterBand dataType='Int16'><ComplexSource><SourceFilename>ii.bil</SourceFilename><ScaleRatio>2</ScaleRatio></ComplexSource></VRTRasterBand></VRTDataset>",
+        b"<VRTDataset rasterXSize='2' rasterYSize='1'><VRTRasterBand dataType='Int16'><ComplexSource>\
+        <SourceFilename>ii.bil</SourceFilename><ScaleRatio>2</ScaleRatio></ComplexSource></VRTRasterBand></VRTDataset>",
     ),
     // a mosaic that scales is refused after all that lies below it, and after the band that it names
     (
         "lost.vrt",
-        b"<VRTDataset rasterXSize='1' rasterYSize='1'><VRTRasterBand dataType='UInt64'><SimpleSource><SourceFilename>none.bsq</SourceFilename></SimpleSource></VRTRasterBand></VRTDataset>",
+        b"<VRTDataset rasterXSize='1' rasterYSize='1'><VRTRasterBand dataType='UInt64'><SimpleSource>\
+        <SourceFilename>none.bsq</SourceFilename></SimpleSource></VRTRasterBand></VRTDataset>",
     ),
     (
         "over.vrt",
-        b"<VRTDataset rasterXSize='1' rasterYSize='1'><VRTRasterBand dataType='UInt64'><ComplexSource><SourceFilename>lost.vrt</SourceFilename><ScaleRatio>2</ScaleRatio></ComplexSource></VRTRasterBand></VRTDataset>",
+        b"<VRTDataset rasterXSize='1' rasterYSize='1'><VRTRasterBand dataType='UInt64'><ComplexSource>\
+        <SourceFilename>lost.vrt</SourceFilename><ScaleRatio>2</ScaleRatio></ComplexSource></VRTRasterBand>\
+        </VRTDataset>",
     ),
     (
         "two.vrt",
-        b"<VRTDataset rasterXSize='1' rasterYSize='1'><VRTRasterBand dataType='UInt64'><ComplexSource><SourceFilename>u.bsq</SourceFilename><SourceBand>2</SourceBand><ScaleRatio>2</ScaleRatio></ComplexSource></VRTRasterBand></VRTDataset>",
+        b"<VRTDataset rasterXSize='1' rasterYSize='1'><VRTRasterBand dataType='UInt64'><ComplexSource>\
+        <SourceFilename>u.bsq</SourceFilename><SourceBand>2</SourceBand><ScaleRatio>2</ScaleRatio></ComplexSource>\
+        </VRTRasterBand></VRTDataset>",
     ),
     (
         "then.vrt",
-        b"<VRTDataset rasterXSize='1' rasterYSize='1'><VRTRasterBand dataType='UInt64'><ComplexSource><SourceFilename>u.bsq</SourceFilename><ScaleRatio>2</ScaleRatio></ComplexSource><SimpleSource><SourceFilename>none.bsq</SourceFilename></SimpleSource></VRTRasterBand></VRTDataset>",
+        b"<VRTDataset rasterXSize='1' rasterYSize='1'><VRTRasterBand dataType='UInt64'><ComplexSource>\
+        <SourceFilename>u.bsq</SourceFilename><ScaleRatio>2</ScaleRatio></ComplexSource><SimpleSource>\
+        <SourceFilename>none.bsq</SourceFilename></SimpleSource></VRTRasterBand></VRTDataset>",
     ),
     (
         "third.vrt",
-        b"<VRTDataset rasterXSize='2' rasterYSize='1'><VRTRasterBand dataType='Int16'><ComplexSource><SourceFilename>ends.vrt</SourceFilename><SourceBand>3</SourceBand><ScaleRatio>-2</ScaleRatio></ComplexSource></VRTRasterBand></VRTDataset>",
+        b"<VRTDataset rasterXSize='2' rasterYSize='1'><VRTRasterBand dataType='Int16'><ComplexSource>\
+        <SourceFilename>ends.vrt</SourceFilename><SourceBand>3</SourceBand><ScaleRatio>-2</ScaleRatio></ComplexSource>\
+        </VRTRasterBand></VRTDataset>",
     ),
     (
         "second.vrt",
-        b"<VRTDataset rasterXSize='2' rasterYSize='1'><VRTRasterBand dataType='Int16'><ComplexSource><SourceFilename>ends.vrt</SourceFilename><SourceBand>2</SourceBand><ScaleRatio>-2</ScaleRatio></ComplexSource></VRTRasterBand></VRTDataset>",
+        b"<VRTDataset rasterXSize='2' rasterYSize='1'><VRTRasterBand dataType='Int16'><ComplexSource>\
+        <SourceFilename>ends.vrt</SourceFilename><SourceBand>2</SourceBand><ScaleRatio>-2</ScaleRatio></ComplexSource>\
+        </VRTRasterBand></VRTDataset>",
     ),
     (
         "nested.vrt",
-        b"<VRTDataset rasterXSize='1' rasterYSize='1'><VRTRasterBand dataType='UInt64'><SimpleSource><SourceFilename>w.vrt</SourceFilename></SimpleSource></VRTRasterBand></VRTDataset>",
+        b"<VRTDataset rasterXSize='1' rasterYSize='1'><VRTRasterBand dataType='UInt64'><SimpleSource>\
+        <SourceFilename>w.vrt</SourceFilename></SimpleSource></VRTRasterBand></VRTDataset>",
     ),
 ];
 
@@ -230,7 +265,8 @@ static VALUES: [Row<'static>; 24] = [
     (
         "gdalinfo n.bil",
         0,
-        "Driver: EHdr\nFiles: n.bil\n       n.hdr\nSize is 2, 1\nBand 1 Block=2x1 Type=Int64\n  NoData Value=-9223372036854775808\n",
+        "Driver: EHdr\nFiles: n.bil\n       n.hdr\nSize is 2, 1\n\
+        Band 1 Block=2x1 Type=Int64\n  NoData Value=-9223372036854775808\n",
         "",
     ),
     (

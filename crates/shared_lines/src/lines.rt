@@ -144,9 +144,9 @@ impl<S: Scene> Lines<S> {
         Ok(Lines { lines })
     }
 
-    /// Looks for the block of a key of the catalog. `out` has that block's type and length; where the answer is `true` it
-    /// is that block then, whoever offered it. `false` comes only where the one try didn't get the right to read, or the
-    /// key's line had another key or none; `out` is then as before. No memory is taken, and nothing waited for.
+    /// Looks for the block of a key of the catalog. `out` has that block's type and length; where the answer is `true`
+    /// it is that block then, whoever offered it. `false` comes only where the one try didn't get the right to read, or
+    /// the key's line had another key or none; `out` is then as before. No memory is taken, and nothing waited for.
     pub fn look(&self, key: &BlockKey, out: &mut Block) -> bool
         requires shape { HasShape S.cat key.now out.old }
         ensures hit { result ≡ true → IsBlock S.told S.cat key.now out.new }

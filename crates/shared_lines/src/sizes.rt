@@ -20,7 +20,8 @@ fn samples_in(head: &Head, band: u32, block: u64) -> u32
     rect.w * rect.h
 }
 
-/// A block of zeros of the type and length of a key's block, which `Lines::look` may fill. It is refused where memory is.
+/// A block of zeros of the type and length of a key's block, which `Lines::look` may fill. It is refused where memory
+/// is.
 #[tactic(auto, using(crate::proofs::Lengths::has_shape))]
 pub fn zeros_for(alloc: Global, cat: &Catalog, key: BlockKey) -> Result<Block, AllocError>
     requires key { IsKey cat.now key }

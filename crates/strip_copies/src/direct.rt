@@ -41,8 +41,8 @@ fn are_lines(plan: &Plan, height: u32, run: Run) -> bool
     }
 }
 
-/// Whether the samples of a run are the pixels of its part of a source of this height, one for one: nothing is scaled, and
-/// all of it lies in the raster.
+/// Whether the samples of a run are the pixels of its part of a source of this height, one for one: nothing is scaled,
+/// and all of it lies in the raster.
 pub fn is_direct(plan: &Plan, columns: &Columns, height: u32, run: Run) -> bool
     requires some { run.first < run.end }
     requires end { run.end ≤ plan.now.size.h }

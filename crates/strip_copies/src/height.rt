@@ -4,7 +4,7 @@ ghost use Rattle.catalog.specs.Drivers.{Dataset};
 ghost use Rattle.strip_copies.specs.declared.height.BlockShape.TheVariants.{Squares};
 ghost use Rattle.strip_copies.specs.Heights.{has_blocks, is_cell, is_cut_in, is_mosaic, is_tall, is_woven, lane_count, lines_copied, lines_held, most_lines, strip_height};
 
-use crate::reading::Translation;
+use crate::translation::Translation;
 use catalog::{Catalog, Kind};
 use esri_hdr::Layout;
 use lane_teams::WorkerCount;
@@ -90,8 +90,8 @@ fn is_tall(translation: &Translation) -> bool
     }
 }
 
-/// How many lanes read for so many workers: one for each, but only one where the walk met a DTED cell. A block of a cell is
-/// a whole column, which every lane would load again for its own lines.
+/// How many lanes read for so many workers: one for each, but only one where the walk met a DTED cell. A block of a
+/// cell is a whole column, which every lane would load again for its own lines.
 pub fn lane_count(translation: &Translation, workers: WorkerCount) -> u32
     ensures lanes { result ≡ lane_count workers translation.now.cat }
     ensures some { 1 ≤ result }
@@ -103,8 +103,8 @@ pub fn lane_count(translation: &Translation, workers: WorkerCount) -> u32
     }
 }
 
-/// The most lines of a strip that so many workers read: for each of them as many as a square of a mosaic has, so that it
-/// isn't made again for each of its lines, and 32 of a file of lines.
+/// The most lines of a strip that so many workers read: for each of them as many as a square of a mosaic has, so that
+/// it isn't made again for each of its lines, and 32 of a file of lines.
 pub fn most_lines(translation: &Translation, workers: WorkerCount) -> u32
     ensures most { result ≡ most_lines workers translation.now.cat translation.now.plan.driver }
     ensures some { 1 ≤ result }
@@ -118,16 +118,16 @@ pub fn most_lines(translation: &Translation, workers: WorkerCount) -> u32
     }
 }
 
-/// Whether several lanes of a translation may read the same blocks: the walk met a mosaic, whose squares each of them may
-/// need. A line of a file is read by one of them.
+/// Whether several lanes of a translation may read the same blocks: the walk met a mosaic, whose squares each of them
+/// may need. A line of a file is read by one of them.
 pub fn shares_blocks(translation: &Translation) -> bool
     ensures shares { result ≡ has_blocks Squares translation.now.cat }
 {
     has_blocks(&translation.cat, BlockShape::Squares)
 }
 
-/// How many lines that nothing shows may lie between lines that are read at once: any number where blocks are taller than a
-/// line, none where each line of a file is a block.
+/// How many lines that nothing shows may lie between lines that are read at once: any number where blocks are taller
+/// than a line, none where each line of a file is a block.
 pub fn lines_apart(translation: &Translation) -> u32 {
     let cat = &translation.cat;
     if has_blocks(cat, BlockShape::Columns) || has_blocks(cat, BlockShape::Squares) {
@@ -161,8 +161,9 @@ fn lines_held(translation: &Translation, blocks: u32) -> u32
     }
 }
 
-/// How many lines of the output so many workers copy at a time: those of a strip, or all that there are; but no more than
-/// the blocks that are held of it, where each of its lines holds several bands and has to be written once for all of them.
+/// How many lines of the output so many workers copy at a time: those of a strip, or all that there are; but no more
+/// than the blocks that are held of it, where each of its lines holds several bands and has to be written once for all
+/// of them.
 pub fn strip_height(translation: &Translation, workers: WorkerCount, blocks: u32) -> u32
     requires some { 1 ≤ blocks }
     ensures height { result ≡ lines_copied workers blocks translation.now.cat translation.now.plan }

@@ -11,8 +11,10 @@ mod places;
 mod reading;
 mod rows;
 mod spans;
+mod translation;
 
 pub use columns::Columns;
 pub use height::{shares_blocks, strip_height};
 pub use laws::plans_are_translations;
-pub use reading::{Lines, StripReader, Translation, read_lines};
+pub use reading::{Lines, StripReader, read_lines};
+pub use translation::Translation;

@@ -24,26 +24,16 @@ use crate::height::{height_of, lane_count, lines_apart, most_lines};
 use crate::holding::Holding;
 use crate::making::{Making, area, make_lines};
 use crate::spans::{Reach, Run, run_from};
+use crate::translation::Translation;
 use band_blocks::LoadFault;
-use catalog::Catalog;
 use geotransform::{PixelType, Rect, Sample, Size};
 use lane_teams::{Team, WorkerCount};
 use nearest_window::{Supply, Window};
 use outside::Folder;
 use shared_lines::Scene;
-use std::alloc::{AllocError, Global};
+use std::alloc::AllocError;
 use std::sync::ledger::{Blank, Ledger};
 use std::thread::Threads;
-use translate_plan::Plan;
-
-/// What is translated: a dataset of a catalog, by its number, and the plan of its output.
-#[derive(Drop)]
-pub struct Translation {
-    pub alloc: Global,
-    pub cat: Catalog,
-    pub id: u32,
-    pub plan: Plan,
-}
 
 /// What lines of a translation are read with: a team of lanes, the columns of the source that are read, and room for
 /// lines of them, which is made once.
@@ -83,8 +73,9 @@ fn room_lines(translation: &Translation, columns: &Columns, workers: WorkerCount
 }
 
 impl<F: Folder, L: Ledger> StripReader<F, L> {
-    /// A reader for a translation with a lane for each worker, or with one where the walk met a DTED cell. Each lane holds
-    /// so many blocks at a time, 1 to 65,536. It has read nothing. The room for lines has 4,194,304 samples at most.
+    /// A reader for a translation with a lane for each worker, or with one where the walk met a DTED cell. Each lane
+    /// holds so many blocks at a time, 1 to 65,536. It has read nothing. The room for lines has 4,194,304 samples at
+    /// most.
     pub fn new(
         translation: &Translation,
         workers: WorkerCount,
@@ -414,11 +405,12 @@ fn read_runs<R: Threads + Sync, F: Folder, L: Ledger, S: Scene>(
 
 /// Fills `out` with lines of a band of the translation's output, row by row: each pixel of the output that lies outside
 /// the raster is the band's NODATA, or 0. The lanes of the reader's team read beside each other, and are ready for the
-/// catalog and the folder; the samples are the same for every number of them. Where lines are given, which stand for the
-/// catalog and the folder's files, they look for blocks in them and offer theirs.
+/// catalog and the folder; the samples are the same for every number of them. Where lines are given, which stand for
+/// the catalog and the folder's files, they look for blocks in them and offer theirs.
 ///
-/// FolderFault comes only where the folder's count rose, Memory freely. Changed comes only where a file was opened again
-/// and had another length than the walk found, or was absent: never over a folder that tells its files. After a refusal
+/// FolderFault comes only where the folder's count rose, Memory freely. Changed comes only where a file was opened
+/// again and had another length than the walk found, or was absent: never over a folder that tells its files. After a
+/// refusal
 /// `out` is unknown, and the lanes are still ready. Of one lane each read is behind a load that is counted.
 pub fn read_lines<R: Threads + Sync, F: Folder, L: Ledger, S: Scene>(
     rt: &R,

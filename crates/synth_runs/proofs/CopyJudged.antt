@@ -11,7 +11,7 @@ use Rattle.geotransform.specs.Geo.{Transform, IsRaster}
 use Rattle.geotransform.specs.declared.types.Size.{Size}
 use Rattle.geotransform.specs.declared.types.PixelType.TheVariants.{Int16}
 use Rattle.geotransform.specs.declared.faults.PlanFault.TheVariants.{EmptyWindow, Limit}
-use Rattle.vrt_profile.specs.Spelled.{spelled}
+use Rattle.vrt_writing.specs.Spelled.{spelled}
 use Rattle.catalog.specs.Dataset.{DatasetHead}
 use Rattle.catalog.specs.Heads.{document_in, dataset_in}
 use Rattle.catalog.specs.Walk.{walked}

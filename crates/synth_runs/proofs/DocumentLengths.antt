@@ -13,9 +13,9 @@ use Rattle.geotransform.specs.declared.types.PixelType.{PixelType}
 use Rattle.geotransform.specs.declared.types.PixelType.TheVariants.{Byte, Int8, UInt16, Int16, UInt32, Int32, UInt64, Int64}
 use Rattle.geotransform.specs.declared.types.Size.{Size}
 use Rattle.geotransform.proofs.RoundTrip.{decimal_word, short_word}
-use Rattle.vrt_profile.specs.Items.{Pair}
+use Rattle.vrt_markup.specs.Items.{Pair}
 use Rattle.vrt_profile.specs.Values.{trillion, IsOffset, Rectangle, IsRectangle, SourceValue, IsSource, BandValue, IsBand, DocumentValue, IsDocument, IsDecimal}
-use Rattle.vrt_profile.specs.Spelled.{Markup, nothing, both, words, empty, group, written, indent, tag_text, pair_text, end_text, escape, escaped, micro_text, part_text, joined_text, geo_text, flag_text, pair, file_markup, source_band_markup, rectangle_pairs, rectangle_markup, nodata_markup, scale_markup, lut_markup, place_markup, scaling_markup, source_name, source_markup, sources_markup, band_pairs, band_markup, geo_markup, size_pairs, parts_markup, spelled}
+use Rattle.vrt_writing.specs.Spelled.{Markup, nothing, both, words, empty, group, written, indent, tag_text, pair_text, end_text, escape, escaped, micro_text, part_text, joined_text, geo_text, flag_text, pair, file_markup, source_band_markup, rectangle_pairs, rectangle_markup, nodata_markup, scale_markup, lut_markup, place_markup, scaling_markup, source_name, source_markup, sources_markup, band_pairs, band_markup, geo_markup, size_pairs, parts_markup, spelled}
 use Rattle.vrt_profile.specs.declared.rectangle.LutPair.{LutPair}
 
 -- the text of markup has at most so many bytes

@@ -15,8 +15,8 @@ use Rattle.vrt_profile.specs.Values.{Rectangle, IsRectangle, SourceValue, IsSour
 use Rattle.vrt_profile.specs.Built.{pixels_at, plain_source}
 use Rattle.vrt_profile.specs.Cover.{whole}
 use Rattle.vrt_profile.specs.Document.{document_of}
-use Rattle.vrt_profile.specs.Spelled.{spelled}
-use Rattle.vrt_profile.specs.declared.fault.VrtFault.TheVariants as vrt
+use Rattle.vrt_writing.specs.Spelled.{spelled}
+use Rattle.vrt_markup.specs.declared.fault.VrtFault.TheVariants as vrt
 use Rattle.catalog.specs.Heads.{document_in, named}
 use Rattle.catalog.specs.declared.faults.Bad.TheVariants as bad
 use Rattle.catalog.specs.declared.faults.WalkFault.TheVariants.{Malformed}

@@ -8,7 +8,7 @@ use Rattle.outside.specs.Outside.{Files}
 use Rattle.outside.specs.Paths.{normal}
 use Rattle.vrt_profile.specs.Values.{Rectangle, SourceValue, DocumentValue}
 use Rattle.vrt_profile.specs.Built.{pixels_at}
-use Rattle.vrt_profile.specs.Spelled.{spelled}
+use Rattle.vrt_writing.specs.Spelled.{spelled}
 use Rattle.catalog.specs.Dataset.{band_at, band_count}
 use Rattle.catalog.specs.Drivers.{Dataset, dataset_of}
 use Rattle.catalog.specs.Heads.{kind_in, document_in, vrt_in, dataset_by, dataset_in, resolved}
@@ -19,7 +19,7 @@ use Rattle.catalog.specs.declared.driver.Found.{Found}
 use Rattle.catalog.specs.declared.faults.WalkFault.{WalkFault}
 use Rattle.catalog.specs.declared.faults.WalkFault.TheVariants.{Absent, Malformed, SourceBand}
 use Rattle.catalog.specs.declared.faults.Bad.TheVariants as bad
-use Rattle.vrt_profile.specs.declared.fault.VrtFault.TheVariants as vrt
+use Rattle.vrt_markup.specs.declared.fault.VrtFault.TheVariants as vrt
 use Rattle.vrt_profile.specs.Value.{is_plain}
 use Rattle.catalog.specs.declared.kind.Kind.{Kind}
 use Rattle.catalog.specs.declared.kind.Kind.TheVariants.{Raw, Vrt}

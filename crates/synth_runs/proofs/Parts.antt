@@ -4,7 +4,7 @@ use Rattle.outside.specs.Names.{extension_of, ending_of, last_part, kind_of}
 use Rattle.outside.specs.Outside.{Files}
 use Rattle.outside.specs.Streams.{GetsPart}
 use Rattle.outside.proofs.Sinks.{gets-none}
-use Rattle.vrt_profile.specs.Spelled.{spelled}
+use Rattle.vrt_writing.specs.Spelled.{spelled}
 use Rattle.catalog.specs.Drivers.{Dataset}
 use Rattle.error_lines.specs.declared.faults.Fault.{Fault}
 use Rattle.error_lines.specs.Faults.{IsOutside}

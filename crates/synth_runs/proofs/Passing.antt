@@ -6,7 +6,7 @@ use Rattle.std.specs.Ordering.{nat_cmp, eq_by_cmp}
 use Rattle.outside.specs.Names.{header_of, ending_of, last_part}
 use Rattle.outside.specs.Outside.{Files}
 use Rattle.esri_hdr.specs.Text.{hdr_text}
-use Rattle.vrt_profile.specs.Spelled.{spelled}
+use Rattle.vrt_writing.specs.Spelled.{spelled}
 use Rattle.catalog.specs.Drivers.{Dataset}
 use Rattle.buildvrt.specs.Mosaic.{mosaic_of}
 use Rattle.error_lines.specs.declared.faults.Fault.{Fault}

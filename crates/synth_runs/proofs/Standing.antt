@@ -10,7 +10,7 @@ use Rattle.vrt_profile.specs.Values.{SourceValue, BandValue, DocumentValue}
 use Rattle.vrt_profile.specs.Built.{pixels_at, plain_source}
 use Rattle.vrt_profile.specs.Cover.{whole}
 use Rattle.vrt_profile.specs.Resolve.{related}
-use Rattle.vrt_profile.specs.Spelled.{spelled}
+use Rattle.vrt_writing.specs.Spelled.{spelled}
 use Rattle.catalog.specs.Dataset.{DatasetHead}
 use Rattle.catalog.specs.Drivers.{Dataset, dataset_of}
 use Rattle.catalog.specs.declared.driver.Content.TheVariants.{File, Mosaic}

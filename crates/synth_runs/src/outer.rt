@@ -12,7 +12,8 @@ use published_files::publish_document;
 use std::alloc::Global;
 use synthetic_rasters::{TileSide, outer_document, outer_name};
 
-/// Publishes the outer mosaic of tiles of this side. FolderFault comes only where the folder's count rose, Memory freely.
+/// Publishes the outer mosaic of tiles of this side. FolderFault comes only where the folder's count rose, Memory
+/// freely.
 pub fn publish_outer<F: Folder>(alloc: Global, folder: &mut F, side: TileSide) -> Result<(), Fault>
     // over a folder that tells its files: the mosaic stands under its name, and nothing is put
     ensures told { (m : Files) → F.names folder.old ≡ Some m → (out : Option (List ℕ)) → Goes (outer_run side) m result (F.names folder.new) out out }

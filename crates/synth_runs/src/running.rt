@@ -84,12 +84,13 @@ fn put_mosaics<R: Threads + Sync, F: Folder, O: Sink>(
 }
 
 /// Publishes the tiles of this side, the mosaic of them, the outer mosaic and its copy, and then puts five lines on the
-/// samples of the copy that aren't NODATA: `Size`, `Values`, `Sum`, `Least` and `Greatest`. What is read is read anew, by
-/// a new catalog and new lanes, behind each publishing. Of the workers, the copy is read by all, and what is tallied by one.
+/// samples of the copy that aren't NODATA: `Size`, `Values`, `Sum`, `Least` and `Greatest`. What is read is read anew,
+/// by a new catalog and new lanes, behind each publishing. Of the workers, the copy is read by all, and what is tallied
+/// by one.
 ///
 /// FolderFault and OutFault come only where the count of the folder and of the output rose, Changed only over a folder
-/// that doesn't tell its names, Memory freely. Over a folder that tells its files it is refused by nothing; over others a
-/// later part may read something else than an earlier one published, and is then refused for that. What was published
+/// that doesn't tell its names, Memory freely. Over a folder that tells its files it is refused by nothing; over others
+/// a later part may read something else than an earlier one published, and is then refused for that. What was published
 /// before a fault stands.
 pub fn put_rasters<R: Threads + Sync, F: Folder, O: Sink>(
     rt: &R,

@@ -159,8 +159,8 @@ type Row<'a> = (&'a str, &'a str, u16, u64, &'a [u64]);
 
 // All that is written of a pool of all blocks are the blocks that the windows meet; of a pool of one block there is one
 // once more for each time that another one comes. A window writes at most the blocks that it meets, and none of a pool
-// of all blocks; `close` at most the blocks of the pool. A line of 65,000 bytes takes at most three calls, one of 72,000
-// at most four, any other block one.
+// of all blocks; `close` at most the blocks of the pool. A line of 65,000 bytes takes at most three calls, one of
+// 72,000 at most four, any other block one.
 const MOST: [Row<'static>; 20] = [
     ("bands", "lines", 1, 6, &[2, 1, 1, 2, 1]),
     ("bands", "lines", 6, 6, &[0, 0, 0, 0, 6]),

@@ -200,8 +200,8 @@ const SQUARE_CALLS: [Call; 11] = [
     (Method::Publish, 2, [4, 4, 4]),
 ];
 
-/// What is asked for, its windows, and what the names hold where the data is published and the header isn't; a file that
-/// has no header is never published alone.
+/// What is asked for, its windows, and what the names hold where the data is published and the header isn't; a file
+/// that has no header is never published alone.
 type Case = (Asked, &'static [Window], &'static [File<'static>]);
 
 fn case_of(form: Form) -> Case {
@@ -270,7 +270,8 @@ fn stage_of(ended: Ended) -> Option<u8> {
     }
 }
 
-/// An output that is tried: its plan, its windows, what is published where the header isn't, and the blocks of the pool.
+/// An output that is tried: its plan, its windows, what is published where the header isn't, and the blocks of the
+/// pool.
 #[derive(Clone, Copy)]
 struct Trial<'a> {
     order: &'a Order,

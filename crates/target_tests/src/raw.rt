@@ -68,11 +68,17 @@ const FILES: [(Layout, [u8; 36]); 3] = [
 fn header_of(layout: Layout) -> &'static str {
     match layout {
         Layout::Bil =>
-            "BYTEORDER      I\nLAYOUT         BIL\nNROWS          3\nNCOLS          3\nNBANDS         2\nNBITS          16\nSKIPBYTES      0\nBANDROWBYTES   6\nTOTALROWBYTES  12\nBANDGAPBYTES   0\nPIXELTYPE      SIGNEDINT\n",
+            "BYTEORDER      I\nLAYOUT         BIL\nNROWS          3\nNCOLS          3\nNBANDS         2\n\
+            NBITS          16\nSKIPBYTES      0\nBANDROWBYTES   6\nTOTALROWBYTES  12\nBANDGAPBYTES   0\n\
+            PIXELTYPE      SIGNEDINT\n",
         Layout::Bip =>
-            "BYTEORDER      I\nLAYOUT         BIP\nNROWS          3\nNCOLS          3\nNBANDS         2\nNBITS          16\nSKIPBYTES      0\nBANDROWBYTES   6\nTOTALROWBYTES  12\nBANDGAPBYTES   0\nPIXELTYPE      SIGNEDINT\n",
+            "BYTEORDER      I\nLAYOUT         BIP\nNROWS          3\nNCOLS          3\nNBANDS         2\n\
+            NBITS          16\nSKIPBYTES      0\nBANDROWBYTES   6\nTOTALROWBYTES  12\nBANDGAPBYTES   0\n\
+            PIXELTYPE      SIGNEDINT\n",
         Layout::Bsq =>
-            "BYTEORDER      I\nLAYOUT         BSQ\nNROWS          3\nNCOLS          3\nNBANDS         2\nNBITS          16\nSKIPBYTES      0\nBANDROWBYTES   6\nTOTALROWBYTES  6\nBANDGAPBYTES   0\nPIXELTYPE      SIGNEDINT\n",
+            "BYTEORDER      I\nLAYOUT         BSQ\nNROWS          3\nNCOLS          3\nNBANDS         2\n\
+            NBITS          16\nSKIPBYTES      0\nBANDROWBYTES   6\nTOTALROWBYTES  6\nBANDGAPBYTES   0\n\
+            PIXELTYPE      SIGNEDINT\n",
     }
 }
 

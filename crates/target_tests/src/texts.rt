@@ -24,7 +24,9 @@ const PART_FILES: [File; 2] = [
     ("out.bil", &[4, 5, 9, 9]),
     (
         "out.hdr",
-        b"BYTEORDER      I\nLAYOUT         BIL\nNROWS          1\nNCOLS          4\nNBANDS         1\nNBITS          8\nSKIPBYTES      0\nBANDROWBYTES   4\nTOTALROWBYTES  4\nBANDGAPBYTES   0\nPIXELTYPE      UNSIGNEDINT\nNODATA         9\n",
+        b"BYTEORDER      I\nLAYOUT         BIL\nNROWS          1\nNCOLS          4\nNBANDS         1\n\
+        NBITS          8\nSKIPBYTES      0\nBANDROWBYTES   4\nTOTALROWBYTES  4\nBANDGAPBYTES   0\n\
+        PIXELTYPE      UNSIGNEDINT\nNODATA         9\n",
     ),
 ];
 
@@ -57,7 +59,8 @@ const OBLONG: Asked = Asked {
 
 const OBLONG_FILES: [File; 1] = [(
     "g.grd",
-    b"ncols        2\nnrows        2\nxllcorner    10\nyllcorner    19.5\ndx           0.5\ndy           0.25\n1 -2\n30 4\n",
+    b"ncols        2\nnrows        2\nxllcorner    10\nyllcorner    19.5\ndx           0.5\ndy           0.25\n1 -2\n\
+    30 4\n",
 )];
 
 // Three columns and four lines without a place, and with a NODATA.
@@ -70,7 +73,8 @@ const BARE: Asked = Asked {
 
 const BARE_FILES: [File; 1] = [(
     "h.asc",
-    b"ncols        3\nnrows        4\nxllcorner    0\nyllcorner    0\ncellsize     1\nNODATA_value -9\n0 -1 2147483647\n-2147483648 5 10\n7 8 9\n-9 -9 100\n",
+    b"ncols        3\nnrows        4\nxllcorner    0\nyllcorner    0\ncellsize     1\nNODATA_value -9\n\
+    0 -1 2147483647\n-2147483648 5 10\n7 8 9\n-9 -9 100\n",
 )];
 
 const BARE_SAMPLES: [Sample; 12] = [

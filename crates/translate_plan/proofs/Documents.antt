@@ -11,14 +11,14 @@ use Rattle.outside.specs.Outside.{Files}
 use Rattle.outside.specs.Paths.{IsName, normal}
 use Rattle.vrt_profile.specs.Values.{SourceValue, BandValue, DocumentValue}
 use Rattle.vrt_profile.specs.Cover.{axis_at, lines_of, cover_of}
-use Rattle.vrt_profile.specs.Value.{value_of, mosaic_pixel}
+use Rattle.vrt_profile.specs.Value.{value_of, given_of, mosaic_pixel}
 use Rattle.vrt_profile.specs.Resolve.{related, resolved_text}
 use Rattle.catalog.specs.Dataset.{DatasetHead}
 use Rattle.catalog.specs.Drivers.{Dataset, document_of}
 use Rattle.catalog.specs.Heads.{dataset_in}
 use Rattle.catalog.specs.Mosaics.{name_of_text, source_name}
 use Rattle.catalog.specs.Walk.{IsCatalog, IsWalked, number_of}
-use Rattle.catalog.specs.Links.{source_at, target_of, target_at}
+use Rattle.catalog.specs.Links.{source_at, target_of}
 use Rattle.catalog.specs.Pixels.{pixel_of, pixel_of_name, AreOfTargets}
 use Rattle.catalog.proofs.Found.{name_at}
 use Rattle.catalog.proofs.Walked.{dataset_walked}
@@ -58,11 +58,11 @@ unfolding value_of
 given_by p base name b true c r pixels = refl
 given_by p base name b false c r pixels = refl
 
-band_is : (p : Planned) (base name : List ℕ) (b : OutBand) (size : Size) (pixels : ℕ → ℕ → ℕ → ℤ) (i j : ℕ) → i < p.size.w → j < p.size.h
-    → mosaic_pixel (shown_band p base name b) p.size (λ k. size) pixels i j ≡ cond (is_inside size (shown_column p i) (shown_line p j)) (clamp b.kind (pixels 0 (unsigned_abs (shown_column p i)) (unsigned_abs (shown_line p j)))) (unwrap_or b.nodata (pos 0))
+band_is : (p : Planned) (base name : List ℕ) (b : OutBand) (size : Size) (pixels : ℕ → ℕ → ℤ) (i j : ℕ) → i < p.size.w → j < p.size.h
+    → mosaic_pixel (shown_band p base name b) (λ s. given_of s p.size size pixels) i j ≡ cond (is_inside size (shown_column p i) (shown_line p j)) (clamp b.kind (pixels (unsigned_abs (shown_column p i)) (unsigned_abs (shown_line p j)))) (unwrap_or b.nodata (pos 0))
 band_is p base name b size pixels i j across down =
-    ap (λ (o : Option (ℕ × ℕ)). unwrap_or (option_map (clamp b.kind) (option_or None (o >>= λ place. value_of (shown_source p base name b) (pixels 0 place.0 place.1)))) (unwrap_or b.nodata (pos 0))) (cover_is p base name b size i j across down)
-    ∙ given_by p base name b (is_inside size (shown_column p i) (shown_line p j)) (unsigned_abs (shown_column p i)) (unsigned_abs (shown_line p j)) (pixels 0)
+    ap (λ (o : Option (ℕ × ℕ)). unwrap_or (option_map (clamp b.kind) (option_or None (o >>= λ place. value_of (shown_source p base name b) (pixels place.0 place.1)))) (unwrap_or b.nodata (pos 0))) (cover_is p base name b size i j across down)
+    ∙ given_by p base name b (is_inside size (shown_column p i) (shown_line p j)) (unsigned_abs (shown_column p i)) (unsigned_abs (shown_line p j)) pixels
 
 -- the one item of a list
 lone : {A : Type 0} (x y : A) (n : ℕ) → slice_get (x ∷ []) n ≡ Some y → y ≡ x
@@ -88,12 +88,8 @@ source_is d p h k n b document at =
     ∙ ap (λ (o : Option BandValue). o >>= λ v. slice_get v.sources n) (slice_get-map (shown_band p d.head.name h.name) p.bands k ∙ ap (option_map (shown_band p d.head.name h.name)) at)
 
 -- The dataset that this source names is that of the plan.
-target_named : (resolves : Resolves) (cat : List Dataset) (d : Dataset) (p : Planned) (h : DatasetHead) (k n t : ℕ) (b : OutBand) (s : SourceValue) → IsName h.name → s ≡ shown_source p d.head.name h.name b → source_at d k n ≡ Some s → target_at cat d k n ≡ Some t → number_of cat h.name ≡ Some t
-target_named resolves cat d p h k n t b s name same stands is =
-    sym (ap (λ (o : Option SourceValue). o >>= λ v. target_of cat d.head.name v) stands
-    ∙ (ap (target_of cat d.head.name) same
-    ∙ ap (option_and_then (number_of cat)) (named resolves p d.head.name h.name b name)))
-    ∙ is
+target_named : (resolves : Resolves) (cat : List Dataset) (d : Dataset) (p : Planned) (h : DatasetHead) (t : ℕ) (b : OutBand) (s : SourceValue) → IsName h.name → s ≡ shown_source p d.head.name h.name b → target_of cat d.head.name s ≡ Some t → number_of cat h.name ≡ Some t
+target_named resolves cat d p h t b s name same is = sym (ap (target_of cat d.head.name) same ∙ ap (option_and_then (number_of cat)) (named resolves p d.head.name h.name b name)) ∙ is
 
 head_is : (m : Files) (cat : List Dataset) (h : DatasetHead) (t : ℕ) (e source : Dataset) → IsWalked m cat → slice_get cat t ≡ Some e → e.head.name ≡ h.name → dataset_in m false h.name ≡ Ok source → source.head ≡ h → e.head ≡ h
 head_is m cat h t e source walked there name told is =
@@ -101,10 +97,10 @@ head_is m cat h t e source walked there name told is =
     ap (λ (x : Dataset). x.head) same ∙ is
 
 of_target : (resolves : Resolves) (m : Files) (cat : List Dataset) (d : Dataset) (p : Planned) (h : DatasetHead) (k : ℕ) (b : OutBand) → IsCatalog cat → IsWalked m cat → document_of d.content ≡ Some (document_by p d.head.name h) → IsPublished m d.head.name p h → slice_get p.bands k ≡ Some b
-    → AreOfTargets m cat d k (λ n. h.size) (λ n x y. pixel_of_name m h.name b.source x y)
+    → AreOfTargets m cat d k (λ s. h.size) (λ s x y. pixel_of_name m h.name b.source x y)
 of_target resolves m cat d p h k b is walked document shows at n t s e stands target there =
     let same : s ≡ shown_source p d.head.name h.name b = lone (shown_source p d.head.name h.name b) s n (sym (source_is d p h k n b document at) ∙ stands) in
-    let found : number_of cat h.name ≡ Some t = target_named resolves cat d p h k n t b s shows.name same stands target in
+    let found : number_of cat h.name ≡ Some t = target_named resolves cat d p h t b s shows.name same target in
     let name : e.head.name ≡ h.name = name_at cat h.name t e found there in
     let head : e.head ≡ h = head_is m cat h t e shows.source walked there name shows.told shows.head in
     let number : s.band ≡ b.source + 1 = ap (λ (x : SourceValue). x.band) same in
@@ -129,6 +125,6 @@ shows_output resolves reads m cat id k i j d p h is walked there shows few acros
     let document : document_of d.content ≡ Some (document_by p d.head.name h) = published_is reads m cat id d p h walked there shows in
     let has : slice_get (document_by p d.head.name h).bands k ≡ Some (shown_band p d.head.name h.name b.0) = slice_get-map (shown_band p d.head.name h.name) p.bands k ∙ ap (option_map (shown_band p d.head.name h.name)) b.1 in
     sym (number_is_name m cat id k i j d is walked there)
-    ∙ (mosaic_is_of_targets m cat id k i j d (document_by p d.head.name h) (shown_band p d.head.name h.name b.0) (λ n. h.size) (λ n x y. pixel_of_name m h.name b.0.source x y) is there document has (of_target resolves m cat d p h k b.0 is walked document shows b.1)
-    ∙ (band_is p d.head.name h.name b.0 h.size (λ n x y. pixel_of_name m h.name b.0.source x y) i j across down
+    ∙ (mosaic_is_of_targets m cat id k i j d (document_by p d.head.name h) (shown_band p d.head.name h.name b.0) (λ s. h.size) (λ s x y. pixel_of_name m h.name b.0.source x y) is there document has (of_target resolves m cat d p h k b.0 is walked document shows b.1)
+    ∙ (band_is p d.head.name h.name b.0 h.size (λ x y. pixel_of_name m h.name b.0.source x y) i j across down
     ∙ sym (out_is p h.size (pixel_of_name m h.name) k i j b.0 shows.driver b.1)))

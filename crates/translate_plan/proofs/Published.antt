@@ -9,9 +9,9 @@ use Rattle.outside.specs.Names.{extension_of}
 use Rattle.outside.specs.declared.name.Ext.{Ext}
 use Rattle.outside.specs.declared.name.Ext.TheVariants as ext
 use Rattle.vrt_profile.specs.Values.{DocumentValue, IsDocument}
-use Rattle.vrt_profile.specs.Spelled.{spelled}
+use Rattle.vrt_writing.specs.Spelled.{spelled}
 use Rattle.vrt_profile.specs.Document as vrt
-use Rattle.vrt_profile.specs.declared.fault.VrtFault.TheVariants as faults
+use Rattle.vrt_markup.specs.declared.fault.VrtFault.TheVariants as faults
 use Rattle.catalog.specs.Dataset.{DatasetHead}
 use Rattle.catalog.specs.Drivers.{Dataset, document_of, dataset_of}
 use Rattle.catalog.specs.declared.driver.Content.TheVariants.{Mosaic}

@@ -10,7 +10,8 @@ use Rattle.geotransform.specs.declared.types.PixelType.{PixelType}
 use Rattle.geotransform.specs.declared.types.PixelType.TheVariants.{Int32}
 use Rattle.geotransform.specs.declared.faults.PlanFault.{PlanFault}
 use Rattle.geotransform.specs.declared.faults.PlanFault.TheVariants.{NoGeo, Limit, BandCount}
-use Rattle.outside.specs.Names.{last_part, same_letters}
+use Rattle.lists_and_answers.specs.Texts.{same_letters}
+use Rattle.outside.specs.Names.{last_part}
 use Rattle.esri_hdr.specs.Head.{raw_geo_of}
 use Rattle.esri_hdr.specs.declared.parts.RawGeo.{RawGeo}
 use Rattle.dted_records.specs.Head as cells

@@ -8,7 +8,7 @@ ghost use Rattle.translate_plan.specs.Options.{IsDriver};
 ghost use Rattle.translate_plan.specs.Window.{IsWindow};
 ghost use Rattle.translate_plan.specs.Fits.{is_single, own_nodata, count_in, rounded, rounded_for, or_limit, geo_in, place_in, raw_in, cell_in, tile_in, holds_geo, is_named, holds_name, is_int16, is_within_int32, takes_kind, holds_kinds, is_same, takes_number, takes_nodata};
 
-use crate::band::OutBand;
+use crate::band::{MOST_BANDS, OutBand};
 use crate::options::Driver;
 use crate::window::Window;
 use catalog::NodataWord;
@@ -45,7 +45,7 @@ pub fn own_nodata(driver: Driver) -> Option<Sample>
 pub fn count_in(driver: Driver, n: usize) -> Result<(), PlanFault>
     ensures count { result ≡ count_in driver n }
 {
-    if n > 256 {
+    if n > MOST_BANDS {
         Err(PlanFault::Limit)
     } else if n > 1 && is_single(driver) {
         Err(PlanFault::BandCount)

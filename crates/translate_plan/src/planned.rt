@@ -5,7 +5,7 @@ ghost use Rattle.esri_hdr.specs.Head.{IsHead};
 ghost use Rattle.translate_plan.specs.Plan.{plan_of, planned_by, first_band, raw_head, IsOutBand, IsPlan};
 ghost use Rattle.translate_plan.specs.declared.options.Driver.TheVariants.{EHdr};
 
-use crate::band::OutBand;
+use crate::band::{MOST_BANDS, OutBand};
 use crate::bands::out_table;
 use crate::fits::raw_in;
 use crate::options::{Driver, TranslateOptions};
@@ -14,9 +14,6 @@ use catalog::Head;
 use esri_hdr::{Layout, RawHead};
 use geotransform::{GeoTransform, PixelType, Sample, Size};
 use std::marker::Model;
-
-/// The most bands of an output.
-pub const MOST: usize = 256;
 
 /// What a translation does. It keeps that its sizes, its offset and its bands are within their limits,
 /// that each NODATA is of its band's type, and that the driver can hold them and the geotransform.
@@ -37,7 +34,7 @@ pub struct Plan {
     pub window: Size,
     pub geo: Option<GeoTransform>,
     // The bands, and behind them places without one.
-    table: [OutBand; MOST],
+    table: [OutBand; MOST_BANDS],
 }
 
 impl Model for Plan {

@@ -8,7 +8,8 @@ ghost use Rattle.catalog.specs.Walk.{IsCatalog, IsWalked};
 ghost use Rattle.translate_plan.specs.Documents.{IsPublished};
 ghost use Rattle.translate_plan.specs.Plan.{Planned, out_pixel};
 
-use vrt_profile::{related_resolves, written_document_reads_back};
+use vrt_profile::related_resolves;
+use vrt_writing::written_document_reads_back;
 
 /// Each pixel of the published document of a plan is that pixel of the plan's output, in each catalog that was walked
 /// from the document over the folder's files.

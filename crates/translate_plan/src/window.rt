@@ -7,7 +7,13 @@ ghost use Rattle.translate_plan.specs.Options.{IsView, IsOutSize};
 ghost use Rattle.translate_plan.specs.Window.{asked_in, is_empty, is_large, is_far, window_in, is_within, meets, inside_in, side_of, is_free, side_by, sides_of, size_in, IsWindow};
 
 use crate::options::{OutSize, View};
-use geotransform::{GeoTransform, PlanFault, Size, rounded_up};
+use geotransform::{FARTHEST, GeoTransform, MOST_SIDE, PlanFault, Size, rounded_up};
+
+/// The greatest number of columns, and of lines.
+const MOST: i128 = MOST_SIDE as i128;
+
+/// The greatest offset of a window.
+const FAR: u128 = FARTHEST as u128;
 
 /// A window as it is asked for.
 #[derive(Clone, Copy)]
@@ -64,13 +70,13 @@ fn is_empty(w: i128, h: i128) -> bool
 fn is_large(w: i128, h: i128) -> bool
     ensures { result ≡ is_large w h }
 {
-    w > 4_194_304 || h > 4_194_304
+    w > MOST || h > MOST
 }
 
 fn is_far(x: i128, y: i128) -> bool
     ensures { result ≡ is_far x y }
 {
-    x.unsigned_abs() > 8_388_608 || y.unsigned_abs() > 8_388_608
+    x.unsigned_abs() > FAR || y.unsigned_abs() > FAR
 }
 
 fn offset_of(x: i128) -> i64

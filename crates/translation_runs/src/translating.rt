@@ -36,9 +36,10 @@ pub struct Way {
 /// Walks from a dataset, plans its output, sees that no name of this is that of a file that is read, and then does the
 /// work. The extension of the output's name is one of its driver.
 ///
-/// The refusals of the walk come first, then Plan, then SameName with the first such name, all before anything is put or
-/// published. FolderFault and OutFault come only where the count of the folder and of the output rose, Changed only over
-/// a folder that doesn't tell its names, Memory freely. Nothing of this depends on the number of blocks or of workers.
+/// The refusals of the walk come first, then Plan, then SameName with the first such name, all before anything is put
+/// or published. FolderFault and OutFault come only where the count of the folder and of the output rose, Changed only
+/// over a folder that doesn't tell its names, Memory freely. Nothing of this depends on the number of blocks or of
+/// workers.
 #[tactic(auto, unfolding(crate::specs::Judged::translation_judged))]
 pub fn put_translation<R: Threads + Sync, F: Folder, O: Sink>(
     rt: &R,

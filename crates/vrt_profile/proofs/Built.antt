@@ -6,7 +6,7 @@ use Rattle.std.proofs.lemmas.List.Elements.{All-push}
 use Rattle.lists_and_answers.specs.Options.{◌>>=◌}
 use Rattle.outside.specs.Names.{folder_part}
 use Rattle.geotransform.specs.declared.types.Size.{Size}
-use Rattle.vrt_profile.specs.Items.{strip, byte_at}
+use Rattle.vrt_markup.specs.Items.{strip, byte_at}
 use Rattle.vrt_profile.specs.Resolve.{some_text, related_by, related_in, related}
 use Rattle.vrt_profile.specs.Cover.{whole}
 use Rattle.vrt_profile.specs.Built.{pixels_at}

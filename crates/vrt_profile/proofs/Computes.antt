@@ -1,24 +1,12 @@
 -- The definitions compute on small documents.
-use Rattle.std.proofs.Common.{◌≡◌, [], ◌∷◌, None, Ok, Err, refl, codes, true}
+use Rattle.std.proofs.Common.{◌≡◌, [], ◌∷◌, None, Ok, Err, refl, codes}
 use Rattle.geotransform.specs.Types.{type_named}
 use Rattle.geotransform.specs.declared.types.PixelType.TheVariants.{Int16}
-use Rattle.vrt_profile.specs.Items.{item_at, tag_at, tag_front, close_at, pair_at, value_at, run, comment}
-use Rattle.vrt_profile.specs.Forest.{nodes, stop, text, element}
+use Rattle.vrt_markup.specs.Items.{item_at, tag_at, tag_front, close_at, pair_at, value_at}
+use Rattle.vrt_markup.specs.Tree.{markup_of, root_at, end_at}
 use Rattle.vrt_profile.specs.Means.{dataset_by}
-use Rattle.vrt_profile.specs.Document.{markup_of, markup_means, root_at, end_at}
-use Rattle.vrt_profile.specs.declared.fault.VrtFault.TheVariants.{BadText, UnknownElement}
-
-comment_behind : item_at (codes "<!-->-->x") ≡ comment (codes "x")
-unfolding item_at
-comment_behind = refl
-
-bad_entity : item_at (codes "a&#65;") ≡ run (codes "a") (codes "&#65;")
-unfolding item_at
-bad_entity = refl
-
-small_tree : nodes 9 0 (codes "a") (codes "b<c/></a>") ≡ Ok (text (codes "b") (element 1 (record { name = codes "c"; pairs = []; empty = true }) stop stop), [])
-unfolding item_at tag_at tag_front pair_at close_at
-small_tree = refl
+use Rattle.vrt_profile.specs.Document.{markup_means}
+use Rattle.vrt_markup.specs.declared.fault.VrtFault.TheVariants.{BadText, UnknownElement}
 
 -- an element that isn't known
 unknown : markup_means (codes "<VRTDataset rasterXSize='1' rasterYSize='1'><Foo/></VRTDataset>") ≡ Err (UnknownElement 44)

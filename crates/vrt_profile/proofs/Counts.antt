@@ -6,15 +6,15 @@ use Rattle.std.proofs.lemmas.List.Sums.{sum_by-cons}
 use Rattle.std.proofs.lemmas.Bool.Decides.{nat_tests}
 use Rattle.lists_and_answers.specs.Answers.{◌>>=◌}
 use Rattle.geotransform.specs.declared.types.PixelType.{PixelType}
-use Rattle.vrt_profile.specs.Items.{Tag, attribute}
-use Rattle.vrt_profile.specs.Forest.{Forest, stop, text, element, Read, read_as, over, all_blank}
+use Rattle.vrt_markup.specs.Items.{Tag, attribute}
+use Rattle.vrt_markup.specs.Forest.{Forest, stop, text, element, Read, read_as, over, all_blank}
 use Rattle.vrt_profile.specs.Values.{SourceValue, BandValue, IsSource, IsBand, IsDecimal, source_count}
 use Rattle.vrt_profile.specs.Means.{BandParts, DatasetParts, no_band_parts, once, with_source, band_parts, band_step, band_part_of, band_end, band_of, kind_in, is_placed, is_sourced}
 use Rattle.vrt_profile.specs.Parts.{IsBandParts, IsDatasetParts}
 use Rattle.vrt_profile.specs.declared.parts.BandPart.{BandPart}
 use Rattle.vrt_profile.specs.declared.parts.BandPart.TheVariants.{NoData, Simple, Complex, Past, Unknown}
-use Rattle.vrt_profile.specs.declared.fault.VrtFault.{VrtFault}
-use Rattle.vrt_profile.specs.declared.fault.VrtFault.TheVariants.{Limit}
+use Rattle.vrt_markup.specs.declared.fault.VrtFault.{VrtFault}
+use Rattle.vrt_markup.specs.declared.fault.VrtFault.TheVariants.{Limit}
 use Rattle.vrt_profile.proofs.Tables.{bind_ok, ok_same, cond_err}
 
 pub no_sources : (p : BandParts) → p.sources ≡ [] → IsBandParts p

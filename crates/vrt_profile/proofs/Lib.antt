@@ -1,29 +1,9 @@
-mod Shorter
-mod Names
-mod Next
-mod Behind
-mod Reading
 mod Rules
-mod Tables
-mod Utf8
+pub mod Tables
+pub mod KeptTexts
 mod Counts
-mod Outside
+mod Answered
 mod Computes
 mod Related
-mod Pieces
-mod Listed
-pub mod Reread
-mod Places
-mod Tags
-mod Figures
-mod Relisted
-mod Openings
-mod Taken
-mod Sources
-mod Bands
-mod Bytes
-mod Valid
-mod Documents
-mod Whole
-mod Texts
 mod Built
+mod ShortNumbers

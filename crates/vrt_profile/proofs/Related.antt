@@ -7,10 +7,10 @@ use Rattle.outside.specs.Names.{folder_part}
 use Rattle.outside.specs.Paths.{normal, IsName, is_absolute, pieces, parts_of, with_part, spelled}
 use Rattle.outside.proofs.Normal.{pieces-append, normal-shorter}
 use Rattle.lists_and_answers.specs.Options.{◌>>=◌}
-use Rattle.vrt_profile.specs.Items.{strip, begins, byte_at}
+use Rattle.vrt_markup.specs.Items.{strip, begins, byte_at}
 use Rattle.vrt_profile.specs.Values.{SourceValue}
 use Rattle.vrt_profile.specs.Resolve.{in_folder, resolved_text, some_text, behind_folder, related_by, related_in, related}
-use Rattle.vrt_profile.proofs.Shorter.{bind_some}
+use Rattle.vrt_markup.proofs.Shorter.{bind_some}
 
 -- a front that is taken off
 begins_front : (f r : List ℕ) → begins f (f ++ r) ≡ true

@@ -5,9 +5,9 @@ use Rattle.std.proofs.lemmas.Int.{ints}
 use Rattle.geotransform.specs.Decimal.{whole_of, parts_of, exact, mantissa, power, signed, IsRead}
 use Rattle.geotransform.specs.Geo.{Transform, IsTransform, transform_of, is_near, is_step}
 use Rattle.vrt_profile.specs.Values.{IsDecimal}
-use Rattle.vrt_profile.proofs.Shorter.{bind_some, guard_some}
+use Rattle.vrt_markup.proofs.Shorter.{bind_some, guard_some}
 
-signed_size : (b : Bool) (n : ℕ) → unsigned_abs (signed b n) ≡ n
+pub signed_size : (b : Bool) (n : ℕ) → unsigned_abs (signed b n) ≡ n
 signed_size true n = omega (arith, ints)
 signed_size false n = refl
 

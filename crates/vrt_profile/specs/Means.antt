@@ -8,11 +8,11 @@ use Rattle.geotransform.specs.Geo.{Transform}
 use Rattle.geotransform.specs.Types.{is_in, is_same, type_named}
 use Rattle.geotransform.specs.declared.types.PixelType.{PixelType}
 use Rattle.geotransform.specs.declared.types.PixelType.TheVariants.{Byte}
-use Rattle.vrt_profile.specs.Items.{Tag, is_equal, attribute, is_some}
+use Rattle.vrt_markup.specs.Items.{Tag, is_equal, attribute, is_some}
 use Rattle.vrt_profile.specs.Fields.{trim, whole_text}
 use Rattle.vrt_profile.specs.Numbers.{or_fault, side_in, offset_in, size_in, band_number, scale_of, lut_of, geo_of}
-use Rattle.vrt_profile.specs.Forest.{Forest, over, all_blank, text_of, child_of}
-use Rattle.vrt_profile.specs.Kept.{no_child}
+use Rattle.vrt_markup.specs.Forest.{Forest, over, all_blank, text_of, child_of}
+use Rattle.vrt_markup.specs.Kept.{no_child}
 use Rattle.vrt_profile.specs.Values.{trillion, Rectangle, SourceValue, BandValue, DocumentValue}
 use Rattle.vrt_profile.specs.declared.rectangle.LutPair.{LutPair}
 use Rattle.vrt_profile.specs.declared.parts.SourcePart.{SourcePart}
@@ -23,8 +23,8 @@ use Rattle.vrt_profile.specs.declared.parts.BandPart.{BandPart}
 use Rattle.vrt_profile.specs.declared.parts.BandPart.TheVariants as band_part
 use Rattle.vrt_profile.specs.declared.parts.DatasetPart.{DatasetPart}
 use Rattle.vrt_profile.specs.declared.parts.DatasetPart.TheVariants as dataset_part
-use Rattle.vrt_profile.specs.declared.fault.VrtFault.{VrtFault}
-use Rattle.vrt_profile.specs.declared.fault.VrtFault.TheVariants.{UnknownElement, MissingPart, BadNumber, Unsupported, Limit}
+use Rattle.vrt_markup.specs.declared.fault.VrtFault.{VrtFault}
+use Rattle.vrt_markup.specs.declared.fault.VrtFault.TheVariants.{UnknownElement, MissingPart, BadNumber, Unsupported, Limit}
 
 -- Names of elements. In VRTDataset and VRTRasterBand these are read past.
 abbrev pub is_remark : List ℕ → Bool

@@ -4,12 +4,12 @@ use Rattle.std.specs.Char.{to_ascii_lowercase}
 use Rattle.lists_and_answers.specs.Answers.{◌>>=◌}
 use Rattle.geotransform.specs.Decimal.{places_of}
 use Rattle.geotransform.specs.Geo.{Transform, transform_of}
-use Rattle.vrt_profile.specs.Items.{is_equal}
+use Rattle.vrt_markup.specs.Items.{is_equal}
 use Rattle.vrt_profile.specs.Fields.{trim, whole_text, pair_of, pieces, Six, six_of}
 use Rattle.vrt_profile.specs.Values.{million}
 use Rattle.vrt_profile.specs.declared.rectangle.LutPair.{LutPair}
-use Rattle.vrt_profile.specs.declared.fault.VrtFault.{VrtFault}
-use Rattle.vrt_profile.specs.declared.fault.VrtFault.TheVariants.{MissingPart, BadNumber, Unsupported, Limit}
+use Rattle.vrt_markup.specs.declared.fault.VrtFault.{VrtFault}
+use Rattle.vrt_markup.specs.declared.fault.VrtFault.TheVariants.{MissingPart, BadNumber, Unsupported, Limit}
 
 -- what is found, or this fault
 abbrev pub or_fault : {A : Type 0} → VrtFault → Option A → Result A VrtFault

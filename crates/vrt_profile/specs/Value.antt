@@ -1,5 +1,5 @@
 -- What a source makes of a pixel of its dataset, and what the pixels of a mosaic's band are.
-use Rattle.std.specs.Prelude.{ℕ, ℤ, pos, ◌+ℤ◌, ◌-ℤ◌, ◌*ℤ◌, ◌*◌, suc, Bool, false, not, is_some, ◌&&◌, ◌||◌, nat_le, List, [], ◌∷◌, Option, Some, None, int_lt, int_le, if◌then◌else◌, unsigned_abs, unwrap_or, option_map}
+use Rattle.std.specs.Prelude.{ℕ, ℤ, pos, ◌+ℤ◌, ◌-ℤ◌, ◌*ℤ◌, ◌*◌, Bool, false, not, is_some, ◌&&◌, ◌||◌, nat_le, List, [], ◌∷◌, Option, Some, None, int_lt, int_le, if◌then◌else◌, unsigned_abs, unwrap_or, option_map}
 use Rattle.std.specs.Ordering.{int_eq}
 use Rattle.std.specs.Option.{option_or}
 use Rattle.lists_and_answers.specs.Options.{◌>>=◌}
@@ -55,13 +55,12 @@ takes_kind s kind = is_plain s || nat_le (bytes_of kind) 4
 abbrev pub given_of : SourceValue → Size → Size → (ℕ → ℕ → ℤ) → ℕ → ℕ → Option ℤ
 given_of s target size pixels x y = cover_of s target size x y >>= λ place. value_of s (pixels place.0 place.1)
 
--- What the last of the sources gives that gives something. The first of them has this number; sizes and pixels are
--- those of the datasets of the numbers' sources.
-abbrev pub last_given : List SourceValue → ℕ → Size → (ℕ → Size) → (ℕ → ℕ → ℕ → ℤ) → ℕ → ℕ → Option ℤ
-last_given [] number target sizes pixels x y = None
-last_given (s ∷ ss) number target sizes pixels x y = option_or (last_given ss (suc number) target sizes pixels x y) (given_of s target (sizes number) (pixels number) x y)
+-- what the last of the sources gives that gives something
+abbrev pub last_given : (SourceValue → Option ℤ) → List SourceValue → Option ℤ
+last_given given [] = None
+last_given given (s ∷ ss) = option_or (last_given given ss) (given s)
 
--- The pixel of a band of a mosaic: what its last source gives that gives something, in the band's range; else its
--- NODATA, or 0.
-abbrev pub mosaic_pixel : BandValue → Size → (ℕ → Size) → (ℕ → ℕ → ℕ → ℤ) → ℕ → ℕ → ℤ
-mosaic_pixel b target sizes pixels x y = unwrap_or (option_map (clamp b.kind) (last_given b.sources 0 target sizes pixels x y)) (unwrap_or b.nodata (pos 0))
+-- The pixel of a band of a mosaic, by what each source gives at a column and a line: what the last source gives that
+-- gives something, in the band's range; else the band's NODATA, or 0.
+abbrev pub mosaic_pixel : BandValue → (SourceValue → ℕ → ℕ → Option ℤ) → ℕ → ℕ → ℤ
+mosaic_pixel b given x y = unwrap_or (option_map (clamp b.kind) (last_given (λ s. given s x y) b.sources)) (unwrap_or b.nodata (pos 0))

@@ -2,25 +2,24 @@
 ghost use Rattle.std.specs.Prelude.{◌≡◌, ℕ, ℤ, ◌<◌, ◌≤◌, ◌-◌, ◌+◌, [], length, IfOk, IfSome, List, Result, Ok, Err, Option, None, Some, true, false};
 ghost use Rattle.std.specs.Option.{option_map};
 ghost use Rattle.geotransform.specs.Types.{is_in};
-ghost use Rattle.vrt_profile.specs.Forest.{nodes, inner, read_as, over, text_of, child_of};
+ghost use Rattle.vrt_markup.specs.Forest.{nodes, inner, read_as, over, text_of, child_of};
 ghost use Rattle.vrt_profile.specs.Means as means;
 ghost use Rattle.vrt_profile.specs.Means.{nodata_by, no_band_parts, with_no_data_value, with_source, band_parts, band_step, kind_in, is_number, is_placed, is_sourced, nodata_of, value_in, band_end, band_by, band_of, source_of};
-ghost use Rattle.vrt_profile.specs.Views.{tag_view, text_view};
-ghost use Rattle.vrt_profile.specs.Kept.{Gives, seen, worded, stepped};
+ghost use Rattle.vrt_markup.specs.Views.{tag_view, text_view};
+ghost use Rattle.vrt_markup.specs.Kept.{Gives, seen, worded, stepped};
 
 use crate::document::{Source, Sources, VrtBand};
-use crate::fault::VrtFault;
 use crate::fields::whole_text;
-use crate::items::{Item, Tag, attribute, is_equal, item_at};
 use crate::numbers::NoData;
 use crate::parts::{BandPart, band_part_of};
-use crate::past::past_element;
 use crate::source::{nodata_by, source_element};
-use crate::text::{is_blank, text_element};
 use geotransform::{PixelType, holds};
 use lists_and_answers::Items;
 use std::alloc::Global;
 use std::marker::Model;
+use vrt_markup::{
+    Item, Tag, VrtFault, attribute, is_blank, is_equal, item_at, past_element, text_element,
+};
 
 /// What is read of a band so far, where so many sources were taken before it.
 #[derive(Drop)]

@@ -1,28 +1,27 @@
 // The dataset, which is the root of a document.
 ghost use Rattle.std.specs.Prelude.{◌≡◌, ℕ, suc, ◌<◌, ◌≤◌, ◌-◌, ◌+◌, [], length, IfOk, List, Result, Ok, Err, Option, None, Some, true};
 ghost use Rattle.std.specs.Option.{option_map};
-ghost use Rattle.vrt_profile.specs.Items.{is_some};
+ghost use Rattle.vrt_markup.specs.Items.{is_some};
 ghost use Rattle.vrt_profile.specs.Values.{IsDecimal};
-ghost use Rattle.vrt_profile.specs.Forest.{nodes, inner, read_as, over, text_of, child_of};
+ghost use Rattle.vrt_markup.specs.Forest.{nodes, inner, read_as, over, text_of, child_of};
 ghost use Rattle.vrt_profile.specs.Means as means;
 ghost use Rattle.vrt_profile.specs.Means.{no_dataset_parts, with_srs, with_geo, with_raster_band, srs_by, geo_by, dataset_parts, dataset_step, dataset_end, dataset_by, dataset_of, root_of, band_of};
-ghost use Rattle.vrt_profile.specs.Views.{tag_view, text_view};
-ghost use Rattle.vrt_profile.specs.Kept.{Gives, seen, worded, stepped};
+ghost use Rattle.vrt_markup.specs.Views.{tag_view, text_view};
+ghost use Rattle.vrt_markup.specs.Kept.{Gives, seen, worded, stepped};
 
 use crate::band::band_element;
 use crate::document::{Document, VrtBand, VrtBands};
-use crate::fault::VrtFault;
-use crate::items::{Item, Tag, attribute, is_equal, item_at};
 use crate::kept::{text_by, text_rules};
 use crate::numbers::{geo_of, side_in};
 use crate::parts::{DatasetPart, dataset_part_of};
-use crate::past::past_element;
-use crate::text::{Words, is_blank, text_element};
 use geotransform::{GeoTransform, Size};
 use lists_and_answers::Items;
 use outside::Text;
 use std::alloc::Global;
 use std::marker::Model;
+use vrt_markup::{
+    Item, Tag, VrtFault, Words, attribute, is_blank, is_equal, item_at, past_element, text_element,
+};
 
 /// What is read of a dataset so far, and how many sources its bands have.
 #[derive(Drop)]

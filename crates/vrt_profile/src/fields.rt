@@ -6,9 +6,9 @@ ghost use Rattle.vrt_profile.specs.Values.{million, IsPair};
 ghost use Rattle.vrt_profile.specs.Fields.{trim, trim_end, whole_text, length_before, cut_by, cut_at, near_by, near_number, pair_of, ticks_then, six_of, Six};
 ghost use Rattle.vrt_profile.specs.NumberViews.{six_view, IsReadSix};
 
-use crate::items::{is_white, trim_front};
 use crate::rectangle::LutPair;
 use geotransform::{read_decimal, read_number, read_places};
+use vrt_markup::{is_white, trim_front};
 
 // Without white space at its end.
 fn trim_end(text: &[u8]) -> &[u8]

@@ -1,16 +1,15 @@
 // Texts that a document keeps.
 ghost use Rattle.std.specs.Prelude.{◌≡◌, Ok, List, Result, IfOk, IsUtf8};
 ghost use Rattle.vrt_profile.specs.Means.{kept_text, judged};
-ghost use Rattle.vrt_profile.specs.Kept.{Gives};
+ghost use Rattle.vrt_markup.specs.Kept.{Gives};
 
-use crate::fault::VrtFault;
-use crate::text::Words;
 use outside::Text;
 use std::alloc::Global;
 use std::str;
+use vrt_markup::{VrtFault, Words};
 
 // The text of these bytes.
-#[tactic(auto, using(crate::proofs::Utf8::is_text, crate::proofs::Utf8::is_no_text))]
+#[tactic(auto, using(crate::proofs::KeptTexts::is_text, crate::proofs::KeptTexts::is_no_text))]
 fn kept_text(alloc: Global, bytes: &[u8]) -> Result<Result<Text, VrtFault>, VrtFault>
     ensures text { Gives (λ x. x) result (Ok (kept_text bytes.now)) }
 {

@@ -1,16 +1,17 @@
 // Lookup tables.
-ghost use Rattle.std.specs.Prelude.{◌≡◌, ◌<◌, ◌++◌, [], ◌∷◌, Ok, List, length, IfOk, IfSome};
+ghost use Rattle.std.specs.Prelude.{◌≡◌, ℕ, ◌<◌, ◌++◌, [], ◌∷◌, Ok, List, length, IfOk, IfSome};
 ghost use Rattle.std.specs.Option.{option_map};
 ghost use Rattle.vrt_profile.specs.Values.{IsPair, IsLut};
-ghost use Rattle.vrt_profile.specs.Fields.{pieces, first_piece};
+ghost use Rattle.vrt_profile.specs.Fields.{pieces, first_piece, pair_of};
 ghost use Rattle.vrt_profile.specs.Numbers.{is_above, rising_pair, next_pair, lut_from, lut_of};
-ghost use Rattle.vrt_profile.specs.Kept.{Gives};
+ghost use Rattle.vrt_markup.specs.Kept.{Gives};
 
-use crate::fault::VrtFault;
 use crate::fields::{cut_at, pair_of};
+use crate::fronts::short_pair;
 use crate::rectangle::{Lut, LutPair};
 use lists_and_answers::Items;
 use std::alloc::Global;
+use vrt_markup::VrtFault;
 
 // Whether the pair's input is above that of the last pair.
 fn is_above(last: Option<LutPair>, pair: LutPair) -> bool
@@ -32,14 +33,18 @@ fn rising_pair(last: Option<LutPair>, pair: LutPair) -> Result<LutPair, VrtFault
     }
 }
 
-// The pair that a piece gives behind `count` others.
-fn next_pair(count: usize, last: Option<LutPair>, piece: &[u8]) -> Result<LutPair, VrtFault>
-    ensures pair { result ≡ next_pair count last piece.now }
+// The pair that the first piece gives behind `count` others, where it gives this one by itself.
+fn next_pair(
+    count: usize,
+    last: Option<LutPair>,
+    pair: Option<LutPair>,
+) -> Result<LutPair, VrtFault>
+    ensures pair { (piece : List ℕ) → pair ≡ pair_of piece → result ≡ next_pair count last piece }
 {
     if count >= 65_536 {
         return Err(VrtFault::Limit);
     }
-    match pair_of(piece) {
+    match pair {
         Some(pair) => rising_pair(last, pair),
         None => Err(VrtFault::BadNumber),
     }
@@ -67,6 +72,21 @@ fn first_piece(text: &[u8]) -> (&[u8], Option<&[u8]>)
     }
 }
 
+// The pair of the first piece, and what stands behind its comma.
+fn pair_at(text: &[u8]) -> (Option<LutPair>, Option<&[u8]>)
+    ensures pair { result.0 ≡ pair_of (first_piece text.now).0 }
+    ensures behind { option_map (λ r. r.now) result.1 ≡ (first_piece text.now).1 }
+    ensures shorter { IfSome result.1 (λ r. length r.now < length text.now) }
+{
+    match short_pair(text) {
+        Some((pair, behind)) => (Some(pair), Some(behind)),
+        None => {
+            let (piece, more) = first_piece(text);
+            (pair_of(piece), more)
+        }
+    }
+}
+
 // The pairs of a table, or its first fault.
 fn pairs_of(alloc: Global, text: &[u8]) -> Result<Result<Items<LutPair>, VrtFault>, VrtFault>
     ensures pairs { Gives (λ x. x) result (Ok (lut_of text.now)) }
@@ -75,8 +95,8 @@ fn pairs_of(alloc: Global, text: &[u8]) -> Result<Result<Items<LutPair>, VrtFaul
     let mut last = None;
     let mut rest = text;
     'pieces: loop {
-        let (piece, more) = first_piece(rest);
-        let pair = match next_pair(pairs.len(), last, piece) {
+        let (found, more) = pair_at(rest);
+        let pair = match next_pair(pairs.len(), last, found) {
             Ok(pair) => pair,
             Err(fault) => return Ok(Err(fault)),
         };

@@ -2,7 +2,7 @@
 ghost use Rattle.std.specs.Prelude.{◌≡◌};
 ghost use Rattle.vrt_profile.specs.Means.{is_remark, is_picture, is_past, dataset_part_of, band_part_of, scaling_of, scaling_part, source_part_of};
 
-use crate::items::is_equal;
+use vrt_markup::is_equal;
 
 /// What an element in a VRTDataset is.
 #[derive(Clone, Copy, Debug, PartialEq, Eq)]

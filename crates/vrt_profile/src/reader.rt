@@ -1,159 +1,19 @@
-// Documents read: what stands outside the root, and the document that the bytes mean.
+// Documents read: the document that the bytes mean.
 ghost use Rattle.std.specs.Prelude.{◌≡◌, ℕ, ◌<◌, ◌≤◌, ◌-◌, length, IfOk, IfSome, List, Result, Ok, Err, Option};
-ghost use Rattle.std.specs.Option.{option_map};
 ghost use Rattle.lists_and_answers.specs.Answers as answers;
-ghost use Rattle.vrt_profile.specs.Faults.{IsMemory};
+ghost use Rattle.vrt_markup.specs.Faults.{IsMemory};
+ghost use Rattle.vrt_markup.specs.Views.{tag_view, result_view, root_view};
+ghost use Rattle.vrt_markup.specs.Kept.{Gives};
 ghost use Rattle.vrt_profile.specs.Values.{IsDocument};
-ghost use Rattle.vrt_profile.specs.Items.{item_at};
-ghost use Rattle.vrt_profile.specs.Views.{tag_view, result_view, root_view};
-ghost use Rattle.vrt_profile.specs.Kept.{Gives};
-ghost use Rattle.vrt_profile.specs.Document.{utf8_of, space, without_mark, after_declaration, declared_at, root_item, root_at, end_by, end_at, markup_means, document_of};
+ghost use Rattle.vrt_profile.specs.Document.{markup_means, document_of};
 
 use crate::dataset::root_element;
 use crate::document::Document;
-use crate::fault::VrtFault;
-use crate::items::{Item, Tag, item_at, strip};
-use crate::text::is_blank;
 use std::alloc::Global;
-use std::str;
-
-// What is left behind comments and white space.
-#[tactic(auto, using(crate::proofs::Outside::space_bad, crate::proofs::Outside::space_open, crate::proofs::Outside::space_close, crate::proofs::Outside::space_comment, crate::proofs::Outside::space_run, crate::proofs::Outside::space_text))]
-fn space(alloc: Global, total: usize, bytes: &[u8]) -> Result<&[u8], VrtFault>
-    requires within { length bytes.now ≤ total }
-    ensures rest { Gives (λ r. r.now) result (space total bytes.now) }
-    ensures shorter { IfOk result (λ r. length r.now ≤ length bytes.now) }
-{
-    let mut rest = bytes;
-    'items: loop {
-        match item_at(alloc, rest) {
-            Item::NoMemory => return Err(VrtFault::Memory),
-            Item::Comment(more) => rest = more,
-            Item::Run(raw, more) => {
-                if !is_blank(raw) {
-                    return Err(VrtFault::BadText((total - rest.len()) as u64));
-                }
-                rest = more;
-            }
-            Item::Bad => return Ok(rest),
-            Item::Open(_, _) => return Ok(rest),
-            Item::Close(_, _) => return Ok(rest),
-        }
-    }
-}
-
-// UTF-8 is judged over all bytes first.
-#[tactic(auto, using(crate::proofs::Utf8::utf8_ok, crate::proofs::Utf8::utf8_err))]
-fn utf8_of(bytes: &[u8]) -> Result<&[u8], VrtFault>
-    ensures text { result_view (λ r. r.now) result ≡ utf8_of bytes.now }
-{
-    match str::from_utf8(bytes) {
-        Ok(_) => Ok(bytes),
-        Err(error) => Err(VrtFault::BadText(error.valid_up_to() as u64)),
-    }
-}
-
-fn without_mark(bytes: &[u8]) -> &[u8]
-    ensures rest { result.now ≡ without_mark bytes.now }
-    ensures shorter { length result.now ≤ length bytes.now }
-{
-    match strip(bytes, &[239, 187, 191]) {
-        Some(rest) => rest,
-        None => bytes,
-    }
-}
-
-fn after_declaration(text: &[u8]) -> Option<&[u8]>
-    ensures rest { option_map (λ r. r.now) result ≡ after_declaration text.now }
-    ensures shorter { IfSome result (λ r. length r.now ≤ length text.now) }
-{
-    let mut rest = text;
-    while let [_, more @ ..] = rest {
-        if let Some(behind) = strip(rest, b"?>") {
-            return Some(behind);
-        }
-        rest = more;
-    }
-    None
-}
-
-fn declared_at(total: usize, bytes: &[u8]) -> Result<&[u8], VrtFault>
-    requires within { length bytes.now ≤ total }
-    ensures rest { result_view (λ r. r.now) result ≡ declared_at total bytes.now }
-    ensures shorter { IfOk result (λ r. length r.now ≤ length bytes.now) }
-{
-    match strip(bytes, b"<?xml") {
-        None => Ok(bytes),
-        Some(rest) => match after_declaration(rest) {
-            None => Err(VrtFault::BadText((total - bytes.len()) as u64)),
-            Some(rest) => Ok(rest),
-        },
-    }
-}
-
-/// The root's start tag, its place and what stands behind it.
-#[derive(Clone, Copy)]
-pub struct Root<'a> {
-    pub place: u64,
-    pub tag: Tag<'a>,
-    pub rest: &'a [u8],
-}
-
-fn root_item(alloc: Global, total: usize, bytes: &[u8]) -> Result<Root, VrtFault>
-    requires within { length bytes.now ≤ total }
-    ensures root { Gives root_view result (root_item total bytes.now (item_at bytes.now)) }
-    ensures shorter { IfOk result (λ r. length r.rest.now ≤ length bytes.now) }
-{
-    match item_at(alloc, bytes) {
-        Item::Open(tag, rest) => Ok(Root {
-            place: (total - bytes.len()) as u64,
-            tag,
-            rest,
-        }),
-        Item::NoMemory => Err(VrtFault::Memory),
-        _ => Err(VrtFault::BadText((total - bytes.len()) as u64)),
-    }
-}
-
-#[tactic(auto, unfolding(crate::specs::Document::root_at), using(crate::proofs::Outside::fails_bind))]
-fn root_at(alloc: Global, total: usize, bytes: &[u8]) -> Result<Root, VrtFault>
-    requires within { length bytes.now ≤ total }
-    ensures root { Gives root_view result (root_at total bytes.now) }
-    ensures shorter { IfOk result (λ r. length r.rest.now ≤ length bytes.now) }
-{
-    match declared_at(total, without_mark(bytes)) {
-        Err(fault) => Err(fault),
-        Ok(front) => match space(alloc, total, front) {
-            Err(error) => Err(error),
-            Ok(start) => root_item(alloc, total, start),
-        },
-    }
-}
-
-fn end_by(total: usize, bytes: &[u8]) -> Result<&[u8], VrtFault>
-    requires within { length bytes.now ≤ total }
-    ensures end { result_view (λ r. r.now) result ≡ end_by total bytes.now }
-{
-    match bytes {
-        [] => Ok(&[]),
-        [_, ..] => Err(VrtFault::BadText((total - bytes.len()) as u64)),
-    }
-}
-
-// Nothing but comments and white space may follow the root.
-#[tactic(auto, unfolding(crate::specs::Document::end_at), using(crate::proofs::Outside::fails_bind))]
-fn end_at(alloc: Global, total: usize, bytes: &[u8]) -> Result<&[u8], VrtFault>
-    requires within { length bytes.now ≤ total }
-    ensures end { Gives (λ r. r.now) result (end_at total bytes.now) }
-{
-    match space(alloc, total, bytes) {
-        Err(error) => Err(error),
-        Ok(rest) => end_by(total, rest),
-    }
-}
+use vrt_markup::{VrtFault, end_at, root_at, utf8_of};
 
 // The document of a text that is UTF-8.
-#[tactic(auto, unfolding(crate::specs::Document::markup_of), using(crate::proofs::Outside::fails_bind))]
+#[tactic(auto, unfolding(vrt_markup::specs::Tree::markup_of), using(vrt_markup::proofs::Outside::fails_bind))]
 fn markup(alloc: Global, bytes: &[u8]) -> Result<Document, VrtFault>
     ensures document { Gives (λ d. d) result (markup_means bytes.now) }
 {
@@ -176,7 +36,7 @@ fn markup(alloc: Global, bytes: &[u8]) -> Result<Document, VrtFault>
 /// the byte of an element that isn't known there; `MissingPart` where an attribute or an element is
 /// missing; `BadNumber` where a number isn't of its form or its range; `Unsupported`; `Limit` where a
 /// limit is passed or elements stand deeper than 64. `Memory` comes where memory is refused.
-#[tactic(auto, using(crate::proofs::Outside::gives_answer, crate::proofs::Outside::utf8_fault))]
+#[tactic(auto, using(crate::proofs::Answered::gives_answer, crate::proofs::Answered::utf8_fault))]
 pub fn read(alloc: Global, bytes: &[u8]) -> Result<Document, VrtFault>
     ensures document { answers.Gives IsMemory (λ d. d) result (document_of bytes.now) }
 {

@@ -1,17 +1,15 @@
 // Rectangles: SrcRect and DstRect.
 ghost use Rattle.std.specs.Prelude.{◌≡◌, ◌<◌, ◌≤◌, ◌<ℤ◌, pos, length, IfOk, List};
 ghost use Rattle.vrt_profile.specs.Values.{IsOffset};
-ghost use Rattle.vrt_profile.specs.Forest.{inner, read_as};
+ghost use Rattle.vrt_markup.specs.Forest.{inner, read_as};
 ghost use Rattle.vrt_profile.specs.Means.{rect_end, rect_by, rect_of};
-ghost use Rattle.vrt_profile.specs.Views.{tag_view, lone_view};
-ghost use Rattle.vrt_profile.specs.Kept.{Gives};
+ghost use Rattle.vrt_markup.specs.Views.{tag_view, lone_view};
+ghost use Rattle.vrt_markup.specs.Kept.{Gives};
 
-use crate::fault::VrtFault;
-use crate::items::{Tag, attribute};
 use crate::numbers::{offset_in, size_in};
 use crate::rectangle::MicroRect;
-use crate::text::{Marks, lone_inner};
 use std::alloc::Global;
+use vrt_markup::{Marks, Tag, VrtFault, attribute, lone_inner};
 
 fn rect_end(marks: Marks, rect: MicroRect) -> Result<MicroRect, VrtFault>
     ensures rect { result ≡ rect_end marks.blank (lone_view marks.child) rect }

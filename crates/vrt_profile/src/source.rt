@@ -1,28 +1,27 @@
 // Sources of a band.
 ghost use Rattle.std.specs.Prelude.{◌≡◌, ℕ, ◌<◌, ◌≤◌, ◌-◌, ◌*◌, ◌^◌, ℤ, [], length, IfOk, IfSome, unsigned_abs, if◌then◌else◌, false, List, Result, Ok, Err, Option, None, Some, true};
 ghost use Rattle.std.specs.Option.{option_map, unwrap_or};
-ghost use Rattle.vrt_profile.specs.Forest.{nodes, inner, read_as, over, text_of, child_of};
+ghost use Rattle.vrt_markup.specs.Forest.{nodes, inner, read_as, over, text_of, child_of};
 ghost use Rattle.vrt_profile.specs.Means as means;
 ghost use Rattle.vrt_profile.specs.Means.{flag_in, flag_by, file_by, file_of, source_band_by, nodata_by, scale_text, lut_by, with_file, with_band, with_src, with_dst, with_nodata, with_offset, with_ratio, with_lut, number_parts, source_parts, source_step, no_parts, is_like, is_near, source_from, source_named, source_end, source_by, source_of, value_in};
 ghost use Rattle.vrt_profile.specs.Values.{IsRectangle, IsLut, trillion};
-ghost use Rattle.vrt_profile.specs.Views.{tag_view, text_view};
-ghost use Rattle.vrt_profile.specs.Kept.{Gives, seen, worded, stepped};
+ghost use Rattle.vrt_markup.specs.Views.{tag_view, text_view};
+ghost use Rattle.vrt_markup.specs.Kept.{Gives, seen, worded, stepped};
 
 use crate::document::Source;
-use crate::fault::VrtFault;
 use crate::fields::trim;
-use crate::items::{Item, Tag, attribute, is_equal, item_at};
 use crate::kept::{text_by, text_rules};
 use crate::lookup::lut_of;
 use crate::numbers::{BandNumber, NoData, Scale, band_number, nodata_in, scale_of};
 use crate::parts::{NumberPart, SourcePart, source_part_of};
-use crate::past::past_element;
 use crate::rect::rect_element;
 use crate::rectangle::{Lut, MicroRect};
-use crate::text::{Words, is_blank, text_element};
 use outside::Text;
 use std::alloc::Global;
 use std::marker::Model;
+use vrt_markup::{
+    Item, Tag, VrtFault, Words, attribute, is_blank, is_equal, item_at, past_element, text_element,
+};
 
 /// A SourceFilename.
 #[derive(Drop)]

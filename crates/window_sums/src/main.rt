@@ -1,5 +1,6 @@
-// An example of the libraries without the program: reads the first band of a raster in windows of whole lines, and prints
-// how many pixels it has and their sum. The words are the raster, the lines of a window, and how many blocks are held.
+// An example of the libraries without the program: reads the first band of a raster in windows of whole lines, and
+// prints how many pixels it has and their sum. The words are the raster, the lines of a window, and how many blocks are
+// held.
 #![tactic(auto)]
 
 ghost use Rattle.std.specs.Prelude.{◌≡◌, ◌<◌, ◌*◌, Some, length};
@@ -24,7 +25,8 @@ const MOST_PIXELS: u32 = 4_194_304;
 // At most so many blocks are held.
 const MOST_BLOCKS: u32 = 65_536;
 
-// How much room is taken and given back at the start, in bytes: less than the 32 MiB past which nothing is learnt of it.
+// How much room is taken and given back at the start, in bytes: less than the 32 MiB past which nothing is learnt of
+// it.
 const LARGE: usize = 25_165_824;
 
 // What is read, in windows of so many lines, with so many blocks.
@@ -253,7 +255,8 @@ fn run(rt: &HostRuntime) -> Option<bool> {
 }
 
 // Takes room and gives it back, untouched. The C library's allocator then keeps what blocks of up to this size give
-// back, in place of returning their pages to the system and asking for them again. Where it is refused, nothing is lost.
+// back, in place of returning their pages to the system and asking for them again. Where it is refused, nothing is
+// lost.
 fn keep_pages(alloc: Global) {
     let _room: Result<Vec<u8>, AllocError> = Vec::with_capacity(alloc, LARGE);
 }

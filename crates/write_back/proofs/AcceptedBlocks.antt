@@ -10,7 +10,8 @@ use Rattle.geotransform.specs.Geo.{Transform}
 use Rattle.geotransform.specs.declared.types.Size.{Size}
 use Rattle.geotransform.specs.declared.types.PixelType.TheVariants.{Int16}
 use Rattle.outside.specs.Outside.{Files}
-use Rattle.outside.specs.Names.{last_part, same_letters}
+use Rattle.lists_and_answers.specs.Texts.{same_letters}
+use Rattle.outside.specs.Names.{last_part}
 use Rattle.dted_records.specs.declared.head.DtedFault.{DtedFault}
 use Rattle.dted_records.specs.Head as dted
 use Rattle.dted_records.specs.Places.{record_len, record_of}

@@ -6,7 +6,7 @@ use Rattle.std.proofs.lemmas.Bool.Decides.{nat_tests}
 use Rattle.std.proofs.lemmas.Slice.Eq.{bytes_eq-Decides}
 use Rattle.std.proofs.lemmas.List.{length-map}
 use Rattle.lists_and_answers.specs.Options.{◌>>=◌}
-use Rattle.outside.specs.Names.{same_letters}
+use Rattle.lists_and_answers.specs.Texts.{same_letters}
 use Rattle.hgt_tiles.specs.Names.{Place, IsPlace, side_of, degrees_in, corner_of, letter_of, two_digits, three_digits, name_of}
 use Rattle.hgt_tiles.proofs.Named.{name_again}
 

@@ -1,14 +1,16 @@
-pub mod Columns
+-- What public clauses and laws speak of: to be read and trusted.
+pub mod Plans
 pub mod Files
 pub mod Forms
+pub mod Columns
 pub mod Grids
-pub mod Overlay
-pub mod Pieces
-pub mod Plans
 pub mod Reading
-pub mod Seen
+pub mod View
+pub mod Overlay
+pub mod Windows
 pub mod State
+pub mod Pieces
+-- What private clauses, views and proofs speak of.
+pub mod Seen
 pub mod Turned
 pub mod Unwritten
-pub mod View
-pub mod Windows

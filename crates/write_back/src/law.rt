@@ -37,9 +37,9 @@ pub fn outputs_hold_pixels()
     ensures pixels { (p : Planned) (o : Output) (source : Size) (pixels : ℕ → ℕ → ℕ → ℤ) (k i j : ℕ) → IsPlan p → output_of p ≡ Some o → k < length p.bands → is_writable o (out_pixel p source pixels k i j) ≡ true }
 {}
 
-/// A folder over which an output's files are put has them. They are accepted under a name of its driver, and read as its
-/// plan says: they have its size and its bands, and their pixels are the samples. A grid is read so where the coordinates
-/// that its text writes, and the place that is read from them, stay below 10^12 units.
+/// A folder over which an output's files are put has them. They are accepted under a name of its driver, and read as
+/// its plan says: they have its size and its bands, and their pixels are the samples. A grid is read so where the
+/// coordinates that its text writes, and the place that is read from them, stay below 10^12 units.
 pub fn outputs_decode()
     ensures held { (m : Files) (name : List ℕ) (p : Planned) (o : Output) (samples : ℕ → ℕ → ℕ → ℤ) → output_of p ≡ Some o → IsNamedFor p name → HasFiles (with_files (files_of o name samples) m) (files_of o name samples) }
     ensures decoded { (m : Files) (verify : Bool) (name : List ℕ) (p : Planned) (o : Output) (samples : ℕ → ℕ → ℕ → ℤ) → IsPlan p → output_of p ≡ Some o → IsReadable p name → AreSamplesOf o samples → HasFiles m (files_of o name samples) → IsDecoded m verify name p samples }

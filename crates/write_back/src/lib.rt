@@ -19,5 +19,8 @@ mod unwritten;
 mod writer;
 
 pub use fault::{CloseFault, TargetFault};
-pub use law::{outputs_decode, outputs_have_sizes, outputs_hold_pixels, plain_heads_are_tight};
+pub use law::{
+    outputs_decode, outputs_have_sizes, outputs_hold_pixels, plain_heads_are_tight,
+    windows_show_the_last,
+};
 pub use target::Target;

@@ -1,4 +1,4 @@
-use Rattle.std.proofs.Common.{◌≡◌, ◌∙◌, ◌<◌, ◌+◌, ◌-◌, ◌∷◌, ap, sym, arith, rules, pos, ℕ, List, length, take, drop, get_or, to_z, of_z}
+use Rattle.std.proofs.Common.{◌≡◌, ◌∙◌, ◌<◌, ◌+◌, ◌-◌, ap, sym, arith, rules, pos, ℕ, List, length, take, drop, get_or, to_z, of_z}
 use Rattle.std.specs.Prelude.{neg_ℤ}
 use mir.Syntax.{w32}
 use Rattle.geotransform.specs.Decimal.{number}

@@ -1,5 +1,5 @@
 use Rattle.std.proofs.Common.{◌∙◌, ap, sym, inr, cond, Ok, Err}
-use Rattle.vrt_profile.specs.declared.fault.VrtFault.TheVariants as vrt
+use Rattle.vrt_markup.specs.declared.fault.VrtFault.TheVariants as vrt
 use Rattle.catalog.specs.declared.faults.Bad.TheVariants as bad
 use Rattle.catalog.specs.declared.faults.WalkFault.TheVariants.{Malformed}
 use Rattle.catalog.proofs.walk.check_width.Goals as goal

@@ -1,5 +1,5 @@
 use Rattle.std.proofs.Common.{◌≡◌, ◌∙◌, sym, None, Some}
-use Rattle.vrt_profile.specs.Faults.{fault_place}
+use Rattle.vrt_markup.specs.Faults.{fault_place}
 use Rattle.error_lines.proofs.texts.put_vrt.Goals as goal
 
 pub returns-in-None-clause-ok : goal.returns-in-None-clause-ok

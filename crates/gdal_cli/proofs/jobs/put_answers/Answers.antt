@@ -9,7 +9,7 @@ use Rattle.gdal_cli.specs.Run.{Ends}
 use Rattle.gdal_cli.proofs.Causes.{readings_of_lines}
 use Rattle.gdal_cli.proofs.Changed.{puts_unchanged}
 use Rattle.gdal_cli.proofs.Ended.{err_is, ends_outside, equal_put, lines_put}
-use Rattle.gdal_cli.proofs.Pieces.{always_ok}
+use Rattle.gdal_cli.proofs.Pieces.{always_ok, then_ok}
 use Rattle.gdal_cli.proofs.jobs.put_answers.Goals as goal
 
 pub returns-in_err-points-clause-told : goal.returns-in_err-points-clause-told
@@ -59,3 +59,6 @@ answer_input-requires-clause-ready g c κs within = record {
 
 pub returns-in-Some-clause-read : goal.returns-in-Some-clause-read
 returns-in-Some-clause-read g c = always_ok c.put_point.result _ (λ none i left. (let some = ap (λ (p : Option (ℤ × ℤ)). is_some p) c.in-Some.is in absurd (cc)))
+
+pub returns-clause-read : goal.returns-clause-read
+returns-clause-read g c = then_ok c.answer_input.result _ _ c.answer_input.ensures.read (λ read none i left. read i left)

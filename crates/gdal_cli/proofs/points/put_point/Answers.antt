@@ -19,17 +19,17 @@ returns-in_err-make_text-clause-never g c m told name was now is =
 pub returns-in-Ok-clause-told : goal.returns-in-Ok-clause-told
 unfolding point_text
 returns-in-Ok-clause-told g c m told d at =
-    let column : to_z w128 (of_z w128 c.place_of-column.result.0) ≡ c.place_of-column.result.0 = search rules in
-    let line : to_z w128 (of_z w128 c.place_of-column.result.1) ≡ c.place_of-column.result.1 = search rules in
-    let place : (to_z w128 (of_z w128 c.place_of-column.result.0), to_z w128 (of_z w128 c.place_of-column.result.1)) ≡ c.place_of-column.result = ap (λ (k : ℤ). (k, to_z w128 (of_z w128 c.place_of-column.result.1))) column ∙ ap (λ (k : ℤ). (c.place_of-column.result.0, k)) line in
-    let text : c.deref.result.now ≡ point_text m c.args.question.now.cat d c.args.question.now.asked c.args.x c.args.y = c.deref.ensures.value ∙ c.in_ok-make_text.ensures.text m told d at ∙ ap (told_text m c.args.question.now.cat d c.args.question.now.asked) (place ∙ c.place_of-column.ensures.place) in
+    let column : to_z w128 (of_z w128 c.column_and_line-column.result.0) ≡ c.column_and_line-column.result.0 = search rules in
+    let line : to_z w128 (of_z w128 c.column_and_line-column.result.1) ≡ c.column_and_line-column.result.1 = search rules in
+    let place : (to_z w128 (of_z w128 c.column_and_line-column.result.0), to_z w128 (of_z w128 c.column_and_line-column.result.1)) ≡ c.column_and_line-column.result = ap (λ (k : ℤ). (k, to_z w128 (of_z w128 c.column_and_line-column.result.1))) column ∙ ap (λ (k : ℤ). (c.column_and_line-column.result.0, k)) line in
+    let text : c.deref.result.now ≡ point_text m c.args.question.now.cat d c.args.question.now.asked c.args.x c.args.y = c.deref.ensures.value ∙ c.in_ok-make_text.ensures.text m told d at ∙ ap (told_text m c.args.question.now.cat d c.args.question.now.asked) (place ∙ c.column_and_line-column.ensures.place) in
     subst (λ (t : List ℕ). Gets t (g.O.Sink.got c.args.out.now) (g.O.Sink.got c.put.new.self)) text c.in-Ok.ensures.ok
 
 pub returns-in-Err-clause-told : goal.returns-in-Err-clause-told
 unfolding point_text
 returns-in-Err-clause-told g c m told d at =
-    let column : to_z w128 (of_z w128 c.place_of-column.result.0) ≡ c.place_of-column.result.0 = search rules in
-    let line : to_z w128 (of_z w128 c.place_of-column.result.1) ≡ c.place_of-column.result.1 = search rules in
-    let place : (to_z w128 (of_z w128 c.place_of-column.result.0), to_z w128 (of_z w128 c.place_of-column.result.1)) ≡ c.place_of-column.result = ap (λ (k : ℤ). (k, to_z w128 (of_z w128 c.place_of-column.result.1))) column ∙ ap (λ (k : ℤ). (c.place_of-column.result.0, k)) line in
-    let text : c.deref.result.now ≡ point_text m c.args.question.now.cat d c.args.question.now.asked c.args.x c.args.y = c.deref.ensures.value ∙ c.in_ok-make_text.ensures.text m told d at ∙ ap (told_text m c.args.question.now.cat d c.args.question.now.asked) (place ∙ c.place_of-column.ensures.place) in
+    let column : to_z w128 (of_z w128 c.column_and_line-column.result.0) ≡ c.column_and_line-column.result.0 = search rules in
+    let line : to_z w128 (of_z w128 c.column_and_line-column.result.1) ≡ c.column_and_line-column.result.1 = search rules in
+    let place : (to_z w128 (of_z w128 c.column_and_line-column.result.0), to_z w128 (of_z w128 c.column_and_line-column.result.1)) ≡ c.column_and_line-column.result = ap (λ (k : ℤ). (k, to_z w128 (of_z w128 c.column_and_line-column.result.1))) column ∙ ap (λ (k : ℤ). (c.column_and_line-column.result.0, k)) line in
+    let text : c.deref.result.now ≡ point_text m c.args.question.now.cat d c.args.question.now.asked c.args.x c.args.y = c.deref.ensures.value ∙ c.in_ok-make_text.ensures.text m told d at ∙ ap (told_text m c.args.question.now.cat d c.args.question.now.asked) (place ∙ c.column_and_line-column.ensures.place) in
     (tt, subst (λ (t : List ℕ). GetsPart t (g.O.Sink.got c.args.out.now) (g.O.Sink.got c.put.new.self)) text c.in-Err.ensures.err)

@@ -1,6 +1,7 @@
 use Rattle.std.proofs.Common.{◌≡◌, ℕ, List, ◌++◌, take}
 use Rattle.std.specs.Str.Lines.{lines}
-use Rattle.input_points.specs.Reading.{coming, joined}
+use Rattle.lists_and_answers.specs.Texts.{joined}
+use Rattle.input_points.specs.Reading.{coming}
 use Rattle.input_points.proofs.laws.read_pieces.Given as goal
 
 -- what is given and what is still to come

@@ -1,7 +1,7 @@
 use Rattle.std.proofs.Common.{◌∙◌, ◌++◌, ◌∷◌, [], ap, sym, subst, append_assoc, inl, inr, arith}
 use Rattle.std.specs.Prelude.{IfErr}
 use Rattle.band_blocks.specs.Open.{IsUnchanged}
-use Rattle.band_blocks.specs.declared.load.LoadFault.TheVariants.{FolderFault}
+use Rattle.band_blocks.specs.declared.fault.LoadFault.TheVariants.{FolderFault}
 use Rattle.nearest_window.specs.Right.{TellsChangeIn}
 use Rattle.lane_teams.specs.Turns.{first_of, IsTurnOf}
 use Rattle.lane_teams.proofs.Refusals.{first_failed, rose_on, rose_then, first_keeps, turn_at, turns_behind}

@@ -1,5 +1,5 @@
 use Rattle.std.proofs.Common.{refl, subst, sym, [], ◌∷◌, Some}
-use Rattle.vrt_profile.specs.Spelled.{spelled}
+use Rattle.vrt_writing.specs.Spelled.{spelled}
 use Rattle.vrt_profile.specs.Values.{DocumentValue}
 use Rattle.translate_plan.specs.Documents.{document_by}
 use Rattle.error_lines.specs.Steps.{Publishes, all_done, Goes}

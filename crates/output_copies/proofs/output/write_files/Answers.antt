@@ -35,29 +35,29 @@ returns-in_err-target-clause-ends g c =
     (ends_beside {T = Unit {0}} told (g.F.Folder.faults c.args.folder.now) (g.F.Folder.faults c.create.new.folder) (g.O.Sink.faults c.args.out.now) (Err (target_fault_of t))
     (ends_target t told (g.F.Folder.faults c.args.folder.now) (g.F.Folder.faults c.create.new.folder) c.in_err-target.ensures.cause))
 
-pub copy_all-requires-clause-ready : goal.copy_all-requires-clause-ready
-copy_all-requires-clause-ready g c κs within = lanes_begin g.F.Folder g.S.Scene.told g.S.Scene.cat c.args.translation.now.cat _ c.create.new.folder (c.requires.told ∙ sym c.create.ensures.names) c.requires.scene (λ m is. c.requires.walked m (sym c.create.ensures.names ∙ is)) c.in_ok-copier.ensures.fresh
+pub copy_lines-requires-clause-ready : goal.copy_lines-requires-clause-ready
+copy_lines-requires-clause-ready g c κs within = lanes_begin g.F.Folder g.S.Scene.told g.S.Scene.cat c.args.translation.now.cat _ c.create.new.folder (c.requires.told ∙ sym c.create.ensures.names) c.requires.scene (λ m is. c.requires.walked m (sym c.create.ensures.names ∙ is)) c.in_ok-copier.ensures.fresh
 
 pub returns-in-Ok-clause-goes : goal.returns-in-Ok-clause-goes
 returns-in-Ok-clause-goes g c = λ m d told at.
     let p = c.args.translation.now.plan in
     let q = c.args.writing.now.quiet in
     let before = g.O.Sink.got c.args.out.now in
-    let after = g.O.Sink.got c.copy_all.new.out in
-    let names : g.F.Folder.names c.copy_all.new.folder ≡ Some m = c.copy_all.ensures.names ∙ (c.create.ensures.names ∙ told) in
-    let name : c.copy_all.new.target.name ≡ c.args.writing.now.name.now = c.copy_all.ensures.name ∙ c.in_ok-target.ensures.name in
+    let after = g.O.Sink.got c.copy_lines.new.out in
+    let names : g.F.Folder.names c.copy_lines.new.folder ≡ Some m = c.copy_lines.ensures.names ∙ (c.create.ensures.names ∙ told) in
+    let name : c.copy_lines.new.target.name ≡ c.args.writing.now.name.now = c.copy_lines.ensures.name ∙ c.in_ok-target.ensures.name in
     goes_then (unless_quiet q progress) (publishes (files_by (output_of p) c.args.writing.now.name.now (raster_of m d p))) m m c.publish.result (g.F.Folder.names c.publish.new.folder) before after after
     (spoken_done q progress m (Some m) before after refl (subst (λ (b : Bool). Gets (spoken b progress) before after) c.in_ok-copier.ensures.quiet c.in-Ok.ensures.ok))
-    (subst (λ (n : List ℕ). Goes (all_done (publishes (files_by (output_of p) n (raster_of m d p)))) m c.publish.result (g.F.Folder.names c.publish.new.folder) (g.O.Sink.got c.copy_all.new.out) (g.O.Sink.got c.copy_all.new.out)) name
+    (subst (λ (n : List ℕ). Goes (all_done (publishes (files_by (output_of p) n (raster_of m d p)))) m c.publish.result (g.F.Folder.names c.publish.new.folder) (g.O.Sink.got c.copy_lines.new.out) (g.O.Sink.got c.copy_lines.new.out)) name
     (c.publish.ensures.goes m d names at after))
 
 pub returns-in-Ok-clause-ends : goal.returns-in-Ok-clause-ends
 returns-in-Ok-clause-ends g c =
     let copied = c.in-Ok.ensures.ends.cause in
     let made = c.create.ensures.cause.later in
-    ends_after (g.F.Folder.names c.args.folder.now) (g.F.Folder.names c.copy_all.new.folder) (g.F.Folder.faults c.args.folder.now) (g.F.Folder.faults c.copy_all.new.folder) (g.F.Folder.faults c.publish.new.folder) (g.O.Sink.faults c.args.out.now) (g.O.Sink.faults c.copy_all.new.out) (g.O.Sink.faults c.copy_all.new.out) c.publish.result
-    (c.copy_all.ensures.names ∙ c.create.ensures.names) (omega (arith, made, copied.folder_later)) copied.out_later
-    (ends_beside (g.F.Folder.names c.copy_all.new.folder) (g.F.Folder.faults c.copy_all.new.folder) (g.F.Folder.faults c.publish.new.folder) (g.O.Sink.faults c.copy_all.new.out) c.publish.result c.publish.ensures.ends)
+    ends_after (g.F.Folder.names c.args.folder.now) (g.F.Folder.names c.copy_lines.new.folder) (g.F.Folder.faults c.args.folder.now) (g.F.Folder.faults c.copy_lines.new.folder) (g.F.Folder.faults c.publish.new.folder) (g.O.Sink.faults c.args.out.now) (g.O.Sink.faults c.copy_lines.new.out) (g.O.Sink.faults c.copy_lines.new.out) c.publish.result
+    (c.copy_lines.ensures.names ∙ c.create.ensures.names) (omega (arith, made, copied.folder_later)) copied.out_later
+    (ends_beside (g.F.Folder.names c.copy_lines.new.folder) (g.F.Folder.faults c.copy_lines.new.folder) (g.F.Folder.faults c.publish.new.folder) (g.O.Sink.faults c.copy_lines.new.out) c.publish.result c.publish.ensures.ends)
 
 pub returns-clause-goes : goal.returns-clause-goes
 returns-clause-goes g c = λ m d told at.
@@ -65,12 +65,12 @@ returns-clause-goes g c = λ m d told at.
     let q = c.args.writing.now.quiet in
     let f = c.in-Err.fault in
     let here : g.F.Folder.names c.create.new.folder ≡ Some m = c.create.ensures.names ∙ told in
-    goes_stop (unless_quiet q progress) (publishes (files_by (output_of p) c.args.writing.now.name.now (raster_of m d p))) m f (g.F.Folder.names c.give_up.new.folder) (g.O.Sink.got c.args.out.now) (g.O.Sink.got c.copy_all.new.out)
-    (spoken_stops q progress f m (g.F.Folder.names c.give_up.new.folder) (g.O.Sink.got c.args.out.now) (g.O.Sink.got c.copy_all.new.out) (c.give_up.ensures.names ∙ (c.copy_all.ensures.names ∙ here)) (c.in-Err.ensures.ends.never m here) (subst (λ (b : Bool). GetsPart (spoken b progress) (g.O.Sink.got c.args.out.now) (g.O.Sink.got c.copy_all.new.out)) c.in_ok-copier.ensures.quiet c.in-Err.ensures.err))
+    goes_stop (unless_quiet q progress) (publishes (files_by (output_of p) c.args.writing.now.name.now (raster_of m d p))) m f (g.F.Folder.names c.give_up.new.folder) (g.O.Sink.got c.args.out.now) (g.O.Sink.got c.copy_lines.new.out)
+    (spoken_stops q progress f m (g.F.Folder.names c.give_up.new.folder) (g.O.Sink.got c.args.out.now) (g.O.Sink.got c.copy_lines.new.out) (c.give_up.ensures.names ∙ (c.copy_lines.ensures.names ∙ here)) (c.in-Err.ensures.ends.never m here) (subst (λ (b : Bool). GetsPart (spoken b progress) (g.O.Sink.got c.args.out.now) (g.O.Sink.got c.copy_lines.new.out)) c.in_ok-copier.ensures.quiet c.in-Err.ensures.err))
 
 pub returns-clause-ends : goal.returns-clause-ends
 returns-clause-ends g c =
     let f = c.in-Err.fault in
-    subst (λ (n : ℕ). MayEnd {T = Unit {0}} (g.F.Folder.names c.args.folder.now) (g.F.Folder.faults c.args.folder.now) n (g.O.Sink.faults c.args.out.now) (g.O.Sink.faults c.copy_all.new.out) (Err c.in-Err.fault)) (sym c.give_up.ensures.faults)
-    (ends_after (g.F.Folder.names c.args.folder.now) (g.F.Folder.names c.create.new.folder) (g.F.Folder.faults c.args.folder.now) (g.F.Folder.faults c.create.new.folder) (g.F.Folder.faults c.copy_all.new.folder) (g.O.Sink.faults c.args.out.now) (g.O.Sink.faults c.args.out.now) (g.O.Sink.faults c.copy_all.new.out) (Err c.in-Err.fault)
+    subst (λ (n : ℕ). MayEnd {T = Unit {0}} (g.F.Folder.names c.args.folder.now) (g.F.Folder.faults c.args.folder.now) n (g.O.Sink.faults c.args.out.now) (g.O.Sink.faults c.copy_lines.new.out) (Err c.in-Err.fault)) (sym c.give_up.ensures.faults)
+    (ends_after (g.F.Folder.names c.args.folder.now) (g.F.Folder.names c.create.new.folder) (g.F.Folder.faults c.args.folder.now) (g.F.Folder.faults c.create.new.folder) (g.F.Folder.faults c.copy_lines.new.folder) (g.O.Sink.faults c.args.out.now) (g.O.Sink.faults c.args.out.now) (g.O.Sink.faults c.copy_lines.new.out) (Err c.in-Err.fault)
     c.create.ensures.names c.create.ensures.cause.later (omega arith) c.in-Err.ensures.ends)

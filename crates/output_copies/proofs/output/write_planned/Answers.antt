@@ -1,5 +1,5 @@
 use Rattle.std.proofs.Common.{◌∙◌, ap, subst, sym, List}
-use Rattle.strip_copies.specs.declared.reading.Translation.{Translation}
+use Rattle.strip_copies.specs.declared.translation.Translation.{Translation}
 use Rattle.error_lines.specs.Steps.{Step, all_done, Goes}
 use Rattle.output_copies.proofs.Written.{document_middle, samples_middle}
 use Rattle.output_copies.proofs.output.write_planned.Goals as goal

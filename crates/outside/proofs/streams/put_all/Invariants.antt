@@ -1,5 +1,6 @@
 use Rattle.std.proofs.Common.{◌≤◌, take}
-use Rattle.outside.specs.Streams.{Gets, joined}
+use Rattle.lists_and_answers.specs.Texts.{joined}
+use Rattle.outside.specs.Streams.{Gets}
 use Rattle.outside.proofs.streams.put_all.Given as goal
 
 -- what was put so far

@@ -1,5 +1,5 @@
 use Rattle.std.proofs.Common.{◌∙◌, subst, [], ◌∷◌}
-use Rattle.vrt_profile.specs.Spelled.{spelled}
+use Rattle.vrt_writing.specs.Spelled.{spelled}
 use Rattle.buildvrt.specs.Options.{Options}
 use Rattle.error_lines.specs.declared.faults.Fault.TheVariants.{Memory}
 use Rattle.error_lines.specs.Steps.{Publishes, all_done, Goes}

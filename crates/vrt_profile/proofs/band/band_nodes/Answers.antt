@@ -1,9 +1,9 @@
 use Rattle.std.proofs.Common.{arith, ap, sym, ◌∙◌, ◌-◌, length, ◌&&◌}
-use Rattle.vrt_profile.specs.Forest.{nodes, read_as}
-use Rattle.vrt_profile.specs.Kept.{seen, stepped}
+use Rattle.vrt_markup.specs.Forest.{nodes, read_as}
+use Rattle.vrt_markup.specs.Kept.{seen, stepped}
 use Rattle.vrt_profile.specs.Means.{band_step}
-use Rattle.vrt_profile.specs.Views.{tag_view}
-use Rattle.vrt_profile.proofs.Reading.{read_comment, seen_run, seen_open, child_fails}
+use Rattle.vrt_markup.specs.Views.{tag_view}
+use Rattle.vrt_markup.proofs.Reading.{read_comment, seen_run, seen_open, child_fails}
 use Rattle.vrt_profile.proofs.band.band_nodes.Goals as goal
 
 pub items-preserved-in-Comment-1 : goal.items-preserved-in-Comment-1

@@ -1,6 +1,6 @@
 use Rattle.std.proofs.Common.{◌≡◌, ◌≤◌, length, Ok, true}
-use Rattle.vrt_profile.specs.Forest.{nodes, read_as}
-use Rattle.vrt_profile.specs.Kept.{seen}
+use Rattle.vrt_markup.specs.Forest.{nodes, read_as}
+use Rattle.vrt_markup.specs.Kept.{seen}
 use Rattle.vrt_profile.specs.Means.{band_step, no_band_parts}
 use Rattle.vrt_profile.proofs.band.band_nodes.Given as goal
 

@@ -1,8 +1,8 @@
 use Rattle.std.proofs.Common.{ap, ◌∙◌, Ok}
-use Rattle.vrt_profile.specs.Forest.{inner}
+use Rattle.vrt_markup.specs.Forest.{inner}
 use Rattle.vrt_profile.specs.Means.{with_source, source_of}
-use Rattle.vrt_profile.specs.Views.{tag_view}
-use Rattle.vrt_profile.proofs.Reading.{read_then, ok_value}
+use Rattle.vrt_markup.specs.Views.{tag_view}
+use Rattle.vrt_markup.proofs.Reading.{read_then, ok_value}
 use Rattle.vrt_profile.proofs.band.source_part.Goals as goal
 
 pub returns-in-Ok-with_source-clause-child : goal.returns-in-Ok-with_source-clause-child

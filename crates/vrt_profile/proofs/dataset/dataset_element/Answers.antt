@@ -1,11 +1,11 @@
 use Rattle.std.proofs.Common.{◌≡◌, ap, ◌∙◌, Ok, true, codes}
-use Rattle.vrt_profile.specs.Items.{attribute, is_some}
-use Rattle.vrt_profile.specs.Forest.{inner}
-use Rattle.vrt_profile.specs.Kept.{seen}
+use Rattle.vrt_markup.specs.Items.{attribute, is_some}
+use Rattle.vrt_markup.specs.Forest.{inner}
+use Rattle.vrt_markup.specs.Kept.{seen}
 use Rattle.vrt_profile.specs.Numbers.{side_in}
 use Rattle.vrt_profile.specs.Means.{dataset_step, no_dataset_parts, dataset_by}
-use Rattle.vrt_profile.specs.Views.{tag_view}
-use Rattle.vrt_profile.proofs.Reading.{read_then}
+use Rattle.vrt_markup.specs.Views.{tag_view}
+use Rattle.vrt_markup.proofs.Reading.{read_then}
 use Rattle.vrt_profile.proofs.dataset.dataset_element.Goals as goal
 
 pub returns-in-Ok-clause-dataset : goal.returns-in-Ok-clause-dataset
@@ -13,9 +13,9 @@ returns-in-Ok-clause-dataset c =
     let tag = tag_view c.args.tag in
     let blank = c.in-Ok.seen.blank in
     let parts = c.in-Ok.seen.kept in
-    let w : c.side_in-w.result ≡ side_in (attribute (codes "rasterXSize") tag.pairs) = c.side_in-w.ensures.side ∙ ap side_in c.attribute.ensures in
-    let h : c.side_in-h.result ≡ side_in (attribute (codes "rasterYSize") tag.pairs) = c.side_in-h.ensures.side ∙ ap side_in c.attribute-2.ensures in
-    let derived : c.is_derived-derived.result ≡ is_some (attribute (codes "subClass") tag.pairs) = c.is_derived-derived.ensures.derived ∙ ap is_some c.attribute-3.ensures in
+    let w : c.side_in-w.result ≡ side_in (attribute (codes "rasterXSize") tag.pairs) = c.side_in-w.ensures.side ∙ ap side_in c.attribute.ensures.value in
+    let h : c.side_in-h.result ≡ side_in (attribute (codes "rasterYSize") tag.pairs) = c.side_in-h.ensures.side ∙ ap side_in c.attribute-2.ensures.value in
+    let derived : c.is_derived-derived.result ≡ is_some (attribute (codes "subClass") tag.pairs) = c.is_derived-derived.ensures.derived ∙ ap is_some c.attribute-3.ensures.value in
     ap (λ z. Ok (z, c.in-Ok.rest.now)) (c.dataset_by.ensures.document
     ∙ ap (λ n. dataset_by n c.side_in-h.result c.is_derived-derived.result blank parts) w
     ∙ ap (λ n. dataset_by (side_in (attribute (codes "rasterXSize") tag.pairs)) n c.is_derived-derived.result blank parts) h

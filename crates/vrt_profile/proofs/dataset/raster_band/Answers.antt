@@ -1,8 +1,8 @@
 use Rattle.std.proofs.Common.{ap, ◌∙◌, Ok, suc, ◌≤◌, ◌+◌, length, subst, IfOk}
-use Rattle.vrt_profile.specs.Forest.{inner, read_as}
+use Rattle.vrt_markup.specs.Forest.{inner, read_as}
 use Rattle.vrt_profile.specs.Means.{with_raster_band, band_of}
-use Rattle.vrt_profile.specs.Views.{tag_view}
-use Rattle.vrt_profile.proofs.Reading.{read_then, ok_value}
+use Rattle.vrt_markup.specs.Views.{tag_view}
+use Rattle.vrt_markup.proofs.Reading.{read_then, ok_value}
 use Rattle.vrt_profile.proofs.Counts.{bands_fit}
 use Rattle.vrt_profile.proofs.dataset.raster_band.Goals as goal
 

@@ -1,9 +1,9 @@
 use Rattle.std.proofs.Common.{ap, ◌∙◌, Ok, [], None}
-use Rattle.vrt_profile.specs.Forest.{inner}
-use Rattle.vrt_profile.specs.Kept.{worded}
+use Rattle.vrt_markup.specs.Forest.{inner}
+use Rattle.vrt_markup.specs.Kept.{worded}
 use Rattle.vrt_profile.specs.Means.{with_srs, srs_by}
-use Rattle.vrt_profile.specs.Views.{tag_view, text_view}
-use Rattle.vrt_profile.proofs.Reading.{read_then, ok_value}
+use Rattle.vrt_markup.specs.Views.{tag_view, text_view}
+use Rattle.vrt_markup.proofs.Reading.{read_then, ok_value}
 use Rattle.vrt_profile.proofs.dataset.srs_child.Goals as goal
 
 pub returns-in-Ok-text_by-clause-child : goal.returns-in-Ok-text_by-clause-child

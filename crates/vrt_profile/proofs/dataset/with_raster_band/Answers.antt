@@ -1,7 +1,7 @@
 use Rattle.std.proofs.Common.{◌≡◌, ◌≤◌, ◌+◌, length, refl, ap, ◌∙◌, arith, subst, Result, IfOk}
 use Rattle.vrt_profile.specs.Values.{BandValue}
 use Rattle.vrt_profile.specs.Means.{DatasetParts}
-use Rattle.vrt_profile.specs.declared.fault.VrtFault.{VrtFault}
+use Rattle.vrt_markup.specs.declared.fault.VrtFault.{VrtFault}
 use Rattle.vrt_profile.proofs.Counts.{more_bands}
 use Rattle.vrt_profile.proofs.dataset.with_raster_band.Goals as goal
 

@@ -1,9 +1,9 @@
 use Rattle.std.proofs.Common.{ap, ◌∙◌, Ok, [], None}
-use Rattle.vrt_profile.specs.Forest.{inner}
-use Rattle.vrt_profile.specs.Kept.{worded}
+use Rattle.vrt_markup.specs.Forest.{inner}
+use Rattle.vrt_markup.specs.Kept.{worded}
 use Rattle.vrt_profile.specs.Means.{number_parts}
-use Rattle.vrt_profile.specs.Views.{tag_view, text_view}
-use Rattle.vrt_profile.proofs.Reading.{read_then, ok_value}
+use Rattle.vrt_markup.specs.Views.{tag_view, text_view}
+use Rattle.vrt_markup.proofs.Reading.{read_then, ok_value}
 use Rattle.vrt_profile.proofs.source.number_element.Goals as goal
 
 pub returns-in-Ok-number_in-clause-parts : goal.returns-in-Ok-number_in-clause-parts

@@ -1,9 +1,9 @@
 use Rattle.std.proofs.Common.{subst}
 use Rattle.vrt_profile.specs.declared.parts.SourcePart.{SourcePart}
-use Rattle.vrt_profile.specs.Forest.{inner, read_as}
-use Rattle.vrt_profile.specs.Kept.{Gives}
+use Rattle.vrt_markup.specs.Forest.{inner, read_as}
+use Rattle.vrt_markup.specs.Kept.{Gives}
 use Rattle.vrt_profile.specs.Means.{source_parts}
-use Rattle.vrt_profile.specs.Views.{tag_view}
+use Rattle.vrt_markup.specs.Views.{tag_view}
 use Rattle.vrt_profile.proofs.source.source_child.Goals as goal
 
 pub returns-in-Number-clause-child : goal.returns-in-Number-clause-child

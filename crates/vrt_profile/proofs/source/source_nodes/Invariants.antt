@@ -1,6 +1,6 @@
 use Rattle.std.proofs.Common.{◌≡◌, ◌≤◌, length, Ok, true}
-use Rattle.vrt_profile.specs.Forest.{nodes, read_as}
-use Rattle.vrt_profile.specs.Kept.{seen}
+use Rattle.vrt_markup.specs.Forest.{nodes, read_as}
+use Rattle.vrt_markup.specs.Kept.{seen}
 use Rattle.vrt_profile.specs.Means.{source_step, no_parts}
 use Rattle.vrt_profile.proofs.source.source_nodes.Given as goal
 

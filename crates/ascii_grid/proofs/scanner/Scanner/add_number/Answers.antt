@@ -1,4 +1,4 @@
-use Rattle.std.proofs.Common.{◌≡◌, ◌∙◌, sym, ◌++◌, ◌∷◌, []}
+use Rattle.std.proofs.Common.{◌∙◌, sym, ◌++◌, ◌∷◌, []}
 use Rattle.ascii_grid.proofs.Runs.{fault_fed, whole_ok, whole_err}
 use Rattle.ascii_grid.proofs.scanner.Scanner.add_number.Goals as goal
 

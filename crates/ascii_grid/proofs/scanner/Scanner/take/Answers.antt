@@ -1,4 +1,4 @@
-use Rattle.std.proofs.Common.{◌≡◌, ◌∙◌, ap, arith, length, length-drop}
+use Rattle.std.proofs.Common.{◌∙◌, ap, arith, length, length-drop}
 use Rattle.std.proofs.lemmas.List.{take_rest}
 use Rattle.ascii_grid.proofs.Runs.{rest_reaches}
 use Rattle.ascii_grid.proofs.scanner.Scanner.take.Goals as goal

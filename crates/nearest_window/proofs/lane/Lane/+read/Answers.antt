@@ -120,9 +120,9 @@ fill-loop-key-init g t c =
       kind = c.of-canvas.ensures.kind ∙ ap (λ (b : BandValue). b.kind) c.band.view_is;
       wanted = c.in_ok-wanted.ensures.wanted;
       below = omega arith;
-      taken = λ d at. subst (λ n. AreTaken (g.F.Folder.names c.args.folder.now) c.args.supply.now.cat.now d c.args.key.band (bound numbers n c.args.band.now.sources) c.args.band.now.sources c.of-canvas.result) (sym count)
-          (taken_end (g.F.Folder.names c.args.folder.now) c.args.supply.now.cat.now d c.args.key.band c.args.band.now.sources numbers c.of-canvas.result
-          (none_taken (g.F.Folder.names c.args.folder.now) c.args.supply.now.cat.now d c.args.key.band c.args.band.now.sources (length c.args.band.now.sources) c.of-canvas.result (omega arith) c.of-canvas.ensures.open));
+      taken = λ d at. subst (λ n. AreTaken (g.F.Folder.names c.args.folder.now) c.args.supply.now.cat.now d (bound numbers n c.args.band.now.sources) c.args.band.now.sources c.of-canvas.result) (sym count)
+          (taken_end (g.F.Folder.names c.args.folder.now) c.args.supply.now.cat.now d c.args.band.now.sources numbers c.of-canvas.result
+          (none_taken (g.F.Folder.names c.args.folder.now) c.args.supply.now.cat.now d c.args.band.now.sources (length c.args.band.now.sources) c.of-canvas.result (omega arith) c.of-canvas.ensures.open));
     }
 
 pub fill-get-source-requires : goal.fill-get-source-requires
@@ -171,11 +171,11 @@ fill-loop-key-preserved g t c =
       below = omega arith;
       taken = λ d at.
           let wanted = subst (λ r. IsWanted c.args.band.now.sources d.head.size r (numbers_of c.loop-key.wanted-1)) (sym before.rect) (before.wanted d at) in
-          taken_here (g.F.Folder.names c.paint.new.folder) c.args.supply.now.cat.now d c.args.key.band c.args.band.now.sources (numbers_of c.loop-key.wanted-1) c.paint.new.canvas (c.loop-key.left - 1) less
-          (subst (λ n. AreTaken (g.F.Folder.names c.paint.new.folder) c.args.supply.now.cat.now d c.args.key.band n c.args.band.now.sources c.paint.new.canvas) is
-          (taken_more (g.F.Folder.names c.loop-key.folder) c.args.supply.now.cat.now d c.args.key.band c.args.band.now.sources (g.F.Folder.names c.paint.new.folder) c.at-number.result c.get-source.result.now c.loop-key.canvas c.paint.new.canvas o.serves.told item
-          (subst (λ n. AreTaken (g.F.Folder.names c.loop-key.folder) c.args.supply.now.cat.now d c.args.key.band (n + 1) c.args.band.now.sources c.loop-key.canvas) (sym is)
-          (taken_behind (g.F.Folder.names c.loop-key.folder) c.args.supply.now.cat.now d c.args.key.band c.args.band.now.sources (numbers_of c.loop-key.wanted-1) c.loop-key.canvas wanted c.loop-key.left some low (before.taken d at)))
+          taken_here (g.F.Folder.names c.paint.new.folder) c.args.supply.now.cat.now d c.args.band.now.sources (numbers_of c.loop-key.wanted-1) c.paint.new.canvas (c.loop-key.left - 1) less
+          (subst (λ n. AreTaken (g.F.Folder.names c.paint.new.folder) c.args.supply.now.cat.now d n c.args.band.now.sources c.paint.new.canvas) is
+          (taken_more (g.F.Folder.names c.loop-key.folder) c.args.supply.now.cat.now d c.args.band.now.sources (g.F.Folder.names c.paint.new.folder) c.at-number.result c.get-source.result.now c.loop-key.canvas c.paint.new.canvas o.serves.told item
+          (subst (λ n. AreTaken (g.F.Folder.names c.loop-key.folder) c.args.supply.now.cat.now d (n + 1) c.args.band.now.sources c.loop-key.canvas) (sym is)
+          (taken_behind (g.F.Folder.names c.loop-key.folder) c.args.supply.now.cat.now d c.args.band.now.sources (numbers_of c.loop-key.wanted-1) c.loop-key.canvas wanted c.loop-key.left some low (before.taken d at)))
           (o.taken d at)));
     }
 
@@ -187,7 +187,7 @@ fill-returns-clause-block g t c =
     let nodata : to_z w128 (of_z w128 c.unwrap_or.result) ≡ unwrap_or c.args.band.now.nodata (pos 0) = (let n : to_z w128 (of_z w128 c.unwrap_or.result) ≡ c.unwrap_or.result = search rules in n ∙ c.unwrap_or.ensures ∙ ap (λ (b : BandValue). unwrap_or b.nodata (pos 0)) c.band.view_is) in
     let wanted = subst (λ r. IsWanted c.args.band.now.sources k.dataset.head.size r (numbers_of c.loop-key.wanted-1)) (sym before.rect) (before.wanted k.dataset k.in_range.at) in
     packed_part (g.F.Folder.names c.loop-key.folder) c.args.supply.now.cat.now c.args.key c.args.band.now k c.args.rect c.loop-key.canvas c.in_ok-block.block c.count-count.ensures.valid c.rules.ensures.rules (c.requires.within k.dataset k.in_range.at).columns before.rect before.kind
-    (taken_done (g.F.Folder.names c.loop-key.folder) c.args.supply.now.cat.now k.dataset c.args.key.band c.args.band.now.sources (numbers_of c.loop-key.wanted-1) c.loop-key.canvas wanted c.loop-key.left (before.taken k.dataset k.in_range.at) done)
+    (taken_done (g.F.Folder.names c.loop-key.folder) c.args.supply.now.cat.now k.dataset c.args.band.now.sources (numbers_of c.loop-key.wanted-1) c.loop-key.canvas wanted c.loop-key.left (before.taken k.dataset k.in_range.at) done)
     (subst (λ v. IsPackedOf c.loop-key.canvas v c.in_ok-block.block) nodata c.in_ok-block.ensures.packed) c.len-len.ensures.valid
 
 pub paint-paint_picture-requires-clause-rows : goal.paint-paint_picture-requires-clause-rows
@@ -211,7 +211,7 @@ paint-take-requires-clause-near g t c =
 
 pub paint-returns-in_default-clause-taken : goal.paint-returns-in_default-clause-taken
 paint-returns-in_default-clause-taken g t c = λ d at.
-    source_unasked (g.F.Folder.names c.args.folder.now) c.args.supply.now.cat.now d c.args.source.key.band c.args.source.number c.args.source.source.now c.args.canvas.now (c.in_ok-asked.ensures.none c.in_default.is d at)
+    source_unasked (g.F.Folder.names c.args.folder.now) c.args.supply.now.cat.now d c.args.source.source.now c.args.canvas.now (c.in_ok-asked.ensures.none c.in_default.is d at)
 
 pub paint-returns-clause-taken : goal.paint-returns-clause-taken
 paint-returns-clause-taken g t c = λ d at.
@@ -219,7 +219,7 @@ paint-returns-clause-taken g t c = λ d at.
     let kept : length c.paint_picture.new.out ≡ length c.as_mut_slice.result.now = c.paint_picture.auto.out in
     let whole : take c.in-Some.asked.pixels.len (c.paint_picture.new.out ++ drop (length c.paint_picture.new.out) c.in-Some.asked.pixels.items) ≡ c.paint_picture.new.out =
     ap (λ m. take m (c.paint_picture.new.out ++ drop (length c.paint_picture.new.out) c.in-Some.asked.pixels.items)) (sym (kept ∙ c.as_mut_slice.ensures.len)) ∙ take-append_seam c.paint_picture.new.out (drop (length c.paint_picture.new.out) c.in-Some.asked.pixels.items) in
-    source_taken (g.F.Folder.names c.paint_picture.new.folder) c.args.supply.now.cat.now c.args.source.key c.args.source.number c.args.source.source.now c.args.canvas.now c.in-Some.asked asked d at
+    source_taken (g.F.Folder.names c.paint_picture.new.folder) c.args.supply.now.cat.now c.args.source.key c.args.source.source.now c.args.canvas.now c.in-Some.asked asked d at
     c.taking_of-taking.result c.taking_of-taking.ensures.values c.as_mut_slice.result.now c.paint_picture.new.out (ap length c.as_mut_slice.ensures.value ∙ asked.size) c.take.new.self
     c.in_ok-paint_picture.ensures.painted
     (subst (λ xs. IsTaken c.taking_of-taking.result xs c.in-Some.asked.part c.args.canvas.now c.take.new.self) whole c.in_ok-take.ensures.taken)

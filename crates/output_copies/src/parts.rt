@@ -1,0 +1,81 @@
+// Parts of an output: lines of a band, which are read and then written.
+ghost use Rattle.std.specs.Prelude.{◌≡◌, ◌<◌, ◌≤◌, ◌+◌, ◌-◌, ◌*◌, length, OnOk};
+ghost use Rattle.lane_teams.specs.Ready.{AreLanesReady};
+ghost use Rattle.strip_copies.specs.Copies.{IsRoomFor, IsTranslation};
+ghost use Rattle.output_copies.specs.Copying.{IsFilled, MayEnd};
+ghost use Rattle.output_copies.specs.Parts.{AreRead};
+
+use error_lines::Fault;
+use geotransform::{Rect, Sample};
+use outside::{Folder, Steps};
+use shared_lines::Scene;
+use std::sync::ledger::Ledger;
+use std::thread::Threads;
+use strip_copies::{Lines, StripReader, Translation, read_lines};
+use write_back::Target;
+
+/// The samples of so many lines of so many columns.
+pub fn area(columns: u32, lines: u32) -> usize
+    ensures area { result ≡ columns * lines }
+{
+    columns as usize * lines as usize
+}
+
+/// Reads lines of a band into so many samples.
+pub fn read_part<R: Threads + Sync, F: Folder, L: Ledger, S: Scene>(
+    rt: &R,
+    translation: &Translation,
+    reader: &mut StripReader<F, L>,
+    folder: &mut F,
+    shared: Option<&shared_lines::Lines<S>>,
+    lines: Lines,
+    samples: &mut [Sample],
+) -> Result<(), Fault>
+    requires translation { IsTranslation translation.now.cat translation.now.id translation.now.plan }
+    requires ready { AreLanesReady F.Folder S.told S.cat folder.old translation.now.cat reader.old.team.lanes.items }
+    requires room { IsRoomFor translation.now.cat translation.now.id translation.now.plan reader.old.columns reader.old.samples.items }
+    requires band { lines.band < length translation.now.plan.bands }
+    requires order { lines.first < lines.end }
+    requires end { lines.end ≤ translation.now.plan.size.h }
+    requires long { length samples.old ≡ translation.now.plan.size.w * (lines.end - lines.first) }
+    ensures read { OnOk result (AreRead (F.names folder.old) translation.now.cat translation.now.id translation.now.plan lines samples.new) }
+    ensures ready { AreLanesReady F.Folder S.told S.cat folder.new translation.now.cat reader.new.team.lanes.items }
+    ensures room { IsRoomFor translation.now.cat translation.now.id translation.now.plan reader.new.columns reader.new.samples.items }
+    ensures names { F.names folder.new ≡ F.names folder.old }
+    ensures ends { MayEnd (F.names folder.old) (F.faults folder.old) (F.faults folder.new) 0 0 result }
+{
+    read_lines(rt, translation, reader, folder, shared, lines, samples)?;
+    Ok(())
+}
+
+/// Writes lines of a band that were read.
+pub fn write_part<F: Folder, W: Ledger>(
+    translation: &Translation,
+    folder: &mut F,
+    target: &mut Target<F>,
+    lines: Lines,
+    samples: &[Sample],
+    writes: &mut Steps<W>,
+) -> Result<(), Fault>
+    requires band { lines.band < length translation.now.plan.bands }
+    requires order { lines.first < lines.end }
+    requires end { lines.end ≤ translation.now.plan.size.h }
+    requires filled { IsFilled (F.names folder.old) translation.now.cat translation.now.id translation.now.plan target.old lines.first lines.end lines.band }
+    requires read { AreRead (F.names folder.old) translation.now.cat translation.now.id translation.now.plan lines samples.now }
+    ensures filled { OnOk result (IsFilled (F.names folder.new) translation.now.cat translation.now.id translation.now.plan target.new lines.first lines.end (lines.band + 1)) }
+    ensures name { target.new.name ≡ target.old.name }
+    ensures names { F.names folder.new ≡ F.names folder.old }
+    ensures ends { MayEnd (F.names folder.old) (F.faults folder.old) (F.faults folder.new) 0 0 result }
+{
+    let plan = &translation.plan;
+    plan.rules();
+    let rect = Rect {
+        x: 0,
+        y: lines.first,
+        w: plan.size.w,
+        h: lines.end - lines.first,
+    };
+    let alloc = translation.alloc;
+    target.write_window(alloc, folder, lines.band, rect, samples, writes)?;
+    Ok(())
+}

@@ -1,0 +1,31 @@
+-- The keys by which the names of a tag's attributes are sorted.
+use Rattle.std.specs.Prelude.{ℕ, ◌+◌, ◌*◌, ◌%◌, ◌==◌, Bool, true, not, ◌&&◌, List, [], ◌∷◌, Option, Some, None, if◌then◌else◌}
+use Rattle.std.specs.List.{list_any}
+use Rattle.vrt_markup.specs.Items.{Pair}
+
+-- the number that the last eight bytes of a text make, behind those of a word
+abbrev pub last_bytes : ℕ → List ℕ → ℕ
+last_bytes word [] = word
+last_bytes word (c ∷ cs) = last_bytes (word % 72057594037927936 * 256 + c) cs
+
+-- a name behind the number of its last bytes
+abbrev pub key_of : Pair → ℕ × List ℕ
+key_of p = (last_bytes 0 p.name, p.name)
+
+-- the number alone
+abbrev pub number_of : Pair → ℕ
+number_of p = last_bytes 0 p.name
+
+-- whether no element is the same as one behind it
+abbrev pub apart : {X : Type 0} → (X → X → Bool) → List X → Bool
+apart same [] = true
+apart same (x ∷ xs) = not (list_any (same x) xs) && apart same xs
+
+-- the first number that is the same as the one in front of it
+abbrev pub double_from : ℕ → List ℕ → Option ℕ
+double_from last [] = None
+double_from last (n ∷ ns) = if n == last then Some last else double_from n ns
+
+abbrev pub double_of : List ℕ → Option ℕ
+double_of [] = None
+double_of (n ∷ ns) = double_from n ns

@@ -1,0 +1,65 @@
+-- What structs of the code are for the definitions.
+use Rattle.std.specs.Prelude.{◌≡◌, ℕ, Bool, true, Option, Some, None, List, ◌<◌, length, Result, Ok, Err}
+use Rattle.vrt_markup.specs.declared.fault.VrtFault.TheVariants.{UnknownElement}
+use Rattle.vrt_markup.specs.declared.text.Words.{Words}
+use Rattle.vrt_markup.specs.declared.fault.VrtFault.{VrtFault}
+use Rattle.vrt_markup.specs.Forest.{Read}
+use Rattle.vrt_markup.specs.Tree as tree
+use Rattle.vrt_markup.specs.declared.root.Root.{Root}
+use Rattle.vrt_markup.specs.Items as items
+use Rattle.vrt_markup.specs.Items.{pairs, bad, comment, run, open_tag, close_tag}
+use Rattle.vrt_markup.specs.declared.items.Pair.{Pair}
+use Rattle.vrt_markup.specs.declared.items.Tag.{Tag}
+use Rattle.vrt_markup.specs.declared.items.Item.{Item}
+use Rattle.vrt_markup.specs.declared.items.Item.TheVariants.{NoMemory, Bad, Comment, Run, Open, Close}
+
+abbrev pub pair_view : Pair → items.Pair
+pair_view p = record { name = p.name.now; value = p.value.now }
+
+abbrev pub tag_view : Tag → items.Tag
+tag_view t = record { name = t.name.now; pairs = (pairs t.attributes.now).0; empty = t.empty }
+
+-- what was found is the item, unless memory was refused
+abbrev pub Finds : Item → items.Item → Type 0
+Finds NoMemory item = Unit {0}
+Finds Bad item = bad ≡ item
+Finds (Comment rest) item = comment rest.now ≡ item
+Finds (Run text rest) item = run text.now rest.now ≡ item
+Finds (Open tag rest) item = open_tag (tag_view tag) rest.now ≡ item
+Finds (Close name rest) item = close_tag name.now rest.now ≡ item
+
+-- what stands behind it is shorter
+abbrev pub Shortens : Item → List ℕ → Type 0
+Shortens NoMemory text = Unit {0}
+Shortens Bad text = Unit {0}
+Shortens (Comment rest) text = length rest.now < length text
+Shortens (Run front rest) text = length rest.now < length text
+Shortens (Open tag rest) text = length rest.now < length text
+Shortens (Close name rest) text = length rest.now < length text
+
+-- An item takes a byte at least.
+abbrev pub IsShorter : items.Item → List ℕ → Type 0
+IsShorter bad text = Unit {0}
+IsShorter (comment rest) text = length rest < length text
+IsShorter (run front rest) text = length rest < length text
+IsShorter (open_tag tag rest) text = length rest < length text
+IsShorter (close_tag name rest) text = length rest < length text
+
+abbrev pub past : Read → Result (List ℕ) VrtFault
+past (Ok x) = Ok x.1
+past (Err e) = Err e
+
+abbrev pub text_view : Words → List ℕ × Option ℕ
+text_view w = (w.text.items, w.child)
+
+-- the place of the first element in an element that has none
+abbrev pub lone_view : Option ℕ → Result Bool VrtFault
+lone_view None = Ok true
+lone_view (Some place) = Err (UnknownElement place)
+
+abbrev pub result_view : {A B : Type 0} → (A → B) → Result A VrtFault → Result B VrtFault
+result_view view (Ok x) = Ok (view x)
+result_view view (Err e) = Err e
+
+abbrev pub root_view : Root → tree.Root
+root_view r = record { place = r.place; tag = tag_view r.tag; rest = r.rest.now }

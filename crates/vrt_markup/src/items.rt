@@ -1,0 +1,516 @@
+// The items of a document: comments, tags and runs of text.
+ghost use Rattle.std.specs.Prelude.{◌≡◌, ℕ, ◌<◌, ◌≤◌, ◌+◌, ◌==◌, length, map, true, false, IfSome, IfOk, List, Option, Some, None, [], ◌∷◌};
+ghost use Rattle.std.specs.Option.{option_map};
+ghost use Rattle.std.specs.List.{prefix_len};
+ghost use Rattle.vrt_markup.specs.Items.{is_some, strip, is_white, trim_front, is_first, is_later, has_first, name_at, byte_at, after_comment, entity_at, ends_at, plain_len, spaces_at, quote_at, value_at, pair_at, is_equal, begins, pairs, pairs_by, attribute, is_distinct, tag_end, tag_front, tag_item, tag_at, close_at, run_at, item_at};
+ghost use Rattle.vrt_markup.specs.Keys.{last_bytes, key_of, number_of, apart, double_from, double_of};
+ghost use Rattle.vrt_markup.specs.Views.{pair_view, tag_view, Finds, Shortens};
+
+use std::alloc::{AllocError, Global};
+
+/// What stands behind the front, where the text begins so.
+pub(crate) fn strip<'a>(text: &'a [u8], front: &[u8]) -> Option<&'a [u8]>
+    ensures rest { option_map (λ r. r.now) result ≡ strip front.now text.now }
+    ensures shorter { IfSome result (λ r. length r.now + length front.now ≤ length text.now) }
+{
+    text.strip_prefix(front)
+}
+
+fn begins(text: &[u8], front: &[u8]) -> bool
+    ensures { result ≡ begins front.now text.now }
+{
+    strip(text, front).is_some()
+}
+
+/// Whether it is a space, or a byte from 9 to 13.
+pub fn is_white(c: u8) -> bool
+    ensures white { result ≡ is_white c }
+{
+    c == b' ' || (9 <= c && c <= 13)
+}
+
+fn white_len(text: &[u8]) -> usize
+    ensures count { result ≡ prefix_len is_white text.now }
+    ensures bound { result ≤ length text.now }
+{
+    text.iter().take_while(|c| is_white(**c)).count()
+}
+
+/// A text without the white space in front.
+pub fn trim_front(text: &[u8]) -> &[u8]
+    ensures rest { result.now ≡ trim_front text.now }
+    ensures shorter { length result.now ≤ length text.now }
+{
+    let (_, rest) = text.split_at(white_len(text));
+    rest
+}
+
+fn is_first(c: u8) -> bool
+    ensures { result ≡ is_first c }
+{
+    (b'A' <= c && c <= b'Z') || (b'a' <= c && c <= b'z') || c == b'_'
+}
+
+fn is_later(c: u8) -> bool
+    ensures { result ≡ is_later c }
+{
+    is_first(c) || (b'0' <= c && c <= b':') || c == b'-' || c == b'.'
+}
+
+fn later_len(text: &[u8]) -> usize
+    ensures count { result ≡ prefix_len is_later text.now }
+    ensures bound { result ≤ length text.now }
+{
+    text.iter().take_while(|c| is_later(**c)).count()
+}
+
+fn has_first(text: &[u8]) -> bool
+    ensures { result ≡ has_first text.now }
+{
+    match text {
+        [c, ..] => is_first(*c),
+        [] => false,
+    }
+}
+
+/// The name in front, and what stands behind it.
+fn name_at(text: &[u8]) -> Option<(&[u8], &[u8])>
+    ensures name { option_map (λ x. (x.0.now, x.1.now)) result ≡ name_at text.now }
+    ensures shorter { IfSome result (λ x. length x.1.now ≤ length text.now) }
+{
+    if !has_first(text) {
+        return None;
+    }
+    Some(text.split_at(later_len(text)))
+}
+
+/// What stands behind the byte in front.
+fn byte_at(text: &[u8], byte: u8) -> Option<&[u8]>
+    ensures rest { option_map (λ r. r.now) result ≡ byte_at byte text.now }
+    ensures shorter { IfSome result (λ r. length r.now < length text.now) }
+{
+    match text {
+        [c, rest @ ..] if *c == byte => Some(rest),
+        _ => None,
+    }
+}
+
+/// What stands behind the first end of a comment.
+fn after_comment(text: &[u8]) -> Option<&[u8]>
+    ensures rest { option_map (λ r. r.now) result ≡ after_comment text.now }
+    ensures shorter { IfSome result (λ r. length r.now ≤ length text.now) }
+{
+    let mut rest = text;
+    while let [_, more @ ..] = rest {
+        if let Some(behind) = strip(rest, b"-->") {
+            return Some(behind);
+        }
+        rest = more;
+    }
+    None
+}
+
+/// The byte that an entity stands for, and its length behind the `&`.
+pub(crate) fn entity_at(text: &[u8]) -> Option<(u8, u8)>
+    ensures { result ≡ entity_at text.now }
+{
+    if begins(text, b"lt;") {
+        Some((b'<', 3))
+    } else if begins(text, b"gt;") {
+        Some((b'>', 3))
+    } else if begins(text, b"amp;") {
+        Some((b'&', 4))
+    } else if begins(text, b"quot;") {
+        Some((b'"', 5))
+    } else if begins(text, b"apos;") {
+        Some((b'\'', 5))
+    } else {
+        None
+    }
+}
+
+fn ends_at(end: u8, c: u8, rest: &[u8]) -> bool
+    ensures { result ≡ ends_at end c rest.now }
+{
+    c == b'<' || c == end || (c == b'&' && entity_at(rest).is_none())
+}
+
+/// How many bytes of plain text stand in front.
+fn plain_len(text: &[u8], end: u8) -> usize
+    ensures count { result ≡ plain_len end text.now }
+    ensures bound { result ≤ length text.now }
+{
+    let mut rest = text;
+    let mut count = 0;
+    while let [c, more @ ..] = rest {
+        if ends_at(end, *c, more) {
+            return count;
+        }
+        rest = more;
+        count += 1;
+    }
+    count
+}
+
+/// What stands behind white space, where there is some.
+fn spaces_at(text: &[u8]) -> Option<&[u8]>
+    ensures rest { option_map (λ r. r.now) result ≡ spaces_at text.now }
+    ensures shorter { IfSome result (λ r. length r.now < length text.now) }
+{
+    let count = white_len(text);
+    if count == 0 {
+        return None;
+    }
+    let (_, rest) = text.split_at(count);
+    Some(rest)
+}
+
+fn quote_at(text: &[u8]) -> Option<(u8, &[u8])>
+    ensures quote { option_map (λ x. (x.0, x.1.now)) result ≡ quote_at text.now }
+    ensures shorter { IfSome result (λ x. length x.1.now < length text.now) }
+{
+    match text {
+        [c, rest @ ..] if *c == b'"' || *c == b'\'' => Some((*c, rest)),
+        _ => None,
+    }
+}
+
+#[tactic(auto, unfolding(crate::specs::Items::value_at))]
+fn value_at(text: &[u8]) -> Option<(&[u8], &[u8])>
+    ensures value { option_map (λ x. (x.0.now, x.1.now)) result ≡ value_at text.now }
+    ensures shorter { IfSome result (λ x. length x.1.now < length text.now) }
+{
+    let (quote, rest) = quote_at(text)?;
+    let (value, rest) = rest.split_at(plain_len(rest, quote));
+    let rest = byte_at(rest, quote)?;
+    Some((value, rest))
+}
+
+/// An attribute: its name and its value, as it stands between its quotes.
+#[derive(Clone, Copy)]
+pub struct Pair<'a> {
+    pub name: &'a [u8],
+    pub value: &'a [u8],
+}
+
+/// An attribute in front, and what stands behind it.
+#[tactic(auto, unfolding(crate::specs::Items::pair_at))]
+fn pair_at(text: &[u8]) -> Option<(Pair, &[u8])>
+    ensures pair { option_map (λ x. (pair_view x.0, x.1.now)) result ≡ pair_at text.now }
+    ensures shorter { IfSome result (λ x. length x.1.now < length text.now) }
+{
+    let rest = spaces_at(text)?;
+    let (name, rest) = name_at(rest)?;
+    let rest = byte_at(trim_front(rest), b'=')?;
+    let (value, rest) = value_at(trim_front(rest))?;
+    Some((Pair { name, value }, rest))
+}
+
+/// The value of the first attribute with this name.
+#[tactic(auto, using(crate::proofs::Shorter::pairs_next, crate::proofs::Shorter::pairs_none))]
+pub fn attribute<'a>(text: &'a [u8], name: &[u8]) -> Option<&'a [u8]>
+    ensures value { option_map (λ v. v.now) result ≡ attribute name.now (pairs text.now).0 }
+{
+    let mut rest = text;
+    while let Some((pair, more)) = pair_at(rest) {
+        if pair.name == name {
+            return Some(pair.value);
+        }
+        rest = more;
+    }
+    None
+}
+
+/// The number that the last eight bytes of a name make.
+fn last_bytes(name: &[u8]) -> u64
+    ensures number { result ≡ last_bytes 0 name.now }
+{
+    let mut word: u64 = 0;
+    let mut rest = name;
+    while let [c, more @ ..] = rest {
+        word = word % 0x0100_0000_0000_0000 * 256 + u64::from(*c);
+        rest = more;
+    }
+    word
+}
+
+/// The attributes' names, each behind the number of its last bytes, by which most names differ
+/// already.
+#[tactic(auto, using(crate::proofs::Shorter::pairs_next, crate::proofs::Shorter::pairs_none))]
+fn keys_of(alloc: Global, text: &[u8]) -> Result<Vec<(u64, &[u8])>, AllocError>
+    ensures keys { IfOk result (λ v. map (λ k. (k.0, k.1.now)) v.items ≡ map key_of (pairs text.now).0) }
+{
+    let mut keys = Vec::new(alloc);
+    let mut rest = text;
+    while let Some((pair, more)) = pair_at(rest) {
+        keys.push((last_bytes(pair.name), pair.name))?;
+        rest = more;
+    }
+    Ok(keys)
+}
+
+/// Whether no attribute stands twice, by the names: what stands twice stands side by side once they
+/// are sorted.
+fn differ_by_name(alloc: Global, text: &[u8]) -> Result<bool, AllocError>
+    ensures { IfOk result (λ b. b ≡ is_distinct (pairs text.now).0) }
+{
+    let mut keys = keys_of(alloc, text)?;
+    let count = keys.len();
+    keys.sort_unstable();
+    keys.dedup();
+    Ok(keys.len() == count)
+}
+
+/// The first number that is the same as the one in front of it.
+fn double_from(first: u64, numbers: &[u64]) -> Option<u64>
+    ensures double { result ≡ double_from first numbers.now }
+{
+    let mut last = first;
+    let mut rest = numbers;
+    while let [number, more @ ..] = rest {
+        if *number == last {
+            return Some(last);
+        }
+        last = *number;
+        rest = more;
+    }
+    None
+}
+
+fn double_of(numbers: &[u64]) -> Option<u64>
+    ensures double { result ≡ double_of numbers.now }
+{
+    match numbers {
+        [] => None,
+        [first, rest @ ..] => double_from(*first, rest),
+    }
+}
+
+/// The least number that stands twice.
+fn double_in(mut numbers: Vec<u64>) -> Option<u64>
+    ensures none { result ≡ None → apart (λ x y. x == y) numbers.items ≡ true }
+{
+    numbers.sort_unstable();
+    double_of(&numbers)
+}
+
+fn has_attribute(text: &[u8], name: &[u8]) -> bool
+    ensures { result ≡ is_some (attribute name.now (pairs text.now).0) }
+{
+    attribute(text, name).is_some()
+}
+
+/// Whether the first attribute whose name has this number stands twice.
+#[tactic(auto, using(crate::proofs::Names::twice_here, crate::proofs::Names::twice_later))]
+fn stands_twice(text: &[u8], number: u64) -> bool
+    ensures twice { result ≡ true → is_distinct (pairs text.now).0 ≡ false }
+{
+    let mut rest = text;
+    while let Some((pair, more)) = pair_at(rest) {
+        if last_bytes(pair.name) == number {
+            return has_attribute(more, pair.name);
+        }
+        rest = more;
+    }
+    false
+}
+
+/// Whether one of the first 64 attributes stands twice, asked as soon as their numbers are there, so
+/// that a tag of a few names again and again ends soon.
+fn stands_twice_early(alloc: Global, text: &[u8], numbers: &[u64]) -> Result<bool, AllocError>
+    ensures twice { IfOk result (λ b. b ≡ true → is_distinct (pairs text.now).0 ≡ false) }
+{
+    if numbers.len() != 64 {
+        return Ok(false);
+    }
+    match double_in(Vec::from_slice(alloc, numbers)?) {
+        None => Ok(false),
+        Some(number) => Ok(stands_twice(text, number)),
+    }
+}
+
+/// Whether an attribute may stand in front.
+#[tactic(auto, using(crate::proofs::Names::space_tells))]
+fn has_space(text: &[u8]) -> bool
+    ensures space { result ≡ is_some (spaces_at text.now) }
+{
+    match text {
+        [c, ..] => is_white(*c),
+        [] => false,
+    }
+}
+
+/// The numbers of the attributes' names, and what stands behind all attributes in front; none where
+/// one of the first attributes stands twice.
+#[tactic(auto, using(crate::proofs::Names::spaceless, crate::proofs::Shorter::pairs_none))]
+fn numbers_of(alloc: Global, text: &[u8]) -> Result<Option<(Vec<u64>, &[u8])>, AllocError>
+    ensures numbers { IfOk result (λ o. IfSome o (λ x. x.0.items ≡ map number_of (pairs text.now).0)) }
+    ensures rest { IfOk result (λ o. IfSome o (λ x. x.1.now ≡ (pairs text.now).1)) }
+    ensures shorter { IfOk result (λ o. IfSome o (λ x. length x.1.now ≤ length text.now)) }
+    ensures twice { IfOk result (λ o. o ≡ None → is_distinct (pairs text.now).0 ≡ false) }
+{
+    let mut numbers = Vec::new(alloc);
+    if !has_space(text) {
+        return Ok(Some((numbers, text)));
+    }
+    let mut rest = text;
+    while let Some((pair, more)) = pair_at(rest) {
+        numbers.push(last_bytes(pair.name))?;
+        if stands_twice_early(alloc, text, &numbers)? {
+            return Ok(None);
+        }
+        rest = more;
+    }
+    Ok(Some((numbers, rest)))
+}
+
+/// Whether no attribute stands twice. A tag may have any number of attributes, so their numbers are
+/// sorted first; the names are asked only where two numbers are the same.
+#[tactic(auto, using(crate::proofs::Names::numbers_tell, crate::proofs::Names::few_differ))]
+fn is_distinct(alloc: Global, text: &[u8], numbers: Vec<u64>) -> Result<bool, AllocError>
+    requires numbers { numbers.items ≡ map number_of (pairs text.now).0 }
+    ensures { IfOk result (λ b. b ≡ is_distinct (pairs text.now).0) }
+{
+    if numbers.len() < 2 {
+        return Ok(true);
+    }
+    match double_in(numbers) {
+        None => Ok(true),
+        Some(number) => {
+            if stands_twice(text, number) {
+                return Ok(false);
+            }
+            differ_by_name(alloc, text)
+        }
+    }
+}
+
+/// Whether a tag ends as an empty one, and what stands behind it.
+fn tag_end(text: &[u8]) -> Option<(bool, &[u8])>
+    ensures end { option_map (λ x. (x.0, x.1.now)) result ≡ tag_end text.now }
+    ensures shorter { IfSome result (λ x. length x.1.now < length text.now) }
+{
+    match text {
+        [c, rest @ ..] if *c == b'>' => Some((false, rest)),
+        [c, rest @ ..] if *c == b'/' => {
+            let rest = byte_at(rest, b'>')?;
+            Some((true, rest))
+        }
+        _ => None,
+    }
+}
+
+/// A tag; the attributes stand in front of the last text.
+#[derive(Clone, Copy)]
+pub struct Tag<'a> {
+    pub name: &'a [u8],
+    pub attributes: &'a [u8],
+    pub empty: bool,
+}
+
+/// A tag, what stands behind it, and the numbers of its attributes' names; none also where one of the
+/// first attributes stands twice.
+#[tactic(auto, unfolding(crate::specs::Items::tag_front), using(crate::proofs::Names::tag_nameless, crate::proofs::Names::tag_endless, crate::proofs::Names::tag_twice))]
+fn tag_front(alloc: Global, text: &[u8]) -> Result<Option<(Tag, &[u8], Vec<u64>)>, AllocError>
+    ensures tag { IfOk result (λ o. IfSome o (λ x. Some (tag_view x.0, x.1.now) ≡ tag_front text.now)) }
+    ensures none { IfOk result (λ o. o ≡ None → tag_at text.now ≡ None) }
+    ensures numbers { IfOk result (λ o. IfSome o (λ x. x.2.items ≡ map number_of (pairs x.0.attributes.now).0)) }
+    ensures shorter { IfOk result (λ o. IfSome o (λ x. length x.1.now < length text.now)) }
+{
+    let Some((name, attributes)) = name_at(text) else {
+        return Ok(None);
+    };
+    let Some((numbers, behind)) = numbers_of(alloc, attributes)? else {
+        return Ok(None);
+    };
+    let Some((empty, rest)) = tag_end(trim_front(behind)) else {
+        return Ok(None);
+    };
+    let tag = Tag {
+        name,
+        attributes,
+        empty,
+    };
+    Ok(Some((tag, rest, numbers)))
+}
+
+// The item of a tag behind its `<`.
+#[tactic(auto, unfolding(crate::specs::Items::tag_at))]
+fn tag_item(alloc: Global, text: &[u8]) -> Item
+    ensures item { Finds result (tag_item text.now) }
+    ensures shorter { Shortens result text.now }
+{
+    match tag_front(alloc, text) {
+        Err(_) => Item::NoMemory,
+        Ok(None) => Item::Bad,
+        Ok(Some((tag, rest, numbers))) => match is_distinct(alloc, tag.attributes, numbers) {
+            Ok(true) => Item::Open(tag, rest),
+            Ok(false) => Item::Bad,
+            Err(_) => Item::NoMemory,
+        },
+    }
+}
+
+#[tactic(auto, unfolding(crate::specs::Items::close_at))]
+fn close_at(text: &[u8]) -> Option<(&[u8], &[u8])>
+    ensures close { option_map (λ x. (x.0.now, x.1.now)) result ≡ close_at text.now }
+    ensures shorter { IfSome result (λ x. length x.1.now < length text.now) }
+{
+    let (name, rest) = name_at(text)?;
+    let rest = byte_at(trim_front(rest), b'>')?;
+    Some((name, rest))
+}
+
+/// The item in front of a text, with what stands behind it.
+#[derive(Clone, Copy)]
+pub enum Item<'a> {
+    NoMemory,
+    Bad,
+    Comment(&'a [u8]),
+    Run(&'a [u8], &'a [u8]),
+    Open(Tag<'a>, &'a [u8]),
+    Close(&'a [u8], &'a [u8]),
+}
+
+fn run_at(text: &[u8]) -> Item
+    ensures item { Finds result (run_at text.now) }
+    ensures shorter { Shortens result text.now }
+{
+    let count = plain_len(text, b'<');
+    if count == 0 {
+        return Item::Bad;
+    }
+    let (run, rest) = text.split_at(count);
+    Item::Run(run, rest)
+}
+
+/// The item in front of a text.
+#[tactic(auto, unfolding(crate::specs::Items::item_at))]
+pub fn item_at(alloc: Global, text: &[u8]) -> Item
+    ensures item { Finds result (item_at text.now) }
+    ensures shorter { Shortens result text.now }
+{
+    if let Some(rest) = strip(text, b"<!--") {
+        return match after_comment(rest) {
+            Some(rest) => Item::Comment(rest),
+            None => Item::Bad,
+        };
+    }
+    if let Some(rest) = strip(text, b"</") {
+        return match close_at(rest) {
+            Some((name, rest)) => Item::Close(name, rest),
+            None => Item::Bad,
+        };
+    }
+    if let Some(rest) = byte_at(text, b'<') {
+        return tag_item(alloc, rest);
+    }
+    run_at(text)
+}
+
+/// Whether two texts are the same.
+pub fn is_equal(a: &[u8], b: &[u8]) -> bool
+    ensures same { result ≡ is_equal a.now b.now }
+{
+    a == b
+}

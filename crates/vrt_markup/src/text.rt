@@ -1,0 +1,213 @@
+// The text directly in an element, and elements that hold text alone.
+ghost use Rattle.std.specs.Prelude.{◌≡◌, ℕ, ◌<◌, ◌≤◌, ◌-◌, ◌++◌, [], length, IfOk, OnOk, List, Result, Ok, Option, None, Some, true};
+ghost use Rattle.vrt_markup.specs.Items.{is_white};
+ghost use Rattle.vrt_markup.specs.Forest.{nodes, inner, is_blank, plain_at, decoded, read_as, text_of, child_of};
+ghost use Rattle.vrt_markup.specs.Views.{tag_view, text_view, lone_view};
+ghost use Rattle.vrt_markup.specs.Kept.{Gives, worded, first_child, seen, no_child};
+
+use crate::fault::VrtFault;
+use crate::items::{Item, Tag, entity_at, is_equal, is_white, item_at};
+use crate::past::past_element;
+use std::alloc::{AllocError, Global};
+
+/// Whether it is white space alone.
+pub fn is_blank(raw: &[u8]) -> bool
+    ensures blank { result ≡ is_blank raw.now }
+{
+    raw.iter().all(|c| is_white(*c))
+}
+
+// The byte that stands here, and how many bytes behind it belong to it.
+fn plain_at(c: u8, rest: &[u8]) -> (u8, u8)
+    ensures { result ≡ plain_at c rest.now }
+{
+    if c == b'&' {
+        match entity_at(rest) {
+            Some(entity) => entity,
+            None => (c, 0),
+        }
+    } else {
+        (c, 0)
+    }
+}
+
+// Adds the text, entities read.
+fn push_decoded(out: &mut Vec<u8>, raw: &[u8]) -> Result<(), AllocError>
+    ensures ok { OnOk result (out.new.items ≡ out.old.items ++ decoded raw.now) }
+{
+    let mut rest = raw;
+    let mut skip = 0;
+    while let [c, more @ ..] = rest {
+        if skip > 0 {
+            skip -= 1;
+        } else {
+            let (byte, behind) = plain_at(*c, more);
+            out.push(byte)?;
+            skip = behind;
+        }
+        rest = more;
+    }
+    Ok(())
+}
+
+/// The text directly in an element, and the place of the first element in it.
+#[derive(Drop)]
+pub struct Words {
+    pub text: Vec<u8>,
+    pub child: Option<u64>,
+}
+
+// The place of the first element, where one stands at this place too.
+fn first_child(child: Option<u64>, place: u64) -> Option<u64>
+    ensures first { result ≡ first_child child (Some place) }
+{
+    match child {
+        None => Some(place),
+        Some(first) => Some(first),
+    }
+}
+
+// The text in an element of this name, behind its start tag.
+#[tactic(auto, using(crate::proofs::Reading::read_bad, crate::proofs::Reading::read_comment, crate::proofs::Reading::worded_run, crate::proofs::Reading::worded_close, crate::proofs::Reading::read_other, crate::proofs::Reading::read_deep, crate::proofs::Reading::worded_open))]
+fn text_nodes<'a>(
+    alloc: Global,
+    total: usize,
+    depth: usize,
+    name: &[u8],
+    bytes: &'a [u8],
+) -> Result<(Words, &'a [u8]), VrtFault>
+    requires within { length bytes.now ≤ total }
+    requires depth { depth ≤ 64 }
+    ensures text { Gives (λ x. (text_view x.0, x.1.now)) result (read_as (worded [] None) (nodes total depth name.now bytes.now)) }
+    ensures shorter { IfOk result (λ x. length x.1.now < length bytes.now) }
+{
+    let mut rest = bytes;
+    let mut text = Vec::new(alloc);
+    let mut child = None;
+    loop {
+        let place = (total - rest.len()) as u64;
+        match item_at(alloc, rest) {
+            Item::NoMemory => return Err(VrtFault::Memory),
+            Item::Comment(more) => rest = more,
+            Item::Run(raw, more) => {
+                push_decoded(&mut text, raw)?;
+                rest = more;
+            }
+            Item::Close(other, more) if is_equal(other, name) => return Ok((
+                Words { text, child },
+                more,
+            )),
+            Item::Bad | Item::Close(_, _) => return Err(VrtFault::BadText(place)),
+            Item::Open(_, _) if depth >= 64 => return Err(VrtFault::Limit),
+            Item::Open(tag, more) => {
+                match past_element(alloc, total, depth, tag, more) {
+                    Ok(behind) => {
+                        child = first_child(child, place);
+                        rest = behind;
+                    }
+                    Err(error) => return Err(error),
+                }
+            }
+        }
+    }
+}
+
+/// The text in an element that begins with a tag, and the first element in it.
+pub fn text_element<'a>(
+    alloc: Global,
+    total: usize,
+    depth: usize,
+    tag: Tag,
+    bytes: &'a [u8],
+) -> Result<(Words, &'a [u8]), VrtFault>
+    requires within { length bytes.now ≤ total }
+    requires depth { depth < 64 }
+    ensures text { Gives (λ x. (text_view x.0, x.1.now)) result (read_as (worded [] None) (inner total depth (tag_view tag.entry) bytes.now)) }
+    ensures shorter { IfOk result (λ x. length x.1.now ≤ length bytes.now) }
+{
+    if tag.empty {
+        return Ok((
+            Words {
+                text: Vec::new(alloc),
+                child: None,
+            },
+            bytes,
+        ));
+    }
+    text_nodes(alloc, total, depth + 1, tag.name, bytes)
+}
+
+/// Whether the text directly in an element is blank, and the place of the first element in it.
+#[derive(Clone, Copy)]
+pub struct Marks {
+    pub blank: bool,
+    pub child: Option<u64>,
+}
+
+// The marks of an element of this name, behind its start tag.
+fn lone_nodes<'a>(
+    alloc: Global,
+    total: usize,
+    depth: usize,
+    name: &[u8],
+    bytes: &'a [u8],
+) -> Result<(Marks, &'a [u8]), VrtFault>
+    requires within { length bytes.now ≤ total }
+    requires depth { depth ≤ 64 }
+    ensures seen { Gives (λ x. ((lone_view x.0.child, x.0.blank), x.1.now)) result (read_as (seen no_child (Ok true) true) (nodes total depth name.now bytes.now)) }
+    ensures shorter { IfOk result (λ x. length x.1.now < length bytes.now) }
+{
+    let mut rest = bytes;
+    let mut marks = Marks {
+        blank: true,
+        child: None,
+    };
+    'items: loop {
+        let place = (total - rest.len()) as u64;
+        match item_at(alloc, rest) {
+            Item::NoMemory => return Err(VrtFault::Memory),
+            Item::Comment(more) => rest = more,
+            Item::Run(raw, more) => {
+                marks.blank = marks.blank & is_blank(raw);
+                rest = more;
+            }
+            Item::Close(other, more) if is_equal(other, name) => return Ok((marks, more)),
+            Item::Bad | Item::Close(_, _) => return Err(VrtFault::BadText(place)),
+            Item::Open(_, _) if depth >= 64 => return Err(VrtFault::Limit),
+            Item::Open(tag, more) => {
+                match past_element(alloc, total, depth, tag, more) {
+                    Ok(behind) => {
+                        marks.child = first_child(marks.child, place);
+                        rest = behind;
+                    }
+                    Err(error) => return Err(error),
+                }
+            }
+        }
+    }
+}
+
+/// The marks of an element that begins with a tag.
+pub fn lone_inner<'a>(
+    alloc: Global,
+    total: usize,
+    depth: usize,
+    tag: Tag,
+    bytes: &'a [u8],
+) -> Result<(Marks, &'a [u8]), VrtFault>
+    requires within { length bytes.now ≤ total }
+    requires depth { depth < 64 }
+    ensures seen { Gives (λ x. ((lone_view x.0.child, x.0.blank), x.1.now)) result (read_as (seen no_child (Ok true) true) (inner total depth (tag_view tag.entry) bytes.now)) }
+    ensures shorter { IfOk result (λ x. length x.1.now ≤ length bytes.now) }
+{
+    if tag.empty {
+        return Ok((
+            Marks {
+                blank: true,
+                child: None,
+            },
+            bytes,
+        ));
+    }
+    lone_nodes(alloc, total, depth + 1, tag.name, bytes)
+}

@@ -1,0 +1,348 @@
+-- Short numbers of a lookup table: what is read of their digits alone is what the whole pieces say.
+use Rattle.std.proofs.Common.{◌≡◌, ℕ, ℤ, pos, ◌+◌, ◌*◌, ◌^◌, ◌<◌, ◌≤◌, ◌-◌, Bool, true, false, cond, not, ◌==◌, ◌&&◌, List, [], ◌∷◌, ◌++◌, length, take, drop, get_or, Option, Some, None, refl, sym, ap, ◌∙◌, arith, if◌then◌else◌, subst, nat_lt, unsigned_abs, append_assoc, min}
+use Rattle.std.specs.List.{list_all, prefix_len, suffix_len}
+use Rattle.std.specs.Char.{is_ascii_digit}
+use Rattle.std.proofs.Math.Seq.{take-append_seam, drop-append_seam, take-length, drop-length}
+use Rattle.std.proofs.lemmas.List.{take-append-drop, length-append, take_all}
+use Rattle.std.proofs.lemmas.List.Folds.{list_all-append}
+use Rattle.std.proofs.lemmas.List.Sums.{AllPass-from_list_all, suffix_len-take_no}
+use Rattle.std.proofs.lemmas.List.Elements.{All-get_or}
+use Rattle.std.proofs.lemmas.Bool.Decides.{nat_tests}
+use Rattle.std.proofs.lemmas.Int.{ints}
+use Rattle.std.proofs.lemmas.Nat.{pow-add}
+use Rattle.std.proofs.Math.Nat.{add-mul, mul_assoc, mul-le-mul_right}
+use Rattle.std.specs.Prelude.{◌+ℤ◌, ◌-ℤ◌}
+use Rattle.lists_and_answers.specs.Options.{◌>>=◌}
+use Rattle.geotransform.specs.Decimal.{number, scaled, signed, sign_at, digits_at, fraction_at, exponent_of, Decimal, parts_of, places_of, near_at, magnitude, magnitude_at}
+use Rattle.geotransform.proofs.Numbers.{number_short, number-append}
+use Rattle.vrt_markup.specs.Items.{is_white, option_case}
+use Rattle.vrt_profile.specs.Fields.{length_before, cut_by, cut_at, first_piece, trim, trim_end, near_by, near_number, pair_of}
+use Rattle.vrt_profile.specs.Fronts.{is_inner, DigitsFront, FractionFront, DecimalFront, MicrosFront}
+use Rattle.vrt_profile.specs.Values.{million}
+use Rattle.vrt_profile.proofs.Rules.{signed_size}
+
+digit_inner : (c : ℕ) → is_ascii_digit c ≡ true → is_inner c ≡ true
+digit_inner c h = grind (arith, nat_tests, h)
+
+and_left : (a b : Bool) → a && b ≡ true → a ≡ true
+and_left true b h = refl
+and_left false b h = absurd cc
+
+and_right : (a b : Bool) → a && b ≡ true → b ≡ true
+and_right true b h = h
+and_right false b h = absurd cc
+
+and_both : (a b : Bool) → a ≡ true → b ≡ true → a && b ≡ true
+and_both true b g h = h
+and_both false b g h = absurd cc
+
+all_by : (p q : ℕ → Bool) (xs : List ℕ) → ((c : ℕ) → p c ≡ true → q c ≡ true) → list_all p xs ≡ true → list_all q xs ≡ true
+all_by p q [] f h = refl
+all_by p q (x ∷ xs) f h = and_both (q x) (list_all q xs) (f x (and_left (p x) (list_all p xs) h)) (all_by p q xs f (and_right (p x) (list_all p xs) h))
+
+not_colon : (c : ℕ) → is_inner c ≡ true → not (c == 58) ≡ true
+not_colon c h = and_left (not (c == 58)) _ h
+
+not_comma : (c : ℕ) → is_inner c ≡ true → not (c == 44) ≡ true
+not_comma c h = and_left (not (c == 44)) (not (is_white c)) (and_right (not (c == 58)) _ h)
+
+not_true : (b : Bool) → not b ≡ true → b ≡ false
+not_true true e = absurd cc
+not_true false e = refl
+
+not_white : (c : ℕ) → is_inner c ≡ true → is_white c ≡ false
+not_white c h = not_true (is_white c) (and_right (not (c == 44)) (not (is_white c)) (and_right (not (c == 58)) _ h))
+
+-- such a text has no white space at its ends
+front_bare : (xs : List ℕ) → list_all is_inner xs ≡ true → prefix_len is_white xs ≡ 0
+front_bare [] h = refl
+front_bare (x ∷ xs) h = ap (λ b. cond b (1 + prefix_len is_white xs) 0) (not_white x (and_left (is_inner x) (list_all is_inner xs) h))
+
+end_bare : (x : ℕ) (xs : List ℕ) → list_all is_inner (x ∷ xs) ≡ true → suffix_len is_white (x ∷ xs) ≡ 0
+end_bare x xs h =
+    let last : is_inner (get_or (x ∷ xs) (length (x ∷ xs) - 1) 0) ≡ true = All-get_or (λ c. is_inner c ≡ true) (x ∷ xs) (length (x ∷ xs) - 1) 0 (omega arith) (AllPass-from_list_all is_inner (x ∷ xs) h) in
+    ap (suffix_len is_white) (sym (take-length (x ∷ xs))) ∙ suffix_len-take_no is_white (x ∷ xs) (length (x ∷ xs)) 0 (omega arith) (omega arith) (not_white (get_or (x ∷ xs) (length (x ∷ xs) - 1) 0) last)
+
+trim_inner : (xs : List ℕ) → list_all is_inner xs ≡ true → trim xs ≡ xs
+trim_inner [] h = refl
+trim_inner (x ∷ xs) h =
+    let whole : length (x ∷ xs) - 0 ≡ length (x ∷ xs) = omega arith in
+    ap (λ n. trim_end (drop n (x ∷ xs))) (front_bare (x ∷ xs) h)
+    ∙ ap (λ n. take (length (x ∷ xs) - n) (x ∷ xs)) (end_bare x xs h)
+    ∙ ap (λ n. take n (x ∷ xs)) whole
+    ∙ take-length (x ∷ xs)
+
+-- digits are all digits, with nothing behind them
+prefix_all : (xs : List ℕ) → list_all is_ascii_digit xs ≡ true → prefix_len is_ascii_digit xs ≡ length xs
+prefix_all [] h = refl
+prefix_all (x ∷ xs) h =
+    ap (λ b. cond b (1 + prefix_len is_ascii_digit xs) 0) (and_left (is_ascii_digit x) (list_all is_ascii_digit xs) h)
+    ∙ ap (λ n. 1 + n) (prefix_all xs (and_right (is_ascii_digit x) (list_all is_ascii_digit xs) h))
+    ∙ omega arith
+
+digits_all : (xs : List ℕ) → list_all is_ascii_digit xs ≡ true → digits_at xs ≡ (xs, [])
+digits_all xs h =
+    ap (λ n. (take n xs, drop n xs)) (prefix_all xs h)
+    ∙ ap (λ d. (take (length xs) xs, d)) (drop-length xs)
+    ∙ ap (λ t. (t, [])) (take-length xs)
+
+-- what is read of a sign and digits
+abbrev parts_by : List ℕ → Bool × List ℕ → List ℕ × List ℕ → Option Decimal
+parts_by text s w = if nat_lt 64 (length text) then None else (do
+  f ← fraction_at w.1
+  e ← exponent_of f.1
+  if length w.0 + length f.0 == 0 then None else Some (record { negative = s.0; whole = w.0; fraction = f.0; exponent = e }))
+
+guards : {A : Type 0} (a b : Bool) (x : Option A) → a ≡ false → b ≡ false → cond a None (cond b None x) ≡ x
+guards true b x g h = absurd cc
+guards false true x g h = absurd cc
+guards false false x g h = refl
+
+abbrev decimal : Bool → List ℕ → List ℕ → Decimal
+decimal negative digits fraction = record { negative = negative; whole = digits; fraction = fraction; exponent = pos 0 }
+
+abbrev parts_then : List ℕ → Bool → List ℕ → Option (List ℕ × List ℕ) → Option Decimal
+parts_then text negative digits o = if nat_lt 64 (length text) then None else (do
+  f ← o
+  e ← exponent_of f.1
+  if length digits + length f.0 == 0 then None else Some (record { negative = negative; whole = digits; fraction = f.0; exponent = e }))
+
+parts_at : (text body digits tail fraction : List ℕ) (negative : Bool) → sign_at text ≡ (negative, body) → digits_at body ≡ (digits, tail) → fraction_at tail ≡ Some (fraction, []) → length text ≤ 64 → 0 < length digits → parts_of text ≡ Some (decimal negative digits fraction)
+unfolding parts_of
+parts_at text body digits tail fraction negative sign cut behind short some =
+    ap (λ s. parts_by text s (digits_at s.1)) sign
+    ∙ ap (λ w. parts_by text (negative, body) w) cut
+    ∙ ap (parts_then text negative digits) behind
+    ∙ guards (nat_lt 64 (length text)) (length digits + length fraction == 0) (Some (decimal negative digits fraction)) (grind (arith, nat_tests, short)) (grind (arith, nat_tests, some))
+
+guard : {A : Type 0} (b : Bool) (x : A) → b ≡ true → cond b (Some x) None ≡ Some x
+guard true x h = refl
+guard false x h = absurd cc
+
+-- the digits of a number and of its fraction, as units of a place behind the last of them
+grown_by : (a b p q r : ℕ) → p * q ≡ r → (a * p + b) * q ≡ a * r + b * q
+grown_by a b p q r e = add-mul (a * p) b q ∙ ap (λ n. n + b * q) (mul_assoc a p q ∙ ap (λ n. a * n) e)
+
+places : (k n : ℕ) → k ≤ n → 10 ^ k * 10 ^ (n - k) ≡ 10 ^ n
+places k n le = sym (pow-add 10 k (n - k)) ∙ ap (λ m. 10 ^ m) (omega (arith, le))
+
+magnitude_is : (n : ℕ) (negative : Bool) (digits fraction : List ℕ) → length fraction ≤ n → magnitude_at n (decimal negative digits fraction) ≡ number digits * 10 ^ n + number fraction * 10 ^ (n - length fraction)
+magnitude_is n negative digits fraction le =
+    let power : (pos 0 -ℤ pos (length fraction)) +ℤ pos n ≡ pos (n - length fraction) = omega (arith, ints, le) in
+    ap (scaled (number (digits ++ fraction))) power
+    ∙ ap (λ m. m * 10 ^ (n - length fraction)) (number-append digits fraction)
+    ∙ grown_by (number digits) (number fraction) (10 ^ length fraction) (10 ^ (n - length fraction)) (10 ^ n) (places (length fraction) n le)
+
+-- a fraction is below a whole
+below_whole : (n : ℕ) (fraction : List ℕ) → list_all is_ascii_digit fraction ≡ true → length fraction ≤ n → number fraction * 10 ^ (n - length fraction) ≤ 10 ^ n
+below_whole n fraction all le =
+    let small : number fraction < 10 ^ length fraction = number_short fraction (length fraction) all (omega arith) in
+    let product : number fraction * 10 ^ (n - length fraction) ≤ 10 ^ length fraction * 10 ^ (n - length fraction) = mul-le-mul_right (10 ^ (n - length fraction)) (omega (arith, small)) in
+    omega (arith, product, places (length fraction) n le)
+
+near_decimal : (text rest : List ℕ) (m : ℕ) (number_text : List ℕ) (negative : Bool) (d : DecimalFront text m rest) → list_all is_inner number_text ≡ true → sign_at number_text ≡ (negative, d.body) → length number_text ≤ 64 → near_number number_text ≡ Some (signed negative m)
+unfolding places_of
+near_decimal text rest m t negative d inner sign short =
+    let p : Decimal = decimal negative d.digits d.fraction in
+    let few : length d.fraction ≤ 16 = omega (arith, d.few_behind) in
+    let small : number d.digits < 10 ^ 9 = number_short d.digits 9 d.all d.few in
+    let wide : magnitude p < 10 ^ 28 = omega (arith, magnitude_is 16 negative d.digits d.fraction few, below_whole 16 d.fraction d.all_behind few, small) in
+    let near : nat_lt (magnitude p) (10 ^ 28) ≡ true = grind (arith, nat_tests, wide) in
+    let value : near_at 6 p ≡ Some m = guard (nat_lt (magnitude p) (10 ^ 28)) (magnitude_at 6 p) near ∙ ap (λ n. Some n) (magnitude_is 6 negative d.digits d.fraction d.few_behind ∙ sym d.value) in
+    let size = signed_size negative m in
+    let bound : m < 5000000000 * million = omega (arith, d.value, below_whole 6 d.fraction d.all_behind d.few_behind, small) in
+    let low : nat_lt (unsigned_abs (signed negative m)) (5000000000 * million) ≡ true = ap (λ n. nat_lt n (5000000000 * million)) size ∙ grind (arith, nat_tests, bound) in
+    ap (λ t. near_by (places_of 6 t)) (trim_inner t inner)
+    ∙ ap (λ p. near_by (p >>= λ d. near_at 6 d >>= λ n. Some (signed d.negative n))) (parts_at t d.body d.digits d.tail d.fraction negative sign d.cut d.behind short d.some)
+    ∙ ap (λ v. near_by (v >>= λ n. Some (signed negative n))) value
+    ∙ guard (nat_lt (unsigned_abs (signed negative m)) (5000000000 * million)) (signed negative m) low
+
+all_joined : (p : ℕ → Bool) (xs ys : List ℕ) → list_all p xs ≡ true → list_all p ys ≡ true → list_all p (xs ++ ys) ≡ true
+all_joined p xs ys f g = list_all-append p xs ys ∙ and_both (list_all p xs) (list_all p ys) f g
+
+-- digits alone, and digits with a fraction
+pub whole_front : (text rest : List ℕ) (n : ℕ) → DigitsFront text n rest → DecimalFront text (n * 1000000) rest
+whole_front text rest n d = record {
+  body = d.digits;
+  digits = d.digits;
+  tail = [];
+  fraction = [];
+  whole = d.whole;
+  inner = all_by is_ascii_digit is_inner d.digits digit_inner d.all;
+  short = omega (arith, d.few);
+  cut = digits_all d.digits d.all;
+  behind = refl;
+  all = d.all;
+  some = d.some;
+  few = d.few;
+  all_behind = refl;
+  few_behind = omega arith;
+  value = omega (arith, d.value);
+}
+
+stops : (digits behind : List ℕ) → list_all is_ascii_digit digits ≡ true → prefix_len is_ascii_digit behind ≡ 0 → prefix_len is_ascii_digit (digits ++ behind) ≡ length digits
+stops [] behind all none = none
+stops (c ∷ cs) behind all none =
+    ap (λ b. cond b (1 + prefix_len is_ascii_digit (cs ++ behind)) 0) (and_left (is_ascii_digit c) (list_all is_ascii_digit cs) all)
+    ∙ ap (λ n. 1 + n) (stops cs behind (and_right (is_ascii_digit c) (list_all is_ascii_digit cs) all) none)
+    ∙ omega arith
+
+digits_then : (digits behind : List ℕ) → list_all is_ascii_digit digits ≡ true → prefix_len is_ascii_digit behind ≡ 0 → digits_at (digits ++ behind) ≡ (digits, behind)
+digits_then digits behind all none =
+    ap (λ n. (take n (digits ++ behind), drop n (digits ++ behind))) (stops digits behind all none)
+    ∙ ap (λ t. (t, drop (length digits) (digits ++ behind))) (take-append_seam digits behind)
+    ∙ ap (λ t. (digits, t)) (drop-append_seam digits behind)
+
+some_fraction : (fraction : List ℕ) → 0 < length fraction → list_all is_ascii_digit fraction ≡ true → fraction_at (46 ∷ fraction) ≡ Some (fraction, [])
+some_fraction fraction some all =
+    let none : (prefix_len is_ascii_digit fraction == 0) ≡ false = grind (arith, nat_tests, some, prefix_all fraction all) in
+    ap (λ b. cond b None (Some (digits_at fraction))) none ∙ ap (λ x. Some x) (digits_all fraction all)
+
+pub point_front : (text more rest : List ℕ) (n m : ℕ) → DigitsFront text n (46 ∷ more) → FractionFront more m rest → DecimalFront text (n * 1000000 + m) rest
+point_front text more rest n m d f = record {
+  body = d.digits ++ 46 ∷ f.digits;
+  digits = d.digits;
+  tail = 46 ∷ f.digits;
+  fraction = f.digits;
+  whole = d.whole ∙ ap (λ t. d.digits ++ 46 ∷ t) f.whole ∙ sym (append_assoc d.digits (46 ∷ f.digits) rest);
+  inner = all_joined is_inner d.digits (46 ∷ f.digits) (all_by is_ascii_digit is_inner d.digits digit_inner d.all) (all_by is_ascii_digit is_inner f.digits digit_inner f.all);
+  short = omega (arith, length-append d.digits (46 ∷ f.digits), d.few, f.few);
+  cut = digits_then d.digits (46 ∷ f.digits) d.all refl;
+  behind = some_fraction f.digits f.some f.all;
+  all = d.all;
+  some = d.some;
+  few = d.few;
+  all_behind = f.all;
+  few_behind = f.few;
+  value = omega (arith, d.value, f.value);
+}
+
+-- a sign in front
+record Signed (text : List ℕ) (negative : Bool) (behind : List ℕ) : Type 0 where
+  sign : List ℕ
+  whole : text ≡ sign ++ behind
+  inner : list_all is_inner sign ≡ true
+  short : length sign ≤ 1
+  same : (ds digits tail : List ℕ) → digits_at ds ≡ (digits, tail) → 0 < length digits → sign_at (sign ++ ds) ≡ (negative, ds)
+
+abbrev plus_by : ℕ → List ℕ → Bool → Bool × List ℕ
+plus_by c cs y = cond y (false, cs) (false, c ∷ cs)
+
+abbrev minus_by : ℕ → List ℕ → Bool → Bool × List ℕ
+minus_by c cs x = cond x (true, cs) (plus_by c cs (c == 43))
+
+first_digit : (c : ℕ) (cs digits tail : List ℕ) (b : Bool) → b ≡ is_ascii_digit c → ◌≡◌ {A = List ℕ × List ℕ} (take (cond b (1 + prefix_len is_ascii_digit cs) 0) (c ∷ cs), drop (cond b (1 + prefix_len is_ascii_digit cs) 0) (c ∷ cs)) (digits, tail) → 0 < length digits → is_ascii_digit c ≡ true
+first_digit c cs digits tail true e cut some = sym e
+first_digit c cs digits tail false e cut some =
+    let none : [] ≡ digits = ap (λ (x : List ℕ × List ℕ). x.0) cut in
+    absurd (omega (arith, some, ap length none))
+
+plain_digits : (ds digits tail : List ℕ) → digits_at ds ≡ (digits, tail) → 0 < length digits → sign_at ds ≡ (false, ds)
+plain_digits [] digits tail cut some =
+    let none : [] ≡ digits = ap (λ (x : List ℕ × List ℕ). x.0) cut in
+    absurd (omega (arith, some, ap length none))
+plain_digits (c ∷ cs) digits tail cut some =
+    let digit = first_digit c cs digits tail (is_ascii_digit c) refl cut some in
+    let minus : (c == 45) ≡ false = grind (arith, nat_tests, digit) in
+    let plus : (c == 43) ≡ false = grind (arith, nat_tests, digit) in
+    ap (minus_by c cs) minus ∙ ap (plus_by c cs) plus
+
+signed_plus : (c : ℕ) (cs : List ℕ) (y : Bool) → y ≡ (c == 43) → (c == 45) ≡ false → Signed (c ∷ cs) (plus_by c cs y).0 (plus_by c cs y).1
+signed_plus c cs true e minus = record {
+  sign = c ∷ [];
+  whole = refl;
+  inner = grind (arith, nat_tests, e);
+  short = omega arith;
+  same = λ ds digits tail cut some. ap (minus_by c ds) minus ∙ ap (plus_by c ds) (sym e);
+}
+signed_plus c cs false e minus = record { sign = []; whole = refl; inner = refl; short = omega arith; same = plain_digits }
+
+signed_minus : (c : ℕ) (cs : List ℕ) (x : Bool) → x ≡ (c == 45) → Signed (c ∷ cs) (minus_by c cs x).0 (minus_by c cs x).1
+signed_minus c cs true e = record {
+  sign = c ∷ [];
+  whole = refl;
+  inner = grind (arith, nat_tests, e);
+  short = omega arith;
+  same = λ ds digits tail cut some. ap (minus_by c ds) (sym e);
+}
+signed_minus c cs false e = signed_plus c cs (c == 43) refl (sym e)
+
+signed_at : (text : List ℕ) → Signed text (sign_at text).0 (sign_at text).1
+signed_at [] = record { sign = []; whole = refl; inner = refl; short = omega arith; same = plain_digits }
+signed_at (c ∷ cs) = signed_minus c cs (c == 45) refl
+
+front_of : (text : List ℕ) (negative : Bool) (behind : List ℕ) (m : ℕ) (rest : List ℕ) → Signed text negative behind → DecimalFront behind m rest → MicrosFront text (signed negative m) rest
+front_of text negative behind m rest s d =
+    let inner = all_joined is_inner s.sign d.body s.inner d.inner in
+    record {
+      front = s.sign ++ d.body;
+      whole = s.whole ∙ ap (λ t. s.sign ++ t) d.whole ∙ sym (append_assoc s.sign d.body rest);
+      colons = all_by is_inner (λ c. not (c == 58)) (s.sign ++ d.body) not_colon inner;
+      commas = all_by is_inner (λ c. not (c == 44)) (s.sign ++ d.body) not_comma inner;
+      value = near_decimal behind rest m (s.sign ++ d.body) negative d inner (s.same d.body d.digits d.tail d.cut d.some) (omega (arith, length-append s.sign d.body, s.short, d.short));
+    }
+
+pub micros_at : (text : List ℕ) (negative : Bool) (behind : List ℕ) (m : ℕ) (rest : List ℕ) (v : ℤ) → (negative, behind) ≡ sign_at text → v ≡ signed negative m → DecimalFront behind m rest → MicrosFront text v rest
+micros_at text negative behind m rest v sign value digits =
+    let from : Signed text negative behind = subst (λ (s : Bool × List ℕ). Signed text s.0 s.1) (sym sign) (signed_at text) in
+    subst (λ u. MicrosFront text u rest) (sym value) (front_of text negative behind m rest from digits)
+
+pub digits_front : (text digits rest : List ℕ) (n : ℕ) → (digits, rest) ≡ digits_at text → list_all is_ascii_digit digits ≡ true → 0 < length digits → length digits ≤ 9 → n ≡ number digits → DigitsFront text n rest
+digits_front text digits rest n cut all some few value = record {
+  digits = digits;
+  whole = sym (ap (λ (x : List ℕ × List ℕ). x.0 ++ x.1) cut ∙ take-append-drop (prefix_len is_ascii_digit text) text);
+  all = all;
+  some = some;
+  few = few;
+  value = value;
+}
+
+pub few_value : (ds : List ℕ) (i n : ℕ) → n ≡ min (number (take i ds)) 1000000000 → length ds ≤ i → list_all is_ascii_digit ds ≡ true → length ds ≤ 9 → n ≡ number ds
+few_value ds i n e le all few =
+    let small : number ds < 10 ^ 9 = number_short ds 9 all few in
+    e ∙ ap (λ t. min (number t) 1000000000) (take_all i ds le) ∙ omega (arith, small)
+
+pub few_bound : (ds : List ℕ) (i n : ℕ) → n ≡ min (number (take i ds)) 1000000000 → length ds ≤ i → list_all is_ascii_digit ds ≡ true → length ds ≤ 9 → n < 1000000000
+few_bound ds i n e le all few =
+    let small : number ds < 10 ^ 9 = number_short ds 9 all few in
+    omega (arith, small, few_value ds i n e le all few)
+
+-- what stands before the first separator
+before_first : (b : ℕ) (front rest : List ℕ) → (b == b) ≡ true → list_all (λ c. not (c == b)) front ≡ true → length_before b (front ++ b ∷ rest) ≡ length front
+before_first b [] rest same h = ap (λ x. cond (not x) (1 + length_before b rest) 0) same
+before_first b (c ∷ cs) rest same h =
+    ap (λ x. cond x (1 + length_before b (cs ++ b ∷ rest)) 0) (and_left (not (c == b)) (list_all (λ c. not (c == b)) cs) h)
+    ∙ ap (λ n. 1 + n) (before_first b cs rest same (and_right (not (c == b)) (list_all (λ c. not (c == b)) cs) h))
+    ∙ omega arith
+
+cut_front : (b : ℕ) (front rest : List ℕ) → (b == b) ≡ true → list_all (λ c. not (c == b)) front ≡ true → cut_at b (front ++ b ∷ rest) ≡ Some (front, rest)
+cut_front b front rest same h =
+    ap (λ n. cut_by (take n (front ++ b ∷ rest)) (drop n (front ++ b ∷ rest))) (before_first b front rest same h)
+    ∙ ap (λ t. cut_by t (drop (length front) (front ++ b ∷ rest))) (take-append_seam front (b ∷ rest))
+    ∙ ap (λ d. cut_by front d) (drop-append_seam front (b ∷ rest))
+
+pair_text : (f g : List ℕ) (v w : ℤ) → list_all (λ c. not (c == 58)) f ≡ true → near_number f ≡ Some v → near_number g ≡ Some w → pair_of (f ++ 58 ∷ g) ≡ Some (record { input = v; output = w })
+unfolding pair_of
+pair_text f g v w plain first second =
+    ap (λ o. o >>= λ x. near_number x.0 >>= λ input. near_number x.1 >>= λ output. Some (record { input = input; output = output })) (cut_front 58 f g refl plain)
+    ∙ ap (λ o. o >>= λ input. near_number g >>= λ output. Some (record { input = input; output = output })) first
+    ∙ ap (λ o. o >>= λ output. Some (record { input = v; output = output })) second
+
+piece_text : (f g behind : List ℕ) → list_all (λ c. not (c == 44)) f ≡ true → list_all (λ c. not (c == 44)) g ≡ true → first_piece (f ++ 58 ∷ (g ++ 44 ∷ behind)) ≡ (f ++ 58 ∷ g, Some behind)
+piece_text f g behind one two =
+    let commas = all_joined (λ c. not (c == 44)) f (58 ∷ g) one two in
+    ap first_piece (sym (append_assoc f (58 ∷ g) (44 ∷ behind)))
+    ∙ ap (λ o. option_case o ((f ++ 58 ∷ g) ++ 44 ∷ behind, None) (λ x. (x.0, Some x.1))) (cut_front 44 (f ++ 58 ∷ g) behind refl commas)
+
+piece_at : (text rest second last behind : List ℕ) (v w : ℤ) (a : MicrosFront text v rest) (b : MicrosFront second w last) → rest ≡ 58 ∷ second → last ≡ 44 ∷ behind → first_piece text ≡ (a.front ++ 58 ∷ b.front, Some behind)
+piece_at text rest second last behind v w a b colon comma =
+    let whole : text ≡ a.front ++ 58 ∷ (b.front ++ 44 ∷ behind) = a.whole ∙ ap (λ t. a.front ++ t) colon ∙ ap (λ t. a.front ++ 58 ∷ t) b.whole ∙ ap (λ t. a.front ++ 58 ∷ (b.front ++ t)) comma in
+    ap first_piece whole ∙ piece_text a.front b.front behind a.commas b.commas
+
+pub pair_value : (text rest second last behind : List ℕ) (v w : ℤ) → MicrosFront text v rest → rest ≡ 58 ∷ second → MicrosFront second w last → last ≡ 44 ∷ behind → pair_of (first_piece text).0 ≡ Some (record { input = v; output = w })
+pair_value text rest second last behind v w a colon b comma =
+    ap (λ (x : List ℕ × Option (List ℕ)). pair_of x.0) (piece_at text rest second last behind v w a b colon comma) ∙ pair_text a.front b.front v w a.colons a.value b.value
+
+pub pair_behind : (text rest second last behind : List ℕ) (v w : ℤ) → MicrosFront text v rest → rest ≡ 58 ∷ second → MicrosFront second w last → last ≡ 44 ∷ behind → (first_piece text).1 ≡ Some behind
+pair_behind text rest second last behind v w a colon b comma =
+    ap (λ (x : List ℕ × Option (List ℕ)). x.1) (piece_at text rest second last behind v w a b colon comma)

@@ -1,5 +1,0 @@
-use Rattle.vrt_profile.proofs.Pieces.{keeps_more_two, keeps_same, on_err}
-use Rattle.vrt_profile.proofs.lines.push_micro_pair.Goals as goal
-
-pub returns-in_err-extend_from_slice-clause-err : goal.returns-in_err-extend_from_slice-clause-err
-returns-in_err-extend_from_slice-clause-err c = on_err c.from_residual-in_err-extend_from_slice.result (keeps_more_two _ _ _ _ _ _ c.in_ok-push_pair_start.ensures.ok c.in_ok-push_micro.ensures.ok (keeps_same _ _ c.in_err-extend_from_slice.ensures.items))

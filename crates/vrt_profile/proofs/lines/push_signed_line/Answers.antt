@@ -1,8 +1,0 @@
-use Rattle.vrt_profile.proofs.Pieces.{keeps_more, keeps_more_two, on_err}
-use Rattle.vrt_profile.proofs.lines.push_signed_line.Goals as goal
-
-pub returns-in_err-push_signed-clause-err : goal.returns-in_err-push_signed-clause-err
-returns-in_err-push_signed-clause-err c = on_err c.from_residual-in_err-push_signed.result (keeps_more _ _ _ _ c.in_ok-push_open.ensures.ok c.in_err-push_signed.ensures.err)
-
-pub returns-in_err-push_end-clause-err : goal.returns-in_err-push_end-clause-err
-returns-in_err-push_end-clause-err c = on_err c.from_residual-in_err-push_end.result (keeps_more_two _ _ _ _ _ _ c.in_ok-push_open.ensures.ok c.in_ok-push_signed.ensures.ok c.in_err-push_end.ensures.err)

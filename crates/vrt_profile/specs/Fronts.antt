@@ -1,0 +1,55 @@
+-- Short numbers in front of a text, and what stands behind them.
+use Rattle.std.specs.Prelude.{◌≡◌, ℕ, ℤ, ◌<◌, ◌≤◌, ◌+◌, ◌-◌, ◌*◌, ◌^◌, ◌==◌, ◌&&◌, not, Bool, true, List, [], ◌++◌, length, Some}
+use Rattle.std.specs.List.{list_all}
+use Rattle.std.specs.Char.{is_ascii_digit}
+use Rattle.geotransform.specs.Decimal.{number, digits_at, fraction_at}
+use Rattle.vrt_markup.specs.Items.{is_white}
+use Rattle.vrt_profile.specs.Fields.{near_number}
+
+-- a byte that neither parts nor is white space
+abbrev pub is_inner : ℕ → Bool
+is_inner c = not (c == 58) && (not (c == 44) && not (is_white c))
+
+-- up to nine digits, which write n
+pub record DigitsFront (text : List ℕ) (n : ℕ) (rest : List ℕ) : Type 0 where
+  pub digits : List ℕ
+  pub whole : text ≡ digits ++ rest
+  pub all : list_all is_ascii_digit digits ≡ true
+  pub some : 0 < length digits
+  pub few : length digits ≤ 9
+  pub value : n ≡ number digits
+
+-- up to six digits of a fraction, which write m millionths
+pub record FractionFront (text : List ℕ) (m : ℕ) (rest : List ℕ) : Type 0 where
+  pub digits : List ℕ
+  pub whole : text ≡ digits ++ rest
+  pub all : list_all is_ascii_digit digits ≡ true
+  pub some : 0 < length digits
+  pub few : length digits ≤ 6
+  pub value : m ≡ number digits * 10 ^ (6 - length digits)
+
+-- up to nine digits, and maybe a point and up to six more, which write m millionths
+pub record DecimalFront (text : List ℕ) (m : ℕ) (rest : List ℕ) : Type 0 where
+  pub body : List ℕ
+  pub digits : List ℕ
+  pub tail : List ℕ
+  pub fraction : List ℕ
+  pub whole : text ≡ body ++ rest
+  pub inner : list_all is_inner body ≡ true
+  pub short : length body ≤ 16
+  pub cut : digits_at body ≡ (digits, tail)
+  pub behind : fraction_at tail ≡ Some (fraction, [])
+  pub all : list_all is_ascii_digit digits ≡ true
+  pub some : 0 < length digits
+  pub few : length digits ≤ 9
+  pub all_behind : list_all is_ascii_digit fraction ≡ true
+  pub few_behind : length fraction ≤ 6
+  pub value : m ≡ number digits * 1000000 + number fraction * 10 ^ (6 - length fraction)
+
+-- a number that is v millionths, without a colon or a comma
+pub record MicrosFront (text : List ℕ) (v : ℤ) (rest : List ℕ) : Type 0 where
+  pub front : List ℕ
+  pub whole : text ≡ front ++ rest
+  pub colons : list_all (λ c. not (c == 58)) front ≡ true
+  pub commas : list_all (λ c. not (c == 44)) front ≡ true
+  pub value : near_number front ≡ Some v

@@ -1,0 +1,302 @@
+-- Numbers of a written document are read again, in the places in which they count.
+use Rattle.std.proofs.Common.{◌≡◌, ℕ, ℤ, zero, suc, ◌+◌, ◌-◌, ◌*◌, ◌/◌, ◌%◌, ◌^◌, ◌<◌, ◌≤◌, Bool, true, false, cond, List, [], ◌∷◌, ◌++◌, length, Option, Some, None, refl, ap, ◌∙◌, sym, ⊎_elim, arith, unsigned_abs, length-append, pos, negsuc}
+use Rattle.std.specs.Prelude.{◌==◌, ◌+ℤ◌, ◌-ℤ◌, ◌*ℤ◌, neg_ℤ, nat_lt, nat_le, ◌&&◌, if◌then◌else◌}
+use Rattle.std.specs.List.{list_all, prefix_len, suffix_len}
+use Rattle.std.specs.Char.{is_ascii_digit}
+use Rattle.std.specs.Fmt.{decimal, signed_decimal}
+use Rattle.std.proofs.lemmas.List.{append-nil, length-take}
+use Rattle.std.proofs.lemmas.List.Sums.{AllPass-from_list_all, list_all-from_AllPass}
+use Rattle.std.proofs.lemmas.List.Folds.{list_all-append}
+use Rattle.std.proofs.lemmas.List.Elements.{All-take}
+use Rattle.std.proofs.lemmas.Bool.{cases_lt}
+use Rattle.std.proofs.lemmas.Bool.Decides.{nat_tests}
+use Rattle.std.proofs.lemmas.Nat.{pow-add, div-mul-add}
+use Rattle.std.proofs.lemmas.Int.{ints}
+use Rattle.std.proofs.lemmas.Fmt.{digits_decimal, digits_value-decimal, decimal_nonempty, length-decimal-le, length-decimal-le_wide, decimal_by_steps_wide}
+use Rattle.std.proofs.Math.Nat.{mul_assoc, one-le-pow, mul-div_cancel}
+use Rattle.lists_and_answers.specs.Options.{◌>>=◌}
+use Rattle.geotransform.specs.Decimal.{number, number_of}
+use Rattle.vrt_profile.specs.Fields.{whole_text}
+use Rattle.geotransform.specs.Decimal.{sign_at, digits_at, fraction_at, exponent_of, Decimal, parts_of, ticks_of, places_of, signed, scaled, half_up, magnitude, magnitude_at, near_at, mantissa, whole_of, exact}
+use Rattle.geotransform.specs.Print.{unit, rounded_to, minus, with_point, last_digits, without_last_zeros, short_of, short_text}
+use Rattle.geotransform.proofs.Numbers.{own, number-append}
+use Rattle.geotransform.proofs.Written.{rounded_is}
+use Rattle.geotransform.proofs.RoundTrip.{AreDigits, digits-cons, digits_again, sign_none, short_again}
+use Rattle.vrt_writing.specs.Spelled.{micro_text, part_text}
+
+abbrev is_zero : ℕ → Bool
+is_zero c = c == 48
+
+prefix_all : (ds rest : List ℕ) → AreDigits ds → prefix_len is_ascii_digit rest ≡ 0 → prefix_len is_ascii_digit (ds ++ rest) ≡ length ds
+prefix_all [] rest h none = none
+prefix_all (c ∷ cs) rest h none =
+    let parts = digits-cons c cs h in
+    ap (λ b. cond b (1 + prefix_len is_ascii_digit (cs ++ rest)) 0) parts.0 ∙ omega (arith, prefix_all cs rest parts.1 none)
+
+point_ends : (f : List ℕ) → prefix_len is_ascii_digit (with_point f) ≡ 0
+point_ends [] = refl
+point_ends (c ∷ cs) = refl
+
+fraction_again : (f : List ℕ) → AreDigits f → fraction_at (with_point f) ≡ Some (f, [])
+fraction_again [] h = refl
+fraction_again (c ∷ cs) h =
+    let whole : (c ∷ cs) ++ [] ≡ c ∷ cs = append-nil (c ∷ cs) in
+    let n : prefix_len is_ascii_digit (c ∷ cs) ≡ suc (length cs) = ap (prefix_len is_ascii_digit) (sym whole) ∙ prefix_all (c ∷ cs) [] h refl in
+    let more : (prefix_len is_ascii_digit (c ∷ cs) == 0) ≡ false = ap (λ k. k == 0) n ∙ grind (arith, nat_tests) in
+    ap (λ b. cond b None (Some (digits_at (c ∷ cs)))) more ∙ ap Some (ap digits_at (sym whole) ∙ digits_again (c ∷ cs) [] h refl)
+
+length-last_digits : (k n : ℕ) → length (last_digits k n) ≡ k
+length-last_digits zero n = refl
+length-last_digits (suc k) n = omega (arith, length-append (last_digits k (n / 10)) ((48 + n % 10) ∷ []), length-last_digits k (n / 10))
+
+digit_is : (n : ℕ) → is_ascii_digit (48 + n % 10) ≡ true
+digit_is n = grind (arith, nat_tests)
+
+digits-last_digits : (k n : ℕ) → AreDigits (last_digits k n)
+digits-last_digits zero n = refl
+digits-last_digits (suc k) n = list_all-append is_ascii_digit (last_digits k (n / 10)) ((48 + n % 10) ∷ []) ∙ ap (λ b. b && list_all is_ascii_digit ((48 + n % 10) ∷ [])) (digits-last_digits k (n / 10)) ∙ ap (λ b. b && true) (digit_is n)
+
+-- the text of q sixteenth places without its sign
+abbrev plain : ℕ → List ℕ
+plain q = decimal (q / 10 ^ 16) ++ with_point (without_last_zeros (last_digits 16 (q % 10 ^ 16)))
+
+abbrev pub fraction_of : ℕ → List ℕ
+fraction_of q = without_last_zeros (last_digits 16 (q % 10 ^ 16))
+
+pub fraction_digits : (q : ℕ) → AreDigits (fraction_of q)
+fraction_digits q = list_all-from_AllPass is_ascii_digit (fraction_of q) (All-take (λ c. is_ascii_digit c ≡ true) (16 - suffix_len is_zero (last_digits 16 (q % 10 ^ 16))) (last_digits 16 (q % 10 ^ 16)) (AllPass-from_list_all is_ascii_digit (last_digits 16 (q % 10 ^ 16)) (digits-last_digits 16 (q % 10 ^ 16))))
+
+fraction_short : (q : ℕ) → length (fraction_of q) ≤ 16
+fraction_short q = omega (arith, length-take (length (last_digits 16 (q % 10 ^ 16)) - suffix_len is_zero (last_digits 16 (q % 10 ^ 16))) (last_digits 16 (q % 10 ^ 16)), length-last_digits 16 (q % 10 ^ 16))
+
+-- what parts_of does behind the sign, for a text of n bytes
+abbrev behind_fraction : ℕ → Bool → List ℕ → Option (List ℕ × List ℕ) → Option Decimal
+behind_fraction n negative whole fraction = if nat_lt 64 n then None else (do
+  f ← fraction
+  e ← exponent_of f.1
+  if length whole + length f.0 == 0 then None else Some (record { negative = negative; whole = whole; fraction = f.0; exponent = e }))
+
+abbrev behind_digits : ℕ → Bool → List ℕ × List ℕ → Option Decimal
+behind_digits n negative w = behind_fraction n negative w.0 (fraction_at w.1)
+
+abbrev behind_sign : ℕ → Bool × List ℕ → Option Decimal
+behind_sign n s = behind_digits n s.0 (digits_at s.1)
+
+starts : (text : List ℕ) → parts_of text ≡ behind_sign (length text) (sign_at text)
+unfolding parts_of
+starts text = refl
+
+parts_text : (n : ℕ) (negative : Bool) (ds f : List ℕ) → n ≤ 64 → AreDigits ds → 0 < length ds → AreDigits f → behind_sign n (negative, ds ++ with_point f) ≡ Some (record { negative = negative; whole = ds; fraction = f; exponent = pos 0 })
+parts_text n negative ds f short digits some places =
+    let not_long : nat_lt 64 n ≡ false = grind (arith, nat_tests) in
+    let not_none : (length ds + length f == 0) ≡ false = grind (arith, nat_tests) in
+    let d : Decimal = record { negative = negative; whole = ds; fraction = f; exponent = pos 0 } in
+    ap (behind_digits n negative) (digits_again ds (with_point f) digits (point_ends f))
+    ∙ ap (behind_fraction n negative ds) (fraction_again f places)
+    ∙ ap (λ b. cond b None (cond (length ds + length f == 0) None (Some d))) not_long
+    ∙ ap (λ b. cond b None (Some d)) not_none
+
+whole_small : (q : ℕ) → q < 10 ^ 28 → q / 10 ^ 16 < 10 ^ 12
+whole_small q small = omega arith
+
+length-with_point : (f : List ℕ) → length (with_point f) ≤ 1 + length f
+length-with_point [] = omega arith
+length-with_point (c ∷ cs) = omega arith
+
+-- the parts of the text with its sign
+parts_plain : (q n : ℕ) (negative : Bool) → q < 10 ^ 28 → n ≤ 64 → behind_sign n (negative, plain q) ≡ Some (record { negative = negative; whole = decimal (q / 10 ^ 16); fraction = fraction_of q; exponent = pos 0 })
+parts_plain q n negative small short =
+    let less = whole_small q small in
+    parts_text n negative (decimal (q / 10 ^ 16)) (fraction_of q) short (digits_decimal own (q / 10 ^ 16) (omega arith)) (decimal_nonempty (q / 10 ^ 16) (omega arith)) (fraction_digits q)
+
+length-plain : (q : ℕ) → q < 10 ^ 28 → length (plain q) ≤ 29
+length-plain q small =
+    let less = whole_small q small in
+    omega (arith, length-append (decimal (q / 10 ^ 16)) (with_point (fraction_of q)), length-with_point (fraction_of q), fraction_short q, length-decimal-le 12 (q / 10 ^ 16) (omega arith) less (omega arith))
+
+abbrev parts_are : Bool → ℕ → Decimal
+parts_are negative q = record { negative = negative; whole = decimal (q / 10 ^ 16); fraction = fraction_of q; exponent = pos 0 }
+
+parts_positive : (q : ℕ) → q < 10 ^ 28 → parts_of (plain q) ≡ Some (parts_are false q)
+parts_positive q small =
+    let less = whole_small q small in
+    starts (plain q) ∙ ap (behind_sign (length (plain q))) (sign_none (decimal (q / 10 ^ 16)) (with_point (fraction_of q)) (digits_decimal own (q / 10 ^ 16) (omega arith)) (decimal_nonempty (q / 10 ^ 16) (omega arith))) ∙ parts_plain q (length (plain q)) false small (omega (arith, length-plain q small))
+
+parts_negative : (q : ℕ) → q < 10 ^ 28 → parts_of (45 ∷ plain q) ≡ Some (parts_are true q)
+parts_negative q small = starts (45 ∷ plain q) ∙ parts_plain q (suc (length (plain q))) true small (omega (arith, length-plain q small))
+
+minus_none : (n q : ℕ) → minus (pos n) q ≡ []
+minus_none n q = grind (arith, nat_tests, ints)
+
+minus_one : (n q : ℕ) → 0 < q → minus (negsuc n) q ≡ 45 ∷ []
+minus_one n q some = grind (arith, nat_tests, ints)
+
+short_positive : (n : ℕ) → n % 18 ≡ 0 → n < 10 ^ 12 * unit → parts_of (short_text (pos n)) ≡ Some (parts_are false (n / 18))
+short_positive n whole small =
+    let q : ℕ = n / 18 in
+    let is : rounded_to 16 (pos n) ≡ q = rounded_is (pos n) ∙ omega arith in
+    let less : q < 10 ^ 28 = omega arith in
+    ap (λ k. parts_of (short_of (pos n) k)) is ∙ ap (λ (m : List ℕ). parts_of (m ++ decimal (q / 10 ^ 16) ++ with_point (fraction_of q))) (minus_none n q) ∙ parts_positive q less
+
+short_negative : (n : ℕ) → suc n % 18 ≡ 0 → suc n < 10 ^ 12 * unit → parts_of (short_text (negsuc n)) ≡ Some (parts_are true (suc n / 18))
+short_negative n whole small =
+    let q : ℕ = suc n / 18 in
+    let is : rounded_to 16 (negsuc n) ≡ q = rounded_is (negsuc n) ∙ omega arith in
+    let less : q < 10 ^ 28 = omega arith in
+    ap (λ k. parts_of (short_of (negsuc n) k)) is ∙ ap (λ (m : List ℕ). parts_of (m ++ decimal (q / 10 ^ 16) ++ with_point (fraction_of q))) (minus_one n q (omega arith)) ∙ parts_negative q less
+
+-- what the ticks of a decimal tell of its magnitude
+record IsMagnitude (d : Decimal) (v : ℤ) : Type 0 where
+  pub few : nat_lt (magnitude d) (10 ^ 28) ≡ true
+  pub is : signed d.negative (18 * magnitude d) ≡ v
+
+magnitude_by : (d : Decimal) (v : ℤ) (b : Bool) → nat_lt (magnitude d) (10 ^ 28) ≡ b → cond b (Some (signed d.negative (18 * magnitude d))) None ≡ Some v → IsMagnitude d v
+magnitude_by d v true e h =
+    let same : signed d.negative (18 * magnitude d) ≡ v = cc in
+    record { few = e; is = same }
+magnitude_by d v false e h = absurd cc
+
+magnitude_of : (text : List ℕ) (d : Decimal) (v : ℤ) → parts_of text ≡ Some d → ticks_of text ≡ Some v → IsMagnitude d v
+unfolding ticks_of
+magnitude_of text d v p t =
+    let finish : Decimal → Option ℤ = λ e. cond (nat_lt (magnitude e) (10 ^ 28)) (Some (signed e.negative (18 * magnitude e))) None in
+    magnitude_by d v (nat_lt (magnitude d) (10 ^ 28)) refl (sym (ap (λ (o : Option Decimal). o >>= finish) p) ∙ t)
+
+cancel : (m u x : ℕ) → 0 < x → m * x ≡ u * x → m ≡ u
+cancel m u x some e = sym (mul-div_cancel m some) ∙ ap (λ y. y / x) e ∙ mul-div_cancel u some
+
+-- a value with a digits behind its point, in units of the k-th place
+less_places : (m a k u : ℕ) → k ≤ 16 → a ≤ k → m * 10 ^ (16 - a) ≡ u * 10 ^ (16 - k) → scaled m (pos 0 -ℤ pos a +ℤ pos k) ≡ u
+less_places m a k u le h e =
+    let exponent : pos 0 -ℤ pos a +ℤ pos k ≡ pos (k - a) = omega (arith, ints) in
+    let sum : 16 - a ≡ (k - a) + (16 - k) = omega arith in
+    let split : 10 ^ (16 - a) ≡ 10 ^ (k - a) * 10 ^ (16 - k) = ap (λ j. 10 ^ j) sum ∙ pow-add 10 (k - a) (16 - k) in
+    ap (scaled m) exponent ∙ cancel (m * 10 ^ (k - a)) u (10 ^ (16 - k)) (one-le-pow (16 - k) 10 (omega arith)) (mul_assoc m (10 ^ (k - a)) (10 ^ (16 - k)) ∙ ap (λ y. m * y) (sym split) ∙ e)
+
+half_whole : (u b : ℕ) → 0 < b → half_up (u * b) b ≡ u
+half_whole u b some = ap (λ x. x / (2 * b)) (ap (λ y. y + b) (sym (mul_assoc 2 u b) ∙ ap (λ y. y * b) (omega arith) ∙ mul_assoc u 2 b)) ∙ div-mul-add u (2 * b) b (omega arith)
+
+more_places : (m a k u : ℕ) → a ≤ 16 → k < a → m * 10 ^ (16 - a) ≡ u * 10 ^ (16 - k) → scaled m (pos 0 -ℤ pos a +ℤ pos k) ≡ u
+more_places m a k u le h e =
+    let exponent : pos 0 -ℤ pos a +ℤ pos k ≡ negsuc (a - k - 1) = omega (arith, ints) in
+    let sum : 16 - k ≡ (a - k) + (16 - a) = omega arith in
+    let one : suc (a - k - 1) ≡ a - k = omega arith in
+    let split : 10 ^ (16 - k) ≡ 10 ^ (a - k) * 10 ^ (16 - a) = ap (λ j. 10 ^ j) sum ∙ pow-add 10 (a - k) (16 - a) in
+    let digits : m ≡ u * 10 ^ (a - k) = cancel m (u * 10 ^ (a - k)) (10 ^ (16 - a)) (one-le-pow (16 - a) 10 (omega arith)) (e ∙ ap (λ y. u * y) split ∙ sym (mul_assoc u (10 ^ (a - k)) (10 ^ (16 - a)))) in
+    ap (scaled m) exponent ∙ ap (λ j. half_up m (10 ^ j)) one ∙ ap (λ y. half_up y (10 ^ (a - k))) digits ∙ half_whole u (10 ^ (a - k)) (one-le-pow (a - k) 10 (omega arith))
+
+fewer_places : (m a k u : ℕ) → a ≤ 16 → k ≤ 16 → m * 10 ^ (16 - a) ≡ u * 10 ^ (16 - k) → scaled m (pos 0 -ℤ pos a +ℤ pos k) ≡ u
+fewer_places m a k u la lk e = ⊎_elim (λ (h : k < a). more_places m a k u la h e) (λ (h : a ≤ k). less_places m a k u lk h e) (cases_lt k a)
+
+magnitude_is : (q : ℕ) (negative : Bool) → magnitude (parts_are negative q) ≡ mantissa (parts_are negative q) * 10 ^ (16 - length (fraction_of q))
+magnitude_is q negative =
+    let exponent : pos 0 -ℤ pos (length (fraction_of q)) +ℤ pos 16 ≡ pos (16 - length (fraction_of q)) = omega (arith, ints, fraction_short q) in
+    ap (scaled (mantissa (parts_are negative q))) exponent
+
+at_places : (q k u : ℕ) (negative : Bool) → k ≤ 16 → magnitude (parts_are negative q) ≡ u * 10 ^ (16 - k) → magnitude_at k (parts_are negative q) ≡ u
+at_places q k u negative le e = fewer_places (mantissa (parts_are negative q)) (length (fraction_of q)) k u (fraction_short q) le (sym (magnitude_is q negative) ∙ e)
+
+places_from : (text : List ℕ) (q k u : ℕ) (negative : Bool) → k ≤ 16 → parts_of text ≡ Some (parts_are negative q) → nat_lt (magnitude (parts_are negative q)) (10 ^ 28) ≡ true → magnitude (parts_are negative q) ≡ u * 10 ^ (16 - k) → places_of k text ≡ Some (signed negative u)
+unfolding places_of
+places_from text q k u negative le p few e =
+    let finish : Decimal → Option ℤ = λ d. near_at k d >>= λ n. Some (signed d.negative n) in
+    ap (λ (o : Option Decimal). o >>= finish) p
+    ∙ ap (λ b. cond b (Some (magnitude_at k (parts_are negative q))) None >>= λ n. Some (signed negative n)) few
+    ∙ ap (λ n. Some (signed negative n)) (at_places q k u negative le e)
+
+-- A number of units of the k-th place that was written in ticks is read again.
+places_positive : (k u n : ℕ) → k ≤ 16 → n ≡ 18 * (u * 10 ^ (16 - k)) → n < 10 ^ 12 * unit → places_of k (short_text (pos n)) ≡ Some (pos u)
+places_positive k u n le is small =
+    let whole : n % 18 ≡ 0 = omega arith in
+    let p = short_positive n whole small in
+    let m = magnitude_of (short_text (pos n)) (parts_are false (n / 18)) (pos n) p (short_again (pos n) whole small) in
+    let same : 18 * magnitude (parts_are false (n / 18)) ≡ n = omega (arith, ints, m.is) in
+    places_from (short_text (pos n)) (n / 18) k u false le p m.few (omega (arith, same, is))
+
+places_negative : (k u n : ℕ) → k ≤ 16 → suc n ≡ 18 * (u * 10 ^ (16 - k)) → suc n < 10 ^ 12 * unit → places_of k (short_text (negsuc n)) ≡ Some (neg_ℤ (pos u))
+places_negative k u n le is small =
+    let whole : suc n % 18 ≡ 0 = omega arith in
+    let p = short_negative n whole small in
+    let m = magnitude_of (short_text (negsuc n)) (parts_are true (suc n / 18)) (negsuc n) p (short_again (negsuc n) whole small) in
+    let same : 18 * magnitude (parts_are true (suc n / 18)) ≡ suc n = omega (arith, ints, m.is) in
+    places_from (short_text (negsuc n)) (suc n / 18) k u true le p m.few (omega (arith, same, is))
+
+pub micro_again : (v : ℤ) → unsigned_abs v < 10 ^ 18 → places_of 6 (micro_text v) ≡ Some v
+unfolding micro_text
+micro_again (pos n) small = places_positive 6 n (n * 180000000000) (omega arith) (omega arith) (omega arith)
+micro_again (negsuc n) small =
+    let m : ℕ = suc n * 180000000000 - 1 in
+    let is : negsuc n *ℤ pos 180000000000 ≡ negsuc m = omega (arith, ints) in
+    ap (λ (t : ℤ). places_of 6 (short_text t)) is ∙ places_negative 6 (suc n) m (omega arith) (omega arith) (omega arith)
+
+pub part_again : (v : ℤ) → unsigned_abs v < 10 ^ 24 → places_of 12 (part_text v) ≡ Some v
+unfolding part_text
+part_again (pos n) small = places_positive 12 n (n * 180000) (omega arith) (omega arith) (omega arith)
+part_again (negsuc n) small =
+    let m : ℕ = suc n * 180000 - 1 in
+    let is : negsuc n *ℤ pos 180000 ≡ negsuc m = omega (arith, ints) in
+    ap (λ (t : ℤ). places_of 12 (short_text t)) is ∙ places_negative 12 (suc n) m (omega arith) (omega arith) (omega arith)
+
+-- a whole number of a size, a band or a place is read again
+pub count_again : (n : ℕ) → n < 10 ^ 9 → whole_text (decimal n) ≡ Some n
+count_again n small =
+    let long = length-decimal-le 9 n (omega arith) small (omega arith) in
+    let short : nat_le (length (decimal n)) 9 ≡ true = grind (arith, nat_tests, long) in
+    let some : nat_lt 0 (length (decimal n)) ≡ true = grind (arith, nat_tests, decimal_nonempty n (omega arith)) in
+    let less : nat_le (length (decimal n)) 18 ≡ true = grind (arith, nat_tests, long) in
+    ap (λ b. cond b (number_of (decimal n)) None) short
+    ∙ ap (λ b. cond (b && (nat_le (length (decimal n)) 18 && list_all is_ascii_digit (decimal n))) (Some (number (decimal n))) None) some
+    ∙ ap (λ b. cond (b && list_all is_ascii_digit (decimal n)) (Some (number (decimal n))) None) less
+    ∙ ap (λ b. cond b (Some (number (decimal n))) None) (digits_decimal own n (omega arith))
+    ∙ ap Some (digits_value-decimal own n (omega arith))
+
+-- a whole number, and the number that its digits write
+abbrev Writes : ℕ → List ℕ → Type 0
+Writes n ds = AreDigits ds × (number ds ≡ n)
+
+digits_push : (n : ℕ) (ds : List ℕ) → 10 ≤ n → Writes (n / 10) ds → Writes n (ds ++ ((48 + n % 10) ∷ []))
+digits_push n ds some h = (
+  list_all-append is_ascii_digit ds ((48 + n % 10) ∷ []) ∙ ap (λ b. b && list_all is_ascii_digit ((48 + n % 10) ∷ [])) h.0 ∙ ap (λ b. b && true) (digit_is n),
+  number-append ds ((48 + n % 10) ∷ []) ∙ omega (arith, h.1),
+)
+
+digit_small : (n : ℕ) → n < 10 → Writes n ((48 + n) ∷ [])
+digit_small n small =
+    let same : n % 10 ≡ n = omega arith in
+    (ap (λ k. list_all is_ascii_digit ((48 + k) ∷ [])) (sym same) ∙ ap (λ b. b && true) (digit_is n), omega arith)
+
+pub decimal_writes : (n : ℕ) → n < 10 ^ 64 → Writes n (decimal n)
+decimal_writes n small = decimal_by_steps_wide Writes digit_small digits_push n small
+
+some_decimal : (n : ℕ) → n < 10 ^ 64 → 0 < length (decimal n)
+some_decimal n small = decimal_by_steps_wide (λ m ds. 0 < length ds) (λ m less. omega arith) (λ m ds le h. omega (arith, length-append ds ((48 + m % 10) ∷ []))) n small
+
+abbrev whole_parts : Bool → ℕ → Decimal
+whole_parts negative n = record { negative = negative; whole = decimal n; fraction = []; exponent = pos 0 }
+
+whole_behind : (m n : ℕ) (negative : Bool) → m < 10 ^ 20 → n ≤ 64 → behind_sign n (negative, decimal m) ≡ Some (whole_parts negative m)
+whole_behind m n negative small short = ap (λ (x : List ℕ). behind_sign n (negative, x)) (sym (append-nil (decimal m))) ∙ parts_text n negative (decimal m) [] short (decimal_writes m (omega arith)).0 (some_decimal m (omega arith)) refl
+
+whole_short : (m : ℕ) → m < 10 ^ 20 → length (decimal m) ≤ 20
+whole_short m small = length-decimal-le_wide 20 m (omega arith) small (omega arith)
+
+whole_positive : (m : ℕ) → m < 10 ^ 20 → parts_of (decimal m) ≡ Some (whole_parts false m)
+whole_positive m small =
+    let no_sign : sign_at (decimal m) ≡ (false, decimal m) = ap sign_at (sym (append-nil (decimal m))) ∙ sign_none (decimal m) [] (decimal_writes m (omega arith)).0 (some_decimal m (omega arith)) ∙ ap (λ (x : List ℕ). (false, x)) (append-nil (decimal m)) in
+    starts (decimal m) ∙ ap (behind_sign (length (decimal m))) no_sign ∙ whole_behind m (length (decimal m)) false small (omega (arith, whole_short m small))
+
+whole_negative : (m : ℕ) → m < 10 ^ 20 → parts_of (45 ∷ decimal m) ≡ Some (whole_parts true m)
+whole_negative m small = starts (45 ∷ decimal m) ∙ whole_behind m (suc (length (decimal m))) true small (omega (arith, whole_short m small))
+
+whole_from : (text : List ℕ) (m : ℕ) (negative : Bool) → m < 10 ^ 20 → parts_of text ≡ Some (whole_parts negative m) → whole_of text ≡ Some (signed negative m)
+unfolding whole_of
+whole_from text m negative small parts =
+    let finish : Decimal → Option ℤ = λ d. exact (mantissa d) (d.exponent -ℤ pos (length d.fraction)) >>= λ n. cond (nat_lt n (10 ^ 20)) (Some (signed d.negative n)) None in
+    let value : number (decimal m ++ []) * 1 ≡ m = ap (λ (x : List ℕ). number x * 1) (append-nil (decimal m)) ∙ ap (λ k. k * 1) (decimal_writes m (omega arith)).1 ∙ omega arith in
+    let less : nat_lt m (10 ^ 20) ≡ true = grind (arith, nat_tests) in
+    ap (λ (x : Option Decimal). x >>= finish) parts ∙ ap (λ k. cond (nat_lt k (10 ^ 20)) (Some (signed negative k)) None) value ∙ ap (λ b. cond b (Some (signed negative m)) None) less
+
+-- each whole number that a NODATA may be
+pub whole_again_wide : (n : ℤ) → unsigned_abs n < 10 ^ 20 → whole_of (signed_decimal n) ≡ Some n
+whole_again_wide (pos n) small = whole_from (decimal n) n false small (whole_positive n small)
+whole_again_wide (negsuc n) small = whole_from (45 ∷ decimal (suc n)) (suc n) true small (whole_negative (suc n) small)

@@ -1,0 +1,3 @@
+pub mod Reread
+pub mod Spelled
+pub mod Texts

@@ -1,0 +1,187 @@
+-- The one text that is written of a document.
+use Rattle.std.specs.Prelude.{◌≡◌, ℕ, ℤ, pos, suc, ◌*◌, ◌*ℤ◌, ◌-ℤ◌, ◌==◌, Bool, List, [], ◌∷◌, ◌++◌, flat_map, replicate, codes, Option, Some, None, if◌then◌else◌, unsigned_abs}
+use Rattle.std.specs.Fmt.{decimal, signed_decimal}
+use Rattle.geotransform.specs.Print.{short_text}
+use Rattle.geotransform.specs.Geo.{Transform}
+use Rattle.geotransform.specs.Types.{name_of}
+use Rattle.geotransform.specs.declared.types.PixelType.{PixelType}
+use Rattle.geotransform.specs.declared.types.Size.{Size}
+use Rattle.vrt_markup.specs.Items.{Pair}
+use Rattle.vrt_profile.specs.Values.{trillion, Rectangle, SourceValue, BandValue, DocumentValue}
+use Rattle.vrt_profile.specs.declared.rectangle.LutPair.{LutPair}
+
+-- Elements one after another: one that holds a text, as it stands there; an empty one; one that holds others. Each with
+-- its name and its attributes.
+pub data Markup : Type 0 where
+  nothing : Markup
+  both : Markup → Markup → Markup
+  words : List ℕ → List Pair → List ℕ → Markup
+  empty : List ℕ → List Pair → Markup
+  group : List ℕ → List Pair → Markup → Markup
+
+-- the five special characters are written as entities
+abbrev pub escape : ℕ → List ℕ
+escape c =
+    if c == 38 then codes "&amp;" else (
+    if c == 60 then codes "&lt;" else (
+    if c == 62 then codes "&gt;" else (
+    if c == 34 then codes "&quot;" else (
+    if c == 39 then codes "&apos;" else c ∷ []))))
+
+abbrev pub escaped : List ℕ → List ℕ
+escaped text = flat_map escape text
+
+-- Two spaces stand in front for each level.
+abbrev pub indent : ℕ → List ℕ
+indent level = replicate (2 * level) 32
+
+abbrev pub pair_text : Pair → List ℕ
+pair_text p = 32 ∷ (p.name ++ (codes "=\"" ++ (p.value ++ 34 ∷ [])))
+
+-- a start tag or an empty tag without its end
+abbrev pub tag_text : ℕ → List ℕ → List Pair → List ℕ
+tag_text level name pairs = indent level ++ (60 ∷ name ++ flat_map pair_text pairs)
+
+-- an end tag, and the end of its line
+abbrev pub end_text : List ℕ → List ℕ
+end_text name = codes "</" ++ (name ++ codes ">\n")
+
+abbrev pub written : ℕ → Markup → List ℕ
+written level nothing = []
+written level (both a b) = written level a ++ written level b
+written level (words name pairs text) = tag_text level name pairs ++ (62 ∷ text ++ end_text name)
+written level (empty name pairs) = tag_text level name pairs ++ codes "/>\n"
+written level (group name pairs inside) = tag_text level name pairs ++ (codes ">\n" ++ (written (suc level) inside ++ (indent level ++ end_text name)))
+
+-- Numbers have no trailing zeros. A millionth is 180,000,000,000 ticks, a part of 10^12 is 180,000.
+unfoldable pub micro_text : ℤ → List ℕ
+micro_text v = short_text (v *ℤ pos 180000000000)
+
+unfoldable pub part_text : ℤ → List ℕ
+part_text v = short_text (v *ℤ pos 180000)
+
+-- a lookup table: its pairs, joined by commas
+abbrev pub lut_pair_text : LutPair → List ℕ
+lut_pair_text p = micro_text p.input ++ 58 ∷ micro_text p.output
+
+unfoldable pub next_pair_text : LutPair → List ℕ
+next_pair_text p = 44 ∷ lut_pair_text p
+
+abbrev pub lut_text : List LutPair → List ℕ
+lut_text [] = []
+lut_text (p ∷ ps) = lut_pair_text p ++ flat_map next_pair_text ps
+
+abbrev pub pair : List ℕ → List ℕ → Pair
+pair name value = record { name = name; value = value }
+
+-- the parts of a source
+abbrev pub flag_text : Bool → List ℕ
+flag_text relative = if relative then codes "1" else codes "0"
+
+abbrev pub file_markup : Bool → List ℕ → Markup
+file_markup relative file = words (codes "SourceFilename") (pair (codes "relativeToVRT") (flag_text relative) ∷ []) (escaped file)
+
+abbrev pub source_band_markup : ℕ → Markup
+source_band_markup n = words (codes "SourceBand") [] (decimal n)
+
+abbrev pub rectangle_pairs : Rectangle → List Pair
+rectangle_pairs r = pair (codes "xOff") (micro_text r.x) ∷ pair (codes "yOff") (micro_text r.y) ∷ pair (codes "xSize") (micro_text r.w) ∷ pair (codes "ySize") (micro_text r.h) ∷ []
+
+abbrev pub rectangle_markup : List ℕ → Option Rectangle → Markup
+rectangle_markup name None = nothing
+rectangle_markup name (Some r) = empty name (rectangle_pairs r)
+
+abbrev pub nodata_markup : List ℕ → Option ℤ → Markup
+nodata_markup name None = nothing
+nodata_markup name (Some n) = words name [] (signed_decimal n)
+
+-- a number of a scaling has no line where it is the one that changes nothing
+abbrev pub scale_markup : List ℕ → ℤ → ℤ → Markup
+scale_markup name usual v = if unsigned_abs (v -ℤ usual) == 0 then nothing else words name [] (part_text v)
+
+abbrev pub lut_markup : Option (List LutPair) → Markup
+lut_markup None = nothing
+lut_markup (Some pairs) = words (codes "LUT") [] (lut_text pairs)
+
+-- what is taken of the source's file, and what becomes of its pixels
+abbrev pub place_markup : SourceValue → Markup
+place_markup s = both (file_markup s.relative s.file) (both (source_band_markup s.band) (both (rectangle_markup (codes "SrcRect") s.src) (rectangle_markup (codes "DstRect") s.dst)))
+
+abbrev pub scaling_markup : SourceValue → Markup
+scaling_markup s = both (nodata_markup (codes "NODATA") s.nodata) (both (scale_markup (codes "ScaleOffset") (pos 0) s.offset) (both (scale_markup (codes "ScaleRatio") (pos trillion) s.ratio) (lut_markup s.lut)))
+
+abbrev pub source_name : Bool → List ℕ
+source_name complex = if complex then codes "ComplexSource" else codes "SimpleSource"
+
+abbrev pub source_markup : SourceValue → Markup
+source_markup s = group (source_name s.complex) [] (both (place_markup s) (scaling_markup s))
+
+abbrev pub sources_markup : List SourceValue → Markup
+sources_markup [] = nothing
+sources_markup (s ∷ ss) = both (source_markup s) (sources_markup ss)
+
+-- the bands, the first of which has this number
+abbrev pub band_pairs : ℕ → PixelType → List Pair
+band_pairs number kind = pair (codes "dataType") (name_of kind) ∷ pair (codes "band") (decimal number) ∷ []
+
+abbrev pub band_markup : ℕ → BandValue → Markup
+band_markup number b = group (codes "VRTRasterBand") (band_pairs number b.kind) (both (nodata_markup (codes "NoDataValue") b.nodata) (sources_markup b.sources))
+
+abbrev pub bands_markup : ℕ → List BandValue → Markup
+bands_markup number [] = nothing
+bands_markup number (b ∷ bs) = both (band_markup number b) (bands_markup (suc number) bs)
+
+-- the parts of the dataset
+abbrev pub srs_markup : Option (List ℕ) → Markup
+srs_markup None = nothing
+srs_markup (Some text) = words (codes "SRS") [] (escaped text)
+
+unfoldable pub joined_text : ℤ → List ℕ → ℤ → List ℕ
+joined_text a between b = short_text a ++ (between ++ short_text b)
+
+abbrev pub geo_text : Transform → List ℕ
+geo_text g = joined_text g.ox (codes ", ") g.dx ++ (codes ", 0, " ++ joined_text g.oy (codes ", 0, ") g.dy)
+
+abbrev pub geo_markup : Option Transform → Markup
+geo_markup None = nothing
+geo_markup (Some g) = words (codes "GeoTransform") [] (geo_text g)
+
+abbrev pub size_pairs : Size → List Pair
+size_pairs s = pair (codes "rasterXSize") (decimal s.w) ∷ pair (codes "rasterYSize") (decimal s.h) ∷ []
+
+abbrev pub parts_markup : DocumentValue → Markup
+parts_markup d = both (srs_markup d.srs) (both (geo_markup d.geo) (bands_markup 1 d.bands))
+
+abbrev pub dataset_markup : DocumentValue → Markup
+dataset_markup d = group (codes "VRTDataset") (size_pairs d.size) (parts_markup d)
+
+-- the text of a document
+unfoldable pub spelled : DocumentValue → List ℕ
+spelled d = written 0 (dataset_markup d)
+
+-- the new bytes are the old ones and this markup
+pub record Appends (old new : List ℕ) (level : ℕ) (markup : Markup) : Type 0 where
+  pub is : new ≡ old ++ written level markup
+
+-- the same of attributes
+pub record AppendsPairs (old new : List ℕ) (pairs : List Pair) : Type 0 where
+  pub is : new ≡ old ++ flat_map pair_text pairs
+
+-- the same of what stands before a file's name
+pub record FileOpens (old new : List ℕ) (relative : Bool) : Type 0 where
+  pub is : new ≡ old ++ (tag_text 3 (codes "SourceFilename") (pair (codes "relativeToVRT") (flag_text relative) ∷ []) ++ 62 ∷ [])
+
+-- the same of a start line
+pub record AppendsTag (old new : List ℕ) (level : ℕ) (name : List ℕ) (pairs : List Pair) : Type 0 where
+  pub is : new ≡ old ++ (tag_text level name pairs ++ codes ">\n")
+
+-- the text of one source and of one band, where all are written one after another
+unfoldable pub source_text : SourceValue → List ℕ
+source_text s = written 2 (source_markup s)
+
+unfoldable pub band_text : ℕ → BandValue → List ℕ
+band_text number b = written 1 (band_markup number b)
+
+abbrev pub bands_text : ℕ → List BandValue → List ℕ
+bands_text number [] = []
+bands_text number (b ∷ bs) = band_text number b ++ bands_text (suc number) bs
