@@ -1,5 +1,5 @@
 -- What structs of the code are for the definitions.
-use Rattle.std.specs.Prelude.{◌≡◌, ℕ, Bool, true, Option, Some, None, List, ◌<◌, length, Result, Ok, Err}
+use Rattle.std.specs.Prelude.{◌≡◌, ℕ, Option, List, ◌<◌, length, Result, Ok, Err}
 use Rattle.vrt_markup.specs.declared.text.Words.{Words}
 use Rattle.vrt_markup.specs.declared.fault.VrtFault.{VrtFault}
 use Rattle.vrt_markup.specs.Forest.{Read}

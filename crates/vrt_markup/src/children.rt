@@ -79,6 +79,7 @@ fn next_child<'a, P: Parts>(
 }
 
 // What the elements in an element of this name make of its parts, behind its start tag.
+#[tactic(auto, using(crate::proofs::Reading::seen_close))]
 fn child_nodes<'a, P: Parts>(
     alloc: Global,
     level: Level,
