@@ -13,6 +13,7 @@ use std::alloc::Global;
 use vrt_markup::{Level, Parts, Seen, Tag, VrtFault, attribute, children_of, past_element};
 
 // An element that has attributes alone: each element in it is a fault.
+#[derive(Drop)]
 struct Bare;
 
 impl Parts for Bare {

@@ -4,7 +4,7 @@ use Rattle.vrt_markup.specs.Kept.{worded}
 use Rattle.vrt_markup.specs.Views.{tag_view, text_view}
 use Rattle.vrt_markup.proofs.Reading.{read_then}
 use Rattle.vrt_profile.specs.Means.{BandParts, with_no_data_value, nodata_by}
-use Rattle.vrt_profile.proofs.Puts.{once_put}
+use Rattle.vrt_profile.proofs.Once.{once_put}
 use Rattle.vrt_profile.proofs.band.BandParts.nodata_child.Goals as goal
 
 pub returns-in-Ok-clause-child : goal.returns-in-Ok-clause-child

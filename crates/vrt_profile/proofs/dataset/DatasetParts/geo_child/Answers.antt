@@ -5,7 +5,7 @@ use Rattle.vrt_markup.specs.Views.{tag_view, text_view}
 use Rattle.vrt_markup.proofs.Reading.{read_then}
 use Rattle.vrt_profile.specs.Means.{DatasetParts, with_geo, geo_by}
 use Rattle.vrt_profile.specs.Values.{IsDecimal}
-use Rattle.vrt_profile.proofs.Puts.{once_put, put_keeps}
+use Rattle.vrt_profile.proofs.Once.{once_put, put_keeps}
 use Rattle.vrt_profile.proofs.dataset.DatasetParts.geo_child.Goals as goal
 
 pub invariant_of-self : goal.invariant_of-self

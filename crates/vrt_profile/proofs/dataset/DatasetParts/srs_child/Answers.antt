@@ -4,7 +4,7 @@ use Rattle.vrt_markup.specs.Kept.{worded}
 use Rattle.vrt_markup.specs.Views.{tag_view, text_view}
 use Rattle.vrt_markup.proofs.Reading.{read_then, ok_value}
 use Rattle.vrt_profile.specs.Means.{DatasetParts, with_srs, srs_by}
-use Rattle.vrt_profile.proofs.Puts.{once_put, put_keeps}
+use Rattle.vrt_profile.proofs.Once.{once_put, put_keeps}
 use Rattle.vrt_profile.proofs.dataset.DatasetParts.srs_child.Goals as goal
 
 pub invariant_of-self : goal.invariant_of-self

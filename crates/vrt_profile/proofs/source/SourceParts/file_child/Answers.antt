@@ -4,7 +4,7 @@ use Rattle.vrt_markup.specs.Views.{tag_view}
 use Rattle.vrt_markup.proofs.Reading.{read_then}
 use Rattle.vrt_profile.specs.Means.{with_file, file_of}
 use Rattle.vrt_profile.specs.SourceViews.{source_view}
-use Rattle.vrt_profile.proofs.Puts.{once_put}
+use Rattle.vrt_profile.proofs.Once.{once_put}
 use Rattle.vrt_profile.proofs.source.SourceParts.file_child.Goals as goal
 
 pub returns-in-Ok-clause-child : goal.returns-in-Ok-clause-child
