@@ -139,7 +139,8 @@ impl Parts for BandParts {
             BandPart::Complex => self.source_child(alloc, level, true, tag, bytes),
             BandPart::Past => past_child(alloc, level, Ok(()), tag, bytes),
             BandPart::Unknown => {
-                past_child(alloc, level, Err(VrtFault::UnknownElement(place)), tag, bytes)
+                let unknown = Err(VrtFault::UnknownElement(place));
+                past_child(alloc, level, unknown, tag, bytes)
             }
         }
     }

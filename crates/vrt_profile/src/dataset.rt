@@ -191,7 +191,8 @@ impl Parts for DatasetParts {
             DatasetPart::Band => self.band_child(alloc, level, tag, bytes),
             DatasetPart::Past => past_child(alloc, level, Ok(()), tag, bytes),
             DatasetPart::Unknown => {
-                past_child(alloc, level, Err(VrtFault::UnknownElement(place)), tag, bytes)
+                let unknown = Err(VrtFault::UnknownElement(place));
+                past_child(alloc, level, unknown, tag, bytes)
             }
         }
     }

@@ -263,7 +263,8 @@ impl Parts for SourceParts {
             SourcePart::Number(part) => self.number_child(alloc, level, part, tag, bytes),
             SourcePart::Past => past_child(alloc, level, Ok(()), tag, bytes),
             SourcePart::Unknown => {
-                past_child(alloc, level, Err(VrtFault::UnknownElement(place)), tag, bytes)
+                let unknown = Err(VrtFault::UnknownElement(place));
+                past_child(alloc, level, unknown, tag, bytes)
             }
         }
     }
@@ -383,12 +384,7 @@ fn source_end(complex: bool, parts: SourceParts) -> Result<Source, VrtFault>
     }
 }
 
-fn source_by(
-    complex: bool,
-    near: bool,
-    seen: Seen,
-    parts: SourceParts,
-) -> Result<Source, VrtFault>
+fn source_by(complex: bool, near: bool, seen: Seen, parts: SourceParts) -> Result<Source, VrtFault>
     ensures source { result ≡ source_by complex near seen.blank (kept_of (source_view parts) seen.kept) }
 {
     if !(near && seen.blank) {
