@@ -8,5 +8,6 @@ pub mod NumberViews
 pub mod Numbers
 pub mod Parts
 pub mod Resolve
+pub mod SourceViews
 pub mod Value
 pub mod Values
