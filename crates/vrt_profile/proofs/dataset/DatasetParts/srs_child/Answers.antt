@@ -1,4 +1,4 @@
-use Rattle.std.proofs.Common.{ap, ◌∙◌, Ok, [], None, IsUtf8, refl}
+use Rattle.std.proofs.Common.{ap, ◌∙◌, Ok, [], None, IsUtf8}
 use Rattle.vrt_markup.specs.Forest.{inner}
 use Rattle.vrt_markup.specs.Kept.{worded}
 use Rattle.vrt_markup.specs.Views.{tag_view, text_view}
