@@ -1,5 +1,5 @@
 // Elements that hold elements alone: what their children make of them, one after the other.
-ghost use Rattle.std.specs.Prelude.{◌≡◌, ℕ, ◌<◌, ◌≤◌, ◌-◌, length, IfOk, List, Result, Ok, true};
+ghost use Rattle.std.specs.Prelude.{◌≡◌, ℕ, ◌<◌, ◌≤◌, ◌-◌, length, IfOk, Result, Ok, true};
 ghost use Rattle.vrt_markup.specs.Items as items;
 ghost use Rattle.vrt_markup.specs.Forest.{Forest, nodes, inner, read_as};
 ghost use Rattle.vrt_markup.specs.Views.{tag_view};

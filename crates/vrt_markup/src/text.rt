@@ -1,7 +1,7 @@
 // The text directly in an element, and elements that hold text alone.
-ghost use Rattle.std.specs.Prelude.{◌≡◌, ℕ, ◌<◌, ◌≤◌, ◌-◌, ◌++◌, [], length, IfOk, OnOk, List, Result, Ok, Option, None, Some, true};
+ghost use Rattle.std.specs.Prelude.{◌≡◌, ◌<◌, ◌≤◌, ◌-◌, ◌++◌, [], length, IfOk, OnOk, Result, Ok, Option, None, Some};
 ghost use Rattle.vrt_markup.specs.Items.{is_white};
-ghost use Rattle.vrt_markup.specs.Forest.{nodes, inner, is_blank, plain_at, decoded, read_as, text_of, child_of};
+ghost use Rattle.vrt_markup.specs.Forest.{nodes, inner, is_blank, plain_at, decoded, read_as};
 ghost use Rattle.vrt_markup.specs.Views.{tag_view, text_view};
 ghost use Rattle.vrt_markup.specs.Kept.{Gives, worded, first_child};
 

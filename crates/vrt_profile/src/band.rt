@@ -1,12 +1,12 @@
 // Bands of a dataset.
-ghost use Rattle.std.specs.Prelude.{◌≡◌, ℕ, ℤ, ◌<◌, ◌≤◌, ◌-◌, ◌+◌, [], length, IfOk, IfSome, List, Result, Ok, Err, Option, None, Some, true, false};
+ghost use Rattle.std.specs.Prelude.{◌≡◌, ◌<◌, ◌≤◌, ◌-◌, length, IfOk, IfSome, Result, Ok, Err, Option, None, Some, true, false};
 ghost use Rattle.std.specs.Option.{option_map};
 ghost use Rattle.geotransform.specs.Types.{is_in};
-ghost use Rattle.vrt_markup.specs.Forest.{nodes, inner, read_as, over, text_of, child_of};
+ghost use Rattle.vrt_markup.specs.Forest.{inner, read_as, text_of, child_of};
 ghost use Rattle.vrt_profile.specs.Means as means;
-ghost use Rattle.vrt_profile.specs.Means.{nodata_by, no_band_parts, with_no_data_value, with_source, band_parts, band_step, kind_in, is_number, is_placed, is_sourced, nodata_of, value_in, band_end, band_by, band_of, source_of};
-ghost use Rattle.vrt_markup.specs.Views.{tag_view, text_view};
-ghost use Rattle.vrt_markup.specs.Kept.{Gives, seen, worded, kept_of};
+ghost use Rattle.vrt_profile.specs.Means.{nodata_by, no_band_parts, with_no_data_value, with_source, band_step, kind_in, is_number, is_placed, is_sourced, nodata_of, value_in, band_end, band_by, band_of, source_of};
+ghost use Rattle.vrt_markup.specs.Views.{tag_view};
+ghost use Rattle.vrt_markup.specs.Kept.{Gives, seen, kept_of};
 
 use crate::document::{Source, Sources, VrtBand};
 use crate::fields::whole_text;

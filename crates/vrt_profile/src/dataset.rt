@@ -1,13 +1,13 @@
 // The dataset, which is the root of a document.
-ghost use Rattle.std.specs.Prelude.{◌≡◌, ℕ, suc, ◌<◌, ◌≤◌, ◌-◌, ◌+◌, [], length, IfOk, List, Result, Ok, Err, Option, None, Some, true};
+ghost use Rattle.std.specs.Prelude.{◌≡◌, suc, ◌<◌, ◌≤◌, ◌-◌, ◌+◌, length, IfOk, Result, Ok, Err, Option, None, Some, true};
 ghost use Rattle.std.specs.Option.{option_map};
 ghost use Rattle.vrt_markup.specs.Items.{is_some};
 ghost use Rattle.vrt_profile.specs.Values.{IsDecimal};
-ghost use Rattle.vrt_markup.specs.Forest.{nodes, inner, read_as, over, text_of, child_of};
+ghost use Rattle.vrt_markup.specs.Forest.{inner, read_as, text_of, child_of};
 ghost use Rattle.vrt_profile.specs.Means as means;
-ghost use Rattle.vrt_profile.specs.Means.{no_dataset_parts, with_srs, with_geo, with_raster_band, srs_by, geo_by, dataset_parts, dataset_step, dataset_end, dataset_by, dataset_of, root_of, band_of};
-ghost use Rattle.vrt_markup.specs.Views.{tag_view, text_view};
-ghost use Rattle.vrt_markup.specs.Kept.{Gives, seen, worded, kept_of};
+ghost use Rattle.vrt_profile.specs.Means.{no_dataset_parts, with_srs, with_geo, with_raster_band, srs_by, geo_by, dataset_step, dataset_end, dataset_by, dataset_of, root_of, band_of};
+ghost use Rattle.vrt_markup.specs.Views.{tag_view};
+ghost use Rattle.vrt_markup.specs.Kept.{Gives, seen, kept_of};
 
 use crate::band::band_element;
 use crate::document::{Document, VrtBand, VrtBands};

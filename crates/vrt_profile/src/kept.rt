@@ -1,5 +1,5 @@
 // Texts that a document keeps.
-ghost use Rattle.std.specs.Prelude.{◌≡◌, Ok, List, Result, IfOk, IsUtf8};
+ghost use Rattle.std.specs.Prelude.{Ok, Result, IfOk, IsUtf8};
 ghost use Rattle.vrt_profile.specs.Means.{kept_text, judged};
 ghost use Rattle.vrt_markup.specs.Kept.{Gives};
 

@@ -1,5 +1,5 @@
 // Rectangles: SrcRect and DstRect.
-ghost use Rattle.std.specs.Prelude.{◌≡◌, ◌<◌, ◌≤◌, ◌<ℤ◌, pos, length, IfOk, List, Option, Some, Bool, true};
+ghost use Rattle.std.specs.Prelude.{◌≡◌, ◌<◌, ◌≤◌, ◌<ℤ◌, pos, length, IfOk, Option, Some, Bool, true};
 ghost use Rattle.vrt_profile.specs.Values.{IsOffset};
 ghost use Rattle.vrt_markup.specs.Forest.{inner, read_as};
 ghost use Rattle.vrt_profile.specs.Means.{once, rect_end, rect_by, rect_of};
