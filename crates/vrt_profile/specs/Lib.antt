@@ -12,3 +12,4 @@ pub mod Built
 pub mod Fronts
 pub mod NumberViews
 pub mod Parts
+pub mod SourceViews

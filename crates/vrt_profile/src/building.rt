@@ -8,6 +8,7 @@ ghost use Rattle.vrt_profile.specs.Resolve.{related};
 ghost use Rattle.vrt_profile.specs.Built.{pixels_at, IsPixelOffset, IsPixelSide, plain_source};
 
 use crate::document::{Document, Source, Sources, VrtBand, VrtBands};
+use crate::kept::text_rules;
 use crate::rectangle::MicroRect;
 use crate::source_names::relate;
 use geotransform::{GeoTransform, PixelType, Sample, Size};
@@ -52,13 +53,6 @@ pub fn whole_rect(size: Size) -> MicroRect
     ensures rect { result ≡ whole size }
 {
     pixel_rect(0, 0, size.w as i128, size.h as i128)
-}
-
-// The rule that each text keeps.
-fn text_rules(text: &Text)
-    ensures utf8 { IsUtf8 text.now }
-{
-    let _text = text.as_str();
 }
 
 // The rules that each rectangle keeps.

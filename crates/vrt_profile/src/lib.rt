@@ -11,6 +11,7 @@ mod kept;
 mod lookup;
 mod numbers;
 mod parts;
+mod puts;
 mod reader;
 mod rect;
 pub mod rectangle;

@@ -1,4 +1,4 @@
-use Rattle.std.proofs.Common.{◌≡◌, ◌∙◌, ap}
+use Rattle.std.proofs.Common.{◌∙◌, ap}
 use Rattle.vrt_profile.specs.Means.{scaling_part}
 use Rattle.vrt_profile.proofs.parts.source_part_of.Goals as goal
 
