@@ -8,6 +8,7 @@ pub mod NumberViews
 pub mod Numbers
 pub mod Parts
 pub mod Resolve
+pub mod Scaling
 pub mod SourceViews
 pub mod Value
 pub mod Values
