@@ -3,6 +3,7 @@ pub mod Values
 pub mod Numbers
 pub mod Fields
 pub mod Means
+pub mod Scaling
 pub mod Document
 pub mod Resolve
 pub mod Cover

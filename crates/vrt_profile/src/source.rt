@@ -8,6 +8,7 @@ ghost use Rattle.vrt_profile.specs.Values.{IsRectangle, IsLut};
 ghost use Rattle.vrt_markup.specs.Views.{tag_view};
 ghost use Rattle.vrt_markup.specs.Kept.{Gives, seen, kept_of};
 ghost use Rattle.vrt_profile.specs.SourceViews.{source_view, no_source};
+ghost use Rattle.vrt_profile.specs.Scaling.{IsScaling, no_scaling, scaling_of};
 
 use crate::document::Source;
 use crate::fields::trim;
@@ -18,8 +19,9 @@ use crate::parts::{NumberPart, SourcePart, source_part_of};
 use crate::puts::{past_child, put_once};
 use crate::rect::rect_child;
 use crate::rectangle::{Lut, MicroRect};
+use crate::scaling::{Scaling, ScalingParts};
 use outside::Text;
-use std::alloc::Global;
+use std::alloc::{AllocError, Global};
 use std::marker::Model;
 use vrt_markup::{
     Level, Parts, Seen, Tag, VrtFault, Words, attribute, children_of, is_equal, text_element,
@@ -346,9 +348,35 @@ fn lut_or(complex: bool, lut: Option<Lut>) -> Option<Lut>
     }
 }
 
+// What the source makes of its pixels: what stands in a ComplexSource.
+fn scaling_of(
+    alloc: Global,
+    complex: bool,
+    nodata: Option<Option<NoData>>,
+    offset: Option<Scale>,
+    ratio: Option<Scale>,
+    lut: Option<Lut>,
+) -> Result<Scaling, AllocError>
+    ensures scaling { IfOk result (λ s. s ≡ scaling_of complex nodata offset ratio lut) }
+    ensures rules { IfOk result IsScaling }
+    ensures simple { complex ≡ false → IfOk result (λ s. s ≡ no_scaling) }
+{
+    let parts = ScalingParts {
+        nodata: nodata_or(complex, nodata),
+        offset: scale_or(complex, offset, 0),
+        ratio: scale_or(complex, ratio, 1_000_000_000_000),
+        lut: lut_or(complex, lut),
+    };
+    Scaling::of(alloc, parts)
+}
+
 // The source that the parts give, where they have a file.
-fn source_end(complex: bool, parts: SourceParts) -> Result<Source, VrtFault>
-    ensures source { result ≡ source_end complex (source_view parts) }
+fn source_end(
+    alloc: Global,
+    complex: bool,
+    parts: SourceParts,
+) -> Result<Result<Source, VrtFault>, VrtFault>
+    ensures source { Gives (λ x. x) result (Ok (source_end complex (source_view parts))) }
 {
     let SourceParts {
         complex: _,
@@ -361,38 +389,42 @@ fn source_end(complex: bool, parts: SourceParts) -> Result<Source, VrtFault>
         ratio,
         lut,
     } = parts;
-    match file {
-        None => Err(VrtFault::MissingPart),
-        Some(File { relative, name }) => {
-            if name.as_str().is_empty() {
-                return Err(VrtFault::MissingPart);
-            }
-            text_rules(&name);
-            Ok(Source {
-                complex,
-                relative,
-                file: name,
-                band: band_or_one(band),
-                src: ruled(src),
-                dst: ruled(dst),
-                nodata: nodata_or(complex, nodata),
-                offset: scale_or(complex, offset, 0),
-                ratio: scale_or(complex, ratio, 1_000_000_000_000),
-                lut: lut_or(complex, lut),
-            })
-        }
+    let Some(File { relative, name }) = file else {
+        return Ok(Err(VrtFault::MissingPart));
+    };
+    if name.as_str().is_empty() {
+        return Ok(Err(VrtFault::MissingPart));
+    }
+    text_rules(&name);
+    match scaling_of(alloc, complex, nodata, offset, ratio, lut) {
+        Ok(scaling) => Ok(Ok(Source {
+            complex,
+            relative,
+            file: name,
+            band: band_or_one(band),
+            src: ruled(src),
+            dst: ruled(dst),
+            scaling,
+        })),
+        Err(_) => Err(VrtFault::Memory),
     }
 }
 
-fn source_by(complex: bool, near: bool, seen: Seen, parts: SourceParts) -> Result<Source, VrtFault>
-    ensures source { result ≡ source_by complex near seen.blank (kept_of (source_view parts) seen.kept) }
+fn source_by(
+    alloc: Global,
+    complex: bool,
+    near: bool,
+    seen: Seen,
+    parts: SourceParts,
+) -> Result<Result<Source, VrtFault>, VrtFault>
+    ensures source { Gives (λ x. x) result (Ok (source_by complex near seen.blank (kept_of (source_view parts) seen.kept))) }
 {
     if !(near && seen.blank) {
-        return Err(VrtFault::Unsupported);
+        return Ok(Err(VrtFault::Unsupported));
     }
     match seen.kept {
-        Ok(()) => source_end(complex, parts),
-        Err(fault) => Err(fault),
+        Ok(()) => source_end(alloc, complex, parts),
+        Err(fault) => Ok(Err(fault)),
     }
 }
 
@@ -412,7 +444,10 @@ pub fn source_element<'a>(
     let near = is_near(attribute(tag.attributes, b"resampling"));
     let mut parts = no_parts(complex);
     match children_of(alloc, level, tag, &mut parts, bytes) {
-        Ok((seen, rest)) => Ok((source_by(complex, near, seen, parts), rest)),
+        Ok((seen, rest)) => match source_by(alloc, complex, near, seen, parts) {
+            Ok(source) => Ok((source, rest)),
+            Err(error) => Err(error),
+        },
         Err(error) => Err(error),
     }
 }
