@@ -21,9 +21,9 @@ pub struct Source {
     pub complex: bool,
     /// Whether the file's text is relative to the document.
     pub relative: bool,
-    pub file: Text,
     /// The band of the file, counted from 1.
     pub band: u32,
+    pub file: Text,
     /// The part of the source; the whole of it where there is none.
     pub src: Option<MicroRect>,
     /// The part of the mosaic; the whole of it where there is none.
