@@ -1,6 +1,7 @@
 // Workers of a translation that read beside each other, and any number of them.
+use crate::ends::{Failer, Output, Turn, Work, first_unmet};
 use crate::stories::{has, has_all, says_all};
-use crate::trials::{FileOf, Row, folder_of, says_in};
+use crate::trials::{FileOf, Row, folder_of, joined, none_wrong, says_in};
 use outside::MemFolder;
 use outside_fakes::Gate;
 use std::alloc::Global;
@@ -59,6 +60,58 @@ fn is_copied<R: Threads + Sync + Abort>(rt: &R, alloc: Global) -> bool {
 #[test]
 fn two_workers_read_beside_each_other(rt: HostRuntime) {
     assert!(rt; is_copied(&rt, rt.alloc()));
+}
+
+// Few lines that are so long that each of two workers reads two of each strip's four through a view of the folder, and
+// those of the second strip while the first ones are written.
+const LONG: &[u8] = b"NROWS 8\nNCOLS 1048576\n";
+
+const LONG_TIMES: usize = 32_768;
+
+const LONG_MADE: &[u8] = b"BYTEORDER      I
+LAYOUT         BIL
+NROWS          8
+NCOLS          1048576
+NBANDS         1
+NBITS          8
+SKIPBYTES      0
+BANDROWBYTES   1048576
+TOTALROWBYTES  1048576
+BANDGAPBYTES   0
+PIXELTYPE      UNSIGNEDINT
+";
+
+// The folder makes at least these calls: it opens and reads the header and opens the data, makes and publishes two
+// files, and writes eight lines.
+static LONG_TURN: [Turn; 1] = [(0, Failer::Folder, (15, 64))];
+
+// The first work of which a call's failing isn't met.
+fn first_unmet_long<R: Threads + Sync + Abort>(rt: &R, alloc: Global) -> Option<usize> {
+    let bytes = joined(rt, alloc, &[(samples(), LONG_TIMES)]);
+    let bytes = bytes.as_slice();
+    let files: [FileOf<'_>; 4] = [
+        ("long.bil", bytes),
+        ("long.hdr", LONG),
+        ("out.bil", b"old data"),
+        ("out.hdr", b"old header"),
+    ];
+    let outputs: [Output<'_>; 2] = [
+        ("out.bil", b"old data", bytes),
+        ("out.hdr", b"old header", LONG_MADE),
+    ];
+    let works: [Work<'_>; 1] = [Work {
+        line: "gdal_translate -q --workers 2 long.bil out.bil",
+        text: "",
+        told: "",
+        outputs: &outputs,
+    }];
+    first_unmet(rt, alloc, &files, &works, &LONG_TURN)
+}
+
+// Each call of the folder fails in turn while two workers read long lines.
+#[test]
+fn each_failing_call_of_two_workers(rt: HostRuntime) {
+    none_wrong(&rt, first_unmet_long(&rt, rt.alloc()));
 }
 
 // The lines by many workers, of which each has few, and the same through the mosaics.
