@@ -62,15 +62,15 @@ fn two_workers_read_beside_each_other(rt: HostRuntime) {
     assert!(rt; is_copied(&rt, rt.alloc()));
 }
 
-// Few lines that are so long that each of two workers reads two of each strip's four through a view of the folder, and
-// those of the second strip while the first ones are written.
-const LONG: &[u8] = b"NROWS 8\nNCOLS 1048576\n";
+// Few lines that are so long that a strip has four of them, of which each of two workers reads two through a view of the
+// folder, and that the fifth is read while the four are written.
+const LONG: &[u8] = b"NROWS 5\nNCOLS 1048576\n";
 
-const LONG_TIMES: usize = 32_768;
+const LONG_TIMES: usize = 20_480;
 
 const LONG_MADE: &[u8] = b"BYTEORDER      I
 LAYOUT         BIL
-NROWS          8
+NROWS          5
 NCOLS          1048576
 NBANDS         1
 NBITS          8
@@ -82,8 +82,8 @@ PIXELTYPE      UNSIGNEDINT
 ";
 
 // The folder makes at least these calls: it opens and reads the header and opens the data, makes and publishes two
-// files, and writes eight lines.
-static LONG_TURN: [Turn; 1] = [(0, Failer::Folder, (15, 64))];
+// files, and writes five lines.
+static LONG_TURN: [Turn; 1] = [(0, Failer::Folder, (12, 64))];
 
 // The first work of which a call's failing isn't met.
 fn first_unmet_long<R: Threads + Sync + Abort>(rt: &R, alloc: Global) -> Option<usize> {
