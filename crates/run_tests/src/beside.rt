@@ -81,9 +81,9 @@ BANDGAPBYTES   0
 PIXELTYPE      UNSIGNEDINT
 ";
 
-// The folder makes at least these calls: it opens and reads the header and opens the data, makes and publishes two
-// files, and writes five lines.
-static LONG_TURN: [Turn; 1] = [(0, Failer::Folder, (12, 64))];
+// A line is read and written in pieces of 65,536 bytes, of which it has sixteen: so the folder makes at least the
+// hundred and twelve calls of five lines that are written and of two that a worker reads.
+static LONG_TURN: [Turn; 1] = [(0, Failer::Folder, (112, 256))];
 
 // The first work of which a call's failing isn't met.
 fn first_unmet_long<R: Threads + Sync + Abort>(rt: &R, alloc: Global) -> Option<usize> {
