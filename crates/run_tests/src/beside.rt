@@ -62,28 +62,27 @@ fn two_workers_read_beside_each_other(rt: HostRuntime) {
     assert!(rt; is_copied(&rt, rt.alloc()));
 }
 
-// Few lines that are so long that a strip has four of them, of which each of two workers reads two through a view of the
-// folder, and that the fifth is read while the four are written.
-const LONG: &[u8] = b"NROWS 5\nNCOLS 1048576\n";
+// Lines of which a strip of sixty-four has two million samples, so that the last line is read while those before it are
+// written, each by two workers through views of the folder.
+const LONG: &[u8] = b"NROWS 65\nNCOLS 32768\n";
 
-const LONG_TIMES: usize = 20_480;
+const LONG_TIMES: usize = 8_320;
 
 const LONG_MADE: &[u8] = b"BYTEORDER      I
 LAYOUT         BIL
-NROWS          5
-NCOLS          1048576
+NROWS          65
+NCOLS          32768
 NBANDS         1
 NBITS          8
 SKIPBYTES      0
-BANDROWBYTES   1048576
-TOTALROWBYTES  1048576
+BANDROWBYTES   32768
+TOTALROWBYTES  32768
 BANDGAPBYTES   0
 PIXELTYPE      UNSIGNEDINT
 ";
 
-// A line is read and written in pieces of 65,536 bytes, of which it has sixteen: so the folder makes at least the
-// hundred and twelve calls of five lines that are written and of two that a worker reads.
-static LONG_TURN: [Turn; 1] = [(0, Failer::Folder, (112, 256))];
+// Each line is written, and of the sixty-four of a strip a worker reads thirty-two or more.
+static LONG_TURN: [Turn; 1] = [(0, Failer::Folder, (97, 256))];
 
 // The first work of which a call's failing isn't met.
 fn first_unmet_long<R: Threads + Sync + Abort>(rt: &R, alloc: Global) -> Option<usize> {
