@@ -1,6 +1,7 @@
 // Workers of a translation that read beside each other, and any number of them.
+use crate::ends::{Failer, Output, Turn, Work, first_unmet};
 use crate::stories::{has, has_all, says_all};
-use crate::trials::{FileOf, Row, folder_of, says_in};
+use crate::trials::{FileOf, Row, folder_of, joined, none_wrong, says_in};
 use outside::MemFolder;
 use outside_fakes::Gate;
 use std::alloc::Global;
@@ -46,19 +47,120 @@ fn folder<R: Abort>(rt: &R, alloc: Global) -> MemFolder {
     folder_of(rt, alloc, &files, &[])
 }
 
-const BESIDE: Row<'static> = ("gdal_translate -q --workers 2 tall.bil out.bil", 0, "", "");
+// A raster in which these bytes come so often that each of two workers reads half of each of its two strips, and the
+// second strip is read while the first one is written; and a mosaic of it.
+const TIMES: usize = 16_384;
+
+const WIDE: &[u8] = b"NROWS 128\nNCOLS 32768\n";
+
+const OVER_WIDE: &[u8] =
+    b"<VRTDataset rasterXSize='32768' rasterYSize='128'><VRTRasterBand dataType='Byte'>
+<SimpleSource><SourceFilename>wide.bil</SourceFilename></SimpleSource></VRTRasterBand></VRTDataset>";
+
+fn wide_folder<R: Abort>(rt: &R, alloc: Global, bytes: &[u8]) -> MemFolder {
+    let files: [FileOf<'_>; 3] = [
+        ("wide.bil", bytes),
+        ("wide.hdr", WIDE),
+        ("wide.vrt", OVER_WIDE),
+    ];
+    folder_of(rt, alloc, &files, &[])
+}
+
+const BESIDE: Row<'static> = ("gdal_translate -q --workers 2 wide.bil out.bil", 0, "", "");
 
 // Whether two workers, each of which waits for the other to read, copy the lines.
 fn is_copied<R: Threads + Sync + Abort>(rt: &R, alloc: Global) -> bool {
-    let mut gate = Gate::new(alloc, folder(rt, alloc)).expect(rt, "memory");
+    let bytes = joined(rt, alloc, &[(samples(), TIMES)]);
+    let folder = wide_folder(rt, alloc, bytes.as_slice());
+    let mut gate = Gate::new(alloc, folder).expect(rt, "memory");
     let said = says_in(rt, alloc, &mut gate, &BESIDE);
     let folder = gate.into_inner();
-    said && has(rt, alloc, &folder, ("out.bil", samples()))
+    said && has(rt, alloc, &folder, ("out.bil", bytes.as_slice()))
 }
 
 #[test]
 fn two_workers_read_beside_each_other(rt: HostRuntime) {
     assert!(rt; is_copied(&rt, rt.alloc()));
+}
+
+// The wide lines by some workers, and the same through the mosaic.
+static WIDE_NUMBERS: [Row<'static>; 5] = [
+    ("gdal_translate -q --workers 1 wide.bil a.bil", 0, "", ""),
+    ("gdal_translate -q --workers 2 wide.bil b.bil", 0, "", ""),
+    ("gdal_translate -q --workers 4 wide.bil c.bil", 0, "", ""),
+    ("gdal_translate -q --workers 2 wide.vrt d.bil", 0, "", ""),
+    ("gdal_translate -q --workers 3 wide.vrt e.bil", 0, "", ""),
+];
+
+// Whether each of these numbers of workers copies the same lines.
+fn are_alike_wide<R: Threads + Sync + Abort>(rt: &R, alloc: Global) -> bool {
+    let bytes = joined(rt, alloc, &[(samples(), TIMES)]);
+    let bytes = bytes.as_slice();
+    let copies: [FileOf<'_>; 5] = [
+        ("a.bil", bytes),
+        ("b.bil", bytes),
+        ("c.bil", bytes),
+        ("d.bil", bytes),
+        ("e.bil", bytes),
+    ];
+    let mut folder = wide_folder(rt, alloc, bytes);
+    says_all(rt, alloc, &mut folder, &WIDE_NUMBERS) && has_all(rt, alloc, &folder, &copies)
+}
+
+#[test]
+fn some_workers_over_wide_lines(rt: HostRuntime) {
+    assert!(rt; are_alike_wide(&rt, rt.alloc()));
+}
+
+// Few lines that are so long that each of two workers reads two of each strip's four through a view of the folder.
+const LONG: &[u8] = b"NROWS 8\nNCOLS 1048576\n";
+
+const LONG_TIMES: usize = 32_768;
+
+const LONG_MADE: &[u8] = b"BYTEORDER      I
+LAYOUT         BIL
+NROWS          8
+NCOLS          1048576
+NBANDS         1
+NBITS          8
+SKIPBYTES      0
+BANDROWBYTES   1048576
+TOTALROWBYTES  1048576
+BANDGAPBYTES   0
+PIXELTYPE      UNSIGNEDINT
+";
+
+// The folder makes at least these calls: it opens and reads the header and opens the data, makes and publishes two
+// files, and writes eight lines.
+static LONG_TURN: [Turn; 1] = [(0, Failer::Folder, (15, 64))];
+
+// The first work of which a call's failing isn't met.
+fn first_unmet_long<R: Threads + Sync + Abort>(rt: &R, alloc: Global) -> Option<usize> {
+    let bytes = joined(rt, alloc, &[(samples(), LONG_TIMES)]);
+    let bytes = bytes.as_slice();
+    let files: [FileOf<'_>; 4] = [
+        ("long.bil", bytes),
+        ("long.hdr", LONG),
+        ("out.bil", b"old data"),
+        ("out.hdr", b"old header"),
+    ];
+    let outputs: [Output<'_>; 2] = [
+        ("out.bil", b"old data", bytes),
+        ("out.hdr", b"old header", LONG_MADE),
+    ];
+    let works: [Work<'_>; 1] = [Work {
+        line: "gdal_translate -q --workers 2 long.bil out.bil",
+        text: "",
+        told: "",
+        outputs: &outputs,
+    }];
+    first_unmet(rt, alloc, &files, &works, &LONG_TURN)
+}
+
+// Each call of the folder fails in turn while two workers read long lines.
+#[test]
+fn each_failing_call_of_two_workers(rt: HostRuntime) {
+    none_wrong(&rt, first_unmet_long(&rt, rt.alloc()));
 }
 
 // The lines by many workers, of which each has few, and the same through the mosaics.

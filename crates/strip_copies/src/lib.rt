@@ -10,6 +10,7 @@ mod making;
 mod places;
 mod reading;
 mod rows;
+mod sources;
 mod spans;
 mod translation;
 
