@@ -209,6 +209,10 @@ def sources():
     broken("one source too many", Text((SOURCES, 1), (SHORTEST, MOST + 1), (SOURCES_END, 1)), 6)
     document("the most sources of other names", Text((SOURCES, 1), (NUMBERED, range(MOST)), (SOURCES_END, 1)))
     front, back = b"<ComplexSource><SourceFilename>a</SourceFilename><LUT>", b"</LUT></ComplexSource>"
+    nodata = front.replace(b"LUT", b"NODATA") + b"0" + back.replace(b"LUT", b"NODATA")
+    document("the most sources, each with a NODATA", Text((SOURCES, 1), (nodata, MOST), (SOURCES_END, 1)))
+    one_pair = front + b"0:0" + back
+    document("the most sources, each with a table of one pair", Text((SOURCES, 1), (one_pair, MOST), (SOURCES_END, 1)))
     table = Text((b"{}:0,", range(65_535)), (b"65535:0", 1))
     lookup = front + b"".join(table.pieces()) + back
     document("tables of 65,536 pairs", filled(SOURCES, lookup, SOURCES_END))

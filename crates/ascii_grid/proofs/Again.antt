@@ -22,12 +22,12 @@ use Rattle.geotransform.proofs.Numbers.{own}
 use Rattle.geotransform.proofs.RoundTrip.{AreDigits, digits-cons, sign_none, digits_again, IsShortWord, IsPlain, decimal_word, signed_word, short_word, whole_again, short_again}
 use Rattle.ascii_grid.specs.declared.faults.GridFault.{GridFault}
 use Rattle.ascii_grid.specs.declared.faults.GridFault.TheVariants.{MissingKey, BadToken, NotInteger, Limit}
-use Rattle.ascii_grid.specs.declared.parts.Found.{Found}
-use Rattle.ascii_grid.specs.declared.parts.Shape.{Shape}
-use Rattle.ascii_grid.specs.declared.parts.LowerLeft.{LowerLeft}
-use Rattle.ascii_grid.specs.declared.parts.LowerLeft.TheVariants.{Edge}
-use Rattle.ascii_grid.specs.declared.parts.Key.{Key}
-use Rattle.ascii_grid.specs.declared.parts.Key.TheVariants.{Ncols, Nrows, Xllcorner, Yllcorner, Cellsize, Dx, Dy, Nodata}
+use Rattle.ascii_grid.specs.declared.head_parts.Found.{Found}
+use Rattle.ascii_grid.specs.declared.head_parts.Shape.{Shape}
+use Rattle.ascii_grid.specs.declared.head_parts.LowerLeft.{LowerLeft}
+use Rattle.ascii_grid.specs.declared.head_parts.LowerLeft.TheVariants.{Edge}
+use Rattle.ascii_grid.specs.declared.head_parts.Key.{Key}
+use Rattle.ascii_grid.specs.declared.head_parts.Key.TheVariants.{Ncols, Nrows, Xllcorner, Yllcorner, Cellsize, Dx, Dy, Nodata}
 use Rattle.ascii_grid.specs.declared.placing.Placing.{Placing}
 use Rattle.ascii_grid.specs.Tokens.{Token, tokens_from, tokens, token, is_white, is_dark, next}
 use Rattle.lists_and_answers.specs.Texts.{same_letters}

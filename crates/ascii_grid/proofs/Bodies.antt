@@ -3,9 +3,9 @@ use Rattle.std.proofs.Common.{◌≡◌, ◌≢◌, ℕ, Bool, true, false, List
 use Rattle.std.proofs.lemmas.Bool.{cases_eq, cases_lt, eq-eqb, ne_eqb, eqb-true}
 use Rattle.std.proofs.Math.Nat.{suc-mul, mul_comm, mul-le-mul}
 use lib.Dec.{eqb}
-use Rattle.ascii_grid.specs.declared.parts.Shape.{Shape}
-use Rattle.ascii_grid.specs.declared.parts.Stage.{Stage}
-use Rattle.ascii_grid.specs.declared.parts.Stage.TheVariants.{AtKey, AtValue, InBody}
+use Rattle.ascii_grid.specs.declared.head_parts.Shape.{Shape}
+use Rattle.ascii_grid.specs.declared.head_parts.Stage.{Stage}
+use Rattle.ascii_grid.specs.declared.head_parts.Stage.TheVariants.{AtKey, AtValue, InBody}
 use Rattle.ascii_grid.specs.declared.faults.GridFault.{GridFault}
 use Rattle.ascii_grid.specs.declared.faults.GridFault.TheVariants.{TooFew}
 use Rattle.lists_and_answers.specs.Answers.{◌>>=◌}

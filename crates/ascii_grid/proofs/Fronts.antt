@@ -10,8 +10,8 @@ use lib.Dec.{eqb}
 use Rattle.geotransform.specs.Decimal.{sign_at, number, is_decimal}
 use Rattle.geotransform.proofs.RoundTrip.{AreDigits, digits-cons, sign_none}
 use Rattle.ascii_grid.specs.declared.faults.GridFault.{GridFault}
-use Rattle.ascii_grid.specs.declared.parts.Shape.{Shape}
-use Rattle.ascii_grid.specs.declared.parts.Stage.TheVariants.{InBody}
+use Rattle.ascii_grid.specs.declared.head_parts.Shape.{Shape}
+use Rattle.ascii_grid.specs.declared.head_parts.Stage.TheVariants.{InBody}
 use Rattle.ascii_grid.specs.Tokens.{is_white}
 use Rattle.ascii_grid.specs.Values.{value_in, is_value, is_whole_text, whole_value, has_value}
 use Rattle.ascii_grid.specs.Scan.{add_token, body_step, step}

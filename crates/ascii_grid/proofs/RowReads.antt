@@ -11,9 +11,9 @@ use Rattle.std.proofs.Math.Nat.{mul_comm, suc-mul}
 use lib.Dec.{eqb}
 use Rattle.ascii_grid.specs.declared.faults.GridFault.{GridFault}
 use Rattle.ascii_grid.specs.declared.faults.GridFault.TheVariants.{BadToken}
-use Rattle.ascii_grid.specs.declared.parts.Found.{Found}
-use Rattle.ascii_grid.specs.declared.parts.Shape.{Shape}
-use Rattle.ascii_grid.specs.declared.parts.Key.{Key}
+use Rattle.ascii_grid.specs.declared.head_parts.Found.{Found}
+use Rattle.ascii_grid.specs.declared.head_parts.Shape.{Shape}
+use Rattle.ascii_grid.specs.declared.head_parts.Key.{Key}
 use Rattle.ascii_grid.specs.Tokens.{Token, tokens_from, tokens, is_white, next}
 use Rattle.lists_and_answers.specs.Answers.{◌>>=◌}
 use Rattle.ascii_grid.specs.Values.{is_body_start, value_in}

@@ -6,7 +6,7 @@ use Rattle.lists_and_answers.specs.Answers.{◌>>=◌}
 use Rattle.std.specs.Prelude.{is_some}
 use Rattle.ascii_grid.specs.declared.faults.GridFault.{GridFault}
 use Rattle.ascii_grid.specs.declared.faults.GridFault.TheVariants.{Memory}
-use Rattle.ascii_grid.specs.declared.parts.Stage.{Stage}
+use Rattle.ascii_grid.specs.declared.head_parts.Stage.{Stage}
 use Rattle.ascii_grid.specs.Tokens.{is_white, next}
 use Rattle.ascii_grid.specs.Scan.{Scanned, State, Open, Read, Reaches, fed, add_byte, add_token, is_open, passed_over, scanned, with_read}
 use Rattle.ascii_grid.specs.Row.{Row, Reading, row_byte, row_fed, put}

@@ -1,7 +1,7 @@
 -- White space that is passed at once.
 use Rattle.std.proofs.Common.{◌≡◌, ℕ, suc, true, List, [], ◌∷◌, refl, sym, ap, ◌∙◌, Ok, length, ◌<◌, ◌+◌, min, arith, get_or, Option, Some, None}
 use Rattle.ascii_grid.specs.declared.faults.GridFault.{GridFault}
-use Rattle.ascii_grid.specs.declared.parts.Stage.{Stage}
+use Rattle.ascii_grid.specs.declared.head_parts.Stage.{Stage}
 use Rattle.ascii_grid.specs.Tokens.{is_white, next}
 use Rattle.ascii_grid.specs.Scan.{Scanned, State, Open, Read, fed, add_byte, scanned}
 use Rattle.ascii_grid.specs.Row.{Row, Reading, row_byte, row_fed}

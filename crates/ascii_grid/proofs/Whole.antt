@@ -6,11 +6,11 @@ use Rattle.std.proofs.lemmas.List.{append-nil, append_assoc}
 use Rattle.lists_and_answers.specs.Answers.{◌>>=◌, Gives}
 use Rattle.ascii_grid.specs.declared.faults.GridFault.{GridFault}
 use Rattle.ascii_grid.specs.declared.faults.GridFault.TheVariants.{BadToken, TooMany, Memory}
-use Rattle.ascii_grid.specs.declared.parts.Found.{Found}
-use Rattle.ascii_grid.specs.declared.parts.Shape.{Shape}
-use Rattle.ascii_grid.specs.declared.parts.Key.{Key}
-use Rattle.ascii_grid.specs.declared.parts.Stage.{Stage}
-use Rattle.ascii_grid.specs.declared.parts.Stage.TheVariants.{AtKey, AtValue, InBody}
+use Rattle.ascii_grid.specs.declared.head_parts.Found.{Found}
+use Rattle.ascii_grid.specs.declared.head_parts.Shape.{Shape}
+use Rattle.ascii_grid.specs.declared.head_parts.Key.{Key}
+use Rattle.ascii_grid.specs.declared.head_parts.Stage.{Stage}
+use Rattle.ascii_grid.specs.declared.head_parts.Stage.TheVariants.{AtKey, AtValue, InBody}
 use lib.Dec.{eqb}
 use Rattle.ascii_grid.specs.Faults.{IsMemory}
 use Rattle.ascii_grid.specs.Tokens.{Token, tokens}

@@ -6,8 +6,8 @@ use Rattle.geotransform.specs.Geo.{Transform, IsRaster, IsTransform}
 use Rattle.geotransform.specs.declared.types.Size.{Size}
 use Rattle.ascii_grid.specs.declared.faults.GridFault.{GridFault}
 use Rattle.ascii_grid.specs.declared.faults.GridFault.TheVariants.{BadToken, TooFew, TooMany}
-use Rattle.ascii_grid.specs.declared.parts.Found.{Found}
-use Rattle.ascii_grid.specs.declared.parts.Shape.{Shape}
+use Rattle.ascii_grid.specs.declared.head_parts.Found.{Found}
+use Rattle.ascii_grid.specs.declared.head_parts.Shape.{Shape}
 use Rattle.ascii_grid.specs.Tokens.{Token, tokens}
 use Rattle.ascii_grid.specs.Values.{is_body_start, value_in, is_value}
 use Rattle.ascii_grid.specs.Keys.{key_of, with_value, shape_of}

@@ -5,12 +5,12 @@ use Rattle.lists_and_answers.specs.Texts.{same_letters}
 use Rattle.geotransform.specs.Geo.{Transform, transform_of}
 use Rattle.ascii_grid.specs.declared.faults.GridFault.{GridFault}
 use Rattle.ascii_grid.specs.declared.faults.GridFault.TheVariants.{MissingKey, Limit}
-use Rattle.ascii_grid.specs.declared.parts.Key.{Key}
-use Rattle.ascii_grid.specs.declared.parts.Key.TheVariants.{Ncols, Nrows, Xllcorner, Xllcenter, Yllcorner, Yllcenter, Cellsize, Dx, Dy, Nodata}
-use Rattle.ascii_grid.specs.declared.parts.LowerLeft.{LowerLeft}
-use Rattle.ascii_grid.specs.declared.parts.LowerLeft.TheVariants.{Edge, Centre}
-use Rattle.ascii_grid.specs.declared.parts.Found.{Found}
-use Rattle.ascii_grid.specs.declared.parts.Shape.{Shape}
+use Rattle.ascii_grid.specs.declared.head_parts.Key.{Key}
+use Rattle.ascii_grid.specs.declared.head_parts.Key.TheVariants.{Ncols, Nrows, Xllcorner, Xllcenter, Yllcorner, Yllcenter, Cellsize, Dx, Dy, Nodata}
+use Rattle.ascii_grid.specs.declared.head_parts.LowerLeft.{LowerLeft}
+use Rattle.ascii_grid.specs.declared.head_parts.LowerLeft.TheVariants.{Edge, Centre}
+use Rattle.ascii_grid.specs.declared.head_parts.Found.{Found}
+use Rattle.ascii_grid.specs.declared.head_parts.Shape.{Shape}
 use Rattle.ascii_grid.specs.Tokens.{Token}
 use Rattle.ascii_grid.specs.Values.{side_in, coordinate_in, step_in, nodata_in}
 

@@ -5,7 +5,7 @@ ghost use Rattle.geotransform.specs.Geo.{IsTransform};
 ghost use Rattle.ascii_grid.specs.Keys.{key_of, with_value, edge_of, steps_of, placed, shape_of};
 
 use crate::faults::GridFault;
-use crate::parts::{Found, Key, LowerLeft, Shape, Side, Step};
+use crate::head_parts::{Found, Key, LowerLeft, Shape, Side, Step};
 use crate::values::{coordinate_in, nodata_in, side_in, step_in};
 use geotransform::{GeoTransform, Ticks};
 use lists_and_answers::same_letters;

@@ -3,11 +3,11 @@
 
 pub mod faults;
 pub mod head;
+mod head_parts;
 mod keys;
 pub mod laws;
 mod open;
 mod pairs;
-mod parts;
 mod placing;
 pub mod row;
 pub mod scanner;

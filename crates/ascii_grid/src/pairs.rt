@@ -4,8 +4,8 @@ ghost use Rattle.ascii_grid.specs.Tokens.{is_white};
 ghost use Rattle.ascii_grid.specs.Values.{is_body_start};
 ghost use Rattle.ascii_grid.specs.Keys.{key_of};
 
+use crate::head_parts::Key;
 use crate::keys::key_of;
-use crate::parts::Key;
 use crate::tokens::{dark_end, white_end};
 use crate::values::is_body_start;
 

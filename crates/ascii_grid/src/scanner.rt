@@ -5,16 +5,16 @@ ghost use Rattle.ascii_grid.specs.Faults.{IsMemory};
 ghost use Rattle.ascii_grid.specs.Grid.{grid_head, head_with, IsHead};
 ghost use Rattle.ascii_grid.specs.Tokens.{is_white};
 ghost use Rattle.ascii_grid.specs.Values.{has_value};
-ghost use Rattle.ascii_grid.specs.declared.parts.Stage.TheVariants.{AtKey};
+ghost use Rattle.ascii_grid.specs.declared.head_parts.Stage.TheVariants.{AtKey};
 ghost use Rattle.lists_and_answers.specs.Places.{StandsAt};
 ghost use Rattle.ascii_grid.specs.Scan.{State, then_byte, fed, start, Reaches, answer_of, grid_after, IsAt, with_read, ended, body_closed, closed, Reads, IsFaultOf, HasScanned, IsFaultIn};
 
 use crate::faults::GridFault;
 use crate::head::GridHead;
+use crate::head_parts::{Found, Shape, Stage};
 use crate::keys::{set_value, shape_of};
 use crate::open::Open;
 use crate::pairs::pair_at;
-use crate::parts::{Found, Shape, Stage};
 use crate::starts::Starts;
 use crate::steps::{add_number, add_token, needed};
 use crate::tokens::{dark_len, is_white, white_len};

@@ -3,12 +3,12 @@ ghost use Rattle.std.specs.Prelude.{◌≡◌, ℕ, true, List, ◌≤◌, ◌<�
 ghost use Rattle.ascii_grid.specs.Tokens.{Token};
 ghost use Rattle.ascii_grid.specs.Values.{has_value};
 ghost use Rattle.ascii_grid.specs.Faults.{IsMemory};
-ghost use Rattle.ascii_grid.specs.declared.parts.Stage.TheVariants.{AtKey, InBody};
+ghost use Rattle.ascii_grid.specs.declared.head_parts.Stage.TheVariants.{AtKey, InBody};
 ghost use Rattle.ascii_grid.specs.Scan.{Reaches, IsBody, IsAt, add_token, with_rows, with_read};
 
 use crate::faults::GridFault;
+use crate::head_parts::{Found, Shape, Stage};
 use crate::keys::{key_of, shape_of, with_value};
-use crate::parts::{Found, Shape, Stage};
 use crate::starts::Starts;
 use crate::values::{is_body_start, value_in};
 

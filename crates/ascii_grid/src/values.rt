@@ -8,7 +8,7 @@ ghost use Rattle.ascii_grid.specs.Tokens.{is_white};
 ghost use Rattle.ascii_grid.specs.Row.{value_or_zero};
 
 use crate::faults::GridFault;
-use crate::parts::{Coordinate, Side, Step, Value};
+use crate::head_parts::{Coordinate, Side, Step, Value};
 use crate::tokens::is_white;
 use geotransform::decimal::{digits_at, sign_at};
 use geotransform::{

@@ -3,7 +3,7 @@ use Rattle.std.proofs.Common.{◌≡◌, ◌⊎◌, ◌<◌, ap, subst, inl, tru
 use Rattle.std.proofs.lemmas.Bool.Decides.{nat_tests}
 use Rattle.std.specs.Prelude.{nat_lt}
 use Rattle.outside.specs.Outside.{Files}
-use Rattle.esri_hdr.specs.declared.parts.HdrFault.TheVariants.{Limit}
+use Rattle.esri_hdr.specs.declared.header_parts.HdrFault.TheVariants.{Limit}
 use Rattle.esri_hdr.specs.Head.{esri_head, head_of}
 use Rattle.esri_hdr.specs.Lines.{last_of}
 use Rattle.catalog.specs.declared.faults.WalkFault.{WalkFault}

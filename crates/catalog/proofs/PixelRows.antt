@@ -18,7 +18,7 @@ use Rattle.esri_hdr.specs.Head.{Head, esri_head, head_of, shape_of, rows_of, geo
 use Rattle.esri_hdr.specs.Lines.{entry_at}
 use Rattle.esri_hdr.specs.Values as values
 use Rattle.esri_hdr.specs.Values.{side_in, bands_in, bits_in, big_in, layout_in, skip_in, signed_in, row_in, band_row_in, total_row_in, gap_in}
-use Rattle.esri_hdr.specs.declared.parts.Layout.TheVariants.{Bil}
+use Rattle.esri_hdr.specs.declared.header_parts.Layout.TheVariants.{Bil}
 use Rattle.vrt_markup.specs.Items.{item_at, tag_at, tag_front, close_at, pair_at, value_at}
 use Rattle.vrt_profile.specs.Means as means
 use Rattle.vrt_markup.specs.Tree.{markup_of, root_at, end_at}

@@ -6,7 +6,7 @@ use Rattle.outside.specs.Paths.{normal}
 use Rattle.geotransform.specs.Decimal.{parts_of, ticks_of, whole_of, is_decimal}
 use Rattle.geotransform.specs.declared.types.PixelType.TheVariants.{UInt16}
 use Rattle.geotransform.specs.Types.{type_named}
-use Rattle.esri_hdr.specs.declared.parts.Layout.TheVariants.{Bip}
+use Rattle.esri_hdr.specs.declared.header_parts.Layout.TheVariants.{Bip}
 use Rattle.catalog.specs.declared.nodata.NodataWord.TheVariants.{Number, Remove}
 use Rattle.location_report.specs.declared.report.Form.TheVariants.{FilesOnly}
 use Rattle.translate_plan.specs.declared.options.Driver.TheVariants.{EHdr}

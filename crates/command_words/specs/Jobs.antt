@@ -4,8 +4,8 @@ use Rattle.lists_and_answers.specs.Answers.{◌>>=◌}
 use Rattle.outside.specs.Names.{extension_of}
 use Rattle.outside.specs.declared.name.Ext.{Ext}
 use Rattle.outside.specs.declared.name.Ext.TheVariants as ext
-use Rattle.esri_hdr.specs.declared.parts.Layout.{Layout}
-use Rattle.esri_hdr.specs.declared.parts.Layout.TheVariants.{Bil, Bip, Bsq}
+use Rattle.esri_hdr.specs.declared.header_parts.Layout.{Layout}
+use Rattle.esri_hdr.specs.declared.header_parts.Layout.TheVariants.{Bil, Bip, Bsq}
 use Rattle.location_report.specs.declared.report.Form.{Form}
 use Rattle.location_report.specs.declared.report.Form.TheVariants.{Report, ValuesOnly, FilesOnly}
 use Rattle.translate_plan.specs.declared.options.Driver.TheVariants as driver

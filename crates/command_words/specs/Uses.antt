@@ -4,7 +4,7 @@ use Rattle.std.specs.Option.{unwrap_or}
 use Rattle.lists_and_answers.specs.Answers.{◌>>=◌}
 use Rattle.geotransform.specs.Decimal.{is_decimal, ticks_of}
 use Rattle.geotransform.specs.declared.types.PixelType.{PixelType}
-use Rattle.esri_hdr.specs.declared.parts.Layout.{Layout}
+use Rattle.esri_hdr.specs.declared.header_parts.Layout.{Layout}
 use Rattle.catalog.specs.declared.nodata.NodataWord.{NodataWord}
 use Rattle.catalog.specs.declared.nodata.NodataWord.TheVariants as nodata
 use Rattle.translate_plan.specs.declared.options.View.{View}

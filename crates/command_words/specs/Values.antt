@@ -3,8 +3,8 @@ use Rattle.std.specs.Prelude.{ℕ, ℤ, pos, neg_ℤ, ◌-◌, ◌==◌, ◌&&�
 use Rattle.lists_and_answers.specs.Texts.{same_letters}
 use Rattle.geotransform.specs.Decimal.{number_of, whole_of, ticks_of}
 use Rattle.outside.specs.Paths.{normal}
-use Rattle.esri_hdr.specs.declared.parts.Layout.{Layout}
-use Rattle.esri_hdr.specs.declared.parts.Layout.TheVariants.{Bil, Bip, Bsq}
+use Rattle.esri_hdr.specs.declared.header_parts.Layout.{Layout}
+use Rattle.esri_hdr.specs.declared.header_parts.Layout.TheVariants.{Bil, Bip, Bsq}
 use Rattle.catalog.specs.declared.nodata.NodataWord.{NodataWord}
 use Rattle.catalog.specs.declared.nodata.NodataWord.TheVariants as nodata
 use Rattle.translate_plan.specs.declared.options.OutSize.{OutSize}

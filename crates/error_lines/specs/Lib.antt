@@ -1,3 +1,4 @@
+-- What public clauses and laws speak of: to be read and trusted.
 pub mod Faults
 pub mod Steps
 pub mod Texts

@@ -13,10 +13,10 @@ use Rattle.geotransform.proofs.Ranges.{bytes_bounds, is_near}
 use Rattle.geotransform.proofs.RoundTrip.{short_again, whole_again, decimal_word, signed_word, short_word}
 use Rattle.std.proofs.lemmas.Bool.Decides.{nat_tests}
 use Rattle.geotransform.specs.declared.types.PixelType.{PixelType}
-use Rattle.esri_hdr.specs.declared.parts.HdrFault.TheVariants.{BadValue, Limit}
-use Rattle.esri_hdr.specs.declared.parts.RawGeo.{RawGeo}
-use Rattle.esri_hdr.specs.declared.parts.Shape.{Shape}
-use Rattle.esri_hdr.specs.declared.parts.Rows.{Rows}
+use Rattle.esri_hdr.specs.declared.header_parts.HdrFault.TheVariants.{BadValue, Limit}
+use Rattle.esri_hdr.specs.declared.header_parts.RawGeo.{RawGeo}
+use Rattle.esri_hdr.specs.declared.header_parts.Shape.{Shape}
+use Rattle.esri_hdr.specs.declared.header_parts.Rows.{Rows}
 use Rattle.esri_hdr.specs.Keys as keys
 use Rattle.esri_hdr.specs.Lines.{Values, last_of}
 use Rattle.lists_and_answers.specs.Answers.{◌>>=◌}
@@ -25,8 +25,8 @@ use Rattle.esri_hdr.specs.Head.{place_in, step_in, is_half_near, geo_in, when_in
 use Rattle.esri_hdr.specs.Text.{order_text, layout_text, sign_text, nodata_fields, geo_fields, fields_of, fields_from, hdr_text}
 use Rattle.esri_hdr.proofs.Again.{IsKey, IsField, last_field, last_text, text_len, key_const, field_const, field_word}
 use Rattle.std.specs.List.{AllByRecursion}
-use Rattle.esri_hdr.specs.declared.parts.Layout.{Layout}
-use Rattle.esri_hdr.specs.declared.parts.Layout.TheVariants.{Bil, Bip, Bsq}
+use Rattle.esri_hdr.specs.declared.header_parts.Layout.{Layout}
+use Rattle.esri_hdr.specs.declared.header_parts.Layout.TheVariants.{Bil, Bip, Bsq}
 use Rattle.esri_hdr.proofs.ValuesAgain.{side_again, bands_again, bits_again, big_again, layout_again, skip_again, signed_again, kind_again, band_row_again, total_row_again, gap_again}
 
 place_again : (v : ℤ) → IsRead v → place_in (Some (short_text v)) ≡ Ok (Some v)

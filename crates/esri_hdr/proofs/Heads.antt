@@ -11,9 +11,9 @@ use Rattle.geotransform.specs.Places.{half, sixteen_places}
 use Rattle.geotransform.specs.Geo.{Transform, IsRaster, is_near, is_size, is_north_up, sizes_held}
 use Rattle.geotransform.specs.declared.types.Size.{Size}
 use Rattle.geotransform.specs.declared.types.PixelType.{PixelType}
-use Rattle.esri_hdr.specs.declared.parts.Layout.{Layout}
-use Rattle.esri_hdr.specs.declared.parts.Layout.TheVariants.{Bil, Bip, Bsq}
-use Rattle.esri_hdr.specs.declared.parts.RawGeo.{RawGeo}
+use Rattle.esri_hdr.specs.declared.header_parts.Layout.{Layout}
+use Rattle.esri_hdr.specs.declared.header_parts.Layout.TheVariants.{Bil, Bip, Bsq}
+use Rattle.esri_hdr.specs.declared.header_parts.RawGeo.{RawGeo}
 use Rattle.esri_hdr.specs.Head.{Head, IsHead, GeoFits, RowsFit, sample_len, is_half_near, raw_geo, is_origin, holds_transform, raw_geo_of, plain_row, plain_head}
 
 both : (a b : Bool) → a && b ≡ true → (a ≡ true) × (b ≡ true)

@@ -5,7 +5,7 @@ use Rattle.std.proofs.lemmas.Bool.Decides.{nat_tests}
 use Rattle.std.proofs.lemmas.Int.{ints}
 use Rattle.geotransform.specs.Geo.{IsTransform}
 use Rattle.geotransform.specs.Print.{unit}
-use Rattle.esri_hdr.specs.declared.parts.RawGeo.{RawGeo}
+use Rattle.esri_hdr.specs.declared.header_parts.RawGeo.{RawGeo}
 use Rattle.esri_hdr.specs.Head.{GeoFits, is_half_near, half_of, placed}
 
 even : (n : ℕ) → n % 18 ≡ 0 → n / 2 + n / 2 ≡ n

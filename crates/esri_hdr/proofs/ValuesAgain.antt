@@ -11,10 +11,10 @@ use Rattle.geotransform.specs.Types.{is_signed}
 use Rattle.geotransform.proofs.Numbers.{own}
 use Rattle.geotransform.specs.declared.types.PixelType.{PixelType}
 use Rattle.geotransform.specs.declared.types.PixelType.TheVariants.{Byte, Int8, UInt16, Int16, UInt32, Int32, UInt64, Int64}
-use Rattle.esri_hdr.specs.declared.parts.HdrFault.{HdrFault}
-use Rattle.esri_hdr.specs.declared.parts.HdrFault.TheVariants.{BadValue, Unsupported, Limit}
-use Rattle.esri_hdr.specs.declared.parts.Layout.{Layout}
-use Rattle.esri_hdr.specs.declared.parts.Layout.TheVariants.{Bil, Bip, Bsq}
+use Rattle.esri_hdr.specs.declared.header_parts.HdrFault.{HdrFault}
+use Rattle.esri_hdr.specs.declared.header_parts.HdrFault.TheVariants.{BadValue, Unsupported, Limit}
+use Rattle.esri_hdr.specs.declared.header_parts.Layout.{Layout}
+use Rattle.esri_hdr.specs.declared.header_parts.Layout.TheVariants.{Bil, Bip, Bsq}
 use Rattle.lists_and_answers.specs.Answers.{◌>>=◌}
 use Rattle.esri_hdr.specs.Values.{or_fault, at_most, counted, number_in, side_in, bands_in, bits_in, big_in, layout_in, skip_in, signed_in, kind_of, row_in, band_row_in, total_row_in, gap_in, BandRowFits, TotalRowFits, GapFits}
 use Rattle.esri_hdr.specs.Head.{sample_len, IsSide}

@@ -1,7 +1,7 @@
 -- The numbers of the faults of a header.
 use Rattle.std.specs.Prelude.{ℕ}
-use Rattle.esri_hdr.specs.declared.parts.HdrFault.{HdrFault}
-use Rattle.esri_hdr.specs.declared.parts.HdrFault.TheVariants.{MissingKey, BadValue, Unsupported, Limit}
+use Rattle.esri_hdr.specs.declared.header_parts.HdrFault.{HdrFault}
+use Rattle.esri_hdr.specs.declared.header_parts.HdrFault.TheVariants.{MissingKey, BadValue, Unsupported, Limit}
 
 -- the number that error lines print
 abbrev pub fault_number : HdrFault → ℕ

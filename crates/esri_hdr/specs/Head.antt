@@ -9,13 +9,13 @@ use Rattle.geotransform.specs.Places.{half, sixteen_places}
 use Rattle.geotransform.specs.Geo.{Transform, is_near, is_north_up, sizes_held}
 use Rattle.geotransform.specs.declared.types.Size.{Size}
 use Rattle.geotransform.specs.declared.types.PixelType.{PixelType}
-use Rattle.esri_hdr.specs.declared.parts.HdrFault.{HdrFault}
-use Rattle.esri_hdr.specs.declared.parts.HdrFault.TheVariants.{MissingKey, BadValue, Limit}
-use Rattle.esri_hdr.specs.declared.parts.Layout.{Layout}
-use Rattle.esri_hdr.specs.declared.parts.Layout.TheVariants.{Bil, Bip, Bsq}
-use Rattle.esri_hdr.specs.declared.parts.RawGeo.{RawGeo}
-use Rattle.esri_hdr.specs.declared.parts.Shape.{Shape}
-use Rattle.esri_hdr.specs.declared.parts.Rows.{Rows}
+use Rattle.esri_hdr.specs.declared.header_parts.HdrFault.{HdrFault}
+use Rattle.esri_hdr.specs.declared.header_parts.HdrFault.TheVariants.{MissingKey, BadValue, Limit}
+use Rattle.esri_hdr.specs.declared.header_parts.Layout.{Layout}
+use Rattle.esri_hdr.specs.declared.header_parts.Layout.TheVariants.{Bil, Bip, Bsq}
+use Rattle.esri_hdr.specs.declared.header_parts.RawGeo.{RawGeo}
+use Rattle.esri_hdr.specs.declared.header_parts.Shape.{Shape}
+use Rattle.esri_hdr.specs.declared.header_parts.Rows.{Rows}
 use Rattle.esri_hdr.specs.Lines.{Values, last_of}
 use Rattle.esri_hdr.specs.Values.{or_fault, side_in, bands_in, bits_in, big_in, layout_in, skip_in, signed_in, kind_of, band_row_in, total_row_in, gap_in, BandRowFits, TotalRowFits, GapFits}
 use Rattle.esri_hdr.specs.Keys as keys

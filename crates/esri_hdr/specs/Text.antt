@@ -4,9 +4,9 @@ use Rattle.std.specs.Fmt.{decimal, signed_decimal}
 use Rattle.geotransform.specs.Print.{short_text}
 use Rattle.geotransform.specs.declared.types.PixelType.{PixelType}
 use Rattle.geotransform.specs.Types.{is_signed}
-use Rattle.esri_hdr.specs.declared.parts.Layout.{Layout}
-use Rattle.esri_hdr.specs.declared.parts.Layout.TheVariants.{Bil, Bip, Bsq}
-use Rattle.esri_hdr.specs.declared.parts.RawGeo.{RawGeo}
+use Rattle.esri_hdr.specs.declared.header_parts.Layout.{Layout}
+use Rattle.esri_hdr.specs.declared.header_parts.Layout.TheVariants.{Bil, Bip, Bsq}
+use Rattle.esri_hdr.specs.declared.header_parts.RawGeo.{RawGeo}
 use Rattle.esri_hdr.specs.Keys.{names}
 use Rattle.esri_hdr.specs.Keys as keys
 use Rattle.esri_hdr.specs.Head.{Head, sample_len}

@@ -4,7 +4,7 @@ ghost use Rattle.geotransform.specs.Places.{half, sixteen_places};
 ghost use Rattle.geotransform.specs.Geo.{IsNear, is_near};
 ghost use Rattle.esri_hdr.specs.Head.{is_half_near, GeoFits, raw_geo, is_origin, raw_geo_of};
 
-use crate::parts::RawGeo;
+use crate::header_parts::RawGeo;
 use geotransform::{GeoTransform, Ticks, half, is_near, is_north_up, round16, sizes_held};
 
 fn is_half_near(twice: i128) -> bool

@@ -3,7 +3,7 @@ ghost use Rattle.std.specs.Prelude.{◌≡◌, ℤ, pos, neg_ℤ, ◌+ℤ◌, �
 ghost use Rattle.geotransform.specs.Decimal.{IsRead};
 ghost use Rattle.esri_hdr.specs.Head.{sample_len, half_of, GeoFits, placed, geotransform_of};
 
-use crate::parts::{Layout, RawGeo};
+use crate::header_parts::{Layout, RawGeo};
 use geotransform::{GeoTransform, PixelType, Sample, Size, Ticks};
 use std::marker::Model;
 

@@ -4,10 +4,10 @@ ghost use Rattle.geotransform.specs.Types.{is_in};
 ghost use Rattle.geotransform.specs.Geo.{Transform, IsRaster};
 ghost use Rattle.geotransform.specs.declared.types.Size.{Size};
 ghost use Rattle.geotransform.specs.declared.types.PixelType.{PixelType};
-ghost use Rattle.esri_hdr.specs.declared.parts.Layout.{Layout};
+ghost use Rattle.esri_hdr.specs.declared.header_parts.Layout.{Layout};
 ghost use Rattle.esri_hdr.specs.Head.{Head, IsHead, GeoFits, esri_head, half_of, raw_geo, holds_transform, plain_head};
 ghost use Rattle.esri_hdr.specs.Text.{hdr_text};
-ghost use Rattle.esri_hdr.specs.declared.parts.RawGeo.{RawGeo};
+ghost use Rattle.esri_hdr.specs.declared.header_parts.RawGeo.{RawGeo};
 
 /// The text that is written of a head is read as the head.
 pub fn written_reads_back()

@@ -5,7 +5,7 @@ ghost use Rattle.geotransform.specs.Geo.{IsRaster};
 ghost use Rattle.esri_hdr.specs.Head.{IsHead, GeoFits, sample_len, plain_row, plain_head};
 
 use crate::head::{RawHead, sample_len};
-use crate::parts::{Layout, RawGeo};
+use crate::header_parts::{Layout, RawGeo};
 use geotransform::{PixelType, Sample, Size};
 
 /// The bytes of a row of one band.

@@ -8,12 +8,12 @@ ghost use Rattle.esri_hdr.specs.Head.{IsShape, RowsFit, GeoFits, place_in, step_
 
 use crate::centre::{is_left_near, is_top_near};
 use crate::head::RawHead;
+use crate::header_parts::{HdrFault, Layout, RawGeo, Rows, Shape};
 use crate::keys::{
     BANDGAPBYTES, BANDROWBYTES, BYTEORDER, LAYOUT, NBANDS, NBITS, NCOLS, NODATA, NROWS, PIXELTYPE,
     SKIPBYTES, TOTALROWBYTES, ULXMAP, ULYMAP, XDIM, YDIM,
 };
 use crate::lines::scan;
-use crate::parts::{HdrFault, Layout, RawGeo, Rows, Shape};
 use crate::values::{
     band_row_in, bands_in, big_in, bits_in, gap_in, kind_of, layout_in, side_in, signed_in,
     skip_in, total_row_in,

@@ -6,11 +6,11 @@ ghost use Rattle.geotransform.specs.Print.{short_text};
 ghost use Rattle.esri_hdr.specs.Text.{AppendsLines, order_text, layout_text, sign_text, nodata_fields, geo_fields, layout_fields, sample_fields, row_fields, fields_of, hdr_text};
 
 use crate::head::{RawHead, sample_len};
+use crate::header_parts::{Layout, RawGeo};
 use crate::keys::{
     BANDGAPBYTES, BANDROWBYTES, BYTEORDER, LAYOUT, NBANDS, NBITS, NCOLS, NODATA, NROWS, PIXELTYPE,
     SKIPBYTES, TOTALROWBYTES, ULXMAP, ULYMAP, XDIM, YDIM, label,
 };
-use crate::parts::{Layout, RawGeo};
 use geotransform::{PixelType, Sample, Ticks, print_short};
 use itoa::Buffer;
 use std::alloc::AllocError;

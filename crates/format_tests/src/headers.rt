@@ -1,4 +1,4 @@
-use esri_hdr::parts::{HdrFault, Layout};
+use esri_hdr::header_parts::{HdrFault, Layout};
 use esri_hdr::reading::read;
 use esri_hdr::writing::write;
 use geotransform::PixelType;

@@ -1,6 +1,6 @@
 use esri_hdr::{RawHead, read, sample_len};
 use geotransform::holds;
-use interleaved_raw::places::{needed_len, position, stride};
+use interleaved_raw::sample_places::{needed_len, position, stride};
 use interleaved_raw::samples::{decode_run, decode_sample, encode_run};
 use std::alloc::Global;
 use std::test::*;

@@ -554,9 +554,9 @@ fn is_second(source: &Source) -> bool {
     source.complex
         && source.relative
         && source.file.as_str() == "N00E001.hgt"
-        && source.nodata == Some(-32768)
+        && source.nodata() == Some(-32768)
         && source.dst.map(|r| r.x) == Some(1_200_000_000)
-        && source.ratio == 1_000_000_000_000
+        && source.ratio() == 1_000_000_000_000
 }
 
 // Whether the mosaic is read.

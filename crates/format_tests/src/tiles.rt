@@ -1,7 +1,7 @@
 use geotransform::{GeoTransform, Sample, Size, Ticks, print_decimal};
 use hgt_tiles::corner::{Corner, name_of, read_name};
-use hgt_tiles::places::{fit, side, transform};
 use hgt_tiles::samples::{decode_row, encode_row};
+use hgt_tiles::tile_places::{fit, side, transform};
 use std::alloc::{AllocError, Global};
 use std::test::*;
 

@@ -2,12 +2,12 @@
 #![tactic(auto)]
 
 pub mod decimal;
+mod decimal_parts;
 mod faults;
 mod geo;
 mod limits;
-mod parts;
-mod places;
 pub mod print;
+mod rounding;
 mod sizes;
 pub mod types;
 mod units;
@@ -19,8 +19,8 @@ pub use decimal::{
 pub use faults::{PlanFault, Unfit};
 pub use geo::{GeoTransform, corner_is_located};
 pub use limits::{FARTHEST, MOST_BANDS, MOST_SIDE};
-pub use places::{floor_is_exact, floor_of, half, half_is_nearest, is_near, round16, rounded_up};
 pub use print::{print_decimal, print_short, short_reads_back};
+pub use rounding::{floor_is_exact, floor_of, half, half_is_nearest, is_near, round16, rounded_up};
 pub use sizes::{is_north_up, sizes_held};
 pub use types::{PixelType, Rect, Sample, Size, clamp, holds, name_reads_back};
 pub use units::Ticks;

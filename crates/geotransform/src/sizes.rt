@@ -3,7 +3,7 @@ ghost use Rattle.std.specs.Prelude.{◌≡◌, ◌<◌, ◌≤◌, ◌^◌, ◌*
 ghost use Rattle.geotransform.specs.Geo.{IsNear, is_near, is_north_up, is_size, sizes_held};
 
 use crate::geo::GeoTransform;
-use crate::places::{is_near, round16};
+use crate::rounding::{is_near, round16};
 use crate::units::Ticks;
 
 /// Whether the raster runs from west to east and from north to south.

@@ -4,7 +4,7 @@ ghost use Rattle.geotransform.specs.Geo.{IsNear};
 ghost use Rattle.geotransform.specs.Degrees.{degrees, twice_centre, degree_near, is_at, in_range, are_at, degree_between, twice_west, twice_east, twice_south, twice_north, lon_of, lat_of};
 
 use crate::geo::GeoTransform;
-use crate::places::{along, floor_of};
+use crate::rounding::{along, floor_of};
 use crate::units::Ticks;
 
 /// So many whole degrees in ticks.

@@ -4,7 +4,7 @@ use Rattle.std.specs.Prelude.{codes}
 use Rattle.std.specs.Fmt.{decimal}
 use Rattle.geotransform.specs.declared.types.PixelType.TheVariants.{Int16}
 use Rattle.esri_hdr.specs.Head.{Head, geotransform_of}
-use Rattle.esri_hdr.specs.declared.parts.Layout.TheVariants.{Bil}
+use Rattle.esri_hdr.specs.declared.header_parts.Layout.TheVariants.{Bil}
 use Rattle.info_report.specs.Report.{files_text, pair_text}
 
 -- its header, whose numbers are in ticks

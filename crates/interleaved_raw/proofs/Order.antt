@@ -4,8 +4,8 @@ use Rattle.std.specs.List.{range_with_len}
 use Rattle.std.proofs.lemmas.List.{drop-drop, take-take}
 use Rattle.std.proofs.lemmas.List.FromFn.{fill_by_all, length-map-range_with_len, get_or-map-range_with_len}
 use Rattle.std.proofs.Math.Nat.{add-mul, mul_assoc, mul-le-mul_right}
-use Rattle.esri_hdr.specs.declared.parts.Layout.{Layout}
-use Rattle.esri_hdr.specs.declared.parts.Layout.TheVariants.{Bil, Bip, Bsq}
+use Rattle.esri_hdr.specs.declared.header_parts.Layout.{Layout}
+use Rattle.esri_hdr.specs.declared.header_parts.Layout.TheVariants.{Bil, Bip, Bsq}
 use Rattle.esri_hdr.specs.Head.{Head, sample_len}
 use Rattle.interleaved_raw.specs.Raw.{position_by, position_of, stride_by, stride_of, sample_at, value_of, number_in, run_of, raw_at, row_of, needed_of, IsPlace, Holds}
 use Rattle.lists_and_answers.specs.Places.{StandsAt}

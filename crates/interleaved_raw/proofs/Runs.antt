@@ -11,8 +11,8 @@ use Rattle.geotransform.specs.Types.{is_in}
 use Rattle.geotransform.specs.declared.types.PixelType.{PixelType}
 use Rattle.std.proofs.lemmas.List.FromFn.{fill_by_all, length-map-range_with_len, get_or-map-range_with_len}
 use Rattle.std.proofs.lemmas.Bool.{cases_lt}
-use Rattle.esri_hdr.specs.declared.parts.Layout.{Layout}
-use Rattle.esri_hdr.specs.declared.parts.Layout.TheVariants.{Bil, Bip, Bsq}
+use Rattle.esri_hdr.specs.declared.header_parts.Layout.{Layout}
+use Rattle.esri_hdr.specs.declared.header_parts.Layout.TheVariants.{Bil, Bip, Bsq}
 use Rattle.esri_hdr.specs.Values.{GapFits}
 
 pub gap_bound : (layout : Layout) (gap : ℕ) → GapFits layout gap → gap ≤ 2 ^ 40

@@ -2,9 +2,9 @@
 #![tactic(auto)]
 
 pub mod laws;
-pub mod places;
+pub mod sample_places;
 pub mod samples;
 
 pub use esri_hdr::sample_len;
-pub use places::{needed_len, position, stride};
+pub use sample_places::{needed_len, position, stride};
 pub use samples::{decode_run, decode_sample, encode_run};

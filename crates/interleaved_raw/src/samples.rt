@@ -7,7 +7,7 @@ ghost use Rattle.esri_hdr.specs.Head.{Head, sample_len};
 ghost use Rattle.lists_and_answers.specs.Places.{StandsAt};
 ghost use Rattle.interleaved_raw.specs.Raw.{position_of, stride_of, value_of, bits_of, number_in, sample_at, raw_at, row_of, Holds, run_of, bytes_at, sample_bytes, IsBetween};
 
-use crate::places::stride;
+use crate::sample_places::stride;
 use byteorder::{BigEndian, ByteOrder, LittleEndian};
 use esri_hdr::{RawHead, sample_len};
 use geotransform::{PixelType, Sample};

@@ -132,6 +132,7 @@ fn put_first(block: &mut Block, sample: Sample)
     if block.len() > 0 && holds(block.kind(), sample) {
         block.set(0, sample);
     }
+    // A block is packed: that is known of what is read.
     let _len = block.len();
 }
 

@@ -1,3 +1,4 @@
+-- What public clauses and laws speak of: to be read and trusted.
 pub mod Answers
 pub mod Growth
 pub mod Options

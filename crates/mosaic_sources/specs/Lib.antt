@@ -1,4 +1,5 @@
-pub mod Axes
+-- What public clauses and laws speak of: to be read and trusted.
 pub mod Pixels
+pub mod Axes
 pub mod Rows
 pub mod Stretches

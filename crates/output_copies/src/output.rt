@@ -81,14 +81,19 @@ fn room_for(translation: &Translation, rows: u32) -> Result<Vec<Sample>, Fault>
     Ok(samples)
 }
 
-// A second room, for lines that are read while others are written: where that is wanted, there are any others, and
-// memory is had for it.
+// The fewest samples of a strip that is read while another one is written. Fewer are read and written in so short a time
+// that the threads of one more step cost more than it brings.
+const FEWEST_AHEAD: usize = 2_000_000;
+
+// A second room, for lines that are read while others are written: where that is wanted, there are any others, each
+// strip has so many samples that it pays, and memory is had for it.
 fn second_room(translation: &Translation, ahead: bool, rows: u32) -> Option<Vec<Sample>>
     ensures long { IfSome result (λ samples. translation.now.plan.size.w * rows ≤ length samples.items) }
 {
     let plan = &translation.plan;
     let some = rows < plan.size.h || plan.count() > 1;
-    if !ahead || !some {
+    let pays = area(plan.size.w, rows) >= FEWEST_AHEAD;
+    if !ahead || !some || !pays {
         return None;
     }
     room_for(translation, rows).ok()

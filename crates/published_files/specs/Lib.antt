@@ -1,2 +1,3 @@
+-- What public clauses and laws speak of: to be read and trusted.
 pub mod Documents
 pub mod Names

@@ -1,7 +1,7 @@
 // Runs over the points of an input, and over mosaics of mosaics.
 use crate::ends::{Asking, Failer, first_unasked};
 use crate::trials::{
-    CALM, Calls, FOLDER, Failures, Fed, FileOf, READING, Row, Trial, WRITING, ends_so,
+    CALM, Calls, FOLDER, Failures, Fed, FileOf, NOTHING, READING, Row, Trial, WRITING, ends_so,
     first_failing, first_harmless, first_wrong, is_number, none_wrong, run_over,
 };
 use outside::{Failing, Method};
@@ -313,7 +313,15 @@ const ANSWERS: &str = "1\n4\n\n9\n12\n";
 
 // The data and their header are opened and the header is read; then the data are opened again, and for two of the
 // points a line of each band is read. Three pieces and the end are taken, and each answer is put.
-static ASKED: [Asking<'static>; 4] = [
+// Of a mosaic whose files alone are asked for, the document and each raster with its header are opened, the document and
+// the headers are read, and no pixel.
+static ASKED: [Asking<'static>; 5] = [
+    (
+        ("gdallocationinfo -lifonly m.vrt 0 0", NOTHING),
+        "a.bil\nb.bil\n",
+        Failer::Folder,
+        8,
+    ),
     (THREE, ANSWERS, Failer::Folder, 8),
     (THREE, ANSWERS, Failer::Input, 4),
     (THREE, ANSWERS, Failer::Output(0), 3),

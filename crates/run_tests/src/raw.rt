@@ -37,6 +37,9 @@ fn files() -> &'static [FileOf<'static>] {
     &FILES
 }
 
+const REPORT: &str =
+    "Driver: EHdr\nFiles: n.bil\n       n.hdr\nSize is 2, 1\nBand 1 Block=2x1 Type=Byte\n  NoData Value=9\n";
+
 static VALUES: [Row<'static>; 9] = [
     ("gdallocationinfo -valonly a.bil 2 1", 0, "9\n12\n", ""),
     ("gdallocationinfo -valonly b.BIP 2 1", 0, "11\n12\n", ""),
@@ -66,12 +69,7 @@ static VALUES: [Row<'static>; 9] = [
         "-2\n",
         "",
     ),
-    (
-        "gdalinfo n.bil",
-        0,
-        "Driver: EHdr\nFiles: n.bil\n       n.hdr\nSize is 2, 1\nBand 1 Block=2x1 Type=Byte\n  NoData Value=9\n",
-        "",
-    ),
+    ("gdalinfo n.bil", 0, REPORT, ""),
 ];
 
 #[test]
@@ -194,8 +192,11 @@ fn a_failing_output(rt: HostRuntime) {
 }
 
 // The data and their header are opened and the header is read; then the data are opened again, and a line of each band
-// is read. The values are put by one call, and no input is taken.
-static ASKED: [Asking<'static>; 4] = [
+// is read. The values are put by one call, and no input is taken. A report opens the data and their header, reads the
+// header alone, and is put by one call.
+static ASKED: [Asking<'static>; 6] = [
+    (("gdalinfo n.bil", NOTHING), REPORT, Failer::Folder, 3),
+    (("gdalinfo n.bil", NOTHING), REPORT, Failer::Output(0), 1),
     ((LINE, NOTHING), "9\n12\n", Failer::Folder, 6),
     ((LINE, NOTHING), "9\n12\n", Failer::Output(0), 1),
     ((LINE, NOTHING), "9\n12\n", Failer::Output(2), 1),

@@ -199,15 +199,14 @@ fn failing_calls_of_a_raster(rt: HostRuntime) {
     none_wrong(&rt, first_other(&rt, rt.alloc(), files(), works(), &CALLS));
 }
 
-// Translations, and how many calls of the folder each makes at least. Of two workers that read a hundred lines in two
-// strips one reads thirty-two of the first; those of the second are read while the first are written, and each line is
-// written.
+// Translations, and how many calls of the folder each makes at least. Of two workers that read a hundred lines one
+// reads fifty or more, and each line is written.
 static EACH: [Turn; 5] = [
     (FIVE, Failer::Folder, (9, 256)),
     (QUIET, Failer::Folder, (9, 256)),
     (GRID, Failer::Folder, (6, 256)),
     (NESTED, Failer::Folder, (20, 256)),
-    (BESIDE, Failer::Folder, (130, 256)),
+    (BESIDE, Failer::Folder, (150, 256)),
 ];
 
 // Each call of the folder fails in turn.

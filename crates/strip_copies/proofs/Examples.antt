@@ -1,7 +1,7 @@
 -- Lines of small outputs.
 use Rattle.std.proofs.Common.{◌≡◌, ℕ, ℤ, pos, negsuc, ◌+◌, ◌*◌, [], ◌∷◌, Some, None, refl}
 use Rattle.geotransform.specs.declared.types.PixelType.TheVariants.{Byte}
-use Rattle.esri_hdr.specs.declared.parts.Layout.TheVariants.{Bil}
+use Rattle.esri_hdr.specs.declared.header_parts.Layout.TheVariants.{Bil}
 use Rattle.catalog.specs.Places.{row_by_row}
 use Rattle.translate_plan.specs.declared.options.Driver.TheVariants.{EHdr}
 use Rattle.translate_plan.specs.Plan.{Planned, out_pixel}

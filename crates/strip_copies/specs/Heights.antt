@@ -1,8 +1,8 @@
 -- How many lines are copied at a time.
 use Rattle.std.specs.Prelude.{ℕ, ◌*◌, ◌/◌, min, nat_lt, not, ◌&&◌, Bool, true, false, List, length, if◌then◌else◌}
 use Rattle.std.specs.List.{list_any}
-use Rattle.esri_hdr.specs.declared.parts.Layout.{Layout}
-use Rattle.esri_hdr.specs.declared.parts.Layout.TheVariants.{Bil, Bip, Bsq}
+use Rattle.esri_hdr.specs.declared.header_parts.Layout.{Layout}
+use Rattle.esri_hdr.specs.declared.header_parts.Layout.TheVariants.{Bil, Bip, Bsq}
 use Rattle.catalog.specs.Drivers.{Dataset}
 use Rattle.catalog.specs.declared.kind.Kind.{Kind}
 use Rattle.catalog.specs.declared.kind.Kind.TheVariants as kinds

@@ -3,7 +3,7 @@ ghost use Rattle.std.specs.Prelude.{◌≡◌, ◌<◌, ◌≤◌, ◌+◌, ◌+
 ghost use Rattle.translate_plan.specs.Plan.{shown_column};
 ghost use Rattle.strip_copies.specs.Rows.{within, column_at, held_to, AreColumns};
 
-use crate::places::{place_in, shown_at};
+use crate::shown_places::{place_in, shown_at};
 use std::alloc::{AllocError, Global};
 use translate_plan::Plan;
 

@@ -7,7 +7,7 @@ ghost use Rattle.strip_copies.specs.Copies.{IsDirect};
 
 use crate::columns::Columns;
 use crate::holding::Holding;
-use crate::places::line_at;
+use crate::shown_places::line_at;
 use crate::spans::Run;
 use geotransform::{PixelType, Sample};
 use translate_plan::Plan;

@@ -7,9 +7,9 @@ mod height;
 mod holding;
 mod laws;
 mod making;
-mod places;
 mod reading;
 mod rows;
+mod shown_places;
 mod spans;
 mod translation;
 

@@ -5,8 +5,8 @@ ghost use Rattle.strip_copies.specs.Rows.{strip_rect, AreIn, AreSamples, IsMakin
 
 use crate::columns::Columns;
 use crate::holding::Holding;
-use crate::places::line_at;
 use crate::rows::{fill_row, map_row};
+use crate::shown_places::line_at;
 use crate::spans::{Run, Span};
 use geotransform::{Sample, Size};
 use translate_plan::Plan;

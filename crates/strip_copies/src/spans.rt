@@ -2,7 +2,7 @@
 ghost use Rattle.std.specs.Prelude.{◌≡◌, ◌<◌, ◌≤◌, ◌+◌, ◌^◌, ℕ, Some, IfSome};
 ghost use Rattle.strip_copies.specs.Rows.{AreIn, IsIn};
 
-use crate::places::line_at;
+use crate::shown_places::line_at;
 use translate_plan::Plan;
 
 /// Lines of the source: `height` of them from `top` on.

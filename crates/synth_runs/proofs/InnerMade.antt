@@ -11,7 +11,7 @@ use Rattle.geotransform.specs.Print.{unit}
 use Rattle.geotransform.specs.declared.types.PixelType.TheVariants.{Int16}
 use Rattle.geotransform.specs.declared.types.Size.{Size}
 use Rattle.geotransform.proofs.Floors.{half_only}
-use Rattle.esri_hdr.specs.declared.parts.RawGeo.{RawGeo}
+use Rattle.esri_hdr.specs.declared.header_parts.RawGeo.{RawGeo}
 use Rattle.esri_hdr.specs.Head.{raw_geo, raw_geo_of, placed, is_origin, is_half_near}
 use Rattle.vrt_profile.specs.Values.{SourceValue, BandValue}
 use Rattle.vrt_profile.specs.Built.{pixels_at, plain_source}

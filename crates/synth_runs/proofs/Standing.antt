@@ -5,7 +5,7 @@ use Rattle.outside.specs.Outside.{Files}
 use Rattle.outside.specs.Names.{header_of}
 use Rattle.geotransform.specs.declared.types.PixelType.TheVariants.{Int16}
 use Rattle.esri_hdr.specs.Text.{hdr_text}
-use Rattle.esri_hdr.specs.declared.parts.Layout.TheVariants.{Bil}
+use Rattle.esri_hdr.specs.declared.header_parts.Layout.TheVariants.{Bil}
 use Rattle.vrt_profile.specs.Values.{SourceValue, BandValue, DocumentValue}
 use Rattle.vrt_profile.specs.Built.{pixels_at, plain_source}
 use Rattle.vrt_profile.specs.Cover.{whole}

@@ -12,8 +12,8 @@ use Rattle.outside.specs.Names.{header_of, extension_of, ending_of, last_part, k
 use Rattle.outside.specs.Outside.{Files}
 use Rattle.esri_hdr.specs.Head.{Head, IsHead, esri_head, raw_geo_of}
 use Rattle.esri_hdr.specs.Text.{hdr_text}
-use Rattle.esri_hdr.specs.declared.parts.HdrFault.{HdrFault}
-use Rattle.esri_hdr.specs.declared.parts.Layout.TheVariants.{Bil}
+use Rattle.esri_hdr.specs.declared.header_parts.HdrFault.{HdrFault}
+use Rattle.esri_hdr.specs.declared.header_parts.Layout.TheVariants.{Bil}
 use Rattle.esri_hdr.proofs.HeadAgain.{hdr_again}
 use Rattle.esri_hdr.proofs.Heads.{held_fits, plain_is_head}
 use Rattle.interleaved_raw.specs.Raw.{needed_of, sample_bytes}

@@ -5,7 +5,7 @@ use Rattle.outside.specs.Names.{header_of}
 use Rattle.geotransform.specs.Print.{unit}
 use Rattle.geotransform.specs.Geo.{Transform}
 use Rattle.geotransform.specs.declared.types.PixelType.TheVariants.{Int16}
-use Rattle.esri_hdr.specs.declared.parts.Layout.TheVariants.{Bil}
+use Rattle.esri_hdr.specs.declared.header_parts.Layout.TheVariants.{Bil}
 use Rattle.esri_hdr.specs.Head.{Head, raw_geo_of, plain_head}
 use Rattle.esri_hdr.specs.Text.{hdr_text}
 use Rattle.interleaved_raw.specs.Raw.{sample_bytes}

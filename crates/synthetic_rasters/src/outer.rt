@@ -31,14 +31,11 @@ fn inner_source(alloc: Global, side: u32, dst: MicroRect) -> Result<Source, Allo
 }
 
 // The source with 1000 added to each pixel.
-fn adding(source: Source) -> Source
+fn adding(alloc: Global, source: Source) -> Result<Source, AllocError>
     requires complex { source.complex ≡ true }
-    ensures source { result ≡ adding 1000 source }
+    ensures source { IfOk result (λ s. s ≡ adding 1000 source) }
 {
-    source.rules();
-    let mut source = source;
-    source.offset = 1_000_000_000_000_000;
-    source
+    source.with_offset(alloc, 1_000_000_000_000_000)
 }
 
 // The sources of the outer mosaic.
@@ -50,7 +47,8 @@ fn outer_sources(alloc: Global, side: u32) -> Result<SourceList, AllocError>
     let mut sources = SourceList::new(alloc);
     let whole = 2 * side;
     sources.push(inner_source(alloc, whole, square(0, whole))?)?;
-    sources.push(adding(inner_source(alloc, side, square(side, side))?))?;
+    let upper_left = inner_source(alloc, side, square(side, side))?;
+    sources.push(adding(alloc, upper_left)?)?;
     Ok(sources)
 }
 

@@ -4,7 +4,7 @@ use Rattle.std.specs.Prelude.{codes}
 use Rattle.geotransform.specs.declared.types.PixelType.TheVariants.{Byte, Int16, Int32}
 use Rattle.geotransform.specs.declared.faults.PlanFault.TheVariants.{EmptyWindow, Outside, Unfit}
 use Rattle.outside.specs.Names.{last_part}
-use Rattle.esri_hdr.specs.declared.parts.Layout.TheVariants.{Bil}
+use Rattle.esri_hdr.specs.declared.header_parts.Layout.TheVariants.{Bil}
 use Rattle.dted_records.specs.Fit.{cell_of}
 use Rattle.hgt_tiles.specs.Places.{tile_of}
 use Rattle.catalog.specs.Dataset.{DatasetHead}

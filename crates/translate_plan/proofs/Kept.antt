@@ -14,7 +14,7 @@ use Rattle.geotransform.specs.declared.types.PixelType.{PixelType}
 use Rattle.geotransform.specs.declared.types.PixelType.TheVariants.{Byte, Int8, UInt16, Int16, UInt32, Int32, UInt64, Int64}
 use Rattle.geotransform.specs.declared.faults.PlanFault.{PlanFault}
 use Rattle.esri_hdr.specs.Head.{when_in}
-use Rattle.esri_hdr.specs.declared.parts.Layout.{Layout}
+use Rattle.esri_hdr.specs.declared.header_parts.Layout.{Layout}
 use Rattle.catalog.specs.Dataset.{DatasetHead, IsDatasetHead}
 use Rattle.catalog.specs.declared.nodata.NodataWord.{NodataWord}
 use Rattle.catalog.specs.declared.nodata.NodataWord.TheVariants.{Absent, Remove, Number}

@@ -13,7 +13,7 @@ use Rattle.geotransform.specs.declared.faults.PlanFault.TheVariants.{NoGeo, Limi
 use Rattle.lists_and_answers.specs.Texts.{same_letters}
 use Rattle.outside.specs.Names.{last_part}
 use Rattle.esri_hdr.specs.Head.{raw_geo_of}
-use Rattle.esri_hdr.specs.declared.parts.RawGeo.{RawGeo}
+use Rattle.esri_hdr.specs.declared.header_parts.RawGeo.{RawGeo}
 use Rattle.dted_records.specs.Head as cells
 use Rattle.dted_records.specs.Fit.{cell_of}
 use Rattle.hgt_tiles.specs.Names as tiles

@@ -2,7 +2,7 @@
 use Rattle.std.specs.Prelude.{◌<◌, ◌≤◌, ◌≤ℤ◌, ◌^◌, ◌-◌, ℕ, ℤ, pos, neg_ℤ, Bool, List, All, Option, IfSome, unsigned_abs}
 use Rattle.geotransform.specs.Decimal.{IsRead}
 use Rattle.geotransform.specs.declared.types.PixelType.{PixelType}
-use Rattle.esri_hdr.specs.declared.parts.Layout.{Layout}
+use Rattle.esri_hdr.specs.declared.header_parts.Layout.{Layout}
 use Rattle.catalog.specs.declared.nodata.NodataWord.{NodataWord}
 use Rattle.catalog.specs.declared.nodata.NodataWord.TheVariants as nodata
 use Rattle.translate_plan.specs.declared.options.Driver.{Driver}

@@ -5,7 +5,7 @@ use Rattle.vrt_markup.specs.Items.{item_at, bad, comment, run, open_tag, close_t
 use Rattle.lists_and_answers.specs.Answers.{◌>>=◌}
 use Rattle.vrt_markup.specs.Forest.{Forest, stop, text, element, Read, with_text, with_element, nodes, inner, read_as, over, all_blank, is_blank, text_of, child_of, decoded}
 use Rattle.vrt_markup.specs.Views.{past}
-use Rattle.vrt_markup.specs.Kept.{seen, worded, first_child, stepped, Fails}
+use Rattle.vrt_markup.specs.Kept.{seen, worded, first_child, stepped, Fails, Gives}
 use Rattle.vrt_markup.specs.declared.fault.VrtFault.{VrtFault}
 use Rattle.vrt_markup.specs.declared.fault.VrtFault.TheVariants.{BadText, Limit}
 use Rattle.vrt_markup.proofs.Behind.{not_ok, err_same, at_item, at_open, leb_deep, opened}
@@ -137,7 +137,11 @@ read_same g h (Err e) same = refl
 pub ok_value : {A : Type 0} (x y : A) → ◌≡◌ {A = Result A VrtFault} (Ok x) (Ok y) → x ≡ y
 ok_value x y e = cc
 
--- the same of a child element that is read past, and means v whatever stands in it
-pub past_read : {A : Type 0} (v : A) (g : Forest → A) (s : List ℕ) (x : Read) → ((f : Forest) → v ≡ g f) → Ok s ≡ past x → Ok (v, s) ≡ read_as g x
-past_read v g s (Ok y) same e = ap (λ (z : Result (List ℕ) VrtFault). Ok (v, past_of s z)) e ∙ ap (λ w. Ok (w, y.1)) (same y.0)
-past_read v g s (Err f) same e = absurd cc
+-- what a function gives of an element's inside, where what follows from it follows for the definitions too
+pub gives_then : {A B C X : Type 0} (rest : X → List ℕ) (u : C → A) (v : C → B) (g : Forest → A) (h : Forest → B) (r : Result (C × X) VrtFault) (x : Read) → ((c : C) (f : Forest) → u c ≡ g f → v c ≡ h f) → Gives (λ y. (u y.0, rest y.1)) r (read_as g x) → Gives (λ y. (v y.0, rest y.1)) r (read_as h x)
+gives_then rest u v g h (Ok y) (Ok z) more e =
+    let same = ok_value (u y.0, rest y.1) (g z.0, z.1) e in
+    ap (λ a. Ok (a, rest y.1)) (more y.0 z.0 (ap (λ p. p.0) same)) ∙ ap (λ s. Ok (h z.0, s)) (ap (λ p. p.1) same)
+gives_then rest u v g h (Ok y) (Err k) more e = absurd cc
+gives_then rest u v g h (Err k) (Ok z) more e = not_ok k (g z.0, z.1) (read_as h (Ok z)) e
+gives_then rest u v g h (Err k) (Err l) more e = err_same _ _ k l e

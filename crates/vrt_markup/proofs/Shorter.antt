@@ -129,9 +129,6 @@ close_short t x h =
     let last : e.0 ≡ x.1 = ap (λ (p : Option (List ℕ × List ℕ)). option_case p [] (λ y. y.1)) e.2 in
     omega (arith, name_short t n.0 n.1, trim_short n.0.1, byte_short 62 (trim_front n.0.1) e.0 e.1, ap length last)
 
-strip_short : (front t r : List ℕ) → strip front t ≡ Some r → length r ≤ length t
-strip_short front t r h = omega (arith, ap length (guard_some (begins front t) (drop (length front) t) r h), length-drop (length front) t)
-
 -- a front of at least a byte
 strip_shorter : (c : ℕ) (cs t r : List ℕ) → strip (c ∷ cs) t ≡ Some r → length r < length t
 strip_shorter c cs [] r h = absurd cc

@@ -37,6 +37,11 @@ worded front child forest = (front ++ text_of forest, first_child child (child_o
 abbrev pub stepped : {S : Type 0} → (S → ℕ → Tag → Forest → Result S VrtFault) → Result S VrtFault → ℕ → Tag → Forest → Result S VrtFault
 stepped step kept place tag inside = kept >>= λ s. step s place tag inside
 
+-- the parts, unless a child is at fault
+abbrev pub kept_of : {S : Type 0} → S → Result (Unit {0}) VrtFault → Result S VrtFault
+kept_of s (Ok x) = Ok s
+kept_of s (Err e) = Err e
+
 -- any element in an element that has none is unknown
 abbrev pub no_child : Bool → ℕ → Tag → Forest → Result Bool VrtFault
 no_child s place tag inside = Err (UnknownElement place)

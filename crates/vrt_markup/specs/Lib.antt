@@ -1,7 +1,9 @@
-pub mod Faults
-pub mod Forest
+-- What public clauses and laws speak of: to be read and trusted.
 pub mod Items
-pub mod Kept
-pub mod Keys
+pub mod Forest
 pub mod Tree
+pub mod Faults
 pub mod Views
+pub mod Kept
+-- What private clauses, views and proofs speak of.
+pub mod Keys

@@ -1,6 +1,5 @@
 -- What structs of the code are for the definitions.
-use Rattle.std.specs.Prelude.{◌≡◌, ℕ, Bool, true, Option, Some, None, List, ◌<◌, length, Result, Ok, Err}
-use Rattle.vrt_markup.specs.declared.fault.VrtFault.TheVariants.{UnknownElement}
+use Rattle.std.specs.Prelude.{◌≡◌, ℕ, Option, List, ◌<◌, length, Result, Ok, Err}
 use Rattle.vrt_markup.specs.declared.text.Words.{Words}
 use Rattle.vrt_markup.specs.declared.fault.VrtFault.{VrtFault}
 use Rattle.vrt_markup.specs.Forest.{Read}
@@ -51,11 +50,6 @@ past (Err e) = Err e
 
 abbrev pub text_view : Words → List ℕ × Option ℕ
 text_view w = (w.text.items, w.child)
-
--- the place of the first element in an element that has none
-abbrev pub lone_view : Option ℕ → Result Bool VrtFault
-lone_view None = Ok true
-lone_view (Some place) = Err (UnknownElement place)
 
 abbrev pub result_view : {A B : Type 0} → (A → B) → Result A VrtFault → Result B VrtFault
 result_view view (Ok x) = Ok (view x)

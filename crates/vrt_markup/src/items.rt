@@ -1,8 +1,8 @@
 // The items of a document: comments, tags and runs of text.
-ghost use Rattle.std.specs.Prelude.{◌≡◌, ℕ, ◌<◌, ◌≤◌, ◌+◌, ◌==◌, length, map, true, false, IfSome, IfOk, List, Option, Some, None, [], ◌∷◌};
+ghost use Rattle.std.specs.Prelude.{◌≡◌, ◌<◌, ◌≤◌, ◌+◌, ◌==◌, length, map, true, false, IfSome, IfOk, Option, Some, None, []};
 ghost use Rattle.std.specs.Option.{option_map};
 ghost use Rattle.std.specs.List.{prefix_len};
-ghost use Rattle.vrt_markup.specs.Items.{is_some, strip, is_white, trim_front, is_first, is_later, has_first, name_at, byte_at, after_comment, entity_at, ends_at, plain_len, spaces_at, quote_at, value_at, pair_at, is_equal, begins, pairs, pairs_by, attribute, is_distinct, tag_end, tag_front, tag_item, tag_at, close_at, run_at, item_at};
+ghost use Rattle.vrt_markup.specs.Items.{is_some, strip, is_white, trim_front, is_first, is_later, has_first, name_at, byte_at, after_comment, entity_at, ends_at, plain_len, spaces_at, quote_at, value_at, pair_at, is_equal, begins, pairs, attribute, is_distinct, tag_end, tag_front, tag_item, tag_at, close_at, run_at, item_at};
 ghost use Rattle.vrt_markup.specs.Keys.{last_bytes, key_of, number_of, apart, double_from, double_of};
 ghost use Rattle.vrt_markup.specs.Views.{pair_view, tag_view, Finds, Shortens};
 

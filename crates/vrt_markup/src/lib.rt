@@ -1,14 +1,16 @@
 // The markup of a document: its items, the tree that they make, and what an element holds.
 #![tactic(auto)]
 
+mod children;
 pub mod fault;
 mod items;
 mod past;
 mod root;
 mod text;
 
+pub use children::{Level, Parts, Seen, children_of};
 pub use fault::VrtFault;
 pub use items::{Item, Tag, attribute, is_equal, is_white, item_at, trim_front};
 pub use past::past_element;
 pub use root::{Root, end_at, root_at, utf8_of};
-pub use text::{Marks, Words, is_blank, lone_inner, text_element};
+pub use text::{Words, is_blank, text_element};

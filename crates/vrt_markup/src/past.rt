@@ -1,5 +1,5 @@
 // Elements that are read past, with all that they hold.
-ghost use Rattle.std.specs.Prelude.{◌≡◌, ℕ, ◌<◌, ◌≤◌, ◌+◌, length, IfOk, List, Result, Ok, Err};
+ghost use Rattle.std.specs.Prelude.{◌<◌, ◌≤◌, ◌+◌, length, IfOk, Result, Ok, Err};
 ghost use Rattle.vrt_markup.specs.Forest.{nodes, inner};
 ghost use Rattle.vrt_markup.specs.Views.{tag_view, past};
 ghost use Rattle.vrt_markup.specs.Kept.{Gives};

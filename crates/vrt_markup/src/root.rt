@@ -1,7 +1,7 @@
 // The root of a document, and what stands outside it.
-ghost use Rattle.std.specs.Prelude.{◌≡◌, ℕ, ◌<◌, ◌≤◌, ◌-◌, length, IfOk, IfSome, List, Result, Ok, Err, Option};
+ghost use Rattle.std.specs.Prelude.{◌≡◌, ◌<◌, ◌≤◌, ◌-◌, length, IfOk, IfSome, Result, Ok, Err, Option};
 ghost use Rattle.std.specs.Option.{option_map};
-ghost use Rattle.vrt_markup.specs.Views.{tag_view, result_view, root_view};
+ghost use Rattle.vrt_markup.specs.Views.{result_view, root_view};
 ghost use Rattle.vrt_markup.specs.Kept.{Gives};
 ghost use Rattle.vrt_markup.specs.Tree.{utf8_of, space, without_mark, after_declaration, declared_at, root_behind, root_at, end_by, end_at};
 

@@ -1,9 +1,9 @@
 // The text directly in an element, and elements that hold text alone.
-ghost use Rattle.std.specs.Prelude.{◌≡◌, ℕ, ◌<◌, ◌≤◌, ◌-◌, ◌++◌, [], length, IfOk, OnOk, List, Result, Ok, Option, None, Some, true};
+ghost use Rattle.std.specs.Prelude.{◌≡◌, ◌<◌, ◌≤◌, ◌-◌, ◌++◌, [], length, IfOk, OnOk, Result, Ok, Option, None, Some};
 ghost use Rattle.vrt_markup.specs.Items.{is_white};
-ghost use Rattle.vrt_markup.specs.Forest.{nodes, inner, is_blank, plain_at, decoded, read_as, text_of, child_of};
-ghost use Rattle.vrt_markup.specs.Views.{tag_view, text_view, lone_view};
-ghost use Rattle.vrt_markup.specs.Kept.{Gives, worded, first_child, seen, no_child};
+ghost use Rattle.vrt_markup.specs.Forest.{nodes, inner, is_blank, plain_at, decoded, read_as};
+ghost use Rattle.vrt_markup.specs.Views.{tag_view, text_view};
+ghost use Rattle.vrt_markup.specs.Kept.{Gives, worded, first_child};
 
 use crate::fault::VrtFault;
 use crate::items::{Item, Tag, entity_at, is_equal, is_white, item_at};
@@ -135,79 +135,4 @@ pub fn text_element<'a>(
         ));
     }
     text_nodes(alloc, total, depth + 1, tag.name, bytes)
-}
-
-/// Whether the text directly in an element is blank, and the place of the first element in it.
-#[derive(Clone, Copy)]
-pub struct Marks {
-    pub blank: bool,
-    pub child: Option<u64>,
-}
-
-// The marks of an element of this name, behind its start tag.
-fn lone_nodes<'a>(
-    alloc: Global,
-    total: usize,
-    depth: usize,
-    name: &[u8],
-    bytes: &'a [u8],
-) -> Result<(Marks, &'a [u8]), VrtFault>
-    requires within { length bytes.now ≤ total }
-    requires depth { depth ≤ 64 }
-    ensures seen { Gives (λ x. ((lone_view x.0.child, x.0.blank), x.1.now)) result (read_as (seen no_child (Ok true) true) (nodes total depth name.now bytes.now)) }
-    ensures shorter { IfOk result (λ x. length x.1.now < length bytes.now) }
-{
-    let mut rest = bytes;
-    let mut marks = Marks {
-        blank: true,
-        child: None,
-    };
-    'items: loop {
-        let place = (total - rest.len()) as u64;
-        match item_at(alloc, rest) {
-            Item::NoMemory => return Err(VrtFault::Memory),
-            Item::Comment(more) => rest = more,
-            Item::Run(raw, more) => {
-                marks.blank = marks.blank & is_blank(raw);
-                rest = more;
-            }
-            Item::Close(other, more) if is_equal(other, name) => return Ok((marks, more)),
-            Item::Bad | Item::Close(_, _) => return Err(VrtFault::BadText(place)),
-            Item::Open(_, _) if depth >= 64 => return Err(VrtFault::Limit),
-            Item::Open(tag, more) => {
-                match past_element(alloc, total, depth, tag, more) {
-                    Ok(behind) => {
-                        marks.child = first_child(marks.child, place);
-                        rest = behind;
-                    }
-                    Err(error) => return Err(error),
-                }
-            }
-        }
-    }
-}
-
-/// The marks of an element that begins with a tag.
-pub fn lone_inner<'a>(
-    alloc: Global,
-    total: usize,
-    depth: usize,
-    tag: Tag,
-    bytes: &'a [u8],
-) -> Result<(Marks, &'a [u8]), VrtFault>
-    requires within { length bytes.now ≤ total }
-    requires depth { depth < 64 }
-    ensures seen { Gives (λ x. ((lone_view x.0.child, x.0.blank), x.1.now)) result (read_as (seen no_child (Ok true) true) (inner total depth (tag_view tag.entry) bytes.now)) }
-    ensures shorter { IfOk result (λ x. length x.1.now ≤ length bytes.now) }
-{
-    if tag.empty {
-        return Ok((
-            Marks {
-                blank: true,
-                child: None,
-            },
-            bytes,
-        ));
-    }
-    lone_nodes(alloc, total, depth + 1, tag.name, bytes)
 }

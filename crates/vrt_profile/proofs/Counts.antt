@@ -20,9 +20,6 @@ use Rattle.vrt_profile.proofs.Tables.{bind_ok, ok_same, cond_err}
 pub no_sources : (p : BandParts) → p.sources ≡ [] → IsBandParts p
 no_sources p e = record { sources = subst (All IsSource) (sym e) (All-nil IsSource) }
 
-pub more_sources : (p q : BandParts) (s : SourceValue) → IsBandParts p → IsSource s → q.sources ≡ p.sources ++ s ∷ [] → IsBandParts q
-more_sources p q s rules new e = record { sources = subst (All IsSource) (sym e) (All-push IsSource p.sources s rules.sources new) }
-
 abbrev count : BandValue → ℕ
 count b = length b.sources
 

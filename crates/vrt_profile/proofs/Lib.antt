@@ -2,6 +2,7 @@ mod Rules
 pub mod Tables
 pub mod KeptTexts
 mod Counts
+mod Once
 mod Answered
 mod Computes
 mod Related

@@ -3,7 +3,7 @@ use Rattle.std.proofs.Common.{◌≡◌, ℕ, ℤ, pos, ◌+◌, ◌*◌, ◌^�
 use Rattle.std.specs.List.{list_all, prefix_len, suffix_len}
 use Rattle.std.specs.Char.{is_ascii_digit}
 use Rattle.std.proofs.Math.Seq.{take-append_seam, drop-append_seam, take-length, drop-length}
-use Rattle.std.proofs.lemmas.List.{take-append-drop, length-append, take_all}
+use Rattle.std.proofs.lemmas.List.{length-append, take_all}
 use Rattle.std.proofs.lemmas.List.Folds.{list_all-append}
 use Rattle.std.proofs.lemmas.List.Sums.{AllPass-from_list_all, suffix_len-take_no}
 use Rattle.std.proofs.lemmas.List.Elements.{All-get_or}
@@ -286,16 +286,6 @@ pub micros_at : (text : List ℕ) (negative : Bool) (behind : List ℕ) (m : ℕ
 micros_at text negative behind m rest v sign value digits =
     let from : Signed text negative behind = subst (λ (s : Bool × List ℕ). Signed text s.0 s.1) (sym sign) (signed_at text) in
     subst (λ u. MicrosFront text u rest) (sym value) (front_of text negative behind m rest from digits)
-
-pub digits_front : (text digits rest : List ℕ) (n : ℕ) → (digits, rest) ≡ digits_at text → list_all is_ascii_digit digits ≡ true → 0 < length digits → length digits ≤ 9 → n ≡ number digits → DigitsFront text n rest
-digits_front text digits rest n cut all some few value = record {
-  digits = digits;
-  whole = sym (ap (λ (x : List ℕ × List ℕ). x.0 ++ x.1) cut ∙ take-append-drop (prefix_len is_ascii_digit text) text);
-  all = all;
-  some = some;
-  few = few;
-  value = value;
-}
 
 pub few_value : (ds : List ℕ) (i n : ℕ) → n ≡ min (number (take i ds)) 1000000000 → length ds ≤ i → list_all is_ascii_digit ds ≡ true → length ds ≤ 9 → n ≡ number ds
 few_value ds i n e le all few =

@@ -1,14 +1,16 @@
 // Documents that are built, from their sources up.
-ghost use Rattle.std.specs.Prelude.{◌≡◌, ℤ, pos, ◌*ℤ◌, ◌<ℤ◌, ◌<◌, ◌≤◌, ◌^◌, ◌++◌, ◌∷◌, [], true, length, IfSome, IfOk, OnOk, OnErr, IsUtf8, unsigned_abs};
+ghost use Rattle.std.specs.Prelude.{◌≡◌, ℤ, pos, ◌*ℤ◌, ◌<ℤ◌, ◌<◌, ◌≤◌, ◌^◌, ◌++◌, ◌∷◌, [], true, length, IfSome, IfOk, OnOk, OnErr, IsUtf8, None, unsigned_abs};
 ghost use Rattle.geotransform.specs.Geo.{IsRaster};
 ghost use Rattle.geotransform.specs.Types.{is_in};
-ghost use Rattle.vrt_profile.specs.Values.{IsDecimal, IsOffset, IsRectangle, million, source_count};
+ghost use Rattle.vrt_profile.specs.Values.{IsDecimal, IsOffset, IsRectangle, million, trillion, source_count};
 ghost use Rattle.vrt_profile.specs.Cover.{whole};
 ghost use Rattle.vrt_profile.specs.Resolve.{related};
 ghost use Rattle.vrt_profile.specs.Built.{pixels_at, IsPixelOffset, IsPixelSide, plain_source};
 
 use crate::document::{Document, Source, Sources, VrtBand, VrtBands};
+use crate::kept::text_rules;
 use crate::rectangle::MicroRect;
+use crate::scaling::{Scaling, ScalingParts};
 use crate::source_names::relate;
 use geotransform::{GeoTransform, PixelType, Sample, Size};
 use lists_and_answers::Items;
@@ -54,13 +56,6 @@ pub fn whole_rect(size: Size) -> MicroRect
     pixel_rect(0, 0, size.w as i128, size.h as i128)
 }
 
-// The rule that each text keeps.
-fn text_rules(text: &Text)
-    ensures utf8 { IsUtf8 text.now }
-{
-    let _text = text.as_str();
-}
-
 // The rules that each rectangle keeps.
 fn rect_rules(rect: MicroRect)
     ensures rules { IsRectangle rect }
@@ -78,35 +73,47 @@ fn related_file(alloc: Global, base: &Name, name: &Name) -> Result<(bool, Text),
     relate(alloc, base, name)
 }
 
+// The scaling that leaves every pixel as it is, but this NODATA.
+fn showing_all_but(alloc: Global, nodata: Option<Sample>) -> Result<Scaling, AllocError>
+    ensures scaling { IfOk result (λ s. s ≡ record { nodata = nodata; offset = pos 0; ratio = pos trillion; lut = None }) }
+{
+    let parts = ScalingParts {
+        nodata,
+        offset: 0,
+        ratio: TRILLION,
+        lut: None,
+    };
+    Scaling::of(alloc, parts)
+}
+
 // The source of a file that is told by whether its text is relative, and the text.
 fn source_from(
+    alloc: Global,
     file: (bool, Text),
     band: u32,
     src: MicroRect,
     dst: MicroRect,
     nodata: Option<Sample>,
-) -> Source
+) -> Result<Source, AllocError>
     requires named { 0 < length file.1 }
     requires band { (0 < band) × (band ≤ 256) }
     requires nodata { IfSome nodata (λ n. unsigned_abs n < 10 ^ 20) }
-    ensures source { result ≡ plain_source file band src dst nodata }
+    ensures source { IfOk result (λ s. s ≡ plain_source file band src dst nodata) }
 {
     let (relative, file) = file;
     text_rules(&file);
     rect_rules(src);
     rect_rules(dst);
-    Source {
+    let scaling = showing_all_but(alloc, nodata)?;
+    Ok(Source {
         complex: nodata.is_some(),
         relative,
         file,
         band,
         src: Some(src),
         dst: Some(dst),
-        nodata,
-        offset: 0,
-        ratio: TRILLION,
-        lut: None,
-    }
+        scaling,
+    })
 }
 
 /// A source that shows the rectangle `src` of a band of the file `name`, counted from 1, in the
@@ -126,7 +133,7 @@ pub fn plain_source(
     ensures source { IfOk result (λ s. s ≡ plain_source (related base.now name.now) band src dst nodata) }
 {
     let file = related_file(alloc, base, name)?;
-    Ok(source_from(file, band, src, dst, nodata))
+    source_from(alloc, file, band, src, dst, nodata)
 }
 
 /// The sources of a band, each of which keeps its rules.

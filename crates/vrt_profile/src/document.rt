@@ -1,37 +1,35 @@
 // A VRT document: a raster of bands, each of which is made of sources.
-ghost use Rattle.std.specs.Prelude.{◌≡◌, is_some};
+ghost use Rattle.std.specs.Prelude.{◌≡◌, ◌<◌, ◌*◌, true, IfOk, option_map, unsigned_abs};
 ghost use Rattle.vrt_profile.specs.Value.{is_plain, takes_kind};
-ghost use Rattle.vrt_profile.specs.Values.{IsSource, IsBand, IsDocument};
+ghost use Rattle.vrt_profile.specs.Values.{IsSource, IsBand, IsDocument, trillion};
 
 use crate::rectangle::{Lut, MicroRect};
+use crate::scaling::Scaling;
 use geotransform::{GeoTransform, PixelType, Sample, Size};
 use lists_and_answers::Items;
 use outside::Text;
+use std::alloc::{AllocError, Global};
 use std::marker::Model;
 
 /// A source of a band: a band of another dataset, a part of which is put to a part of the mosaic. It
-/// keeps each rule of a source by itself: the file's text isn't empty, the band is from 1 to 256, and
-/// a source that isn't complex has no NODATA, offset 0, ratio 10^12 and no table.
+/// keeps each rule of a source by itself: the file's text isn't empty, the band is from 1 to 256, the NODATA is below
+/// 10^20 in magnitude, the offset and the ratio below 10^12, and a source that isn't complex has no NODATA, offset 0,
+/// ratio 1 and no table.
 #[derive(Drop)]
 pub struct Source {
     /// Whether it is a ComplexSource.
     pub complex: bool,
     /// Whether the file's text is relative to the document.
     pub relative: bool,
-    pub file: Text,
     /// The band of the file, counted from 1.
     pub band: u32,
+    pub file: Text,
     /// The part of the source; the whole of it where there is none.
     pub src: Option<MicroRect>,
     /// The part of the mosaic; the whole of it where there is none.
     pub dst: Option<MicroRect>,
-    /// The pixel that gives nothing, below 10^20 in magnitude.
-    pub nodata: Option<i128>,
-    /// What is added to a scaled pixel, in parts of 10^12, below 10^12 in magnitude.
-    pub offset: i128,
-    /// What a pixel is scaled by, in parts of 10^12, below 10^12 in magnitude.
-    pub ratio: i128,
-    pub lut: Option<Lut>,
+    /// What becomes of its pixels.
+    pub scaling: Scaling,
 }
 
 impl Model for Source {
@@ -39,9 +37,9 @@ impl Model for Source {
 
     ghost Value = { SourceValue };
 
-    ghost view = { λ s. record { complex = s.complex; relative = s.relative; file = s.file; band = s.band; src = s.src; dst = s.dst; nodata = s.nodata; offset = s.offset; ratio = s.ratio; lut = s.lut } };
+    ghost view = { λ s. record { complex = s.complex; relative = s.relative; file = s.file; band = s.band; src = s.src; dst = s.dst; nodata = s.scaling.nodata; offset = s.scaling.offset; ratio = s.scaling.ratio; lut = s.scaling.lut } };
 
-    ghost invariant = { λ s. IsSource (record { complex = s.complex; relative = s.relative; file = s.file; band = s.band; src = s.src; dst = s.dst; nodata = s.nodata; offset = s.offset; ratio = s.ratio; lut = s.lut }) };
+    ghost invariant = { λ s. IsSource (record { complex = s.complex; relative = s.relative; file = s.file; band = s.band; src = s.src; dst = s.dst; nodata = s.scaling.nodata; offset = s.scaling.offset; ratio = s.scaling.ratio; lut = s.scaling.lut }) };
 }
 
 /// The sources of a band, the last of which counts most.
@@ -91,15 +89,6 @@ impl Model for Document {
     ghost invariant = { λ d. IsDocument (record { size = d.size; srs = d.srs; geo = d.geo; bands = d.bands }) };
 }
 
-fn has_table(lut: &Option<Lut>) -> bool
-    ensures table { result ≡ is_some lut.now }
-{
-    match lut {
-        None => false,
-        Some(_) => true,
-    }
-}
-
 impl Source {
     /// The rules that each source keeps.
     pub fn rules(&self)
@@ -115,7 +104,63 @@ impl Source {
         if !self.complex {
             return true;
         }
-        self.ratio == 1_000_000_000_000 && self.offset == 0 && !has_table(&self.lut)
+        self.scaling.keeps_pixels()
+    }
+
+    /// Its NODATA, the pixel that gives nothing.
+    pub fn nodata(&self) -> Option<i128>
+        ensures nodata { result ≡ self.now.nodata }
+    {
+        self.scaling.nodata()
+    }
+
+    /// What is added to a scaled pixel, in parts of 10^12.
+    pub fn offset(&self) -> i128
+        ensures offset { result ≡ self.now.offset }
+    {
+        self.scaling.offset()
+    }
+
+    /// What a pixel is scaled by, in parts of 10^12.
+    pub fn ratio(&self) -> i128
+        ensures ratio { result ≡ self.now.ratio }
+    {
+        self.scaling.ratio()
+    }
+
+    /// Lends its table.
+    pub fn lut(&self) -> Option<&Lut>
+        ensures lut { option_map (λ t. t.now) result ≡ self.now.lut }
+    {
+        self.scaling.lut()
+    }
+
+    /// The same ComplexSource, but that this is added to a scaled pixel, in parts of 10^12.
+    pub fn with_offset(self, alloc: Global, offset: i128) -> Result<Source, AllocError>
+        requires complex { self.complex ≡ true }
+        requires small { unsigned_abs offset < trillion * trillion }
+        ensures source { IfOk result (λ s. s ≡ record self { offset = offset }) }
+    {
+        self.rules();
+        let Source {
+            complex,
+            relative,
+            file,
+            band,
+            src,
+            dst,
+            scaling,
+        } = self;
+        let scaling = scaling.with_offset(alloc, offset)?;
+        Ok(Source {
+            complex,
+            relative,
+            file,
+            band,
+            src,
+            dst,
+            scaling,
+        })
     }
 
     /// Whether the source takes samples of this type: those that it scales, or has a table for, have at most 32

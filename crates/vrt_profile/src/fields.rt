@@ -1,9 +1,9 @@
 // Numbers in a text, alone or with marks between them.
-ghost use Rattle.std.specs.Prelude.{◌≡◌, ◌≤◌, ◌<◌, ◌*◌, ◌+◌, length, not, ◌==◌, IfSome, unsigned_abs};
+ghost use Rattle.std.specs.Prelude.{◌≡◌, ◌≤◌, ◌<◌, ◌*◌, length, IfSome, unsigned_abs};
 ghost use Rattle.std.specs.Option.{option_map};
 ghost use Rattle.geotransform.specs.Decimal.{IsRead};
 ghost use Rattle.vrt_profile.specs.Values.{million, IsPair};
-ghost use Rattle.vrt_profile.specs.Fields.{trim, trim_end, whole_text, length_before, cut_by, cut_at, near_by, near_number, pair_of, ticks_then, six_of, Six};
+ghost use Rattle.vrt_profile.specs.Fields.{trim, trim_end, whole_text, length_before, cut_at, near_number, pair_of, ticks_then, six_of, Six};
 ghost use Rattle.vrt_profile.specs.NumberViews.{six_view, IsReadSix};
 
 use crate::rectangle::LutPair;

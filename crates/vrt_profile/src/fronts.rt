@@ -70,19 +70,19 @@ fn fraction_front(text: &[u8]) -> Option<(u64, &[u8])>
 }
 
 // The number of up to nine digits in front, and up to six behind a point, in millionths.
-#[tactic(auto, using(crate::proofs::ShortNumbers::whole_front, crate::proofs::ShortNumbers::point_front))]
 fn decimal_front(text: &[u8]) -> Option<(u64, &[u8])>
     ensures decimal { IfSome result (λ x. DecimalFront text.now x.0 x.1.now) }
     ensures bound { IfSome result (λ x. x.0 < 2000000000000000) }
     ensures shorter { IfSome result (λ x. length x.1.now ≤ length text.now) }
 {
     let (whole, rest) = few_digits(text)?;
+    let size = product(whole, 1_000_000);
     match behind_byte(rest, b'.') {
         Some(more) => {
             let (part, rest) = fraction_front(more)?;
-            Some((whole * 1_000_000 + part, rest))
+            Some((size + part, rest))
         }
-        None => Some((whole * 1_000_000, rest)),
+        None => Some((size, rest)),
     }
 }
 

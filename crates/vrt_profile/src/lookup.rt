@@ -1,9 +1,8 @@
 // Lookup tables.
-ghost use Rattle.std.specs.Prelude.{◌≡◌, ℕ, ◌<◌, ◌++◌, [], ◌∷◌, Ok, List, length, IfOk, IfSome};
+ghost use Rattle.std.specs.Prelude.{◌≡◌, ℕ, ◌<◌, ◌++◌, [], ◌∷◌, Ok, List, length, IfSome};
 ghost use Rattle.std.specs.Option.{option_map};
-ghost use Rattle.vrt_profile.specs.Values.{IsPair, IsLut};
 ghost use Rattle.vrt_profile.specs.Fields.{pieces, first_piece, pair_of};
-ghost use Rattle.vrt_profile.specs.Numbers.{is_above, rising_pair, next_pair, lut_from, lut_of};
+ghost use Rattle.vrt_profile.specs.Numbers.{is_above, rising_pair, next_pair, lut_of};
 ghost use Rattle.vrt_markup.specs.Kept.{Gives};
 
 use crate::fields::{cut_at, pair_of};

@@ -1,12 +1,11 @@
 // The numbers of a document, each with the rule that it keeps.
-ghost use Rattle.std.specs.Prelude.{◌≡◌, ℤ, ◌≤◌, ◌<◌, ◌*◌, ◌^◌, pos, ◌<ℤ◌, Some, None, length, IfOk, IfSome, unsigned_abs};
+ghost use Rattle.std.specs.Prelude.{◌≡◌, ℤ, ◌≤◌, ◌<◌, ◌*◌, ◌^◌, pos, ◌<ℤ◌, Some, None, IfOk, IfSome, unsigned_abs};
 ghost use Rattle.std.specs.Option.{option_map};
 ghost use Rattle.geotransform.specs.Decimal.{whole_of, IsRead};
 ghost use Rattle.geotransform.specs.Geo.{transform_of};
-ghost use Rattle.vrt_markup.specs.Items.{is_equal};
 ghost use Rattle.vrt_profile.specs.Fields.{trim};
-ghost use Rattle.vrt_profile.specs.Values.{million, IsOffset, IsDecimal};
-ghost use Rattle.vrt_profile.specs.Numbers.{side_by, side_in, micro_in, within_limit, offset_in, some_size, size_in, is_mask, no_band_fault, band_by, band_number, scale_by, scale_of, or_fault, north_up, geo_of};
+ghost use Rattle.vrt_profile.specs.Values.{IsOffset, IsDecimal};
+ghost use Rattle.vrt_profile.specs.Numbers.{side_by, side_in, micro_in, within_limit, offset_in, some_size, size_in, is_mask, no_band_fault, band_by, band_number, scale_of, or_fault, north_up, geo_of};
 ghost use Rattle.vrt_markup.specs.declared.fault.VrtFault.TheVariants.{BadNumber};
 ghost use Rattle.vrt_profile.specs.NumberViews.{six_view, IsReadSix};
 

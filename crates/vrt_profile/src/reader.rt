@@ -1,10 +1,8 @@
 // Documents read: the document that the bytes mean.
-ghost use Rattle.std.specs.Prelude.{◌≡◌, ℕ, ◌<◌, ◌≤◌, ◌-◌, length, IfOk, IfSome, List, Result, Ok, Err, Option};
+ghost use Rattle.std.specs.Prelude.{◌<◌, ◌-◌, Result, Ok, Err};
 ghost use Rattle.lists_and_answers.specs.Answers as answers;
 ghost use Rattle.vrt_markup.specs.Faults.{IsMemory};
-ghost use Rattle.vrt_markup.specs.Views.{tag_view, result_view, root_view};
 ghost use Rattle.vrt_markup.specs.Kept.{Gives};
-ghost use Rattle.vrt_profile.specs.Values.{IsDocument};
 ghost use Rattle.vrt_profile.specs.Document.{markup_means, document_of};
 
 use crate::dataset::root_element;

@@ -1,25 +1,52 @@
 // Rectangles: SrcRect and DstRect.
-ghost use Rattle.std.specs.Prelude.{◌≡◌, ◌<◌, ◌≤◌, ◌<ℤ◌, pos, length, IfOk, List};
+ghost use Rattle.std.specs.Prelude.{◌≡◌, ◌<◌, ◌≤◌, ◌<ℤ◌, pos, length, IfOk, Option, Some, Bool, true};
 ghost use Rattle.vrt_profile.specs.Values.{IsOffset};
 ghost use Rattle.vrt_markup.specs.Forest.{inner, read_as};
-ghost use Rattle.vrt_profile.specs.Means.{rect_end, rect_by, rect_of};
-ghost use Rattle.vrt_markup.specs.Views.{tag_view, lone_view};
-ghost use Rattle.vrt_markup.specs.Kept.{Gives};
+ghost use Rattle.vrt_profile.specs.Means.{once, rect_end, rect_by, rect_of};
+ghost use Rattle.vrt_markup.specs.Views.{tag_view};
+ghost use Rattle.vrt_markup.specs.Kept.{Gives, kept_of, no_child};
 
 use crate::numbers::{offset_in, size_in};
+use crate::puts::put_once;
 use crate::rectangle::MicroRect;
 use std::alloc::Global;
-use vrt_markup::{Marks, Tag, VrtFault, attribute, lone_inner};
+use vrt_markup::{Level, Parts, Seen, Tag, VrtFault, attribute, children_of, past_element};
 
-fn rect_end(marks: Marks, rect: MicroRect) -> Result<MicroRect, VrtFault>
-    ensures rect { result ≡ rect_end marks.blank (lone_view marks.child) rect }
+// An element that has attributes alone: each element in it is a fault.
+#[derive(Drop)]
+struct Bare;
+
+impl Parts for Bare {
+    ghost Value = { Bool };
+
+    ghost value = { λ _. true };
+
+    ghost step = { λ _. no_child };
+
+    fn child<'a>(
+        &mut self,
+        alloc: Global,
+        level: Level,
+        place: u64,
+        tag: Tag,
+        bytes: &'a [u8],
+    ) -> Result<(Result<(), VrtFault>, &'a [u8]), VrtFault> {
+        match past_element(alloc, level.total, level.depth, tag, bytes) {
+            Ok(rest) => Ok((Err(VrtFault::UnknownElement(place)), rest)),
+            Err(error) => Err(error),
+        }
+    }
+}
+
+fn rect_end(seen: Seen, rect: MicroRect) -> Result<MicroRect, VrtFault>
+    ensures rect { result ≡ rect_end seen.blank (kept_of true seen.kept) rect }
 {
-    if !marks.blank {
+    if !seen.blank {
         return Err(VrtFault::Unsupported);
     }
-    match marks.child {
-        None => Ok(rect),
-        Some(place) => Err(VrtFault::UnknownElement(place)),
+    match seen.kept {
+        Ok(()) => Ok(rect),
+        Err(fault) => Err(fault),
     }
 }
 
@@ -30,40 +57,58 @@ fn rect_by(
     y: Result<i64, VrtFault>,
     w: Result<i64, VrtFault>,
     h: Result<i64, VrtFault>,
-    marks: Marks,
+    seen: Seen,
 ) -> Result<MicroRect, VrtFault>
     requires x { IfOk x IsOffset }
     requires y { IfOk y IsOffset }
     requires w { IfOk w (λ v. (pos 0 <ℤ v) × IsOffset v) }
     requires h { IfOk h (λ v. (pos 0 <ℤ v) × IsOffset v) }
-    ensures rect { result ≡ rect_by x y w h marks.blank (lone_view marks.child) }
+    ensures rect { result ≡ rect_by x y w h seen.blank (kept_of true seen.kept) }
 {
     let x = x?;
     let y = y?;
     let w = w?;
     let h = h?;
-    rect_end(marks, MicroRect { x, y, w, h })
+    rect_end(seen, MicroRect { x, y, w, h })
 }
 
-/// What a SrcRect or a DstRect means.
-pub fn rect_element<'a>(
+// What a SrcRect or a DstRect means.
+fn rect_element<'a>(
     alloc: Global,
-    total: usize,
-    depth: usize,
+    level: Level,
     tag: Tag,
     bytes: &'a [u8],
 ) -> Result<(Result<MicroRect, VrtFault>, &'a [u8]), VrtFault>
-    requires within { length bytes.now ≤ total }
-    requires depth { depth < 64 }
-    ensures rect { Gives (λ x. (x.0, x.1.now)) result (read_as (rect_of (tag_view tag.entry)) (inner total depth (tag_view tag.entry) bytes.now)) }
+    requires within { length bytes.now ≤ level.total }
+    requires depth { level.depth < 64 }
+    ensures rect { Gives (λ x. (x.0, x.1.now)) result (read_as (rect_of (tag_view tag.entry)) (inner level.total level.depth (tag_view tag.entry) bytes.now)) }
     ensures shorter { IfOk result (λ x. length x.1.now ≤ length bytes.now) }
 {
     let x = offset_in(attribute(tag.attributes, b"xOff"));
     let y = offset_in(attribute(tag.attributes, b"yOff"));
     let w = size_in(attribute(tag.attributes, b"xSize"));
     let h = size_in(attribute(tag.attributes, b"ySize"));
-    match lone_inner(alloc, total, depth, tag, bytes) {
-        Ok((marks, rest)) => Ok((rect_by(x, y, w, h, marks), rest)),
+    match children_of(alloc, level, tag, &mut Bare, bytes) {
+        Ok((seen, rest)) => Ok((rect_by(x, y, w, h, seen), rest)),
+        Err(error) => Err(error),
+    }
+}
+
+/// Puts a SrcRect or a DstRect in its place.
+pub fn rect_child<'a>(
+    place: &mut Option<MicroRect>,
+    alloc: Global,
+    level: Level,
+    tag: Tag,
+    bytes: &'a [u8],
+) -> Result<(Result<(), VrtFault>, &'a [u8]), VrtFault>
+    requires within { length bytes.now ≤ level.total }
+    requires depth { level.depth < 64 }
+    ensures child { Gives (λ x. (kept_of place.new x.0, x.1.now)) result (read_as (λ f. once place.old (rect_of (tag_view tag.entry) f) Some) (inner level.total level.depth (tag_view tag.entry) bytes.now)) }
+    ensures shorter { IfOk result (λ x. length x.1.now ≤ length bytes.now) }
+{
+    match rect_element(alloc, level, tag, bytes) {
+        Ok((rect, rest)) => Ok((put_once(place, rect), rest)),
         Err(error) => Err(error),
     }
 }

@@ -1,5 +1,5 @@
 // The parts of a source that are numbers: rectangles and lookup tables.
-ghost use Rattle.std.specs.Prelude.{◌≡◌, List, length};
+ghost use Rattle.std.specs.Prelude.{◌≡◌, List};
 ghost use Rattle.vrt_profile.specs.Values.{IsLut};
 
 use lists_and_answers::Items;

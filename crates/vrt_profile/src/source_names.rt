@@ -1,7 +1,6 @@
 // Names of sources: resolved from a document's folder, and related to it.
-ghost use Rattle.std.specs.Prelude.{◌≡◌, ◌↔◌, ◌<◌, ◌++◌, ◌∷◌, ◌≢◌, Err, Bool, true, List, ℕ, length, option_map, IfOk, IsErrOf};
+ghost use Rattle.std.specs.Prelude.{◌≡◌, ◌↔◌, ◌<◌, ◌++◌, ◌∷◌, ◌≢◌, Err, true, List, ℕ, length, option_map, IfOk, IsErrOf};
 ghost use Rattle.outside.specs.Paths.{normal, IsName, is_absolute};
-ghost use Rattle.outside.specs.declared.name.NameFault.TheVariants as name_fault;
 ghost use Rattle.vrt_markup.specs.Items.{strip, byte_at};
 ghost use Rattle.vrt_profile.specs.Values.{SourceValue};
 ghost use Rattle.vrt_profile.specs.Resolve.{folder_for, resolved_text, some_text, behind_folder, related};

@@ -1,3 +1,4 @@
-pub mod Reread
-pub mod Spelled
+-- What public clauses and laws speak of: to be read and trusted.
 pub mod Texts
+pub mod Spelled
+pub mod Reread

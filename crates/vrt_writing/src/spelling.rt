@@ -1,5 +1,5 @@
 // The text of a document: its elements, from the dataset to the parts of a source.
-ghost use Rattle.std.specs.Prelude.{◌≡◌, ℕ, ℤ, pos, suc, ◌<◌, ◌≤◌, ◌++◌, ◌∷◌, [], codes, List, Option, Some, None, OnOk, OnErr, length, flat_map};
+ghost use Rattle.std.specs.Prelude.{◌≡◌, ℕ, ℤ, pos, suc, ◌<◌, ◌≤◌, ◌++◌, ◌∷◌, [], codes, List, Option, Some, None, OnOk, OnErr, length, flat_map, option_map};
 ghost use Rattle.std.specs.List.{All};
 ghost use Rattle.lists_and_answers.specs.Growth.{KeepsFront};
 ghost use Rattle.geotransform.specs.Print.{short_text};
@@ -77,8 +77,8 @@ fn push_lut_line(lut: &Lut, out: &mut Vec<u8>) -> Result<(), AllocError>
 }
 
 #[tactic(auto, using(crate::proofs::Pieces::appends_nothing, crate::proofs::Pieces::keeps_same))]
-fn push_lut(lut: &Option<Lut>, out: &mut Vec<u8>) -> Result<(), AllocError>
-    ensures ok { OnOk result (Appends out.old.items out.new.items 3 (lut_markup lut.now)) }
+fn push_lut(lut: Option<&Lut>, out: &mut Vec<u8>) -> Result<(), AllocError>
+    ensures ok { OnOk result (Appends out.old.items out.new.items 3 (lut_markup (option_map (λ t. t.now) lut.entry))) }
     ensures err { OnErr result (KeepsFront out.old.items out.new.items) }
 {
     match lut {
@@ -107,10 +107,10 @@ fn push_scaling(source: &Source, out: &mut Vec<u8>) -> Result<(), AllocError>
     ensures err { OnErr result (KeepsFront out.old.items out.new.items) }
 {
     source.rules();
-    push_nodata(3, b"NODATA", source.nodata, out)?;
-    push_scale(b"ScaleOffset", 0, source.offset, out)?;
-    push_scale(b"ScaleRatio", 1_000_000_000_000, source.ratio, out)?;
-    push_lut(&source.lut, out)?;
+    push_nodata(3, b"NODATA", source.nodata(), out)?;
+    push_scale(b"ScaleOffset", 0, source.offset(), out)?;
+    push_scale(b"ScaleRatio", 1_000_000_000_000, source.ratio(), out)?;
+    push_lut(source.lut(), out)?;
     Ok(())
 }
 

@@ -4,7 +4,7 @@ use Rattle.std.specs.List.{flat_map, range_with_len}
 use Rattle.std.proofs.lemmas.List.{take-append-drop, drop-drop, length-drop, length-take-le}
 use Rattle.std.proofs.Math.Nat.{mul-le-mul_right}
 use Rattle.geotransform.specs.declared.types.PixelType.TheVariants.{Int16}
-use Rattle.esri_hdr.specs.declared.parts.Layout.TheVariants.{Bsq}
+use Rattle.esri_hdr.specs.declared.header_parts.Layout.TheVariants.{Bsq}
 use Rattle.esri_hdr.specs.Head.{Head}
 use Rattle.hgt_tiles.specs.Samples.{row_bytes, sample_bytes, hgt_at}
 use Rattle.dted_records.specs.Head.{part}

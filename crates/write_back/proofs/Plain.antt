@@ -2,9 +2,9 @@
 use Rattle.std.proofs.Common.{◌≡◌, ℕ, ℤ, ◌*◌, Option, refl, arith}
 use Rattle.geotransform.specs.declared.types.Size.{Size}
 use Rattle.geotransform.specs.declared.types.PixelType.{PixelType}
-use Rattle.esri_hdr.specs.declared.parts.Layout.{Layout}
-use Rattle.esri_hdr.specs.declared.parts.Layout.TheVariants.{Bil, Bip, Bsq}
-use Rattle.esri_hdr.specs.declared.parts.RawGeo.{RawGeo}
+use Rattle.esri_hdr.specs.declared.header_parts.Layout.{Layout}
+use Rattle.esri_hdr.specs.declared.header_parts.Layout.TheVariants.{Bil, Bip, Bsq}
+use Rattle.esri_hdr.specs.declared.header_parts.RawGeo.{RawGeo}
 use Rattle.esri_hdr.specs.Head.{plain_head, sample_len}
 use Rattle.write_back.specs.Files.{IsTight}
 

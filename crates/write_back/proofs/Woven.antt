@@ -2,8 +2,8 @@
 use Rattle.std.proofs.Common.{◌≡◌, ℕ, suc, ℤ, pos, ◌+◌, ◌*◌, ◌/◌, ◌%◌, ◌<◌, ◌≤◌, Bool, true, false, List, get_or, length, drop, refl, sym, ap, ◌∙◌, arith, zero-add}
 use Rattle.std.proofs.lemmas.Nat.{div_below, mod_below, div-add-mod', div-mul-add, mod-mul-add}
 use Rattle.std.proofs.Math.Nat.{mul-le-mul_right}
-use Rattle.esri_hdr.specs.declared.parts.Layout.{Layout}
-use Rattle.esri_hdr.specs.declared.parts.Layout.TheVariants.{Bil, Bip, Bsq}
+use Rattle.esri_hdr.specs.declared.header_parts.Layout.{Layout}
+use Rattle.esri_hdr.specs.declared.header_parts.Layout.TheVariants.{Bil, Bip, Bsq}
 use Rattle.esri_hdr.specs.Head.{Head, IsHead, sample_len}
 use Rattle.interleaved_raw.specs.Raw.{position_by, needed_of, raw_at, sample_at, IsPlace, IsSamePlace}
 use Rattle.interleaved_raw.proofs.Apart.{apart}

@@ -4,8 +4,8 @@ use Rattle.std.specs.List.{flat_map, range_with_len}
 use Rattle.std.specs.FinMap.{insert}
 use Rattle.outside.specs.Outside.{Files}
 use Rattle.outside.specs.Names.{header_of}
-use Rattle.esri_hdr.specs.declared.parts.Layout.{Layout}
-use Rattle.esri_hdr.specs.declared.parts.Layout.TheVariants.{Bil, Bip, Bsq}
+use Rattle.esri_hdr.specs.declared.header_parts.Layout.{Layout}
+use Rattle.esri_hdr.specs.declared.header_parts.Layout.TheVariants.{Bil, Bip, Bsq}
 use Rattle.esri_hdr.specs.Head.{Head, IsHead, sample_len}
 use Rattle.esri_hdr.specs.Text.{hdr_text}
 use Rattle.geotransform.specs.Geo.{IsRaster}

@@ -2,8 +2,8 @@
 -- bands where they stand pixel by pixel.
 use Rattle.std.specs.Prelude.{◌≡◌, get_or, ℕ, ℤ, pos, length, map, drop, ◌+◌, ◌-◌, ◌*◌, ◌/◌, ◌<◌, ◌≤◌, Bool, true, false, List, None, if◌then◌else◌}
 use Rattle.std.specs.List.{range_with_len}
-use Rattle.esri_hdr.specs.declared.parts.Layout.{Layout}
-use Rattle.esri_hdr.specs.declared.parts.Layout.TheVariants.{Bil, Bip, Bsq}
+use Rattle.esri_hdr.specs.declared.header_parts.Layout.{Layout}
+use Rattle.esri_hdr.specs.declared.header_parts.Layout.TheVariants.{Bil, Bip, Bsq}
 use Rattle.esri_hdr.specs.Head.{Head, sample_len}
 use Rattle.interleaved_raw.specs.Raw.{position_of, sample_at, stride_of}
 use Rattle.hgt_tiles.specs.Places.{IsSide}

@@ -3,8 +3,8 @@ ghost use Rattle.std.specs.Prelude.{◌≡◌, ◌≢◌, ◌<◌, ℕ, ℤ, Boo
 ghost use Rattle.geotransform.specs.Types.{is_in};
 ghost use Rattle.geotransform.specs.declared.types.Size.{Size};
 ghost use Rattle.geotransform.specs.declared.types.PixelType.{PixelType};
-ghost use Rattle.esri_hdr.specs.declared.parts.Layout.{Layout};
-ghost use Rattle.esri_hdr.specs.declared.parts.RawGeo.{RawGeo};
+ghost use Rattle.esri_hdr.specs.declared.header_parts.Layout.{Layout};
+ghost use Rattle.esri_hdr.specs.declared.header_parts.RawGeo.{RawGeo};
 ghost use Rattle.esri_hdr.specs.Head.{plain_head};
 ghost use Rattle.dted_records.specs.Written.{IsElevation};
 ghost use Rattle.translate_plan.specs.declared.band.OutBand.{OutBand};

@@ -1,15 +1,21 @@
 use Rattle.std.proofs.Common.{◌≡◌, ap, ◌∙◌, Ok, true, codes}
 use Rattle.vrt_markup.specs.Items.{attribute}
-use Rattle.vrt_markup.specs.Forest.{inner}
-use Rattle.vrt_markup.specs.Kept.{seen}
+use Rattle.vrt_markup.specs.Forest.{inner, read_as}
+use Rattle.vrt_markup.specs.Kept.{seen, kept_of}
 use Rattle.vrt_profile.specs.Means.{source_step, no_parts, source_by, is_near}
+use Rattle.vrt_profile.specs.SourceViews.{source_view}
 use Rattle.vrt_markup.specs.Views.{tag_view}
-use Rattle.vrt_markup.proofs.Reading.{read_then}
+use Rattle.vrt_markup.proofs.Reading.{read_then, ok_value}
 use Rattle.vrt_profile.proofs.source.source_element.Goals as goal
 
-pub returns-in-Ok-clause-source : goal.returns-in-Ok-clause-source
-returns-in-Ok-clause-source c =
+pub returns-in-Ok-source_by-clause-source : goal.returns-in-Ok-source_by-clause-source
+returns-in-Ok-source_by-clause-source c =
     let tag = tag_view c.args.tag in
+    let inside = inner c.args.level.total c.args.level.depth tag c.args.bytes.now in
+    let rest = c.in-Ok.rest.now in
+    let blank = c.in-Ok.seen.blank in
+    let kept = kept_of (source_view c.children_of.new.parts) c.in-Ok.seen.kept in
     let near : c.is_near-near.result ≡ is_near (attribute (codes "resampling") tag.pairs) = c.is_near-near.ensures.near ∙ ap is_near c.attribute.ensures.value in
-    ap (λ z. Ok (z, c.in-Ok.rest.now)) (c.source_by.ensures.source ∙ ap (λ n. source_by c.args.complex n c.in-Ok.seen.blank c.in-Ok.seen.kept) near)
-    ∙ read_then (λ p. source_by c.args.complex (is_near (attribute (codes "resampling") tag.pairs)) p.1 p.0) (seen (source_step c.args.complex) (Ok no_parts) true) (c.in-Ok.seen.kept, c.in-Ok.seen.blank) c.in-Ok.rest.now (inner c.args.total c.args.depth tag c.args.bytes.now) c.in-Ok.ensures.seen
+    let read = c.in-Ok.ensures.seen ∙ ap (λ p. read_as (seen (source_step p.complex) (Ok (source_view p)) true) inside) c.no_parts-parts.ensures.parts in
+    ap (λ z. Ok (z, rest)) (ok_value c.in-Ok-source_by.source (source_by c.args.complex c.is_near-near.result blank kept) c.in-Ok-source_by.ensures.source ∙ ap (λ n. source_by c.args.complex n blank kept) near)
+    ∙ read_then (λ p. source_by c.args.complex (is_near (attribute (codes "resampling") tag.pairs)) p.1 p.0) (seen (source_step c.args.complex) (Ok no_parts) true) (kept, blank) rest inside read

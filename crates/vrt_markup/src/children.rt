@@ -1,0 +1,153 @@
+// Elements that hold elements alone: what their children make of them, one after the other.
+ghost use Rattle.std.specs.Prelude.{◌≡◌, ℕ, ◌<◌, ◌≤◌, ◌-◌, length, IfOk, Result, Ok, true};
+ghost use Rattle.vrt_markup.specs.Items as items;
+ghost use Rattle.vrt_markup.specs.Forest.{Forest, nodes, inner, read_as};
+ghost use Rattle.vrt_markup.specs.Views.{tag_view};
+ghost use Rattle.vrt_markup.specs.Kept.{Gives, seen, stepped, kept_of};
+ghost use Rattle.vrt_markup.specs.declared.fault.VrtFault.{VrtFault};
+
+use crate::fault::VrtFault;
+use crate::items::{Item, Tag, is_equal, item_at};
+use crate::past::past_element;
+use crate::text::is_blank;
+use std::alloc::Global;
+
+/// Where the elements in an element stand: in a document of so many bytes, and how deep.
+#[derive(Clone, Copy)]
+pub struct Level {
+    pub total: usize,
+    pub depth: usize,
+}
+
+/// What is read of an element so far, which each element in it changes or is a fault of.
+pub trait Parts {
+    /// What definitions see of it.
+    ghost Value: { Type 0 };
+
+    ghost value: { Self → Value };
+
+    /// What an element in it makes of it, by its place, its tag and what stands in it.
+    ghost step: { Self → Value → ℕ → items.Tag → Forest → Result Value VrtFault };
+
+    /// Takes the element that begins with this tag, and lends what stands behind it. After its fault the parts are
+    /// unknown.
+    fn child<'a>(
+        &mut self,
+        alloc: Global,
+        level: Level,
+        place: u64,
+        tag: Tag,
+        bytes: &'a [u8],
+    ) -> Result<(Result<(), VrtFault>, &'a [u8]), VrtFault>
+        requires within { length bytes.now ≤ level.total }
+        requires depth { level.depth < 64 }
+        ensures child { Gives (λ x. (kept_of (value self.new) x.0, x.1.now)) result (read_as (step self.old (value self.old) place (tag_view tag.entry)) (inner level.total level.depth (tag_view tag.entry) bytes.now)) }
+        ensures shorter { IfOk result (λ x. length x.1.now ≤ length bytes.now) }
+        ensures same { step self.new ≡ step self.old };
+}
+
+/// The first fault among the elements in an element, if there is one, and whether the text directly in it is blank.
+#[derive(Clone, Copy)]
+pub struct Seen {
+    pub kept: Result<(), VrtFault>,
+    pub blank: bool,
+}
+
+// A child of an element, which is read past once there is a fault.
+fn next_child<'a, P: Parts>(
+    alloc: Global,
+    level: Level,
+    kept: Result<(), VrtFault>,
+    place: u64,
+    parts: &mut P,
+    tag: Tag,
+    bytes: &'a [u8],
+) -> Result<(Result<(), VrtFault>, &'a [u8]), VrtFault>
+    requires within { length bytes.now ≤ level.total }
+    requires depth { level.depth < 64 }
+    ensures child { Gives (λ x. (kept_of (P.value parts.new) x.0, x.1.now)) result (read_as (stepped (P.step parts.old) (kept_of (P.value parts.old) kept) place (tag_view tag.entry)) (inner level.total level.depth (tag_view tag.entry) bytes.now)) }
+    ensures shorter { IfOk result (λ x. length x.1.now ≤ length bytes.now) }
+    ensures same { P.step parts.new ≡ P.step parts.old }
+{
+    match kept {
+        Ok(()) => parts.child(alloc, level, place, tag, bytes),
+        Err(fault) => match past_element(alloc, level.total, level.depth, tag, bytes) {
+            Ok(rest) => Ok((Err(fault), rest)),
+            Err(error) => Err(error),
+        },
+    }
+}
+
+// What the elements in an element of this name make of its parts, behind its start tag.
+#[tactic(auto, using(crate::proofs::Reading::seen_close))]
+fn child_nodes<'a, P: Parts>(
+    alloc: Global,
+    level: Level,
+    name: &[u8],
+    parts: &mut P,
+    bytes: &'a [u8],
+) -> Result<(Seen, &'a [u8]), VrtFault>
+    requires within { length bytes.now ≤ level.total }
+    requires depth { level.depth ≤ 64 }
+    ensures seen { Gives (λ x. ((kept_of (P.value parts.new) x.0.kept, x.0.blank), x.1.now)) result (read_as (seen (P.step parts.old) (Ok (P.value parts.old)) true) (nodes level.total level.depth name.now bytes.now)) }
+    ensures shorter { IfOk result (λ x. length x.1.now < length bytes.now) }
+{
+    let mut rest = bytes;
+    let mut seen = Seen {
+        kept: Ok(()),
+        blank: true,
+    };
+    'items: loop {
+        let place = (level.total - rest.len()) as u64;
+        match item_at(alloc, rest) {
+            Item::NoMemory => return Err(VrtFault::Memory),
+            Item::Comment(more) => rest = more,
+            Item::Run(raw, more) => {
+                seen.blank = seen.blank & is_blank(raw);
+                rest = more;
+            }
+            Item::Close(other, more) if is_equal(other, name) => return Ok((seen, more)),
+            Item::Bad | Item::Close(_, _) => return Err(VrtFault::BadText(place)),
+            Item::Open(_, _) if level.depth >= 64 => return Err(VrtFault::Limit),
+            Item::Open(tag, more) => {
+                match next_child(alloc, level, seen.kept, place, parts, tag, more) {
+                    Ok((kept, behind)) => {
+                        seen.kept = kept;
+                        rest = behind;
+                    }
+                    Err(error) => return Err(error),
+                }
+            }
+        }
+    }
+}
+
+/// What the elements in an element make of its parts, in their order: the first fault counts, and the later ones are
+/// read past.
+pub fn children_of<'a, P: Parts>(
+    alloc: Global,
+    level: Level,
+    tag: Tag,
+    parts: &mut P,
+    bytes: &'a [u8],
+) -> Result<(Seen, &'a [u8]), VrtFault>
+    requires within { length bytes.now ≤ level.total }
+    requires depth { level.depth < 64 }
+    ensures seen { Gives (λ x. ((kept_of (P.value parts.new) x.0.kept, x.0.blank), x.1.now)) result (read_as (seen (P.step parts.old) (Ok (P.value parts.old)) true) (inner level.total level.depth (tag_view tag.entry) bytes.now)) }
+    ensures shorter { IfOk result (λ x. length x.1.now ≤ length bytes.now) }
+{
+    if tag.empty {
+        return Ok((
+            Seen {
+                kept: Ok(()),
+                blank: true,
+            },
+            bytes,
+        ));
+    }
+    let inside = Level {
+        total: level.total,
+        depth: level.depth + 1,
+    };
+    child_nodes(alloc, inside, tag.name, parts, bytes)
+}
