@@ -1,6 +1,7 @@
 // Workers of a translation that read beside each other, and any number of them.
+use crate::ends::{Failer, Output, Turn, Work, first_unmet};
 use crate::stories::{has, has_all, says_all};
-use crate::trials::{FileOf, Row, folder_of, says_in};
+use crate::trials::{FileOf, Row, folder_of, joined, none_wrong, says_in};
 use outside::MemFolder;
 use outside_fakes::Gate;
 use std::alloc::Global;
@@ -59,6 +60,57 @@ fn is_copied<R: Threads + Sync + Abort>(rt: &R, alloc: Global) -> bool {
 #[test]
 fn two_workers_read_beside_each_other(rt: HostRuntime) {
     assert!(rt; is_copied(&rt, rt.alloc()));
+}
+
+// Lines of which a strip of sixty-four has two million samples, so that the last line is read while those before it are
+// written, each by two workers through views of the folder.
+const LONG: &[u8] = b"NROWS 65\nNCOLS 32768\n";
+
+const LONG_TIMES: usize = 8_320;
+
+const LONG_MADE: &[u8] = b"BYTEORDER      I
+LAYOUT         BIL
+NROWS          65
+NCOLS          32768
+NBANDS         1
+NBITS          8
+SKIPBYTES      0
+BANDROWBYTES   32768
+TOTALROWBYTES  32768
+BANDGAPBYTES   0
+PIXELTYPE      UNSIGNEDINT
+";
+
+// Each line is written, and of the sixty-four of a strip a worker reads thirty-two or more.
+static LONG_TURN: [Turn; 1] = [(0, Failer::Folder, (97, 256))];
+
+// The first work of which a call's failing isn't met.
+fn first_unmet_long<R: Threads + Sync + Abort>(rt: &R, alloc: Global) -> Option<usize> {
+    let bytes = joined(rt, alloc, &[(samples(), LONG_TIMES)]);
+    let bytes = bytes.as_slice();
+    let files: [FileOf<'_>; 4] = [
+        ("long.bil", bytes),
+        ("long.hdr", LONG),
+        ("out.bil", b"old data"),
+        ("out.hdr", b"old header"),
+    ];
+    let outputs: [Output<'_>; 2] = [
+        ("out.bil", b"old data", bytes),
+        ("out.hdr", b"old header", LONG_MADE),
+    ];
+    let works: [Work<'_>; 1] = [Work {
+        line: "gdal_translate -q --workers 2 long.bil out.bil",
+        text: "",
+        told: "",
+        outputs: &outputs,
+    }];
+    first_unmet(rt, alloc, &files, &works, &LONG_TURN)
+}
+
+// Each call of the folder fails in turn while two workers read long lines.
+#[test]
+fn each_failing_call_of_two_workers(rt: HostRuntime) {
+    none_wrong(&rt, first_unmet_long(&rt, rt.alloc()));
 }
 
 // The lines by many workers, of which each has few, and the same through the mosaics.
