@@ -1,5 +1,6 @@
 pub mod Ended
 mod Examples
+pub mod Feeds
 pub mod Going
 pub mod Heads
 pub mod Listed

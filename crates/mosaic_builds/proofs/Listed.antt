@@ -80,10 +80,10 @@ free (Err f) d e is (inl memory) = inl (rw memory tt)
 free (Err f) d e is (inr refused) = inr (is ∙ refused)
 
 -- the names of the lines of a list
-pub listed : (m : Files) (names : List (List ℕ)) (name bytes text : List ℕ) (r : Result (List (List ℕ)) Fault) → get m name ≡ Some bytes → length bytes ≤ 67108864 → IsUtf8 bytes → text ≡ bytes → Gives (λ f. f ≡ Memory) whole r (named_behind names (filled (lines text))) → Gives IsOutside whole r (names_in m names (Some name))
-listed m names name bytes text r is short valid one gives =
+pub listed : (m : Files) (names : List (List ℕ)) (name bytes text : List ℕ) (r : Result (List (List ℕ)) Fault) → get m name ≡ Some bytes → length bytes ≤ 67108864 → IsUtf8 bytes → filled (lines text) ≡ filled (lines bytes) → Gives (λ f. f ≡ Memory) whole r (named_behind names (filled (lines text))) → Gives IsOutside whole r (names_in m names (Some name))
+listed m names name bytes text r is short valid same gives =
     free r (named_behind names (filled (lines text))) (names_in m names (Some name))
-    (names_are m names (filled (lines bytes)) name (read_lines m name bytes is short valid) ∙ ap (λ (t : List ℕ). named_behind names (filled (lines t))) (sym one)) gives
+    (names_are m names (filled (lines bytes)) name (read_lines m name bytes is short valid) ∙ ap (λ (l : List (List ℕ)). named_behind names l) (sym same)) gives
 
 -- no list
 none_are : (m : Files) (names : List (List ℕ)) → names_in m names None ≡ named_behind names []

@@ -1,6 +1,7 @@
 // Mosaics made of inputs: the list of their names, their walks, what they are built to, and how that is published.
 #![tactic(auto)]
 
+mod empty_lines;
 mod list;
 mod making;
 mod mosaic;

@@ -9,6 +9,7 @@ ghost use Rattle.error_lines.specs.Faults.{IsOutside};
 ghost use Rattle.mosaic_builds.specs.Ends.{IsOfNames, IsOfMaking};
 ghost use Rattle.mosaic_builds.specs.Inputs.{lines_in, filled, name_of_line, with_lines, named_behind, names_in};
 
+use crate::empty_lines::drop_empty_lines;
 use catalog::{Bad, LimitKind};
 use error_lines::Fault;
 use outside::{Failed, Folder, Name, NameFault, Names, OpenFault};
@@ -190,10 +191,11 @@ fn with_list<F: Folder>(
     ensures cause { HasCause Fault.FolderFault (F.faults folder.old) (F.faults folder.new) result }
     ensures faults { (out : List ℕ) → IfErr result (IsOfMaking out) }
 {
-    let bytes = match read_list(alloc, folder, list) {
+    let mut bytes = match read_list(alloc, folder, list) {
         Ok(bytes) => bytes,
         Err(fault) => return Err(fault),
     };
+    drop_empty_lines(&mut bytes);
     match str::from_utf8(&bytes) {
         Ok(text) => with_text(alloc, names, text),
         Err(_) => Err(Fault::Malformed {

@@ -9,7 +9,7 @@ pub const DONE: &str = "0...10...20...30...40...50...60...70...80...90...100 - d
 // Two pixels at (0, 1), and two beside them; the same with NODATA; with two bands; of another type; and without a
 // place. A pixel far in the east, and one that lacks bytes. Mosaics of the first, of which one names the other, and one
 // that names itself. Lists of names.
-static FILES: [FileOf<'static>; 35] = [
+static FILES: [FileOf<'static>; 36] = [
     ("a.bil", &[1, 2]),
     ("a.hdr", b"NROWS 1\nNCOLS 2\nULXMAP 0.5\nULYMAP 0.5\n"),
     ("b.bil", &[3, 4]),
@@ -72,6 +72,7 @@ static FILES: [FileOf<'static>; 35] = [
     ("lf.txt", b"a.bil\nb.bil\n"),
     ("crlf.txt", b"a.bil\r\n\r\nb.bil\r\n"),
     ("bare.txt", b"\n\na.bil\n\n\nb.bil"),
+    ("gaps.txt", b"\n\na.bil\n\n\n\r\n\r\n\n\n\nb.bil\r\n\n\n"),
     ("b.txt", b"b.bil\r\n"),
     ("lone.txt", b"a.bil\nb.bil\r"),
     ("empty.txt", b""),
@@ -301,7 +302,7 @@ fn builds(rt: HostRuntime) {
 }
 
 // Quiet builds of the same document.
-static SAME: [Row<'static>; 13] = [
+static SAME: [Row<'static>; 14] = [
     ("gdalbuildvrt -q out.vrt a.bil b.bil", 0, "", ""),
     ("gdalbuildvrt -q -input_file_list lf.txt out.vrt", 0, "", ""),
     (
@@ -312,6 +313,12 @@ static SAME: [Row<'static>; 13] = [
     ),
     (
         "gdalbuildvrt -q out.vrt -input_file_list bare.txt",
+        0,
+        "",
+        "",
+    ),
+    (
+        "gdalbuildvrt -q out.vrt -input_file_list gaps.txt",
         0,
         "",
         "",

@@ -1,4 +1,6 @@
-use Rattle.std.proofs.Common.{◌∙◌, subst, inr, IsUtf8}
+use Rattle.std.proofs.Common.{◌∙◌, ap, subst, inr, IsUtf8}
+use Rattle.std.specs.Str.Lines.{lines}
+use Rattle.mosaic_builds.specs.Inputs.{filled}
 use Rattle.mosaic_builds.proofs.Ended.{names_end, names_cause}
 use Rattle.mosaic_builds.proofs.Listed.{refused_list, no_list, listed}
 use Rattle.mosaic_builds.proofs.list.with_list.Goals as goal
@@ -9,7 +11,8 @@ returns-in-Err-clause-told g c = λ m is. refused_list m c.args.names c.args.lis
 pub returns-in-Ok-from_utf8-clause-told : goal.returns-in-Ok-from_utf8-clause-told
 returns-in-Ok-from_utf8-clause-told g c = λ m is.
     listed m c.args.names c.args.list.now c.in-Ok.bytes.items c.in-Ok-from_utf8.text.now c.with_text.result (c.in-Ok.ensures.ok m is) (c.in-Ok.ensures.few m is)
-    (subst IsUtf8 c.deref.ensures.value c.in-Ok-from_utf8.ensures.cases.1) (c.in-Ok-from_utf8.ensures.cases.0 ∙ c.deref.ensures.value) c.with_text.ensures.told
+    (c.drop_empty_lines.ensures.text.0 (subst IsUtf8 c.deref.ensures.value c.in-Ok-from_utf8.ensures.cases.1))
+    (ap (λ t. filled (lines t)) (c.in-Ok-from_utf8.ensures.cases.0 ∙ c.deref.ensures.value) ∙ c.drop_empty_lines.ensures.lines) c.with_text.ensures.told
 
 pub returns-in-Ok-from_utf8-clause-cause : goal.returns-in-Ok-from_utf8-clause-cause
 returns-in-Ok-from_utf8-clause-cause g c = names_cause c.with_text.result _ _ c.read_list.ensures.cause.later c.with_text.ensures.faults
@@ -21,4 +24,4 @@ pub returns-in_ok-try_clone-in-Err-from_utf8-clause-told : goal.returns-in_ok-tr
 returns-in_ok-try_clone-in-Err-from_utf8-clause-told g c = λ m is.
     rw c.in_ok-try_clone-in-Err-from_utf8.ensures.same
     (inr (no_list m c.args.names c.args.list.now c.in-Ok.bytes.items (c.in-Ok.ensures.ok m is) (c.in-Ok.ensures.few m is)
-    (λ text. c.in-Err-from_utf8.ensures.cases.0 (rw c.deref.ensures.value text))))
+    (λ text. c.in-Err-from_utf8.ensures.cases.0 (rw c.deref.ensures.value (c.drop_empty_lines.ensures.text.1 text)))))
