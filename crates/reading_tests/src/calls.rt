@@ -2,7 +2,7 @@
 ghost use Rattle.std.specs.Prelude.{◌≡◌};
 
 use outside::{Folder, Method, Name, OpenFault};
-use std::alloc::AllocError;
+use std::process::Abort;
 
 // Fills an empty draft with `0 x y 0 z`, by one call of each method. The first call that fails is the answer.
 fn fill<F: Folder>(folder: &mut F, draft: &mut F::Draft) -> Result<[u8; 5], Method>
@@ -78,13 +78,14 @@ pub fn open_fault<F: Folder>(folder: &mut F, name: &Name) -> Option<OpenFault> {
 }
 
 /// Whether a view of a folder has these two bytes in a file; it ends before the answer.
-pub fn view_has_two<F: Folder>(
+pub fn view_has_two<R: Abort, F: Folder>(
+    rt: &R,
     folder: &mut F,
     name: &Name,
     two: [u8; 2],
-) -> Result<bool, AllocError> {
-    let mut view = folder.fork()?;
+) -> bool {
+    let mut view = folder.fork().expect(rt, "memory");
     let has = has_two(&mut view, name, two);
     folder.absorb(view);
-    Ok(has)
+    has
 }

@@ -1,6 +1,6 @@
 // What the tests share: how they end, folders in memory, documents, heads, and what is said of them. A test ends where
 // memory is refused, and where a row goes otherwise.
-use catalog::{Bad, Head, LimitKind, WalkFault, head_of};
+use catalog::{Bad, LimitKind, WalkFault, head_of};
 use lists_and_answers::{Items, push_all};
 use outside::{CalmFolder, Failing, Listed, MemFolder, MemoryFolder, Name, Never, Schedule};
 use std::alloc::{AllocError, Global};
@@ -11,39 +11,108 @@ pub fn none_wrong<R: Abort>(rt: &R, wrong: Option<usize>) {
     assert_eq!(rt; wrong, None);
 }
 
+/// A row of a table.
+pub trait Case {
+    /// Whether it holds.
+    fn holds<R: Abort>(&self, rt: &R, alloc: Global) -> bool;
+}
+
+// The first of these rows that doesn't hold.
+fn first_wrong<R: Abort, C: Case>(rt: &R, alloc: Global, rows: &[C]) -> Option<usize> {
+    for (at, row) in rows.iter().enumerate() {
+        if !row.holds(rt, alloc) {
+            return Some(at);
+        }
+    }
+    None
+}
+
+/// Ends a test where a row doesn't hold, and names the row.
+pub fn all_hold<R: Abort, C: Case>(rt: &R, alloc: Global, rows: &[C]) {
+    none_wrong(rt, first_wrong(rt, alloc, rows));
+}
+
 /// Ends a test where a number is another one, and names both.
 pub fn is_number<R: Abort>(rt: &R, number: Option<u64>, wanted: u64) {
     assert_eq!(rt; number, Some(wanted));
 }
 
-/// A fault, as tables have it: with the name and the numbers that it carries.
-#[derive(Clone, Copy, PartialEq, Eq)]
-pub enum Said<'a> {
-    Absent(&'a str),
-    Unknown(&'a str),
-    Malformed(&'a str, Bad),
-    Short(&'a str, u64, u64),
-    Cycle(&'a str),
-    Deep(&'a str),
-    Band(&'a str, u32),
-    Limit(LimitKind, u64),
-    Folder,
-    Memory,
+/// The two sides of the first such mark in a text.
+pub fn cut<'a>(text: &'a str, mark: &str) -> (&'a str, &'a str) {
+    match text.split_once(mark) {
+        Some((front, back)) => (front, back),
+        None => (text, ""),
+    }
 }
 
-/// What a fault says.
-pub fn told(fault: &WalkFault) -> Said<'_> {
+/// Whether a word is this text.
+pub fn is_word(word: Option<&str>, text: &str) -> bool {
+    match word {
+        Some(word) => word == text,
+        None => false,
+    }
+}
+
+/// Whether a word is this number.
+pub fn is_count(word: Option<&str>, number: u64) -> bool {
+    match word {
+        Some(word) => word.parse::<u64>().ok() == Some(number),
+        None => false,
+    }
+}
+
+// Whether the words of a text are a name and these numbers.
+fn are_words(name: &str, numbers: &[u64], text: &str) -> bool {
+    let mut words = text.split_ascii_whitespace();
+    if !is_word(words.next(), name) {
+        return false;
+    }
+    for number in numbers {
+        if !is_count(words.next(), *number) {
+            return false;
+        }
+    }
+    words.next().is_none()
+}
+
+// Whether a text is a name, and what is wrong with its file as `Debug` prints it.
+fn is_malformed<R: Abort>(rt: &R, alloc: Global, name: &str, bad: Bad, text: &str) -> bool {
+    let wrong = format!(in alloc; "{bad:?}").expect(rt, "memory");
+    let (named, rest) = cut(text, " ");
+    named == name && rest == wrong.as_str()
+}
+
+// The word for what is counted.
+fn limit_word(what: LimitKind) -> &'static str {
+    match what {
+        LimitKind::Name => "name",
+        LimitKind::Sources => "sources",
+        _ => "other",
+    }
+}
+
+/// Whether a fault is that of a text: its word, and then the name and the numbers that it carries.
+pub fn tells<R: Abort>(rt: &R, alloc: Global, fault: &WalkFault, text: &str) -> bool {
+    let (word, rest) = cut(text, " ");
     match fault {
-        WalkFault::Absent { name } => Said::Absent(name.as_str()),
-        WalkFault::NotRecognized { name } => Said::Unknown(name.as_str()),
-        WalkFault::Malformed { name, bad } => Said::Malformed(name.as_str(), *bad),
-        WalkFault::Short { name, needed, has } => Said::Short(name.as_str(), *needed, *has),
-        WalkFault::Cycle { name } => Said::Cycle(name.as_str()),
-        WalkFault::TooDeep { name } => Said::Deep(name.as_str()),
-        WalkFault::SourceBand { name, band } => Said::Band(name.as_str(), *band),
-        WalkFault::Limit { what, value } => Said::Limit(*what, *value),
-        WalkFault::FolderFault => Said::Folder,
-        WalkFault::Memory => Said::Memory,
+        WalkFault::Absent { name } => word == "absent" && rest == name.as_str(),
+        WalkFault::NotRecognized { name } => word == "unknown" && rest == name.as_str(),
+        WalkFault::Malformed { name, bad } => {
+            word == "malformed" && is_malformed(rt, alloc, name.as_str(), *bad, rest)
+        }
+        WalkFault::Short { name, needed, has } => {
+            word == "short" && are_words(name.as_str(), &[*needed, *has], rest)
+        }
+        WalkFault::Cycle { name } => word == "cycle" && rest == name.as_str(),
+        WalkFault::TooDeep { name } => word == "deep" && rest == name.as_str(),
+        WalkFault::SourceBand { name, band } => {
+            word == "band" && are_words(name.as_str(), &[*band as u64], rest)
+        }
+        WalkFault::Limit { what, value } => {
+            word == "limit" && are_words(limit_word(*what), &[*value], rest)
+        }
+        WalkFault::FolderFault => text == "folder",
+        WalkFault::Memory => text == "memory",
     }
 }
 
@@ -100,37 +169,35 @@ pub fn folder_of<R: Abort>(rt: &R, alloc: Global, call: u64, files: &[File<'_>])
     folder
 }
 
-/// A name, its files, the call that fails, and what is said of it: nothing where its head is there.
-pub type Row<'a> = (&'a str, &'a [File<'a>], u64, Option<Said<'a>>);
-
-/// The head of a name over these files.
-pub fn head_in<R: Abort>(
+/// Whether that is said of a name in a folder: `whole` where its head is there.
+pub fn has_said<R: Abort>(
     rt: &R,
     alloc: Global,
+    folder: &mut MemFolder,
     name: &str,
-    files: &[File<'_>],
-    call: u64,
     verify: bool,
-) -> Result<Head, WalkFault> {
+    said: &str,
+) -> bool {
     let name = name_of(rt, alloc, name);
-    let mut folder = folder_of(rt, alloc, call, files);
-    head_of(alloc, &mut folder, &name, verify)
+    match head_of(alloc, folder, &name, verify) {
+        Ok(_) => said == "whole",
+        Err(fault) => tells(rt, alloc, &fault, said),
+    }
 }
+
+/// A name, its files, the call that fails, and what is said of it.
+pub type Row<'a> = (&'a str, &'a [File<'a>], u64, &'a str);
 
 /// Whether that is said of the name.
 pub fn is_said<R: Abort>(rt: &R, alloc: Global, verify: bool, row: Row<'_>) -> bool {
     let (name, files, call, said) = row;
-    match head_in(rt, alloc, name, files, call, verify) {
-        Ok(_) => said.is_none(),
-        Err(fault) => said == Some(told(&fault)),
-    }
+    let mut folder = folder_of(rt, alloc, call, files);
+    has_said(rt, alloc, &mut folder, name, verify, said)
 }
 
-/// A source of a mosaic: the texts of its name and of its band.
-pub type Source<'a> = (&'a str, &'a str);
-
-// Adds a source to a document.
-fn push_source((name, band): Source<'_>, text: &mut Vec<u8>) -> Result<(), AllocError> {
+// Adds a source to a document: a name and a band, with a mark between them.
+fn push_source(source: &str, text: &mut Vec<u8>) -> Result<(), AllocError> {
+    let (name, band) = cut(source, "#");
     let parts: [&[u8]; 5] = [
         b"<SimpleSource><SourceFilename relativeToVRT=\"1\">",
         name.as_bytes(),
@@ -146,16 +213,16 @@ pub fn add<R: Abort>(rt: &R, bytes: &mut Vec<u8>, more: &[u8]) {
     bytes.extend_from_slice(more).expect(rt, "memory");
 }
 
-/// A document of one pixel, one band and these sources, each relative to it.
-pub fn document<R: Abort>(rt: &R, alloc: Global, sources: &[Source<'_>]) -> Vec<u8> {
+/// A document of one pixel, one band and sources, each relative to it: for each a word `NAME#BAND`.
+pub fn document<R: Abort>(rt: &R, alloc: Global, sources: &str) -> Vec<u8> {
     let mut text = Vec::new(alloc);
     add(
         rt,
         &mut text,
         b"<VRTDataset rasterXSize=\"1\" rasterYSize=\"1\"><VRTRasterBand dataType=\"Byte\" band=\"1\">",
     );
-    for source in sources {
-        push_source(*source, &mut text).expect(rt, "memory");
+    for source in sources.split_ascii_whitespace() {
+        push_source(source, &mut text).expect(rt, "memory");
     }
     add(rt, &mut text, b"</VRTRasterBand></VRTDataset>");
     text

@@ -1,5 +1,5 @@
 use crate::calls::{has_two, is_written, open_fault, read_two, write_file};
-use crate::fixtures::{calm_folder, name_of, none_wrong};
+use crate::fixtures::{Case, all_hold, calm_folder, name_of};
 use lists_and_answers::Items;
 use outside::{
     CalmInput, CalmSink, Failed, Failing, Folder, Input, Listed, MemFolder, MemInput, MemSink,
@@ -58,37 +58,33 @@ fn fails_in<R: Abort>(rt: &R, alloc: Global, failing: Failing, method: Method) -
     fails_once(&mut folder, &a, &b, method)
 }
 
-// The methods of a folder, as `first_failing` calls them.
-const METHODS: [Method; 8] = [
-    Method::Open,
-    Method::ReadAt,
-    Method::Create,
-    Method::Grow,
-    Method::WriteAt,
-    Method::Append,
-    Method::DraftRead,
-    Method::Publish,
+// A method of a folder, and the number of its call, as `first_failing` calls them.
+#[derive(Clone, Copy)]
+struct Numbered(Method, u64);
+
+const METHODS: [Numbered; 8] = [
+    Numbered(Method::Open, 1),
+    Numbered(Method::ReadAt, 2),
+    Numbered(Method::Create, 3),
+    Numbered(Method::Grow, 4),
+    Numbered(Method::WriteAt, 5),
+    Numbered(Method::Append, 6),
+    Numbered(Method::DraftRead, 7),
+    Numbered(Method::Publish, 8),
 ];
 
-// Whether the first call of a method fails, and the call of its number.
-fn fails_both<R: Abort>(rt: &R, alloc: Global, method: Method, number: u64) -> bool {
-    fails_in(rt, alloc, Failing::Of(method, 1), method)
-        && fails_in(rt, alloc, Failing::Call(number), method)
-}
-
-// The first of the methods whose call doesn't fail.
-fn first_unfailed<R: Abort>(rt: &R, alloc: Global, methods: &[Method]) -> Option<usize> {
-    for (at, method) in methods.iter().enumerate() {
-        if !fails_both(rt, alloc, *method, (at as u64).saturating_add(1)) {
-            return Some(at);
-        }
+impl Case for Numbered {
+    // Whether the first call of the method fails, and the call of its number.
+    fn holds<R: Abort>(&self, rt: &R, alloc: Global) -> bool {
+        let Numbered(method, number) = *self;
+        fails_in(rt, alloc, Failing::Of(method, 1), method)
+            && fails_in(rt, alloc, Failing::Call(number), method)
     }
-    None
 }
 
 #[test]
 fn each_listed_call_fails(rt: HostRuntime) {
-    none_wrong(&rt, first_unfailed(&rt, rt.alloc(), &METHODS));
+    all_hold(&rt, rt.alloc(), &METHODS);
 }
 
 // Whether a read fails.
@@ -97,21 +93,17 @@ fn fails_to_read(folder: &mut MemFolder, name: &Name) -> bool {
 }
 
 // Whether the second read of a view fails.
-fn view_fails(folder: &mut MemFolder, a: &Name) -> bool {
-    match folder.fork() {
-        Ok(mut view) => {
-            let fails = has_two(&mut view, a, *b"bc") && fails_to_read(&mut view, a);
-            folder.absorb(view);
-            fails
-        }
-        Err(_) => false,
-    }
+fn view_fails<R: Abort>(rt: &R, folder: &mut MemFolder, a: &Name) -> bool {
+    let mut view = folder.fork().expect(rt, "memory");
+    let fails = has_two(&mut view, a, *b"bc") && fails_to_read(&mut view, a);
+    folder.absorb(view);
+    fails
 }
 
 // Whether the third and the fourth read fail, of which the first comes in a view.
-fn fails_in_turn(folder: &mut MemFolder, a: &Name) -> bool {
+fn fails_in_turn<R: Abort>(rt: &R, folder: &mut MemFolder, a: &Name) -> bool {
     has_two(folder, a, *b"bc")
-        && view_fails(folder, a)
+        && view_fails(rt, folder, a)
         && fails_to_read(folder, a)
         && has_two(folder, a, *b"bc")
 }
@@ -123,7 +115,7 @@ fn counts_on<R: Abort>(rt: &R, alloc: Global) -> bool {
         Failing::Of(Method::ReadAt, 4),
     ];
     let mut folder = folder_of(rt, alloc, &a, &failing);
-    fails_in_turn(&mut folder, &a)
+    fails_in_turn(rt, &mut folder, &a)
 }
 
 #[test]
@@ -137,23 +129,19 @@ fn has_counts<F: Folder>(folder: &Tally<F>, opens: u64, reads: u64, writes: u64)
 }
 
 // Whether a view counts from nothing.
-fn view_counts<F: Folder>(folder: &mut Tally<F>, a: &Name) -> bool {
-    match folder.fork() {
-        Ok(mut view) => {
-            let counts = has_two(&mut view, a, *b"bc") && has_counts(&view, 1, 1, 0);
-            folder.absorb(view);
-            counts
-        }
-        Err(_) => false,
-    }
+fn view_counts<R: Abort, F: Folder>(rt: &R, folder: &mut Tally<F>, a: &Name) -> bool {
+    let mut view = folder.fork().expect(rt, "memory");
+    let counts = has_two(&mut view, a, *b"bc") && has_counts(&view, 1, 1, 0);
+    folder.absorb(view);
+    counts
 }
 
 // Whether each call is counted, and those of a view with it.
-fn counts_calls<F: Folder>(folder: &mut Tally<F>, a: &Name, b: &Name) -> bool {
+fn counts_calls<R: Abort, F: Folder>(rt: &R, folder: &mut Tally<F>, a: &Name, b: &Name) -> bool {
     open_fault(folder, b) == Some(OpenFault::Absent)
         && is_written(folder, b)
         && has_two(folder, b, *b"xy")
-        && view_counts(folder, a)
+        && view_counts(rt, folder, a)
         && has_counts(folder, 3, 2, 1)
 }
 
@@ -162,7 +150,7 @@ fn tallies<R: Abort>(rt: &R, alloc: Global) -> bool {
     let a = name_of(rt, alloc, "a");
     let b = name_of(rt, alloc, "b");
     let mut folder = Tally::new(calm_folder(rt, alloc, &[("a", b"abc".as_slice())]));
-    let counts = counts_calls(&mut folder, &a, &b);
+    let counts = counts_calls(rt, &mut folder, &a, &b);
     counts && has_bytes(&folder.into_inner(), &b, b"\0xy\0z")
 }
 

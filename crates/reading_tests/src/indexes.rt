@@ -1,7 +1,7 @@
 // Bands of more than 16 sources: they are indexed by lines, and each line's list has to be the band's own, in the order
 // of the document.
-use crate::fixtures::{File, add, calm_folder, none_wrong};
-use crate::reads::{Job, Picture, Place, shows};
+use crate::fixtures::{File, add, calm_folder};
+use crate::reads::{Job, Picture, Place, shows_always};
 use geotransform::Sample;
 use outside::CalmFolder;
 use std::alloc::Global;
@@ -199,41 +199,16 @@ const WINDOWS: [Place; 15] = [
     (0, (144, 16, 1, 1)),
 ];
 
-fn windows() -> &'static [Place] {
-    &WINDOWS
-}
-
-// Whether the windows show the bands through a lane of this capacity.
-fn are_right<R: Abort>(
-    rt: &R,
-    alloc: Global,
-    folder: &mut CalmFolder,
-    bands: Bands<'_>,
-    capacity: u32,
-) -> bool {
+// Whether the windows show the bands at each of these capacities.
+fn are_right<R: Abort>(rt: &R, alloc: Global, bands: Bands<'_>, capacities: &[u32]) -> bool {
+    let mut folder = holding(rt, alloc, bands);
     let job = Job {
         name: "m.vrt",
         size: (168, 40),
-        capacity,
-        windows: windows(),
+        capacity: 1,
+        windows: &WINDOWS,
     };
-    shows(rt, alloc, folder, job, &bands)
-}
-
-// The first capacity at which the windows show something else.
-fn first_wrong<R: Abort>(
-    rt: &R,
-    alloc: Global,
-    bands: Bands<'_>,
-    capacities: &[u32],
-) -> Option<usize> {
-    let mut folder = holding(rt, alloc, bands);
-    for (at, capacity) in capacities.iter().enumerate() {
-        if !are_right(rt, alloc, &mut folder, bands, *capacity) {
-            return Some(at);
-        }
-    }
-    None
+    shows_always(rt, alloc, &mut folder, job, &bands, capacities)
 }
 
 #[test]
@@ -242,5 +217,5 @@ fn indexed_bands_have_their_pixels(rt: HostRuntime) {
         first: &FIRST,
         second: &SECOND,
     };
-    none_wrong(&rt, first_wrong(&rt, rt.alloc(), bands, &[1, 64, 1000]));
+    assert!(rt; are_right(&rt, rt.alloc(), bands, &[1, 64, 1000]));
 }

@@ -26,6 +26,8 @@ mod loads;
 #[cfg(test)]
 mod names;
 #[cfg(test)]
+mod nested;
+#[cfg(test)]
 mod paths;
 #[cfg(test)]
 mod pools;

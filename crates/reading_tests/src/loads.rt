@@ -3,10 +3,12 @@ ghost use Rattle.catalog.specs.Drivers.{Dataset, driver_of};
 ghost use Rattle.band_blocks.specs.Keys.{IsKey};
 ghost use Rattle.band_blocks.specs.Open.{AreGood};
 
-use crate::fixtures::{File, add, calm_folder, cell, name_of, none_wrong, put};
+use crate::fixtures::{
+    Case, File, add, all_hold, calm_folder, cell, cut, is_count, is_word, name_of, none_wrong, put,
+};
 use band_blocks::{Block, BlockKey, LoadFault, OpenFiles, Steps, block_at, load_block};
 use catalog::{Catalog, open_all};
-use geotransform::Sample;
+use geotransform::{Sample, read_whole};
 use outside::{CalmFolder, Folder, Name, Never, Tally};
 use std::alloc::{AllocError, Global};
 use std::marker::Brand;
@@ -25,45 +27,62 @@ enum Loaded {
     NoPixel,
 }
 
-// What is to come of a load: a block of so many samples, the first five of which are these; a fault, as the file has
-// another length than the walk found; or nothing, as there is no such pixel.
-#[derive(Clone, Copy)]
-enum Want<'a> {
-    Samples(u32, &'a [Sample]),
-    Changed(&'a str, u64, Option<u64>),
-    NoPixel,
+// Whether a word is this sample.
+fn is_sample(word: &str, sample: Sample) -> bool {
+    read_whole(word.as_bytes()) == Some(sample)
 }
 
-// Whether a block has so many samples, and begins with these.
-fn begins(block: &Block, count: u32, samples: &[Sample]) -> bool {
+// Whether a block has as many samples as a text says, and begins with those behind it.
+fn begins(block: &Block, want: &str) -> bool {
+    let (count, samples) = cut(want, ": ");
     let mut at = 0;
-    for sample in samples {
-        if at >= block.len() || block.get(at) != *sample {
+    for word in samples.split_ascii_whitespace() {
+        if at >= block.len() || !is_sample(word, block.get(at)) {
             return false;
         }
         at += 1;
     }
-    block.len() == count
+    is_count(Some(count), block.len() as u64)
 }
 
-// Whether a fault tells that a file of this name has changed its length so.
-fn is_changed(fault: &LoadFault, file: &str, before: u64, after: Option<u64>) -> bool {
+// Whether a word is the length of a file, or `gone` where there is none.
+fn is_length(word: Option<&str>, length: Option<u64>) -> bool {
+    match length {
+        Some(length) => is_count(word, length),
+        None => is_word(word, "gone"),
+    }
+}
+
+// Whether a fault tells that a file has changed its length as a text says: its name, its length before, and then.
+fn is_changed(fault: &LoadFault, want: &str) -> bool {
+    let mut words = want.split_ascii_whitespace();
     match fault {
         LoadFault::Changed { name, was, now } => {
-            name.as_str() == file && *was == before && *now == after
+            is_word(words.next(), "changed")
+                && is_word(words.next(), name.as_str())
+                && is_count(words.next(), *was)
+                && is_length(words.next(), *now)
         }
         _ => false,
     }
 }
 
 impl Loaded {
-    fn is(&self, want: Want<'_>) -> bool {
-        match (self, want) {
-            (Loaded::Block(block), Want::Samples(count, samples)) => begins(block, count, samples),
-            (Loaded::Fault(fault), Want::Changed(file, before, after)) => {
-                is_changed(fault, file, before, after)
-            }
-            (Loaded::NoPixel, Want::NoPixel) => true,
+    // Whether that is what a text says: a block of so many samples, the first of which are these; a fault, as the file
+    // has another length than the walk found; or that there is no such pixel.
+    fn is(&self, want: &str) -> bool {
+        match self {
+            Loaded::Block(block) => begins(block, want),
+            Loaded::Fault(fault) => is_changed(fault, want),
+            Loaded::NoPixel => want == "no pixel",
+            _ => false,
+        }
+    }
+
+    // Whether that is a block of one pixel with this sample.
+    fn is_pixel(&self, sample: Sample) -> bool {
+        match self {
+            Loaded::Block(block) => block.len() == 1 && block.get(0) == sample,
             _ => false,
         }
     }
@@ -144,20 +163,38 @@ fn first_load<F: Folder, G: Folder>(
 }
 
 // Whether a first load gives that, once the catalog was walked over one folder, from another.
-fn gives<R: Abort, F: Folder, G: Folder>(
-    rt: &R,
+fn gives<F: Folder, G: Folder>(
     alloc: Global,
     walked: &mut F,
     folder: &mut G,
-    name: &str,
+    name: &Name,
     place: (u32, u32, u32),
-    want: Want<'_>,
+    want: &str,
 ) -> bool {
-    let name = name_of(rt, alloc, name);
-    match first_load(alloc, walked, folder, &name, place) {
+    match first_load(alloc, walked, folder, name, place) {
         Ok(loaded) => loaded.is(want),
         Err(_) => false,
     }
+}
+
+// How many reads a first load of the block of a pixel takes that gives that, once the catalog was walked over other
+// files.
+fn counted<R: Abort>(
+    rt: &R,
+    alloc: Global,
+    found: &[File<'_>],
+    later: &[File<'_>],
+    name: &str,
+    place: (u32, u32, u32),
+    want: &str,
+) -> Option<u64> {
+    let name = name_of(rt, alloc, name);
+    let mut walked = calm_folder(rt, alloc, found);
+    let mut folder = Tally::new(calm_folder(rt, alloc, later));
+    if gives(alloc, &mut walked, &mut folder, &name, place, want) {
+        return Some(folder.reads());
+    }
+    None
 }
 
 // Whether a first load gives that where the files stay the same.
@@ -167,63 +204,54 @@ fn answers<R: Abort>(
     files: &[File<'_>],
     name: &str,
     place: (u32, u32, u32),
-    want: Want<'_>,
+    want: &str,
 ) -> bool {
-    let mut walked = calm_folder(rt, alloc, files);
-    let mut folder = calm_folder(rt, alloc, files);
-    gives(rt, alloc, &mut walked, &mut folder, name, place, want)
+    counted(rt, alloc, files, files, name, place, want).is_some()
 }
 
 // Each byte is its place.
 const PLACES: [u8; 17] = [0, 1, 2, 3, 4, 5, 6, 7, 8, 9, 10, 11, 12, 13, 14, 15, 16];
 
 // A header, the band, the column and the line of a pixel, and its block.
-type Row<'a> = (&'a str, (u32, u32, u32), Want<'a>);
+#[derive(Clone, Copy)]
+struct Raw<'a>(&'a str, (u32, u32, u32), &'a str);
 
-const ROWS: [Row<'static>; 5] = [
-    (
+const ROWS: [Raw<'static>; 5] = [
+    Raw(
         "NROWS 2\nNCOLS 3\nNBANDS 2\nSKIPBYTES 1\nBANDROWBYTES 4\nTOTALROWBYTES 9\n",
         (1, 2, 1),
-        Want::Samples(3, &[14, 15, 16]),
+        "3: 14 15 16",
     ),
-    (
+    Raw(
         "NROWS 2\nNCOLS 3\nNBANDS 2\nLAYOUT BIP\nSKIPBYTES 1\nTOTALROWBYTES 8\n",
         (1, 0, 1),
-        Want::Samples(3, &[10, 12, 14]),
+        "3: 10 12 14",
     ),
-    (
+    Raw(
         "NROWS 2\nNCOLS 3\nNBANDS 2\nLAYOUT BSQ\nSKIPBYTES 1\nBANDGAPBYTES 2\n",
         (1, 1, 1),
-        Want::Samples(3, &[12, 13, 14]),
+        "3: 12 13 14",
     ),
-    (
+    Raw(
         "NROWS 2\nNCOLS 3\nNBITS 16\nBYTEORDER M\n",
         (0, 0, 1),
-        Want::Samples(3, &[1543, 2057, 2571]),
+        "3: 1543 2057 2571",
     ),
-    ("NROWS 2\nNCOLS 3\n", (0, 3, 0), Want::NoPixel),
+    Raw("NROWS 2\nNCOLS 3\n", (0, 3, 0), "no pixel"),
 ];
 
-// Whether a row is loaded so.
-fn is_loaded<R: Abort>(rt: &R, alloc: Global, row: &Row<'_>) -> bool {
-    let (header, place, want) = *row;
-    let files: [File<'_>; 2] = [("a.bil", &PLACES), ("a.hdr", header.as_bytes())];
-    answers(rt, alloc, &files, "a.bil", place, want)
-}
-
-// The first row that is loaded otherwise.
-fn first_unloaded<R: Abort>(rt: &R, alloc: Global, rows: &[Row<'_>]) -> Option<usize> {
-    for (at, row) in rows.iter().enumerate() {
-        if !is_loaded(rt, alloc, row) {
-            return Some(at);
-        }
+impl Case for Raw<'_> {
+    // Whether the row of the pixel is loaded so.
+    fn holds<R: Abort>(&self, rt: &R, alloc: Global) -> bool {
+        let Raw(header, place, want) = *self;
+        let files: [File<'_>; 2] = [("a.bil", &PLACES), ("a.hdr", header.as_bytes())];
+        answers(rt, alloc, &files, "a.bil", place, want)
     }
-    None
 }
 
 #[test]
 fn loads_rows(rt: HostRuntime) {
-    none_wrong(&rt, first_unloaded(&rt, rt.alloc(), &ROWS));
+    all_hold(&rt, rt.alloc(), &ROWS);
 }
 
 // A tile, whose third sample of the second line is -2, and all others 0.
@@ -238,16 +266,21 @@ fn tile<R: Abort>(rt: &R, alloc: Global) -> Vec<u8> {
 fn loads_column<R: Abort>(rt: &R, alloc: Global) -> bool {
     let column = cell(rt, alloc, 0xb2);
     let files: [File<'_>; 1] = [("c.dt0", column.as_slice())];
-    let want = Want::Samples(4, &[0, -32767, -5, 5]);
-    answers(rt, alloc, &files, "c.dt0", (0, 0, 2), want)
+    answers(rt, alloc, &files, "c.dt0", (0, 0, 2), "4: 0 -32767 -5 5")
 }
 
 // Whether a line of a tile is loaded.
 fn loads_line<R: Abort>(rt: &R, alloc: Global) -> bool {
     let lines = tile(rt, alloc);
     let files: [File<'_>; 1] = [("N00E000.hgt", lines.as_slice())];
-    let want = Want::Samples(1201, &[0, 0, -2, 0, 0]);
-    answers(rt, alloc, &files, "N00E000.hgt", (0, 5, 1), want)
+    answers(
+        rt,
+        alloc,
+        &files,
+        "N00E000.hgt",
+        (0, 5, 1),
+        "1201: 0 0 -2 0 0",
+    )
 }
 
 #[test]
@@ -256,226 +289,147 @@ fn loads_columns_and_lines(rt: HostRuntime) {
 }
 
 // The files where a raster is loaded that had four bytes when the walk found it, and what comes of it.
-type Change<'a> = (&'a [File<'a>], Want<'a>);
+#[derive(Clone, Copy)]
+struct Change<'a>(&'a [File<'a>], &'a str);
 
 const CHANGES: [Change<'static>; 4] = [
-    (&[("a.bsq", &[0, 1, 2, 3])], Want::Samples(2, &[0, 1])),
-    (&[("a.bsq", &[0, 1, 2])], Want::Changed("a.bsq", 4, Some(3))),
-    (
-        &[("a.bsq", &[0, 1, 2, 3, 4])],
-        Want::Changed("a.bsq", 4, Some(5)),
-    ),
-    (&[], Want::Changed("a.bsq", 4, None)),
+    Change(&[("a.bsq", &[0, 1, 2, 3])], "2: 0 1"),
+    Change(&[("a.bsq", &[0, 1, 2])], "changed a.bsq 4 3"),
+    Change(&[("a.bsq", &[0, 1, 2, 3, 4])], "changed a.bsq 4 5"),
+    Change(&[], "changed a.bsq 4 gone"),
 ];
 
 // The files that the walk finds.
 const FOUND: [File<'static>; 2] = [("a.bsq", &[0, 1, 2, 3]), ("a.hdr", b"NROWS 2\nNCOLS 2\n")];
 
-// Whether that comes of a load from these files.
-fn tells<R: Abort>(rt: &R, alloc: Global, change: &Change<'_>) -> bool {
-    let (files, want) = *change;
-    let mut walked = calm_folder(rt, alloc, &FOUND);
-    let mut later = calm_folder(rt, alloc, files);
-    gives(rt, alloc, &mut walked, &mut later, "a.bsq", (0, 0, 0), want)
-}
-
-// The first of the changes of which something else comes.
-fn first_untold<R: Abort>(rt: &R, alloc: Global, changes: &[Change<'_>]) -> Option<usize> {
-    for (at, change) in changes.iter().enumerate() {
-        if !tells(rt, alloc, change) {
-            return Some(at);
-        }
+impl Case for Change<'_> {
+    // Whether that comes of a load from these files.
+    fn holds<R: Abort>(&self, rt: &R, alloc: Global) -> bool {
+        counted(rt, alloc, &FOUND, self.0, "a.bsq", (0, 0, 0), self.1).is_some()
     }
-    None
 }
 
 // A file that has another length than the walk found, or is gone.
 #[test]
 fn tells_changes(rt: HostRuntime) {
-    none_wrong(&rt, first_untold(&rt, rt.alloc(), &CHANGES));
+    all_hold(&rt, rt.alloc(), &CHANGES);
 }
 
-// A row of a raster of 256 bands and these columns, all of whose samples are 7.
-fn raster<R: Abort>(rt: &R, alloc: Global, columns: usize) -> CalmFolder {
-    let header = format!(in alloc; "NROWS 1\nNCOLS {columns}\nNBANDS 256\nLAYOUT BIP\n").expect(
-        rt, "memory",
-    );
-    let data = vec![in alloc; 7u8; columns.saturating_mul(256)].expect(rt, "memory");
-    let files: [File<'_>; 2] = [("a.bip", data.as_slice()), ("a.hdr", header.as_bytes())];
-    calm_folder(rt, alloc, &files)
+// The header of a row of 256 bands and so many columns.
+fn header_of<R: Abort>(rt: &R, alloc: Global, columns: usize) -> String {
+    format!(in alloc; "NROWS 1\nNCOLS {columns}\nNBANDS 256\nLAYOUT BIP\n").expect(rt, "memory")
 }
 
-const SEVENS: [Sample; 5] = [7; 5];
+// Columns of a row of 256 bands, all of whose samples are 7, the block of its last band, of which at most five samples
+// are looked at, and how often its load reads.
+#[derive(Clone, Copy)]
+struct Pieces<'a>(usize, &'a str, u64);
 
-// Columns of such a row, of which the first at most five are looked at, and how often its load reads.
-const COUNTS: [(u32, u64); 4] = [(2, 1), (256, 1), (257, 2), (600, 3)];
+const COUNTS: [Pieces<'static>; 4] = [
+    Pieces(2, "2: 7 7", 1),
+    Pieces(256, "256: 7 7 7 7 7", 1),
+    Pieces(257, "257: 7 7 7 7 7", 2),
+    Pieces(600, "600: 7 7 7 7 7", 3),
+];
 
-// Samples of which all are 7, of which the first at most five are looked at.
-fn sevens_of(columns: u32) -> Want<'static> {
-    let sevens: &'static [Sample] = &SEVENS;
-    let (samples, _) = sevens.split_at((columns as usize).min(5));
-    Want::Samples(columns, samples)
-}
-
-// Whether the load of a row of so many columns gives it, and reads so often.
-fn is_counted<R: Abort>(rt: &R, alloc: Global, (columns, calls): (u32, u64)) -> bool {
-    let mut walked = raster(rt, alloc, columns as usize);
-    let mut folder = Tally::new(raster(rt, alloc, columns as usize));
-    let want = sevens_of(columns);
-    gives(
-        rt,
-        alloc,
-        &mut walked,
-        &mut folder,
-        "a.bip",
-        (255, 1, 0),
-        want,
-    ) && folder.reads() == calls
-}
-
-// The first number of columns whose row is loaded otherwise.
-fn first_uncounted<R: Abort>(rt: &R, alloc: Global, rows: &[(u32, u64)]) -> Option<usize> {
-    for (at, row) in rows.iter().enumerate() {
-        if !is_counted(rt, alloc, *row) {
-            return Some(at);
-        }
+impl Case for Pieces<'_> {
+    // Whether the load of such a row gives it, and reads so often.
+    fn holds<R: Abort>(&self, rt: &R, alloc: Global) -> bool {
+        let Pieces(columns, want, calls) = *self;
+        let header = header_of(rt, alloc, columns);
+        let data = vec![in alloc; 7u8; columns.saturating_mul(256)].expect(rt, "memory");
+        let files: [File<'_>; 2] = [("a.bip", data.as_slice()), ("a.hdr", header.as_bytes())];
+        counted(rt, alloc, &files, &files, "a.bip", (255, 1, 0), want) == Some(calls)
     }
-    None
 }
 
 #[test]
 fn reads_in_pieces(rt: HostRuntime) {
-    none_wrong(&rt, first_uncounted(&rt, rt.alloc(), &COUNTS));
+    all_hold(&rt, rt.alloc(), &COUNTS);
 }
 
 const GRID_HEAD: &str = "xllcorner 0\nyllcorner 0\ncellsize 1\n";
 
-// The body of a grid of three columns and two rows, the line of a pixel, and its block.
-type GridRow<'a> = (&'a str, u32, [Sample; 3]);
-
-const GRID_ROWS: [GridRow<'static>; 6] = [
-    ("1 -2 3\n40 50 60\n", 0, [1, -2, 3]),
-    ("1 -2 3\n40 50 60\n", 1, [40, 50, 60]),
-    ("1 -2 3\n40 50 60", 1, [40, 50, 60]),
-    ("1\n-2 3 40\n\n 50\t60 ", 0, [1, -2, 3]),
-    ("1\n-2 3 40\n\n 50\t60 ", 1, [40, 50, 60]),
-    (
-        "-2147483648 2147483647 +7.0 0 0 0",
-        0,
-        [-2147483648, 2147483647, 7],
-    ),
-];
-
-// A folder with a grid of this size and this body.
-fn grid<R: Abort>(rt: &R, alloc: Global, size: &str, body: &[u8]) -> CalmFolder {
+// The file of a grid of this size and this body.
+fn grid<R: Abort>(rt: &R, alloc: Global, size: &str, body: &[u8]) -> Vec<u8> {
     let mut text = Vec::new(alloc);
     add(rt, &mut text, size.as_bytes());
     add(rt, &mut text, GRID_HEAD.as_bytes());
     add(rt, &mut text, body);
-    calm_folder(rt, alloc, &[("g.asc", text.as_slice())])
+    text
 }
 
-// The size of a grid, its body as the walk finds it, and its body by then.
+// The body of a grid of three columns and two rows, the line of a pixel, and its block.
 #[derive(Clone, Copy)]
-struct Bodies<'a> {
-    size: &'a str,
-    found: &'a [u8],
-    later: &'a [u8],
-}
+struct Gridded<'a>(&'a str, u32, &'a str);
 
-// How often a load of a line of a grid reads, whose file has other bytes by then, where it gives that.
-fn counted_line<R: Abort>(
-    rt: &R,
-    alloc: Global,
-    bodies: Bodies<'_>,
-    (x, y): (u32, u32),
-    want: Want<'_>,
-) -> Option<u64> {
-    let mut found = grid(rt, alloc, bodies.size, bodies.found);
-    let mut folder = Tally::new(grid(rt, alloc, bodies.size, bodies.later));
-    if gives(rt, alloc, &mut found, &mut folder, "g.asc", (0, x, y), want) {
-        return Some(folder.reads());
+const GRID_ROWS: [Gridded<'static>; 6] = [
+    Gridded("1 -2 3\n40 50 60\n", 0, "3: 1 -2 3"),
+    Gridded("1 -2 3\n40 50 60\n", 1, "3: 40 50 60"),
+    Gridded("1 -2 3\n40 50 60", 1, "3: 40 50 60"),
+    Gridded("1\n-2 3 40\n\n 50\t60 ", 0, "3: 1 -2 3"),
+    Gridded("1\n-2 3 40\n\n 50\t60 ", 1, "3: 40 50 60"),
+    Gridded(
+        "-2147483648 2147483647 +7.0 0 0 0",
+        0,
+        "3: -2147483648 2147483647 7",
+    ),
+];
+
+impl Case for Gridded<'_> {
+    // Whether the row of the pixel is loaded so.
+    fn holds<R: Abort>(&self, rt: &R, alloc: Global) -> bool {
+        let Gridded(body, line, want) = *self;
+        let text = grid(rt, alloc, "ncols 3\nnrows 2\n", body.as_bytes());
+        let files: [File<'_>; 1] = [("g.asc", text.as_slice())];
+        answers(rt, alloc, &files, "g.asc", (0, 2, line), want)
     }
-    None
-}
-
-// Whether a row of a grid is loaded so.
-fn is_gridded<R: Abort>(rt: &R, alloc: Global, row: &GridRow<'_>) -> bool {
-    let (body, line, samples) = *row;
-    let bodies = Bodies {
-        size: "ncols 3\nnrows 2\n",
-        found: body.as_bytes(),
-        later: body.as_bytes(),
-    };
-    let want = Want::Samples(3, &samples);
-    counted_line(rt, alloc, bodies, (2, line), want).is_some()
-}
-
-// The first of these rows that is loaded otherwise.
-fn first_ungridded<R: Abort>(rt: &R, alloc: Global, rows: &[GridRow<'_>]) -> Option<usize> {
-    for (at, row) in rows.iter().enumerate() {
-        if !is_gridded(rt, alloc, row) {
-            return Some(at);
-        }
-    }
-    None
 }
 
 #[test]
 fn loads_rows_of_grids(rt: HostRuntime) {
-    none_wrong(&rt, first_ungridded(&rt, rt.alloc(), &GRID_ROWS));
+    all_hold(&rt, rt.alloc(), &GRID_ROWS);
 }
 
-// 100,000 bytes between two others.
+// A grid of one column and two rows, with 100,000 bytes between two others.
 fn between<R: Abort>(rt: &R, alloc: Global, front: u8, fill: u8, back: u8) -> Vec<u8> {
     let mut bytes = Vec::new(alloc);
     add(rt, &mut bytes, &[front]);
     bytes.resize(100_001, fill).expect(rt, "memory");
     add(rt, &mut bytes, &[back]);
-    bytes
+    grid(rt, alloc, "ncols 1\nnrows 2\n", bytes.as_slice())
 }
 
 // The bytes that a grid of one column and two rows has by then: the first, the 100,000 behind it and the
-// last. The line that is loaded, its sample, and how often it is read.
-type LaterRow = (u8, u8, u8, u32, Sample, u64);
+// last. The line that is loaded, its block, and how often it is read.
+#[derive(Clone, Copy)]
+struct Later<'a>(u8, u8, u8, u32, &'a str, u64);
 
-const LATER: [LaterRow; 6] = [
-    (b'7', b' ', b'8', 0, 7, 1),
-    (b'7', b' ', b'8', 1, 8, 1),
-    (b' ', b' ', b'8', 0, 0, 2),
-    (b'1', b'1', b'1', 0, 0, 2),
-    (b'x', b'\n', b'9', 0, 0, 1),
-    (b'x', b'\n', b'9', 1, 9, 1),
+const LATER_ROWS: [Later<'static>; 6] = [
+    Later(b'7', b' ', b'8', 0, "1: 7", 1),
+    Later(b'7', b' ', b'8', 1, "1: 8", 1),
+    Later(b' ', b' ', b'8', 0, "1: 0", 2),
+    Later(b'1', b'1', b'1', 0, "1: 0", 2),
+    Later(b'x', b'\n', b'9', 0, "1: 0", 1),
+    Later(b'x', b'\n', b'9', 1, "1: 9", 1),
 ];
 
-// Whether a load of a line gives its sample and reads so often, over the bytes that the grid has by then.
-fn is_past<R: Abort>(rt: &R, alloc: Global, found: &[u8], row: &LaterRow) -> bool {
-    let (front, fill, back, line, sample, calls) = *row;
-    let later = between(rt, alloc, front, fill, back);
-    let bodies = Bodies {
-        size: "ncols 1\nnrows 2\n",
-        found,
-        later: later.as_slice(),
-    };
-    let want = Want::Samples(1, &[sample]);
-    counted_line(rt, alloc, bodies, (0, line), want) == Some(calls)
-}
-
-// The first of these rows that is loaded otherwise.
-fn first_past<R: Abort>(rt: &R, alloc: Global, rows: &[LaterRow]) -> Option<usize> {
-    let found = between(rt, alloc, b'7', b' ', b'8');
-    for (at, row) in rows.iter().enumerate() {
-        if !is_past(rt, alloc, found.as_slice(), row) {
-            return Some(at);
-        }
+impl Case for Later<'_> {
+    // Whether a load of a line gives its block and reads so often, over the bytes that the grid has by then.
+    fn holds<R: Abort>(&self, rt: &R, alloc: Global) -> bool {
+        let Later(front, fill, back, line, want, calls) = *self;
+        let found = between(rt, alloc, b'7', b' ', b'8');
+        let later = between(rt, alloc, front, fill, back);
+        let before: [File<'_>; 1] = [("g.asc", found.as_slice())];
+        let then: [File<'_>; 1] = [("g.asc", later.as_slice())];
+        counted(rt, alloc, &before, &then, "g.asc", (0, 0, line), want) == Some(calls)
     }
-    None
 }
 
 // The walk finds a 7, 100,000 spaces and an 8. No load reads past the place of the next row.
 #[test]
 fn stops_at_the_next_row(rt: HostRuntime) {
-    none_wrong(&rt, first_past(&rt, rt.alloc(), &LATER));
+    all_hold(&rt, rt.alloc(), &LATER_ROWS);
 }
 
 // The row of a grid of so many columns, all of whose values are 7.
@@ -487,39 +441,32 @@ fn sevens<R: Abort>(rt: &R, alloc: Global, columns: u32) -> Vec<u8> {
     body
 }
 
-// The columns of such a grid, its size as it is written, and how often the load of its row reads.
-const SIZES: [(u32, &str, u64); 4] = [
-    (5, "ncols 5\nnrows 1\n", 1),
-    (32_768, "ncols 32768\nnrows 1\n", 1),
-    (32_769, "ncols 32769\nnrows 1\n", 2),
-    (65_537, "ncols 65537\nnrows 1\n", 3),
+// The columns of such a grid, its size as it is written, its block, of which five samples are looked at, and how often
+// the load of its row reads.
+#[derive(Clone, Copy)]
+struct Wide<'a>(u32, &'a str, &'a str, u64);
+
+const SIZES: [Wide<'static>; 4] = [
+    Wide(5, "ncols 5\nnrows 1\n", "5: 7 7 7 7 7", 1),
+    Wide(32_768, "ncols 32768\nnrows 1\n", "32768: 7 7 7 7 7", 1),
+    Wide(32_769, "ncols 32769\nnrows 1\n", "32769: 7 7 7 7 7", 2),
+    Wide(65_537, "ncols 65537\nnrows 1\n", "65537: 7 7 7 7 7", 3),
 ];
 
-// Whether the load of such a row gives it, and reads so often.
-fn is_read_so<R: Abort>(rt: &R, alloc: Global, row: &(u32, &str, u64)) -> bool {
-    let (columns, size, calls) = *row;
-    let body = sevens(rt, alloc, columns);
-    let bodies = Bodies {
-        size,
-        found: body.as_slice(),
-        later: body.as_slice(),
-    };
-    counted_line(rt, alloc, bodies, (0, 0), sevens_of(columns)) == Some(calls)
-}
-
-// The first of these grids whose row is loaded otherwise.
-fn first_unread<R: Abort>(rt: &R, alloc: Global, rows: &[(u32, &str, u64)]) -> Option<usize> {
-    for (at, row) in rows.iter().enumerate() {
-        if !is_read_so(rt, alloc, row) {
-            return Some(at);
-        }
+impl Case for Wide<'_> {
+    // Whether the load of such a row gives it, and reads so often.
+    fn holds<R: Abort>(&self, rt: &R, alloc: Global) -> bool {
+        let Wide(columns, size, want, calls) = *self;
+        let body = sevens(rt, alloc, columns);
+        let text = grid(rt, alloc, size, body.as_slice());
+        let files: [File<'_>; 1] = [("g.asc", text.as_slice())];
+        counted(rt, alloc, &files, &files, "g.asc", (0, 0, 0), want) == Some(calls)
     }
-    None
 }
 
 #[test]
 fn reads_rows_of_grids_in_pieces(rt: HostRuntime) {
-    none_wrong(&rt, first_unread(&rt, rt.alloc(), &SIZES));
+    all_hold(&rt, rt.alloc(), &SIZES);
 }
 
 // Whether loads of the first blocks of datasets in turn give one sample each: the number of the dataset.
@@ -534,8 +481,7 @@ fn load_each<F: Folder>(
     ensures good { AreGood F.file_bytes F.file_len (F.names folder.new) cat.now files.new }
 {
     for id in ids {
-        let want = [*id as Sample];
-        if !load_at(alloc, cat, folder, files, *id, (0, 0, 0)).is(Want::Samples(1, &want)) {
+        if !load_at(alloc, cat, folder, files, *id, (0, 0, 0)).is_pixel(*id as Sample) {
             return false;
         }
     }

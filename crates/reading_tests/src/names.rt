@@ -1,4 +1,4 @@
-use crate::fixtures::{name_of, none_wrong};
+use crate::fixtures::{Case, all_hold, name_of};
 use outside::{Ext, Name, NameFault, Text};
 use std::alloc::Global;
 use std::process::Abort;
@@ -8,80 +8,81 @@ use std::test::*;
 const LONGEST: usize = 4096;
 
 // A text, and the name that it gives.
-const NORMAL: [(&str, &str); 20] = [
-    ("a", "a"),
-    ("a/b", "a/b"),
-    ("/a/b", "/a/b"),
-    ("./a.bil", "a.bil"),
-    ("a//b", "a/b"),
-    ("a/./b", "a/b"),
-    ("a/b/", "a/b"),
-    ("a/../b", "b"),
-    ("a/b/../../c", "c"),
-    ("a/..", "."),
-    (".", "."),
-    ("..", ".."),
-    ("../a", "../a"),
-    ("a/../../b", "../b"),
-    ("../../a/..", "../.."),
-    ("/", "/"),
-    ("//", "/"),
-    ("/..", "/"),
-    ("/../a", "/a"),
-    ("/a/..", "/"),
+#[derive(Clone, Copy)]
+struct Named<'a>(&'a str, &'a str);
+
+const NORMAL: [Named<'static>; 20] = [
+    Named("a", "a"),
+    Named("a/b", "a/b"),
+    Named("/a/b", "/a/b"),
+    Named("./a.bil", "a.bil"),
+    Named("a//b", "a/b"),
+    Named("a/./b", "a/b"),
+    Named("a/b/", "a/b"),
+    Named("a/../b", "b"),
+    Named("a/b/../../c", "c"),
+    Named("a/..", "."),
+    Named(".", "."),
+    Named("..", ".."),
+    Named("../a", "../a"),
+    Named("a/../../b", "../b"),
+    Named("../../a/..", "../.."),
+    Named("/", "/"),
+    Named("//", "/"),
+    Named("/..", "/"),
+    Named("/../a", "/a"),
+    Named("/a/..", "/"),
 ];
 
 // A name, and its kind.
+#[derive(Clone, Copy)]
+struct Kind<'a>(&'a str, Option<Ext>);
+
 const KINDS: [Kind<'static>; 19] = [
-    ("a.bil", Some(Ext::Bil)),
-    ("a.bip", Some(Ext::Bip)),
-    ("a.BSQ", Some(Ext::Bsq)),
-    ("a.b.bil", Some(Ext::Bil)),
-    ("/d/a.Bip", Some(Ext::Bip)),
-    (".bsq", Some(Ext::Bsq)),
-    ("w.dt0", Some(Ext::Dt0)),
-    ("w.DT1", Some(Ext::Dt1)),
-    ("w.Dt2", Some(Ext::Dt2)),
-    ("d/N00E000.hgt", Some(Ext::Hgt)),
-    ("g.asc", Some(Ext::Asc)),
-    ("g.GRD", Some(Ext::Grd)),
-    ("m.vrt", Some(Ext::Vrt)),
-    ("x.bil/y", None),
-    ("a.bil.b", None),
-    ("a.tif", None),
-    ("bil", None),
-    ("a.", None),
-    ("..", None),
+    Kind("a.bil", Some(Ext::Bil)),
+    Kind("a.bip", Some(Ext::Bip)),
+    Kind("a.BSQ", Some(Ext::Bsq)),
+    Kind("a.b.bil", Some(Ext::Bil)),
+    Kind("/d/a.Bip", Some(Ext::Bip)),
+    Kind(".bsq", Some(Ext::Bsq)),
+    Kind("w.dt0", Some(Ext::Dt0)),
+    Kind("w.DT1", Some(Ext::Dt1)),
+    Kind("w.Dt2", Some(Ext::Dt2)),
+    Kind("d/N00E000.hgt", Some(Ext::Hgt)),
+    Kind("g.asc", Some(Ext::Asc)),
+    Kind("g.GRD", Some(Ext::Grd)),
+    Kind("m.vrt", Some(Ext::Vrt)),
+    Kind("x.bil/y", None),
+    Kind("a.bil.b", None),
+    Kind("a.tif", None),
+    Kind("bil", None),
+    Kind("a.", None),
+    Kind("..", None),
 ];
 
 // Raw data, and the header beside it.
-const HEADERS: [(&str, &str); 6] = [
-    ("a.bsq", "a.hdr"),
-    ("a.Bsq", "a.hdr"),
-    ("A.BIP", "A.HDR"),
-    (".bil", ".hdr"),
-    ("/d.bil/a.b.BIL", "/d.bil/a.b.HDR"),
-    ("../a.bip", "../a.hdr"),
+#[derive(Clone, Copy)]
+struct Header<'a>(&'a str, &'a str);
+
+const HEADERS: [Header<'static>; 6] = [
+    Header("a.bsq", "a.hdr"),
+    Header("a.Bsq", "a.hdr"),
+    Header("A.BIP", "A.HDR"),
+    Header(".bil", ".hdr"),
+    Header("/d.bil/a.b.BIL", "/d.bil/a.b.HDR"),
+    Header("../a.bip", "../a.hdr"),
 ];
 
-// Whether a text gives this name.
-fn is_read<R: Abort>(rt: &R, alloc: Global, (text, name): (&str, &str)) -> bool {
-    name_of(rt, alloc, text).as_str() == name
-}
-
-// The first of these texts that gives another name.
-fn first_unread<R: Abort>(rt: &R, alloc: Global, rows: &[(&str, &str)]) -> Option<usize> {
-    for (at, row) in rows.iter().enumerate() {
-        if !is_read(rt, alloc, *row) {
-            return Some(at);
-        }
+impl Case for Named<'_> {
+    // Whether the text gives this name.
+    fn holds<R: Abort>(&self, rt: &R, alloc: Global) -> bool {
+        name_of(rt, alloc, self.0).as_str() == self.1
     }
-    None
 }
 
 #[test]
 fn reads_names(rt: HostRuntime) {
-    none_wrong(&rt, first_unread(&rt, rt.alloc(), &NORMAL));
+    all_hold(&rt, rt.alloc(), &NORMAL);
 }
 
 // Why a text gives no name, or None where it gives one.
@@ -118,67 +119,42 @@ fn refuses_names(rt: HostRuntime) {
     assert!(rt; are_bounded(&rt, rt.alloc()));
 }
 
-// A name and its kind.
-type Kind<'a> = (&'a str, Option<Ext>);
-
-// Whether a name is of this kind.
-fn is_kind<R: Abort>(rt: &R, alloc: Global, (text, kind): Kind<'_>) -> bool {
-    name_of(rt, alloc, text).extension() == kind
-}
-
-// The first of these names that is of another kind.
-fn first_of_other_kind<R: Abort>(rt: &R, alloc: Global, rows: &[Kind<'_>]) -> Option<usize> {
-    for (at, row) in rows.iter().enumerate() {
-        if !is_kind(rt, alloc, *row) {
-            return Some(at);
-        }
+impl Case for Kind<'_> {
+    // Whether the name is of this kind.
+    fn holds<R: Abort>(&self, rt: &R, alloc: Global) -> bool {
+        name_of(rt, alloc, self.0).extension() == self.1
     }
-    None
 }
 
 #[test]
 fn tells_kinds(rt: HostRuntime) {
-    none_wrong(&rt, first_of_other_kind(&rt, rt.alloc(), &KINDS));
+    all_hold(&rt, rt.alloc(), &KINDS);
 }
 
-// The header beside raw data; None where a name is of another kind, or memory is refused.
-fn header_of(alloc: Global, name: &Name) -> Option<Name> {
+// Whether raw data have this header beside them; false for a name of another kind.
+fn has_header<R: Abort>(rt: &R, alloc: Global, name: &Name, header: &str) -> bool {
     if let Some(Ext::Bil | Ext::Bip | Ext::Bsq) = name.extension() {
-        return name.header(alloc).ok();
+        return name.header(alloc).expect(rt, "memory").as_str() == header;
     }
-    None
+    false
 }
 
-// Whether a name is that of raw data, with this header beside it.
-fn has_header<R: Abort>(rt: &R, alloc: Global, (text, header): (&str, &str)) -> bool {
-    let name = name_of(rt, alloc, text);
-    match header_of(alloc, &name) {
-        Some(beside) => beside.as_str() == header,
-        None => false,
+impl Case for Header<'_> {
+    // Whether the name is that of raw data, with this header beside it.
+    fn holds<R: Abort>(&self, rt: &R, alloc: Global) -> bool {
+        let name = name_of(rt, alloc, self.0);
+        has_header(rt, alloc, &name, self.1)
     }
-}
-
-// The first of these names that has another header.
-fn first_of_other_header<R: Abort>(rt: &R, alloc: Global, rows: &[(&str, &str)]) -> Option<usize> {
-    for (at, row) in rows.iter().enumerate() {
-        if !has_header(rt, alloc, *row) {
-            return Some(at);
-        }
-    }
-    None
 }
 
 #[test]
 fn names_headers(rt: HostRuntime) {
-    none_wrong(&rt, first_of_other_header(&rt, rt.alloc(), &HEADERS));
+    all_hold(&rt, rt.alloc(), &HEADERS);
 }
 
 // Whether the folder of a name is this one.
-fn is_in(alloc: Global, text: &str, folder: Option<&str>) -> bool {
-    match Name::read(alloc, text) {
-        Ok(name) => name.folder_part() == folder,
-        Err(_) => false,
-    }
+fn is_in<R: Abort>(rt: &R, alloc: Global, text: &str, folder: Option<&str>) -> bool {
+    name_of(rt, alloc, text).folder_part() == folder
 }
 
 // Whether a name keeps its last part, and is its copy.
@@ -206,11 +182,13 @@ fn keeps_texts(rt: HostRuntime) {
 }
 
 // Whether folders of names are told.
-fn are_folders_told(alloc: Global) -> bool {
-    is_in(alloc, "d/a.bil", Some("d")) && is_in(alloc, "/a", Some("")) && is_in(alloc, "a", None)
+fn are_folders_told<R: Abort>(rt: &R, alloc: Global) -> bool {
+    is_in(rt, alloc, "d/a.bil", Some("d"))
+        && is_in(rt, alloc, "/a", Some(""))
+        && is_in(rt, alloc, "a", None)
 }
 
 #[test]
 fn tells_folders(rt: HostRuntime) {
-    assert!(rt; are_folders_told(rt.alloc()));
+    assert!(rt; are_folders_told(&rt, rt.alloc()));
 }

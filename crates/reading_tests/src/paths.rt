@@ -1,9 +1,10 @@
 // Mosaics that name one another again and again, of which single pixels are asked: each of them is made once, and no
 // other pixel stands for it.
-use crate::fixtures::{add, put};
+use crate::fixtures::add;
+use crate::nested::{Shape, chain, put_mosaic};
 use crate::reads::{Job, Picture, Place, shows};
 use geotransform::Sample;
-use outside::{CalmFolder, Never, Tally};
+use outside::{CalmFolder, Tally};
 use std::alloc::Global;
 use std::process::Abort;
 use std::test::*;
@@ -12,11 +13,24 @@ use std::test::*;
 // NODATA, and that of each source, is 255.
 const SHIFTS: [(usize, usize); 3] = [(0, 0), (0, 1), (1, 0)];
 
-// The file that the last mosaic names, and the mosaics, from the last to the second. They have 24 columns and lines.
+// The mosaics, from the second to the last, and the file that the last one names. They have 24 columns and lines.
 // The first mosaic, `m0.vrt`, names `m1.vrt`, and its 24 columns stand behind 128 in which there is nothing.
 const NAMES: [&str; 16] = [
-    "a.bil", "m15.vrt", "m14.vrt", "m13.vrt", "m12.vrt", "m11.vrt", "m10.vrt", "m9.vrt", "m8.vrt",
-    "m7.vrt", "m6.vrt", "m5.vrt", "m4.vrt", "m3.vrt", "m2.vrt", "m1.vrt",
+    "m1.vrt", "m2.vrt", "m3.vrt", "m4.vrt", "m5.vrt", "m6.vrt", "m7.vrt", "m8.vrt", "m9.vrt",
+    "m10.vrt", "m11.vrt", "m12.vrt", "m13.vrt", "m14.vrt", "m15.vrt", "last.bil",
+];
+
+// The places of the shifts in a mosaic, as its document has them, and behind the 128 columns of the first.
+const PLACES: [&[u8]; 3] = [
+    b"<DstRect xOff=\"0\" yOff=\"0\" xSize=\"24\" ySize=\"24\"/>",
+    b"<DstRect xOff=\"0\" yOff=\"1\" xSize=\"24\" ySize=\"24\"/>",
+    b"<DstRect xOff=\"1\" yOff=\"0\" xSize=\"24\" ySize=\"24\"/>",
+];
+
+const PLACES_BEHIND: [&[u8]; 3] = [
+    b"<DstRect xOff=\"128\" yOff=\"0\" xSize=\"24\" ySize=\"24\"/>",
+    b"<DstRect xOff=\"128\" yOff=\"1\" xSize=\"24\" ySize=\"24\"/>",
+    b"<DstRect xOff=\"129\" yOff=\"0\" xSize=\"24\" ySize=\"24\"/>",
 ];
 
 // The pixel of the file: nearly each is 255.
@@ -95,92 +109,21 @@ fn first<R: Abort>(rt: &R, alloc: Global) -> Pixels {
     Pixels { pixels }
 }
 
-// The name of a source's dataset, as the document has it.
-fn file_of<R: Abort>(rt: &R, alloc: Global, below: &str) -> String {
-    format!(in alloc;
-        "<ComplexSource><SourceFilename relativeToVRT=\"1\">{below}</SourceFilename>"
-    ).expect(rt, "memory")
-}
-
-// The place of a source.
-fn place_of<R: Abort>(rt: &R, alloc: Global, (x, y): (usize, usize)) -> String {
-    format!(in alloc; "<DstRect xOff=\"{x}\" yOff=\"{y}\" xSize=\"24\" ySize=\"24\"/>").expect(
-        rt, "memory",
-    )
-}
-
-// Adds a source to a document.
-fn push_source<R: Abort>(
-    rt: &R,
-    alloc: Global,
-    text: &mut Vec<u8>,
-    below: &str,
-    place: (usize, usize),
-) {
-    let file = file_of(rt, alloc, below);
-    let place = place_of(rt, alloc, place);
-    add(rt, text, file.as_bytes());
-    add(
-        rt,
-        text,
-        b"<SrcRect xOff=\"0\" yOff=\"0\" xSize=\"24\" ySize=\"24\"/>",
-    );
-    add(rt, text, place.as_bytes());
-    add(rt, text, b"<NODATA>255</NODATA></ComplexSource>");
-}
-
-// What stands before the sources of a mosaic with so many columns before its pixels.
-fn opening<R: Abort>(rt: &R, alloc: Global, columns: usize) -> String {
-    let width = columns.saturating_add(24);
-    format!(in alloc;
-        "<VRTDataset rasterXSize=\"{width}\" rasterYSize=\"24\"><VRTRasterBand dataType=\"Byte\">\
-        <NoDataValue>255</NoDataValue>"
-    )
-    .expect(rt, "memory")
-}
-
-// The document of a mosaic with so many columns before its pixels.
-fn document<R: Abort>(rt: &R, alloc: Global, below: &str, columns: usize) -> Vec<u8> {
-    let mut text = Vec::new(alloc);
-    let opening = opening(rt, alloc, columns);
-    add(rt, &mut text, opening.as_bytes());
-    for (right, down) in SHIFTS {
-        let place = (columns.saturating_add(right), down);
-        push_source(rt, alloc, &mut text, below, place);
-    }
-    add(rt, &mut text, b"</VRTRasterBand></VRTDataset>");
-    text
-}
-
-// Puts a mosaic.
-fn put_mosaic<R: Abort>(
-    rt: &R,
-    alloc: Global,
-    folder: &mut CalmFolder,
-    name: &str,
-    below: &str,
-    columns: usize,
-) {
-    let text = document(rt, alloc, below, columns);
-    put(rt, alloc, folder, name, text.as_slice());
-}
-
-// Puts mosaics, each of which names the one before.
-fn put_mosaics<R: Abort>(rt: &R, alloc: Global, folder: &mut CalmFolder, names: &[&str]) {
-    let (_, above) = names.split_at(names.len().min(1));
-    for (below, name) in names.iter().zip(above) {
-        put_mosaic(rt, alloc, folder, name, below, 0);
-    }
-}
-
 // A folder that holds the mosaics and the file.
-fn nested<R: Abort>(rt: &R, alloc: Global) -> CalmFolder {
+fn holding<R: Abort>(rt: &R, alloc: Global) -> CalmFolder {
     let bytes = raw(rt, alloc);
-    let mut folder = CalmFolder::new(alloc, Never);
-    put(rt, alloc, &mut folder, "a.bil", bytes.as_slice());
-    put(rt, alloc, &mut folder, "a.hdr", b"NROWS 24\nNCOLS 24\n");
-    put_mosaics(rt, alloc, &mut folder, &NAMES);
-    put_mosaic(rt, alloc, &mut folder, "m0.vrt", "m1.vrt", 128);
+    let shape = Shape {
+        columns: b"24",
+        places: &PLACES,
+        tested: true,
+    };
+    let mut folder = chain(rt, alloc, &NAMES, shape, bytes.as_slice());
+    let first = Shape {
+        columns: b"152",
+        places: &PLACES_BEHIND,
+        tested: true,
+    };
+    put_mosaic(rt, alloc, &mut folder, "m0.vrt", "m1.vrt", first);
     folder
 }
 
@@ -198,7 +141,7 @@ const POINTS: [Place; 7] = [
 
 // Whether the points have their pixels, and the walk and they take fewer reads than this.
 fn reads_fewer<R: Abort>(rt: &R, alloc: Global, most: u64) -> bool {
-    let mut folder = Tally::new(nested(rt, alloc));
+    let mut folder = Tally::new(holding(rt, alloc));
     let picture = first(rt, alloc);
     let job = Job {
         name: "m0.vrt",

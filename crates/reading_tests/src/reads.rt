@@ -4,12 +4,12 @@ ghost use Rattle.outside.specs.Outside.{Files};
 ghost use Rattle.catalog.specs.Walk.{IsWalked};
 ghost use Rattle.nearest_window.specs.Right.{IsReady};
 
-use crate::fixtures::name_of;
+use crate::fixtures::{add, name_of, put};
 use band_blocks::{LoadFault, Steps};
 use catalog::{Catalog, open_all};
 use geotransform::{Rect, Sample, Size};
 use nearest_window::{Lane, Window};
-use outside::{Folder, Name, Tally};
+use outside::{CalmFolder, Folder, Name, Tally};
 use std::alloc::{AllocError, Global};
 use std::marker::Brand;
 use std::process::Abort;
@@ -311,6 +311,45 @@ pub fn shows<R: Abort, F: Folder, P: Picture>(
 ) -> bool {
     let samples = samples_of(rt, alloc, folder, job);
     are_shown(picture, job.windows, samples.as_slice())
+}
+
+/// Whether windows of the dataset of a name show a picture at each of these capacities.
+pub fn shows_always<R: Abort, F: Folder, P: Picture>(
+    rt: &R,
+    alloc: Global,
+    folder: &mut F,
+    job: Job,
+    picture: &P,
+    capacities: &[u32],
+) -> bool {
+    for capacity in capacities {
+        let job = Job {
+            capacity: *capacity,
+            ..job
+        };
+        if !shows(rt, alloc, folder, job, picture) {
+            return false;
+        }
+    }
+    true
+}
+
+/// Puts a file of the first band of a picture, of so many columns and pixels.
+pub fn put_picture<R: Abort, P: Picture>(
+    rt: &R,
+    alloc: Global,
+    folder: &mut CalmFolder,
+    name: &str,
+    picture: &P,
+    (columns, count): (u32, u32),
+) {
+    let mut bytes = Vec::new(alloc);
+    let columns = columns.max(1);
+    for place in 0..count {
+        let sample = picture.pixel(0, place % columns, place / columns);
+        add(rt, &mut bytes, &[sample.clamp(0, 255) as u8]);
+    }
+    put(rt, alloc, folder, name, bytes.as_slice());
 }
 
 /// Adds a window.

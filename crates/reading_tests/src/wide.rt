@@ -1,7 +1,7 @@
 // Windows of 16,384 pixels and more, of mosaics that have few sources for their size: their lines are filled in the
 // whole width.
-use crate::fixtures::{File, add, is_number, none_wrong, put, put_all};
-use crate::reads::{Job, Picture, Place, add_window, place_in, shows};
+use crate::fixtures::{File, is_number, none_wrong, put_all};
+use crate::reads::{Job, Picture, Place, add_window, place_in, put_picture, shows_always};
 use geotransform::Sample;
 use outside::{CalmFolder, Folder, Never, Tally};
 use std::alloc::Global;
@@ -153,45 +153,24 @@ const TEXTS: [File<'static>; 5] = [
     ("three.vrt", THREE),
 ];
 
-// Puts a file of so many columns and pixels.
-fn put_raw<R: Abort>(
-    rt: &R,
-    alloc: Global,
-    folder: &mut CalmFolder,
-    name: &str,
-    image: Image,
-    (columns, count): (u32, u32),
-) {
-    let mut bytes = Vec::new(alloc);
-    let columns = columns.max(1);
-    for place in 0..count {
-        add(
-            rt,
-            &mut bytes,
-            &[pixel(image, place % columns, place / columns)],
-        );
-    }
-    put(rt, alloc, folder, name, bytes.as_slice());
-}
-
 // A folder that holds the images.
 fn drawn<R: Abort>(rt: &R, alloc: Global) -> CalmFolder {
     let mut folder = CalmFolder::new(alloc, Never);
     put_all(rt, alloc, &mut folder, &TEXTS);
-    put_raw(
+    put_picture(
         rt,
         alloc,
         &mut folder,
         "first.bil",
-        Image::First,
+        &Image::First,
         (300, 60_000),
     );
-    put_raw(
+    put_picture(
         rt,
         alloc,
         &mut folder,
         "second.bil",
-        Image::Second,
+        &Image::Second,
         (260, 39_000),
     );
     folder
@@ -222,14 +201,14 @@ fn windows_of<R: Abort>(rt: &R, alloc: Global, rect: Rectangle, points: u32) -> 
     windows
 }
 
-// Whether a new lane of this capacity gives the pixels of a rectangle as the image has them, all at once and then so
+// Whether new lanes of these capacities give the pixels of a rectangle as the image has them, all at once and then so
 // many one by one.
 fn is_drawn<R: Abort, F: Folder>(
     rt: &R,
     alloc: Global,
     folder: &mut F,
     row: &Row<'_>,
-    capacity: u32,
+    capacities: &[u32],
     points: u32,
 ) -> bool {
     let (image, name, rect) = *row;
@@ -237,10 +216,10 @@ fn is_drawn<R: Abort, F: Folder>(
     let job = Job {
         name,
         size: (1100, 1000),
-        capacity,
+        capacity: 1,
         windows: windows.as_slice(),
     };
-    shows(rt, alloc, folder, job, &image)
+    shows_always(rt, alloc, folder, job, &image, capacities)
 }
 
 const ROWS_OF_ONE: [Row<'static>; 2] = [
@@ -260,31 +239,11 @@ const ROWS_OF_THREE: [Row<'static>; 2] = [
 
 const CAPACITIES: [u32; 5] = [1, 2, 3, 64, 1000];
 
-fn capacities() -> &'static [u32] {
-    &CAPACITIES
-}
-
-// Whether all pixels are right at every capacity.
-fn is_always_drawn<R: Abort>(
-    rt: &R,
-    alloc: Global,
-    folder: &mut CalmFolder,
-    row: &Row<'_>,
-    capacities: &[u32],
-) -> bool {
-    for capacity in capacities {
-        if !is_drawn(rt, alloc, folder, row, *capacity, 20) {
-            return false;
-        }
-    }
-    true
-}
-
 // The first of the rows in which a pixel is wrong.
 fn first_undrawn<R: Abort>(rt: &R, alloc: Global, rows: &[Row<'_>]) -> Option<usize> {
     let mut folder = drawn(rt, alloc);
     for (at, row) in rows.iter().enumerate() {
-        if !is_always_drawn(rt, alloc, &mut folder, row, capacities()) {
+        if !is_drawn(rt, alloc, &mut folder, row, &CAPACITIES, 20) {
             return Some(at);
         }
     }
@@ -320,7 +279,7 @@ fn reads_of<R: Abort>(
     row: &Row<'_>,
 ) -> Option<u64> {
     let before = folder.reads();
-    if !is_drawn(rt, alloc, folder, row, 1, 0) {
+    if !is_drawn(rt, alloc, folder, row, &[1], 0) {
         return None;
     }
     Some(folder.reads().saturating_sub(before))

@@ -1,7 +1,10 @@
 // Windows and points of small datasets: at every capacity, where a call fails, and how many reads they take.
-use crate::fixtures::{File, add, calm_folder, folder_of, is_number, none_wrong, put, put_all};
+use crate::fixtures::{
+    Case, File, all_hold, calm_folder, folder_of, is_number, none_wrong, put_all,
+};
 use crate::reads::{
-    FAILED, Job, Picture, Place, add_window, place_in, reads_in, samples_of, shows,
+    FAILED, Job, Picture, Place, add_window, place_in, put_picture, reads_in, samples_of,
+    shows_always,
 };
 use geotransform::Sample;
 use outside::{CalmFolder, Folder, MemFolder, Never, Tally};
@@ -50,7 +53,8 @@ fn judged(read: &[Sample], wanted: &[Sample]) -> Reading {
 }
 
 // A name, and the samples of its dataset, which has one line.
-type Line<'a> = (&'a str, &'a [Sample]);
+#[derive(Clone, Copy)]
+struct Line<'a>(&'a str, &'a [Sample]);
 
 // Reads the line of a dataset twice through a lane of this capacity.
 fn read_twice<R: Abort, F: Folder>(
@@ -60,7 +64,7 @@ fn read_twice<R: Abort, F: Folder>(
     line: &Line<'_>,
     capacity: u32,
 ) -> Reading {
-    let (name, wanted) = *line;
+    let Line(name, wanted) = *line;
     let columns = wanted.len().min(0xffff_ffff) as u32;
     let windows: [Place; 2] = [(0, (0, 0, columns, 1)), (0, (0, 0, columns, 1))];
     let job = Job {
@@ -128,12 +132,12 @@ fn calm<R: Abort>(rt: &R, alloc: Global) -> CalmFolder {
 }
 
 const ROWS: [Line<'static>; 6] = [
-    ("a.bil", &[5, 0, 7]),
-    ("m.vrt", &[5, -1, 9]),
-    ("s.vrt", &[0, 0, 9]),
-    ("n.vrt", &[5, -1, 9]),
-    ("o.vrt", &[5, -1, 9]),
-    ("w.vrt", &[2, 4]),
+    Line("a.bil", &[5, 0, 7]),
+    Line("m.vrt", &[5, -1, 9]),
+    Line("s.vrt", &[0, 0, 9]),
+    Line("n.vrt", &[5, -1, 9]),
+    Line("o.vrt", &[5, -1, 9]),
+    Line("w.vrt", &[2, 4]),
 ];
 
 // Whether a dataset has these samples at every capacity.
@@ -152,29 +156,21 @@ fn has_samples<R: Abort>(
     true
 }
 
-// The first of these datasets that has others.
-fn first_misread<R: Abort>(
-    rt: &R,
-    alloc: Global,
-    lines: &[Line<'_>],
-    capacities: &[u32],
-) -> Option<usize> {
-    let mut folder = calm(rt, alloc);
-    for (at, line) in lines.iter().enumerate() {
-        if !has_samples(rt, alloc, &mut folder, line, capacities) {
-            return Some(at);
-        }
+impl Case for Line<'_> {
+    // Whether the dataset has these samples at every capacity.
+    fn holds<R: Abort>(&self, rt: &R, alloc: Global) -> bool {
+        let mut folder = calm(rt, alloc);
+        has_samples(rt, alloc, &mut folder, self, &[1, 2, 3, 64])
     }
-    None
 }
 
 #[test]
 fn every_capacity_gives_the_same(rt: HostRuntime) {
-    none_wrong(&rt, first_misread(&rt, rt.alloc(), &ROWS, &[1, 2, 3, 64]));
+    all_hold(&rt, rt.alloc(), &ROWS);
 }
 
 // The samples of `o.vrt`, which are those of `m.vrt` and `n.vrt`.
-const OUTERMOST: Line<'static> = ("o.vrt", &[5, -1, 9]);
+const OUTERMOST: Line<'static> = Line("o.vrt", &[5, -1, 9]);
 
 // Walks over `o.vrt`, and reads nothing.
 fn walk_alone<R: Abort>(rt: &R, alloc: Global, folder: &mut Tally<CalmFolder>) {
@@ -334,27 +330,6 @@ const NESTED: &[u8] =
     <SrcRect xOff=\"0\" yOff=\"0\" xSize=\"130\" ySize=\"3\"/><DstRect xOff=\"0\" yOff=\"0\" xSize=\"65\" ySize=\"3\"/>\
     </SimpleSource></VRTRasterBand></VRTDataset>";
 
-// Puts a raster of 3 lines.
-fn put_raw<R: Abort>(
-    rt: &R,
-    alloc: Global,
-    folder: &mut CalmFolder,
-    name: &str,
-    image: Image,
-    columns: u32,
-) {
-    let mut bytes = Vec::new(alloc);
-    let columns = columns.max(1);
-    for place in 0..columns.saturating_mul(3) {
-        add(
-            rt,
-            &mut bytes,
-            &[pixel(image, place % columns, place / columns)],
-        );
-    }
-    put(rt, alloc, folder, name, bytes.as_slice());
-}
-
 // The headers of the rasters, and the mosaics.
 const DRAWN: [File<'static>; 4] = [
     ("left.hdr", b"NROWS 3\nNCOLS 130\n"),
@@ -367,19 +342,27 @@ const DRAWN: [File<'static>; 4] = [
 fn drawn<R: Abort>(rt: &R, alloc: Global) -> CalmFolder {
     let mut folder = CalmFolder::new(alloc, Never);
     put_all(rt, alloc, &mut folder, &DRAWN);
-    put_raw(rt, alloc, &mut folder, "left.bil", Image::Left, 130);
-    put_raw(rt, alloc, &mut folder, "right.bil", Image::Right, 80);
+    put_picture(rt, alloc, &mut folder, "left.bil", &Image::Left, (130, 390));
+    put_picture(
+        rt,
+        alloc,
+        &mut folder,
+        "right.bil",
+        &Image::Right,
+        (80, 240),
+    );
     folder
 }
 
 // An image, its name, and how many columns and lines it has.
-type Pictured<'a> = (Image, &'a str, (u32, u32));
+#[derive(Clone, Copy)]
+struct Pictured<'a>(Image, &'a str, (u32, u32));
 
 const IMAGES: [Pictured<'static>; 4] = [
-    (Image::Left, "left.bil", (130, 3)),
-    (Image::Right, "right.bil", (80, 3)),
-    (Image::Wide, "wide.vrt", (140, 3)),
-    (Image::Nested, "nested.vrt", (155, 5)),
+    Pictured(Image::Left, "left.bil", (130, 3)),
+    Pictured(Image::Right, "right.bil", (80, 3)),
+    Pictured(Image::Wide, "wide.vrt", (140, 3)),
+    Pictured(Image::Nested, "nested.vrt", (155, 5)),
 ];
 
 // How many pixels a raster has.
@@ -404,76 +387,31 @@ fn all_points<R: Abort>(rt: &R, alloc: Global, size: (u32, u32)) -> Vec<Place> {
     points
 }
 
-// Whether windows of a dataset show its image through a lane of this capacity.
-fn is_shown<R: Abort>(
-    rt: &R,
-    alloc: Global,
-    folder: &mut CalmFolder,
-    row: &Pictured<'_>,
-    windows: &[Place],
-    capacity: u32,
-) -> bool {
-    let (image, name, size) = *row;
-    let job = Job {
-        name,
-        size,
-        capacity,
-        windows,
-    };
-    shows(rt, alloc, folder, job, &image)
-}
-
-// The same at every capacity.
-fn is_always_shown<R: Abort>(
-    rt: &R,
-    alloc: Global,
-    folder: &mut CalmFolder,
-    row: &Pictured<'_>,
-    windows: &[Place],
-    capacities: &[u32],
-) -> bool {
-    for capacity in capacities {
-        if !is_shown(rt, alloc, folder, row, windows, *capacity) {
-            return false;
-        }
+impl Case for Pictured<'_> {
+    // Whether the dataset has the pixels of its image, one by one and all at once.
+    fn holds<R: Abort>(&self, rt: &R, alloc: Global) -> bool {
+        let Pictured(image, name, size) = *self;
+        let mut folder = drawn(rt, alloc);
+        let points = all_points(rt, alloc, size);
+        let whole: [Place; 1] = [(0, (0, 0, size.0, size.1))];
+        let job = Job {
+            name,
+            size,
+            capacity: 1,
+            windows: points.as_slice(),
+        };
+        let at_once = Job {
+            windows: &whole,
+            ..job
+        };
+        shows_always(rt, alloc, &mut folder, job, &image, &[1, 2, 64])
+            && shows_always(rt, alloc, &mut folder, at_once, &image, &[1, 2, 64])
     }
-    true
-}
-
-// Whether a dataset has the pixels of its image, one by one and all at once.
-fn is_drawn<R: Abort>(
-    rt: &R,
-    alloc: Global,
-    folder: &mut CalmFolder,
-    row: &Pictured<'_>,
-    capacities: &[u32],
-) -> bool {
-    let (_, _, size) = *row;
-    let points = all_points(rt, alloc, size);
-    let whole: [Place; 1] = [(0, (0, 0, size.0, size.1))];
-    is_always_shown(rt, alloc, folder, row, points.as_slice(), capacities)
-        && is_always_shown(rt, alloc, folder, row, &whole, capacities)
-}
-
-// The first of the images that has wrong pixels.
-fn first_undrawn<R: Abort>(
-    rt: &R,
-    alloc: Global,
-    rows: &[Pictured<'_>],
-    capacities: &[u32],
-) -> Option<usize> {
-    let mut folder = drawn(rt, alloc);
-    for (at, row) in rows.iter().enumerate() {
-        if !is_drawn(rt, alloc, &mut folder, row, capacities) {
-            return Some(at);
-        }
-    }
-    None
 }
 
 #[test]
 fn jumping_points_are_those_of_the_window(rt: HostRuntime) {
-    none_wrong(&rt, first_undrawn(&rt, rt.alloc(), &IMAGES, &[1, 2, 64]));
+    all_hold(&rt, rt.alloc(), &IMAGES);
 }
 
 // A folder that holds a raster of 3 lines. A line has 300 columns of 256 bands, of which 256 are read at once, in
