@@ -47,19 +47,69 @@ fn folder<R: Abort>(rt: &R, alloc: Global) -> MemFolder {
     folder_of(rt, alloc, &files, &[])
 }
 
-const BESIDE: Row<'static> = ("gdal_translate -q --workers 2 tall.bil out.bil", 0, "", "");
+// A raster in which these bytes come so often that each of two workers reads half of each of its two strips, and the
+// second strip is read while the first one is written; and a mosaic of it.
+const TIMES: usize = 16_384;
+
+const WIDE: &[u8] = b"NROWS 128\nNCOLS 32768\n";
+
+const OVER_WIDE: &[u8] =
+    b"<VRTDataset rasterXSize='32768' rasterYSize='128'><VRTRasterBand dataType='Byte'>
+<SimpleSource><SourceFilename>wide.bil</SourceFilename></SimpleSource></VRTRasterBand></VRTDataset>";
+
+fn wide_folder<R: Abort>(rt: &R, alloc: Global, bytes: &[u8]) -> MemFolder {
+    let files: [FileOf<'_>; 3] = [
+        ("wide.bil", bytes),
+        ("wide.hdr", WIDE),
+        ("wide.vrt", OVER_WIDE),
+    ];
+    folder_of(rt, alloc, &files, &[])
+}
+
+const BESIDE: Row<'static> = ("gdal_translate -q --workers 2 wide.bil out.bil", 0, "", "");
 
 // Whether two workers, each of which waits for the other to read, copy the lines.
 fn is_copied<R: Threads + Sync + Abort>(rt: &R, alloc: Global) -> bool {
-    let mut gate = Gate::new(alloc, folder(rt, alloc)).expect(rt, "memory");
+    let bytes = joined(rt, alloc, &[(samples(), TIMES)]);
+    let folder = wide_folder(rt, alloc, bytes.as_slice());
+    let mut gate = Gate::new(alloc, folder).expect(rt, "memory");
     let said = says_in(rt, alloc, &mut gate, &BESIDE);
     let folder = gate.into_inner();
-    said && has(rt, alloc, &folder, ("out.bil", samples()))
+    said && has(rt, alloc, &folder, ("out.bil", bytes.as_slice()))
 }
 
 #[test]
 fn two_workers_read_beside_each_other(rt: HostRuntime) {
     assert!(rt; is_copied(&rt, rt.alloc()));
+}
+
+// The wide lines by some workers, and the same through the mosaic.
+static WIDE_NUMBERS: [Row<'static>; 5] = [
+    ("gdal_translate -q --workers 1 wide.bil a.bil", 0, "", ""),
+    ("gdal_translate -q --workers 2 wide.bil b.bil", 0, "", ""),
+    ("gdal_translate -q --workers 4 wide.bil c.bil", 0, "", ""),
+    ("gdal_translate -q --workers 2 wide.vrt d.bil", 0, "", ""),
+    ("gdal_translate -q --workers 3 wide.vrt e.bil", 0, "", ""),
+];
+
+// Whether each of these numbers of workers copies the same lines.
+fn are_alike_wide<R: Threads + Sync + Abort>(rt: &R, alloc: Global) -> bool {
+    let bytes = joined(rt, alloc, &[(samples(), TIMES)]);
+    let bytes = bytes.as_slice();
+    let copies: [FileOf<'_>; 5] = [
+        ("a.bil", bytes),
+        ("b.bil", bytes),
+        ("c.bil", bytes),
+        ("d.bil", bytes),
+        ("e.bil", bytes),
+    ];
+    let mut folder = wide_folder(rt, alloc, bytes);
+    says_all(rt, alloc, &mut folder, &WIDE_NUMBERS) && has_all(rt, alloc, &folder, &copies)
+}
+
+#[test]
+fn some_workers_over_wide_lines(rt: HostRuntime) {
+    assert!(rt; are_alike_wide(&rt, rt.alloc()));
 }
 
 // Lines of which a strip of sixty-four has two million samples, so that the last line is read while those before it are

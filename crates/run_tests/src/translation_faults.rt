@@ -96,7 +96,7 @@ PIXELTYPE      UNSIGNEDINT
 ];
 
 // A line, and the same where nothing is printed; a hundred lines; a grid; a mosaic of mosaics; and the hundred lines by
-// two workers, each of which reads half of a strip's through a view of the folder.
+// two workers, one of which reads all of them, since they are short.
 static WORKS: [Work<'static>; 6] = [
     Work {
         line: FIVE_LINE,
@@ -199,14 +199,14 @@ fn failing_calls_of_a_raster(rt: HostRuntime) {
     none_wrong(&rt, first_other(&rt, rt.alloc(), files(), works(), &CALLS));
 }
 
-// Translations, and how many calls of the folder each makes at least. Of two workers that read a hundred lines one
-// reads fifty or more, and each line is written.
+// Translations, and how many calls of the folder each makes at least. Of a hundred lines each is read, and each is
+// written.
 static EACH: [Turn; 5] = [
     (FIVE, Failer::Folder, (9, 256)),
     (QUIET, Failer::Folder, (9, 256)),
     (GRID, Failer::Folder, (6, 256)),
     (NESTED, Failer::Folder, (20, 256)),
-    (BESIDE, Failer::Folder, (150, 256)),
+    (BESIDE, Failer::Folder, (200, 256)),
 ];
 
 // Each call of the folder fails in turn.

@@ -10,6 +10,7 @@ mod making;
 mod reading;
 mod rows;
 mod shown_places;
+mod sources;
 mod spans;
 mod translation;
 
