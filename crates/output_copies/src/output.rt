@@ -83,7 +83,7 @@ fn room_for(translation: &Translation, rows: u32) -> Result<Vec<Sample>, Fault>
 
 // The fewest samples of a strip that is read while another one is written. Fewer are read and written in so short a time
 // that the threads of one more step cost more than it brings.
-const FEWEST_AHEAD: usize = 2_000_000;
+const FEWEST_AHEAD: usize = 500_000;
 
 // A second room, for lines that are read while others are written: where that is wanted, there are any others, each
 // strip has so many samples that it pays, and memory is had for it.

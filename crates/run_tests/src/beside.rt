@@ -112,8 +112,58 @@ fn some_workers_over_wide_lines(rt: HostRuntime) {
     assert!(rt; are_alike_wide(&rt, rt.alloc()));
 }
 
-// Lines of which a strip of sixty-four has two million samples, so that the last line is read while those before it are
-// written, each by two workers through views of the folder.
+// A tile whose bytes are these again and again, which is copied to a cell, and the cell to a tile by some workers, each
+// of which reads lines of all columns.
+const TILE_TIMES: usize = 11_268;
+
+const TILE_REST: usize = 194;
+
+static CELLS: [Row<'static>; 4] = [
+    ("gdal_translate -q N40E010.hgt cell.dt1", 0, "", ""),
+    (
+        "gdal_translate -q --workers 1 cell.dt1 one/N40E010.hgt",
+        0,
+        "",
+        "",
+    ),
+    (
+        "gdal_translate -q --workers 2 cell.dt1 two/N40E010.hgt",
+        0,
+        "",
+        "",
+    ),
+    (
+        "gdal_translate -q --workers 5 cell.dt1 five/N40E010.hgt",
+        0,
+        "",
+        "",
+    ),
+];
+
+// Whether each number of workers gives the tile again.
+fn are_tiles_again<R: Threads + Sync + Abort>(rt: &R, alloc: Global) -> bool {
+    let bytes = joined(
+        rt,
+        alloc,
+        &[(samples(), TILE_TIMES), (&samples()[..TILE_REST], 1)],
+    );
+    let bytes = bytes.as_slice();
+    let tiles: [FileOf<'_>; 3] = [
+        ("one/N40E010.hgt", bytes),
+        ("two/N40E010.hgt", bytes),
+        ("five/N40E010.hgt", bytes),
+    ];
+    let mut folder = folder_of(rt, alloc, &[("N40E010.hgt", bytes)], &[]);
+    says_all(rt, alloc, &mut folder, &CELLS) && has_all(rt, alloc, &folder, &tiles)
+}
+
+#[test]
+fn some_workers_over_a_cell(rt: HostRuntime) {
+    assert!(rt; are_tiles_again(&rt, rt.alloc()));
+}
+
+// Lines of which a strip of sixty-four has two million samples: two workers read it beside each other, and the last line
+// is read while those before it are written.
 const LONG: &[u8] = b"NROWS 65\nNCOLS 32768\n";
 
 const LONG_TIMES: usize = 8_320;

@@ -43,11 +43,6 @@ is_tall cat SrtmHgt = has_blocks Columns cat
 is_tall cat AaiGrid = has_blocks Columns cat
 is_tall cat Vrt = has_blocks Columns cat
 
--- the lanes that read for so many workers: one where the source is made of cells, whose blocks each lane would load again, else
--- one for each
-abbrev pub lane_count : ℕ → List Dataset → ℕ
-lane_count workers cat = if has_blocks Columns cat then 1 else workers
-
 -- the most lines of a strip that so many workers read: for each of them those of a square where the source is a mosaic, and
 -- 32 where it is a file of lines
 abbrev pub most_lines : ℕ → List Dataset → Driver → ℕ

@@ -2,7 +2,7 @@
 ghost use Rattle.std.specs.Prelude.{◌≡◌, ◌<◌, ◌≤◌, ◌*◌, Some, length, slice_get};
 ghost use Rattle.catalog.specs.Drivers.{Dataset};
 ghost use Rattle.strip_copies.specs.declared.height.BlockShape.TheVariants.{Squares};
-ghost use Rattle.strip_copies.specs.Heights.{has_blocks, is_cell, is_cut_in, is_mosaic, is_tall, is_woven, lane_count, lines_copied, lines_held, most_lines, strip_height};
+ghost use Rattle.strip_copies.specs.Heights.{has_blocks, is_cell, is_cut_in, is_mosaic, is_tall, is_woven, lines_copied, lines_held, most_lines, strip_height};
 
 use crate::translation::Translation;
 use catalog::{Catalog, Kind};
@@ -87,19 +87,6 @@ fn is_tall(translation: &Translation) -> bool
         Driver::EHdr | Driver::SrtmHgt | Driver::AaiGrid | Driver::Vrt => {
             has_blocks(&translation.cat, BlockShape::Columns)
         }
-    }
-}
-
-/// How many lanes read for so many workers: one for each, but only one where the walk met a DTED cell. A block of a
-/// cell is a whole column, which every lane would load again for its own lines.
-pub fn lane_count(translation: &Translation, workers: WorkerCount) -> u32
-    ensures lanes { result ≡ lane_count workers translation.now.cat }
-    ensures some { 1 ≤ result }
-{
-    if has_blocks(&translation.cat, BlockShape::Columns) {
-        1
-    } else {
-        workers.get()
     }
 }
 

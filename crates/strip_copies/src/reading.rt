@@ -15,12 +15,11 @@ ghost use Rattle.lane_teams.specs.Turns.{OnlyReadByViews};
 ghost use Rattle.translate_plan.specs.Plan.{out_pixel};
 ghost use Rattle.translate_plan.specs.declared.band.OutBand.{OutBand};
 ghost use Rattle.strip_copies.specs.Copies.{lines_rect, AreOf, IsDirect, IsPart, IsRoomFor, IsTranslation};
-ghost use Rattle.strip_copies.specs.Heights.{lane_count};
 ghost use Rattle.strip_copies.specs.Rows.{strip_rect, AreColumns, AreIn, IsHeldIn, IsMaking};
 
 use crate::columns::Columns;
 use crate::direct::{hold_all, is_all_direct, is_direct};
-use crate::height::{height_of, lane_count, lines_apart, most_lines};
+use crate::height::{height_of, lines_apart, most_lines};
 use crate::holding::Holding;
 use crate::making::{Making, area, make_lines};
 use crate::sources::read_source;
@@ -74,9 +73,8 @@ fn room_lines(translation: &Translation, columns: &Columns, workers: WorkerCount
 }
 
 impl<F: Folder, L: Ledger> StripReader<F, L> {
-    /// A reader for a translation with a lane for each worker, or with one where the walk met a DTED cell. Each lane
-    /// holds so many blocks at a time, 1 to 65,536. It has read nothing. The room for lines has 4,194,304 samples at
-    /// most.
+    /// A reader for a translation with a lane for each worker. Each lane holds so many blocks at a time, 1 to 65,536. It
+    /// has read nothing. The room for lines has 4,194,304 samples at most.
     pub fn new(
         translation: &Translation,
         workers: WorkerCount,
@@ -89,7 +87,7 @@ impl<F: Folder, L: Ledger> StripReader<F, L> {
         requires name { blank.name ≡ L.name }
         requires parts { blank.parts ≡ L.parts }
         requires shares { 0 < blank.parts }
-        ensures lanes { IfOk result (λ reader. length reader.team.lanes.items ≡ lane_count workers translation.now.cat) }
+        ensures lanes { IfOk result (λ reader. length reader.team.lanes.items ≡ workers) }
         ensures fresh { IfOk result (λ reader. AreLanesFresh F.Folder reader.team.lanes.items) }
         ensures room { IfOk result (λ reader. IsRoomFor translation.now.cat translation.now.id translation.now.plan reader.columns reader.samples.items) }
         ensures bound { IfOk result (λ reader. length reader.samples.items ≤ 4194304) }
@@ -100,7 +98,7 @@ impl<F: Folder, L: Ledger> StripReader<F, L> {
         let columns = Columns::new(alloc, &translation.plan, size.w)?;
         let lines = room_lines(translation, &columns, workers);
         let samples = vec![in alloc; 0; area(columns.count, lines)]?;
-        let team = Team::new(alloc, lane_count(translation, workers), capacity, blank)?;
+        let team = Team::new(alloc, workers.get(), capacity, blank)?;
         Ok(StripReader {
             team,
             columns,

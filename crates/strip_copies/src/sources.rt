@@ -21,18 +21,18 @@ use shared_lines::Scene;
 use std::sync::ledger::Ledger;
 use std::thread::Threads;
 
-// The fewest samples for which a lane gets a thread, where they are copied out of a file's bytes: a lane reads about so
-// many in the time in which a thread is started and joined.
+// The fewest samples for which a lane gets a thread, where they are lines of a file's bytes: a lane reads about so many
+// in the time in which a thread is started and joined.
 const FEWEST_COPIED: usize = 1_000_000;
 
-// The same where samples are made of others, or of digits, each of which takes several times as long.
+// The same where samples are made of others, or of digits, or lie in columns, each of which takes several times as long.
 const FEWEST_MADE: usize = 262_144;
 
 // The fewest samples of a dataset for which a lane gets a thread.
 fn fewest_of(kind: Kind) -> usize {
     match kind {
-        Kind::Raw | Kind::Dted | Kind::Hgt => FEWEST_COPIED,
-        Kind::Ascii | Kind::Vrt => FEWEST_MADE,
+        Kind::Raw | Kind::Hgt => FEWEST_COPIED,
+        Kind::Dted | Kind::Ascii | Kind::Vrt => FEWEST_MADE,
     }
 }
 

@@ -22,6 +22,6 @@ returns-clause-room g c =
 
 pub returns-clause-fresh : goal.returns-clause-fresh
 returns-clause-fresh g c = record {
-  some = (let n = c.in_ok-team.ensures.count in let w = c.lane_count.ensures.some in omega arith);
+  some = (let n = c.in_ok-team.ensures.count in let w = c.get.ensures.some in omega arith);
   fresh = c.in_ok-team.ensures.fresh;
 }
