@@ -152,19 +152,20 @@ impl<F: Folder, L: Ledger> Team<F, L> {
             cat,
             shared: none.as_ref(),
         };
-        self.read_window_with(rt, &supply, folder, window, out)
+        self.read_window_with(rt, &supply, folder, window, 0, out)
     }
 
     /// As `read_window`, with the memory and the catalog of a supply, and through the lines that lanes share, where it
     /// has any: they stand for its catalog and for the folder's files. Each lane looks for blocks in them and offers
-    /// its own, as
-    /// `Lane::read_window_with` does.
+    /// its own, as `Lane::read_window_with` does. A window that has less than `fewest` pixels for each lane is read by
+    /// the first one alone, since threads would take longer than they bring in.
     pub fn read_window_with<R: Threads + Sync, S: Scene>(
         &mut self,
         rt: &R,
         supply: &Supply<S>,
         folder: &mut F,
         window: Window,
+        fewest: usize,
         out: &mut [Sample],
     ) -> Result<(), LoadFault>
         requires told { S.told ≡ F.names folder.old }
@@ -191,7 +192,7 @@ impl<F: Folder, L: Ledger> Team<F, L> {
     {
         let lanes = self.lanes.as_mut_slice();
         let count = lanes.len();
-        if count == 1 || (window.rect.h as usize) < count {
+        if count == 1 || (window.rect.h as usize) < count || out.len() / count < fewest {
             let loads = &mut self.loads;
             return lanes[0].read_window_with(supply, folder, window, out, loads);
         }

@@ -9,8 +9,8 @@ mod laws;
 mod making;
 mod reading;
 mod rows;
+mod shares;
 mod shown_places;
-mod sources;
 mod spans;
 mod translation;
 

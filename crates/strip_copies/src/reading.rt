@@ -22,7 +22,7 @@ use crate::direct::{hold_all, is_all_direct, is_direct};
 use crate::height::{height_of, lines_apart, most_lines};
 use crate::holding::Holding;
 use crate::making::{Making, area, make_lines};
-use crate::sources::read_source;
+use crate::shares::fewest_for;
 use crate::spans::{Reach, Run, run_from};
 use crate::translation::Translation;
 use band_blocks::LoadFault;
@@ -262,7 +262,8 @@ fn read_direct<R: Threads + Sync, F: Folder, L: Ledger, S: Scene>(
         cat: &translation.cat,
         shared: shown.shared,
     };
-    read_source(rt, team, &supply, folder, window, out)?;
+    let fewest = fewest_for(translation);
+    team.read_window_with(rt, &supply, folder, window, fewest, out)?;
     let making = making_of(translation, columns, run.band);
     let kind = kind_of(translation, window.band);
     hold_all(making.holding, kind, out);
@@ -303,7 +304,8 @@ fn read_made<R: Threads + Sync, F: Folder, L: Ledger, S: Scene>(
         cat: &translation.cat,
         shared: shown.shared,
     };
-    read_source(rt, team, &supply, folder, window, strip)?;
+    let fewest = fewest_for(translation);
+    team.read_window_with(rt, &supply, folder, window, fewest, strip)?;
     let making = making_of(translation, columns, run.band);
     make_lines(making, run, strip, out);
     Ok(())
