@@ -389,7 +389,7 @@ edges_behind w h p rest at left bottom =
     (λ place. bottom_behind p.bottom rest one place bottom)
 
 -- the sizes of a pixel behind their lines
-record Steps (q : Result (Found × List Token) GridFault) (w h : Option ℕ) (x y : Option LowerLeft) (wide high : ℕ) (rest : List ℕ) : Type 0 where
+record SizesBehind (q : Result (Found × List Token) GridFault) (w h : Option ℕ) (x y : Option LowerLeft) (wide high : ℕ) (rest : List ℕ) : Type 0 where
   cell : Option ℕ
   dx : Option ℕ
   dy : Option ℕ
@@ -405,7 +405,7 @@ same_ints (negsuc a) (negsuc b) h = ap negsuc (grind (arith, nat_tests, ints))
 abbrev step_text : Bool → Placing → List ℕ
 step_text b p = cond b (line (codes "cellsize") (short_text p.width)) (line (codes "dx") (short_text p.width) ++ line (codes "dy") (short_text p.height))
 
-steps_by : (b : Bool) (w h : Option ℕ) (x y : Option LowerLeft) (p : Placing) (rest : List ℕ) (at : ℕ) → are_same p.width p.height ≡ b → IsTicks p.width → IsTicks p.height → pos 0 <ℤ p.width → pos 0 <ℤ p.height → Steps (head_of (found_of w h x y None None None None) (tokens_from false at (step_text b p ++ rest))) w h x y (unsigned_abs p.width) (unsigned_abs p.height) rest
+steps_by : (b : Bool) (w h : Option ℕ) (x y : Option LowerLeft) (p : Placing) (rest : List ℕ) (at : ℕ) → are_same p.width p.height ≡ b → IsTicks p.width → IsTicks p.height → pos 0 <ℤ p.width → pos 0 <ℤ p.height → SizesBehind (head_of (found_of w h x y None None None None) (tokens_from false at (step_text b p ++ rest))) w h x y (unsigned_abs p.width) (unsigned_abs p.height) rest
 steps_by true w h x y p rest at is width height wide high = record {
   cell = Some (unsigned_abs p.width);
   dx = None;
@@ -457,7 +457,7 @@ head_is size p nodata rest r t wide high int =
     let f2 : Found = found_of w h x y None None None None in
     let b1 : Behind (head_of nothing (tokens_from false 0 (size_lines size ++ b))) f1 b = sizes_behind size b 0 r in
     let b2 : Behind (head_of f1 (tokens_from false b1.place b)) f2 c = edges_behind w h p c b1.place t.left t.bottom in
-    let b3 : Steps (head_of f2 (tokens_from false b2.place c)) w h x y (unsigned_abs p.width) (unsigned_abs p.height) d = steps_by (are_same p.width p.height) w h x y p d b2.place refl t.width t.height wide high in
+    let b3 : SizesBehind (head_of f2 (tokens_from false b2.place c)) w h x y (unsigned_abs p.width) (unsigned_abs p.height) d = steps_by (are_same p.width p.height) w h x y p d b2.place refl t.width t.height wide high in
     let b4 : Behind (head_of (found_of w h x y b3.cell b3.dx b3.dy None) (tokens_from false b3.behind.place d)) (found_of w h x y b3.cell b3.dx b3.dy nodata) rest = last_behind w h x y b3.cell b3.dx b3.dy nodata rest b3.behind.place int in
     record {
       cell = b3.cell;

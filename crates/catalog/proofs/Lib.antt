@@ -24,9 +24,9 @@ pub mod Records
 pub mod Rows
 pub mod Scans
 pub mod States
-pub mod Steps
 pub mod Targets
 pub mod Visits
 pub mod Walked
+pub mod Walking
 pub mod Whole
 pub mod Wholes

@@ -14,7 +14,7 @@ use Rattle.catalog.specs.Outcomes.{IsOutside}
 use Rattle.catalog.specs.Walk.{Met, visit, walked, met_in, IsDataset, IsNested}
 use Rattle.catalog.specs.Links.{source_at, target_at, height_of}
 use Rattle.catalog.specs.Linked.{State, met_of, height_at, height_in, IsMet, IsWhole, Grows, cut_to}
-use Rattle.catalog.specs.Steps.{Seen, Visits}
+use Rattle.catalog.specs.Walking.{Seen, Visits}
 use Rattle.catalog.proofs.Found.{some_is}
 use Rattle.catalog.proofs.States.{front_stays, item_there}
 use Rattle.catalog.proofs.Targets.{IsKept, kept, height_known, falls_below}

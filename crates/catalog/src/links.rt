@@ -6,7 +6,7 @@ ghost use Rattle.vrt_profile.specs.Values.{BandValue};
 ghost use Rattle.lists_and_answers.specs.Answers.{Gives};
 ghost use Rattle.catalog.specs.Outcomes.{IsMemory};
 ghost use Rattle.catalog.specs.Drivers.{Dataset as Known};
-ghost use Rattle.catalog.specs.Steps.{IsPlain};
+ghost use Rattle.catalog.specs.Walking.{IsPlain};
 ghost use Rattle.catalog.specs.Dataset.{band_at};
 ghost use Rattle.catalog.specs.Walk.{is_narrow_band, number_of, one_more_source};
 ghost use Rattle.catalog.specs.Linked.{State, IsLinked, IsHigh, IsDeep, Grows, HasBand, IsMosaicAt, pushed, closed, one_counted, cut_to, height_at, most, all_of, first_above};

@@ -9,7 +9,7 @@ ghost use Rattle.catalog.specs.Drivers.{Dataset as Known};
 ghost use Rattle.catalog.specs.Walk.{number_of, dataset_named, band_named, is_narrow_band, room_for, has_band, has_samples, unless_wide, visit};
 ghost use Rattle.vrt_profile.specs.Value.{is_plain};
 ghost use Rattle.catalog.specs.Linked.{IsLinked, IsPath, IsLow, IsMosaicAt, HasBand, HasSource, met_of};
-ghost use Rattle.catalog.specs.Steps.{IsPlain, Meets, Visits, Passes, Names, Reaches, ReachesRows, seen};
+ghost use Rattle.catalog.specs.Walking.{IsPlain, Meets, Visits, Passes, Names, Reaches, ReachesRows, seen};
 
 use crate::driver::Content;
 use crate::kind::kind_of;

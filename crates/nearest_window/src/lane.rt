@@ -34,7 +34,7 @@ use crate::sharing::{Supply, offer_to, shown_in};
 use crate::targets::{Piece, band_of, kind_of};
 use crate::wanted::Wanted;
 use band_blocks::{
-    Block, BlockKey, LoadFault, OpenFiles, PixelKey, Steps, has_places, load_block, load_sample,
+    Block, BlockKey, Counter, LoadFault, OpenFiles, PixelKey, has_places, load_block, load_sample,
 };
 use block_cache::Pool;
 use catalog::Catalog;
@@ -317,7 +317,7 @@ impl<F: Folder> Lane<F> {
         supply: &Supply<S>,
         folder: &mut F,
         key: BlockKey,
-        loads: &mut Steps<L>,
+        loads: &mut Counter<L>,
     ) -> Result<(), LoadFault>
         requires ready { IsReady F.Folder folder.old supply.now.cat.now self.old }
         requires told { S.told ≡ F.names folder.old }
@@ -379,7 +379,7 @@ impl<F: Folder> Lane<F> {
         folder: &mut F,
         key: BlockKey,
         rect: Rect,
-        loads: &mut Steps<L>,
+        loads: &mut Counter<L>,
     ) -> Result<Block, LoadFault>
         requires ready { IsReady F.Folder folder.old cat.now self.old }
         requires key { IsKey cat.now key }

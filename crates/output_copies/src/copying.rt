@@ -11,7 +11,7 @@ use crate::parts::{area, read_part, write_part};
 use crate::progress::{Share, tell};
 use error_lines::Fault;
 use geotransform::Sample;
-use outside::{Folder, Sink, Steps};
+use outside::{Counter, Folder, Sink};
 use shared_lines::Scene;
 use std::sync::ledger::Ledger;
 use std::thread::Threads;
@@ -25,7 +25,7 @@ use write_back::Target;
 pub struct Copier<'a, F: Folder, L: Ledger, W: Ledger, S: Scene> {
     pub reader: StripReader<F, L>,
     pub shared: Option<&'a shared_lines::Lines<S>>,
-    pub writes: Steps<W>,
+    pub writes: Counter<W>,
     pub rows: u32,
     pub ahead: bool,
     pub quiet: bool,

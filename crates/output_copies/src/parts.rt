@@ -7,7 +7,7 @@ ghost use Rattle.output_copies.specs.Parts.{AreRead};
 
 use error_lines::Fault;
 use geotransform::{Rect, Sample};
-use outside::{Folder, Steps};
+use outside::{Counter, Folder};
 use shared_lines::Scene;
 use std::sync::ledger::Ledger;
 use std::thread::Threads;
@@ -55,7 +55,7 @@ pub fn write_part<F: Folder, W: Ledger>(
     target: &mut Target<F>,
     lines: Lines,
     samples: &[Sample],
-    writes: &mut Steps<W>,
+    writes: &mut Counter<W>,
 ) -> Result<(), Fault>
     requires band { lines.band < length translation.now.plan.bands }
     requires order { lines.first < lines.end }
