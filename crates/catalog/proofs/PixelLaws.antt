@@ -36,9 +36,9 @@ place_step c cs at id name false e is rest =
     let r = rest is in
     record { before = suc r.before; dataset = r.dataset; place = r.place ∙ omega arith; there = r.there; named = r.named }
 
-place_of : (cs : List Dataset) (at id : ℕ) (name : List ℕ) → number_from at cs name ≡ Some id → Place at cs id name
-place_of [] at id name is = absurd (none≢some is)
-place_of (c ∷ cs) at id name is = place_step c cs at id name (bytes_eq c.head.name name) refl is (λ h. place_of cs (suc at) id name h)
+place_found : (cs : List Dataset) (at id : ℕ) (name : List ℕ) → number_from at cs name ≡ Some id → Place at cs id name
+place_found [] at id name is = absurd (none≢some is)
+place_found (c ∷ cs) at id name is = place_step c cs at id name (bytes_eq c.head.name name) refl is (λ h. place_found cs (suc at) id name h)
 
 record Named (cat : List Dataset) (name : List ℕ) (d : Dataset) : Type 0 where
   number : ℕ
@@ -49,7 +49,7 @@ record Named (cat : List Dataset) (name : List ℕ) (d : Dataset) : Type 0 where
 named_by : (cat : List Dataset) (name : List ℕ) (d : Dataset) (n : Option ℕ) → number_of cat name ≡ n → option_and_then (slice_get cat) n ≡ Some d → Named cat name d
 named_by cat name d None found is = absurd (none≢some is)
 named_by cat name d (Some id) found is =
-    let p = place_of cat 0 id name found in
+    let p = place_found cat 0 id name found in
     let e : id ≡ p.before = p.place ∙ omega arith in
     let same : p.dataset ≡ d = same_item p.dataset d (sym p.there ∙ ap (slice_get cat) (sym e) ∙ is) in
     record { number = id; found = found; there = is; named = ap (λ (x : Dataset). x.head.name) (sym same) ∙ p.named }

@@ -33,11 +33,11 @@ use Rattle.translate_plan.proofs.Published.{Reads, one_told, published_is}
 use Rattle.translate_plan.proofs.Covers.{axis_is, is_in_side}
 
 -- a column and a line
-abbrev place_of : ℕ → ℕ → Option (ℕ × ℕ)
-place_of column line = Some (column, line)
+abbrev both_of : ℕ → ℕ → Option (ℕ × ℕ)
+both_of column line = Some (column, line)
 
 -- that both are there
-both_axes : (a b : Bool) (c r : ℕ) → ((cond a (Some c) None) >>= λ column. (cond b (Some r) None >>= λ line. place_of column line)) ≡ cond (a && b) (place_of c r) None
+both_axes : (a b : Bool) (c r : ℕ) → ((cond a (Some c) None) >>= λ column. (cond b (Some r) None >>= λ line. both_of column line)) ≡ cond (a && b) (both_of c r) None
 both_axes true true c r = refl
 both_axes true false c r = refl
 both_axes false b c r = refl
@@ -53,7 +53,7 @@ cover_is p base name b size i j across down =
 
 -- a source that changes no pixel gives it, or nothing where there is none
 given_by : (p : Planned) (base name : List ℕ) (b : OutBand) (inside : Bool) (c r : ℕ) (pixels : ℕ → ℕ → ℤ)
-    → unwrap_or (option_map (clamp b.kind) (option_or None (cond inside (place_of c r) None >>= λ place. value_of (shown_source p base name b) (pixels place.0 place.1)))) (unwrap_or b.nodata (pos 0)) ≡ cond inside (clamp b.kind (pixels c r)) (unwrap_or b.nodata (pos 0))
+    → unwrap_or (option_map (clamp b.kind) (option_or None (cond inside (both_of c r) None >>= λ place. value_of (shown_source p base name b) (pixels place.0 place.1)))) (unwrap_or b.nodata (pos 0)) ≡ cond inside (clamp b.kind (pixels c r)) (unwrap_or b.nodata (pos 0))
 unfolding value_of
 given_by p base name b true c r pixels = refl
 given_by p base name b false c r pixels = refl
