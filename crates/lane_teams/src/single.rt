@@ -5,10 +5,10 @@ ghost use Rattle.outside.specs.Outside.{Files};
 ghost use Rattle.outside.specs.Reading.{OnlyRead, WhereTold};
 ghost use Rattle.catalog.specs.Walk.{IsWalked};
 ghost use Rattle.band_blocks.specs.Open.{IsUnchanged};
-ghost use Rattle.nearest_window.specs.Right.{IsReady, TellsChangeIn};
+ghost use Rattle.nearest_window.specs.Right.{IsReady, IsRightLane, TellsChangeIn};
 ghost use Rattle.nearest_window.specs.Shown.{IsWindow};
 ghost use Rattle.lane_teams.specs.Parts.{AreOfWindow};
-ghost use Rattle.lane_teams.specs.Turns.{AreReady, HaveRead, IsRightLane, IsTurnOf};
+ghost use Rattle.lane_teams.specs.Turns.{AreReady, HaveRead, IsTurnOf};
 
 use crate::cutting::{Job, part_of};
 use crate::turns::Turn;
