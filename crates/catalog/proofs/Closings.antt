@@ -12,26 +12,26 @@ use Rattle.catalog.specs.Mosaics.{sources_of}
 use Rattle.catalog.specs.Outcomes.{IsOutside}
 use Rattle.catalog.specs.Heads.{kind_in}
 use Rattle.catalog.specs.Walk.{Met, number_of, sources_in, visit, visit_sources}
-use Rattle.catalog.specs.Linked.{State, met_of, IsLinked, IsLink, IsLinkOf, IsMosaicAt, IsPath, IsTarget, Each, AreRows, Grows, Goes, most, all_of, pushed, closed}
+use Rattle.catalog.specs.Linked.{State, met_of, IsLinked, IsLink, IsLinkOf, IsMosaicAt, IsPath, IsMember, Each, AreRows, Grows, Goes, most, all_of, pushed, closed}
 use Rattle.catalog.specs.Walking.{Seen, Visits, IsOpened, Passes, ReachesRows}
 use Rattle.catalog.proofs.States.{grows_trans, grows_pushed, grows_closed, goes_mosaic, stays_open, path_pushed, pushed_at, set_same}
 use Rattle.catalog.proofs.Walking.{failed, fault_is, ok≢err}
 use Rattle.catalog.proofs.Meetings.{not_met}
 
 -- numbers of what sources name are those of datasets
-targets_known : (st : State) (base : List ℕ) (ss : List SourceValue) (row : List ℕ) → Each (IsTarget st base) ss row → All (λ id. id < length st.links) row
-targets_known st base [] [] all = All-nil (λ id. id < length st.links)
-targets_known st base [] (id ∷ ids) all = absurd all
-targets_known st base (s ∷ ss) [] all = absurd all
-targets_known st base (s ∷ ss) (id ∷ ids) all =
+members_known : (st : State) (base : List ℕ) (ss : List SourceValue) (row : List ℕ) → Each (IsMember st base) ss row → All (λ id. id < length st.links) row
+members_known st base [] [] all = All-nil (λ id. id < length st.links)
+members_known st base [] (id ∷ ids) all = absurd all
+members_known st base (s ∷ ss) [] all = absurd all
+members_known st base (s ∷ ss) (id ∷ ids) all =
     let t = all.0 in
-    All-cons (λ id. id < length st.links) id ids (slice_get_within st.links id (Some t.link) t.whole) (targets_known st base ss ids all.1)
+    All-cons (λ id. id < length st.links) id ids (slice_get_within st.links id (Some t.link) t.whole) (members_known st base ss ids all.1)
 
 rows_in : (st : State) (base : List ℕ) (bands : List BandValue) (rows : List (List ℕ)) → AreRows st base bands rows → All (λ row. All (λ id. id < length st.links) row) rows
 rows_in st base [] [] all = All-nil (λ row. All (λ id. id < length st.links) row)
 rows_in st base [] (r ∷ rows) all = absurd all
 rows_in st base (b ∷ bands) [] all = absurd all
-rows_in st base (b ∷ bands) (r ∷ rows) all = All-cons (λ row. All (λ id. id < length st.links) row) r rows (targets_known st base b.sources r all.0) (rows_in st base bands rows all.1)
+rows_in st base (b ∷ bands) (r ∷ rows) all = All-cons (λ row. All (λ id. id < length st.links) row) r rows (members_known st base b.sources r all.0) (rows_in st base bands rows all.1)
 
 module _ (verify : Bool) (room : ℕ) (name : List ℕ) (a b c : Seen) (old mid : State) (id : ℕ) (o : IsOpened verify room name a b old mid id) where
   abbrev pub opened_here : IsMosaicAt mid id
@@ -91,7 +91,7 @@ module _ (verify : Bool) (room : ℕ) (name : List ℕ) (a b c : Seen) (old mid 
       p = passes opened_here
 
       pub rows_known : All (λ row. All (λ id. id < length new.links) row) rows
-      rows_known = rows_in new o.dataset.head.name o.document.bands rows p.reached.targets
+      rows_known = rows_in new o.dataset.head.name o.document.bands rows p.reached.members
 
       pub rows_low : most new.links (all_of rows) < 16
       rows_low = (let x = p.reached.low in let y = o.some in omega arith)
@@ -107,11 +107,11 @@ module _ (verify : Bool) (room : ℕ) (name : List ℕ) (a b c : Seen) (old mid 
       open_known = slice_get_within new.links id None waits
 
       abbrev last : Link
-      last = record { height = suc (most new.links (all_of rows)); targets = rows }
+      last = record { height = suc (most new.links (all_of rows)); members = rows }
 
       link : IsLink new o.dataset last
       link = record {
-        content = subst (λ c. IsLinkOf new o.dataset.head.name c last) (sym o.content) (record { rows = p.reached.targets; height = refl });
+        content = subst (λ c. IsLinkOf new o.dataset.head.name c last) (sym o.content) (record { rows = p.reached.members; height = refl });
         shallow = (let x = rows_low in omega arith);
       }
 
@@ -142,5 +142,5 @@ module _ (verify : Bool) (room : ℕ) (name : List ℕ) (a b c : Seen) (old mid 
       }
 
       -- its sources were gone through
-      pub visits_closed : (last_state : State) → last_state ≡ closed new id (record { height = suc (most new.links (all_of rows)); targets = rows }) → Visits verify room name a c old last_state (Ok id)
+      pub visits_closed : (last_state : State) → last_state ≡ closed new id (record { height = suc (most new.links (all_of rows)); members = rows }) → Visits verify room name a c old last_state (Ok id)
       visits_closed last_state is = subst (λ (s : State). Visits verify room name a c old s (Ok id)) (sym is) closes

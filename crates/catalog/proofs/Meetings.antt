@@ -211,7 +211,7 @@ module _ (verify : Bool) (room : ℕ) (name : List ℕ) where
         walked_more m t walked = one_more_walked m st.datasets d walked (read_so m verify name kind d is (told m t) named)
 
         -- a file is met whole at once
-        pub visits_file : (new : State) (id : ℕ) (h : DriverHead) (l : Link) → d.content ≡ File h → l ≡ record { height = 0; targets = [] } → new ≡ pushed st d (Some l) → id ≡ length st.datasets → Visits verify room name a b st new (Ok id)
+        pub visits_file : (new : State) (id : ℕ) (h : DriverHead) (l : Link) → d.content ≡ File h → l ≡ record { height = 0; members = [] } → new ≡ pushed st d (Some l) → id ≡ length st.datasets → Visits verify room name a b st new (Ok id)
         visits_file new id h l content flat is_pushed number =
             subst (λ (n : State). Visits verify room name a b st n (Ok id)) (sym is_pushed) (subst (λ (k : ℕ). Visits verify room name a b st (pushed st d (Some l)) (Ok k)) (sym number) whole)
           where

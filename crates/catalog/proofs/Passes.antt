@@ -21,9 +21,9 @@ use Rattle.catalog.specs.Mosaics.{source_name}
 use Rattle.catalog.specs.Outcomes.{IsOutside, IsMemory}
 use Rattle.catalog.specs.Heads.{resolved}
 use Rattle.catalog.specs.Walk.{Met, dataset_named, bands_of, band_named, is_narrow_band, IsWalked, one_more_source, has_band, has_samples, unless_wide, visit, visit_source, visit_sources}
-use Rattle.catalog.specs.Linked.{State, met_of, IsLinked, IsPath, IsTarget, Each, Grows, Goes, one_counted, most, all_of, height_at, height_in, IsMosaicAt, HasBand, HasSource}
+use Rattle.catalog.specs.Linked.{State, met_of, IsLinked, IsPath, IsMember, Each, Grows, Goes, one_counted, most, all_of, height_at, height_in, IsMosaicAt, HasBand, HasSource}
 use Rattle.catalog.specs.Walking.{Seen, IsPlain, WalksOn, Visits, Passes, Names, Reaches, ReachesRows}
-use Rattle.catalog.proofs.Found.{each_more, each_map, target_stays, most_stays, flat_rows, rows_stay, named_at}
+use Rattle.catalog.proofs.Found.{each_more, each_map, member_stays, most_stays, flat_rows, rows_stay, named_at}
 use Rattle.catalog.proofs.Rows.{most_append}
 use Rattle.catalog.proofs.Loops.{item_more, item_split, from_more}
 use Rattle.catalog.proofs.States.{goes_one, grows_refl, item_there}
@@ -203,7 +203,7 @@ module _ (verify : Bool) (room : ℕ) (base : List ℕ) (s : SourceValue) where
         walks = visited_walks;
         told = λ m told path is. banded_as m told path is ∙ ap (λ r. r >>= λ t. Ok (met_of new)) there;
         reached = (let low = v.low in let height : height_at new.links id ≡ low.link.height = ap height_in low.met.whole in record {
-          targets = (
+          members = (
             record {
               name = w.name;
               dataset = low.dataset;
@@ -243,12 +243,12 @@ module _ (verify : Bool) (room : ℕ) (base : List ℕ) (s : SourceValue) where
 
 -- nothing is reached before the first
 reaches_none : (st : State) (room : ℕ) (base : List ℕ) → Reaches st room base [] []
-reaches_none st room base = record { targets = tt; low = omega arith }
+reaches_none st room base = record { members = tt; low = omega arith }
 
 reaches_more : (old new : State) (room : ℕ) (base : List ℕ) (ss : List SourceValue) (s : SourceValue) (row : List ℕ) (id : ℕ) → Grows old new → IsLinked new → Reaches old room base ss row → Reaches new room base (s ∷ []) (id ∷ []) → Reaches new room base (ss ++ s ∷ []) (row ++ id ∷ [])
 reaches_more old new room base ss s row id grows linked before here = record {
-  targets = each_more (IsTarget new base) ss row s id (each_map (IsTarget old base) (IsTarget new base) ss row (λ x i. target_stays old new base x i grows linked.apart) before.targets) here.targets.0;
-  low = (let x = before.low in let y = here.low in omega (arith, most_append new.links row (id ∷ []), most_stays old new base ss row grows before.targets));
+  members = each_more (IsMember new base) ss row s id (each_map (IsMember old base) (IsMember new base) ss row (λ x i. member_stays old new base x i grows linked.apart) before.members) here.members.0;
+  low = (let x = before.low in let y = here.low in omega (arith, most_append new.links row (id ∷ []), most_stays old new base ss row grows before.members));
 }
 
 module _ (verify : Bool) (room : ℕ) (base : List ℕ) (ss : List SourceValue) (a b c : Seen) (old mid new : State) where
@@ -289,14 +289,14 @@ all_more rows row = flat_map-append (λ (r : List ℕ). r) rows (row ∷ []) ∙
 
 rows_more : (old new : State) (room : ℕ) (base : List ℕ) (bands : List BandValue) (b : BandValue) (rows : List (List ℕ)) (row : List ℕ) → Grows old new → IsLinked new → ReachesRows old room base bands rows → Reaches new room base b.sources row → ReachesRows new room base (bands ++ b ∷ []) (rows ++ row ∷ [])
 rows_more old new room base bands b rows row grows linked before here = record {
-  targets = each_more (λ (b : BandValue) (row : List ℕ). Each (IsTarget new base) b.sources row) bands rows b row (rows_stay old new base bands rows grows linked.apart before.targets) here.targets;
-  low = (let x = before.low in let y = here.low in omega (arith, ap (most new.links) (all_more rows row), most_append new.links (all_of rows) row, most_stays old new base (sources_from bands) (all_of rows) grows (flat_rows old base bands rows before.targets)));
+  members = each_more (λ (b : BandValue) (row : List ℕ). Each (IsMember new base) b.sources row) bands rows b row (rows_stay old new base bands rows grows linked.apart before.members) here.members;
+  low = (let x = before.low in let y = here.low in omega (arith, ap (most new.links) (all_more rows row), most_append new.links (all_of rows) row, most_stays old new base (sources_from bands) (all_of rows) grows (flat_rows old base bands rows before.members)));
 }
 
 module _ (verify : Bool) (room : ℕ) (base : List ℕ) (bands : List BandValue) (a b c : Seen) (old mid new : State) where
   pub bands_begin : (k : ℕ) → k ≡ 0 → IsLinked old → Passes verify room base (flat_map (λ (b : BandValue). b.sources) (take k bands)) a a old old (λ rows. ReachesRows old room base (take k bands) rows) (Ok [])
   bands_begin k none linked = subst (λ (xs : List BandValue). Passes verify room base (sources_from xs) a a old old (λ rows. ReachesRows old room base xs rows) (Ok [])) (sym (ap (λ n. take n bands) none))
-      (passes_none verify room base a old (λ (rows : List (List ℕ)). ReachesRows old room base [] rows) [] linked (record { targets = tt; low = omega arith }))
+      (passes_none verify room base a old (λ (rows : List (List ℕ)). ReachesRows old room base [] rows) [] linked (record { members = tt; low = omega arith }))
 
   module _ (k : ℕ) (rows : List (List ℕ)) (before : Passes verify room base (flat_map (λ (b : BandValue). b.sources) (take k bands)) a b old mid (λ rows. ReachesRows mid room base (take k bands) rows) (Ok rows)) where
     pub bands_refused : (v : BandValue) (f : WalkFault) → slice_get bands k ≡ Some v → Passes verify room base v.sources b c mid new (λ row. Reaches new room base v.sources row) (Err f) → Passes verify room base (flat_map (λ (b : BandValue). b.sources) bands) a c old new (λ rows. ReachesRows new room base bands rows) (Err f)

@@ -6,7 +6,7 @@ use Rattle.std.proofs.lemmas.List.Elements.{All-cons, All-nil}
 use Rattle.std.proofs.lemmas.Option.{slice_get_within}
 use Rattle.vrt_profile.specs.Values.{SourceValue, BandValue}
 use Rattle.catalog.specs.declared.links.Link.{Link}
-use Rattle.catalog.specs.Linked.{State, IsTarget, Each, AreRows, all_of, height_at, most, first_above}
+use Rattle.catalog.specs.Linked.{State, IsMember, Each, AreRows, all_of, height_at, most, first_above}
 
 pub most_append : (links : List (Option Link)) (a b : List ℕ) → most links (a ++ b) ≡ max (most links a) (most links b)
 most_append links [] b = omega arith
@@ -67,14 +67,14 @@ row_met links room rows i row id all within is some before = sym (rows_cons link
 
 -- the numbers that sources name are those of datasets
 
-targets_known : (st : State) (base : List ℕ) (ss : List SourceValue) (ids : List ℕ) → Each (IsTarget st base) ss ids → All (λ id. id < length st.links) ids
-targets_known st base [] [] all = All-nil (λ id. id < length st.links)
-targets_known st base [] (id ∷ ids) all = absurd all
-targets_known st base (s ∷ ss) [] all = absurd all
-targets_known st base (s ∷ ss) (id ∷ ids) all = All-cons (λ id. id < length st.links) id ids (slice_get_within st.links id (Some all.0.link) all.0.whole) (targets_known st base ss ids all.1)
+members_known : (st : State) (base : List ℕ) (ss : List SourceValue) (ids : List ℕ) → Each (IsMember st base) ss ids → All (λ id. id < length st.links) ids
+members_known st base [] [] all = All-nil (λ id. id < length st.links)
+members_known st base [] (id ∷ ids) all = absurd all
+members_known st base (s ∷ ss) [] all = absurd all
+members_known st base (s ∷ ss) (id ∷ ids) all = All-cons (λ id. id < length st.links) id ids (slice_get_within st.links id (Some all.0.link) all.0.whole) (members_known st base ss ids all.1)
 
 pub rows_known : (st : State) (base : List ℕ) (bands : List BandValue) (rows : List (List ℕ)) → AreRows st base bands rows → All (λ row. All (λ id. id < length st.links) row) rows
 rows_known st base [] [] all = All-nil (λ row. All (λ id. id < length st.links) row)
 rows_known st base [] (row ∷ rows) all = absurd all
 rows_known st base (b ∷ bands) [] all = absurd all
-rows_known st base (b ∷ bands) (row ∷ rows) all = All-cons (λ row. All (λ id. id < length st.links) row) row rows (targets_known st base b.sources row all.0) (rows_known st base bands rows all.1)
+rows_known st base (b ∷ bands) (row ∷ rows) all = All-cons (λ row. All (λ id. id < length st.links) row) row rows (members_known st base b.sources row all.0) (rows_known st base bands rows all.1)

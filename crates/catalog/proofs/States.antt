@@ -90,8 +90,8 @@ link_stays old new d l grows apart is = record { content = by_content d.content 
     by_content : (c : Content) → IsLinkOf old d.head.name c l → IsLinkOf new d.head.name c l
     by_content (File h) of = of
     by_content (Mosaic doc) of = record {
-      rows = rows_stay old new d.head.name doc.bands l.targets grows apart of.rows;
-      height = of.height ∙ ap suc (sym (most_stays old new d.head.name _ (all_of l.targets) grows (flat_rows old d.head.name doc.bands l.targets of.rows)));
+      rows = rows_stay old new d.head.name doc.bands l.members grows apart of.rows;
+      height = of.height ∙ ap suc (sym (most_stays old new d.head.name _ (all_of l.members) grows (flat_rows old d.head.name doc.bands l.members of.rows)));
     }
 
 -- one source more

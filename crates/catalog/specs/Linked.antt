@@ -58,7 +58,7 @@ all_of rows = flat_map (λ (row : List ℕ). row) rows
 
 -- the dataset of this number is what a source of the mosaic with the name `base` names: it was met whole, and has the
 -- band, with samples that the source takes
-pub record IsTarget (st : State) (base : List ℕ) (s : SourceValue) (id : ℕ) : Type 0 where
+pub record IsMember (st : State) (base : List ℕ) (s : SourceValue) (id : ℕ) : Type 0 where
   pub name : List ℕ
   pub dataset : Dataset
   pub link : Link
@@ -78,12 +78,12 @@ Each R (x ∷ xs) (y ∷ ys) = R x y × Each R xs ys
 
 -- the numbers of what the sources of some bands name
 abbrev pub AreRows : State → List ℕ → List BandValue → List (List ℕ) → Type 0
-AreRows st base bands rows = Each (λ (b : BandValue) (row : List ℕ). Each (IsTarget st base) b.sources row) bands rows
+AreRows st base bands rows = Each (λ (b : BandValue) (row : List ℕ). Each (IsMember st base) b.sources row) bands rows
 
 -- a mosaic is one higher than the highest dataset that its sources name
 pub record IsMosaicLink (st : State) (name : List ℕ) (doc : DocumentValue) (l : Link) : Type 0 where
-  pub rows : AreRows st name doc.bands l.targets
-  pub height : l.height ≡ suc (most st.links (all_of l.targets))
+  pub rows : AreRows st name doc.bands l.members
+  pub height : l.height ≡ suc (most st.links (all_of l.members))
 
 abbrev pub IsLinkOf : State → List ℕ → Content → Link → Type 0
 IsLinkOf st name (File h) l = l.height ≡ 0

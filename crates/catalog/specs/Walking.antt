@@ -17,7 +17,7 @@ use Rattle.catalog.specs.Mosaics.{sources_of}
 use Rattle.catalog.specs.Outcomes.{IsOutside, IsMemory}
 use Rattle.catalog.specs.Heads.{kind_in, resolved, IsOwnFault, OwnsFaults}
 use Rattle.catalog.specs.Walk.{number_of, one_more_source, visit, visit_sources, IsWalked, TellsKinds, WalksUnknown}
-use Rattle.catalog.specs.Linked.{State, met_of, most, all_of, IsLinked, IsTarget, Each, AreRows, IsPath, IsLow, Grows, Goes, pushed, one_counted}
+use Rattle.catalog.specs.Linked.{State, met_of, most, all_of, IsLinked, IsMember, Each, AreRows, IsPath, IsLow, Grows, Goes, pushed, one_counted}
 
 -- what a folder tells, and how often it was written, was read and has failed
 pub record Seen : Type 0 where
@@ -96,12 +96,12 @@ Meets verify room name before after old new (Err fault) = Visits verify room nam
 
 -- the datasets that sources name were met whole, and aren't higher than this
 pub record Reaches (st : State) (room : ℕ) (base : List ℕ) (ss : List SourceValue) (row : List ℕ) : Type 0 where
-  pub targets : Each (IsTarget st base) ss row
+  pub members : Each (IsMember st base) ss row
   pub low : most st.links row ≤ room
 
 -- and so are those that the sources of all bands name
 pub record ReachesRows (st : State) (room : ℕ) (base : List ℕ) (bands : List BandValue) (rows : List (List ℕ)) : Type 0 where
-  pub targets : AreRows st base bands rows
+  pub members : AreRows st base bands rows
   pub low : most st.links (all_of rows) ≤ room
 
 -- a walk through sources of the mosaic with the name `base`, in order

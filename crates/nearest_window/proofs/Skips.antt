@@ -10,7 +10,7 @@ use Rattle.geotransform.specs.Types.{clamp}
 use Rattle.outside.specs.Outside.{Files}
 use Rattle.vrt_profile.specs.Values.{SourceValue}
 use Rattle.catalog.specs.Drivers.{Dataset}
-use Rattle.catalog.specs.Pixels.{target_size, target_pixel}
+use Rattle.catalog.specs.Pixels.{member_size, member_pixel}
 use Rattle.mosaic_sources.proofs.Skipped.{skipped}
 use Rattle.nearest_window.specs.declared.canvas.Canvas.{Canvas}
 use Rattle.nearest_window.specs.Canvases.{AreTaken, stands}
@@ -44,7 +44,7 @@ module _ (told : Option Files) (cat : List Dataset) (d : Dataset) (sources : Lis
   taken_before : (from to : ℕ) → from ≤ to → to ≤ length sources → ((n : ℕ) → from ≤ n → n < to → Contains numbers n → ⊥) → AreTaken told cat d to sources c → AreTaken told cat d from sources c
   taken_before from to order within none taken m e x y at =
       taken m e x y at
-      ∙ ap (option_map (clamp c.kind)) (sym (skipped sources from to d.head.size (target_size cat d) (target_pixel m cat d) x y order within (λ n low high there. none n low high (wanted.listed y (record { top = at.top; bottom = at.bottom }) n there))))
+      ∙ ap (option_map (clamp c.kind)) (sym (skipped sources from to d.head.size (member_size cat d) (member_pixel m cat d) x y order within (λ n low high there. none n low high (wanted.listed y (record { top = at.top; bottom = at.bottom }) n there))))
 
   rising_keeps : (i j : ℕ) → i ≤ j → j < length numbers → slice_index numbers i ≤ slice_index numbers j
   rising_keeps i j order less = ⊎_elim

@@ -25,13 +25,13 @@ use crate::block_parts::{
 };
 use crate::indexes::Indexes;
 use crate::indexing::wanted_in;
+use crate::members::{Piece, band_of, kind_of};
 use crate::missed::Missed;
 use crate::paint::paint_rows;
 use crate::picture::Picture;
 use crate::picture_places::Span;
 use crate::recalled::Recalled;
 use crate::sharing::{Supply, offer_to, shown_in};
-use crate::targets::{Piece, band_of, kind_of};
 use crate::wanted::Wanted;
 use band_blocks::{
     Block, BlockKey, Counter, LoadFault, OpenFiles, PixelKey, has_places, load_block, load_sample,

@@ -1,5 +1,5 @@
-use Rattle.catalog.proofs.PixelLaws.{has_target}
-use Rattle.catalog.proofs.laws.sources_have_targets.Goals as goal
+use Rattle.catalog.proofs.PixelLaws.{has_member}
+use Rattle.catalog.proofs.laws.sources_have_members.Goals as goal
 
 pub returns : goal.returns
-returns c = record { there = has_target }
+returns c = record { there = has_member }

@@ -25,7 +25,7 @@ pub first_above-requires : goal.first_above-requires
 first_above-requires t c =
     let h = c.requires.high in
     let same : h.link ≡ c.in-Some.link.now = some_is (some_is (sym h.met.whole ∙ c.in-Some.ensures.link)) in
-    let rows : h.link.targets ≡ c.as_slice.result.now = ap (λ (l : Link). l.targets) same ∙ sym c.as_slice.ensures.items in
+    let rows : h.link.members ≡ c.as_slice.result.now = ap (λ (l : Link). l.members) same ∙ sym c.as_slice.ensures.items in
     let known = high_known c.args.self.now c.requires.linked c.args.room c.args.id h.dataset h.link h.met h.high in
     record { known = subst (λ (rs : List (List ℕ)). All (λ row. All (λ id. id < length c.args.self.now.links) row) rs) rows known }
 
@@ -33,7 +33,7 @@ pub unreachable-requires-in_default-first_above : goal.unreachable-requires-in_d
 unreachable-requires-in_default-first_above t c =
     let h = c.requires.high in
     let same : h.link ≡ c.in-Some.link.now = some_is (some_is (sym h.met.whole ∙ c.in-Some.ensures.link)) in
-    let rows : h.link.targets ≡ c.as_slice.result.now = ap (λ (l : Link). l.targets) same ∙ sym c.as_slice.ensures.items in
+    let rows : h.link.members ≡ c.as_slice.result.now = ap (λ (l : Link). l.members) same ∙ sym c.as_slice.ensures.items in
     let more = h.high in
     let some = c.if-room-eq0.false in
     let there = high_there c.args.self.now c.requires.linked (c.args.room - 1) c.args.id h.dataset h.link h.met (omega arith) in
@@ -44,7 +44,7 @@ pub deepest-requires : goal.deepest-requires
 deepest-requires t c =
     let h = c.requires.high in
     let same : h.link ≡ c.in-Some.link.now = some_is (some_is (sym h.met.whole ∙ c.in-Some.ensures.link)) in
-    let rows : h.link.targets ≡ c.as_slice.result.now = ap (λ (l : Link). l.targets) same ∙ sym c.as_slice.ensures.items in
+    let rows : h.link.members ≡ c.as_slice.result.now = ap (λ (l : Link). l.members) same ∙ sym c.as_slice.ensures.items in
     let more = h.high in
     let some = c.if-room-eq0.false in
     let m = c.decreases in
@@ -55,7 +55,7 @@ pub returns-clause-deep : goal.returns-clause-deep
 returns-clause-deep t c = λ d at.
     let h = c.requires.high in
     let same : h.link ≡ c.in-Some.link.now = some_is (some_is (sym h.met.whole ∙ c.in-Some.ensures.link)) in
-    let rows : h.link.targets ≡ c.as_slice.result.now = ap (λ (l : Link). l.targets) same ∙ sym c.as_slice.ensures.items in
+    let rows : h.link.members ≡ c.as_slice.result.now = ap (λ (l : Link). l.members) same ∙ sym c.as_slice.ensures.items in
     let more = h.high in
     let some = c.if-room-eq0.false in
     let first = ap (λ rs. first_above c.args.self.now.links (c.args.room - 1) (all_of rs)) rows in
