@@ -1,13 +1,11 @@
 -- Numbers of a written document are read again, in the places in which they count.
-use Rattle.std.proofs.Common.{◌≡◌, ℕ, ℤ, zero, suc, ◌+◌, ◌-◌, ◌*◌, ◌/◌, ◌%◌, ◌^◌, ◌<◌, ◌≤◌, Bool, true, false, cond, List, [], ◌∷◌, ◌++◌, length, Option, Some, None, refl, ap, ◌∙◌, sym, ⊎_elim, arith, unsigned_abs, length-append, pos, negsuc}
-use Rattle.std.specs.Prelude.{◌==◌, ◌+ℤ◌, ◌-ℤ◌, ◌*ℤ◌, neg_ℤ, nat_lt, nat_le, ◌&&◌, if◌then◌else◌}
-use Rattle.std.specs.List.{list_all, prefix_len, suffix_len}
+use Rattle.std.proofs.Common.{◌≡◌, ℕ, ℤ, suc, ◌+◌, ◌-◌, ◌*◌, ◌/◌, ◌%◌, ◌^◌, ◌<◌, ◌≤◌, Bool, true, false, cond, List, [], ◌∷◌, ◌++◌, length, Option, Some, None, refl, ap, ◌∙◌, sym, ⊎_elim, arith, unsigned_abs, length-append, pos, negsuc}
+use Rattle.std.specs.Prelude.{◌+ℤ◌, ◌-ℤ◌, ◌*ℤ◌, neg_ℤ, nat_lt, nat_le, ◌&&◌}
+use Rattle.std.specs.List.{list_all}
 use Rattle.std.specs.Char.{is_ascii_digit}
 use Rattle.std.specs.Fmt.{decimal, signed_decimal}
-use Rattle.std.proofs.lemmas.List.{append-nil, length-take}
-use Rattle.std.proofs.lemmas.List.Sums.{AllPass-from_list_all, list_all-from_AllPass}
+use Rattle.std.proofs.lemmas.List.{append-nil}
 use Rattle.std.proofs.lemmas.List.Folds.{list_all-append}
-use Rattle.std.proofs.lemmas.List.Elements.{All-take}
 use Rattle.std.proofs.lemmas.Bool.{cases_lt}
 use Rattle.std.proofs.lemmas.Bool.Decides.{nat_tests}
 use Rattle.std.proofs.lemmas.Nat.{pow-add, div-mul-add}
@@ -17,119 +15,12 @@ use Rattle.std.proofs.Math.Nat.{mul_assoc, one-le-pow, mul-div_cancel}
 use Rattle.lists_and_answers.specs.Options.{◌>>=◌}
 use Rattle.geotransform.specs.Decimal.{number, number_of}
 use Rattle.vrt_profile.specs.Fields.{whole_text}
-use Rattle.geotransform.specs.Decimal.{sign_at, digits_at, fraction_at, exponent_of, Decimal, parts_of, ticks_of, places_of, signed, scaled, half_up, magnitude, magnitude_at, near_at, mantissa, whole_of, exact}
-use Rattle.geotransform.specs.Print.{unit, rounded_to, minus, with_point, last_digits, without_last_zeros, short_of, short_text}
+use Rattle.geotransform.specs.Decimal.{sign_at, Decimal, parts_of, ticks_of, places_of, signed, scaled, half_up, magnitude, magnitude_at, near_at, mantissa, whole_of, exact}
+use Rattle.geotransform.specs.Print.{unit, rounded_to, with_point, short_of, short_text}
 use Rattle.geotransform.proofs.Numbers.{own, number-append}
 use Rattle.geotransform.proofs.Written.{rounded_is}
-use Rattle.geotransform.proofs.RoundTrip.{AreDigits, digits-cons, digits_again, sign_none, short_again}
+use Rattle.geotransform.proofs.RoundTrip.{AreDigits, sign_none, short_again, digit_is, fraction_of, fraction_short, behind_sign, starts, parts_text, parts_are, parts_positive, parts_negative, minus_none, minus_one}
 use Rattle.vrt_writing.specs.Spelled.{micro_text, part_text}
-
-abbrev is_zero : ℕ → Bool
-is_zero c = c == 48
-
-prefix_all : (ds rest : List ℕ) → AreDigits ds → prefix_len is_ascii_digit rest ≡ 0 → prefix_len is_ascii_digit (ds ++ rest) ≡ length ds
-prefix_all [] rest h none = none
-prefix_all (c ∷ cs) rest h none =
-    let parts = digits-cons c cs h in
-    ap (λ b. cond b (1 + prefix_len is_ascii_digit (cs ++ rest)) 0) parts.0 ∙ omega (arith, prefix_all cs rest parts.1 none)
-
-point_ends : (f : List ℕ) → prefix_len is_ascii_digit (with_point f) ≡ 0
-point_ends [] = refl
-point_ends (c ∷ cs) = refl
-
-fraction_again : (f : List ℕ) → AreDigits f → fraction_at (with_point f) ≡ Some (f, [])
-fraction_again [] h = refl
-fraction_again (c ∷ cs) h =
-    let whole : (c ∷ cs) ++ [] ≡ c ∷ cs = append-nil (c ∷ cs) in
-    let n : prefix_len is_ascii_digit (c ∷ cs) ≡ suc (length cs) = ap (prefix_len is_ascii_digit) (sym whole) ∙ prefix_all (c ∷ cs) [] h refl in
-    let more : (prefix_len is_ascii_digit (c ∷ cs) == 0) ≡ false = ap (λ k. k == 0) n ∙ grind (arith, nat_tests) in
-    ap (λ b. cond b None (Some (digits_at (c ∷ cs)))) more ∙ ap Some (ap digits_at (sym whole) ∙ digits_again (c ∷ cs) [] h refl)
-
-length-last_digits : (k n : ℕ) → length (last_digits k n) ≡ k
-length-last_digits zero n = refl
-length-last_digits (suc k) n = omega (arith, length-append (last_digits k (n / 10)) ((48 + n % 10) ∷ []), length-last_digits k (n / 10))
-
-digit_is : (n : ℕ) → is_ascii_digit (48 + n % 10) ≡ true
-digit_is n = grind (arith, nat_tests)
-
-digits-last_digits : (k n : ℕ) → AreDigits (last_digits k n)
-digits-last_digits zero n = refl
-digits-last_digits (suc k) n = list_all-append is_ascii_digit (last_digits k (n / 10)) ((48 + n % 10) ∷ []) ∙ ap (λ b. b && list_all is_ascii_digit ((48 + n % 10) ∷ [])) (digits-last_digits k (n / 10)) ∙ ap (λ b. b && true) (digit_is n)
-
--- the text of q sixteenth places without its sign
-abbrev plain : ℕ → List ℕ
-plain q = decimal (q / 10 ^ 16) ++ with_point (without_last_zeros (last_digits 16 (q % 10 ^ 16)))
-
-abbrev pub fraction_of : ℕ → List ℕ
-fraction_of q = without_last_zeros (last_digits 16 (q % 10 ^ 16))
-
-pub fraction_digits : (q : ℕ) → AreDigits (fraction_of q)
-fraction_digits q = list_all-from_AllPass is_ascii_digit (fraction_of q) (All-take (λ c. is_ascii_digit c ≡ true) (16 - suffix_len is_zero (last_digits 16 (q % 10 ^ 16))) (last_digits 16 (q % 10 ^ 16)) (AllPass-from_list_all is_ascii_digit (last_digits 16 (q % 10 ^ 16)) (digits-last_digits 16 (q % 10 ^ 16))))
-
-fraction_short : (q : ℕ) → length (fraction_of q) ≤ 16
-fraction_short q = omega (arith, length-take (length (last_digits 16 (q % 10 ^ 16)) - suffix_len is_zero (last_digits 16 (q % 10 ^ 16))) (last_digits 16 (q % 10 ^ 16)), length-last_digits 16 (q % 10 ^ 16))
-
--- what parts_of does behind the sign, for a text of n bytes
-abbrev behind_fraction : ℕ → Bool → List ℕ → Option (List ℕ × List ℕ) → Option Decimal
-behind_fraction n negative whole fraction = if nat_lt 64 n then None else (do
-  f ← fraction
-  e ← exponent_of f.1
-  if length whole + length f.0 == 0 then None else Some (record { negative = negative; whole = whole; fraction = f.0; exponent = e }))
-
-abbrev behind_digits : ℕ → Bool → List ℕ × List ℕ → Option Decimal
-behind_digits n negative w = behind_fraction n negative w.0 (fraction_at w.1)
-
-abbrev behind_sign : ℕ → Bool × List ℕ → Option Decimal
-behind_sign n s = behind_digits n s.0 (digits_at s.1)
-
-starts : (text : List ℕ) → parts_of text ≡ behind_sign (length text) (sign_at text)
-unfolding parts_of
-starts text = refl
-
-parts_text : (n : ℕ) (negative : Bool) (ds f : List ℕ) → n ≤ 64 → AreDigits ds → 0 < length ds → AreDigits f → behind_sign n (negative, ds ++ with_point f) ≡ Some (record { negative = negative; whole = ds; fraction = f; exponent = pos 0 })
-parts_text n negative ds f short digits some places =
-    let not_long : nat_lt 64 n ≡ false = grind (arith, nat_tests) in
-    let not_none : (length ds + length f == 0) ≡ false = grind (arith, nat_tests) in
-    let d : Decimal = record { negative = negative; whole = ds; fraction = f; exponent = pos 0 } in
-    ap (behind_digits n negative) (digits_again ds (with_point f) digits (point_ends f))
-    ∙ ap (behind_fraction n negative ds) (fraction_again f places)
-    ∙ ap (λ b. cond b None (cond (length ds + length f == 0) None (Some d))) not_long
-    ∙ ap (λ b. cond b None (Some d)) not_none
-
-whole_small : (q : ℕ) → q < 10 ^ 28 → q / 10 ^ 16 < 10 ^ 12
-whole_small q small = omega arith
-
-length-with_point : (f : List ℕ) → length (with_point f) ≤ 1 + length f
-length-with_point [] = omega arith
-length-with_point (c ∷ cs) = omega arith
-
--- the parts of the text with its sign
-parts_plain : (q n : ℕ) (negative : Bool) → q < 10 ^ 28 → n ≤ 64 → behind_sign n (negative, plain q) ≡ Some (record { negative = negative; whole = decimal (q / 10 ^ 16); fraction = fraction_of q; exponent = pos 0 })
-parts_plain q n negative small short =
-    let less = whole_small q small in
-    parts_text n negative (decimal (q / 10 ^ 16)) (fraction_of q) short (digits_decimal own (q / 10 ^ 16) (omega arith)) (decimal_nonempty (q / 10 ^ 16) (omega arith)) (fraction_digits q)
-
-length-plain : (q : ℕ) → q < 10 ^ 28 → length (plain q) ≤ 29
-length-plain q small =
-    let less = whole_small q small in
-    omega (arith, length-append (decimal (q / 10 ^ 16)) (with_point (fraction_of q)), length-with_point (fraction_of q), fraction_short q, length-decimal-le 12 (q / 10 ^ 16) (omega arith) less (omega arith))
-
-abbrev parts_are : Bool → ℕ → Decimal
-parts_are negative q = record { negative = negative; whole = decimal (q / 10 ^ 16); fraction = fraction_of q; exponent = pos 0 }
-
-parts_positive : (q : ℕ) → q < 10 ^ 28 → parts_of (plain q) ≡ Some (parts_are false q)
-parts_positive q small =
-    let less = whole_small q small in
-    starts (plain q) ∙ ap (behind_sign (length (plain q))) (sign_none (decimal (q / 10 ^ 16)) (with_point (fraction_of q)) (digits_decimal own (q / 10 ^ 16) (omega arith)) (decimal_nonempty (q / 10 ^ 16) (omega arith))) ∙ parts_plain q (length (plain q)) false small (omega (arith, length-plain q small))
-
-parts_negative : (q : ℕ) → q < 10 ^ 28 → parts_of (45 ∷ plain q) ≡ Some (parts_are true q)
-parts_negative q small = starts (45 ∷ plain q) ∙ parts_plain q (suc (length (plain q))) true small (omega (arith, length-plain q small))
-
-minus_none : (n q : ℕ) → minus (pos n) q ≡ []
-minus_none n q = grind (arith, nat_tests, ints)
-
-minus_one : (n q : ℕ) → 0 < q → minus (negsuc n) q ≡ 45 ∷ []
-minus_one n q some = grind (arith, nat_tests, ints)
 
 short_positive : (n : ℕ) → n % 18 ≡ 0 → n < 10 ^ 12 * unit → parts_of (short_text (pos n)) ≡ Some (parts_are false (n / 18))
 short_positive n whole small =
