@@ -1,25 +1,23 @@
 -- Numbers of a written document are read again, in the places in which they count.
-use Rattle.std.proofs.Common.{◌≡◌, ℕ, ℤ, suc, ◌+◌, ◌-◌, ◌*◌, ◌/◌, ◌%◌, ◌^◌, ◌<◌, ◌≤◌, Bool, true, false, cond, List, [], ◌∷◌, ◌++◌, length, Option, Some, None, refl, ap, ◌∙◌, sym, ⊎_elim, arith, unsigned_abs, length-append, pos, negsuc}
+use Rattle.std.proofs.Common.{◌≡◌, ℕ, ℤ, suc, ◌+◌, ◌-◌, ◌*◌, ◌/◌, ◌%◌, ◌^◌, ◌<◌, ◌≤◌, Bool, true, false, cond, List, ◌++◌, length, Option, Some, None, refl, ap, ◌∙◌, sym, ⊎_elim, arith, unsigned_abs, pos, negsuc}
 use Rattle.std.specs.Prelude.{◌+ℤ◌, ◌-ℤ◌, ◌*ℤ◌, neg_ℤ, nat_lt, nat_le, ◌&&◌}
 use Rattle.std.specs.List.{list_all}
 use Rattle.std.specs.Char.{is_ascii_digit}
-use Rattle.std.specs.Fmt.{decimal, signed_decimal}
-use Rattle.std.proofs.lemmas.List.{append-nil}
-use Rattle.std.proofs.lemmas.List.Folds.{list_all-append}
+use Rattle.std.specs.Fmt.{decimal}
 use Rattle.std.proofs.lemmas.Bool.{cases_lt}
 use Rattle.std.proofs.lemmas.Bool.Decides.{nat_tests}
 use Rattle.std.proofs.lemmas.Nat.{pow-add, div-mul-add}
 use Rattle.std.proofs.lemmas.Int.{ints}
-use Rattle.std.proofs.lemmas.Fmt.{digits_decimal, digits_value-decimal, decimal_nonempty, length-decimal-le, length-decimal-le_wide, decimal_by_steps_wide}
+use Rattle.std.proofs.lemmas.Fmt.{digits_decimal, digits_value-decimal, decimal_nonempty, length-decimal-le}
 use Rattle.std.proofs.Math.Nat.{mul_assoc, one-le-pow, mul-div_cancel}
 use Rattle.lists_and_answers.specs.Options.{◌>>=◌}
 use Rattle.geotransform.specs.Decimal.{number, number_of}
 use Rattle.vrt_profile.specs.Fields.{whole_text}
-use Rattle.geotransform.specs.Decimal.{sign_at, Decimal, parts_of, ticks_of, places_of, signed, scaled, half_up, magnitude, magnitude_at, near_at, mantissa, whole_of, exact}
+use Rattle.geotransform.specs.Decimal.{Decimal, parts_of, ticks_of, places_of, signed, scaled, half_up, magnitude, magnitude_at, near_at, mantissa}
 use Rattle.geotransform.specs.Print.{unit, rounded_to, with_point, short_of, short_text}
-use Rattle.geotransform.proofs.Numbers.{own, number-append}
+use Rattle.geotransform.proofs.Numbers.{own}
 use Rattle.geotransform.proofs.Written.{rounded_is}
-use Rattle.geotransform.proofs.RoundTrip.{AreDigits, sign_none, short_again, digit_is, fraction_of, fraction_short, behind_sign, starts, parts_text, parts_are, parts_positive, parts_negative, minus_none, minus_one}
+use Rattle.geotransform.proofs.RoundTrip.{short_again, fraction_of, fraction_short, parts_are, parts_positive, parts_negative, minus_none, minus_one}
 use Rattle.vrt_writing.specs.Spelled.{micro_text, part_text}
 
 short_positive : (n : ℕ) → n % 18 ≡ 0 → n < 10 ^ 12 * unit → parts_of (short_text (pos n)) ≡ Some (parts_are false (n / 18))
@@ -140,54 +138,3 @@ count_again n small =
     ∙ ap (λ b. cond (b && list_all is_ascii_digit (decimal n)) (Some (number (decimal n))) None) less
     ∙ ap (λ b. cond b (Some (number (decimal n))) None) (digits_decimal own n (omega arith))
     ∙ ap Some (digits_value-decimal own n (omega arith))
-
--- a whole number, and the number that its digits write
-abbrev Writes : ℕ → List ℕ → Type 0
-Writes n ds = AreDigits ds × (number ds ≡ n)
-
-digits_push : (n : ℕ) (ds : List ℕ) → 10 ≤ n → Writes (n / 10) ds → Writes n (ds ++ ((48 + n % 10) ∷ []))
-digits_push n ds some h = (
-  list_all-append is_ascii_digit ds ((48 + n % 10) ∷ []) ∙ ap (λ b. b && list_all is_ascii_digit ((48 + n % 10) ∷ [])) h.0 ∙ ap (λ b. b && true) (digit_is n),
-  number-append ds ((48 + n % 10) ∷ []) ∙ omega (arith, h.1),
-)
-
-digit_small : (n : ℕ) → n < 10 → Writes n ((48 + n) ∷ [])
-digit_small n small =
-    let same : n % 10 ≡ n = omega arith in
-    (ap (λ k. list_all is_ascii_digit ((48 + k) ∷ [])) (sym same) ∙ ap (λ b. b && true) (digit_is n), omega arith)
-
-pub decimal_writes : (n : ℕ) → n < 10 ^ 64 → Writes n (decimal n)
-decimal_writes n small = decimal_by_steps_wide Writes digit_small digits_push n small
-
-some_decimal : (n : ℕ) → n < 10 ^ 64 → 0 < length (decimal n)
-some_decimal n small = decimal_by_steps_wide (λ m ds. 0 < length ds) (λ m less. omega arith) (λ m ds le h. omega (arith, length-append ds ((48 + m % 10) ∷ []))) n small
-
-abbrev whole_parts : Bool → ℕ → Decimal
-whole_parts negative n = record { negative = negative; whole = decimal n; fraction = []; exponent = pos 0 }
-
-whole_behind : (m n : ℕ) (negative : Bool) → m < 10 ^ 20 → n ≤ 64 → behind_sign n (negative, decimal m) ≡ Some (whole_parts negative m)
-whole_behind m n negative small short = ap (λ (x : List ℕ). behind_sign n (negative, x)) (sym (append-nil (decimal m))) ∙ parts_text n negative (decimal m) [] short (decimal_writes m (omega arith)).0 (some_decimal m (omega arith)) refl
-
-whole_short : (m : ℕ) → m < 10 ^ 20 → length (decimal m) ≤ 20
-whole_short m small = length-decimal-le_wide 20 m (omega arith) small (omega arith)
-
-whole_positive : (m : ℕ) → m < 10 ^ 20 → parts_of (decimal m) ≡ Some (whole_parts false m)
-whole_positive m small =
-    let no_sign : sign_at (decimal m) ≡ (false, decimal m) = ap sign_at (sym (append-nil (decimal m))) ∙ sign_none (decimal m) [] (decimal_writes m (omega arith)).0 (some_decimal m (omega arith)) ∙ ap (λ (x : List ℕ). (false, x)) (append-nil (decimal m)) in
-    starts (decimal m) ∙ ap (behind_sign (length (decimal m))) no_sign ∙ whole_behind m (length (decimal m)) false small (omega (arith, whole_short m small))
-
-whole_negative : (m : ℕ) → m < 10 ^ 20 → parts_of (45 ∷ decimal m) ≡ Some (whole_parts true m)
-whole_negative m small = starts (45 ∷ decimal m) ∙ whole_behind m (suc (length (decimal m))) true small (omega (arith, whole_short m small))
-
-whole_from : (text : List ℕ) (m : ℕ) (negative : Bool) → m < 10 ^ 20 → parts_of text ≡ Some (whole_parts negative m) → whole_of text ≡ Some (signed negative m)
-unfolding whole_of
-whole_from text m negative small parts =
-    let finish : Decimal → Option ℤ = λ d. exact (mantissa d) (d.exponent -ℤ pos (length d.fraction)) >>= λ n. cond (nat_lt n (10 ^ 20)) (Some (signed d.negative n)) None in
-    let value : number (decimal m ++ []) * 1 ≡ m = ap (λ (x : List ℕ). number x * 1) (append-nil (decimal m)) ∙ ap (λ k. k * 1) (decimal_writes m (omega arith)).1 ∙ omega arith in
-    let less : nat_lt m (10 ^ 20) ≡ true = grind (arith, nat_tests) in
-    ap (λ (x : Option Decimal). x >>= finish) parts ∙ ap (λ k. cond (nat_lt k (10 ^ 20)) (Some (signed negative k)) None) value ∙ ap (λ b. cond b (Some (signed negative m)) None) less
-
--- each whole number that a NODATA may be
-pub whole_again_wide : (n : ℤ) → unsigned_abs n < 10 ^ 20 → whole_of (signed_decimal n) ≡ Some n
-whole_again_wide (pos n) small = whole_from (decimal n) n false small (whole_positive n small)
-whole_again_wide (negsuc n) small = whole_from (45 ∷ decimal (suc n)) (suc n) true small (whole_negative (suc n) small)
