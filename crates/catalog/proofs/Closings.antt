@@ -3,6 +3,7 @@ use Rattle.std.proofs.Common.{◌≡◌, ◌∙◌, ◌⊎◌, ◌-◌, ◌<◌,
 use Rattle.std.specs.Prelude.{All, slice_get}
 use Rattle.std.proofs.lemmas.Option.{slice_get_within}
 use Rattle.std.proofs.lemmas.List.Elements.{All-cons, All-nil}
+use Rattle.lists_and_answers.specs.Lists.{flattened}
 use Rattle.vrt_profile.specs.Values.{BandValue, SourceValue}
 use Rattle.catalog.specs.declared.kind.Kind.TheVariants as kinds
 use Rattle.catalog.specs.declared.faults.WalkFault.{WalkFault}
@@ -12,7 +13,7 @@ use Rattle.catalog.specs.Mosaics.{sources_of}
 use Rattle.catalog.specs.Outcomes.{IsOutside}
 use Rattle.catalog.specs.Heads.{kind_in}
 use Rattle.catalog.specs.Walk.{Met, number_of, sources_in, visit, visit_sources}
-use Rattle.catalog.specs.Linked.{State, met_of, IsLinked, IsLink, IsLinkOf, IsMosaicAt, IsPath, IsMember, Each, AreRows, Grows, Goes, most, all_of, pushed, closed}
+use Rattle.catalog.specs.Linked.{State, met_of, IsLinked, IsLink, IsLinkOf, IsMosaicAt, IsPath, IsMember, Each, AreRows, Grows, Goes, most, pushed, closed}
 use Rattle.catalog.specs.Walking.{Seen, Visits, IsOpened, Passes, ReachesRows}
 use Rattle.catalog.proofs.States.{grows_trans, grows_pushed, grows_closed, goes_mosaic, stays_open, path_pushed, pushed_at, set_same}
 use Rattle.catalog.proofs.Walking.{failed, fault_is, ok≢err}
@@ -93,7 +94,7 @@ module _ (verify : Bool) (room : ℕ) (name : List ℕ) (a b c : Seen) (old mid 
       pub rows_known : All (λ row. All (λ id. id < length new.links) row) rows
       rows_known = rows_in new o.dataset.head.name o.document.bands rows p.reached.members
 
-      pub rows_low : most new.links (all_of rows) < 16
+      pub rows_low : most new.links (flattened rows) < 16
       rows_low = (let x = p.reached.low in let y = o.some in omega arith)
 
       at : slice_get new.datasets id ≡ Some o.dataset
@@ -107,7 +108,7 @@ module _ (verify : Bool) (room : ℕ) (name : List ℕ) (a b c : Seen) (old mid 
       open_known = slice_get_within new.links id None waits
 
       abbrev last : Link
-      last = record { height = suc (most new.links (all_of rows)); members = rows }
+      last = record { height = suc (most new.links (flattened rows)); members = rows }
 
       link : IsLink new o.dataset last
       link = record {
@@ -142,5 +143,5 @@ module _ (verify : Bool) (room : ℕ) (name : List ℕ) (a b c : Seen) (old mid 
       }
 
       -- its sources were gone through
-      pub visits_closed : (last_state : State) → last_state ≡ closed new id (record { height = suc (most new.links (all_of rows)); members = rows }) → Visits verify room name a c old last_state (Ok id)
+      pub visits_closed : (last_state : State) → last_state ≡ closed new id (record { height = suc (most new.links (flattened rows)); members = rows }) → Visits verify room name a c old last_state (Ok id)
       visits_closed last_state is = subst (λ (s : State). Visits verify room name a c old s (Ok id)) (sym is) closes

@@ -3,11 +3,12 @@ use Rattle.std.proofs.Common.{◌≡◌, ◌∙◌, ◌+◌, ap, sym, subst, ref
 use Rattle.std.specs.Prelude.{All, slice_get, flat_map, max}
 use Rattle.std.proofs.lemmas.Option.{slice_get_within, get_or_from_slice_get}
 use Rattle.std.proofs.lemmas.Slice.Eq.{bytes_eq-Decides}
+use Rattle.lists_and_answers.specs.Lists.{flattened}
 use Rattle.vrt_profile.specs.Values.{SourceValue, BandValue}
 use Rattle.catalog.specs.declared.links.Link.{Link}
 use Rattle.catalog.specs.Drivers.{Dataset}
 use Rattle.catalog.specs.Walk.{number_from, number_of, dataset_named, IsApart}
-use Rattle.catalog.specs.Linked.{State, Grows, IsMember, Each, AreRows, all_of, height_in, height_at, most}
+use Rattle.catalog.specs.Linked.{State, Grows, IsMember, Each, AreRows, height_in, height_at, most}
 
 none≢some : {T : Type 0} {x : T} → None ≡ Some x → ⊥
 none≢some e = true≢false (sym (ap is_some e))
@@ -99,11 +100,11 @@ each_map P Q (a ∷ xs) [] h all = absurd all
 each_map P Q (a ∷ xs) (b ∷ bs) h all = (h a b all.0, each_map P Q xs bs h all.1)
 
 -- the rows of all bands, one behind the other
-pub flat_rows : (st : State) (base : List ℕ) (bands : List BandValue) (rows : List (List ℕ)) → AreRows st base bands rows → Each (IsMember st base) (flat_map (λ (b : BandValue). b.sources) bands) (all_of rows)
+pub flat_rows : (st : State) (base : List ℕ) (bands : List BandValue) (rows : List (List ℕ)) → AreRows st base bands rows → Each (IsMember st base) (flat_map (λ (b : BandValue). b.sources) bands) (flattened rows)
 flat_rows st base [] [] all = tt
 flat_rows st base [] (r ∷ rows) all = absurd all
 flat_rows st base (b ∷ bands) [] all = absurd all
-flat_rows st base (b ∷ bands) (r ∷ rows) all = each_append (IsMember st base) b.sources (flat_map (λ (b : BandValue). b.sources) bands) r (all_of rows) all.0 (flat_rows st base bands rows all.1)
+flat_rows st base (b ∷ bands) (r ∷ rows) all = each_append (IsMember st base) b.sources (flat_map (λ (b : BandValue). b.sources) bands) r (flattened rows) all.0 (flat_rows st base bands rows all.1)
 
 -- heights stay
 

@@ -4,6 +4,7 @@ use Rattle.std.specs.Prelude.{All, max, option_map, ok_or}
 use Rattle.std.specs.Option.{unwrap_or}
 use Rattle.std.proofs.lemmas.List.Elements.{All-cons, All-nil}
 use Rattle.lists_and_answers.specs.Options.{◌>>=◌}
+use Rattle.lists_and_answers.specs.Lists.{flattened}
 use Rattle.vrt_profile.specs.Values.{SourceValue}
 use Rattle.vrt_profile.specs.Resolve.{resolved_text}
 use Rattle.catalog.specs.declared.driver.Content.{Content}
@@ -15,7 +16,7 @@ use Rattle.catalog.specs.Drivers.{Dataset}
 use Rattle.catalog.specs.Mosaics.{sources_of, source_name}
 use Rattle.catalog.specs.Walk.{dataset_named, sources_in, HasMember, IsNoMosaic, IsNested}
 use Rattle.catalog.specs.Links.{greatest, height_step, height_within}
-use Rattle.catalog.specs.Linked.{State, IsMet, IsLinked, IsLinkOf, IsMember, Each, all_of, height_in, height_at, most}
+use Rattle.catalog.specs.Linked.{State, IsMet, IsLinked, IsLinkOf, IsMember, Each, height_in, height_at, most}
 use Rattle.catalog.proofs.Found.{named_at, flat_rows}
 
 AreHigh : State → (Dataset → ℕ) → ℕ → Type 0
@@ -46,7 +47,7 @@ step_is : (st : State) (f : Dataset → ℕ) (name : List ℕ) (c : Content) (l 
 step_is st f name (File h) l height is low high = sym is
 step_is st f name (Mosaic doc) l height is low high =
     let e = is.height in
-    ap suc (greatest_is st f name (sources_of doc) (all_of l.members) height (flat_rows st name doc.bands l.members is.rows) (omega arith) high) ∙ sym is.height
+    ap suc (greatest_is st f name (sources_of doc) (flattened l.members) height (flat_rows st name doc.bands l.members is.rows) (omega arith) high) ∙ sym is.height
 
 -- the height that is kept is that of the definition
 pub height_is : (room : ℕ) (st : State) → IsLinked st → (id : ℕ) (d : Dataset) (l : Link) → IsMet st id d l → l.height ≤ room → height_within room st.datasets d ≡ l.height
@@ -84,7 +85,7 @@ content_nested : (st : State) (P : Dataset → Type 0) (name : List ℕ) (c : Co
 content_nested st P name (File h) l height is low nested = All-nil (HasMember P st.datasets name)
 content_nested st P name (Mosaic doc) l height is low nested =
     let e = is.height in
-    members_nested st P name (sources_of doc) (all_of l.members) height (flat_rows st name doc.bands l.members is.rows) (omega arith) nested
+    members_nested st P name (sources_of doc) (flattened l.members) height (flat_rows st name doc.bands l.members is.rows) (omega arith) nested
 
 content_file : (st : State) (name : List ℕ) (c : Content) (l : Link) → IsLinkOf st name c l → l.height ≤ 0 → IsNoMosaic c
 content_file st name (File h) l is low = tt

@@ -2,6 +2,7 @@
 use Rattle.std.proofs.Common.{◌≡◌, ◌∙◌, ◌<◌, ◌≤◌, ap, subst, refl, ℕ, zero, suc, List, [], ◌∷◌, Option, Some, None, arith}
 use Rattle.std.specs.Prelude.{slice_get, option_and_then}
 use Rattle.lists_and_answers.specs.Options.{◌>>=◌}
+use Rattle.lists_and_answers.specs.Lists.{flattened}
 use Rattle.vrt_profile.specs.Values.{SourceValue, BandValue}
 use Rattle.catalog.specs.declared.driver.Content.{Content}
 use Rattle.catalog.specs.declared.driver.Content.TheVariants.{File, Mosaic}
@@ -9,7 +10,7 @@ use Rattle.catalog.specs.declared.links.Link.{Link}
 use Rattle.catalog.specs.Drivers.{Dataset, document_of}
 use Rattle.catalog.specs.Walk.{number_of}
 use Rattle.catalog.specs.Links.{member_of, source_at, member_at, height_of}
-use Rattle.catalog.specs.Linked.{State, IsMet, IsLinked, IsLinkOf, IsMember, Each, all_of, height_in, height_at, most}
+use Rattle.catalog.specs.Linked.{State, IsMet, IsLinked, IsLinkOf, IsMember, Each, height_in, height_at, most}
 use Rattle.catalog.proofs.Found.{some_is}
 use Rattle.catalog.proofs.Heights.{height_is}
 use Rattle.catalog.proofs.Rows.{most_append}
@@ -36,12 +37,12 @@ low_in links [] k id is = absurd (none≢some is)
 low_in links (i ∷ ids) zero id is = let e : height_at links i ≡ height_at links id = ap (height_at links) (some_is is) in omega arith
 low_in links (i ∷ ids) (suc k) id is = omega (arith, low_in links ids k id is)
 
-low_among : (links : List (Option Link)) (rows : List (List ℕ)) (band k id : ℕ) (row : List ℕ) → slice_get rows band ≡ Some row → slice_get row k ≡ Some id → height_at links id ≤ most links (all_of rows)
+low_among : (links : List (Option Link)) (rows : List (List ℕ)) (band k id : ℕ) (row : List ℕ) → slice_get rows band ≡ Some row → slice_get row k ≡ Some id → height_at links id ≤ most links (flattened rows)
 low_among links [] band k id row is at = absurd (none≢some is)
 low_among links (r ∷ rows) zero k id row is at =
     let here : slice_get r k ≡ Some id = ap (λ (xs : List ℕ). slice_get xs k) (some_is is) ∙ at in
-    omega (arith, most_append links r (all_of rows), low_in links r k id here)
-low_among links (r ∷ rows) (suc band) k id row is at = omega (arith, most_append links r (all_of rows), low_among links rows band k id row is at)
+    omega (arith, most_append links r (flattened rows), low_in links r k id here)
+low_among links (r ∷ rows) (suc band) k id row is at = omega (arith, most_append links r (flattened rows), low_among links rows band k id row is at)
 
 -- what is kept of a source of a mosaic
 pub record IsKept (st : State) (d : Dataset) (l : Link) (band source : ℕ) : Type 0 where

@@ -5,6 +5,7 @@ use Rattle.std.proofs.lemmas.Bool.Decides.{nat_tests}
 use Rattle.std.proofs.lemmas.Grind.{flat_map-append}
 use Rattle.std.proofs.lemmas.List.{take_all, append-nil}
 use Rattle.lists_and_answers.specs.Answers.{Gives, ◌>>=◌}
+use Rattle.lists_and_answers.specs.Lists.{flattened}
 use Rattle.outside.specs.Outside.{Files}
 use Rattle.vrt_profile.specs.Values.{SourceValue, BandValue}
 use Rattle.vrt_profile.specs.Resolve.{resolved_text}
@@ -21,7 +22,7 @@ use Rattle.catalog.specs.Mosaics.{source_name}
 use Rattle.catalog.specs.Outcomes.{IsOutside, IsMemory}
 use Rattle.catalog.specs.Heads.{resolved}
 use Rattle.catalog.specs.Walk.{Met, dataset_named, bands_of, band_named, is_narrow_band, IsWalked, one_more_source, has_band, has_samples, unless_wide, visit, visit_source, visit_sources}
-use Rattle.catalog.specs.Linked.{State, met_of, IsLinked, IsPath, IsMember, Each, Grows, Goes, one_counted, most, all_of, height_at, height_in, IsMosaicAt, HasBand, HasSource}
+use Rattle.catalog.specs.Linked.{State, met_of, IsLinked, IsPath, IsMember, Each, Grows, Goes, one_counted, most, height_at, height_in, IsMosaicAt, HasBand, HasSource}
 use Rattle.catalog.specs.Walking.{Seen, IsPlain, WalksOn, Visits, Passes, Names, Reaches, ReachesRows}
 use Rattle.catalog.proofs.Found.{each_more, each_map, member_stays, most_stays, flat_rows, rows_stay, named_at}
 use Rattle.catalog.proofs.Rows.{most_append}
@@ -284,13 +285,13 @@ from_split bands k b at =
     ap sources_from (item_split bands k b at) ∙ flat_map-append (λ (b : BandValue). b.sources) (take k bands) (b ∷ drop (suc k) bands)
     ∙ sym (append_assoc (sources_from (take k bands)) b.sources (sources_from (drop (suc k) bands)))
 
-all_more : (rows : List (List ℕ)) (row : List ℕ) → all_of (rows ++ row ∷ []) ≡ all_of rows ++ row
-all_more rows row = flat_map-append (λ (r : List ℕ). r) rows (row ∷ []) ∙ ap (λ xs. all_of rows ++ xs) (append-nil row)
+all_more : (rows : List (List ℕ)) (row : List ℕ) → flattened (rows ++ row ∷ []) ≡ flattened rows ++ row
+all_more rows row = flat_map-append (λ (r : List ℕ). r) rows (row ∷ []) ∙ ap (λ xs. flattened rows ++ xs) (append-nil row)
 
 rows_more : (old new : State) (room : ℕ) (base : List ℕ) (bands : List BandValue) (b : BandValue) (rows : List (List ℕ)) (row : List ℕ) → Grows old new → IsLinked new → ReachesRows old room base bands rows → Reaches new room base b.sources row → ReachesRows new room base (bands ++ b ∷ []) (rows ++ row ∷ [])
 rows_more old new room base bands b rows row grows linked before here = record {
   members = each_more (λ (b : BandValue) (row : List ℕ). Each (IsMember new base) b.sources row) bands rows b row (rows_stay old new base bands rows grows linked.apart before.members) here.members;
-  low = (let x = before.low in let y = here.low in omega (arith, ap (most new.links) (all_more rows row), most_append new.links (all_of rows) row, most_stays old new base (sources_from bands) (all_of rows) grows (flat_rows old base bands rows before.members)));
+  low = (let x = before.low in let y = here.low in omega (arith, ap (most new.links) (all_more rows row), most_append new.links (flattened rows) row, most_stays old new base (sources_from bands) (flattened rows) grows (flat_rows old base bands rows before.members)));
 }
 
 module _ (verify : Bool) (room : ℕ) (base : List ℕ) (bands : List BandValue) (a b c : Seen) (old mid new : State) where

@@ -1,6 +1,7 @@
 -- What each call of a walk ensures.
 use Rattle.std.specs.Prelude.{◌≡◌, ◌<◌, ◌≤◌, ◌-◌, ℕ, Bool, List, ◌∷◌, length, Option, Some, None, is_some, IsTrue, Result, Ok, Err, IfOk, OnOk, IfErr}
 use Rattle.lists_and_answers.specs.Answers.{Gives, ◌>>=◌}
+use Rattle.lists_and_answers.specs.Lists.{flattened}
 use Rattle.outside.specs.Outside.{Files}
 use Rattle.outside.specs.Causes.{HasCause}
 use Rattle.vrt_profile.specs.Value.{is_plain}
@@ -17,7 +18,7 @@ use Rattle.catalog.specs.Mosaics.{sources_of}
 use Rattle.catalog.specs.Outcomes.{IsOutside, IsMemory}
 use Rattle.catalog.specs.Heads.{kind_in, resolved, IsOwnFault, OwnsFaults}
 use Rattle.catalog.specs.Walk.{number_of, one_more_source, visit, visit_sources, IsWalked, TellsKinds, WalksUnknown}
-use Rattle.catalog.specs.Linked.{State, met_of, most, all_of, IsLinked, IsMember, Each, AreRows, IsPath, IsLow, Grows, Goes, pushed, one_counted}
+use Rattle.catalog.specs.Linked.{State, met_of, most, IsLinked, IsMember, Each, AreRows, IsPath, IsLow, Grows, Goes, pushed, one_counted}
 
 -- what a folder tells, and how often it was written, was read and has failed
 pub record Seen : Type 0 where
@@ -102,7 +103,7 @@ pub record Reaches (st : State) (room : ℕ) (base : List ℕ) (ss : List Source
 -- and so are those that the sources of all bands name
 pub record ReachesRows (st : State) (room : ℕ) (base : List ℕ) (bands : List BandValue) (rows : List (List ℕ)) : Type 0 where
   pub members : AreRows st base bands rows
-  pub low : most st.links (all_of rows) ≤ room
+  pub low : most st.links (flattened rows) ≤ room
 
 -- a walk through sources of the mosaic with the name `base`, in order
 pub record Passes {T : Type 0} (verify : Bool) (room : ℕ) (base : List ℕ) (ss : List SourceValue) (before after : Seen) (old new : State) (IsReached : T → Type 0) (result : Result T WalkFault) : Type 0 where

@@ -4,12 +4,13 @@ ghost use Rattle.std.specs.Option.{option_or};
 ghost use Rattle.std.specs.BTreeMap.{get_by_text};
 ghost use Rattle.vrt_profile.specs.Values.{BandValue};
 ghost use Rattle.lists_and_answers.specs.Answers.{Gives};
+ghost use Rattle.lists_and_answers.specs.Lists.{flattened};
 ghost use Rattle.catalog.specs.Outcomes.{IsMemory};
 ghost use Rattle.catalog.specs.Drivers.{Dataset as Known};
 ghost use Rattle.catalog.specs.Walking.{IsPlain};
 ghost use Rattle.catalog.specs.Dataset.{band_at};
 ghost use Rattle.catalog.specs.Walk.{is_narrow_band, number_of, one_more_source};
-ghost use Rattle.catalog.specs.Linked.{State, IsLinked, IsHigh, IsDeep, Grows, HasBand, IsMosaicAt, pushed, closed, one_counted, cut_to, height_at, most, all_of, first_above};
+ghost use Rattle.catalog.specs.Linked.{State, IsLinked, IsHigh, IsDeep, Grows, HasBand, IsMosaicAt, pushed, closed, one_counted, cut_to, height_at, most, first_above};
 
 use crate::dataset::Dataset;
 use crate::driver::Content;
@@ -200,8 +201,8 @@ impl Met {
     pub fn close(&mut self, id: u32, members: Items<Members>)
         requires known { id < length self.old.links }
         requires rows { All (λ row. All (λ id. id < length self.old.links) row) members }
-        requires low { most self.old.links (all_of members) < 16 }
-        ensures closed { self.new ≡ closed self.old id (record { height = suc (most self.old.links (all_of members)); members = members }) }
+        requires low { most self.old.links (flattened members) < 16 }
+        ensures closed { self.new ≡ closed self.old id (record { height = suc (most self.old.links (flattened members)); members = members }) }
     {
         let height = self.highest(members.as_slice()) + 1;
         self.links[id as usize] = Some(Link { height, members });
@@ -270,7 +271,7 @@ impl Met {
     #[tactic(auto, using(crate::proofs::Rows::most_rows))]
     pub fn highest(&self, rows: &[Members]) -> u32
         requires known { All (λ row. All (λ id. id < length self.now.links) row) rows.now }
-        ensures highest { result ≡ most self.now.links (all_of rows.now) }
+        ensures highest { result ≡ most self.now.links (flattened rows.now) }
     {
         let mut height = 0;
         for row in rows {
@@ -297,7 +298,7 @@ impl Met {
     #[tactic(auto, using(crate::proofs::Rows::row_passed, crate::proofs::Rows::row_met))]
     fn first_above(&self, rows: &[Members], room: u32) -> Option<u32>
         requires known { All (λ row. All (λ id. id < length self.now.links) row) rows.now }
-        ensures first { result ≡ first_above self.now.links room (all_of rows.now) }
+        ensures first { result ≡ first_above self.now.links room (flattened rows.now) }
     {
         for row in rows {
             if let Some(id) = self.first_above_in(row.as_slice(), room) {

@@ -1,9 +1,10 @@
 use Rattle.std.proofs.Common.{◌≡◌, ◌∙◌, ◌-◌, ◌<◌, ap, sym, subst, ℕ, suc, List, length, Some, arith}
 use Rattle.std.specs.Prelude.{All}
 use Rattle.std.proofs.lemmas.Option.{slice_get_within}
+use Rattle.lists_and_answers.specs.Lists.{flattened}
 use Rattle.catalog.specs.declared.links.Link.{Link}
 use Rattle.catalog.specs.Drivers.{Dataset}
-use Rattle.catalog.specs.Linked.{IsDeep, all_of, first_above}
+use Rattle.catalog.specs.Linked.{IsDeep, first_above}
 use Rattle.catalog.proofs.Found.{some_is}
 use Rattle.catalog.proofs.Again.{deep_here, deep_step, high_there, high_next, high_known}
 use Rattle.catalog.proofs.links.Met.+deepest.Goals as goal
@@ -37,7 +38,7 @@ unreachable-requires-in_default-first_above t c =
     let more = h.high in
     let some = c.if-room-eq0.false in
     let there = high_there c.args.self.now c.requires.linked (c.args.room - 1) c.args.id h.dataset h.link h.met (omega arith) in
-    let first = ap (λ rs. first_above c.args.self.now.links (c.args.room - 1) (all_of rs)) rows in
+    let first = ap (λ rs. first_above c.args.self.now.links (c.args.room - 1) (flattened rs)) rows in
     c.in_default-first_above.not-Some there.0 (c.first_above.ensures.first ∙ sym first ∙ there.1)
 
 pub deepest-requires : goal.deepest-requires
@@ -48,7 +49,7 @@ deepest-requires t c =
     let more = h.high in
     let some = c.if-room-eq0.false in
     let m = c.decreases in
-    let first = ap (λ rs. first_above c.args.self.now.links (c.args.room - 1) (all_of rs)) rows in
+    let first = ap (λ rs. first_above c.args.self.now.links (c.args.room - 1) (flattened rs)) rows in
     (omega arith, (c.requires.linked, high_next c.args.self.now c.requires.linked (c.args.room - 1) c.args.id h.dataset h.link c.in-Some-first_above.next h.met (omega arith) (first ∙ sym c.in-Some-first_above.ensures.first)))
 
 pub returns-clause-deep : goal.returns-clause-deep
@@ -58,7 +59,7 @@ returns-clause-deep t c = λ d at.
     let rows : h.link.members ≡ c.as_slice.result.now = ap (λ (l : Link). l.members) same ∙ sym c.as_slice.ensures.items in
     let more = h.high in
     let some = c.if-room-eq0.false in
-    let first = ap (λ rs. first_above c.args.self.now.links (c.args.room - 1) (all_of rs)) rows in
+    let first = ap (λ rs. first_above c.args.self.now.links (c.args.room - 1) (flattened rs)) rows in
     let deep = deep_step c.args.self.now c.requires.linked (c.args.room - 1) c.args.id h.dataset h.link c.in-Some-first_above.next d.head.name h.met (omega arith) (first ∙ sym c.in-Some-first_above.ensures.first) (c.deepest.ensures.deep d at) in
     let room : suc (c.args.room - 1) ≡ c.args.room = omega arith in
     subst (λ n. IsDeep c.args.self.now n c.args.id d.head.name) room deep
