@@ -33,7 +33,7 @@ plain_own f n b plain is = subst IsPlain is plain
 pub plain_inside : (f : WalkFault) → IsPlain f → f ≡ FolderFault → ⊥
 plain_inside f plain is = subst IsPlain is plain
 
--- steps
+-- walks
 
 pub walks_none : {T : Type 0} (a : Seen) (st : State) (x : T) → IsLinked st → WalksOn 0 a a st st (Ok x)
 walks_none a st x linked = record {
