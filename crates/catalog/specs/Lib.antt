@@ -13,4 +13,4 @@ pub mod Outcomes
 pub mod Linked
 pub mod Listed
 pub mod Scanned
-pub mod Steps
+pub mod Walking

@@ -7,7 +7,7 @@ ghost use Rattle.catalog.specs.Outcomes.{IsOutside};
 ghost use Rattle.catalog.specs.Drivers.{driver_of, document_of};
 ghost use Rattle.catalog.specs.Heads.{OwnsFaults};
 ghost use Rattle.catalog.specs.Drivers.{Dataset as Known};
-ghost use Rattle.catalog.specs.Links.{source_at, target_at, height_of};
+ghost use Rattle.catalog.specs.Links.{source_at, member_at, height_of};
 ghost use Rattle.catalog.specs.Walk.{number_of, walked, WalksUnknown, IsCatalog, IsWalked};
 
 use crate::dataset::Dataset;
@@ -104,16 +104,16 @@ impl Catalog {
 
     /// The number of the dataset that a source of a mosaic names, by its band and its number in the
     /// band, both counted from 0. It is nested less deep than the mosaic.
-    pub fn target(&self, id: u32, band: u32, source: u32) -> u32
+    pub fn member(&self, id: u32, band: u32, source: u32) -> u32
         requires there { IsTrue (is_some (option_and_then (λ d. source_at d band source) (slice_get self.now id))) }
-        ensures target { option_and_then (λ d. target_at self.now d band source) (slice_get self.now id) ≡ Some result }
+        ensures member { option_and_then (λ d. member_at self.now d band source) (slice_get self.now id) ≡ Some result }
         ensures known { result < length self.now }
         ensures below { (d t : Known) → slice_get self.now id ≡ Some d → slice_get self.now result ≡ Some t → height_of self.now t < height_of self.now d }
     {
         let Some(link) = self.met.link(id) else {
             unreachable!();
         };
-        *link.targets.get(band as usize).get(source as usize)
+        *link.members.get(band as usize).get(source as usize)
     }
 
     /// How deep a dataset is nested: 0 for a file, 1 for a mosaic without sources, else one more than the

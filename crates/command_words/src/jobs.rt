@@ -7,12 +7,13 @@ ghost use Rattle.command_words.specs.Jobs.{point_of, form_of, raw_in, cell_at, w
 ghost use Rattle.command_words.specs.Words.{IsMemory};
 
 use crate::command::Job;
-use crate::numbers::{AskedExtent, AskedNodata, AskedResolution, AskedView, BandNumber, Side};
+use crate::numbers::{AskedExtent, AskedNodata, AskedResolution, AskedView, Side};
 use crate::options::Tool;
 use crate::spoken::{MosaicWanted, OutFormat, ResolutionWord, Spoken, Wanted, WordFault};
 use buildvrt::{BuildOptions, Extent, Resolution};
 use catalog::NodataWord;
 use esri_hdr::Layout;
+use geotransform::BandNumber;
 use input_points::Position;
 use location_report::Form;
 use outside::{Ext, Name, Names};

@@ -23,7 +23,7 @@ use crate::writing::Writing;
 use error_lines::Fault;
 use geotransform::Sample;
 use lane_teams::lines_for;
-use outside::{Folder, Sink, Steps};
+use outside::{Counter, Folder, Sink};
 use shared_lines::{Lines, Scene};
 use std::marker::Brand;
 use std::sync::ledger::{Blank, Ledger};
@@ -56,7 +56,7 @@ fn copier_for<'a, F: Folder, L: Ledger, W: Ledger, S: Scene>(
     ensures memory { IfErr result (λ f. f ≡ Fault.Memory) }
 {
     let reader = StripReader::new(translation, writing.workers, writing.blocks, loads)?;
-    let writes = Steps::open(writes);
+    let writes = Counter::open(writes);
     let rows = strip_height(translation, writing.workers, writing.blocks);
     let ahead = writing.workers.get() > 1;
     let quiet = writing.quiet;
@@ -137,7 +137,7 @@ fn publish<F: Folder, W: Ledger>(
     translation: &Translation,
     folder: &mut F,
     target: Target<F>,
-    writes: &mut Steps<W>,
+    writes: &mut Counter<W>,
 ) -> Result<(), Fault>
     requires filled { IsFilled (F.names folder.old) translation.now.cat translation.now.id translation.now.plan target translation.now.plan.size.h translation.now.plan.size.h 0 }
     ensures goes { (m : Files) (d : Dataset) → F.names folder.old ≡ Some m → slice_get translation.now.cat translation.now.id ≡ Some d → (text : Option (List ℕ)) → Goes (all_done (publishes (files_by (output_of translation.now.plan) target.name (raster_of m d translation.now.plan)))) m result (F.names folder.new) text text }

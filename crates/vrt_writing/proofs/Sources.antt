@@ -18,7 +18,8 @@ use Rattle.vrt_profile.specs.declared.rectangle.LutPair.{LutPair}
 use Rattle.vrt_markup.specs.declared.fault.VrtFault.{VrtFault}
 use Rattle.vrt_markup.specs.declared.fault.VrtFault.TheVariants.{MissingPart, BadNumber, Limit}
 use Rattle.vrt_profile.proofs.KeptTexts.{is_text}
-use Rattle.vrt_writing.proofs.Places.{micro_again, part_again, count_again, whole_again_wide}
+use Rattle.geotransform.proofs.RoundTrip.{whole_again_wide}
+use Rattle.vrt_writing.proofs.Places.{micro_again, part_again, count_again}
 use Rattle.vrt_writing.proofs.Figures.{AreFigures, AreMarks, micro_figures, part_figures, decimal_figures, signed_figures, figures_marks, escaped_same, figures_value, trim_same}
 use Rattle.vrt_writing.proofs.Relisted.{lut_again, lut_marks}
 use Rattle.vrt_writing.proofs.Openings.{IsOpening, tag_of}

@@ -9,7 +9,7 @@ use crate::TargetFault;
 use crate::rows::RowStore;
 use crate::store::Store;
 use geotransform::{PixelType, Rect, Sample, Size, holds};
-use outside::{Folder, Steps};
+use outside::{Counter, Folder};
 use std::alloc::Global;
 use std::marker::Model;
 use std::sync::ledger::Ledger;
@@ -99,7 +99,7 @@ impl<F: Folder> Sheet<F> {
         band: u32,
         rect: Rect,
         samples: &[Sample],
-        writes: &mut Steps<L>,
+        writes: &mut Counter<L>,
     ) -> Result<(), TargetFault>
         requires wide { 0 < rect.w }
         requires high { 0 < rect.h }
@@ -127,7 +127,7 @@ impl<F: Folder> Sheet<F> {
     pub(crate) fn finish<L: Ledger>(
         &mut self,
         folder: &mut F,
-        writes: &mut Steps<L>,
+        writes: &mut Counter<L>,
     ) -> Result<(), TargetFault>
         requires sound { IsSoundOn self.old.output self.old }
         requires right { IsRightOn self.old.output (F.names folder.old) self.old }

@@ -16,7 +16,7 @@ use crate::unwritten::Written;
 use band_blocks::{Block, BlockKey};
 use block_cache::Pool;
 use geotransform::{PixelType, Rect, Sample};
-use outside::{Folder, Steps};
+use outside::{Counter, Folder};
 use std::alloc::{AllocError, Global};
 use std::sync::ledger::Ledger;
 
@@ -77,7 +77,7 @@ impl<F: Folder> Store<F> {
         folder: &mut F,
         key: BlockKey,
         block: &Block,
-        writes: &mut Steps<L>,
+        writes: &mut Counter<L>,
     ) -> Result<(), TargetFault>
         requires line { IsLine self.old.writer key block.now }
         requires long { F.draft_len self.old.draft ≡ needed_of self.old.writer }
@@ -105,7 +105,7 @@ impl<F: Folder> Store<F> {
         folder: &mut F,
         key: BlockKey,
         block: Block,
-        writes: &mut Steps<L>,
+        writes: &mut Counter<L>,
     ) -> Result<(), TargetFault>
         requires line { IsLine self.old.writer key block }
         requires long { F.draft_len self.old.draft ≡ needed_of self.old.writer }
@@ -130,7 +130,7 @@ impl<F: Folder> Store<F> {
         folder: &mut F,
         key: BlockKey,
         block: Block,
-        writes: &mut Steps<L>,
+        writes: &mut Counter<L>,
     ) -> Result<(), TargetFault>
         requires sound { IsSound self.old.writer self.old.pool }
         requires long { F.draft_len self.old.draft ≡ needed_of self.old.writer }
@@ -230,7 +230,7 @@ impl<F: Folder> Store<F> {
         folder: &mut F,
         spot: Spot,
         samples: &[Sample],
-        writes: &mut Steps<L>,
+        writes: &mut Counter<L>,
     ) -> Result<(), TargetFault>
         requires sound { IsSound self.old.writer self.old.pool }
         requires long { F.draft_len self.old.draft ≡ needed_of self.old.writer }
@@ -265,7 +265,7 @@ impl<F: Folder> Store<F> {
         band: u32,
         rect: Rect,
         samples: &[Sample],
-        writes: &mut Steps<L>,
+        writes: &mut Counter<L>,
     ) -> Result<(), TargetFault>
         requires rows { (cut_of self.old.writer).by_columns ≡ false }
         requires wide { 0 < rect.w }
@@ -307,7 +307,7 @@ impl<F: Folder> Store<F> {
         band: u32,
         rect: Rect,
         samples: &[Sample],
-        writes: &mut Steps<L>,
+        writes: &mut Counter<L>,
     ) -> Result<(), TargetFault>
         requires columns { (cut_of self.old.writer).by_columns ≡ true }
         requires sound { IsSound self.old.writer self.old.pool }
@@ -352,7 +352,7 @@ impl<F: Folder> Store<F> {
         band: u32,
         rect: Rect,
         samples: &[Sample],
-        writes: &mut Steps<L>,
+        writes: &mut Counter<L>,
     ) -> Result<(), TargetFault>
         requires wide { 0 < rect.w }
         requires high { 0 < rect.h }
@@ -381,7 +381,7 @@ impl<F: Folder> Store<F> {
     pub(crate) fn flush<L: Ledger>(
         &mut self,
         folder: &mut F,
-        writes: &mut Steps<L>,
+        writes: &mut Counter<L>,
     ) -> Result<(), TargetFault>
         requires sound { IsSound self.old.writer self.old.pool }
         requires long { F.draft_len self.old.draft ≡ needed_of self.old.writer }

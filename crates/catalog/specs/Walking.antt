@@ -1,6 +1,7 @@
--- What each step of a walk ensures.
+-- What each call of a walk ensures.
 use Rattle.std.specs.Prelude.{◌≡◌, ◌<◌, ◌≤◌, ◌-◌, ℕ, Bool, List, ◌∷◌, length, Option, Some, None, is_some, IsTrue, Result, Ok, Err, IfOk, OnOk, IfErr}
 use Rattle.lists_and_answers.specs.Answers.{Gives, ◌>>=◌}
+use Rattle.lists_and_answers.specs.Lists.{flattened}
 use Rattle.outside.specs.Outside.{Files}
 use Rattle.outside.specs.Causes.{HasCause}
 use Rattle.vrt_profile.specs.Value.{is_plain}
@@ -17,7 +18,7 @@ use Rattle.catalog.specs.Mosaics.{sources_of}
 use Rattle.catalog.specs.Outcomes.{IsOutside, IsMemory}
 use Rattle.catalog.specs.Heads.{kind_in, resolved, IsOwnFault, OwnsFaults}
 use Rattle.catalog.specs.Walk.{number_of, one_more_source, visit, visit_sources, IsWalked, TellsKinds, WalksUnknown}
-use Rattle.catalog.specs.Linked.{State, met_of, most, all_of, IsLinked, IsTarget, Each, AreRows, IsPath, IsLow, Grows, Goes, pushed, one_counted}
+use Rattle.catalog.specs.Linked.{State, met_of, most, IsLinked, IsMember, Each, AreRows, IsPath, IsLow, Grows, Goes, pushed, one_counted}
 
 -- what a folder tells, and how often it was written, was read and has failed
 pub record Seen : Type 0 where
@@ -44,7 +45,7 @@ IsPlain Memory = Unit {0}
 
 -- What was met stays, after an answer the walk went on through so many sources, and the folder is as it was but for its
 -- counts.
-pub record Steps {T : Type 0} (n : ℕ) (before after : Seen) (old new : State) (result : Result T WalkFault) : Type 0 where
+pub record WalksOn {T : Type 0} (n : ℕ) (before after : Seen) (old new : State) (result : Result T WalkFault) : Type 0 where
   pub grows : Grows old new
   pub goes : OnOk result (Goes n old new)
   pub read : (m : Files) → before.names ≡ Some m → IsWalked m old.datasets → OnOk result (IsWalked m new.datasets)
@@ -61,7 +62,7 @@ pub record IsFree (before after : Seen) : Type 0 where
 
 -- a visit of a name, with room for so many mosaics more on the path that leads to it
 pub record Visits (verify : Bool) (room : ℕ) (name : List ℕ) (before after : Seen) (old new : State) (result : Result ℕ WalkFault) : Type 0 where
-  pub steps : Steps 0 before after old new result
+  pub walks : WalksOn 0 before after old new result
   pub told : (m : Files) → before.names ≡ Some m → (path : List (List ℕ)) → IsPath old path → Gives IsOutside (λ id. met_of new) result (visit m verify room path (met_of old) name)
   pub number : IfOk result (λ id. number_of new.datasets name ≡ Some id)
   pub low : IfOk result (λ id. IsLow new id room)
@@ -96,17 +97,17 @@ Meets verify room name before after old new (Err fault) = Visits verify room nam
 
 -- the datasets that sources name were met whole, and aren't higher than this
 pub record Reaches (st : State) (room : ℕ) (base : List ℕ) (ss : List SourceValue) (row : List ℕ) : Type 0 where
-  pub targets : Each (IsTarget st base) ss row
+  pub members : Each (IsMember st base) ss row
   pub low : most st.links row ≤ room
 
 -- and so are those that the sources of all bands name
 pub record ReachesRows (st : State) (room : ℕ) (base : List ℕ) (bands : List BandValue) (rows : List (List ℕ)) : Type 0 where
-  pub targets : AreRows st base bands rows
-  pub low : most st.links (all_of rows) ≤ room
+  pub members : AreRows st base bands rows
+  pub low : most st.links (flattened rows) ≤ room
 
 -- a walk through sources of the mosaic with the name `base`, in order
 pub record Passes {T : Type 0} (verify : Bool) (room : ℕ) (base : List ℕ) (ss : List SourceValue) (before after : Seen) (old new : State) (IsReached : T → Type 0) (result : Result T WalkFault) : Type 0 where
-  pub steps : Steps (length ss) before after old new result
+  pub walks : WalksOn (length ss) before after old new result
   pub told : (m : Files) → before.names ≡ Some m → (path : List (List ℕ)) → IsPath old path → Gives IsOutside (λ t. met_of new) result (visit_sources (λ a n. visit m verify room path a n) base (met_of old) ss)
   pub reached : IfOk result IsReached
 

@@ -1,4 +1,4 @@
--- What the steps of a walk ensure, one behind the other.
+-- What the calls of a walk ensure, one behind the other.
 use Rattle.std.proofs.Common.{◌≡◌, ◌∙◌, ◌⊎◌, inl, ◌+◌, ◌≤◌, ap, sym, subst, refl, ℕ, List, [], ◌++◌, length, Bool, Result, Ok, Err, arith, length-append}
 use Rattle.std.specs.Prelude.{OnOk}
 use Rattle.lists_and_answers.specs.Answers.{◌>>=◌}
@@ -11,7 +11,7 @@ use Rattle.catalog.specs.Heads.{IsOwnFault}
 use Rattle.catalog.specs.Outcomes.{IsOutside}
 use Rattle.catalog.specs.Walk.{Met, visit, visit_sources}
 use Rattle.catalog.specs.Linked.{State, met_of, IsLinked, Grows, Goes}
-use Rattle.catalog.specs.Steps.{Seen, IsPlain, Steps, Passes}
+use Rattle.catalog.specs.Walking.{Seen, IsPlain, WalksOn, Passes}
 use Rattle.catalog.proofs.States.{grows_refl, grows_trans, goes_trans, goes_none}
 use Rattle.catalog.proofs.Visits.{sources_append, still_refused}
 
@@ -33,10 +33,10 @@ plain_own f n b plain is = subst IsPlain is plain
 pub plain_inside : (f : WalkFault) → IsPlain f → f ≡ FolderFault → ⊥
 plain_inside f plain is = subst IsPlain is plain
 
--- steps
+-- walks
 
-pub steps_none : {T : Type 0} (a : Seen) (st : State) (x : T) → IsLinked st → Steps 0 a a st st (Ok x)
-steps_none a st x linked = record {
+pub walks_none : {T : Type 0} (a : Seen) (st : State) (x : T) → IsLinked st → WalksOn 0 a a st st (Ok x)
+walks_none a st x linked = record {
   grows = grows_refl st;
   goes = goes_none st linked;
   read = λ m told walked. walked;
@@ -48,8 +48,8 @@ steps_none a st x linked = record {
 }
 
 -- a plain refusal, where what was met stays
-pub steps_plain : (T : Type 0) (n : ℕ) (a : Seen) (old new : State) (f : WalkFault) → Grows old new → IsPlain f → Steps n a a old new (failed T f)
-steps_plain T n a old new f grows plain = record {
+pub walks_plain : (T : Type 0) (n : ℕ) (a : Seen) (old new : State) (f : WalkFault) → Grows old new → IsPlain f → WalksOn n a a old new (failed T f)
+walks_plain T n a old new f grows plain = record {
   grows = grows;
   goes = tt;
   read = λ m told walked. tt;
@@ -61,8 +61,8 @@ steps_plain T n a old new f grows plain = record {
 }
 
 -- the same refusal of another answer, and after other counts of sources
-pub steps_err : (A B : Type 0) (n k : ℕ) (a b : Seen) (old new : State) (f : WalkFault) → Steps n a b old new (failed A f) → Steps k a b old new (failed B f)
-steps_err A B n k a b old new f s = record {
+pub walks_err : (A B : Type 0) (n k : ℕ) (a b : Seen) (old new : State) (f : WalkFault) → WalksOn n a b old new (failed A f) → WalksOn k a b old new (failed B f)
+walks_err A B n k a b old new f s = record {
   grows = s.grows;
   goes = tt;
   read = λ m told walked. tt;
@@ -76,8 +76,8 @@ steps_err A B n k a b old new f s = record {
 rose_later : (a b c : ℕ) → a ≤ b → Rose b c → Rose a c
 rose_later a b c later rose = omega arith
 
-pub steps_then : (A B : Type 0) (n m k : ℕ) (a b c : Seen) (old mid new : State) (x : A) (r : Result B WalkFault) → n + m ≡ k → Steps n a b old mid (Ok x) → Steps m b c mid new r → Steps k a c old new r
-steps_then A B n m k a b c old mid new x r sum before next = record {
+pub walks_then : (A B : Type 0) (n m k : ℕ) (a b c : Seen) (old mid new : State) (x : A) (r : Result B WalkFault) → n + m ≡ k → WalksOn n a b old mid (Ok x) → WalksOn m b c mid new r → WalksOn k a c old new r
+walks_then A B n m k a b c old mid new x r sum before next = record {
   grows = grows_trans old mid new before.grows next.grows;
   goes = goes_on r next.goes;
   read = λ f told walked. next.read f (before.names ∙ told) (before.read f told walked);
@@ -99,12 +99,12 @@ steps_then A B n m k a b c old mid new x r sum before next = record {
 
 module _ (verify : Bool) (room : ℕ) (base : List ℕ) where
   pub passes_none : {T : Type 0} (a : Seen) (st : State) (P : T → Type 0) (x : T) → IsLinked st → P x → Passes verify room base [] a a st st P (Ok x)
-  passes_none a st P x linked reached = record { steps = steps_none a st x linked; told = λ m told path is. refl; reached = reached }
+  passes_none a st P x linked reached = record { walks = walks_none a st x linked; told = λ m told path is. refl; reached = reached }
 
   -- where the walk stopped, the sources behind don't count
   pub passes_stop : (A B : Type 0) (xs ys : List SourceValue) (a b : Seen) (old new : State) (P : A → Type 0) (Q : B → Type 0) (f : WalkFault) → Passes verify room base xs a b old new P (Err f) → Passes verify room base (xs ++ ys) a b old new Q (Err f)
   passes_stop A B xs ys a b old new P Q f p = record {
-    steps = steps_err A B (length xs) (length (xs ++ ys)) a b old new f p.steps;
+    walks = walks_err A B (length xs) (length (xs ++ ys)) a b old new f p.walks;
     told = λ m told path is.
         subst (λ (r : Result Met WalkFault). IsOutside f ⊎ (r ≡ Err f)) (sym (sources_append (λ e n. visit m verify room path e n) base (met_of old) xs ys))
         (still_refused (visit_sources (λ e n. visit m verify room path e n) base (met_of old) xs) (λ e. visit_sources (λ e n. visit m verify room path e n) base e ys) f (p.told m told path is));
@@ -114,39 +114,39 @@ module _ (verify : Bool) (room : ℕ) (base : List ℕ) where
   -- one walk behind the other
   pub passes_then : (A B C : Type 0) (xs ys : List SourceValue) (a b c : Seen) (old mid new : State) (P : A → Type 0) (Q : B → Type 0) (R : C → Type 0) (x : A) (y : B) (z : C) → Passes verify room base xs a b old mid P (Ok x) → Passes verify room base ys b c mid new Q (Ok y) → R z → Passes verify room base (xs ++ ys) a c old new R (Ok z)
   passes_then A B C xs ys a b c old mid new P Q R x y z before next reached = record {
-    steps = turned (steps_then A B (length xs) (length ys) (length (xs ++ ys)) a b c old mid new x (Ok y) (sym (length-append xs ys)) before.steps next.steps);
+    walks = turned (walks_then A B (length xs) (length ys) (length (xs ++ ys)) a b c old mid new x (Ok y) (sym (length-append xs ys)) before.walks next.walks);
     told = λ m told path is.
         sources_append (λ e n. visit m verify room path e n) base (met_of old) xs ys
         ∙ ap (λ r. r >>= λ e. visit_sources (λ e n. visit m verify room path e n) base e ys) (before.told m told path is)
-        ∙ next.told m (before.steps.names ∙ told) path (λ name. is name ∙ before.steps.goes.same_open name);
+        ∙ next.told m (before.walks.names ∙ told) path (λ name. is name ∙ before.walks.goes.same_open name);
     reached = reached;
   }
     where
-      turned : Steps (length (xs ++ ys)) a c old new (Ok y) → Steps (length (xs ++ ys)) a c old new (Ok z)
+      turned : WalksOn (length (xs ++ ys)) a c old new (Ok y) → WalksOn (length (xs ++ ys)) a c old new (Ok z)
       turned s = record { grows = s.grows; goes = s.goes; read = s.read; known = λ n is. absurd (ok≢err is); own = λ n b is. absurd (ok≢err is); names = s.names; writes = s.writes; cause = record { later = s.cause.later; failed = λ is. absurd (ok≢err is) } }
 
   pub passes_refused : (A B C : Type 0) (xs ys : List SourceValue) (a b c : Seen) (old mid new : State) (P : A → Type 0) (Q : B → Type 0) (R : C → Type 0) (x : A) (f : WalkFault) → Passes verify room base xs a b old mid P (Ok x) → Passes verify room base ys b c mid new Q (Err f) → Passes verify room base (xs ++ ys) a c old new R (Err f)
   passes_refused A B C xs ys a b c old mid new P Q R x f before next = record {
-    steps = steps_err B C (length (xs ++ ys)) (length (xs ++ ys)) a c old new f (steps_then A B (length xs) (length ys) (length (xs ++ ys)) a b c old mid new x (Err f) (sym (length-append xs ys)) before.steps next.steps);
+    walks = walks_err B C (length (xs ++ ys)) (length (xs ++ ys)) a c old new f (walks_then A B (length xs) (length ys) (length (xs ++ ys)) a b c old mid new x (Err f) (sym (length-append xs ys)) before.walks next.walks);
     told = λ m told path is.
         subst (λ (r : Result Met WalkFault). IsOutside f ⊎ (r ≡ Err f))
         (sym (sources_append (λ e n. visit m verify room path e n) base (met_of old) xs ys ∙ ap (λ r. r >>= λ e. visit_sources (λ e n. visit m verify room path e n) base e ys) (before.told m told path is)))
-        (next.told m (before.steps.names ∙ told) path (λ name. is name ∙ before.steps.goes.same_open name));
+        (next.told m (before.walks.names ∙ told) path (λ name. is name ∙ before.walks.goes.same_open name));
     reached = tt;
   }
 
   -- memory may be refused at any time
   pub passes_memory : (A B : Type 0) (xs ys : List SourceValue) (a b : Seen) (old new : State) (P : A → Type 0) (Q : B → Type 0) (x : A) (f : WalkFault) → f ≡ Memory → Passes verify room base xs a b old new P (Ok x) → Passes verify room base ys a b old new Q (Err f)
   passes_memory A B xs ys a b old new P Q x f free p = record {
-    steps = record {
-      grows = p.steps.grows;
+    walks = record {
+      grows = p.walks.grows;
       goes = tt;
       read = λ m told walked. tt;
       known = λ n is. absurd (plain_known f n plain (fault_is B f (NotRecognized n) is));
       own = λ n y is. plain_own f n y plain (fault_is B f (Malformed n y) is);
-      names = p.steps.names;
-      writes = p.steps.writes;
-      cause = record { later = p.steps.cause.later; failed = λ is. absurd (plain_inside f plain (fault_is B f FolderFault is)) };
+      names = p.walks.names;
+      writes = p.walks.writes;
+      cause = record { later = p.walks.cause.later; failed = λ is. absurd (plain_inside f plain (fault_is B f FolderFault is)) };
     };
     told = λ m told path is. inl (subst IsOutside (sym free) tt);
     reached = tt;

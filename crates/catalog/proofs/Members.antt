@@ -2,14 +2,15 @@
 use Rattle.std.proofs.Common.{◌≡◌, ◌∙◌, ◌<◌, ◌≤◌, ap, subst, refl, ℕ, zero, suc, List, [], ◌∷◌, Option, Some, None, arith}
 use Rattle.std.specs.Prelude.{slice_get, option_and_then}
 use Rattle.lists_and_answers.specs.Options.{◌>>=◌}
+use Rattle.lists_and_answers.specs.Lists.{flattened}
 use Rattle.vrt_profile.specs.Values.{SourceValue, BandValue}
 use Rattle.catalog.specs.declared.driver.Content.{Content}
 use Rattle.catalog.specs.declared.driver.Content.TheVariants.{File, Mosaic}
 use Rattle.catalog.specs.declared.links.Link.{Link}
 use Rattle.catalog.specs.Drivers.{Dataset, document_of}
 use Rattle.catalog.specs.Walk.{number_of}
-use Rattle.catalog.specs.Links.{target_of, source_at, target_at, height_of}
-use Rattle.catalog.specs.Linked.{State, IsMet, IsLinked, IsLinkOf, IsTarget, Each, all_of, height_in, height_at, most}
+use Rattle.catalog.specs.Links.{member_of, source_at, member_at, height_of}
+use Rattle.catalog.specs.Linked.{State, IsMet, IsLinked, IsLinkOf, IsMember, Each, height_in, height_at, most}
 use Rattle.catalog.proofs.Found.{some_is}
 use Rattle.catalog.proofs.Heights.{height_is}
 use Rattle.catalog.proofs.Rows.{most_append}
@@ -36,22 +37,22 @@ low_in links [] k id is = absurd (none≢some is)
 low_in links (i ∷ ids) zero id is = let e : height_at links i ≡ height_at links id = ap (height_at links) (some_is is) in omega arith
 low_in links (i ∷ ids) (suc k) id is = omega (arith, low_in links ids k id is)
 
-low_among : (links : List (Option Link)) (rows : List (List ℕ)) (band k id : ℕ) (row : List ℕ) → slice_get rows band ≡ Some row → slice_get row k ≡ Some id → height_at links id ≤ most links (all_of rows)
+low_among : (links : List (Option Link)) (rows : List (List ℕ)) (band k id : ℕ) (row : List ℕ) → slice_get rows band ≡ Some row → slice_get row k ≡ Some id → height_at links id ≤ most links (flattened rows)
 low_among links [] band k id row is at = absurd (none≢some is)
 low_among links (r ∷ rows) zero k id row is at =
     let here : slice_get r k ≡ Some id = ap (λ (xs : List ℕ). slice_get xs k) (some_is is) ∙ at in
-    omega (arith, most_append links r (all_of rows), low_in links r k id here)
-low_among links (r ∷ rows) (suc band) k id row is at = omega (arith, most_append links r (all_of rows), low_among links rows band k id row is at)
+    omega (arith, most_append links r (flattened rows), low_in links r k id here)
+low_among links (r ∷ rows) (suc band) k id row is at = omega (arith, most_append links r (flattened rows), low_among links rows band k id row is at)
 
 -- what is kept of a source of a mosaic
 pub record IsKept (st : State) (d : Dataset) (l : Link) (band source : ℕ) : Type 0 where
   pub value : SourceValue
   pub row : List ℕ
   pub id : ℕ
-  pub row_at : slice_get l.targets band ≡ Some row
+  pub row_at : slice_get l.members band ≡ Some row
   pub id_at : slice_get row source ≡ Some id
-  pub target : target_at st.datasets d band source ≡ Some id
-  pub fits : IsTarget st d.head.name value id
+  pub member : member_at st.datasets d band source ≡ Some id
+  pub fits : IsMember st d.head.name value id
   pub falls : height_at st.links id < l.height
 
 kept_in : (st : State) (d : Dataset) (l : Link) (band source : ℕ) (s : SourceValue) (c : Content) → d.content ≡ c → IsLinkOf st d.head.name c l → (document_of c >>= λ doc. slice_get doc.bands band >>= λ b. slice_get b.sources source) ≡ Some s → IsKept st d l band source
@@ -61,9 +62,9 @@ kept_in st d l band source s (Mosaic doc) e link is = by_band (slice_get doc.ban
     by_band : (o : Option BandValue) → slice_get doc.bands band ≡ o → (o >>= λ b. slice_get b.sources source) ≡ Some s → IsKept st d l band source
     by_band None none at = absurd (none≢some at)
     by_band (Some b) there at =
-        let row = goes_with (λ (b : BandValue) (row : List ℕ). Each (IsTarget st d.head.name) b.sources row) doc.bands l.targets band b link.rows there in
-        let id = goes_with (IsTarget st d.head.name) b.sources row.item source s row.fits at in
-        let low = low_among st.links l.targets band source id.item row.item row.at id.at in
+        let row = goes_with (λ (b : BandValue) (row : List ℕ). Each (IsMember st d.head.name) b.sources row) doc.bands l.members band b link.rows there in
+        let id = goes_with (IsMember st d.head.name) b.sources row.item source s row.fits at in
+        let low = low_among st.links l.members band source id.item row.item row.at id.at in
         let height = link.height in
         let found : source_at d band source ≡ Some s = ap (λ c. document_of c >>= λ doc. slice_get doc.bands band >>= λ b. slice_get b.sources source) e ∙ ap (λ o. o >>= λ b. slice_get b.sources source) there ∙ at in
         record {
@@ -72,7 +73,7 @@ kept_in st d l band source s (Mosaic doc) e link is = by_band (slice_get doc.ban
           id = id.item;
           row_at = row.at;
           id_at = id.at;
-          target = ap (λ o. o >>= λ s. target_of st.datasets d.head.name s) found ∙ ap (option_and_then (number_of st.datasets)) id.fits.resolves ∙ id.fits.number;
+          member = ap (λ o. o >>= λ s. member_of st.datasets d.head.name s) found ∙ ap (option_and_then (number_of st.datasets)) id.fits.resolves ∙ id.fits.number;
           fits = id.fits;
           falls = omega arith;
         }
