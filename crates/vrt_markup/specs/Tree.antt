@@ -43,12 +43,11 @@ pub record Root : Type 0 where
   pub tag : Tag
   pub rest : List ℕ
 
+-- Where `space` ends no comment stands in front and no run, since it goes on behind a comment and a blank run, and
+-- refuses another run. So the root's tag stands there, or what is no item, or an end tag.
 abbrev pub root_item : ℕ → List ℕ → Item → Result Root VrtFault
 root_item total bytes (open_tag tag rest) = Ok (record { place = total - length bytes; tag = tag; rest = rest })
-root_item total bytes bad = Err (BadText (total - length bytes))
-root_item total bytes (comment rest) = Err (BadText (total - length bytes))
-root_item total bytes (run raw rest) = Err (BadText (total - length bytes))
-root_item total bytes (close_tag name rest) = Err (BadText (total - length bytes))
+root_item total bytes other = Err (BadText (total - length bytes))
 
 -- the same behind comments and white space
 abbrev pub root_behind : ℕ → List ℕ → Result Root VrtFault
