@@ -3,7 +3,8 @@ ghost use Rattle.std.specs.Prelude.{◌≡◌, ◌<◌, ◌≤◌, ◌-◌, ◌^
 ghost use Rattle.std.specs.Option.{option_map, unwrap_or};
 ghost use Rattle.vrt_markup.specs.Forest.{inner, read_as, text_of, child_of};
 ghost use Rattle.vrt_profile.specs.Means as means;
-ghost use Rattle.vrt_profile.specs.Means.{flag_in, flag_by, file_by, file_of, source_band_by, nodata_by, scale_text, lut_by, with_file, number_parts, source_step, no_parts, is_like, is_near, source_end, source_by, source_of, value_in};
+ghost use Rattle.vrt_profile.specs.Means.{flag_in, flag_by, file_of, source_band_by, nodata_by, scale_text, lut_by, with_file, number_parts, source_step, no_parts, is_like, is_near, source_end, source_of, value_in};
+ghost use Rattle.vrt_profile.specs.Seen.{file_by, source_by};
 ghost use Rattle.vrt_profile.specs.Values.{IsRectangle, IsLut};
 ghost use Rattle.vrt_markup.specs.Views.{tag_view};
 ghost use Rattle.vrt_markup.specs.Kept.{Gives, seen, kept_of};
