@@ -5,10 +5,10 @@ ghost use Rattle.std.specs.Thread.{IsSend, IsSync};
 ghost use Rattle.outside.specs.Streams.{Gets, GetsPart};
 ghost use Rattle.lane_teams.specs.Ready.{AreLanesReady};
 ghost use Rattle.strip_copies.specs.Copies.{IsRoomFor, IsTranslation};
+ghost use Rattle.error_lines.specs.Progress.{progress};
 ghost use Rattle.output_copies.specs.Ahead.{MayBeRead, MayBeWritten, WereRead, WereWritten};
 ghost use Rattle.output_copies.specs.Copying.{spoken, IsFilled, MayEnd, Tells};
 ghost use Rattle.output_copies.specs.Parts.{AreBehind, ArePart, BeginsWith};
-ghost use Rattle.output_copies.specs.Steps.{progress};
 
 use crate::calls::at_once;
 use crate::copying::Copier;

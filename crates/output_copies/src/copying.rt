@@ -4,9 +4,9 @@ ghost use Rattle.outside.specs.Outside.{Files};
 ghost use Rattle.outside.specs.Streams.{Gets, GetsPart};
 ghost use Rattle.lane_teams.specs.Ready.{AreLanesReady};
 ghost use Rattle.strip_copies.specs.Copies.{IsRoomFor, IsTranslation};
+ghost use Rattle.error_lines.specs.Progress.{progress};
 ghost use Rattle.output_copies.specs.Copying.{spoken, IsFilled, MayEnd};
 ghost use Rattle.output_copies.specs.Parts.{ArePart};
-ghost use Rattle.output_copies.specs.Steps.{progress};
 
 use crate::parts::{area, read_part, write_part};
 use crate::progress::{Share, tell};

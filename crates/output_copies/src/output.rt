@@ -10,9 +10,10 @@ ghost use Rattle.translate_plan.specs.declared.options.Driver.TheVariants.{Vrt};
 ghost use Rattle.write_back.specs.Plans.{output_of, IsNamedFor};
 ghost use Rattle.strip_copies.specs.Copies.{IsRoomFor, IsTranslation};
 ghost use Rattle.error_lines.specs.Faults.{Differs, HasCauses, IsOfReading};
+ghost use Rattle.error_lines.specs.Progress.{progress};
 ghost use Rattle.error_lines.specs.Steps.{all_done, publishes, Goes};
 ghost use Rattle.output_copies.specs.Copying.{spoken, IsFilled, MayEnd};
-ghost use Rattle.output_copies.specs.Steps.{files_by, progress, raster_of, translation_steps, unless_quiet, written};
+ghost use Rattle.output_copies.specs.Steps.{files_by, raster_of, translation_steps, unless_quiet, written};
 
 use crate::ahead::{Rooms, copy_ahead};
 use crate::copying::{Copier, copy_all};

@@ -136,7 +136,7 @@ lane_some w band x less = lane_by (cut_of w).woven (bands_in w) band x less
 
 -- a run of a band's pixels is a window of one line
 woven_put : (w : Writer) (woven : Bool) (bands band x y : ℕ) (line : List ℤ) (old new : ℕ → ℕ → ℕ → ℤ) → ((k a b : ℕ) → HasPixel w k a b → IsSpot w (plane_of woven k) (spot_of false woven bands k a b) b) → ((k a b : ℕ) → HasPixel w k a b → k < bands) → band < bands
-    → IsPut w (lane_in woven bands band x).band (lane_in woven bands band x).start (lane_in woven bands band x).stride y line old new → IsOverlaid (HasPixel w) band (line_rect x y (length line)) line (seen_by false woven bands old) (seen_by false woven bands new)
+    → IsPut w (lane_in woven bands band x) y line old new → IsOverlaid (HasPixel w) band (line_rect x y (length line)) line (seen_by false woven bands old) (seen_by false woven bands new)
 woven_put w false bands band x y line old new spot within has_band put = record {
   inside = λ u v less one.
       let e : v ≡ 0 = omega arith in
@@ -164,7 +164,7 @@ woven_put w true bands band x y line old new spot within has_band put = record {
       apart_from (record { band_is = band_same; left = omega arith; right = omega arith; top = omega arith; bottom = omega arith }));
 }
 
-pub lane_put : (w : Writer) (band x y : ℕ) (line : List ℤ) (old new : ℕ → ℕ → ℕ → ℤ) → (cut_of w).by_columns ≡ false → band < bands_in w → IsPut w (lane_of w band x).band (lane_of w band x).start (lane_of w band x).stride y line old new → IsWindow w band (line_rect x y (length line)) line old new
+pub lane_put : (w : Writer) (band x y : ℕ) (line : List ℤ) (old new : ℕ → ℕ → ℕ → ℤ) → (cut_of w).by_columns ≡ false → band < bands_in w → IsPut w (lane_of w band x) y line old new → IsWindow w band (line_rect x y (length line)) line old new
 lane_put (Raw h) band x y line old new lines less put = woven_put (Raw h) (is_woven h.layout) h.bands band x y line old new (λ k a b place. spot_is (Raw h) k a b place) (λ k a b place. place.band) less put
 lane_put (Hgt side) band x y line old new lines less put = woven_put (Hgt side) false 1 band x y line old new (λ k a b place. spot_is (Hgt side) k a b place) (λ k a b place. place.band) less put
 lane_put (Dted c) band x y line old new lines less put = absurd (let clash : true ≡ false = lines in cc)
