@@ -179,11 +179,11 @@ fn gives<F: Folder, G: Folder>(
 
 // How many reads a first load of the block of a pixel takes that gives that, once the catalog was walked over other
 // files.
-fn counted<R: Abort>(
+fn counted<'a, R: Abort>(
     rt: &R,
     alloc: Global,
-    found: &[File<'_>],
-    later: &[File<'_>],
+    found: &[File<'a>],
+    later: &[File<'a>],
     name: &str,
     place: (u32, u32, u32),
     want: &str,
