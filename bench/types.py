@@ -12,6 +12,7 @@ import argparse
 import array
 import os
 import resource
+import shutil
 import subprocess
 import sys
 
@@ -70,10 +71,12 @@ def main():
             name = f"{told}{order}"
             raw(asked.folder, name, code, kind, order)
             rows.append((f"raw data, {told}, {'most' if order == 'M' else 'least'} byte first", f"{name}.bil"))
-    placed = ("-a_ullr", "7.9998611111111111", "46.0001388888888889", "9.0001388888888889", "44.9998611111111111")
-    for name in (TILE, "cell.dt2", "grid.asc"):
-        subprocess.run(copy(*placed, "Int16I.bil", name), cwd=asked.folder, check=True)
-        rows.append((f"{name.split('.')[1]}, of Int16", name))
+    # a tile is such data, most byte first, and its name is its place
+    shutil.copyfile(f"{asked.folder}/Int16M.bil", f"{asked.folder}/{TILE}")
+    for name in ("cell.dt2", "grid.asc"):
+        subprocess.run(copy(TILE, name), cwd=asked.folder, check=True)
+    for told, name in (("a tile", TILE), ("a level 2 cell", "cell.dt2"), ("a grid", "grid.asc")):
+        rows.append((told, name))
     print(f"{'raster':36}{'read':>8}{'copied':>8}")
     for told, name in rows:
         runs = ([asked.window_sums, name, "32", "64"], copy(name, "out.bil"))

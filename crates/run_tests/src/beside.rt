@@ -112,8 +112,8 @@ fn some_workers_over_wide_lines(rt: HostRuntime) {
     assert!(rt; are_alike_wide(&rt, rt.alloc()));
 }
 
-// A tile whose bytes are these again and again, which is copied to a cell, and the cell to a tile by some workers, each
-// of which reads lines of all columns.
+// A tile whose bytes are these again and again, and ones behind them, which is copied to a cell, and the cell to a tile by
+// some workers, each of which reads lines of all columns.
 const TILE_TIMES: usize = 11_268;
 
 const TILE_REST: usize = 194;
@@ -142,11 +142,7 @@ static CELLS: [Row<'static>; 4] = [
 
 // Whether each number of workers gives the tile again.
 fn are_tiles_again<R: Threads + Sync + Abort>(rt: &R, alloc: Global) -> bool {
-    let bytes = joined(
-        rt,
-        alloc,
-        &[(samples(), TILE_TIMES), (&samples()[..TILE_REST], 1)],
-    );
+    let bytes = joined(rt, alloc, &[(samples(), TILE_TIMES), (b"\x01", TILE_REST)]);
     let bytes = bytes.as_slice();
     let tiles: [FileOf<'_>; 3] = [
         ("one/N40E010.hgt", bytes),
