@@ -17,6 +17,7 @@ use Rattle.catalog.specs.Linked.{State, met_of, IsLinked, IsLink, IsLinkOf, IsMo
 use Rattle.catalog.specs.Walking.{Seen, Visits, IsOpened, Passes, ReachesRows}
 use Rattle.catalog.proofs.States.{grows_trans, grows_pushed, grows_closed, goes_mosaic, stays_open, path_pushed, pushed_at, set_same}
 use Rattle.catalog.proofs.Walking.{failed, fault_is, ok≢err}
+use Rattle.catalog.proofs.Readings.{read_then}
 use Rattle.catalog.proofs.Meetings.{not_met}
 
 -- numbers of what sources name are those of datasets
@@ -75,6 +76,7 @@ module _ (verify : Bool) (room : ℕ) (name : List ℕ) (a b c : Seen) (old mid 
       told = λ m told path on.
           subst (λ (r : Result Met WalkFault). IsOutside f ⊎ (r ≡ Err f)) (sym (o.told m told path on))
           (subst (λ (n : List ℕ). IsOutside f ⊎ (visit_sources (λ e k. visit m verify (room - 1) (name ∷ path) e k) n (met_of mid) (sources_of o.document) ≡ Err f)) o.named (p.told m (o.names ∙ told) (name ∷ path) (path_first path on)));
+      reads = tt;
       number = tt;
       low = tt;
       again = λ met. absurd (not_met (number_of old.datasets name) o.fresh met);
@@ -136,6 +138,7 @@ module _ (verify : Bool) (room : ℕ) (name : List ℕ) (a b c : Seen) (old mid 
         told = λ m told path on.
             o.told m told path on
             ∙ subst (λ (n : List ℕ). visit_sources (λ e k. visit m verify (room - 1) (name ∷ path) e k) n (met_of mid) (sources_of o.document) ≡ Ok (met_of new)) o.named (p.told m (o.names ∙ told) (name ∷ path) (path_first path on));
+        reads = read_then verify a.reads b.reads c.reads old.datasets mid.datasets new.datasets o.reads p.reads;
         number = ap (number_of new.datasets) (sym o.named) ∙ goes.linked.apart id o.dataset at;
         low = record { dataset = o.dataset; link = last; met = record { at = at; whole = set_same new.links id (Some last) open_known }; low = (let x = p.reached.low in let y = o.some in omega arith) };
         again = λ met. absurd (not_met (number_of old.datasets name) o.fresh met);

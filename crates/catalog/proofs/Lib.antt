@@ -21,6 +21,7 @@ pub mod Passes
 pub mod PixelLaws
 mod PixelRows
 pub mod Pixels
+pub mod Readings
 pub mod Records
 pub mod Rows
 pub mod Scans

@@ -1,5 +1,5 @@
 -- How the visit of a name begins.
-use Rattle.std.proofs.Common.{◌≡◌, ◌∙◌, ◌⊎◌, inl, inr, ◌-◌, ◌<◌, ◌≤◌, ap, sym, subst, refl, ℕ, zero, suc, List, [], ◌∷◌, ◌++◌, length, Bool, Option, Some, None, is_some, IsTrue, Result, Ok, Err, arith, true≢false}
+use Rattle.std.proofs.Common.{◌≡◌, ◌∙◌, ◌⊎◌, inl, inr, ◌+◌, ◌-◌, ◌<◌, ◌≤◌, ap, sym, subst, refl, ℕ, zero, suc, List, [], ◌∷◌, ◌++◌, length, Bool, Option, Some, None, is_some, IsTrue, Result, Ok, Err, arith, true≢false}
 use Rattle.std.specs.Prelude.{slice_get, ok_or, option_and_then}
 use Rattle.outside.specs.Outside.{Files}
 use Rattle.outside.specs.Causes.{HasCause}
@@ -21,11 +21,13 @@ use Rattle.catalog.specs.Outcomes.{IsOutside, IsMemory}
 use Rattle.catalog.specs.Heads.{kind_in, kind_of, dataset_by, IsOfFile}
 use Rattle.catalog.proofs.Headers.{never_unknown, owns_fault}
 use Rattle.catalog.specs.Walk.{number_of, room_for, sources_in, visit, visit_sources, IsDataset, IsWalked}
+use Rattle.catalog.specs.Readings.{calls_to_open}
 use Rattle.catalog.specs.Linked.{State, met_of, IsLinked, IsLink, IsLinkOf, IsPath, IsLow, Grows, pushed}
-use Rattle.catalog.specs.Walking.{Seen, IsPlain, WalksOn, Visits, IsOpened}
+use Rattle.catalog.specs.Walking.{Seen, IsPlain, WalksOn, ReadsOnce, Visits, IsOpened}
 use Rattle.catalog.proofs.States.{grows_refl, grows_pushed, goes_file, linked_pushed, open_unknown, pushed_at, last_item}
 use Rattle.catalog.proofs.Walking.{failed, fault_is, ok≢err, plain_known, walks_none, walks_plain}
 use Rattle.catalog.proofs.Visits.{IsFirst, visit_unknown, visit_deep, visit_limit, visit_unread, visit_file, visit_mosaic}
+use Rattle.catalog.proofs.Readings.{one_more_read}
 use Rattle.catalog.proofs.Walked.{one_more_walked, read_so}
 
 none≢some : {T : Type 0} {x : T} → None ≡ Some x → ⊥
@@ -51,6 +53,7 @@ module _ (verify : Bool) (room : ℕ) (name : List ℕ) where
       record {
         walks = walks;
         told = λ m names path on. told m path on;
+        reads = tt;
         number = tt;
         low = tt;
         again = λ met. record { reads = refl; faults = refl };
@@ -66,6 +69,7 @@ module _ (verify : Bool) (room : ℕ) (name : List ℕ) where
   visits_unknown a st f (inl free) = record {
     walks = walks;
     told = λ m names path on. inl (subst IsOutside (sym free) tt);
+    reads = tt;
     number = tt;
     low = tt;
     again = λ met. record { reads = refl; faults = refl };
@@ -89,6 +93,7 @@ module _ (verify : Bool) (room : ℕ) (name : List ℕ) where
       cause = record { later = omega arith; failed = λ r. absurd (folder (sym named ∙ fault_is ℕ f FolderFault r)) };
     };
     told = λ m names path on. inr (visit_unknown m verify room path (met_of st) name f is);
+    reads = tt;
     number = tt;
     low = tt;
     again = λ met. record { reads = refl; faults = refl };
@@ -123,6 +128,7 @@ module _ (verify : Bool) (room : ℕ) (name : List ℕ) where
   visits_known a st kind id linked is number low told = record {
     walks = walks_none a st id linked;
     told = λ m names path on. told m path on;
+    reads = omega arith;
     number = number;
     low = low;
     again = λ met. record { reads = refl; faults = refl };
@@ -156,6 +162,7 @@ module _ (verify : Bool) (room : ℕ) (name : List ℕ) where
           cause = record { later = cause.later; failed = λ r. cause.failed (ap (failed Dataset) (fault_is ℕ f FolderFault r)) };
         };
         told = λ m t path on. by_told m path on (told m t);
+        reads = tt;
         number = tt;
         low = tt;
         again = λ met. absurd (not_met (number_of st.datasets name) fresh met);
@@ -184,6 +191,7 @@ module _ (verify : Bool) (room : ℕ) (name : List ℕ) where
           cause = record { later = later; failed = λ r. absurd (folder (sym free ∙ fault_is ℕ f FolderFault r)) };
         };
         told = λ m t path on. inl (subst IsOutside (sym free) tt);
+        reads = tt;
         number = tt;
         low = tt;
         again = λ met. absurd (not_met (number_of st.datasets name) fresh met);
@@ -203,7 +211,7 @@ module _ (verify : Bool) (room : ℕ) (name : List ℕ) where
           folder : Memory ≡ FolderFault → ⊥
           folder e = cc
 
-      module _ (linked : IsLinked st) (d : Dataset) (valid : IsDataset d) (named : d.head.name ≡ name) (told : (m : Files) → a.names ≡ Some m → dataset_by kind m verify name ≡ Ok d) (later : a.faults ≤ b.faults) where
+      module _ (linked : IsLinked st) (d : Dataset) (valid : IsDataset d) (named : d.head.name ≡ name) (told : (m : Files) → a.names ≡ Some m → dataset_by kind m verify name ≡ Ok d) (later : a.faults ≤ b.faults) (read : b.reads ≤ a.reads + calls_to_open verify d) where
         unmet : number_of st.datasets d.head.name ≡ None
         unmet = ap (number_of st.datasets) named ∙ fresh
 
@@ -240,6 +248,7 @@ module _ (verify : Bool) (room : ℕ) (name : List ℕ) where
                 cause = record { later = later; failed = λ r. absurd (ok≢err r) };
               };
               told = λ m t path on. visit_file m verify room path (met_of st) name kind d (first path on) few (told m t) none;
+              reads = one_more_read verify a.reads b.reads st.datasets d read;
               number = ap (number_of (st.datasets ++ d ∷ [])) (sym named) ∙ linked'.apart (length st.datasets) d (pushed_at st d (Some l));
               low = record { dataset = d; link = l; met = record { at = pushed_at st d (Some l); whole = ap (slice_get (st.links ++ Some l ∷ [])) (sym linked.long) ∙ last_item st.links (Some l) }; low = omega (arith, low) };
               again = λ met. absurd (not_met (number_of st.datasets name) fresh met);
@@ -265,6 +274,7 @@ module _ (verify : Bool) (room : ℕ) (name : List ℕ) where
           names = names;
           writes = writes;
           later = later;
+          reads = subst (λ (s : State). ReadsOnce verify a b st s) (sym is_pushed) (one_more_read verify a.reads b.reads st.datasets d read);
         }
           where
             vrt : kind_in name ≡ Ok kinds.Vrt

@@ -23,7 +23,7 @@ use Rattle.catalog.specs.Outcomes.{IsOutside, IsMemory}
 use Rattle.catalog.specs.Heads.{resolved}
 use Rattle.catalog.specs.Walk.{Met, dataset_named, bands_of, band_named, is_narrow_band, IsWalked, one_more_source, has_band, has_samples, unless_wide, visit, visit_source, visit_sources}
 use Rattle.catalog.specs.Linked.{State, met_of, IsLinked, IsPath, IsMember, Each, Grows, Goes, one_counted, most, height_at, height_in, IsMosaicAt, HasBand, HasSource}
-use Rattle.catalog.specs.Walking.{Seen, IsPlain, WalksOn, Visits, Passes, Names, Reaches, ReachesRows}
+use Rattle.catalog.specs.Walking.{Seen, IsPlain, WalksOn, ReadsOnce, Visits, Passes, Names, Reaches, ReachesRows}
 use Rattle.catalog.proofs.Found.{each_more, each_map, member_stays, most_stays, flat_rows, rows_stay, named_at}
 use Rattle.catalog.proofs.Rows.{most_append}
 use Rattle.catalog.proofs.Loops.{item_more, item_split, from_more}
@@ -157,6 +157,7 @@ module _ (verify : Bool) (room : ℕ) (base : List ℕ) (s : SourceValue) where
   source_unnamed T P a old new f n = record {
     walks = walks_plain T 1 a old new f n.grows n.plain;
     told = λ m told path is. unresolved (λ e k. visit m verify room path e k) base (met_of old) s f n.told;
+    reads = tt;
     reached = tt;
   }
 
@@ -175,6 +176,7 @@ module _ (verify : Bool) (room : ℕ) (base : List ℕ) (s : SourceValue) where
       told = λ m told path is.
           subst (λ (r : Result Met WalkFault). IsOutside f ⊎ (r ≡ Err f)) (sym (visited_as m path))
           (still_refused (visit m verify room path (met_of mid) w.name) (λ after. has_samples after.datasets base w.name s.band (is_plain s) >>= λ there. Ok after) f (v.told m told path (counted_path path is)));
+      reads = tt;
       reached = tt;
     }
 
@@ -192,6 +194,7 @@ module _ (verify : Bool) (room : ℕ) (base : List ℕ) (s : SourceValue) where
       source_bandless T P f plain refused = record {
         walks = walks_then ℕ T 1 0 1 a b b old new new id (Err f) (omega arith) visited_walks (walks_plain T 0 b new new f (grows_refl new) plain);
         told = λ m told path is. subst (λ (r : Result Met WalkFault). IsOutside f ⊎ (r ≡ Err f)) (sym (banded_as m told path is)) (still_refused (has_samples new.datasets base w.name w.band w.plain) (λ there. Ok (met_of new)) f (by_cause refused));
+        reads = tt;
         reached = tt;
       }
         where
@@ -203,6 +206,7 @@ module _ (verify : Bool) (room : ℕ) (base : List ℕ) (s : SourceValue) where
       source_passed there = record {
         walks = visited_walks;
         told = λ m told path is. banded_as m told path is ∙ ap (λ r. r >>= λ t. Ok (met_of new)) there;
+        reads = subst (λ (st : State). ReadsOnce verify a b st new) n.counted v.reads;
         reached = (let low = v.low in let height : height_at new.links id ≡ low.link.height = ap height_in low.met.whole in record {
           members = (
             record {

@@ -13,6 +13,7 @@ use Rattle.catalog.specs.Walk.{Met, visit, visit_sources}
 use Rattle.catalog.specs.Linked.{State, met_of, IsLinked, Grows, Goes}
 use Rattle.catalog.specs.Walking.{Seen, IsPlain, WalksOn, Passes}
 use Rattle.catalog.proofs.States.{grows_refl, grows_trans, goes_trans, goes_none}
+use Rattle.catalog.proofs.Readings.{read_then}
 use Rattle.catalog.proofs.Visits.{sources_append, still_refused}
 
 abbrev pub failed : (T : Type 0) → WalkFault → Result T WalkFault
@@ -99,7 +100,7 @@ walks_then A B n m k a b c old mid new x r sum before next = record {
 
 module _ (verify : Bool) (room : ℕ) (base : List ℕ) where
   pub passes_none : {T : Type 0} (a : Seen) (st : State) (P : T → Type 0) (x : T) → IsLinked st → P x → Passes verify room base [] a a st st P (Ok x)
-  passes_none a st P x linked reached = record { walks = walks_none a st x linked; told = λ m told path is. refl; reached = reached }
+  passes_none a st P x linked reached = record { walks = walks_none a st x linked; told = λ m told path is. refl; reads = omega arith; reached = reached }
 
   -- where the walk stopped, the sources behind don't count
   pub passes_stop : (A B : Type 0) (xs ys : List SourceValue) (a b : Seen) (old new : State) (P : A → Type 0) (Q : B → Type 0) (f : WalkFault) → Passes verify room base xs a b old new P (Err f) → Passes verify room base (xs ++ ys) a b old new Q (Err f)
@@ -108,6 +109,7 @@ module _ (verify : Bool) (room : ℕ) (base : List ℕ) where
     told = λ m told path is.
         subst (λ (r : Result Met WalkFault). IsOutside f ⊎ (r ≡ Err f)) (sym (sources_append (λ e n. visit m verify room path e n) base (met_of old) xs ys))
         (still_refused (visit_sources (λ e n. visit m verify room path e n) base (met_of old) xs) (λ e. visit_sources (λ e n. visit m verify room path e n) base e ys) f (p.told m told path is));
+    reads = tt;
     reached = tt;
   }
 
@@ -119,6 +121,7 @@ module _ (verify : Bool) (room : ℕ) (base : List ℕ) where
         sources_append (λ e n. visit m verify room path e n) base (met_of old) xs ys
         ∙ ap (λ r. r >>= λ e. visit_sources (λ e n. visit m verify room path e n) base e ys) (before.told m told path is)
         ∙ next.told m (before.walks.names ∙ told) path (λ name. is name ∙ before.walks.goes.same_open name);
+    reads = read_then verify a.reads b.reads c.reads old.datasets mid.datasets new.datasets before.reads next.reads;
     reached = reached;
   }
     where
@@ -132,6 +135,7 @@ module _ (verify : Bool) (room : ℕ) (base : List ℕ) where
         subst (λ (r : Result Met WalkFault). IsOutside f ⊎ (r ≡ Err f))
         (sym (sources_append (λ e n. visit m verify room path e n) base (met_of old) xs ys ∙ ap (λ r. r >>= λ e. visit_sources (λ e n. visit m verify room path e n) base e ys) (before.told m told path is)))
         (next.told m (before.walks.names ∙ told) path (λ name. is name ∙ before.walks.goes.same_open name));
+    reads = tt;
     reached = tt;
   }
 
@@ -149,6 +153,7 @@ module _ (verify : Bool) (room : ℕ) (base : List ℕ) where
       cause = record { later = p.walks.cause.later; failed = λ is. absurd (plain_inside f plain (fault_is B f FolderFault is)) };
     };
     told = λ m told path is. inl (subst IsOutside (sym free) tt);
+    reads = tt;
     reached = tt;
   }
     where

@@ -8,6 +8,7 @@ pub mod Blocks
 pub mod Pixels
 pub mod Links
 pub mod Walk
+pub mod Readings
 pub mod Outcomes
 -- What private clauses, views and proofs speak of.
 pub mod Linked

@@ -1,5 +1,5 @@
 -- What each call of a walk ensures.
-use Rattle.std.specs.Prelude.{◌≡◌, ◌<◌, ◌≤◌, ◌-◌, ℕ, Bool, List, ◌∷◌, length, Option, Some, None, is_some, IsTrue, Result, Ok, Err, IfOk, OnOk, IfErr}
+use Rattle.std.specs.Prelude.{◌≡◌, ◌<◌, ◌≤◌, ◌+◌, ◌-◌, ℕ, Bool, List, ◌∷◌, length, Option, Some, None, is_some, IsTrue, Result, Ok, Err, IfOk, OnOk, IfErr}
 use Rattle.lists_and_answers.specs.Answers.{Gives, ◌>>=◌}
 use Rattle.lists_and_answers.specs.Lists.{flattened}
 use Rattle.outside.specs.Outside.{Files}
@@ -18,6 +18,7 @@ use Rattle.catalog.specs.Mosaics.{sources_of}
 use Rattle.catalog.specs.Outcomes.{IsOutside, IsMemory}
 use Rattle.catalog.specs.Heads.{kind_in, resolved, IsOwnFault, OwnsFaults}
 use Rattle.catalog.specs.Walk.{number_of, one_more_source, visit, visit_sources, IsWalked, TellsKinds, WalksUnknown}
+use Rattle.catalog.specs.Readings.{calls_to_open_all}
 use Rattle.catalog.specs.Linked.{State, met_of, most, IsLinked, IsMember, Each, AreRows, IsPath, IsLow, Grows, Goes, pushed, one_counted}
 
 -- what a folder tells, and how often it was written, was read and has failed
@@ -55,6 +56,11 @@ pub record WalksOn {T : Type 0} (n : ℕ) (before after : Seen) (old new : State
   pub writes : after.writes ≡ before.writes
   pub cause : HasCause FolderFault before.faults after.faults result
 
+-- there were at most as many reads as the datasets take that were met meanwhile: each was read once, and none that was met
+-- before was read again
+abbrev pub ReadsOnce : Bool → Seen → Seen → State → State → Type 0
+ReadsOnce verify before after old new = after.reads + calls_to_open_all verify old.datasets ≤ before.reads + calls_to_open_all verify new.datasets
+
 -- a name that was met costs no call of the folder
 pub record IsFree (before after : Seen) : Type 0 where
   pub reads : after.reads ≡ before.reads
@@ -64,6 +70,7 @@ pub record IsFree (before after : Seen) : Type 0 where
 pub record Visits (verify : Bool) (room : ℕ) (name : List ℕ) (before after : Seen) (old new : State) (result : Result ℕ WalkFault) : Type 0 where
   pub walks : WalksOn 0 before after old new result
   pub told : (m : Files) → before.names ≡ Some m → (path : List (List ℕ)) → IsPath old path → Gives IsOutside (λ id. met_of new) result (visit m verify room path (met_of old) name)
+  pub reads : OnOk result (ReadsOnce verify before after old new)
   pub number : IfOk result (λ id. number_of new.datasets name ≡ Some id)
   pub low : IfOk result (λ id. IsLow new id room)
   pub again : IsTrue (is_some (number_of old.datasets name)) → IsFree before after
@@ -88,6 +95,7 @@ pub record IsOpened (verify : Bool) (room : ℕ) (name : List ℕ) (before after
   pub names : after.names ≡ before.names
   pub writes : after.writes ≡ before.writes
   pub later : before.faults ≤ after.faults
+  pub reads : ReadsOnce verify before after old new
 
 -- how a visit of a name begins
 abbrev pub Meets : Bool → ℕ → List ℕ → Seen → Seen → State → State → Result Meeting WalkFault → Type 0
@@ -109,6 +117,7 @@ pub record ReachesRows (st : State) (room : ℕ) (base : List ℕ) (bands : List
 pub record Passes {T : Type 0} (verify : Bool) (room : ℕ) (base : List ℕ) (ss : List SourceValue) (before after : Seen) (old new : State) (IsReached : T → Type 0) (result : Result T WalkFault) : Type 0 where
   pub walks : WalksOn (length ss) before after old new result
   pub told : (m : Files) → before.names ≡ Some m → (path : List (List ℕ)) → IsPath old path → Gives IsOutside (λ t. met_of new) result (visit_sources (λ a n. visit m verify room path a n) base (met_of old) ss)
+  pub reads : OnOk result (ReadsOnce verify before after old new)
   pub reached : IfOk result IsReached
 
 -- A source of the mosaic with the name `base` is counted, and then what it names is resolved.

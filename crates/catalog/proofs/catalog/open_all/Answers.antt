@@ -1,9 +1,11 @@
-use Rattle.std.proofs.Common.{◌≡◌, ◌∙◌, ◌⊎◌, ap, sym, subst, List, take, length, Ok, Err, arith}
+use Rattle.std.proofs.Common.{◌≡◌, ◌∙◌, ◌⊎◌, ◌+◌, ◌≤◌, ap, sym, subst, List, take, length, Ok, Err, arith}
 use Rattle.std.proofs.lemmas.List.{take_all}
 use Rattle.catalog.specs.Outcomes.{IsOutside}
 use Rattle.catalog.specs.Drivers.{Dataset}
+use Rattle.catalog.specs.Readings.{calls_to_open_all}
 use Rattle.catalog.specs.Walk.{walked, IsCatalog, IsWalked}
 use Rattle.catalog.specs.Linked.{State, IsWhole}
+use Rattle.catalog.proofs.Readings.{more_read}
 use Rattle.catalog.proofs.Wholes.{whole_goes}
 use Rattle.catalog.proofs.Opened.{open_told, refused_told, datasets_kept, goes_on, cut_same}
 use Rattle.catalog.proofs.catalog.open_all.Goals as goal
@@ -24,6 +26,12 @@ returns-in-Ok-clause-told g c = λ m told.
 pub returns-in-Ok-clause-kept : goal.returns-in-Ok-clause-kept
 returns-in-Ok-clause-kept g c =
     goes_on c.args.cat.now c.visit.new.met.datasets (subst (λ (ds : List Dataset). take (length ds) c.visit.new.met.datasets ≡ ds) c.cat.view_is (datasets_kept c.cat.inside.met c.visit.new.met c.in-Ok.ensures.visits.walks.grows))
+
+pub returns-in-Ok-clause-reads : goal.returns-in-Ok-clause-reads
+returns-in-Ok-clause-reads g c = λ more is.
+    more_read c.args.verify (g.F.Folder.read_calls c.args.folder.now) (g.F.Folder.read_calls c.visit.new.folder) c.args.cat.now c.visit.new.met.datasets more
+    (subst (λ (ds : List Dataset). g.F.Folder.read_calls c.visit.new.folder + calls_to_open_all c.args.verify ds ≤ g.F.Folder.read_calls c.args.folder.now + calls_to_open_all c.args.verify c.visit.new.met.datasets) c.cat.view_is c.in-Ok.ensures.visits.reads)
+    is
 
 pub returns-in-Ok-clause-valid : goal.returns-in-Ok-clause-valid
 returns-in-Ok-clause-valid g c = (whole_goes c.cat.inside.met c.visit.new.met c.cat.invariant c.in-Ok.ensures.visits.walks.goes).catalog
