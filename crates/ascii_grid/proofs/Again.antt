@@ -31,10 +31,11 @@ use Rattle.ascii_grid.specs.declared.head_parts.Key.TheVariants.{Ncols, Nrows, X
 use Rattle.ascii_grid.specs.declared.placing.Placing.{Placing}
 use Rattle.ascii_grid.specs.Tokens.{Token, tokens_from, tokens, token, is_white, is_dark, next}
 use Rattle.lists_and_answers.specs.Texts.{same_letters}
+use Rattle.lists_and_answers.specs.Lists.{flattened}
 use Rattle.ascii_grid.specs.Values.{side_in, coordinate_in, step_in, nodata_in, when_value, is_body_start, value_in, is_value, is_whole_text, is_whole_end, whole_value}
 use Rattle.ascii_grid.specs.Keys.{key_of, with_value, steps_of, placed, shape_of}
 use Rattle.ascii_grid.specs.Grid.{head_of, body_of, rows_of, nothing, grid_in, grid_of}
-use Rattle.ascii_grid.specs.Text.{more_text, row_text, line, placing_of, size_lines, edge_lines, are_same, step_lines, nodata_line, head_lines, head_text, joined, AreRows, IsReadAgain, IsGridOf}
+use Rattle.ascii_grid.specs.Text.{more_text, row_text, line, placing_of, size_lines, edge_lines, are_same, step_lines, nodata_line, head_lines, head_text, AreRows, IsReadAgain, IsGridOf}
 use Rattle.ascii_grid.proofs.Places.{tok_white, tok_inside, tok_begins}
 
 -- words
@@ -142,9 +143,9 @@ all_of [] all = tt
 all_of (r ∷ rs) all = (ints_of r (all 0 [] (omega arith)), all_of rs (λ k d less. all (suc k) d (omega arith)))
 
 -- so many rows of one length
-count_of : (w : ℕ) (rows : List (List ℤ)) → All (λ row. length row ≡ w) rows → length (joined rows) ≡ length rows * w
+count_of : (w : ℕ) (rows : List (List ℤ)) → All (λ row. length row ≡ w) rows → length (flattened rows) ≡ length rows * w
 count_of w [] all = omega arith
-count_of w (r ∷ rs) all = length-append r (joined rs) ∙ omega (arith, all 0 [] (omega arith), count_of w rs (λ k d less. all (suc k) d (omega arith)), suc-mul (length rs) w)
+count_of w (r ∷ rs) all = length-append r (flattened rs) ∙ omega (arith, all 0 [] (omega arith), count_of w rs (λ k d less. all (suc k) d (omega arith)), suc-mul (length rs) w)
 
 abbrev tail_text : List ℤ → List ℕ
 tail_text xs = flat_map more_text xs ++ 10 ∷ []
@@ -178,12 +179,12 @@ row_again (x ∷ xs) rest at n vs int more =
     ∙ ap (λ y. body_of (suc (length xs + n)) (tokens_from false at y)) text
     ∙ word_put x (tail_text xs ++ rest) at (length xs + n) (xs ++ vs) int.0 (tail_white xs rest) (λ place. tail_again xs rest place n vs int.1 more)
 
-pub body_again : (rows : List (List ℤ)) (at : ℕ) → AreAll rows → body_of (length (joined rows)) (tokens_from false at (flat_map row_text rows)) ≡ Ok (joined rows)
+pub body_again : (rows : List (List ℤ)) (at : ℕ) → AreAll rows → body_of (length (flattened rows)) (tokens_from false at (flat_map row_text rows)) ≡ Ok (flattened rows)
 unfolding body_of
 body_again [] at int = refl
 body_again (r ∷ rs) at int =
-    ap (λ k. body_of k (tokens_from false at (row_text r ++ flat_map row_text rs))) (length-append r (joined rs))
-    ∙ row_again r (flat_map row_text rs) at (length (joined rs)) (joined rs) int.0 (λ place. body_again rs place int.1)
+    ap (λ k. body_of k (tokens_from false at (row_text r ++ flat_map row_text rs))) (length-append r (flattened rs))
+    ∙ row_again r (flat_map row_text rs) at (length (flattened rs)) (flattened rs) int.0 (λ place. body_again rs place int.1)
 
 -- the head
 
@@ -389,7 +390,7 @@ edges_behind w h p rest at left bottom =
     (λ place. bottom_behind p.bottom rest one place bottom)
 
 -- the sizes of a pixel behind their lines
-record Steps (q : Result (Found × List Token) GridFault) (w h : Option ℕ) (x y : Option LowerLeft) (wide high : ℕ) (rest : List ℕ) : Type 0 where
+record SizesBehind (q : Result (Found × List Token) GridFault) (w h : Option ℕ) (x y : Option LowerLeft) (wide high : ℕ) (rest : List ℕ) : Type 0 where
   cell : Option ℕ
   dx : Option ℕ
   dy : Option ℕ
@@ -405,7 +406,7 @@ same_ints (negsuc a) (negsuc b) h = ap negsuc (grind (arith, nat_tests, ints))
 abbrev step_text : Bool → Placing → List ℕ
 step_text b p = cond b (line (codes "cellsize") (short_text p.width)) (line (codes "dx") (short_text p.width) ++ line (codes "dy") (short_text p.height))
 
-steps_by : (b : Bool) (w h : Option ℕ) (x y : Option LowerLeft) (p : Placing) (rest : List ℕ) (at : ℕ) → are_same p.width p.height ≡ b → IsTicks p.width → IsTicks p.height → pos 0 <ℤ p.width → pos 0 <ℤ p.height → Steps (head_of (found_of w h x y None None None None) (tokens_from false at (step_text b p ++ rest))) w h x y (unsigned_abs p.width) (unsigned_abs p.height) rest
+steps_by : (b : Bool) (w h : Option ℕ) (x y : Option LowerLeft) (p : Placing) (rest : List ℕ) (at : ℕ) → are_same p.width p.height ≡ b → IsTicks p.width → IsTicks p.height → pos 0 <ℤ p.width → pos 0 <ℤ p.height → SizesBehind (head_of (found_of w h x y None None None None) (tokens_from false at (step_text b p ++ rest))) w h x y (unsigned_abs p.width) (unsigned_abs p.height) rest
 steps_by true w h x y p rest at is width height wide high = record {
   cell = Some (unsigned_abs p.width);
   dx = None;
@@ -457,7 +458,7 @@ head_is size p nodata rest r t wide high int =
     let f2 : Found = found_of w h x y None None None None in
     let b1 : Behind (head_of nothing (tokens_from false 0 (size_lines size ++ b))) f1 b = sizes_behind size b 0 r in
     let b2 : Behind (head_of f1 (tokens_from false b1.place b)) f2 c = edges_behind w h p c b1.place t.left t.bottom in
-    let b3 : Steps (head_of f2 (tokens_from false b2.place c)) w h x y (unsigned_abs p.width) (unsigned_abs p.height) d = steps_by (are_same p.width p.height) w h x y p d b2.place refl t.width t.height wide high in
+    let b3 : SizesBehind (head_of f2 (tokens_from false b2.place c)) w h x y (unsigned_abs p.width) (unsigned_abs p.height) d = steps_by (are_same p.width p.height) w h x y p d b2.place refl t.width t.height wide high in
     let b4 : Behind (head_of (found_of w h x y b3.cell b3.dx b3.dy None) (tokens_from false b3.behind.place d)) (found_of w h x y b3.cell b3.dx b3.dy nodata) rest = last_behind w h x y b3.cell b3.dx b3.dy nodata rest b3.behind.place int in
     record {
       cell = b3.cell;
@@ -492,7 +493,7 @@ unfolding grid_in
 grid_from size geo nodata f body values shape whole = rw (shape, whole) refl
 
 -- a grid that is written is read again
-rows_again : (size : Size) (p : Placing) (geo : Transform) (nodata : Option ℤ) (x : ℤ) (xs : List ℤ) (rows : List (List ℤ)) → IsRaster size → IsReadAgain size p geo → AreTicks p → IfSome nodata (λ n. is_value n ≡ true) → AreAll ((x ∷ xs) ∷ rows) → length (joined ((x ∷ xs) ∷ rows)) ≡ size.w * size.h → IsGridOf (head_lines size p nodata ++ flat_map row_text ((x ∷ xs) ∷ rows)) size geo nodata (joined ((x ∷ xs) ∷ rows))
+rows_again : (size : Size) (p : Placing) (geo : Transform) (nodata : Option ℤ) (x : ℤ) (xs : List ℤ) (rows : List (List ℤ)) → IsRaster size → IsReadAgain size p geo → AreTicks p → IfSome nodata (λ n. is_value n ≡ true) → AreAll ((x ∷ xs) ∷ rows) → length (flattened ((x ∷ xs) ∷ rows)) ≡ size.w * size.h → IsGridOf (head_lines size p nodata ++ flat_map row_text ((x ∷ xs) ∷ rows)) size geo nodata (flattened ((x ∷ xs) ∷ rows))
 unfolding grid_of
 rows_again size p geo nodata x xs rows r again t nodata_in int count =
     let text : List ℕ = flat_map row_text ((x ∷ xs) ∷ rows) in
@@ -505,13 +506,13 @@ rows_again size p geo nodata x xs rows r again t nodata_in int count =
     let f : Found = found_of (Some size.w) (Some size.h) (Some (Edge p.left)) (Some (Edge p.bottom)) head.cell head.dx head.dy nodata in
     let found : head_of nothing (tokens all) ≡ Ok (f, tokens_from false at text) = head.behind.is ∙ ap (head_of f) first ∙ head_end f (record { at = at; text = signed_decimal x }) more (starts_body x int.0.0) ∙ sym (ap (λ ts. Ok (f, ts)) first) in
     let shape : shape_of f ≡ Ok (record { w = size.w; h = size.h; geo = geo; nodata = nodata }) = shape_again size p.left p.bottom head.cell head.dx head.dy nodata (unsigned_abs p.width, unsigned_abs p.height) geo head.steps again.placed in
-    let whole : body_of (size.w * size.h) (tokens_from false at text) ≡ Ok (joined ((x ∷ xs) ∷ rows)) = ap (λ n. body_of n (tokens_from false at text)) (sym count) ∙ body_again ((x ∷ xs) ∷ rows) at int in
+    let whole : body_of (size.w * size.h) (tokens_from false at text) ≡ Ok (flattened ((x ∷ xs) ∷ rows)) = ap (λ n. body_of n (tokens_from false at text)) (sym count) ∙ body_again ((x ∷ xs) ∷ rows) at int in
     record {
       rows = rows_of size.w 0 (tokens_from false at text);
-      grid = ap (λ (q : Result (Found × List Token) GridFault). q >>= grid_in) found ∙ grid_from size geo nodata f (tokens_from false at text) (joined ((x ∷ xs) ∷ rows)) shape whole;
+      grid = ap (λ (q : Result (Found × List Token) GridFault). q >>= grid_in) found ∙ grid_from size geo nodata f (tokens_from false at text) (flattened ((x ∷ xs) ∷ rows)) shape whole;
     }
 
-pub grid_again : (size : Size) (geo : Option Transform) (nodata : Option ℤ) (read : Transform) (rows : List (List ℤ)) → IsRaster size → IfSome nodata (λ n. is_value n ≡ true) → IsReadAgain size (placing_of size geo) read → AreRows size.w rows → length rows ≡ size.h → IsGridOf (head_text size geo nodata ++ flat_map row_text rows) size read nodata (joined rows)
+pub grid_again : (size : Size) (geo : Option Transform) (nodata : Option ℤ) (read : Transform) (rows : List (List ℤ)) → IsRaster size → IfSome nodata (λ n. is_value n ≡ true) → IsReadAgain size (placing_of size geo) read → AreRows size.w rows → length rows ≡ size.h → IsGridOf (head_text size geo nodata ++ flat_map row_text rows) size read nodata (flattened rows)
 unfolding head_text
 grid_again size geo nodata read [] r int again rows_are count = absurd (omega (arith, r.some_lines, count))
 grid_again size geo nodata read ([] ∷ rows) r int again rows_are count = absurd (omega (arith, r.some_columns, rows_are.long 0 [] (omega arith)))

@@ -61,10 +61,6 @@ row_text (x ∷ xs) = signed_decimal x ++ (flat_map more_text xs ++ 10 ∷ [])
 pub record Adds (old new text : List ℕ) : Type 0 where
   pub all : new ≡ old ++ text
 
--- the values row by row
-abbrev pub joined : List (List ℤ) → List ℤ
-joined rows = flat_map (λ r. r) rows
-
 -- rows of values of the band, all of this length
 pub record AreRows (w : ℕ) (rows : List (List ℤ)) : Type 0 where
   pub long : All (λ row. length row ≡ w) rows

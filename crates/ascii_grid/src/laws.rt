@@ -1,10 +1,11 @@
 // What holds of every grid.
 ghost use Rattle.std.specs.Prelude.{◌≡◌, ◌<◌, ◌≤◌, ◌+◌, ◌^◌, ◌++◌, ℕ, ℤ, pos, true, All, List, Option, length, drop, take, get_or, Ok, Some, IfSome};
 ghost use Rattle.std.specs.List.{slice_get, flat_map};
+ghost use Rattle.lists_and_answers.specs.Lists.{flattened};
 ghost use Rattle.geotransform.specs.Geo.{Transform, IsRaster};
 ghost use Rattle.geotransform.specs.declared.types.Size.{Size};
 ghost use Rattle.ascii_grid.specs.Values.{is_value};
-ghost use Rattle.ascii_grid.specs.Text.{placing_of, head_text, row_text, joined, AreRows, IsReadAgain, IsGridOf};
+ghost use Rattle.ascii_grid.specs.Text.{placing_of, head_text, row_text, AreRows, IsReadAgain, IsGridOf};
 ghost use Rattle.ascii_grid.specs.Grid.{Head, IsHead, grid_head, ascii_at, line_of, AreRising};
 ghost use Rattle.ascii_grid.specs.Row.{row_of, ended_in};
 
@@ -39,5 +40,5 @@ pub fn line_has_values()
 /// values, where the coordinates that are written and the geotransform that is read back from them stay
 /// below 10^12 units.
 pub fn written_reads_back()
-    ensures same { (size : Size) (geo : Option Transform) (nodata : Option ℤ) (read : Transform) (rows : List (List ℤ)) → IsRaster size → IfSome nodata (λ n. is_value n ≡ true) → IsReadAgain size (placing_of size geo) read → AreRows size.w rows → length rows ≡ size.h → IsGridOf (head_text size geo nodata ++ flat_map row_text rows) size read nodata (joined rows) }
+    ensures same { (size : Size) (geo : Option Transform) (nodata : Option ℤ) (read : Transform) (rows : List (List ℤ)) → IsRaster size → IfSome nodata (λ n. is_value n ≡ true) → IsReadAgain size (placing_of size geo) read → AreRows size.w rows → length rows ≡ size.h → IsGridOf (head_text size geo nodata ++ flat_map row_text rows) size read nodata (flattened rows) }
 {}

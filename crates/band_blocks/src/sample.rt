@@ -12,7 +12,7 @@ ghost use Rattle.band_blocks.specs.Keys.{IsPixelKey};
 ghost use Rattle.band_blocks.specs.Open.{AreGood, TellsChange, IsUnchanged};
 ghost use Rattle.band_blocks.specs.Samples.{HasPlaces, IsDirect, IsOfType};
 
-use crate::{LoadFault, OpenFiles, PixelKey, Steps};
+use crate::{Counter, LoadFault, OpenFiles, PixelKey};
 use catalog::{Catalog, DriverHead};
 use geotransform::Sample;
 use outside::Folder;
@@ -55,7 +55,7 @@ pub fn load_sample<F: Folder, L: Ledger>(
     folder: &mut F,
     files: &mut OpenFiles<F>,
     pixel: PixelKey,
-    loads: &mut Steps<L>,
+    loads: &mut Counter<L>,
 ) -> Result<Sample, LoadFault>
     requires pixel { IsPixelKey cat.now pixel }
     requires direct { (d : Dataset) → slice_get cat.now pixel.dataset ≡ Some d → IsDirect d.content }

@@ -16,7 +16,7 @@ use Rattle.buildvrt.specs.declared.grid.Measure.{Measure}
 use Rattle.buildvrt.specs.Judging.{JudgedValue, joined, one_judged, first_judged, judged_alone, judged_beside, judged_behind, judged_from, judged_of}
 use Rattle.buildvrt.specs.Grids.{GridValue, IsGrid, measure, less_of, greater_of, least_from, greatest_from, least, greatest, some_pixels}
 use Rattle.buildvrt.specs.declared.patch.PixelRect.{PixelRect}
-use Rattle.buildvrt.specs.Rectangles.{target_of}
+use Rattle.buildvrt.specs.Rectangles.{rectangle_of}
 
 -- each input is judged once
 one_is_one : (n : ℕ) (v : Result TileValue Reason) → length (one_judged n v).tiles + length (one_judged n v).skipped ≡ 1
@@ -162,11 +162,11 @@ size_by n d s e some h = ap (λ (x : ℤ). some_pixels (pos n *ℤ x) s) e ∙ s
 same_rect : (x y w h k l m n : ℤ) → x ≡ k → y ≡ l → w ≡ m → h ≡ n → (r : PixelRect) → r ≡ record { x = x; y = y; w = w; h = h } → r ≡ record { x = k; y = l; w = m; h = n }
 same_rect x y w h k l m n p q r s v e = e ∙ rw (p, q, r, s) refl
 
-pub aligned : (g : GridValue) (t : TileValue) (k l : ℤ) → IsGrid g → IsRaster t.head.size → t.place.dx ≡ g.dx → neg_ℤ t.place.dy ≡ g.dy → t.place.ox ≡ g.left +ℤ (k *ℤ g.dx) → g.top ≡ t.place.oy +ℤ (l *ℤ g.dy) → target_of g t ≡ record { x = k; y = l; w = pos t.head.size.w; h = pos t.head.size.h }
+pub aligned : (g : GridValue) (t : TileValue) (k l : ℤ) → IsGrid g → IsRaster t.head.size → t.place.dx ≡ g.dx → neg_ℤ t.place.dy ≡ g.dy → t.place.ox ≡ g.left +ℤ (k *ℤ g.dx) → g.top ≡ t.place.oy +ℤ (l *ℤ g.dy) → rectangle_of g t ≡ record { x = k; y = l; w = pos t.head.size.w; h = pos t.head.size.h }
 aligned g t k l rules size dx dy left top =
     same_rect _ _ _ _ k l (pos t.head.size.w) (pos t.head.size.h)
     (offset_by t.place.ox g.left k g.dx left rules.column.above)
     (offset_by g.top t.place.oy l g.dy top rules.line.above)
     (size_by t.head.size.w t.place.dx g.dx dx size.some_columns rules.column.above)
     (size_by t.head.size.h (neg_ℤ t.place.dy) g.dy dy size.some_lines rules.line.above)
-    (target_of g t) refl
+    (rectangle_of g t) refl

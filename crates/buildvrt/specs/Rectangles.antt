@@ -14,8 +14,8 @@ use Rattle.buildvrt.specs.declared.faults.BuildFault.{BuildFault}
 use Rattle.buildvrt.specs.declared.faults.BuildFault.TheVariants.{Limit}
 
 -- the pixels on which an input comes to lie
-abbrev pub target_of : GridValue → TileValue → PixelRect
-target_of g t = record {
+abbrev pub rectangle_of : GridValue → TileValue → PixelRect
+rectangle_of g t = record {
   x = rounded_up (t.place.ox -ℤ g.left) g.dx;
   y = rounded_up (g.top -ℤ t.place.oy) g.dy;
   w = some_pixels (pos t.head.size.w *ℤ measure ColumnStep t) g.dx;
@@ -51,7 +51,7 @@ pub record PatchValue : Type 0 where
 
 unfoldable pub patch_of : GridValue → TileValue → Result PatchValue BuildFault
 patch_of g t = do
-  shown ← shown_at g.size (target_of g t)
+  shown ← shown_at g.size (rectangle_of g t)
   Ok (record { head = t.head; shown = shown })
 
 abbrev pub with_patch : PatchValue → List PatchValue → Result (List PatchValue) BuildFault

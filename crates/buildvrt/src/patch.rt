@@ -4,7 +4,7 @@ ghost use Rattle.std.specs.List.{All};
 ghost use Rattle.lists_and_answers.specs.Answers.{Gives};
 ghost use Rattle.buildvrt.specs.Mosaic.{IsMemory};
 ghost use Rattle.geotransform.specs.Geo.{IsNear};
-ghost use Rattle.buildvrt.specs.Rectangles.{target_of, meets_side, meets, is_offset, is_within, in_millionths, shown_at, patch_of, patches_of, IsPixelRect, IsPatch};
+ghost use Rattle.buildvrt.specs.Rectangles.{rectangle_of, meets_side, meets, is_offset, is_within, in_millionths, shown_at, patch_of, patches_of, IsPixelRect, IsPatch};
 
 use crate::faults::BuildFault;
 use crate::grid::{Grid, difference, negative, rounded, some_pixels};
@@ -55,8 +55,8 @@ fn way(count: u32, step: Ticks) -> Ticks
 }
 
 // The pixels on which an input comes to lie.
-fn target_of(grid: &Grid, tile: &Tile) -> PixelRect
-    ensures value { result ≡ target_of grid.now tile.now }
+fn rectangle_of(grid: &Grid, tile: &Tile) -> PixelRect
+    ensures value { result ≡ rectangle_of grid.now tile.now }
     ensures rules { IsPixelRect result }
 {
     let head = tile.head;
@@ -116,7 +116,7 @@ fn patch_of<'a>(grid: &Grid, tile: &Tile<'a>) -> Result<Patch<'a>, BuildFault>
     ensures rules { IfOk result IsPatch }
 {
     let head = tile.head;
-    match shown_at(grid.size, target_of(grid, tile)) {
+    match shown_at(grid.size, rectangle_of(grid, tile)) {
         Ok(shown) => Ok(Patch { head, shown }),
         Err(fault) => Err(fault),
     }

@@ -4,6 +4,7 @@ use Rattle.std.specs.Prelude.{All, slice_get, nat_lt, ok_or, ◌||◌}
 use Rattle.std.proofs.lemmas.Bool.Decides.{nat_tests}
 use Rattle.std.proofs.lemmas.Slice.Eq.{bytes_eq-Decides}
 use Rattle.lists_and_answers.specs.Answers.{◌>>=◌}
+use Rattle.lists_and_answers.specs.Lists.{flattened}
 use Rattle.vrt_profile.specs.Values.{SourceValue}
 use Rattle.vrt_profile.specs.Resolve.{resolved_text}
 use Rattle.catalog.specs.declared.kind.Kind.{Kind}
@@ -19,7 +20,7 @@ use Rattle.catalog.specs.Drivers.{Dataset, content_head, content_kind, driver_ki
 use Rattle.catalog.specs.Mosaics.{sources_of, source_name, is_among}
 use Rattle.catalog.specs.Heads.{kind_in, resolved}
 use Rattle.catalog.specs.Walk.{number_of, dataset_named, sources_in, unless_on, room_for, again_sources, again_below, again_step, again, IsDataset}
-use Rattle.catalog.specs.Linked.{State, IsLinked, IsLinkOf, IsMet, IsHigh, IsOff, IsDeep, IsTarget, Each, all_of, height_in, height_at, most, first_above}
+use Rattle.catalog.specs.Linked.{State, IsLinked, IsLinkOf, IsMet, IsHigh, IsOff, IsDeep, IsMember, Each, height_in, height_at, most, first_above}
 use Rattle.catalog.proofs.Found.{some_is, of_item, named_at, name_at, flat_rows}
 use Rattle.catalog.proofs.Rows.{rows_known}
 
@@ -78,24 +79,24 @@ again_into st linked below room path id d l met off =
 
 -- sources
 
-target_resolves : (base : List ℕ) (s : SourceValue) (name : List ℕ) → source_name base s ≡ Some name → resolved base s ≡ Ok name
-target_resolves base s name is = ap (λ o. ok_or o (Limit limits.Name (length (resolved_text base s)))) is
+member_resolves : (base : List ℕ) (s : SourceValue) (name : List ℕ) → source_name base s ≡ Some name → resolved base s ≡ Ok name
+member_resolves base s name is = ap (λ o. ok_or o (Limit limits.Name (length (resolved_text base s)))) is
 
-target_named : (st : State) (base : List ℕ) (s : SourceValue) (id : ℕ) → (t : IsTarget st base s id) → t.dataset.head.name ≡ t.name
-target_named st base s id t = name_at st.datasets t.name id t.dataset t.number t.at
+member_named : (st : State) (base : List ℕ) (s : SourceValue) (id : ℕ) → (t : IsMember st base s id) → t.dataset.head.name ≡ t.name
+member_named st base s id t = name_at st.datasets t.name id t.dataset t.number t.at
 
 -- the first source is followed, then the others
-sources_step : (st : State) (below : List ℕ → Result (Unit {0}) WalkFault) (base : List ℕ) (s : SourceValue) (ss : List SourceValue) (id : ℕ) → (t : IsTarget st base s id)
+sources_step : (st : State) (below : List ℕ → Result (Unit {0}) WalkFault) (base : List ℕ) (s : SourceValue) (ss : List SourceValue) (id : ℕ) → (t : IsMember st base s id)
     → again_sources below base (s ∷ ss) ≡ (below t.dataset.head.name >>= λ checked. again_sources below base ss)
 sources_step st below base s ss id t =
-    ap (λ r. r >>= λ name. below name >>= λ checked. again_sources below base ss) (target_resolves base s t.name t.resolves)
-    ∙ ap (λ name. below name >>= λ checked. again_sources below base ss) (sym (target_named st base s id t))
+    ap (λ r. r >>= λ name. below name >>= λ checked. again_sources below base ss) (member_resolves base s t.name t.resolves)
+    ∙ ap (λ name. below name >>= λ checked. again_sources below base ss) (sym (member_named st base s id t))
 
 Fine : State → (List ℕ → Result (Unit {0}) WalkFault) → ℕ → Type 0
 Fine st below height = (id : ℕ) (d : Dataset) (l : Link) → IsMet st id d l → l.height ≤ height → below d.head.name ≡ Ok tt
 
 -- each source is fine where no one names what is higher
-sources_fine : (st : State) (below : List ℕ → Result (Unit {0}) WalkFault) (base : List ℕ) (ss : List SourceValue) (ids : List ℕ) (height : ℕ) → Each (IsTarget st base) ss ids → most st.links ids ≤ height → Fine st below height
+sources_fine : (st : State) (below : List ℕ → Result (Unit {0}) WalkFault) (base : List ℕ) (ss : List SourceValue) (ids : List ℕ) (height : ℕ) → Each (IsMember st base) ss ids → most st.links ids ≤ height → Fine st below height
     → again_sources below base ss ≡ Ok tt
 unfolding Fine
 sources_fine st below base [] [] height all low fine = refl
@@ -115,7 +116,7 @@ content_fine : (st : State) (below : List ℕ → Result (Unit {0}) WalkFault) (
 content_fine st below name (File h) l height is low fine = refl
 content_fine st below name (Mosaic doc) l height is low fine =
     let e = is.height in
-    sources_fine st below name (sources_of doc) (all_of l.targets) height (flat_rows st name doc.bands l.targets is.rows) (omega arith) fine
+    sources_fine st below name (sources_of doc) (flattened l.members) height (flat_rows st name doc.bands l.members is.rows) (omega arith) fine
 
 content_flat : (st : State) (below : List ℕ → Result (Unit {0}) WalkFault) (name : List ℕ) (c : Content) (l : Link) → IsLinkOf st name c l → l.height ≤ 0 → again_sources below name (sources_in c) ≡ Ok tt
 content_flat st below name (File h) l is low = refl
@@ -153,7 +154,7 @@ again_fine (suc room) st linked path id d l met off low =
     content_below st below name (File h) l is fine = refl
     content_below st below name (Mosaic doc) l is fine =
         let e = is.height in
-        sources_fine st below name (sources_of doc) (all_of l.targets) (most st.links (all_of l.targets)) (flat_rows st name doc.bands l.targets is.rows) (omega arith) (λ id d m met low. fine id d m met (omega arith))
+        sources_fine st below name (sources_of doc) (flattened l.members) (most st.links (flattened l.members)) (flat_rows st name doc.bands l.members is.rows) (omega arith) (λ id d m met low. fine id d m met (omega arith))
 
 -- a mosaic for which there is no room
 pub again_full : (st : State) → IsLinked st → (path : List (List ℕ)) (id : ℕ) (d : Dataset) (l : Link) → IsMet st id d l → IsOff st path l.height → 0 < l.height → again 0 st.datasets path d.head.name ≡ Err (TooDeep d.head.name)
@@ -180,7 +181,7 @@ pub record EndsAt (st : State) (room : ℕ) (below : List ℕ → Result (Unit {
   pub high : room < link.height
   pub ends : (fault : WalkFault) → below dataset.head.name ≡ Err fault → again_sources below base ss ≡ Err fault
 
-sources_end : (st : State) (room : ℕ) (below : List ℕ → Result (Unit {0}) WalkFault) (base : List ℕ) (ss : List SourceValue) (ids : List ℕ) (id : ℕ) → Each (IsTarget st base) ss ids → Fine st below room → first_above st.links room ids ≡ Some id
+sources_end : (st : State) (room : ℕ) (below : List ℕ → Result (Unit {0}) WalkFault) (base : List ℕ) (ss : List SourceValue) (ids : List ℕ) (id : ℕ) → Each (IsMember st base) ss ids → Fine st below room → first_above st.links room ids ≡ Some id
     → EndsAt st room below base ss id
 unfolding Fine
 sources_end st room below base [] [] id all fine is = absurd (true≢false cc)
@@ -218,18 +219,18 @@ sources_end st room below base (s ∷ ss) (k ∷ ks) id all fine is = by_test (n
         }
 
 -- the checks of a mosaic end with the first of its sources that names what is too high
-content_ends : (st : State) (room : ℕ) (below : List ℕ → Result (Unit {0}) WalkFault) (name : List ℕ) (c : Content) (l : Link) (id : ℕ) → IsLinkOf st name c l → room < l.height → Fine st below room → first_above st.links room (all_of l.targets) ≡ Some id
+content_ends : (st : State) (room : ℕ) (below : List ℕ → Result (Unit {0}) WalkFault) (name : List ℕ) (c : Content) (l : Link) (id : ℕ) → IsLinkOf st name c l → room < l.height → Fine st below room → first_above st.links room (flattened l.members) ≡ Some id
     → EndsAt st room below name (sources_in c) id
 content_ends st room below name (File h) l id is high fine first = absurd (omega (arith, is))
-content_ends st room below name (Mosaic doc) l id is high fine first = sources_end st room below name (sources_of doc) (all_of l.targets) id (flat_rows st name doc.bands l.targets is.rows) fine first
+content_ends st room below name (Mosaic doc) l id is high fine first = sources_end st room below name (sources_of doc) (flattened l.members) id (flat_rows st name doc.bands l.members is.rows) fine first
 
-height_of_content : (st : State) (room : ℕ) (name : List ℕ) (c : Content) (l : Link) → IsLinkOf st name c l → suc room < l.height → room < most st.links (all_of l.targets)
+height_of_content : (st : State) (room : ℕ) (name : List ℕ) (c : Content) (l : Link) → IsLinkOf st name c l → suc room < l.height → room < most st.links (flattened l.members)
 height_of_content st room name (File h) l is high = absurd (omega (arith, is))
 height_of_content st room name (Mosaic doc) l is high = let e = is.height in omega arith
 
 -- what is too high has a source that names what is too high with one mosaic more on the path
-pub high_there : (st : State) → IsLinked st → (room : ℕ) (id : ℕ) (d : Dataset) (l : Link) → IsMet st id d l → suc room < l.height → (k : ℕ) × (first_above st.links room (all_of l.targets) ≡ Some k)
-high_there st linked room id d l met high = above_there st.links room (all_of l.targets) (height_of_content st room d.head.name d.content l (linked.whole id d l met.at met.whole).content high)
+pub high_there : (st : State) → IsLinked st → (room : ℕ) (id : ℕ) (d : Dataset) (l : Link) → IsMet st id d l → suc room < l.height → (k : ℕ) × (first_above st.links room (flattened l.members) ≡ Some k)
+high_there st linked room id d l met high = above_there st.links room (flattened l.members) (height_of_content st room d.head.name d.content l (linked.whole id d l met.at met.whole).content high)
 
 above_low : (links : List (Option Link)) (room : ℕ) (ids : List ℕ) (k : ℕ) → first_above links room ids ≡ Some k → height_at links k ≤ most links ids
 above_low links room [] k is = absurd (true≢false cc)
@@ -239,12 +240,12 @@ above_low links room (id ∷ ids) k is = by_test (nat_lt room (height_at links i
     by_test true first rest = let e : height_at links k ≡ height_at links id = ap (height_at links) (sym (some_is first)) in omega arith
     by_test false first rest = let low = rest first in omega arith
 
-most_low : (st : State) (name : List ℕ) (c : Content) (l : Link) → IsLinkOf st name c l → 0 < l.height → most st.links (all_of l.targets) < l.height
+most_low : (st : State) (name : List ℕ) (c : Content) (l : Link) → IsLinkOf st name c l → 0 < l.height → most st.links (flattened l.members) < l.height
 most_low st name (File h) l is high = absurd (omega (arith, is))
 most_low st name (Mosaic doc) l is high = let e = is.height in omega arith
 
 -- the checks of what is too high end where those of its first source that names what is too high do
-pub deep_step : (st : State) → IsLinked st → (room : ℕ) (id : ℕ) (d : Dataset) (l : Link) (k : ℕ) (name : List ℕ) → IsMet st id d l → suc room < l.height → first_above st.links room (all_of l.targets) ≡ Some k → IsDeep st room k name → IsDeep st (suc room) id name
+pub deep_step : (st : State) → IsLinked st → (room : ℕ) (id : ℕ) (d : Dataset) (l : Link) (k : ℕ) (name : List ℕ) → IsMet st id d l → suc room < l.height → first_above st.links room (flattened l.members) ≡ Some k → IsDeep st room k name → IsDeep st (suc room) id name
 unfolding Fine
 deep_step st linked room id d l k name met high first deep = record { deep = λ path d' l' met' off. same path d' l' (some_is (sym met.at ∙ met'.at)) (some_is (some_is (sym met.whole ∙ met'.whole))) off }
   where
@@ -255,7 +256,7 @@ deep_step st linked room id d l k name met high first deep = record { deep = λ 
         let fine : Fine st below room = λ i e m met' low. again_fine room st linked (d.head.name ∷ path) i e m met' (below_off st linked path id d l met off m.height (omega arith)) low in
         let ends = content_ends st room below d.head.name d.content l k link.content (omega arith) fine first in
         let h : height_at st.links k ≡ ends.link.height = ap height_in ends.met.whole in
-        let less : ends.link.height < l.height = omega (arith, above_low st.links room (all_of l.targets) k first, most_low st d.head.name d.content l link.content (omega arith)) in
+        let less : ends.link.height < l.height = omega (arith, above_low st.links room (flattened l.members) k first, most_low st d.head.name d.content l link.content (omega arith)) in
         again_into st linked (λ p n. again room st.datasets p n) (suc room) path id d l met off
         ∙ ends.ends (TooDeep name) (deep.deep (d.head.name ∷ path) ends.dataset ends.link ends.met (below_off st linked path id d l met off ends.link.height less))
 
@@ -270,16 +271,16 @@ deep_here st linked id d l met high = record { deep = λ path d' l' met' off. sa
     same path d' l' e f off = subst (λ (x : Dataset). again 0 st.datasets path x.head.name ≡ Err (TooDeep d.head.name)) e (again_full st linked path id d l met (subst (λ (x : Link). IsOff st path x.height) (sym f) off) high)
 
 -- what it names is high too
-pub high_next : (st : State) → IsLinked st → (room : ℕ) (id : ℕ) (d : Dataset) (l : Link) (k : ℕ) → IsMet st id d l → suc room < l.height → first_above st.links room (all_of l.targets) ≡ Some k → IsHigh st k room
+pub high_next : (st : State) → IsLinked st → (room : ℕ) (id : ℕ) (d : Dataset) (l : Link) (k : ℕ) → IsMet st id d l → suc room < l.height → first_above st.links room (flattened l.members) ≡ Some k → IsHigh st k room
 unfolding Fine
 high_next st linked room id d l k met high first =
     let ends = content_ends st room (λ n. Ok tt) d.head.name d.content l k (linked.whole id d l met.at met.whole).content (omega arith) (λ i e m met' low. refl) first in
     record { dataset = ends.dataset; link = ends.link; met = ends.met; high = ends.high }
 
 -- what the sources of a mosaic name is known
-pub high_known : (st : State) → IsLinked st → (room : ℕ) (id : ℕ) (d : Dataset) (l : Link) → IsMet st id d l → room < l.height → All (λ row. All (λ id. id < length st.links) row) l.targets
+pub high_known : (st : State) → IsLinked st → (room : ℕ) (id : ℕ) (d : Dataset) (l : Link) → IsMet st id d l → room < l.height → All (λ row. All (λ id. id < length st.links) row) l.members
 high_known st linked room id d l met high = by_content d.content (linked.whole id d l met.at met.whole).content
   where
-    by_content : (c : Content) → IsLinkOf st d.head.name c l → All (λ row. All (λ id. id < length st.links) row) l.targets
+    by_content : (c : Content) → IsLinkOf st d.head.name c l → All (λ row. All (λ id. id < length st.links) row) l.members
     by_content (File h) is = absurd (omega (arith, is))
-    by_content (Mosaic doc) is = rows_known st d.head.name doc.bands l.targets is.rows
+    by_content (Mosaic doc) is = rows_known st d.head.name doc.bands l.members is.rows

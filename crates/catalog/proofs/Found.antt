@@ -3,11 +3,12 @@ use Rattle.std.proofs.Common.{◌≡◌, ◌∙◌, ◌+◌, ap, sym, subst, ref
 use Rattle.std.specs.Prelude.{All, slice_get, flat_map, max}
 use Rattle.std.proofs.lemmas.Option.{slice_get_within, get_or_from_slice_get}
 use Rattle.std.proofs.lemmas.Slice.Eq.{bytes_eq-Decides}
+use Rattle.lists_and_answers.specs.Lists.{flattened}
 use Rattle.vrt_profile.specs.Values.{SourceValue, BandValue}
 use Rattle.catalog.specs.declared.links.Link.{Link}
 use Rattle.catalog.specs.Drivers.{Dataset}
 use Rattle.catalog.specs.Walk.{number_from, number_of, dataset_named, IsApart}
-use Rattle.catalog.specs.Linked.{State, Grows, IsTarget, Each, AreRows, all_of, height_in, height_at, most}
+use Rattle.catalog.specs.Linked.{State, Grows, IsMember, Each, AreRows, height_in, height_at, most}
 
 none≢some : {T : Type 0} {x : T} → None ≡ Some x → ⊥
 none≢some e = true≢false (sym (ap is_some e))
@@ -65,8 +66,8 @@ number_stays old new name id grows apart is =
     let f = found old.datasets name id is in
     subst (λ n. number_of new.datasets n ≡ Some id) f.named (apart id f.dataset (grows.datasets id f.dataset f.at))
 
-pub target_stays : (old new : State) (base : List ℕ) (s : SourceValue) (id : ℕ) → Grows old new → IsApart new.datasets → IsTarget old base s id → IsTarget new base s id
-target_stays old new base s id grows apart t = record {
+pub member_stays : (old new : State) (base : List ℕ) (s : SourceValue) (id : ℕ) → Grows old new → IsApart new.datasets → IsMember old base s id → IsMember new base s id
+member_stays old new base s id grows apart t = record {
   name = t.name;
   dataset = t.dataset;
   link = t.link;
@@ -99,18 +100,18 @@ each_map P Q (a ∷ xs) [] h all = absurd all
 each_map P Q (a ∷ xs) (b ∷ bs) h all = (h a b all.0, each_map P Q xs bs h all.1)
 
 -- the rows of all bands, one behind the other
-pub flat_rows : (st : State) (base : List ℕ) (bands : List BandValue) (rows : List (List ℕ)) → AreRows st base bands rows → Each (IsTarget st base) (flat_map (λ (b : BandValue). b.sources) bands) (all_of rows)
+pub flat_rows : (st : State) (base : List ℕ) (bands : List BandValue) (rows : List (List ℕ)) → AreRows st base bands rows → Each (IsMember st base) (flat_map (λ (b : BandValue). b.sources) bands) (flattened rows)
 flat_rows st base [] [] all = tt
 flat_rows st base [] (r ∷ rows) all = absurd all
 flat_rows st base (b ∷ bands) [] all = absurd all
-flat_rows st base (b ∷ bands) (r ∷ rows) all = each_append (IsTarget st base) b.sources (flat_map (λ (b : BandValue). b.sources) bands) r (all_of rows) all.0 (flat_rows st base bands rows all.1)
+flat_rows st base (b ∷ bands) (r ∷ rows) all = each_append (IsMember st base) b.sources (flat_map (λ (b : BandValue). b.sources) bands) r (flattened rows) all.0 (flat_rows st base bands rows all.1)
 
 -- heights stay
 
 pub height_whole : (st : State) (id : ℕ) (l : Link) → slice_get st.links id ≡ Some (Some l) → height_at st.links id ≡ l.height
 height_whole st id l whole = ap height_in whole
 
-pub most_stays : (old new : State) (base : List ℕ) (ss : List SourceValue) (ids : List ℕ) → Grows old new → Each (IsTarget old base) ss ids → most new.links ids ≡ most old.links ids
+pub most_stays : (old new : State) (base : List ℕ) (ss : List SourceValue) (ids : List ℕ) → Grows old new → Each (IsMember old base) ss ids → most new.links ids ≡ most old.links ids
 most_stays old new base [] [] grows all = refl
 most_stays old new base [] (id ∷ ids) grows all = absurd all
 most_stays old new base (s ∷ ss) [] grows all = absurd all
@@ -121,5 +122,5 @@ most_stays old new base (s ∷ ss) (id ∷ ids) grows all =
 
 pub rows_stay : (old new : State) (base : List ℕ) (bands : List BandValue) (rows : List (List ℕ)) → Grows old new → IsApart new.datasets → AreRows old base bands rows → AreRows new base bands rows
 rows_stay old new base bands rows grows apart all =
-    each_map (λ (b : BandValue) (row : List ℕ). Each (IsTarget old base) b.sources row) (λ (b : BandValue) (row : List ℕ). Each (IsTarget new base) b.sources row) bands rows
-    (λ b row. each_map (IsTarget old base) (IsTarget new base) b.sources row (λ s id. target_stays old new base s id grows apart)) all
+    each_map (λ (b : BandValue) (row : List ℕ). Each (IsMember old base) b.sources row) (λ (b : BandValue) (row : List ℕ). Each (IsMember new base) b.sources row) bands rows
+    (λ b row. each_map (IsMember old base) (IsMember new base) b.sources row (λ s id. member_stays old new base s id grows apart)) all

@@ -13,6 +13,7 @@ pub mod Listings
 pub mod Loops
 pub mod Meetings
 pub mod Meets
+pub mod Members
 pub mod Mosaics
 pub mod Numbers
 pub mod Opened
@@ -20,13 +21,13 @@ pub mod Passes
 pub mod PixelLaws
 mod PixelRows
 pub mod Pixels
+pub mod Readings
 pub mod Records
 pub mod Rows
 pub mod Scans
 pub mod States
-pub mod Steps
-pub mod Targets
 pub mod Visits
 pub mod Walked
+pub mod Walking
 pub mod Whole
 pub mod Wholes

@@ -7,8 +7,8 @@ use Rattle.vrt_profile.specs.Values.{SourceValue, BandValue}
 use Rattle.catalog.specs.declared.faults.WalkFault.{WalkFault}
 use Rattle.catalog.specs.Outcomes.{IsOutside}
 use Rattle.catalog.specs.Walk.{Met, visit_source, visit_sources}
-use Rattle.catalog.specs.Linked.{State, IsLinked, IsTarget, Grows, Each, height_at, most}
-use Rattle.catalog.proofs.Found.{each_more, each_map, target_stays, most_stays}
+use Rattle.catalog.specs.Linked.{State, IsLinked, IsMember, Grows, Each, height_at, most}
+use Rattle.catalog.proofs.Found.{each_more, each_map, member_stays, most_stays}
 use Rattle.catalog.proofs.Rows.{most_append}
 use Rattle.catalog.proofs.Visits.{sources_append, still_refused}
 
@@ -71,10 +71,10 @@ bands_counted bands k b is = omega (arith, ap length (from_more bands k b is), l
 
 -- what is named
 
-pub row_more : (old new : State) (base : List ℕ) (ss : List SourceValue) (row : List ℕ) (k id : ℕ) (s : SourceValue) → slice_get ss k ≡ Some s → Grows old new → IsLinked new → Each (IsTarget old base) (take k ss) row → IsTarget new base s id → Each (IsTarget new base) (take (k + 1) ss) (row ++ id ∷ [])
-row_more old new base ss row k id s is grows linked before target =
-    subst (λ (xs : List SourceValue). Each (IsTarget new base) xs (row ++ id ∷ [])) (sym (item_more ss k s is))
-    (each_more (IsTarget new base) (take k ss) row s id (each_map (IsTarget old base) (IsTarget new base) (take k ss) row (λ x i. target_stays old new base x i grows linked.apart) before) target)
+pub row_more : (old new : State) (base : List ℕ) (ss : List SourceValue) (row : List ℕ) (k id : ℕ) (s : SourceValue) → slice_get ss k ≡ Some s → Grows old new → IsLinked new → Each (IsMember old base) (take k ss) row → IsMember new base s id → Each (IsMember new base) (take (k + 1) ss) (row ++ id ∷ [])
+row_more old new base ss row k id s is grows linked before member =
+    subst (λ (xs : List SourceValue). Each (IsMember new base) xs (row ++ id ∷ [])) (sym (item_more ss k s is))
+    (each_more (IsMember new base) (take k ss) row s id (each_map (IsMember old base) (IsMember new base) (take k ss) row (λ x i. member_stays old new base x i grows linked.apart) before) member)
 
-pub low_more : (old new : State) (base : List ℕ) (ss : List SourceValue) (row : List ℕ) (id room : ℕ) → Grows old new → Each (IsTarget old base) ss row → most old.links row ≤ room → height_at new.links id ≤ room → most new.links (row ++ id ∷ []) ≤ room
+pub low_more : (old new : State) (base : List ℕ) (ss : List SourceValue) (row : List ℕ) (id room : ℕ) → Grows old new → Each (IsMember old base) ss row → most old.links row ≤ room → height_at new.links id ≤ room → most new.links (row ++ id ∷ []) ≤ room
 low_more old new base ss row id room grows before low here = omega (arith, most_append new.links row (id ∷ []), most_stays old new base ss row grows before)

@@ -1,5 +1,5 @@
 -- How the visit of a name begins.
-use Rattle.std.proofs.Common.{◌≡◌, ◌∙◌, ◌⊎◌, inl, inr, ◌-◌, ◌<◌, ◌≤◌, ap, sym, subst, refl, ℕ, zero, suc, List, [], ◌∷◌, ◌++◌, length, Bool, Option, Some, None, is_some, IsTrue, Result, Ok, Err, arith, true≢false}
+use Rattle.std.proofs.Common.{◌≡◌, ◌∙◌, ◌⊎◌, inl, inr, ◌+◌, ◌-◌, ◌<◌, ◌≤◌, ap, sym, subst, refl, ℕ, zero, suc, List, [], ◌∷◌, ◌++◌, length, Bool, Option, Some, None, is_some, IsTrue, Result, Ok, Err, arith, true≢false}
 use Rattle.std.specs.Prelude.{slice_get, ok_or, option_and_then}
 use Rattle.outside.specs.Outside.{Files}
 use Rattle.outside.specs.Causes.{HasCause}
@@ -21,11 +21,13 @@ use Rattle.catalog.specs.Outcomes.{IsOutside, IsMemory}
 use Rattle.catalog.specs.Heads.{kind_in, kind_of, dataset_by, IsOfFile}
 use Rattle.catalog.proofs.Headers.{never_unknown, owns_fault}
 use Rattle.catalog.specs.Walk.{number_of, room_for, sources_in, visit, visit_sources, IsDataset, IsWalked}
+use Rattle.catalog.specs.Readings.{calls_to_open}
 use Rattle.catalog.specs.Linked.{State, met_of, IsLinked, IsLink, IsLinkOf, IsPath, IsLow, Grows, pushed}
-use Rattle.catalog.specs.Steps.{Seen, IsPlain, Steps, Visits, IsOpened}
+use Rattle.catalog.specs.Walking.{Seen, IsPlain, WalksOn, ReadsOnce, Visits, IsOpened}
 use Rattle.catalog.proofs.States.{grows_refl, grows_pushed, goes_file, linked_pushed, open_unknown, pushed_at, last_item}
-use Rattle.catalog.proofs.Steps.{failed, fault_is, ok≢err, plain_known, steps_none, steps_plain}
+use Rattle.catalog.proofs.Walking.{failed, fault_is, ok≢err, plain_known, walks_none, walks_plain}
 use Rattle.catalog.proofs.Visits.{IsFirst, visit_unknown, visit_deep, visit_limit, visit_unread, visit_file, visit_mosaic}
+use Rattle.catalog.proofs.Readings.{one_more_read}
 use Rattle.catalog.proofs.Walked.{one_more_walked, read_so}
 
 none≢some : {T : Type 0} {x : T} → None ≡ Some x → ⊥
@@ -47,16 +49,17 @@ module _ (verify : Bool) (room : ℕ) (name : List ℕ) where
   -- a plain refusal of a name that tells its kind
   pub visits_plain : (a : Seen) (st : State) (kind : Kind) (f : WalkFault) → kind_in name ≡ Ok kind → IsPlain f → ((m : Files) (path : List (List ℕ)) → IsPath st path → IsOutside f ⊎ (visit m verify room path (met_of st) name ≡ Err f)) → Visits verify room name a a st st (Err f)
   visits_plain a st kind f is plain told =
-      let steps : Steps 0 a a st st (failed ℕ f) = steps_plain ℕ 0 a st st f (grows_refl st) plain in
+      let walks : WalksOn 0 a a st st (failed ℕ f) = walks_plain ℕ 0 a st st f (grows_refl st) plain in
       record {
-        steps = steps;
+        walks = walks;
         told = λ m names path on. told m path on;
+        reads = tt;
         number = tt;
         low = tt;
         again = λ met. record { reads = refl; faults = refl };
         unknown = record {
           always = λ fault e. absurd (ok≢err (sym is ∙ e));
-          only = steps.known;
+          only = walks.known;
           file = λ k n e other r. plain_known f n plain (fault_is ℕ f (NotRecognized n) r);
         };
       }
@@ -64,21 +67,22 @@ module _ (verify : Bool) (room : ℕ) (name : List ℕ) where
   -- a name that tells no kind
   pub visits_unknown : (a : Seen) (st : State) (f : WalkFault) → IsMemory f ⊎ (kind_in name ≡ Err f) → Visits verify room name a a st st (Err f)
   visits_unknown a st f (inl free) = record {
-    steps = steps;
+    walks = walks;
     told = λ m names path on. inl (subst IsOutside (sym free) tt);
+    reads = tt;
     number = tt;
     low = tt;
     again = λ met. record { reads = refl; faults = refl };
-    unknown = record { always = λ fault e. inr (ap Err free); only = steps.known; file = λ k n e other r. plain_known f n plain (fault_is ℕ f (NotRecognized n) r) };
+    unknown = record { always = λ fault e. inr (ap Err free); only = walks.known; file = λ k n e other r. plain_known f n plain (fault_is ℕ f (NotRecognized n) r) };
   }
     where
       plain : IsPlain f
       plain = subst IsPlain (sym free) tt
 
-      steps : Steps 0 a a st st (failed ℕ f)
-      steps = steps_plain ℕ 0 a st st f (grows_refl st) plain
+      walks : WalksOn 0 a a st st (failed ℕ f)
+      walks = walks_plain ℕ 0 a st st f (grows_refl st) plain
   visits_unknown a st f (inr is) = record {
-    steps = record {
+    walks = record {
       grows = grows_refl st;
       goes = tt;
       read = λ m told walked. tt;
@@ -89,6 +93,7 @@ module _ (verify : Bool) (room : ℕ) (name : List ℕ) where
       cause = record { later = omega arith; failed = λ r. absurd (folder (sym named ∙ fault_is ℕ f FolderFault r)) };
     };
     told = λ m names path on. inr (visit_unknown m verify room path (met_of st) name f is);
+    reads = tt;
     number = tt;
     low = tt;
     again = λ met. record { reads = refl; faults = refl };
@@ -121,8 +126,9 @@ module _ (verify : Bool) (room : ℕ) (name : List ℕ) where
   -- a name that was met
   pub visits_known : (a : Seen) (st : State) (kind : Kind) (id : ℕ) → IsLinked st → kind_in name ≡ Ok kind → number_of st.datasets name ≡ Some id → IsLow st id room → ((m : Files) (path : List (List ℕ)) → IsPath st path → visit m verify room path (met_of st) name ≡ Ok (met_of st)) → Visits verify room name a a st st (Ok id)
   visits_known a st kind id linked is number low told = record {
-    steps = steps_none a st id linked;
+    walks = walks_none a st id linked;
     told = λ m names path on. told m path on;
+    reads = omega arith;
     number = number;
     low = low;
     again = λ met. record { reads = refl; faults = refl };
@@ -145,7 +151,7 @@ module _ (verify : Bool) (room : ℕ) (name : List ℕ) where
       -- its own files are refused
       pub visits_unread : (f : WalkFault) → ((m : Files) → a.names ≡ Some m → IsOutside f ⊎ (dataset_by kind m verify name ≡ Err f)) → HasCause FolderFault a.faults b.faults (failed Dataset f) → IsOfFile f → Visits verify room name a b st st (Err f)
       visits_unread f told cause of_file = record {
-        steps = record {
+        walks = record {
           grows = grows_refl st;
           goes = tt;
           read = λ m t walked. tt;
@@ -156,6 +162,7 @@ module _ (verify : Bool) (room : ℕ) (name : List ℕ) where
           cause = record { later = cause.later; failed = λ r. cause.failed (ap (failed Dataset) (fault_is ℕ f FolderFault r)) };
         };
         told = λ m t path on. by_told m path on (told m t);
+        reads = tt;
         number = tt;
         low = tt;
         again = λ met. absurd (not_met (number_of st.datasets name) fresh met);
@@ -173,7 +180,7 @@ module _ (verify : Bool) (room : ℕ) (name : List ℕ) where
       -- memory is refused for it
       pub visits_memory : (new : State) (f : WalkFault) → f ≡ Memory → Grows st new → a.faults ≤ b.faults → Visits verify room name a b st new (Err f)
       visits_memory new f free grows later = record {
-        steps = record {
+        walks = record {
           grows = grows;
           goes = tt;
           read = λ m t walked. tt;
@@ -184,6 +191,7 @@ module _ (verify : Bool) (room : ℕ) (name : List ℕ) where
           cause = record { later = later; failed = λ r. absurd (folder (sym free ∙ fault_is ℕ f FolderFault r)) };
         };
         told = λ m t path on. inl (subst IsOutside (sym free) tt);
+        reads = tt;
         number = tt;
         low = tt;
         again = λ met. absurd (not_met (number_of st.datasets name) fresh met);
@@ -203,7 +211,7 @@ module _ (verify : Bool) (room : ℕ) (name : List ℕ) where
           folder : Memory ≡ FolderFault → ⊥
           folder e = cc
 
-      module _ (linked : IsLinked st) (d : Dataset) (valid : IsDataset d) (named : d.head.name ≡ name) (told : (m : Files) → a.names ≡ Some m → dataset_by kind m verify name ≡ Ok d) (later : a.faults ≤ b.faults) where
+      module _ (linked : IsLinked st) (d : Dataset) (valid : IsDataset d) (named : d.head.name ≡ name) (told : (m : Files) → a.names ≡ Some m → dataset_by kind m verify name ≡ Ok d) (later : a.faults ≤ b.faults) (read : b.reads ≤ a.reads + calls_to_open verify d) where
         unmet : number_of st.datasets d.head.name ≡ None
         unmet = ap (number_of st.datasets) named ∙ fresh
 
@@ -211,7 +219,7 @@ module _ (verify : Bool) (room : ℕ) (name : List ℕ) where
         walked_more m t walked = one_more_walked m st.datasets d walked (read_so m verify name kind d is (told m t) named)
 
         -- a file is met whole at once
-        pub visits_file : (new : State) (id : ℕ) (h : DriverHead) (l : Link) → d.content ≡ File h → l ≡ record { height = 0; targets = [] } → new ≡ pushed st d (Some l) → id ≡ length st.datasets → Visits verify room name a b st new (Ok id)
+        pub visits_file : (new : State) (id : ℕ) (h : DriverHead) (l : Link) → d.content ≡ File h → l ≡ record { height = 0; members = [] } → new ≡ pushed st d (Some l) → id ≡ length st.datasets → Visits verify room name a b st new (Ok id)
         visits_file new id h l content flat is_pushed number =
             subst (λ (n : State). Visits verify room name a b st n (Ok id)) (sym is_pushed) (subst (λ (k : ℕ). Visits verify room name a b st (pushed st d (Some l)) (Ok k)) (sym number) whole)
           where
@@ -229,7 +237,7 @@ module _ (verify : Bool) (room : ℕ) (name : List ℕ) where
 
             whole : Visits verify room name a b st (pushed st d (Some l)) (Ok (length st.datasets))
             whole = record {
-              steps = record {
+              walks = record {
                 grows = grows_pushed st d (Some l);
                 goes = goes_file st d l linked linked' unmet none;
                 read = walked_more;
@@ -240,6 +248,7 @@ module _ (verify : Bool) (room : ℕ) (name : List ℕ) where
                 cause = record { later = later; failed = λ r. absurd (ok≢err r) };
               };
               told = λ m t path on. visit_file m verify room path (met_of st) name kind d (first path on) few (told m t) none;
+              reads = one_more_read verify a.reads b.reads st.datasets d read;
               number = ap (number_of (st.datasets ++ d ∷ [])) (sym named) ∙ linked'.apart (length st.datasets) d (pushed_at st d (Some l));
               low = record { dataset = d; link = l; met = record { at = pushed_at st d (Some l); whole = ap (slice_get (st.links ++ Some l ∷ [])) (sym linked.long) ∙ last_item st.links (Some l) }; low = omega (arith, low) };
               again = λ met. absurd (not_met (number_of st.datasets name) fresh met);
@@ -265,6 +274,7 @@ module _ (verify : Bool) (room : ℕ) (name : List ℕ) where
           names = names;
           writes = writes;
           later = later;
+          reads = subst (λ (s : State). ReadsOnce verify a b st s) (sym is_pushed) (one_more_read verify a.reads b.reads st.datasets d read);
         }
           where
             vrt : kind_in name ≡ Ok kinds.Vrt

@@ -12,12 +12,12 @@ use Rattle.vrt_profile.specs.Values.{SourceValue}
 use Rattle.catalog.specs.Drivers.{Dataset}
 use Rattle.catalog.specs.Outcomes.{IsOutside}
 use Rattle.catalog.specs.Walk.{Met, visit, walked, met_in, IsDataset, IsNested}
-use Rattle.catalog.specs.Links.{source_at, target_at, height_of}
+use Rattle.catalog.specs.Links.{source_at, member_at, height_of}
 use Rattle.catalog.specs.Linked.{State, met_of, height_at, height_in, IsMet, IsWhole, Grows, cut_to}
-use Rattle.catalog.specs.Steps.{Seen, Visits}
+use Rattle.catalog.specs.Walking.{Seen, Visits}
 use Rattle.catalog.proofs.Found.{some_is}
 use Rattle.catalog.proofs.States.{front_stays, item_there}
-use Rattle.catalog.proofs.Targets.{IsKept, kept, height_known, falls_below}
+use Rattle.catalog.proofs.Members.{IsKept, kept, height_known, falls_below}
 use Rattle.catalog.proofs.Wholes.{whole_path, cut_back}
 
 whole_met : (st : State) → IsWhole st → met_of st ≡ met_in st.datasets
@@ -136,28 +136,28 @@ module _ (st : State) (whole : IsWhole st) (id band source : ℕ) (l : Link) (th
   k : IsKeptAt st id band source l
   k = kept_at st whole id band source l there at
 
-  pub band_within : band < length l.targets
-  band_within = slice_get_within l.targets band k.fits.row k.fits.row_at
+  pub band_within : band < length l.members
+  band_within = slice_get_within l.members band k.fits.row k.fits.row_at
 
-  module _ (row : List ℕ) (row_is : slice_get l.targets band ≡ Some row) where
+  module _ (row : List ℕ) (row_is : slice_get l.members band ≡ Some row) where
     same_row : k.fits.row ≡ row
     same_row = some_is (sym k.fits.row_at ∙ row_is)
 
     pub source_in_row : source < length row
     source_in_row = subst (λ (r : List ℕ). source < length r) same_row (slice_get_within k.fits.row source k.fits.id k.fits.id_at)
 
-    module _ (target : ℕ) (target_is : slice_get row source ≡ Some target) where
-      same_id : k.fits.id ≡ target
-      same_id = some_is (sym k.fits.id_at ∙ ap (λ (r : List ℕ). slice_get r source) same_row ∙ target_is)
+    module _ (member : ℕ) (member_is : slice_get row source ≡ Some member) where
+      same_id : k.fits.id ≡ member
+      same_id = some_is (sym k.fits.id_at ∙ ap (λ (r : List ℕ). slice_get r source) same_row ∙ member_is)
 
-      pub target_told : option_and_then (λ d. target_at st.datasets d band source) (slice_get st.datasets id) ≡ Some target
-      target_told = ap (option_and_then (λ (d : Dataset). target_at st.datasets d band source)) k.met.at ∙ k.fits.target ∙ ap Some same_id
+      pub member_told : option_and_then (λ d. member_at st.datasets d band source) (slice_get st.datasets id) ≡ Some member
+      member_told = ap (option_and_then (λ (d : Dataset). member_at st.datasets d band source)) k.met.at ∙ k.fits.member ∙ ap Some same_id
 
-      pub target_known : target < length st.datasets
-      target_known = subst (λ (n : ℕ). n < length st.datasets) same_id (slice_get_within st.datasets k.fits.id k.fits.fits.dataset k.fits.fits.at)
+      pub member_known : member < length st.datasets
+      member_known = subst (λ (n : ℕ). n < length st.datasets) same_id (slice_get_within st.datasets k.fits.id k.fits.fits.dataset k.fits.fits.at)
 
-      pub target_below : (d t : Dataset) → slice_get st.datasets id ≡ Some d → slice_get st.datasets target ≡ Some t → height_of st.datasets t < height_of st.datasets d
-      target_below d t d_at t_at =
+      pub member_below : (d t : Dataset) → slice_get st.datasets id ≡ Some d → slice_get st.datasets member ≡ Some t → height_of st.datasets t < height_of st.datasets d
+      member_below d t d_at t_at =
           let same : k.dataset ≡ d = some_is (sym k.met.at ∙ d_at) in
           subst (λ (x : Dataset). height_of st.datasets t < height_of st.datasets x) same
           (falls_below st whole.linked id k.dataset l band source t k.met k.fits (ap (slice_get st.datasets) same_id ∙ t_at))

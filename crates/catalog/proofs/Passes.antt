@@ -5,6 +5,7 @@ use Rattle.std.proofs.lemmas.Bool.Decides.{nat_tests}
 use Rattle.std.proofs.lemmas.Grind.{flat_map-append}
 use Rattle.std.proofs.lemmas.List.{take_all, append-nil}
 use Rattle.lists_and_answers.specs.Answers.{Gives, ◌>>=◌}
+use Rattle.lists_and_answers.specs.Lists.{flattened}
 use Rattle.outside.specs.Outside.{Files}
 use Rattle.vrt_profile.specs.Values.{SourceValue, BandValue}
 use Rattle.vrt_profile.specs.Resolve.{resolved_text}
@@ -21,13 +22,13 @@ use Rattle.catalog.specs.Mosaics.{source_name}
 use Rattle.catalog.specs.Outcomes.{IsOutside, IsMemory}
 use Rattle.catalog.specs.Heads.{resolved}
 use Rattle.catalog.specs.Walk.{Met, dataset_named, bands_of, band_named, is_narrow_band, IsWalked, one_more_source, has_band, has_samples, unless_wide, visit, visit_source, visit_sources}
-use Rattle.catalog.specs.Linked.{State, met_of, IsLinked, IsPath, IsTarget, Each, Grows, Goes, one_counted, most, all_of, height_at, height_in, IsMosaicAt, HasBand, HasSource}
-use Rattle.catalog.specs.Steps.{Seen, IsPlain, Steps, Visits, Passes, Names, Reaches, ReachesRows}
-use Rattle.catalog.proofs.Found.{each_more, each_map, target_stays, most_stays, flat_rows, rows_stay, named_at}
+use Rattle.catalog.specs.Linked.{State, met_of, IsLinked, IsPath, IsMember, Each, Grows, Goes, one_counted, most, height_at, height_in, IsMosaicAt, HasBand, HasSource}
+use Rattle.catalog.specs.Walking.{Seen, IsPlain, WalksOn, ReadsOnce, Visits, Passes, Names, Reaches, ReachesRows}
+use Rattle.catalog.proofs.Found.{each_more, each_map, member_stays, most_stays, flat_rows, rows_stay, named_at}
 use Rattle.catalog.proofs.Rows.{most_append}
 use Rattle.catalog.proofs.Loops.{item_more, item_split, from_more}
 use Rattle.catalog.proofs.States.{goes_one, grows_refl, item_there}
-use Rattle.catalog.proofs.Steps.{fault_is, ok≢err, steps_plain, steps_err, steps_then, passes_none, passes_stop, passes_then, passes_refused}
+use Rattle.catalog.proofs.Walking.{fault_is, ok≢err, walks_plain, walks_err, walks_then, passes_none, passes_stop, passes_then, passes_refused}
 use Rattle.catalog.proofs.Visits.{source_named, still_refused}
 
 -- a source
@@ -78,8 +79,8 @@ resolves_to base s name is = by_name (source_name base s) is
     by_name (Some n) e = (let same : n ≡ name = cc in ap Some same)
     by_name None e = absurd (ok≢err (sym e))
 
-counted_steps : (base : List ℕ) (s : SourceValue) (a : Seen) (old mid : State) (w : Wanted) → IsLinked old → Names base s old mid (Ok w) → Steps 1 a a old mid (Ok w)
-counted_steps base s a old mid w linked n =
+counted_walks : (base : List ℕ) (s : SourceValue) (a : Seen) (old mid : State) (w : Wanted) → IsLinked old → Names base s old mid (Ok w) → WalksOn 1 a a old mid (Ok w)
+counted_walks base s a old mid w linked n =
     let goes = goes_one old linked (not_full old.sources (counted_by (one_more_source old.sources) (resolved base s) w.name n.told)) in
     record {
       grows = n.grows;
@@ -154,14 +155,15 @@ band_there old new id band grows w b at = record { mosaic = grown_mosaic old new
 module _ (verify : Bool) (room : ℕ) (base : List ℕ) (s : SourceValue) where
   pub source_unnamed : (T : Type 0) (P : T → Type 0) (a : Seen) (old new : State) (f : WalkFault) → Names base s old new (Err f) → Passes verify room base (s ∷ []) a a old new P (Err f)
   source_unnamed T P a old new f n = record {
-    steps = steps_plain T 1 a old new f n.grows n.plain;
+    walks = walks_plain T 1 a old new f n.grows n.plain;
     told = λ m told path is. unresolved (λ e k. visit m verify room path e k) base (met_of old) s f n.told;
+    reads = tt;
     reached = tt;
   }
 
   module _ (a b : Seen) (old mid new : State) (w : Wanted) (linked : IsLinked old) (n : Names base s old mid (Ok w)) where
     counted_path : (path : List (List ℕ)) → IsPath old path → IsPath mid path
-    counted_path path is name = is name ∙ (counted_steps base s a old mid w linked n).goes.same_open name
+    counted_path path is name = is name ∙ (counted_walks base s a old mid w linked n).goes.same_open name
 
     visited_as : (m : Files) (path : List (List ℕ)) → visit_sources (λ e k. visit m verify room path e k) base (met_of old) (s ∷ []) ≡ (visit m verify room path (met_of mid) w.name >>= λ after. has_samples after.datasets base w.name s.band (is_plain s) >>= λ there. Ok after)
     visited_as m path =
@@ -170,16 +172,17 @@ module _ (verify : Bool) (room : ℕ) (base : List ℕ) (s : SourceValue) where
 
     pub source_unvisited : (T : Type 0) (P : T → Type 0) (f : WalkFault) → Visits verify room w.name a b mid new (Err f) → Passes verify room base (s ∷ []) a b old new P (Err f)
     source_unvisited T P f v = record {
-      steps = steps_err ℕ T 1 1 a b old new f (steps_then Wanted ℕ 1 0 1 a a b old mid new w (Err f) (omega arith) (counted_steps base s a old mid w linked n) v.steps);
+      walks = walks_err ℕ T 1 1 a b old new f (walks_then Wanted ℕ 1 0 1 a a b old mid new w (Err f) (omega arith) (counted_walks base s a old mid w linked n) v.walks);
       told = λ m told path is.
           subst (λ (r : Result Met WalkFault). IsOutside f ⊎ (r ≡ Err f)) (sym (visited_as m path))
           (still_refused (visit m verify room path (met_of mid) w.name) (λ after. has_samples after.datasets base w.name s.band (is_plain s) >>= λ there. Ok after) f (v.told m told path (counted_path path is)));
+      reads = tt;
       reached = tt;
     }
 
     module _ (id : ℕ) (v : Visits verify room w.name a b mid new (Ok id)) where
-      visited_steps : Steps 1 a b old new (Ok id)
-      visited_steps = steps_then Wanted ℕ 1 0 1 a a b old mid new w (Ok id) (omega arith) (counted_steps base s a old mid w linked n) v.steps
+      visited_walks : WalksOn 1 a b old new (Ok id)
+      visited_walks = walks_then Wanted ℕ 1 0 1 a a b old mid new w (Ok id) (omega arith) (counted_walks base s a old mid w linked n) v.walks
 
       banded_as : (m : Files) → a.names ≡ Some m → (path : List (List ℕ)) → IsPath old path → visit_sources (λ e k. visit m verify room path e k) base (met_of old) (s ∷ []) ≡ (has_samples new.datasets base w.name w.band w.plain >>= λ there. Ok (met_of new))
       banded_as m told path is =
@@ -189,8 +192,9 @@ module _ (verify : Bool) (room : ℕ) (base : List ℕ) (s : SourceValue) where
 
       pub source_bandless : (T : Type 0) (P : T → Type 0) (f : WalkFault) → IsPlain f → IsMemory f ⊎ (has_samples new.datasets base w.name w.band w.plain ≡ Err f) → Passes verify room base (s ∷ []) a b old new P (Err f)
       source_bandless T P f plain refused = record {
-        steps = steps_then ℕ T 1 0 1 a b b old new new id (Err f) (omega arith) visited_steps (steps_plain T 0 b new new f (grows_refl new) plain);
+        walks = walks_then ℕ T 1 0 1 a b b old new new id (Err f) (omega arith) visited_walks (walks_plain T 0 b new new f (grows_refl new) plain);
         told = λ m told path is. subst (λ (r : Result Met WalkFault). IsOutside f ⊎ (r ≡ Err f)) (sym (banded_as m told path is)) (still_refused (has_samples new.datasets base w.name w.band w.plain) (λ there. Ok (met_of new)) f (by_cause refused));
+        reads = tt;
         reached = tt;
       }
         where
@@ -200,10 +204,11 @@ module _ (verify : Bool) (room : ℕ) (base : List ℕ) (s : SourceValue) where
 
       pub source_passed : has_samples new.datasets base w.name w.band w.plain ≡ Ok tt → Passes verify room base (s ∷ []) a b old new (λ t. Reaches new room base (s ∷ []) (t ∷ [])) (Ok id)
       source_passed there = record {
-        steps = visited_steps;
+        walks = visited_walks;
         told = λ m told path is. banded_as m told path is ∙ ap (λ r. r >>= λ t. Ok (met_of new)) there;
+        reads = subst (λ (st : State). ReadsOnce verify a b st new) n.counted v.reads;
         reached = (let low = v.low in let height : height_at new.links id ≡ low.link.height = ap height_in low.met.whole in record {
-          targets = (
+          members = (
             record {
               name = w.name;
               dataset = low.dataset;
@@ -243,12 +248,12 @@ module _ (verify : Bool) (room : ℕ) (base : List ℕ) (s : SourceValue) where
 
 -- nothing is reached before the first
 reaches_none : (st : State) (room : ℕ) (base : List ℕ) → Reaches st room base [] []
-reaches_none st room base = record { targets = tt; low = omega arith }
+reaches_none st room base = record { members = tt; low = omega arith }
 
 reaches_more : (old new : State) (room : ℕ) (base : List ℕ) (ss : List SourceValue) (s : SourceValue) (row : List ℕ) (id : ℕ) → Grows old new → IsLinked new → Reaches old room base ss row → Reaches new room base (s ∷ []) (id ∷ []) → Reaches new room base (ss ++ s ∷ []) (row ++ id ∷ [])
 reaches_more old new room base ss s row id grows linked before here = record {
-  targets = each_more (IsTarget new base) ss row s id (each_map (IsTarget old base) (IsTarget new base) ss row (λ x i. target_stays old new base x i grows linked.apart) before.targets) here.targets.0;
-  low = (let x = before.low in let y = here.low in omega (arith, most_append new.links row (id ∷ []), most_stays old new base ss row grows before.targets));
+  members = each_more (IsMember new base) ss row s id (each_map (IsMember old base) (IsMember new base) ss row (λ x i. member_stays old new base x i grows linked.apart) before.members) here.members.0;
+  low = (let x = before.low in let y = here.low in omega (arith, most_append new.links row (id ∷ []), most_stays old new base ss row grows before.members));
 }
 
 module _ (verify : Bool) (room : ℕ) (base : List ℕ) (ss : List SourceValue) (a b c : Seen) (old mid new : State) where
@@ -266,7 +271,7 @@ module _ (verify : Bool) (room : ℕ) (base : List ℕ) (ss : List SourceValue) 
     band_more s id at next =
         subst (λ (xs : List SourceValue). Passes verify room base xs a c old new (λ row. Reaches new room base xs row) (Ok (row ++ id ∷ []))) (sym (item_more ss k s at))
         (passes_then verify room base (List ℕ) ℕ (List ℕ) (take k ss) (s ∷ []) a b c old mid new (λ r. Reaches mid room base (take k ss) r) (λ t. Reaches new room base (s ∷ []) (t ∷ [])) (λ r. Reaches new room base (take k ss ++ s ∷ []) r) row id (row ++ id ∷ []) before next
-        (reaches_more mid new room base (take k ss) s row id next.steps.grows next.steps.goes.linked before.reached next.reached))
+        (reaches_more mid new room base (take k ss) s row id next.walks.grows next.walks.goes.linked before.reached next.reached))
 
     pub band_ends : length ss ≤ k → Passes verify room base ss a b old mid (λ row. Reaches mid room base ss row) (Ok row)
     band_ends all = subst (λ (xs : List SourceValue). Passes verify room base xs a b old mid (λ row. Reaches mid room base xs row) (Ok row)) (take_all k ss all) before
@@ -284,19 +289,19 @@ from_split bands k b at =
     ap sources_from (item_split bands k b at) ∙ flat_map-append (λ (b : BandValue). b.sources) (take k bands) (b ∷ drop (suc k) bands)
     ∙ sym (append_assoc (sources_from (take k bands)) b.sources (sources_from (drop (suc k) bands)))
 
-all_more : (rows : List (List ℕ)) (row : List ℕ) → all_of (rows ++ row ∷ []) ≡ all_of rows ++ row
-all_more rows row = flat_map-append (λ (r : List ℕ). r) rows (row ∷ []) ∙ ap (λ xs. all_of rows ++ xs) (append-nil row)
+all_more : (rows : List (List ℕ)) (row : List ℕ) → flattened (rows ++ row ∷ []) ≡ flattened rows ++ row
+all_more rows row = flat_map-append (λ (r : List ℕ). r) rows (row ∷ []) ∙ ap (λ xs. flattened rows ++ xs) (append-nil row)
 
 rows_more : (old new : State) (room : ℕ) (base : List ℕ) (bands : List BandValue) (b : BandValue) (rows : List (List ℕ)) (row : List ℕ) → Grows old new → IsLinked new → ReachesRows old room base bands rows → Reaches new room base b.sources row → ReachesRows new room base (bands ++ b ∷ []) (rows ++ row ∷ [])
 rows_more old new room base bands b rows row grows linked before here = record {
-  targets = each_more (λ (b : BandValue) (row : List ℕ). Each (IsTarget new base) b.sources row) bands rows b row (rows_stay old new base bands rows grows linked.apart before.targets) here.targets;
-  low = (let x = before.low in let y = here.low in omega (arith, ap (most new.links) (all_more rows row), most_append new.links (all_of rows) row, most_stays old new base (sources_from bands) (all_of rows) grows (flat_rows old base bands rows before.targets)));
+  members = each_more (λ (b : BandValue) (row : List ℕ). Each (IsMember new base) b.sources row) bands rows b row (rows_stay old new base bands rows grows linked.apart before.members) here.members;
+  low = (let x = before.low in let y = here.low in omega (arith, ap (most new.links) (all_more rows row), most_append new.links (flattened rows) row, most_stays old new base (sources_from bands) (flattened rows) grows (flat_rows old base bands rows before.members)));
 }
 
 module _ (verify : Bool) (room : ℕ) (base : List ℕ) (bands : List BandValue) (a b c : Seen) (old mid new : State) where
   pub bands_begin : (k : ℕ) → k ≡ 0 → IsLinked old → Passes verify room base (flat_map (λ (b : BandValue). b.sources) (take k bands)) a a old old (λ rows. ReachesRows old room base (take k bands) rows) (Ok [])
   bands_begin k none linked = subst (λ (xs : List BandValue). Passes verify room base (sources_from xs) a a old old (λ rows. ReachesRows old room base xs rows) (Ok [])) (sym (ap (λ n. take n bands) none))
-      (passes_none verify room base a old (λ (rows : List (List ℕ)). ReachesRows old room base [] rows) [] linked (record { targets = tt; low = omega arith }))
+      (passes_none verify room base a old (λ (rows : List (List ℕ)). ReachesRows old room base [] rows) [] linked (record { members = tt; low = omega arith }))
 
   module _ (k : ℕ) (rows : List (List ℕ)) (before : Passes verify room base (flat_map (λ (b : BandValue). b.sources) (take k bands)) a b old mid (λ rows. ReachesRows mid room base (take k bands) rows) (Ok rows)) where
     pub bands_refused : (v : BandValue) (f : WalkFault) → slice_get bands k ≡ Some v → Passes verify room base v.sources b c mid new (λ row. Reaches new room base v.sources row) (Err f) → Passes verify room base (flat_map (λ (b : BandValue). b.sources) bands) a c old new (λ rows. ReachesRows new room base bands rows) (Err f)
@@ -308,7 +313,7 @@ module _ (verify : Bool) (room : ℕ) (base : List ℕ) (bands : List BandValue)
     pub bands_more : (v : BandValue) (row : List ℕ) → slice_get bands k ≡ Some v → Passes verify room base v.sources b c mid new (λ row. Reaches new room base v.sources row) (Ok row) → Passes verify room base (flat_map (λ (b : BandValue). b.sources) (take (k + 1) bands)) a c old new (λ rows. ReachesRows new room base (take (k + 1) bands) rows) (Ok (rows ++ row ∷ []))
     bands_more v row at next =
         let whole = passes_then verify room base (List (List ℕ)) (List ℕ) (List (List ℕ)) (sources_from (take k bands)) v.sources a b c old mid new (λ r. ReachesRows mid room base (take k bands) r) (λ r. Reaches new room base v.sources r) (λ r. ReachesRows new room base (take (k + 1) bands) r) rows row (rows ++ row ∷ []) before next
-        (subst (λ (xs : List BandValue). ReachesRows new room base xs (rows ++ row ∷ [])) (sym (item_more bands k v at)) (rows_more mid new room base (take k bands) v rows row next.steps.grows next.steps.goes.linked before.reached next.reached)) in
+        (subst (λ (xs : List BandValue). ReachesRows new room base xs (rows ++ row ∷ [])) (sym (item_more bands k v at)) (rows_more mid new room base (take k bands) v rows row next.walks.grows next.walks.goes.linked before.reached next.reached)) in
         subst (λ (xs : List SourceValue). Passes verify room base xs a c old new (λ rows. ReachesRows new room base (take (k + 1) bands) rows) (Ok (rows ++ row ∷ []))) (sym (from_one bands k v at)) whole
 
     pub bands_end : length bands ≤ k → Passes verify room base (flat_map (λ (b : BandValue). b.sources) bands) a b old mid (λ rows. ReachesRows mid room base bands rows) (Ok rows)

@@ -13,9 +13,9 @@ use Rattle.catalog.specs.declared.driver.DriverHead.{DriverHead}
 use Rattle.catalog.specs.Drivers.{Dataset, document_of, driver_of}
 use Rattle.catalog.specs.Mosaics.{source_name}
 use Rattle.catalog.specs.Heads.{dataset_in}
-use Rattle.catalog.specs.Walk.{number_from, number_of, dataset_named, sources_in, HasTarget, IsNested, IsCatalog, IsWalked}
-use Rattle.catalog.specs.Links.{target_of, source_at, target_at}
-use Rattle.catalog.specs.Pixels.{size_of, shown, band_pixel, content_pixel, pixel_step, pixel_within, found_in_folder, told, file_pixel, pixel_of, pixel_of_name, target_size, target_pixel, IsTaken, AreOfTargets}
+use Rattle.catalog.specs.Walk.{number_from, number_of, dataset_named, sources_in, HasMember, IsNested, IsCatalog, IsWalked}
+use Rattle.catalog.specs.Links.{member_of, source_at, member_at}
+use Rattle.catalog.specs.Pixels.{size_of, shown, band_pixel, content_pixel, pixel_step, pixel_within, found_in_folder, told, file_pixel, pixel_of, pixel_of_name, member_size, member_pixel, IsTaken, AreOfMembers}
 use Rattle.catalog.specs.Places.{block_rect_of, row_by_row}
 use Rattle.catalog.specs.Blocks.{block_by, block_pixels}
 use Rattle.catalog.proofs.Pixels.{Finds, same_pixels, mosaic_same, given_same, shown_is, none≢some, same_item, item, part, when_ok}
@@ -36,9 +36,9 @@ place_step c cs at id name false e is rest =
     let r = rest is in
     record { before = suc r.before; dataset = r.dataset; place = r.place ∙ omega arith; there = r.there; named = r.named }
 
-place_of : (cs : List Dataset) (at id : ℕ) (name : List ℕ) → number_from at cs name ≡ Some id → Place at cs id name
-place_of [] at id name is = absurd (none≢some is)
-place_of (c ∷ cs) at id name is = place_step c cs at id name (bytes_eq c.head.name name) refl is (λ h. place_of cs (suc at) id name h)
+place_found : (cs : List Dataset) (at id : ℕ) (name : List ℕ) → number_from at cs name ≡ Some id → Place at cs id name
+place_found [] at id name is = absurd (none≢some is)
+place_found (c ∷ cs) at id name is = place_step c cs at id name (bytes_eq c.head.name name) refl is (λ h. place_found cs (suc at) id name h)
 
 record Named (cat : List Dataset) (name : List ℕ) (d : Dataset) : Type 0 where
   number : ℕ
@@ -49,7 +49,7 @@ record Named (cat : List Dataset) (name : List ℕ) (d : Dataset) : Type 0 where
 named_by : (cat : List Dataset) (name : List ℕ) (d : Dataset) (n : Option ℕ) → number_of cat name ≡ n → option_and_then (slice_get cat) n ≡ Some d → Named cat name d
 named_by cat name d None found is = absurd (none≢some is)
 named_by cat name d (Some id) found is =
-    let p = place_of cat 0 id name found in
+    let p = place_found cat 0 id name found in
     let e : id ≡ p.before = p.place ∙ omega arith in
     let same : p.dataset ≡ d = same_item p.dataset d (sym p.there ∙ ap (slice_get cat) (sym e) ∙ is) in
     record { number = id; found = found; there = is; named = ap (λ (x : Dataset). x.head.name) (sym same) ∙ p.named }
@@ -125,31 +125,31 @@ found_then : {A B : Type 0} (o : Option A) (f : A → Option B) (y : B) → (o >
 found_then None f y is = absurd (none≢some is)
 found_then (Some x) f y is = (x, refl, is)
 
-source_target : (cat : List Dataset) (d : Dataset) (band source : ℕ) (s : SourceValue) → IsNested 16 cat d → source_at d band source ≡ Some s → HasTarget (λ t. IsNested 15 cat t) cat d.head.name s
-source_target cat d band source s nested is =
+source_member : (cat : List Dataset) (d : Dataset) (band source : ℕ) (s : SourceValue) → IsNested 16 cat d → source_at d band source ≡ Some s → HasMember (λ t. IsNested 15 cat t) cat d.head.name s
+source_member cat d band source s nested is =
     let doc = found_then (document_of d.content) _ s is in
     let b = found_then (slice_get doc.0.bands band) _ s doc.2 in
-    let P = HasTarget (λ t. IsNested 15 cat t) cat d.head.name in
+    let P = HasMember (λ t. IsNested 15 cat t) cat d.head.name in
     item P b.0.sources source s (part P (λ (v : BandValue). v.sources) doc.0.bands band b.0 (subst (λ c. All P (sources_in c)) (is_mosaic d.content doc.0 doc.1) nested) b.1) b.2
 
 -- the number of the dataset that a source names
-target_named : (cat : List Dataset) (base : List ℕ) (s : SourceValue) (P : Dataset → Type 0) (t : HasTarget P cat base s) (n : ℕ) → number_of cat t.name ≡ Some n → target_of cat base s ≡ Some n
-target_named cat base s P t n found = ap (option_and_then (number_of cat)) (when_ok (source_name base s) _ t.name t.resolves) ∙ found
+member_named : (cat : List Dataset) (base : List ℕ) (s : SourceValue) (P : Dataset → Type 0) (t : HasMember P cat base s) (n : ℕ) → number_of cat t.name ≡ Some n → member_of cat base s ≡ Some n
+member_named cat base s P t n found = ap (option_and_then (number_of cat)) (when_ok (source_name base s) _ t.name t.resolves) ∙ found
 
-target_is : (cat : List Dataset) (d : Dataset) (band source : ℕ) (s : SourceValue) (P : Dataset → Type 0) (t : HasTarget P cat d.head.name s) (n : ℕ) → source_at d band source ≡ Some s → number_of cat t.name ≡ Some n → target_at cat d band source ≡ Some n
-target_is cat d band source s P t n is found = ap (λ (o : Option SourceValue). o >>= λ s. target_of cat d.head.name s) is ∙ target_named cat d.head.name s P t n found
+member_is : (cat : List Dataset) (d : Dataset) (band source : ℕ) (s : SourceValue) (P : Dataset → Type 0) (t : HasMember P cat d.head.name s) (n : ℕ) → source_at d band source ≡ Some s → number_of cat t.name ≡ Some n → member_at cat d band source ≡ Some n
+member_is cat d band source s P t n is found = ap (λ (o : Option SourceValue). o >>= λ s. member_of cat d.head.name s) is ∙ member_named cat d.head.name s P t n found
 
-pub has_target : (cat : List Dataset) (id band source : ℕ) (d : Dataset) (s : SourceValue) → IsCatalog cat → slice_get cat id ≡ Some d → source_at d band source ≡ Some s → IsTaken cat d band source s
-has_target cat id band source d s is at stands =
+pub has_member : (cat : List Dataset) (id band source : ℕ) (d : Dataset) (s : SourceValue) → IsCatalog cat → slice_get cat id ≡ Some d → source_at d band source ≡ Some s → IsTaken cat d band source s
+has_member cat id band source d s is at stands =
     let P = λ (x : Dataset). IsNested 15 cat x in
-    let t = source_target cat d band source s (nested cat id d is at) stands in
+    let t = source_member cat d band source s (nested cat id d is at) stands in
     let n = named_is cat t.name t.dataset t.named in
-    record { target = n.number; dataset = t.dataset; is = target_is cat d band source s P t n.number stands n.found; there = n.there; has_band = t.band; takes = t.takes }
+    record { member = n.number; dataset = t.dataset; is = member_is cat d band source s P t n.number stands n.found; there = n.there; has_band = t.band; takes = t.takes }
 
-pub mosaic_is_of_targets : (m : Files) (cat : List Dataset) (id band x y : ℕ) (d : Dataset) (doc : DocumentValue) (b : BandValue) (sizes : SourceValue → Size) (pixels : SourceValue → ℕ → ℕ → ℤ)
-    → IsCatalog cat → slice_get cat id ≡ Some d → document_of d.content ≡ Some doc → slice_get doc.bands band ≡ Some b → AreOfTargets m cat d band sizes pixels
+pub mosaic_is_of_members : (m : Files) (cat : List Dataset) (id band x y : ℕ) (d : Dataset) (doc : DocumentValue) (b : BandValue) (sizes : SourceValue → Size) (pixels : SourceValue → ℕ → ℕ → ℤ)
+    → IsCatalog cat → slice_get cat id ≡ Some d → document_of d.content ≡ Some doc → slice_get doc.bands band ≡ Some b → AreOfMembers m cat d band sizes pixels
     → pixel_of m cat id band x y ≡ mosaic_pixel b (λ s. given_of s doc.size (sizes s) (pixels s)) x y
-mosaic_is_of_targets m cat id band x y d doc b sizes pixels is at has there same =
+mosaic_is_of_members m cat id band x y d doc b sizes pixels is at has there same =
     let look = dataset_named cat in
     let images = pixel_within look m 16 in
     pixel_is m cat id band x y d at
@@ -157,9 +157,9 @@ mosaic_is_of_targets m cat id band x y d doc b sizes pixels is at has there same
     ∙ ap (λ o. band_pixel look images d.head.name doc.size o x y) there
     ∙ mosaic_same b (shown look images d.head.name doc.size) (λ s. given_of s doc.size (sizes s) (pixels s)) x y (λ k s stands_here.
     let stands : source_at d band k ≡ Some s = ap (λ (o : Option DocumentValue). o >>= λ doc. slice_get doc.bands band >>= λ b. slice_get b.sources k) has ∙ ap (λ (o : Option BandValue). o >>= λ b. slice_get b.sources k) there ∙ stands_here in
-    let t = source_target cat d band k s (nested cat id d is at) stands in
+    let t = source_member cat d band k s (nested cat id d is at) stands in
     let p = named_is cat t.name t.dataset t.named in
-    let q = same k p.number s t.dataset stands (target_named cat d.head.name s (λ x. IsNested 15 cat x) t p.number p.found) p.there in
+    let q = same k p.number s t.dataset stands (member_named cat d.head.name s (λ x. IsNested 15 cat x) t p.number p.found) p.there in
     let found : look t.name ≡ Some t.dataset = t.named in
     shown_is look images d.head.name doc.size s t.name x y (when_ok (source_name d.head.name s) _ t.name t.resolves)
     ∙ given_same s doc.size (size_of (look t.name)) (sizes s) (images t.name (s.band - 1)) (pixels s) x y (ap size_of found ∙ sym q.0)
@@ -168,16 +168,16 @@ mosaic_is_of_targets m cat id band x y d doc b sizes pixels is at has there same
     ∙ sym (pixel_is m cat p.number (s.band - 1) u v t.dataset p.there)
     ∙ sym (q.1 u v)))
 
-pub own_targets : (m : Files) (cat : List Dataset) (d : Dataset) (band : ℕ) → AreOfTargets m cat d band (target_size cat d) (target_pixel m cat d)
-own_targets m cat d band source t s e stands is there = (
+pub own_members : (m : Files) (cat : List Dataset) (d : Dataset) (band : ℕ) → AreOfMembers m cat d band (member_size cat d) (member_pixel m cat d)
+own_members m cat d band source t s e stands is there = (
   ap (λ (o : Option ℕ). size_of (o >>= λ t. slice_get cat t)) is ∙ ap size_of there,
   λ x y. ap (λ (o : Option ℕ). unwrap_or (option_map (λ t. pixel_of m cat t (s.band - 1) x y) o) (pos 0)) is,
 )
 
-pub mosaic_is_of_its_targets : (m : Files) (cat : List Dataset) (id band x y : ℕ) (d : Dataset) (doc : DocumentValue) (b : BandValue)
+pub mosaic_is_of_its_members : (m : Files) (cat : List Dataset) (id band x y : ℕ) (d : Dataset) (doc : DocumentValue) (b : BandValue)
     → IsCatalog cat → slice_get cat id ≡ Some d → document_of d.content ≡ Some doc → slice_get doc.bands band ≡ Some b
-    → pixel_of m cat id band x y ≡ mosaic_pixel b (λ s. given_of s doc.size (target_size cat d s) (target_pixel m cat d s)) x y
-mosaic_is_of_its_targets m cat id band x y d doc b is at has there = mosaic_is_of_targets m cat id band x y d doc b (target_size cat d) (target_pixel m cat d) is at has there (own_targets m cat d band)
+    → pixel_of m cat id band x y ≡ mosaic_pixel b (λ s. given_of s doc.size (member_size cat d s) (member_pixel m cat d s)) x y
+mosaic_is_of_its_members m cat id band x y d doc b is at has there = mosaic_is_of_members m cat id band x y d doc b (member_size cat d) (member_pixel m cat d) is at has there (own_members m cat d band)
 
 -- the blocks of datasets by what their pixels are
 
@@ -190,9 +190,9 @@ pub file_block : (m : Files) (cat : List Dataset) (id band block : ℕ) (d : Dat
 file_block m cat id band block d h at is = block_is m cat id band block d (file_pixel m d.head.name h band) at (λ x y. file_is_sample m cat id band x y d h at is)
 
 pub mosaic_block : (m : Files) (cat : List Dataset) (id band block : ℕ) (d : Dataset) (doc : DocumentValue) (b : BandValue) (sizes : SourceValue → Size) (pixels : SourceValue → ℕ → ℕ → ℤ)
-    → IsCatalog cat → slice_get cat id ≡ Some d → document_of d.content ≡ Some doc → slice_get doc.bands band ≡ Some b → AreOfTargets m cat d band sizes pixels
+    → IsCatalog cat → slice_get cat id ≡ Some d → document_of d.content ≡ Some doc → slice_get doc.bands band ≡ Some b → AreOfMembers m cat d band sizes pixels
     → block_pixels m cat id band block ≡ row_by_row (mosaic_pixel b (λ s. given_of s doc.size (sizes s) (pixels s))) (block_rect_of d.head block)
-mosaic_block m cat id band block d doc b sizes pixels is at has there same = block_is m cat id band block d (mosaic_pixel b (λ s. given_of s doc.size (sizes s) (pixels s))) at (λ x y. mosaic_is_of_targets m cat id band x y d doc b sizes pixels is at has there same)
+mosaic_block m cat id band block d doc b sizes pixels is at has there same = block_is m cat id band block d (mosaic_pixel b (λ s. given_of s doc.size (sizes s) (pixels s))) at (λ x y. mosaic_is_of_members m cat id band x y d doc b sizes pixels is at has there same)
 
 pub more_block : (m : Files) (cat more : List Dataset) (id band block : ℕ) (d : Dataset) → IsCatalog cat → slice_get cat id ≡ Some d → block_pixels m (cat ++ more) id band block ≡ block_pixels m cat id band block
 more_block m cat more id band block d is at =

@@ -152,15 +152,15 @@ abbrev complex_text : List ℕ
 complex_text = text_of (codes "<NoDataValue>-1</NoDataValue>" ++ complex_source (codes "a.bil") ++ complex_source (codes "b.bil"))
 
 m_read : document_of complex_text ≡ Ok (document 3 (Some (negsuc 0)) (source true (Some (pos 0)) (codes "a.bil") ∷ source true (Some (pos 0)) (codes "b.bil") ∷ []))
-unfolding item_at tag_at tag_front close_at pair_at value_at markup_of root_at end_at means.dataset_by type_named whole_of parts_of
+unfolding item_at tag_at tag_front close_at pair_at value_at markup_of root_at end_at means.dataset_of type_named whole_of parts_of
 m_read = rw (all_text complex_text refl) (rw (is_text (codes "a.bil") refl) (rw (is_text (codes "b.bil") refl) refl))
 
 n_read : document_of (simple_text (codes "m.vrt")) ≡ Ok (document 3 None (source false None (codes "m.vrt") ∷ []))
-unfolding item_at tag_at tag_front close_at pair_at value_at markup_of root_at end_at means.dataset_by type_named
+unfolding item_at tag_at tag_front close_at pair_at value_at markup_of root_at end_at means.dataset_of type_named
 n_read = rw (all_text (simple_text (codes "m.vrt")) refl) (rw (is_text (codes "m.vrt") refl) refl)
 
 o_read : document_of (simple_text (codes "n.vrt")) ≡ Ok (document 3 None (source false None (codes "n.vrt") ∷ []))
-unfolding item_at tag_at tag_front close_at pair_at value_at markup_of root_at end_at means.dataset_by type_named
+unfolding item_at tag_at tag_front close_at pair_at value_at markup_of root_at end_at means.dataset_of type_named
 o_read = rw (all_text (simple_text (codes "n.vrt")) refl) (rw (is_text (codes "n.vrt") refl) refl)
 
 -- a folder of these files

@@ -14,7 +14,7 @@ use Rattle.catalog.specs.declared.driver.Content.TheVariants.{File, Mosaic}
 use Rattle.catalog.specs.declared.faults.WalkFault.{WalkFault}
 use Rattle.catalog.specs.Drivers.{Dataset}
 use Rattle.catalog.specs.Mosaics.{source_name}
-use Rattle.catalog.specs.Walk.{dataset_named, sources_in, HasTarget, IsNested, IsNoMosaic}
+use Rattle.catalog.specs.Walk.{dataset_named, sources_in, HasMember, IsNested, IsNoMosaic}
 use Rattle.catalog.specs.Pixels.{Lookup, Images, size_of, shown, band_pixel, content_pixel, pixel_step, pixel_within}
 
 -- what the last of some sources gives depends on what each of them gives alone
@@ -31,8 +31,8 @@ mosaic_same b given other x y same = ap (λ o. unwrap_or (option_map (clamp b.ki
 
 -- what a source gives depends on the size and the pixels of its dataset alone
 
-pub given_same : (s : SourceValue) (target size other : Size) (pixels others : ℕ → ℕ → ℤ) (x y : ℕ) → size ≡ other → ((c r : ℕ) → pixels c r ≡ others c r) → given_of s target size pixels x y ≡ given_of s target other others x y
-given_same s target size other pixels others x y same each = λ i. given_of s target (same i) (λ c r. each c r i) x y
+pub given_same : (s : SourceValue) (mosaic size other : Size) (pixels others : ℕ → ℕ → ℤ) (x y : ℕ) → size ≡ other → ((c r : ℕ) → pixels c r ≡ others c r) → given_of s mosaic size pixels x y ≡ given_of s mosaic other others x y
+given_same s mosaic size other pixels others x y same each = λ i. given_of s mosaic (same i) (λ c r. each c r i) x y
 
 pub shown_is : (look : Lookup) (images : Images) (base : List ℕ) (size : Size) (s : SourceValue) (name : List ℕ) (x y : ℕ) → source_name base s ≡ Some name → shown look images base size s x y ≡ given_of s size (size_of (look name)) (images name (s.band - 1)) x y
 shown_is look images base size s name x y is = ap (λ (o : Option (List ℕ)). given_of s size (size_of (look (unwrap_or o []))) (images (unwrap_or o []) (s.band - 1)) x y) is
@@ -117,7 +117,7 @@ same_pixels cat one two m a b (suc room) (suc n) (suc p) d low high nested band 
     let low : room ≤ n = omega arith in
     let high : room ≤ p = omega arith in
     of_content one two (pixel_within one m (suc n)) (pixel_within two m (suc p)) m d.head.name d.content
-    (All-weaker (HasTarget (λ t. IsNested room cat t) cat d.head.name) (SameSource one two (pixel_within one m (suc n)) (pixel_within two m (suc p)) d.head.name)
+    (All-weaker (HasMember (λ t. IsNested room cat t) cat d.head.name) (SameSource one two (pixel_within one m (suc n)) (pixel_within two m (suc p)) d.head.name)
     (λ s t. record {
       name = t.name;
       is = when_ok (source_name d.head.name s) _ t.name t.resolves;

@@ -4,9 +4,10 @@ use Rattle.std.specs.Prelude.{All, max, nat_lt}
 use Rattle.std.proofs.lemmas.Bool.Decides.{nat_tests}
 use Rattle.std.proofs.lemmas.List.Elements.{All-cons, All-nil}
 use Rattle.std.proofs.lemmas.Option.{slice_get_within}
+use Rattle.lists_and_answers.specs.Lists.{flattened}
 use Rattle.vrt_profile.specs.Values.{SourceValue, BandValue}
 use Rattle.catalog.specs.declared.links.Link.{Link}
-use Rattle.catalog.specs.Linked.{State, IsTarget, Each, AreRows, all_of, height_at, most, first_above}
+use Rattle.catalog.specs.Linked.{State, IsMember, Each, AreRows, height_at, most, first_above}
 
 pub most_append : (links : List (Option Link)) (a b : List ℕ) → most links (a ++ b) ≡ max (most links a) (most links b)
 most_append links [] b = omega arith
@@ -20,10 +21,10 @@ most_step links ids i id height within is before =
     omega arith
 
 -- one row more is looked at
-pub most_rows : (links : List (Option Link)) (rows : List (List ℕ)) (i : ℕ) (row : List ℕ) (height : ℕ) → i < length rows → row ≡ get_or rows i row → max height (most links (all_of (drop i rows))) ≡ most links (all_of rows) → max (max height (most links row)) (most links (all_of (drop (i + 1) rows))) ≡ most links (all_of rows)
+pub most_rows : (links : List (Option Link)) (rows : List (List ℕ)) (i : ℕ) (row : List ℕ) (height : ℕ) → i < length rows → row ≡ get_or rows i row → max height (most links (flattened (drop i rows))) ≡ most links (flattened rows) → max (max height (most links row)) (most links (flattened (drop (i + 1) rows))) ≡ most links (flattened rows)
 most_rows links rows i row height within is before =
     let rest : drop i rows ≡ row ∷ drop (i + 1) rows = drop-cons rows i row within ∙ ap (λ x. x ∷ drop (suc i) rows) (sym is) ∙ ap (λ n. row ∷ drop n rows) (sym (add-one i)) in
-    let e : most links (all_of (drop i rows)) ≡ max (most links row) (most links (all_of (drop (i + 1) rows))) = ap (λ rs. most links (all_of rs)) rest ∙ most_append links row (all_of (drop (i + 1) rows)) in
+    let e : most links (flattened (drop i rows)) ≡ max (most links row) (most links (flattened (drop (i + 1) rows))) = ap (λ rs. most links (flattened rs)) rest ∙ most_append links row (flattened (drop (i + 1) rows)) in
     omega arith
 
 above_cons : (links : List (Option Link)) (room : ℕ) (ids : List ℕ) (i id : ℕ) → i < length ids → id ≡ get_or ids i id → first_above links room (drop i ids) ≡ cond (nat_lt room (height_at links id)) (Some id) (first_above links room (drop (i + 1) ids))
@@ -52,29 +53,29 @@ above_append links room (id ∷ ids) b = by_test (nat_lt room (height_at links i
     by_test true rest = refl
     by_test false rest = rest
 
-rows_cons : (links : List (Option Link)) (room : ℕ) (rows : List (List ℕ)) (i : ℕ) (row : List ℕ) → i < length rows → row ≡ get_or rows i row → first_above links room (all_of (drop i rows)) ≡ or_else (first_above links room row) (first_above links room (all_of (drop (i + 1) rows)))
+rows_cons : (links : List (Option Link)) (room : ℕ) (rows : List (List ℕ)) (i : ℕ) (row : List ℕ) → i < length rows → row ≡ get_or rows i row → first_above links room (flattened (drop i rows)) ≡ or_else (first_above links room row) (first_above links room (flattened (drop (i + 1) rows)))
 rows_cons links room rows i row within is =
-    ap (λ rs. first_above links room (all_of rs)) (drop-cons rows i row within ∙ ap (λ x. x ∷ drop (suc i) rows) (sym is) ∙ ap (λ n. row ∷ drop n rows) (sym (add-one i)))
-    ∙ above_append links room row (all_of (drop (i + 1) rows))
+    ap (λ rs. first_above links room (flattened rs)) (drop-cons rows i row within ∙ ap (λ x. x ∷ drop (suc i) rows) (sym is) ∙ ap (λ n. row ∷ drop n rows) (sym (add-one i)))
+    ∙ above_append links room row (flattened (drop (i + 1) rows))
 
-pub row_passed : (links : List (Option Link)) (room : ℕ) (rows : List (List ℕ)) (i : ℕ) (row : List ℕ) (all : Option ℕ) → i < length rows → row ≡ get_or rows i row → None ≡ first_above links room row → first_above links room (all_of (drop i rows)) ≡ all → first_above links room (all_of (drop (i + 1) rows)) ≡ all
+pub row_passed : (links : List (Option Link)) (room : ℕ) (rows : List (List ℕ)) (i : ℕ) (row : List ℕ) (all : Option ℕ) → i < length rows → row ≡ get_or rows i row → None ≡ first_above links room row → first_above links room (flattened (drop i rows)) ≡ all → first_above links room (flattened (drop (i + 1) rows)) ≡ all
 unfolding or_else
-row_passed links room rows i row all within is none before = sym (rows_cons links room rows i row within is ∙ ap (λ o. or_else o (first_above links room (all_of (drop (i + 1) rows)))) (sym none)) ∙ before
+row_passed links room rows i row all within is none before = sym (rows_cons links room rows i row within is ∙ ap (λ o. or_else o (first_above links room (flattened (drop (i + 1) rows)))) (sym none)) ∙ before
 
-pub row_met : (links : List (Option Link)) (room : ℕ) (rows : List (List ℕ)) (i : ℕ) (row : List ℕ) (id : ℕ) (all : Option ℕ) → i < length rows → row ≡ get_or rows i row → Some id ≡ first_above links room row → first_above links room (all_of (drop i rows)) ≡ all → Some id ≡ all
+pub row_met : (links : List (Option Link)) (room : ℕ) (rows : List (List ℕ)) (i : ℕ) (row : List ℕ) (id : ℕ) (all : Option ℕ) → i < length rows → row ≡ get_or rows i row → Some id ≡ first_above links room row → first_above links room (flattened (drop i rows)) ≡ all → Some id ≡ all
 unfolding or_else
-row_met links room rows i row id all within is some before = sym (rows_cons links room rows i row within is ∙ ap (λ o. or_else o (first_above links room (all_of (drop (i + 1) rows)))) (sym some)) ∙ before
+row_met links room rows i row id all within is some before = sym (rows_cons links room rows i row within is ∙ ap (λ o. or_else o (first_above links room (flattened (drop (i + 1) rows)))) (sym some)) ∙ before
 
 -- the numbers that sources name are those of datasets
 
-targets_known : (st : State) (base : List ℕ) (ss : List SourceValue) (ids : List ℕ) → Each (IsTarget st base) ss ids → All (λ id. id < length st.links) ids
-targets_known st base [] [] all = All-nil (λ id. id < length st.links)
-targets_known st base [] (id ∷ ids) all = absurd all
-targets_known st base (s ∷ ss) [] all = absurd all
-targets_known st base (s ∷ ss) (id ∷ ids) all = All-cons (λ id. id < length st.links) id ids (slice_get_within st.links id (Some all.0.link) all.0.whole) (targets_known st base ss ids all.1)
+members_known : (st : State) (base : List ℕ) (ss : List SourceValue) (ids : List ℕ) → Each (IsMember st base) ss ids → All (λ id. id < length st.links) ids
+members_known st base [] [] all = All-nil (λ id. id < length st.links)
+members_known st base [] (id ∷ ids) all = absurd all
+members_known st base (s ∷ ss) [] all = absurd all
+members_known st base (s ∷ ss) (id ∷ ids) all = All-cons (λ id. id < length st.links) id ids (slice_get_within st.links id (Some all.0.link) all.0.whole) (members_known st base ss ids all.1)
 
 pub rows_known : (st : State) (base : List ℕ) (bands : List BandValue) (rows : List (List ℕ)) → AreRows st base bands rows → All (λ row. All (λ id. id < length st.links) row) rows
 rows_known st base [] [] all = All-nil (λ row. All (λ id. id < length st.links) row)
 rows_known st base [] (row ∷ rows) all = absurd all
 rows_known st base (b ∷ bands) [] all = absurd all
-rows_known st base (b ∷ bands) (row ∷ rows) all = All-cons (λ row. All (λ id. id < length st.links) row) row rows (targets_known st base b.sources row all.0) (rows_known st base bands rows all.1)
+rows_known st base (b ∷ bands) (row ∷ rows) all = All-cons (λ row. All (λ id. id < length st.links) row) row rows (members_known st base b.sources row all.0) (rows_known st base bands rows all.1)

@@ -6,13 +6,14 @@ use Rattle.std.proofs.lemmas.List.Elements.{All-append, All-cons, All-nil}
 use Rattle.std.proofs.lemmas.List.Sums.{sum_by-append}
 use Rattle.std.proofs.lemmas.Option.{slice_get_within}
 use Rattle.std.proofs.lemmas.Slice.Eq.{bytes_eq-Decides}
+use Rattle.lists_and_answers.specs.Lists.{flattened}
 use Rattle.catalog.specs.declared.driver.Content.{Content}
 use Rattle.catalog.specs.declared.driver.Content.TheVariants.{File, Mosaic}
 use Rattle.catalog.specs.declared.links.Link.{Link}
 use Rattle.catalog.specs.Drivers.{Dataset}
 use Rattle.catalog.specs.Mosaics.{is_among}
 use Rattle.catalog.specs.Walk.{number_of, sources_in, sources_among, IsDataset, IsApart}
-use Rattle.catalog.specs.Linked.{State, is_waiting, is_open, all_of, IsLinkOf, IsLink, IsMet, IsLinked, IsOff, Grows, Goes, IsPath, pushed, closed, one_counted}
+use Rattle.catalog.specs.Linked.{State, is_waiting, is_open, IsLinkOf, IsLink, IsMet, IsLinked, IsOff, Grows, Goes, IsPath, pushed, closed, one_counted}
 use Rattle.catalog.proofs.Found.{some_is, found, flat_rows, rows_stay, most_stays}
 use Rattle.catalog.proofs.Numbers.{number_kept, number_of_added, number_of_other, apart_more}
 
@@ -90,8 +91,8 @@ link_stays old new d l grows apart is = record { content = by_content d.content 
     by_content : (c : Content) → IsLinkOf old d.head.name c l → IsLinkOf new d.head.name c l
     by_content (File h) of = of
     by_content (Mosaic doc) of = record {
-      rows = rows_stay old new d.head.name doc.bands l.targets grows apart of.rows;
-      height = of.height ∙ ap suc (sym (most_stays old new d.head.name _ (all_of l.targets) grows (flat_rows old d.head.name doc.bands l.targets of.rows)));
+      rows = rows_stay old new d.head.name doc.bands l.members grows apart of.rows;
+      height = of.height ∙ ap suc (sym (most_stays old new d.head.name _ (flattened l.members) grows (flat_rows old d.head.name doc.bands l.members of.rows)));
     }
 
 -- one source more

@@ -8,9 +8,10 @@ pub mod Blocks
 pub mod Pixels
 pub mod Links
 pub mod Walk
+pub mod Readings
 pub mod Outcomes
 -- What private clauses, views and proofs speak of.
 pub mod Linked
 pub mod Listed
 pub mod Scanned
-pub mod Steps
+pub mod Walking

@@ -1,6 +1,7 @@
 -- What a walk keeps of what it has met: a mosaic is open while the walk is below it, and every dataset that was met
 -- whole has a link.
-use Rattle.std.specs.Prelude.{◌≡◌, ◌<◌, ◌≤◌, ◌+◌, ◌-◌, ℕ, suc, max, Bool, true, false, ◌||◌, List, [], ◌∷◌, length, All, flat_map, slice_get, ◌++◌, take, set, Option, Some, None, option_and_then, Err, nat_lt, if◌then◌else◌}
+use Rattle.std.specs.Prelude.{◌≡◌, ◌<◌, ◌≤◌, ◌+◌, ◌-◌, ℕ, suc, max, Bool, true, false, ◌||◌, List, [], ◌∷◌, length, All, slice_get, ◌++◌, take, set, Option, Some, None, option_and_then, Err, nat_lt, if◌then◌else◌}
+use Rattle.lists_and_answers.specs.Lists.{flattened}
 use Rattle.vrt_profile.specs.Value.{is_plain}
 use Rattle.vrt_profile.specs.Values.{DocumentValue, BandValue, SourceValue}
 use Rattle.catalog.specs.declared.driver.Content.{Content}
@@ -52,13 +53,9 @@ abbrev pub first_above : List (Option Link) → ℕ → List ℕ → Option ℕ
 first_above links room [] = None
 first_above links room (id ∷ ids) = if nat_lt room (height_at links id) then Some id else first_above links room ids
 
--- the numbers of all rows, in order
-abbrev pub all_of : List (List ℕ) → List ℕ
-all_of rows = flat_map (λ (row : List ℕ). row) rows
-
 -- the dataset of this number is what a source of the mosaic with the name `base` names: it was met whole, and has the
 -- band, with samples that the source takes
-pub record IsTarget (st : State) (base : List ℕ) (s : SourceValue) (id : ℕ) : Type 0 where
+pub record IsMember (st : State) (base : List ℕ) (s : SourceValue) (id : ℕ) : Type 0 where
   pub name : List ℕ
   pub dataset : Dataset
   pub link : Link
@@ -78,12 +75,12 @@ Each R (x ∷ xs) (y ∷ ys) = R x y × Each R xs ys
 
 -- the numbers of what the sources of some bands name
 abbrev pub AreRows : State → List ℕ → List BandValue → List (List ℕ) → Type 0
-AreRows st base bands rows = Each (λ (b : BandValue) (row : List ℕ). Each (IsTarget st base) b.sources row) bands rows
+AreRows st base bands rows = Each (λ (b : BandValue) (row : List ℕ). Each (IsMember st base) b.sources row) bands rows
 
 -- a mosaic is one higher than the highest dataset that its sources name
 pub record IsMosaicLink (st : State) (name : List ℕ) (doc : DocumentValue) (l : Link) : Type 0 where
-  pub rows : AreRows st name doc.bands l.targets
-  pub height : l.height ≡ suc (most st.links (all_of l.targets))
+  pub rows : AreRows st name doc.bands l.members
+  pub height : l.height ≡ suc (most st.links (flattened l.members))
 
 abbrev pub IsLinkOf : State → List ℕ → Content → Link → Type 0
 IsLinkOf st name (File h) l = l.height ≡ 0

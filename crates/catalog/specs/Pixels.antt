@@ -16,7 +16,7 @@ use Rattle.catalog.specs.Drivers.{Dataset}
 use Rattle.catalog.specs.Mosaics.{source_name}
 use Rattle.catalog.specs.Heads.{dataset_in}
 use Rattle.catalog.specs.Walk.{dataset_named, is_narrow_band}
-use Rattle.catalog.specs.Links.{target_of, source_at, target_at}
+use Rattle.catalog.specs.Links.{member_of, source_at, member_at}
 use Rattle.catalog.specs.declared.driver.Content.{Content}
 use Rattle.catalog.specs.declared.driver.Content.TheVariants.{File, Mosaic}
 use Rattle.catalog.specs.declared.driver.DriverHead.{DriverHead}
@@ -100,23 +100,23 @@ unfoldable pub pixel_of : Files → List Dataset → ℕ → ℕ → ℕ → ℕ
 pixel_of m cat id band x y = pixel_step (dataset_named cat) (pixel_within (dataset_named cat) m 16) m (slice_get cat id) band x y
 
 -- The size of the dataset of a catalog that a source of a dataset names.
-abbrev pub target_size : List Dataset → Dataset → SourceValue → Size
-target_size cat d s = size_of (target_of cat d.head.name s >>= λ t. slice_get cat t)
+abbrev pub member_size : List Dataset → Dataset → SourceValue → Size
+member_size cat d s = size_of (member_of cat d.head.name s >>= λ t. slice_get cat t)
 
 -- The pixel of the dataset that a source names, in the band that the source takes.
-abbrev pub target_pixel : Files → List Dataset → Dataset → SourceValue → ℕ → ℕ → ℤ
-target_pixel m cat d s x y = unwrap_or (option_map (λ t. pixel_of m cat t (s.band - 1) x y) (target_of cat d.head.name s)) (pos 0)
+abbrev pub member_pixel : Files → List Dataset → Dataset → SourceValue → ℕ → ℕ → ℤ
+member_pixel m cat d s x y = unwrap_or (option_map (λ t. pixel_of m cat t (s.band - 1) x y) (member_of cat d.head.name s)) (pos 0)
 
 -- what a source of a band names: a dataset of the catalog that has the source's band, with samples that it takes
 pub record IsTaken (cat : List Dataset) (d : Dataset) (band source : ℕ) (s : SourceValue) : Type 0 where
-  pub target : ℕ
+  pub member : ℕ
   pub dataset : Dataset
-  pub is : target_at cat d band source ≡ Some target
-  pub there : slice_get cat target ≡ Some dataset
+  pub is : member_at cat d band source ≡ Some member
+  pub there : slice_get cat member ≡ Some dataset
   pub has_band : s.band ≤ band_count dataset.head
   pub takes : is_plain s || is_narrow_band (band_at dataset.head (s.band - 1)) ≡ true
 
 -- for each source of a band, this is the size of the dataset that it names, and these are the pixels of its band
-abbrev pub AreOfTargets : Files → List Dataset → Dataset → ℕ → (SourceValue → Size) → (SourceValue → ℕ → ℕ → ℤ) → Type 0
-AreOfTargets m cat d band sizes pixels = (source t : ℕ) (s : SourceValue) (e : Dataset) → source_at d band source ≡ Some s → target_of cat d.head.name s ≡ Some t → slice_get cat t ≡ Some e
+abbrev pub AreOfMembers : Files → List Dataset → Dataset → ℕ → (SourceValue → Size) → (SourceValue → ℕ → ℕ → ℤ) → Type 0
+AreOfMembers m cat d band sizes pixels = (source t : ℕ) (s : SourceValue) (e : Dataset) → source_at d band source ≡ Some s → member_of cat d.head.name s ≡ Some t → slice_get cat t ≡ Some e
     → (sizes s ≡ e.head.size) × ((x y : ℕ) → pixels s x y ≡ pixel_of m cat t (s.band - 1) x y)

@@ -183,7 +183,7 @@ IsApart cat = (id : ℕ) (d : Dataset) → slice_get cat id ≡ Some d → numbe
 
 -- a source names a dataset of the catalog, which has its band, with samples that it takes, and is one of those that are
 -- asked for
-pub record HasTarget (IsAsked : Dataset → Type 0) (cat : List Dataset) (base : List ℕ) (s : SourceValue) : Type 0 where
+pub record HasMember (IsAsked : Dataset → Type 0) (cat : List Dataset) (base : List ℕ) (s : SourceValue) : Type 0 where
   pub name : List ℕ
   pub dataset : Dataset
   pub resolves : resolved base s ≡ Ok name
@@ -200,7 +200,7 @@ IsNoMosaic (Mosaic d) = ⊥
 -- each source names a dataset of the catalog, and so on through at most so many nestings
 abbrev pub IsNested : ℕ → List Dataset → Dataset → Type 0
 IsNested zero cat d = IsNoMosaic d.content
-IsNested (suc room) cat d = All (HasTarget (λ t. IsNested room cat t) cat d.head.name) (sources_in d.content)
+IsNested (suc room) cat d = All (HasMember (λ t. IsNested room cat t) cat d.head.name) (sources_in d.content)
 
 -- what every catalog keeps
 pub record IsCatalog (cat : List Dataset) : Type 0 where

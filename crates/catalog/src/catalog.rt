@@ -1,5 +1,5 @@
 // Catalogs of datasets, and the walk that finds them.
-ghost use Rattle.std.specs.Prelude.{◌≡◌, ◌<◌, ◌≤◌, ◌++◌, List, [], length, slice_get, Some, Err, option_map, option_and_then, IfOk, OnErr, IsTrue, is_some};
+ghost use Rattle.std.specs.Prelude.{◌≡◌, ◌<◌, ◌≤◌, ◌+◌, ◌++◌, List, [], length, slice_get, Some, Err, option_map, option_and_then, IfOk, OnOk, OnErr, IsTrue, is_some};
 ghost use Rattle.lists_and_answers.specs.Answers.{Gives};
 ghost use Rattle.outside.specs.Outside.{Files};
 ghost use Rattle.outside.specs.Causes.{HasCause};
@@ -7,7 +7,8 @@ ghost use Rattle.catalog.specs.Outcomes.{IsOutside};
 ghost use Rattle.catalog.specs.Drivers.{driver_of, document_of};
 ghost use Rattle.catalog.specs.Heads.{OwnsFaults};
 ghost use Rattle.catalog.specs.Drivers.{Dataset as Known};
-ghost use Rattle.catalog.specs.Links.{source_at, target_at, height_of};
+ghost use Rattle.catalog.specs.Links.{source_at, member_at, height_of};
+ghost use Rattle.catalog.specs.Readings.{calls_to_open_all};
 ghost use Rattle.catalog.specs.Walk.{number_of, walked, WalksUnknown, IsCatalog, IsWalked};
 
 use crate::dataset::Dataset;
@@ -104,16 +105,16 @@ impl Catalog {
 
     /// The number of the dataset that a source of a mosaic names, by its band and its number in the
     /// band, both counted from 0. It is nested less deep than the mosaic.
-    pub fn target(&self, id: u32, band: u32, source: u32) -> u32
+    pub fn member(&self, id: u32, band: u32, source: u32) -> u32
         requires there { IsTrue (is_some (option_and_then (λ d. source_at d band source) (slice_get self.now id))) }
-        ensures target { option_and_then (λ d. target_at self.now d band source) (slice_get self.now id) ≡ Some result }
+        ensures member { option_and_then (λ d. member_at self.now d band source) (slice_get self.now id) ≡ Some result }
         ensures known { result < length self.now }
         ensures below { (d t : Known) → slice_get self.now id ≡ Some d → slice_get self.now result ≡ Some t → height_of self.now t < height_of self.now d }
     {
         let Some(link) = self.met.link(id) else {
             unreachable!();
         };
-        *link.targets.get(band as usize).get(source as usize)
+        *link.members.get(band as usize).get(source as usize)
     }
 
     /// How deep a dataset is nested: 0 for a file, 1 for a mosaic without sources, else one more than the
@@ -139,6 +140,9 @@ impl Catalog {
 /// SourceBand where that lacks the band, and Malformed with Unsupported where the source scales the band,
 /// or has a table for it, and its samples have more than 32 bits. The first refusal counts, and after it
 /// the catalog is as before. `verify` asks for the sums of DTED records.
+///
+/// Over every folder a walk that isn't refused makes at most the reads that its new datasets take, each of which is
+/// read once (`calls_to_open_all`).
 pub fn open_all<F: Folder>(
     alloc: Global,
     cat: &mut Catalog,
@@ -153,6 +157,7 @@ pub fn open_all<F: Folder>(
     ensures valid { IsCatalog cat.new }
     ensures walked { (m : Files) → F.names folder.old ≡ Some m → IsWalked m cat.old → IsWalked m cat.new }
     ensures again { IsTrue (is_some (number_of cat.old name.now)) → (F.read_calls folder.new ≡ F.read_calls folder.old) × (F.faults folder.new ≡ F.faults folder.old) }
+    ensures reads { OnOk result ((more : List Known) → cat.new ≡ cat.old ++ more → F.read_calls folder.new ≤ F.read_calls folder.old + calls_to_open_all verify more) }
     ensures unknown { WalksUnknown name.now result }
     ensures names { F.names folder.new ≡ F.names folder.old }
     ensures write_calls { F.write_calls folder.new ≡ F.write_calls folder.old }

@@ -1,5 +1,5 @@
 // DTED cells, by their heads and lengths, and their records where their sums are asked for.
-ghost use Rattle.std.specs.Prelude.{◌≡◌, ◌≤◌, ℕ, List, length, Some, IfOk, IfErr};
+ghost use Rattle.std.specs.Prelude.{◌≡◌, ◌≤◌, ◌+◌, ℕ, List, length, Some, IfOk, IfErr};
 ghost use Rattle.std.specs.List.{range_with_len};
 ghost use Rattle.lists_and_answers.specs.Answers.{Gives};
 ghost use Rattle.outside.specs.Outside.{Files, IsLong};
@@ -7,6 +7,7 @@ ghost use Rattle.outside.specs.Causes.{HasCause, FailsWith};
 ghost use Rattle.dted_records.specs.Places.{needed_of, record_len};
 ghost use Rattle.catalog.specs.Outcomes.{IsOutside};
 ghost use Rattle.catalog.specs.Drivers.{content_kind, Fits};
+ghost use Rattle.catalog.specs.Readings.{calls_to_find};
 ghost use Rattle.catalog.specs.Heads.{broken_in, cell_in, dted_in, records_whole, IsOfFile};
 
 use crate::driver::{Content, Found};
@@ -30,6 +31,7 @@ fn broken_line<F: Folder>(
     requires buffer { length buffer.old ≡ record_len head.now }
     ensures told { IfOk result (λ line. (b : List ℕ) → F.file_bytes file.old ≡ Some b → broken_in head.now b (range_with_len 0 head.now.lines) ≡ line) }
     ensures names { F.names folder.new ≡ F.names folder.old }
+    ensures reads { F.read_calls folder.new ≤ F.read_calls folder.old + head.now.lines }
     ensures write_calls { F.write_calls folder.new ≡ F.write_calls folder.old }
     ensures cause { FailsWith (F.faults folder.old) (F.faults folder.new) result }
 {
@@ -54,6 +56,7 @@ fn check_records<F: Folder>(
     requires long { needed_of head.now ≤ F.file_len file.old }
     ensures told { (b : List ℕ) → F.file_bytes file.old ≡ Some b → Gives IsOutside (λ u. u) result (records_whole head.now b name.now) }
     ensures names { F.names folder.new ≡ F.names folder.old }
+    ensures reads { F.read_calls folder.new ≤ F.read_calls folder.old + head.now.lines }
     ensures write_calls { F.write_calls folder.new ≡ F.write_calls folder.old }
     ensures cause { HasCause WalkFault.FolderFault (F.faults folder.old) (F.faults folder.new) result }
     ensures of_file { IfErr result IsOfFile }
@@ -83,6 +86,7 @@ fn read_cell<F: Folder>(
     ensures bytes { F.file_bytes file.new ≡ F.file_bytes file.old }
     ensures len { F.file_len file.new ≡ F.file_len file.old }
     ensures names { F.names folder.new ≡ F.names folder.old }
+    ensures reads { F.read_calls folder.new ≤ F.read_calls folder.old + 1 }
     ensures write_calls { F.write_calls folder.new ≡ F.write_calls folder.old }
     ensures cause { HasCause WalkFault.FolderFault (F.faults folder.old) (F.faults folder.new) result }
     ensures of_file { IfErr result IsOfFile }
@@ -122,6 +126,7 @@ pub fn find_cell<F: Folder>(
     ensures kind { IfOk result (λ found. content_kind found.content ≡ Kind.Dted) }
     ensures fits { IfOk result (λ found. Fits name.now found.content found.length) }
     ensures names { F.names folder.new ≡ F.names folder.old }
+    ensures reads { IfOk result (λ found. F.read_calls folder.new ≤ F.read_calls folder.old + calls_to_find verify found.content found.length) }
     ensures write_calls { F.write_calls folder.new ≡ F.write_calls folder.old }
     ensures cause { HasCause WalkFault.FolderFault (F.faults folder.old) (F.faults folder.new) result }
     ensures of_file { IfErr result IsOfFile }

@@ -1,5 +1,5 @@
 // Files of a folder, read whole.
-ghost use Rattle.std.specs.Prelude.{◌≡◌, ◌⊎◌, ℕ, Some, List, Err, length, take, IfOk, IfErr};
+ghost use Rattle.std.specs.Prelude.{◌≡◌, ◌⊎◌, ◌≤◌, ◌+◌, ℕ, Some, List, Err, length, take, IfOk, IfErr};
 ghost use Rattle.outside.specs.Outside.{Files, IsLong};
 ghost use Rattle.outside.specs.Causes.{HasCause};
 ghost use Rattle.catalog.specs.Outcomes.{IsOutside};
@@ -15,6 +15,7 @@ pub fn open_file<F: Folder>(folder: &mut F, name: &Name) -> Result<F::File, Walk
     ensures len { IfOk result (λ file. IsLong (F.file_bytes file) (F.file_len file)) }
     ensures err { IfErr result (λ f. (m : Files) → F.names folder.old ≡ Some m → IsOutside f ⊎ (file_in m name.now ≡ Err f)) }
     ensures names { F.names folder.new ≡ F.names folder.old }
+    ensures read_calls { F.read_calls folder.new ≡ F.read_calls folder.old }
     ensures write_calls { F.write_calls folder.new ≡ F.write_calls folder.old }
     ensures cause { HasCause WalkFault.FolderFault (F.faults folder.old) (F.faults folder.new) result }
     ensures of_file { IfErr result IsOfFile }
@@ -42,6 +43,7 @@ pub fn read_whole<F: Folder>(
     ensures size { IfOk result (λ v. length v.items ≡ len) }
     ensures err { IfErr result IsOutside }
     ensures names { F.names folder.new ≡ F.names folder.old }
+    ensures reads { F.read_calls folder.new ≤ F.read_calls folder.old + 1 }
     ensures write_calls { F.write_calls folder.new ≡ F.write_calls folder.old }
     ensures cause { HasCause WalkFault.FolderFault (F.faults folder.old) (F.faults folder.new) result }
 {
@@ -65,6 +67,7 @@ pub fn read_front<F: Folder>(
     ensures bytes { F.file_bytes file.new ≡ F.file_bytes file.old }
     ensures len { F.file_len file.new ≡ F.file_len file.old }
     ensures names { F.names folder.new ≡ F.names folder.old }
+    ensures reads { F.read_calls folder.new ≤ F.read_calls folder.old + 1 }
     ensures write_calls { F.write_calls folder.new ≡ F.write_calls folder.old }
     ensures cause { HasCause WalkFault.FolderFault (F.faults folder.old) (F.faults folder.new) result }
 {

@@ -1,5 +1,6 @@
 // ASCII grids, scanned whole in pieces.
 ghost use Rattle.std.specs.Prelude.{◌≡◌, ◌⊎◌, ◌≤◌, ◌<◌, ◌+◌, ℕ, List, length, Option, Some, Ok, Err, ◌^◌, IfOk, IfErr, OnOk};
+ghost use Rattle.std.specs.Int.{div_ceil};
 ghost use Rattle.lists_and_answers.specs.Answers.{Gives};
 ghost use Rattle.outside.specs.Outside.{Files, IsLong};
 ghost use Rattle.outside.specs.Causes.{HasCause};
@@ -50,6 +51,7 @@ fn scan_piece<F: Folder>(
     ensures bytes { F.file_bytes file.new ≡ F.file_bytes file.old }
     ensures len { F.file_len file.new ≡ F.file_len file.old }
     ensures names { F.names folder.new ≡ F.names folder.old }
+    ensures reads { F.read_calls folder.new ≤ F.read_calls folder.old + 1 }
     ensures write_calls { F.write_calls folder.new ≡ F.write_calls folder.old }
     ensures cause { HasCause ScanFault.Failed (F.faults folder.old) (F.faults folder.new) result }
 {
@@ -77,6 +79,7 @@ fn scan_pieces<F: Folder>(
     ensures fed { OnOk result (HasFed scanner.new (F.file_bytes file.old) len) }
     ensures err { IfErr result (λ f. (b : List ℕ) → F.file_bytes file.old ≡ Some b → IsScanFault b f) }
     ensures names { F.names folder.new ≡ F.names folder.old }
+    ensures reads { F.read_calls folder.new ≤ F.read_calls folder.old + div_ceil len (length buffer.old) }
     ensures write_calls { F.write_calls folder.new ≡ F.write_calls folder.old }
     ensures cause { HasCause ScanFault.Failed (F.faults folder.old) (F.faults folder.new) result }
 {
@@ -121,6 +124,7 @@ fn scan_file<F: Folder>(
     ensures kept { IfOk result IsHead }
     ensures rows { IfOk result (λ h. AreRising 0 (F.file_len file.old) h.rows) }
     ensures names { F.names folder.new ≡ F.names folder.old }
+    ensures reads { F.read_calls folder.new ≤ F.read_calls folder.old + div_ceil (F.file_len file.old) (length buffer.old) }
     ensures write_calls { F.write_calls folder.new ≡ F.write_calls folder.old }
     ensures cause { HasCause ScanFault.Failed (F.faults folder.old) (F.faults folder.new) result }
 {
@@ -140,6 +144,7 @@ fn scan<F: Folder>(alloc: Global, folder: &mut F, mut file: F::File) -> Result<G
     ensures kept { IfOk result IsHead }
     ensures rows { IfOk result (λ h. AreRising 0 (F.file_len file) h.rows) }
     ensures names { F.names folder.new ≡ F.names folder.old }
+    ensures reads { F.read_calls folder.new ≤ F.read_calls folder.old + div_ceil (F.file_len file) 65536 }
     ensures write_calls { F.write_calls folder.new ≡ F.write_calls folder.old }
     ensures cause { HasCause ScanFault.Failed (F.faults folder.old) (F.faults folder.new) result }
 {
@@ -174,6 +179,7 @@ pub fn find_grid<F: Folder>(alloc: Global, folder: &mut F, name: &Name) -> Resul
     ensures kind { IfOk result (λ found. content_kind found.content ≡ Kind.Ascii) }
     ensures fits { IfOk result (λ found. Fits name.now found.content found.length) }
     ensures names { F.names folder.new ≡ F.names folder.old }
+    ensures reads { IfOk result (λ found. F.read_calls folder.new ≤ F.read_calls folder.old + div_ceil found.length 65536) }
     ensures write_calls { F.write_calls folder.new ≡ F.write_calls folder.old }
     ensures cause { HasCause WalkFault.FolderFault (F.faults folder.old) (F.faults folder.new) result }
     ensures of_file { IfErr result IsOfFile }

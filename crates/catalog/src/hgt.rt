@@ -29,6 +29,7 @@ pub fn find_tile<F: Folder>(folder: &mut F, name: &Name) -> Result<Found, WalkFa
     ensures kind { IfOk result (λ found. content_kind found.content ≡ Kind.Hgt) }
     ensures fits { IfOk result (λ found. Fits name.now found.content found.length) }
     ensures names { F.names folder.new ≡ F.names folder.old }
+    ensures read_calls { F.read_calls folder.new ≡ F.read_calls folder.old }
     ensures write_calls { F.write_calls folder.new ≡ F.write_calls folder.old }
     ensures cause { HasCause WalkFault.FolderFault (F.faults folder.old) (F.faults folder.new) result }
     ensures of_file { IfErr result IsOfFile }

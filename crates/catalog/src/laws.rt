@@ -8,7 +8,7 @@ ghost use Rattle.catalog.specs.declared.driver.DriverHead.{DriverHead};
 ghost use Rattle.catalog.specs.Drivers.{Dataset, document_of, driver_of};
 ghost use Rattle.catalog.specs.Walk.{IsCatalog, IsWalked};
 ghost use Rattle.catalog.specs.Links.{source_at};
-ghost use Rattle.catalog.specs.Pixels.{pixel_of, pixel_of_name, file_pixel, target_size, target_pixel, IsTaken, AreOfTargets};
+ghost use Rattle.catalog.specs.Pixels.{pixel_of, pixel_of_name, file_pixel, member_size, member_pixel, IsTaken, AreOfMembers};
 ghost use Rattle.catalog.specs.Places.{block_rect_of, row_by_row};
 ghost use Rattle.catalog.specs.Blocks.{block_pixels};
 
@@ -27,15 +27,15 @@ pub fn file_pixels_are_samples()
 /// The pixels of a mosaic are made of the pixels of the datasets that its band's sources name, whatever these sizes and
 /// pixels are elsewhere.
 pub fn mosaic_pixels_are_of_sources()
-    ensures pixel { (m : Files) (cat : List Dataset) (id band x y : ℕ) (d : Dataset) (doc : DocumentValue) (b : BandValue) (sizes : SourceValue → Size) (pixels : SourceValue → ℕ → ℕ → ℤ) → IsCatalog cat → slice_get cat id ≡ Some d → document_of d.content ≡ Some doc → slice_get doc.bands band ≡ Some b → AreOfTargets m cat d band sizes pixels → pixel_of m cat id band x y ≡ mosaic_pixel b (λ s. given_of s doc.size (sizes s) (pixels s)) x y }
-    ensures targets { (m : Files) (cat : List Dataset) (d : Dataset) (band : ℕ) → AreOfTargets m cat d band (target_size cat d) (target_pixel m cat d) }
-    ensures own { (m : Files) (cat : List Dataset) (id band x y : ℕ) (d : Dataset) (doc : DocumentValue) (b : BandValue) → IsCatalog cat → slice_get cat id ≡ Some d → document_of d.content ≡ Some doc → slice_get doc.bands band ≡ Some b → pixel_of m cat id band x y ≡ mosaic_pixel b (λ s. given_of s doc.size (target_size cat d s) (target_pixel m cat d s)) x y }
-    ensures block { (m : Files) (cat : List Dataset) (id band block : ℕ) (d : Dataset) (doc : DocumentValue) (b : BandValue) (sizes : SourceValue → Size) (pixels : SourceValue → ℕ → ℕ → ℤ) → IsCatalog cat → slice_get cat id ≡ Some d → document_of d.content ≡ Some doc → slice_get doc.bands band ≡ Some b → AreOfTargets m cat d band sizes pixels → block_pixels m cat id band block ≡ row_by_row (mosaic_pixel b (λ s. given_of s doc.size (sizes s) (pixels s))) (block_rect_of d.head block) }
+    ensures pixel { (m : Files) (cat : List Dataset) (id band x y : ℕ) (d : Dataset) (doc : DocumentValue) (b : BandValue) (sizes : SourceValue → Size) (pixels : SourceValue → ℕ → ℕ → ℤ) → IsCatalog cat → slice_get cat id ≡ Some d → document_of d.content ≡ Some doc → slice_get doc.bands band ≡ Some b → AreOfMembers m cat d band sizes pixels → pixel_of m cat id band x y ≡ mosaic_pixel b (λ s. given_of s doc.size (sizes s) (pixels s)) x y }
+    ensures members { (m : Files) (cat : List Dataset) (d : Dataset) (band : ℕ) → AreOfMembers m cat d band (member_size cat d) (member_pixel m cat d) }
+    ensures own { (m : Files) (cat : List Dataset) (id band x y : ℕ) (d : Dataset) (doc : DocumentValue) (b : BandValue) → IsCatalog cat → slice_get cat id ≡ Some d → document_of d.content ≡ Some doc → slice_get doc.bands band ≡ Some b → pixel_of m cat id band x y ≡ mosaic_pixel b (λ s. given_of s doc.size (member_size cat d s) (member_pixel m cat d s)) x y }
+    ensures block { (m : Files) (cat : List Dataset) (id band block : ℕ) (d : Dataset) (doc : DocumentValue) (b : BandValue) (sizes : SourceValue → Size) (pixels : SourceValue → ℕ → ℕ → ℤ) → IsCatalog cat → slice_get cat id ≡ Some d → document_of d.content ≡ Some doc → slice_get doc.bands band ≡ Some b → AreOfMembers m cat d band sizes pixels → block_pixels m cat id band block ≡ row_by_row (mosaic_pixel b (λ s. given_of s doc.size (sizes s) (pixels s))) (block_rect_of d.head block) }
 {}
 
 /// Each source of a mosaic names a dataset of the catalog, which has the band that the source takes, with samples that
 /// it takes.
-pub fn sources_have_targets()
+pub fn sources_have_members()
     ensures there { (cat : List Dataset) (id band source : ℕ) (d : Dataset) (s : SourceValue) → IsCatalog cat → slice_get cat id ≡ Some d → source_at d band source ≡ Some s → IsTaken cat d band source s }
 {}
 

@@ -4,12 +4,13 @@ ghost use Rattle.std.specs.Option.{option_or};
 ghost use Rattle.std.specs.BTreeMap.{get_by_text};
 ghost use Rattle.vrt_profile.specs.Values.{BandValue};
 ghost use Rattle.lists_and_answers.specs.Answers.{Gives};
+ghost use Rattle.lists_and_answers.specs.Lists.{flattened};
 ghost use Rattle.catalog.specs.Outcomes.{IsMemory};
 ghost use Rattle.catalog.specs.Drivers.{Dataset as Known};
-ghost use Rattle.catalog.specs.Steps.{IsPlain};
+ghost use Rattle.catalog.specs.Walking.{IsPlain};
 ghost use Rattle.catalog.specs.Dataset.{band_at};
 ghost use Rattle.catalog.specs.Walk.{is_narrow_band, number_of, one_more_source};
-ghost use Rattle.catalog.specs.Linked.{State, IsLinked, IsHigh, IsDeep, Grows, HasBand, IsMosaicAt, pushed, closed, one_counted, cut_to, height_at, most, all_of, first_above};
+ghost use Rattle.catalog.specs.Linked.{State, IsLinked, IsHigh, IsDeep, Grows, HasBand, IsMosaicAt, pushed, closed, one_counted, cut_to, height_at, most, first_above};
 
 use crate::dataset::Dataset;
 use crate::driver::Content;
@@ -25,7 +26,7 @@ use vrt_profile::{Document, VrtBand};
 pub const MOST_SOURCES: u32 = 262_144;
 
 /// The numbers of the datasets that the sources of a band name, in order.
-pub type Targets = Items<u32>;
+pub type Members = Items<u32>;
 
 /// What is kept of a dataset that was met whole: how deep it is nested, and the numbers of the datasets
 /// that its sources name, by band and source.
@@ -33,7 +34,7 @@ pub type Targets = Items<u32>;
 pub struct Link {
     /// 0 for a file, else one more than the greatest height of what the sources name.
     pub height: u32,
-    pub targets: Items<Targets>,
+    pub members: Items<Members>,
 }
 
 /// What a walk has met: the datasets in the order in which they were first met, the link of each that
@@ -50,11 +51,11 @@ pub struct Met {
 impl Link {
     /// The link of a file.
     pub fn of_file(alloc: Global) -> Link
-        ensures file { result ≡ record { height = 0; targets = [] } }
+        ensures file { result ≡ record { height = 0; members = [] } }
     {
         Link {
             height: 0,
-            targets: Items::new(alloc),
+            members: Items::new(alloc),
         }
     }
 }
@@ -197,14 +198,14 @@ impl Met {
     }
 
     /// Gives a mosaic its link, by the rows of what its sources name.
-    pub fn close(&mut self, id: u32, targets: Items<Targets>)
+    pub fn close(&mut self, id: u32, members: Items<Members>)
         requires known { id < length self.old.links }
-        requires rows { All (λ row. All (λ id. id < length self.old.links) row) targets }
-        requires low { most self.old.links (all_of targets) < 16 }
-        ensures closed { self.new ≡ closed self.old id (record { height = suc (most self.old.links (all_of targets)); targets = targets }) }
+        requires rows { All (λ row. All (λ id. id < length self.old.links) row) members }
+        requires low { most self.old.links (flattened members) < 16 }
+        ensures closed { self.new ≡ closed self.old id (record { height = suc (most self.old.links (flattened members)); members = members }) }
     {
-        let height = self.highest(targets.as_slice()) + 1;
-        self.links[id as usize] = Some(Link { height, targets });
+        let height = self.highest(members.as_slice()) + 1;
+        self.links[id as usize] = Some(Link { height, members });
     }
 
     /// Forgets what was met behind this many datasets, and sets the number of sources.
@@ -268,9 +269,9 @@ impl Met {
 
     /// The greatest height of the datasets of some rows, or 0.
     #[tactic(auto, using(crate::proofs::Rows::most_rows))]
-    pub fn highest(&self, rows: &[Targets]) -> u32
+    pub fn highest(&self, rows: &[Members]) -> u32
         requires known { All (λ row. All (λ id. id < length self.now.links) row) rows.now }
-        ensures highest { result ≡ most self.now.links (all_of rows.now) }
+        ensures highest { result ≡ most self.now.links (flattened rows.now) }
     {
         let mut height = 0;
         for row in rows {
@@ -295,9 +296,9 @@ impl Met {
 
     // The first of the datasets of some rows whose height is above this.
     #[tactic(auto, using(crate::proofs::Rows::row_passed, crate::proofs::Rows::row_met))]
-    fn first_above(&self, rows: &[Targets], room: u32) -> Option<u32>
+    fn first_above(&self, rows: &[Members], room: u32) -> Option<u32>
         requires known { All (λ row. All (λ id. id < length self.now.links) row) rows.now }
-        ensures first { result ≡ first_above self.now.links room (all_of rows.now) }
+        ensures first { result ≡ first_above self.now.links room (flattened rows.now) }
     {
         for row in rows {
             if let Some(id) = self.first_above_in(row.as_slice(), room) {
@@ -320,7 +321,7 @@ impl Met {
         let Some(link) = self.link(id) else {
             unreachable!();
         };
-        let Some(next) = self.first_above(link.targets.as_slice(), room - 1) else {
+        let Some(next) = self.first_above(link.members.as_slice(), room - 1) else {
             unreachable!();
         };
         self.deepest(next, room - 1)

@@ -1,12 +1,14 @@
 // What a dataset's own files say of it, by its name.
-ghost use Rattle.std.specs.Prelude.{◌≡◌, Some, Ok, IfOk, IfErr};
+ghost use Rattle.std.specs.Prelude.{◌≡◌, ◌≤◌, ◌+◌, Some, Ok, IfOk, IfErr, OnOk};
 ghost use Rattle.lists_and_answers.specs.Answers.{Gives};
 ghost use Rattle.outside.specs.Outside.{Files};
 ghost use Rattle.outside.specs.Causes.{HasCause};
 ghost use Rattle.catalog.specs.Outcomes.{IsOutside};
 ghost use Rattle.catalog.specs.Dataset.{IsDatasetHead};
 ghost use Rattle.catalog.specs.Drivers.{content_kind, Fits};
-ghost use Rattle.catalog.specs.Heads.{kind_in, found_in, dataset_by, head_in, IsOfFile, IsOfHead, RefusesUnknown, OwnsFaults};
+ghost use Rattle.catalog.specs.Drivers.{Dataset as Known};
+ghost use Rattle.catalog.specs.Readings.{calls_to_find, calls_to_open};
+ghost use Rattle.catalog.specs.Heads.{kind_in, found_in, dataset_by, dataset_in, head_in, IsOfFile, IsOfHead, RefusesUnknown, OwnsFaults};
 ghost use Rattle.catalog.specs.Walk.{IsDataset};
 
 use crate::dataset::Dataset;
@@ -24,6 +26,7 @@ use outside::{Folder, Name};
 use std::alloc::Global;
 
 // Finds what the files of a dataset say, by the kind that its name tells.
+#[tactic(auto, using(crate::proofs::Readings::raw_calls, crate::proofs::Readings::grid_calls, crate::proofs::Readings::mosaic_calls))]
 fn find<F: Folder>(
     alloc: Global,
     folder: &mut F,
@@ -36,6 +39,7 @@ fn find<F: Folder>(
     ensures kind { IfOk result (λ found. content_kind found.content ≡ kind) }
     ensures fits { IfOk result (λ found. Fits name.now found.content found.length) }
     ensures names { F.names folder.new ≡ F.names folder.old }
+    ensures reads { IfOk result (λ found. F.read_calls folder.new ≤ F.read_calls folder.old + calls_to_find verify found.content found.length) }
     ensures write_calls { F.write_calls folder.new ≡ F.write_calls folder.old }
     ensures cause { HasCause WalkFault.FolderFault (F.faults folder.old) (F.faults folder.new) result }
     ensures of_file { IfErr result IsOfFile }
@@ -63,6 +67,7 @@ pub fn read_dataset<F: Folder>(
     ensures valid { IfOk result IsDataset }
     ensures name { IfOk result (λ d. d.head.name ≡ name.now) }
     ensures names { F.names folder.new ≡ F.names folder.old }
+    ensures reads { IfOk result (λ d. F.read_calls folder.new ≤ F.read_calls folder.old + calls_to_open verify d) }
     ensures write_calls { F.write_calls folder.new ≡ F.write_calls folder.old }
     ensures cause { HasCause WalkFault.FolderFault (F.faults folder.old) (F.faults folder.new) result }
     ensures of_file { IfErr result IsOfFile }
@@ -92,6 +97,8 @@ pub fn read_dataset<F: Folder>(
 /// comes only where the folder's count rose, Memory freely, and never within Malformed. It takes memory
 /// for the header, the front of the cell or the document, for one record or piece of 65,536 bytes, and
 /// for the head.
+///
+/// Over a folder that tells its files it makes at most the reads that the dataset takes (`calls_to_open`).
 #[tactic(auto, using(crate::proofs::Headers::outside_fails), unfolding(crate::specs::Heads::head_in, crate::specs::Heads::dataset_in))]
 pub fn head_of<F: Folder>(
     alloc: Global,
@@ -103,6 +110,7 @@ pub fn head_of<F: Folder>(
     ensures valid { IfOk result IsDatasetHead }
     ensures unknown { RefusesUnknown name.now result }
     ensures names { F.names folder.new ≡ F.names folder.old }
+    ensures reads { OnOk result ((m : Files) (d : Known) → F.names folder.old ≡ Some m → dataset_in m verify name.now ≡ Ok d → F.read_calls folder.new ≤ F.read_calls folder.old + calls_to_open verify d) }
     ensures write_calls { F.write_calls folder.new ≡ F.write_calls folder.old }
     ensures cause { HasCause WalkFault.FolderFault (F.faults folder.old) (F.faults folder.new) result }
     ensures of_head { IfErr result IsOfHead }

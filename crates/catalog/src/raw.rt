@@ -1,5 +1,5 @@
 // Raw data beside its header.
-ghost use Rattle.std.specs.Prelude.{◌≡◌, ◌⊎◌, ◌≤◌, ℕ, List, length, nat_lt, if◌then◌else◌, Some, Ok, Err, IfOk, IfErr, IsTrue};
+ghost use Rattle.std.specs.Prelude.{◌≡◌, ◌⊎◌, ◌≤◌, ◌+◌, ℕ, List, length, nat_lt, if◌then◌else◌, Some, Ok, Err, IfOk, IfErr, IsTrue};
 ghost use Rattle.lists_and_answers.specs.Answers.{Gives};
 ghost use Rattle.outside.specs.Outside.{Files};
 ghost use Rattle.outside.specs.Causes.{HasCause};
@@ -25,6 +25,7 @@ const LONGEST_HEADER: u64 = esri_hdr::LONGEST_HEADER as u64;
 fn read_header<F: Folder>(alloc: Global, folder: &mut F, name: &Name) -> Result<RawHead, WalkFault>
     ensures told { (m : Files) → F.names folder.old ≡ Some m → Gives IsOutside (λ h. h) result (header_in m name.now) }
     ensures names { F.names folder.new ≡ F.names folder.old }
+    ensures reads { F.read_calls folder.new ≤ F.read_calls folder.old + 1 }
     ensures write_calls { F.write_calls folder.new ≡ F.write_calls folder.old }
     ensures cause { HasCause WalkFault.FolderFault (F.faults folder.old) (F.faults folder.new) result }
     ensures of_file { IfErr result IsOfFile }
@@ -61,6 +62,7 @@ fn data_len<F: Folder>(folder: &mut F, name: &Name) -> Result<u64, WalkFault>
     ensures ok { IfOk result (λ n. (m : Files) → F.names folder.old ≡ Some m → (b : List ℕ) × (file_in m name.now ≡ Ok b) × (n ≡ length b)) }
     ensures err { IfErr result (λ f. (m : Files) → F.names folder.old ≡ Some m → IsOutside f ⊎ (file_in m name.now ≡ Err f)) }
     ensures names { F.names folder.new ≡ F.names folder.old }
+    ensures read_calls { F.read_calls folder.new ≡ F.read_calls folder.old }
     ensures write_calls { F.write_calls folder.new ≡ F.write_calls folder.old }
     ensures cause { HasCause WalkFault.FolderFault (F.faults folder.old) (F.faults folder.new) result }
     ensures of_file { IfErr result IsOfFile }
@@ -78,6 +80,7 @@ fn header_beside<F: Folder>(
     requires raw { IsTrue (is_raw (extension_of name.now)) }
     ensures told { (m : Files) → F.names folder.old ≡ Some m → Gives IsOutside (λ h. h) result (header_in m (header_of name.now)) }
     ensures names { F.names folder.new ≡ F.names folder.old }
+    ensures reads { F.read_calls folder.new ≤ F.read_calls folder.old + 1 }
     ensures write_calls { F.write_calls folder.new ≡ F.write_calls folder.old }
     ensures cause { HasCause WalkFault.FolderFault (F.faults folder.old) (F.faults folder.new) result }
     ensures of_file { IfErr result IsOfFile }
@@ -114,6 +117,7 @@ pub fn find_raw<F: Folder>(alloc: Global, folder: &mut F, name: &Name) -> Result
     ensures kind { IfOk result (λ found. content_kind found.content ≡ Kind.Raw) }
     ensures fits { IfOk result (λ found. Fits name.now found.content found.length) }
     ensures names { F.names folder.new ≡ F.names folder.old }
+    ensures reads { F.read_calls folder.new ≤ F.read_calls folder.old + 1 }
     ensures write_calls { F.write_calls folder.new ≡ F.write_calls folder.old }
     ensures cause { HasCause WalkFault.FolderFault (F.faults folder.old) (F.faults folder.new) result }
     ensures of_file { IfErr result IsOfFile }

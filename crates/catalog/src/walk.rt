@@ -9,11 +9,11 @@ ghost use Rattle.catalog.specs.Drivers.{Dataset as Known};
 ghost use Rattle.catalog.specs.Walk.{number_of, dataset_named, band_named, is_narrow_band, room_for, has_band, has_samples, unless_wide, visit};
 ghost use Rattle.vrt_profile.specs.Value.{is_plain};
 ghost use Rattle.catalog.specs.Linked.{IsLinked, IsPath, IsLow, IsMosaicAt, HasBand, HasSource, met_of};
-ghost use Rattle.catalog.specs.Steps.{IsPlain, Meets, Visits, Passes, Names, Reaches, ReachesRows, seen};
+ghost use Rattle.catalog.specs.Walking.{IsPlain, Meets, Visits, Passes, Names, Reaches, ReachesRows, seen};
 
 use crate::driver::Content;
 use crate::kind::kind_of;
-use crate::links::{Link, Met, Targets};
+use crate::links::{Link, Members, Met};
 use crate::own_files::read_dataset;
 use crate::{Bad, Kind, LimitKind, WalkFault};
 use lists_and_answers::Items;
@@ -74,12 +74,12 @@ fn resolve_source(alloc: Global, met: &Met, at: SourceAt) -> Result<Wanted, Walk
 }
 
 // The dataset that a source names has the band that it names.
-fn check_band(met: &Met, target: u32, wanted: &Wanted) -> Result<(), WalkFault>
-    requires number { number_of met.now.datasets wanted.now.name ≡ Some target }
+fn check_band(met: &Met, member: u32, wanted: &Wanted) -> Result<(), WalkFault>
+    requires number { number_of met.now.datasets wanted.now.name ≡ Some member }
     ensures told { Gives IsMemory (λ _. tt) result (has_band met.now.datasets wanted.now.name wanted.now.band) }
     ensures plain { IfErr result IsPlain }
 {
-    if wanted.band as usize > met.band_count(target) {
+    if wanted.band as usize > met.band_count(member) {
         return Err(WalkFault::SourceBand {
             name: wanted.name.try_clone()?,
             band: wanted.band,
@@ -89,30 +89,30 @@ fn check_band(met: &Met, target: u32, wanted: &Wanted) -> Result<(), WalkFault>
 }
 
 // Whether the samples of the band that a source names have at most 32 bits.
-fn names_narrow(met: &Met, target: u32, wanted: &Wanted) -> bool
-    requires number { number_of met.now.datasets wanted.now.name ≡ Some target }
+fn names_narrow(met: &Met, member: u32, wanted: &Wanted) -> bool
+    requires number { number_of met.now.datasets wanted.now.name ≡ Some member }
     ensures narrow { result ≡ is_narrow_band (band_named (dataset_named met.now.datasets wanted.now.name) wanted.now.band) }
 {
-    met.is_narrow(target, wanted.band)
+    met.is_narrow(member, wanted.band)
 }
 
 // Whether a source takes the samples of the band that it names: those that it scales, or has a table for, have at
 // most 32 bits.
-fn takes_samples(met: &Met, target: u32, wanted: &Wanted) -> bool
-    requires number { number_of met.now.datasets wanted.now.name ≡ Some target }
+fn takes_samples(met: &Met, member: u32, wanted: &Wanted) -> bool
+    requires number { number_of met.now.datasets wanted.now.name ≡ Some member }
     ensures takes { result ≡ (wanted.now.plain || is_narrow_band (band_named (dataset_named met.now.datasets wanted.now.name) wanted.now.band)) }
 {
-    wanted.plain || names_narrow(met, target, wanted)
+    wanted.plain || names_narrow(met, member, wanted)
 }
 
 // A mosaic, whose number this is, that doesn't take the samples of what its source names isn't one that is read.
-fn check_width(met: &Met, id: u32, target: u32, wanted: &Wanted) -> Result<(), WalkFault>
+fn check_width(met: &Met, id: u32, member: u32, wanted: &Wanted) -> Result<(), WalkFault>
     requires known { id < length met.now.datasets }
-    requires number { number_of met.now.datasets wanted.now.name ≡ Some target }
+    requires number { number_of met.now.datasets wanted.now.name ≡ Some member }
     ensures told { (d : Known) → slice_get met.now.datasets id ≡ Some d → Gives IsMemory (λ _. tt) result (unless_wide met.now.datasets d.head.name wanted.now.name wanted.now.band wanted.now.plain) }
     ensures plain { IfErr result IsPlain }
 {
-    if takes_samples(met, target, wanted) {
+    if takes_samples(met, member, wanted) {
         return Ok(());
     }
     Err(WalkFault::Malformed {
@@ -122,14 +122,14 @@ fn check_width(met: &Met, id: u32, target: u32, wanted: &Wanted) -> Result<(), W
 }
 
 // What a source of the mosaic of this number names has the band that it names, with samples that it takes.
-fn check_samples(met: &Met, id: u32, target: u32, wanted: &Wanted) -> Result<(), WalkFault>
+fn check_samples(met: &Met, id: u32, member: u32, wanted: &Wanted) -> Result<(), WalkFault>
     requires known { id < length met.now.datasets }
-    requires number { number_of met.now.datasets wanted.now.name ≡ Some target }
+    requires number { number_of met.now.datasets wanted.now.name ≡ Some member }
     ensures told { (d : Known) → slice_get met.now.datasets id ≡ Some d → Gives IsMemory (λ _. tt) result (has_samples met.now.datasets d.head.name wanted.now.name wanted.now.band wanted.now.plain) }
     ensures plain { IfErr result IsPlain }
 {
-    check_band(met, target, wanted)?;
-    check_width(met, id, target, wanted)
+    check_band(met, member, wanted)?;
+    check_width(met, id, member, wanted)
 }
 
 // The checks of a name that was met earlier, by its height: the datasets below it aren't gone through.
@@ -238,9 +238,9 @@ fn visit_source<F: Folder>(
     ensures passes { (w : HasSource met.old at.id at.band at.source) → Passes verify room w.of.mosaic.dataset.head.name (w.value ∷ []) (seen (F.names folder.old) (F.write_calls folder.old) (F.read_calls folder.old) (F.faults folder.old)) (seen (F.names folder.new) (F.write_calls folder.new) (F.read_calls folder.new) (F.faults folder.new)) met.old met.new (λ t. Reaches met.new room w.of.mosaic.dataset.head.name (w.value ∷ []) (t ∷ [])) result }
 {
     let wanted = count_and_resolve(alloc, met, at)?;
-    let target = visit(alloc, met, folder, verify, room, &wanted.name)?;
-    check_samples(met, at.id, target, &wanted)?;
-    Ok(target)
+    let member = visit(alloc, met, folder, verify, room, &wanted.name)?;
+    check_samples(met, at.id, member, &wanted)?;
+    Ok(member)
 }
 
 // Visits what the sources of a band of a mosaic name.
@@ -253,7 +253,7 @@ fn visit_band<F: Folder>(
     room: u32,
     id: u32,
     band: usize,
-) -> Result<Targets, WalkFault>
+) -> Result<Members, WalkFault>
     requires linked { IsLinked met.old }
     requires room { room < 16 }
     requires there { HasBand met.old id band }
@@ -263,8 +263,8 @@ fn visit_band<F: Folder>(
     let count = met.band(id, band).sources.len();
     for source in 0..count {
         let at = SourceAt { id, band, source };
-        let target = visit_source(alloc, met, folder, verify, room, at)?;
-        row.push(target)?;
+        let member = visit_source(alloc, met, folder, verify, room, at)?;
+        row.push(member)?;
     }
     Ok(row)
 }
@@ -278,7 +278,7 @@ fn visit_bands<F: Folder>(
     verify: bool,
     room: u32,
     id: u32,
-) -> Result<Items<Targets>, WalkFault>
+) -> Result<Items<Members>, WalkFault>
     requires linked { IsLinked met.old }
     requires room { room < 16 }
     requires there { IsMosaicAt met.old id }
@@ -312,8 +312,8 @@ pub fn visit<F: Folder>(
     match meeting {
         Meeting::Whole(id) => Ok(id),
         Meeting::Open(id) => {
-            let targets = visit_bands(alloc, met, folder, verify, room - 1, id)?;
-            met.close(id, targets);
+            let members = visit_bands(alloc, met, folder, verify, room - 1, id)?;
+            met.close(id, members);
             Ok(id)
         }
     }

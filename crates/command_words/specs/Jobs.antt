@@ -1,5 +1,5 @@
 -- The work that words ask for: what is missing, and what doesn't go together.
-use Rattle.std.specs.Prelude.{ℕ, ℤ, max, Bool, true, false, List, [], ◌∷◌, Option, Some, None, option_and_then, Result, Ok, Err, ok_or, if◌then◌else◌}
+use Rattle.std.specs.Prelude.{ℕ, ℤ, max, Bool, true, false, List, [], ◌∷◌, Option, Some, None, option_and_then, option_map, Result, Ok, Err, ok_or, if◌then◌else◌}
 use Rattle.lists_and_answers.specs.Answers.{◌>>=◌}
 use Rattle.outside.specs.Names.{extension_of}
 use Rattle.outside.specs.declared.name.Ext.{Ext}
@@ -8,10 +8,11 @@ use Rattle.esri_hdr.specs.declared.header_parts.Layout.{Layout}
 use Rattle.esri_hdr.specs.declared.header_parts.Layout.TheVariants.{Bil, Bip, Bsq}
 use Rattle.location_report.specs.declared.report.Form.{Form}
 use Rattle.location_report.specs.declared.report.Form.TheVariants.{Report, ValuesOnly, FilesOnly}
+use Rattle.translate_plan.specs.declared.options.Driver.{Driver}
 use Rattle.translate_plan.specs.declared.options.Driver.TheVariants as driver
 use Rattle.translate_plan.specs.declared.options.View.{View}
 use Rattle.translate_plan.specs.declared.options.View.TheVariants.{Whole}
-use Rattle.translate_plan.specs.Options.{Options}
+use Rattle.translate_plan.specs.Options.{Options, driver_for}
 use Rattle.buildvrt.specs.declared.options.Resolution.{Resolution}
 use Rattle.buildvrt.specs.declared.options.Resolution.TheVariants.{Highest, Lowest, Average}
 use Rattle.buildvrt.specs.Options.{Options as MosaicOptions}
@@ -46,24 +47,23 @@ form_of (Some values) None = Ok ValuesOnly
 form_of None (Some files) = Ok FilesOnly
 form_of (Some values) (Some files) = Err (Usage (max values files))
 
+-- the format that names a driver
+abbrev pub format_for : Driver → OutFormat
+format_for driver.EHdr = EHdr
+format_for (driver.Dted level) = Dted
+format_for driver.SrtmHgt = SrtmHgt
+format_for driver.AaiGrid = AaiGrid
+format_for driver.Vrt = Vrt
+
+-- the layout that an extension gives raw data, where nothing else is asked for
+abbrev pub layout_for : Ext → Layout
+layout_for ext.Bip = Bip
+layout_for ext.Bsq = Bsq
+layout_for other = Bil
+
 -- how an extension is written: the format, its driver, and the layout of raw data
-abbrev pub raw_in : Layout → Option Written
-raw_in layout = Some (record { format = EHdr; driver = driver.EHdr; layout = layout })
-
-abbrev pub cell_at : ℕ → Option Written
-cell_at level = Some (record { format = Dted; driver = driver.Dted level; layout = Bil })
-
-abbrev pub written_as : Ext → Option Written
-written_as ext.Bil = raw_in Bil
-written_as ext.Bip = raw_in Bip
-written_as ext.Bsq = raw_in Bsq
-written_as ext.Dt0 = cell_at 0
-written_as ext.Dt1 = cell_at 1
-written_as ext.Dt2 = cell_at 2
-written_as ext.Hgt = Some (record { format = SrtmHgt; driver = driver.SrtmHgt; layout = Bil })
-written_as ext.Asc = Some (record { format = AaiGrid; driver = driver.AaiGrid; layout = Bil })
-written_as ext.Grd = Some (record { format = AaiGrid; driver = driver.AaiGrid; layout = Bil })
-written_as ext.Vrt = Some (record { format = Vrt; driver = driver.Vrt; layout = Bil })
+abbrev pub written_as : Ext → Written
+written_as extension = record { format = format_for (driver_for extension); driver = driver_for extension; layout = layout_for extension }
 
 abbrev pub is_same_format : OutFormat → OutFormat → Bool
 is_same_format EHdr EHdr = true
@@ -80,7 +80,7 @@ of_format (Some format) w = if is_same_format format w.format then Some w else N
 
 -- how an output of this name is written
 unfoldable pub written_of : Option OutFormat → List ℕ → Option Written
-written_of format name = option_and_then (λ w. of_format format w) (option_and_then written_as (extension_of name))
+written_of format name = option_and_then (λ w. of_format format w) (option_map written_as (extension_of name))
 
 -- the window that is asked for; pixels and places don't go together, and what stands later is refused
 abbrev pub view_of : Option (ℕ × View) → Option (ℕ × View) → Result View WordFault

@@ -1,6 +1,7 @@
 // What the words of a command line ask for.
-use crate::numbers::{BandNumber, BlockCount};
+use crate::numbers::BlockCount;
 use buildvrt::BuildOptions;
+use geotransform::BandNumber;
 use input_points::Position;
 use lane_teams::WorkerCount;
 use lists_and_answers::Items;

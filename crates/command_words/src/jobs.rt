@@ -3,21 +3,22 @@ ghost use Rattle.std.specs.Prelude.{◌≡◌, ◌<◌, ◌≤◌, All, IfSome, 
 ghost use Rattle.lists_and_answers.specs.Answers.{Gives};
 ghost use Rattle.translate_plan.specs.Options.{IsDriver, IsView, IsOutSize};
 ghost use Rattle.buildvrt.specs.Options.{IsResolution, IsExtent, IsWord};
-ghost use Rattle.command_words.specs.Jobs.{point_of, form_of, raw_in, cell_at, written_as, is_same_format, of_format, written_of, view_of, layout_in, asked_of, info_job, locate_job, translate_job, inputs_of, separate_of, named_resolution, given_resolution, resolution_of, asked_mosaic, build_job, synth_job, job_of};
+ghost use Rattle.command_words.specs.Jobs.{point_of, form_of, format_for, layout_for, written_as, is_same_format, of_format, written_of, view_of, layout_in, asked_of, info_job, locate_job, translate_job, inputs_of, separate_of, named_resolution, given_resolution, resolution_of, asked_mosaic, build_job, synth_job, job_of};
 ghost use Rattle.command_words.specs.Words.{IsMemory};
 
 use crate::command::Job;
-use crate::numbers::{AskedExtent, AskedNodata, AskedResolution, AskedView, BandNumber, Side};
+use crate::numbers::{AskedExtent, AskedNodata, AskedResolution, AskedView, Side};
 use crate::options::Tool;
 use crate::spoken::{MosaicWanted, OutFormat, ResolutionWord, Spoken, Wanted, WordFault};
 use buildvrt::{BuildOptions, Extent, Resolution};
 use catalog::NodataWord;
 use esri_hdr::Layout;
+use geotransform::BandNumber;
 use input_points::Position;
 use location_report::Form;
 use outside::{Ext, Name, Names};
 use std::alloc::Global;
-use translate_plan::{Driver, Numbers, OutSize, TranslateOptions, View};
+use translate_plan::{Driver, Numbers, OutSize, TranslateOptions, View, driver_for};
 
 /// How an output is written.
 #[derive(Clone, Copy)]
@@ -92,53 +93,38 @@ fn locate_job(count: u64, said: Spoken) -> Result<Job, WordFault>
     })
 }
 
-fn raw_in(layout: Layout) -> Option<Written>
-    ensures { result ≡ raw_in layout }
+fn format_for(driver: Driver) -> OutFormat
+    ensures { result ≡ format_for driver }
 {
-    Some(Written {
-        format: OutFormat::EHdr,
-        driver: Driver::EHdr,
-        layout,
-    })
+    match driver {
+        Driver::EHdr => OutFormat::EHdr,
+        Driver::Dted { .. } => OutFormat::Dted,
+        Driver::SrtmHgt => OutFormat::SrtmHgt,
+        Driver::AaiGrid => OutFormat::AaiGrid,
+        Driver::Vrt => OutFormat::Vrt,
+    }
 }
 
-fn cell_at(level: u32) -> Option<Written>
-    ensures { result ≡ cell_at level }
-{
-    Some(Written {
-        format: OutFormat::Dted,
-        driver: Driver::Dted { level },
-        layout: Layout::Bil,
-    })
-}
-
-// How a file of a kind is written.
-fn written_as(ext: Ext) -> Option<Written>
-    ensures value { result ≡ written_as ext }
-    ensures kept { IfSome result (λ w. IsDriver w.driver) }
+fn layout_for(ext: Ext) -> Layout
+    ensures { result ≡ layout_for ext }
 {
     match ext {
-        Ext::Bil => raw_in(Layout::Bil),
-        Ext::Bip => raw_in(Layout::Bip),
-        Ext::Bsq => raw_in(Layout::Bsq),
-        Ext::Dt0 => cell_at(0),
-        Ext::Dt1 => cell_at(1),
-        Ext::Dt2 => cell_at(2),
-        Ext::Hgt => Some(Written {
-            format: OutFormat::SrtmHgt,
-            driver: Driver::SrtmHgt,
-            layout: Layout::Bil,
-        }),
-        Ext::Asc | Ext::Grd => Some(Written {
-            format: OutFormat::AaiGrid,
-            driver: Driver::AaiGrid,
-            layout: Layout::Bil,
-        }),
-        Ext::Vrt => Some(Written {
-            format: OutFormat::Vrt,
-            driver: Driver::Vrt,
-            layout: Layout::Bil,
-        }),
+        Ext::Bip => Layout::Bip,
+        Ext::Bsq => Layout::Bsq,
+        _ => Layout::Bil,
+    }
+}
+
+// How a file of this extension is written.
+fn written_as(ext: Ext) -> Written
+    ensures value { result ≡ written_as ext }
+    ensures kept { IsDriver result.driver }
+{
+    let driver = driver_for(ext);
+    Written {
+        format: format_for(driver),
+        driver,
+        layout: layout_for(ext),
     }
 }
 
@@ -178,7 +164,7 @@ fn written_of(format: Option<OutFormat>, name: &Name) -> Option<Written>
     ensures kept { IfSome result (λ w. IsDriver w.driver) }
 {
     let ext = name.extension()?;
-    let written = written_as(ext)?;
+    let written = written_as(ext);
     of_format(format, written)
 }
 

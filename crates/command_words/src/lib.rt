@@ -12,6 +12,6 @@ mod values;
 mod words;
 
 pub use command::{BandNumbers, Command, Job};
-pub use numbers::{BandNumber, BlockCount};
+pub use numbers::BlockCount;
 pub use spoken::WordFault;
 pub use words::read_words;

@@ -5,58 +5,8 @@ ghost use Rattle.buildvrt.specs.Options.{IsResolution, IsExtent};
 
 use buildvrt::{Extent, Resolution};
 use catalog::NodataWord;
-use geotransform::MOST_BANDS;
 use std::marker::Model;
 use translate_plan::{OutSize, View};
-
-/// The number of a band as words count it, from 1 to 256.
-#[derive(Clone, Copy)]
-pub struct BandNumber {
-    number: u32,
-}
-
-impl Model for BandNumber {
-    ghost use Rattle.std.specs.Prelude.{ℕ, ◌≤◌};
-
-    ghost Value = { ℕ };
-
-    ghost view = { λ b. b.number };
-
-    ghost invariant = { λ b. (1 ≤ b.number) × (b.number ≤ 256) };
-
-    ghost inverse = { λ n. record { number = n } };
-}
-
-impl BandNumber {
-    /// The number where it is from 1 to 256, else none.
-    pub fn new(number: u32) -> Option<BandNumber>
-        ensures exact { result ≡ (if nat_le 1 number && nat_le number 256 then Some number else None) }
-    {
-        if number >= 1 && number <= MOST_BANDS {
-            Some(BandNumber { number })
-        } else {
-            None
-        }
-    }
-
-    /// This number.
-    pub fn of(number: u32) -> BandNumber
-        requires first { 1 ≤ number }
-        requires last { number ≤ 256 }
-        ensures value { result ≡ number }
-    {
-        BandNumber { number }
-    }
-
-    /// The number, from 1.
-    pub fn get(self) -> u32
-        ensures value { result ≡ self }
-        ensures first { 1 ≤ result }
-        ensures last { result ≤ 256 }
-    {
-        self.number
-    }
-}
 
 /// How many blocks are held at once, from 1 to 65,536.
 #[derive(Clone, Copy)]

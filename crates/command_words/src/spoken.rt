@@ -3,11 +3,9 @@ ghost use Rattle.std.specs.Prelude.{◌≡◌};
 ghost use Rattle.command_words.specs.declared.spoken.WordFault.TheVariants as word_fault;
 
 use crate::command::BandNumbers;
-use crate::numbers::{
-    AskedExtent, AskedNodata, AskedResolution, AskedView, BandNumber, BlockCount, Side,
-};
+use crate::numbers::{AskedExtent, AskedNodata, AskedResolution, AskedView, BlockCount, Side};
 use esri_hdr::Layout;
-use geotransform::PixelType;
+use geotransform::{BandNumber, PixelType};
 use input_points::Position;
 use lane_teams::WorkerCount;
 use outside::{Name, Names};

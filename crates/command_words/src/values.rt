@@ -7,11 +7,11 @@ ghost use Rattle.translate_plan.specs.Options.{IsWhole};
 ghost use Rattle.command_words.specs.Values.{begins_with_dash, short_of, band_of, blocks_of, integer_of, side_of, name_of, is_no, format_of, layout_of, nodata_of, wide_number, is_wide, tile_side_of, resolution_named, beyond, workers_of};
 ghost use Rattle.command_words.specs.Words.{IsMemory};
 
-use crate::numbers::{AskedNodata, BandNumber, BlockCount, Side};
+use crate::numbers::{AskedNodata, BlockCount, Side};
 use crate::spoken::{OutFormat, ResolutionWord, WordFault};
 use catalog::NodataWord;
 use esri_hdr::Layout;
-use geotransform::{read_number, read_whole};
+use geotransform::{BandNumber, read_number, read_whole};
 use input_points::Position;
 use lane_teams::WorkerCount;
 use outside::{Name, NameFault};

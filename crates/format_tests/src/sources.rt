@@ -267,13 +267,13 @@ fn placed(alloc: Global, rectangles: &[u8]) -> Result<Option<Document>, Fail> {
 fn cover_by(
     alloc: Global,
     rectangles: &[u8],
-    target: Size,
+    mosaic: Size,
     size: Size,
     place: (u32, u32),
 ) -> Result<Option<Option<(u32, u32)>>, Fail> {
     match placed(alloc, rectangles)? {
         Some(document) => match first_source(&document) {
-            Some(source) => Ok(Some(cover(source, target, size, place.0, place.1))),
+            Some(source) => Ok(Some(cover(source, mosaic, size, place.0, place.1))),
             None => Ok(None),
         },
         None => Ok(None),
@@ -284,19 +284,19 @@ fn cover_by(
 fn is_covered(
     alloc: Global,
     rectangles: &[u8],
-    (target, size): (u32, u32),
+    (mosaic, size): (u32, u32),
     place: (u32, u32),
     want: Option<(u32, u32)>,
 ) -> Result<bool, Fail> {
-    let target = Size { w: target, h: 2 };
+    let mosaic = Size { w: mosaic, h: 2 };
     let size = Size { w: size, h: 2 };
-    Ok(cover_by(alloc, rectangles, target, size, place)? == Some(want))
+    Ok(cover_by(alloc, rectangles, mosaic, size, place)? == Some(want))
 }
 
 // The first of these sources that takes another place, or how many sources there are.
 fn first_uncovered(alloc: Global) -> Result<usize, Fail> {
-    for (at, (rectangles, target, size, place, want)) in COVERS.iter().enumerate() {
-        if !is_covered(alloc, rectangles, (*target, *size), *place, *want)? {
+    for (at, (rectangles, mosaic, size, place, want)) in COVERS.iter().enumerate() {
+        if !is_covered(alloc, rectangles, (*mosaic, *size), *place, *want)? {
             return Ok(at);
         }
     }
@@ -310,15 +310,15 @@ fn covers(rt: HostRuntime) -> Result<(), Fail> {
 }
 
 /// The covered columns of a source with these rectangles.
-fn run_by(alloc: Global, rectangles: &[u8], target: u32, size: u32) -> Result<Option<Run>, Fail> {
-    if target == 0 || size == 0 {
+fn run_by(alloc: Global, rectangles: &[u8], mosaic: u32, size: u32) -> Result<Option<Run>, Fail> {
+    if mosaic == 0 || size == 0 {
         return Ok(None);
     }
     match placed(alloc, rectangles)? {
         Some(document) => match first_source(&document) {
             Some(source) => {
-                let axis = columns(source, Size { w: target, h: 1 }, Size { w: size, h: 1 });
-                Ok(Some(axis.run(target, size)))
+                let axis = columns(source, Size { w: mosaic, h: 1 }, Size { w: size, h: 1 });
+                Ok(Some(axis.run(mosaic, size)))
             }
             None => Ok(None),
         },
@@ -366,13 +366,13 @@ const RUNS: [(&[u8], u32, u32, u32, u32, Option<i64>); 6] = [
 
 // The first of these sources that covers other columns, or how many sources there are.
 fn first_misrun(alloc: Global) -> Result<usize, Fail> {
-    for (at, (rectangles, target, size, first, end, shift)) in RUNS.iter().enumerate() {
+    for (at, (rectangles, mosaic, size, first, end, shift)) in RUNS.iter().enumerate() {
         let want = Run {
             first: *first,
             end: *end,
             shift: *shift,
         };
-        if run_by(alloc, rectangles, *target, *size)? != Some(want) {
+        if run_by(alloc, rectangles, *mosaic, *size)? != Some(want) {
             return Ok(at);
         }
     }

@@ -3,9 +3,8 @@ use Rattle.std.proofs.Common.{◌≡◌, subst, refl, true, false, ℕ, Bool, Li
 use Rattle.std.specs.Prelude.{ok_or}
 use Rattle.outside.specs.Names.{extension_of}
 use Rattle.outside.specs.declared.name.Ext.{Ext}
-use Rattle.outside.specs.declared.name.Ext.TheVariants as ext
 use Rattle.translate_plan.specs.declared.options.Driver.{Driver}
-use Rattle.write_back.specs.Plans.{driver_of}
+use Rattle.translate_plan.specs.Options.{driver_for}
 use Rattle.command_words.specs.declared.command.Command.{Command}
 use Rattle.command_words.specs.declared.command.Job.{Job}
 use Rattle.command_words.specs.declared.command.Job.TheVariants as job
@@ -37,24 +36,15 @@ kept (Some format) v w is = kept_if (is_same_format format v.format) v w is
 
 -- the driver of what is written of an extension
 abbrev Fits : Option Ext → Driver → Type 0
-Fits e d = option_map driver_of e ≡ Some d
+Fits e d = option_map driver_for e ≡ Some d
 
 fits_as : (e : Ext) (v : Written) (w : Written) → Fits (Some e) v.driver → v ≡ w → Fits (Some e) w.driver
 fits_as e v w fits same = subst (λ (x : Written). Fits (Some e) x.driver) same fits
 
-fits_ext : (format : Option OutFormat) (e : Ext) (w : Written) → option_and_then (λ v. of_format format v) (written_as e) ≡ Some w → Fits (Some e) w.driver
-fits_ext format ext.Bil w is = fits_as ext.Bil _ w refl (kept format _ w is)
-fits_ext format ext.Bip w is = fits_as ext.Bip _ w refl (kept format _ w is)
-fits_ext format ext.Bsq w is = fits_as ext.Bsq _ w refl (kept format _ w is)
-fits_ext format ext.Dt0 w is = fits_as ext.Dt0 _ w refl (kept format _ w is)
-fits_ext format ext.Dt1 w is = fits_as ext.Dt1 _ w refl (kept format _ w is)
-fits_ext format ext.Dt2 w is = fits_as ext.Dt2 _ w refl (kept format _ w is)
-fits_ext format ext.Hgt w is = fits_as ext.Hgt _ w refl (kept format _ w is)
-fits_ext format ext.Asc w is = fits_as ext.Asc _ w refl (kept format _ w is)
-fits_ext format ext.Grd w is = fits_as ext.Grd _ w refl (kept format _ w is)
-fits_ext format ext.Vrt w is = fits_as ext.Vrt _ w refl (kept format _ w is)
+fits_ext : (format : Option OutFormat) (e : Ext) (w : Written) → of_format format (written_as e) ≡ Some w → Fits (Some e) w.driver
+fits_ext format e w is = fits_as e (written_as e) w refl (kept format (written_as e) w is)
 
-fits_of : (format : Option OutFormat) (e : Option Ext) (w : Written) → option_and_then (λ v. of_format format v) (option_and_then written_as e) ≡ Some w → Fits e w.driver
+fits_of : (format : Option OutFormat) (e : Option Ext) (w : Written) → option_and_then (λ v. of_format format v) (option_map written_as e) ≡ Some w → Fits e w.driver
 fits_of format None w is = let no : ⊥ = cc in absurd no
 fits_of format (Some e) w is = fits_ext format e w is
 

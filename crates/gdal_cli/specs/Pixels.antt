@@ -1,5 +1,5 @@
 -- Pixels and bands of a dataset of a catalog, by its number.
-use Rattle.std.specs.Prelude.{◌≡◌, ◌<◌, ℕ, List, slice_get, Some}
+use Rattle.std.specs.Prelude.{◌≡◌, ◌<◌, ◌≤◌, ℕ, List, All, slice_get, Some}
 use Rattle.catalog.specs.Dataset.{band_count}
 use Rattle.catalog.specs.Drivers.{Dataset}
 
@@ -15,3 +15,7 @@ pub record AreBands (cat : List Dataset) (id : ℕ) (Holds : ℕ → Type 0) : T
   pub dataset : Dataset
   pub at : slice_get cat id ≡ Some dataset
   pub holds : Holds (band_count dataset.head)
+
+-- it has these bands, counted from 1
+abbrev pub HasBands : List Dataset → ℕ → List ℕ → Type 0
+HasBands cat id bands = AreBands cat id (λ count. All (λ band. (1 ≤ band) × (band ≤ count)) bands)

@@ -6,9 +6,8 @@ ghost use Rattle.error_lines.specs.Faults.{IsOutside, IsLate, HasNoCause};
 ghost use Rattle.gdal_cli.specs.Location.{chosen_in, frame_in, asked_in};
 
 use catalog::Head;
-use command_words::BandNumber;
 use error_lines::Fault;
-use geotransform::{GeoTransform, PlanFault};
+use geotransform::{BandNumber, GeoTransform, PlanFault};
 use lists_and_answers::Items;
 use location_report::Form;
 use std::alloc::Global;

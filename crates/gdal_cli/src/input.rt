@@ -1,5 +1,5 @@
 // The points of an input.
-ghost use Rattle.std.specs.Prelude.{◌≡◌, ◌≤◌, ◌<◌, ℕ, List, All, IfErr, OnOk, Option, Err, Some, None, [], IfOk, true, length, slice_get};
+ghost use Rattle.std.specs.Prelude.{◌≡◌, ◌≤◌, ◌<◌, ℕ, List, IfErr, OnOk, Option, Err, Some, None, [], IfOk, true, length, slice_get};
 ghost use Rattle.outside.specs.Outside.{Files};
 ghost use Rattle.outside.specs.Causes.{HasCause};
 ghost use Rattle.input_points.specs.Entries.{ends};
@@ -11,7 +11,7 @@ ghost use Rattle.gdal_cli.specs.Faults.{IsOfLines};
 ghost use Rattle.gdal_cli.specs.Input.{IsReading, room_of, AnswersNext, AnswersPiece, AnswersPieces, AnswersInput, StopsBehind};
 ghost use Rattle.gdal_cli.specs.Lanes.{IsReadyWith};
 ghost use Rattle.gdal_cli.specs.Location.{answers, point_text, line_text, line_fault, PutsText};
-ghost use Rattle.gdal_cli.specs.Pixels.{AreBands};
+ghost use Rattle.gdal_cli.specs.Pixels.{HasBands};
 
 use crate::points::put_point;
 use crate::reader::{PointReader, Question};
@@ -38,7 +38,7 @@ fn answer_line<F: Folder, O: Sink, L: Ledger, S: Scene>(
     kind: LineKind,
 ) -> Result<(), Fault>
     requires ready { IsReadyWith F.Folder S.told S.cat folder.old question.now.cat points.old.pixels.lane }
-    requires bands { AreBands question.now.cat question.now.id (λ count. All (λ band. (1 ≤ band) × (band ≤ count)) question.now.asked.bands) }
+    requires bands { HasBands question.now.cat question.now.id question.now.asked.bands }
     requires room { length points.old.room.values.items ≡ length question.now.asked.bands }
     ensures told { (m : Files) → F.names folder.old ≡ Some m → (d : Dataset) → slice_get question.now.cat question.now.id ≡ Some d → line_fault line kind ≡ None → PutsText (line_text (point_text m question.now.cat d question.now.asked) kind) result (O.got out.old) (O.got out.new) }
     ensures refused { (f : Fault) → line_fault line kind ≡ Some f → (result ≡ Err f) × (O.got out.new ≡ O.got out.old) }
@@ -75,7 +75,7 @@ fn answer_next<F: Folder, O: Sink, L: Ledger, S: Scene>(
     piece: &[u8],
 ) -> Result<usize, Fault>
     requires ready { IsReadyWith F.Folder S.told S.cat folder.old question.now.cat points.old.pixels.lane }
-    requires bands { AreBands question.now.cat question.now.id (λ count. All (λ band. (1 ≤ band) × (band ≤ count)) question.now.asked.bands) }
+    requires bands { HasBands question.now.cat question.now.id question.now.asked.bands }
     requires room { length points.old.room.values.items ≡ length question.now.asked.bands }
     requires reading { IsReading reader.old }
     requires some { 0 < length piece.now }
@@ -114,7 +114,7 @@ fn answer_piece<F: Folder, O: Sink, L: Ledger, S: Scene>(
     piece: &[u8],
 ) -> Result<(), Fault>
     requires ready { IsReadyWith F.Folder S.told S.cat folder.old question.now.cat points.old.pixels.lane }
-    requires bands { AreBands question.now.cat question.now.id (λ count. All (λ band. (1 ≤ band) × (band ≤ count)) question.now.asked.bands) }
+    requires bands { HasBands question.now.cat question.now.id question.now.asked.bands }
     requires room { length points.old.room.values.items ≡ length question.now.asked.bands }
     requires reading { IsReading reader.old }
     ensures told { (m : Files) → F.names folder.old ≡ Some m → (d : Dataset) → slice_get question.now.cat question.now.id ≡ Some d → AnswersPiece (point_text m question.now.cat d question.now.asked) reader.old piece.now reader.new result (O.got out.old) (O.got out.new) }
@@ -152,7 +152,7 @@ fn answer_pieces<F: Folder, I: Input, O: Sink, L: Ledger, S: Scene>(
     bytes: &mut [u8],
 ) -> Result<(), Fault>
     requires ready { IsReadyWith F.Folder S.told S.cat folder.old question.now.cat points.old.pixels.lane }
-    requires bands { AreBands question.now.cat question.now.id (λ count. All (λ band. (1 ≤ band) × (band ≤ count)) question.now.asked.bands) }
+    requires bands { HasBands question.now.cat question.now.id question.now.asked.bands }
     requires room { length points.old.room.values.items ≡ length question.now.asked.bands }
     requires start { reader.old ≡ start }
     requires some { 0 < length bytes.old }
@@ -197,7 +197,7 @@ pub fn answer_input<F: Folder, I: Input, O: Sink, L: Ledger, S: Scene>(
     out: &mut O,
 ) -> Result<(), Fault>
     requires ready { IsReadyWith F.Folder S.told S.cat folder.old question.now.cat points.old.pixels.lane }
-    requires bands { AreBands question.now.cat question.now.id (λ count. All (λ band. (1 ≤ band) × (band ≤ count)) question.now.asked.bands) }
+    requires bands { HasBands question.now.cat question.now.id question.now.asked.bands }
     requires room { length points.old.room.values.items ≡ length question.now.asked.bands }
     ensures told { (m : Files) → F.names folder.old ≡ Some m → (d : Dataset) → slice_get question.now.cat question.now.id ≡ Some d → (i : List ℕ) → I.left input.old ≡ Some i → AnswersInput (point_text m question.now.cat d question.now.asked) i (I.left input.new) result (O.got out.old) (O.got out.new) }
     ensures stopped { result ≡ Err Fault.InputFault → (m : Files) → F.names folder.old ≡ Some m → (d : Dataset) → slice_get question.now.cat question.now.id ≡ Some d → (i : List ℕ) → I.left input.old ≡ Some i → StopsBehind (answers (point_text m question.now.cat d question.now.asked) None) i (I.left input.new) (O.got out.old) (O.got out.new) }

@@ -1,5 +1,5 @@
 // The commands, from a job to its text.
-ghost use Rattle.std.specs.Prelude.{◌≡◌, ◌≤◌, ◌<◌, ℕ, List, All, IfErr, OnOk, Option, Some, Ok, Err, [], not, true, false, slice_get, is_some};
+ghost use Rattle.std.specs.Prelude.{◌≡◌, ◌<◌, ℕ, List, IfErr, OnOk, Option, Some, Ok, Err, [], not, true, false, slice_get, is_some};
 ghost use Rattle.outside.specs.Outside.{Files};
 ghost use Rattle.outside.specs.Causes.{HasCause};
 ghost use Rattle.outside.specs.Reading.{OnlyRead};
@@ -12,7 +12,7 @@ ghost use Rattle.translation_runs.specs.Ends.{ended};
 ghost use Rattle.gdal_cli.specs.Faults.{IsOfLines};
 ghost use Rattle.gdal_cli.specs.Input.{StopsBehind};
 ghost use Rattle.gdal_cli.specs.Location.{answers, point_text};
-ghost use Rattle.gdal_cli.specs.Pixels.{AreBands};
+ghost use Rattle.gdal_cli.specs.Pixels.{HasBands};
 ghost use Rattle.gdal_cli.specs.Published.{IsNamedJob};
 ghost use Rattle.gdal_cli.specs.Run.{Ends, MayEnd, MayWarn, IsRefusal, name_read, names_published, makes_rasters, reads_sources, reads_input, warns_of_inputs, RefusesIn, RefusesKind};
 ghost use Rattle.error_lines.specs.Steps.{AreWarned, GoesWarning};
@@ -25,8 +25,9 @@ use crate::points::put_point;
 use crate::reader::{PointReader, Question};
 use crate::translating::put_translated;
 use catalog::{Catalog, head_of, open_all};
-use command_words::{BandNumber, BlockCount, Command, Job};
+use command_words::{BlockCount, Command, Job};
 use error_lines::Fault;
+use geotransform::BandNumber;
 use info_report::write_info;
 use input_points::Position;
 use lane_teams::{WorkerCount, lines_for};
@@ -111,7 +112,7 @@ fn put_answers<F: Folder, I: Input, O: Sink, L: Ledger, S: Scene>(
     requires parts { blank.parts ≡ L.parts }
     requires some { 0 < blank.parts }
     requires walked { (m : Files) → F.names folder.old ≡ Some m → IsWalked m question.now.cat }
-    requires bands { AreBands question.now.cat question.now.id (λ count. All (λ band. (1 ≤ band) × (band ≤ count)) question.now.asked.bands) }
+    requires bands { HasBands question.now.cat question.now.id question.now.asked.bands }
     ensures told { (m : Files) → F.names folder.old ≡ Some m → (d : Dataset) → slice_get question.now.cat question.now.id ≡ Some d → (i : List ℕ) → (is_some point ≡ false → I.left input.old ≡ Some i) → Ends (answers (point_text m question.now.cat d question.now.asked) point (entries i)) result (O.got out.old) (O.got out.new) }
     ensures never { (m : Files) → F.names folder.old ≡ Some m → (name : List ℕ) (was : ℕ) (now : Option ℕ) → result ≡ Err (Fault.Changed name was now) → ⊥ }
     ensures stopped { result ≡ Err Fault.InputFault → (m : Files) → F.names folder.old ≡ Some m → (d : Dataset) → slice_get question.now.cat question.now.id ≡ Some d → (i : List ℕ) → I.left input.old ≡ Some i → StopsBehind (answers (point_text m question.now.cat d question.now.asked) point) i (I.left input.new) (O.got out.old) (O.got out.new) }

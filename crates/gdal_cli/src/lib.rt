@@ -14,8 +14,9 @@ mod running;
 mod translating;
 mod values;
 
-pub use command_words::{BandNumber, BandNumbers, BlockCount, Command, Job, WordFault, read_words};
+pub use command_words::{BandNumbers, BlockCount, Command, Job, WordFault, read_words};
 pub use error_lines::{Fault, Outcome, tell};
+pub use geotransform::BandNumber;
 pub use lane_teams::WorkerCount;
 pub use laws::{blocks_change_nothing, workers_change_nothing};
 pub use running::run;

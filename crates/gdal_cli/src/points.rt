@@ -1,5 +1,5 @@
 // What is told of one point.
-ghost use Rattle.std.specs.Prelude.{◌≡◌, ◌≤◌, ℕ, pos, List, [], All, IfErr, IfOk, OnOk, Err, Option, Some, length, slice_get};
+ghost use Rattle.std.specs.Prelude.{◌≡◌, ℕ, pos, List, [], IfErr, IfOk, OnOk, Err, Option, Some, length, slice_get};
 ghost use Rattle.outside.specs.Outside.{Files};
 ghost use Rattle.outside.specs.Causes.{HasCause};
 ghost use Rattle.catalog.specs.Drivers.{Dataset};
@@ -7,7 +7,7 @@ ghost use Rattle.location_report.specs.Covering.{covering_files};
 ghost use Rattle.error_lines.specs.Faults.{IsOutside, Differs, HasCauses, IsOfReading};
 ghost use Rattle.gdal_cli.specs.Lanes.{IsReadyWith};
 ghost use Rattle.gdal_cli.specs.Location.{told_text, point_text, PutsText};
-ghost use Rattle.gdal_cli.specs.Pixels.{IsOnRaster, AreBands};
+ghost use Rattle.gdal_cli.specs.Pixels.{IsOnRaster, HasBands};
 
 use crate::point_pixels::{column_and_line, within};
 use crate::reader::{PixelReader, PointReader, Question, Room};
@@ -30,7 +30,7 @@ fn covering(
     x: u32,
     y: u32,
 ) -> Result<Names, Fault>
-    requires bands { AreBands cat.now id (λ count. All (λ band. (1 ≤ band) × (band ≤ count)) bands.now) }
+    requires bands { HasBands cat.now id bands.now }
     ensures files { (d : Dataset) → slice_get cat.now id ≡ Some d → IfOk result (λ files. files ≡ covering_files cat.now d x y bands.now) }
     ensures memory { IfErr result (λ f. f ≡ Fault.Memory) }
 {
@@ -51,7 +51,7 @@ fn make_inside<F: Folder, L: Ledger, S: Scene>(
     y: u32,
 ) -> Result<(), Fault>
     requires ready { IsReadyWith F.Folder S.told S.cat folder.old question.now.cat pixels.old.lane }
-    requires bands { AreBands question.now.cat question.now.id (λ count. All (λ band. (1 ≤ band) × (band ≤ count)) question.now.asked.bands) }
+    requires bands { HasBands question.now.cat question.now.id question.now.asked.bands }
     requires room { length room.old.values.items ≡ length question.now.asked.bands }
     requires pixel { IsOnRaster question.now.cat question.now.id x y }
     requires empty { room.old.text.items ≡ [] }
@@ -106,7 +106,7 @@ fn make_text<F: Folder, L: Ledger, S: Scene>(
     line: i128,
 ) -> Result<(), Fault>
     requires ready { IsReadyWith F.Folder S.told S.cat folder.old question.now.cat pixels.old.lane }
-    requires bands { AreBands question.now.cat question.now.id (λ count. All (λ band. (1 ≤ band) × (band ≤ count)) question.now.asked.bands) }
+    requires bands { HasBands question.now.cat question.now.id question.now.asked.bands }
     requires room { length room.old.values.items ≡ length question.now.asked.bands }
     ensures text { (m : Files) → F.names folder.old ≡ Some m → (d : Dataset) → slice_get question.now.cat question.now.id ≡ Some d → OnOk result (room.new.text.items ≡ told_text m question.now.cat d question.now.asked (column, line)) }
     ensures never { (m : Files) → F.names folder.old ≡ Some m → IfErr result IsOutside }
@@ -155,7 +155,7 @@ pub fn put_point<F: Folder, O: Sink, L: Ledger, S: Scene>(
     y: Position,
 ) -> Result<(), Fault>
     requires ready { IsReadyWith F.Folder S.told S.cat folder.old question.now.cat points.old.pixels.lane }
-    requires bands { AreBands question.now.cat question.now.id (λ count. All (λ band. (1 ≤ band) × (band ≤ count)) question.now.asked.bands) }
+    requires bands { HasBands question.now.cat question.now.id question.now.asked.bands }
     requires room { length points.old.room.values.items ≡ length question.now.asked.bands }
     ensures told { (m : Files) → F.names folder.old ≡ Some m → (d : Dataset) → slice_get question.now.cat question.now.id ≡ Some d → PutsText (point_text m question.now.cat d question.now.asked x y) result (O.got out.old) (O.got out.new) }
     ensures never { (m : Files) → F.names folder.old ≡ Some m → (name : List ℕ) (was : ℕ) (now : Option ℕ) → result ≡ Err (Fault.Changed name was now) → ⊥ }

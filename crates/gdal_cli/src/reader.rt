@@ -3,7 +3,7 @@ ghost use Rattle.std.specs.Prelude.{◌≡◌, ◌<◌, IfOk, length};
 ghost use Rattle.nearest_window.specs.Right.{IsFresh};
 
 use crate::asked::Asked;
-use band_blocks::Steps;
+use band_blocks::Counter;
 use catalog::Catalog;
 use command_words::BlockCount;
 use geotransform::Sample;
@@ -27,7 +27,7 @@ pub struct Question {
 #[derive(Drop)]
 pub struct PixelReader<'a, F: Folder, L: Ledger, S: Scene> {
     pub lane: Lane<F>,
-    pub loads: Steps<L>,
+    pub loads: Counter<L>,
     pub shared: Option<&'a Lines<S>>,
 }
 
@@ -72,7 +72,7 @@ impl<'a, F: Folder, L: Ledger, S: Scene> PointReader<'a, F, L, S> {
         ensures fresh { IfOk result (λ points. IsFresh F.Folder points.pixels.lane) }
         ensures room { IfOk result (λ points. length points.room.values.items ≡ bands) }
     {
-        let loads = Steps::open(blank);
+        let loads = Counter::open(blank);
         let lane = Lane::new(alloc, blocks.get())?;
         let room = Room::new(alloc, bands)?;
         Ok(PointReader {

@@ -1,11 +1,11 @@
 // The values of bands at a pixel, read through a lane.
-ghost use Rattle.std.specs.Prelude.{◌≡◌, ◌≤◌, ◌<◌, ◌-◌, All, IfErr, IfOk, OnOk, Err, Some, length, map};
+ghost use Rattle.std.specs.Prelude.{◌≡◌, ◌<◌, ◌-◌, IfErr, IfOk, OnOk, Err, Some, length, map};
 ghost use Rattle.outside.specs.Outside.{Files};
 ghost use Rattle.outside.specs.Causes.{HasCause};
 ghost use Rattle.catalog.specs.Pixels.{pixel_of};
 ghost use Rattle.error_lines.specs.Faults.{IsOutside, Differs, IsOfReading};
 ghost use Rattle.gdal_cli.specs.Lanes.{IsReadyWith};
-ghost use Rattle.gdal_cli.specs.Pixels.{IsOnRaster, AreBands};
+ghost use Rattle.gdal_cli.specs.Pixels.{IsOnRaster, AreBands, HasBands};
 
 use crate::reader::{PixelReader, Question};
 use error_lines::Fault;
@@ -71,7 +71,7 @@ pub fn read_values<F: Folder, L: Ledger, S: Scene>(
 ) -> Result<(), Fault>
     requires ready { IsReadyWith F.Folder S.told S.cat folder.old question.now.cat pixels.old.lane }
     requires pixel { IsOnRaster question.now.cat question.now.id x y }
-    requires bands { AreBands question.now.cat question.now.id (λ count. All (λ band. (1 ≤ band) × (band ≤ count)) bands.now) }
+    requires bands { HasBands question.now.cat question.now.id bands.now }
     requires room { length values.old ≡ length bands.now }
     ensures values { (m : Files) → F.names folder.old ≡ Some m → OnOk result (values.new ≡ map (λ band. pixel_of m question.now.cat question.now.id (band - 1) x y) bands.now) }
     ensures room { length values.new ≡ length values.old }

@@ -1,6 +1,7 @@
 // Ticks, decimal texts, types of samples and geotransforms.
 #![tactic(auto)]
 
+mod band_number;
 pub mod decimal;
 mod decimal_parts;
 mod faults;
@@ -13,6 +14,7 @@ pub mod types;
 mod units;
 mod whole_degrees;
 
+pub use band_number::BandNumber;
 pub use decimal::{
     is_decimal, is_negative_decimal, read_decimal, read_number, read_places, read_whole,
 };

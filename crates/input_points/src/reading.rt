@@ -69,7 +69,7 @@ impl PointLines {
         bytes.len() <= MOST_BYTES - self.bytes.len() && self.bytes.extend_from_slice(bytes).is_ok()
     }
 
-    #[tactic(auto, using(crate::proofs::Steps::longer_is_bad))]
+    #[tactic(auto, using(crate::proofs::PieceCalls::longer_is_bad))]
     // What the line says that ends behind these bytes.
     fn kind_behind(&mut self, bytes: &[u8]) -> LineKind
         requires inside { list_all is_inside bytes.now ≡ true }
@@ -103,7 +103,7 @@ impl PointLines {
         Entry { line, kind }
     }
 
-    #[tactic(auto, using(crate::proofs::Steps::line_comes, crate::proofs::Steps::ended_comes, crate::proofs::Steps::kept_comes, crate::proofs::Steps::long_comes, crate::proofs::Steps::joined, crate::proofs::Steps::kept_few))]
+    #[tactic(auto, using(crate::proofs::PieceCalls::line_comes, crate::proofs::PieceCalls::ended_comes, crate::proofs::PieceCalls::kept_comes, crate::proofs::PieceCalls::long_comes, crate::proofs::PieceCalls::joined, crate::proofs::PieceCalls::kept_few))]
     // Reads the piece up to the line's end, or keeps all of it.
     fn read(&mut self, piece: &[u8]) -> (Option<Entry>, usize)
         requires going { self.old.over ≡ false }

@@ -9,12 +9,12 @@ use Rattle.outside.specs.declared.folder.Folder.{Ghosts}
 use Rattle.catalog.specs.Drivers.{Dataset}
 use Rattle.catalog.specs.Walk.{IsWalked}
 use Rattle.nearest_window.specs.Lanes.{LaneView}
-use Rattle.nearest_window.specs.Right.{IsReady}
+use Rattle.nearest_window.specs.Right.{IsReady, IsRightLane}
 use Rattle.geotransform.specs.declared.types.Rect.{Rect}
 use Rattle.lane_teams.specs.declared.cutting.Job.{Job}
 use Rattle.lane_teams.specs.declared.turns.Turn.{Turn}
 use Rattle.lane_teams.specs.Parts.{part_of, AreOfWindow}
-use Rattle.lane_teams.specs.Turns.{IsDone, IsRightLane, IsTurnOf, AreReady, HaveRead}
+use Rattle.lane_teams.specs.Turns.{IsDone, IsTurnOf, AreReady, HaveRead}
 use Rattle.lane_teams.proofs.Windows.{both_shown, sizes}
 use Rattle.lane_teams.proofs.Refusals.{all_front, all_back}
 

@@ -9,7 +9,7 @@ use Rattle.band_blocks.specs.declared.fault.LoadFault.{LoadFault}
 use Rattle.band_blocks.specs.declared.fault.LoadFault.TheVariants.{FolderFault}
 use Rattle.band_blocks.specs.Open.{IsUnchanged}
 use Rattle.nearest_window.specs.Lanes.{LaneView}
-use Rattle.nearest_window.specs.Right.{IsRight, TellsChangeIn}
+use Rattle.nearest_window.specs.Right.{IsRightLane, TellsChangeIn}
 use Rattle.nearest_window.specs.Shown.{IsWindow}
 use Rattle.lane_teams.specs.declared.cutting.Job.{Job}
 use Rattle.lane_teams.specs.declared.turns.Turn.{Turn}
@@ -46,9 +46,6 @@ abbrev pub IsDone : {F File Draft : Type 0} → Turn F File Draft → Type 0
 IsDone t = t.answer ≡ Ok tt
 
 module _ {F File Draft : Type 0} (calls : Ghosts F File Draft) (told : Option Files) (cat : List Dataset) where
-  abbrev pub IsRightLane : LaneView File → Type 0
-  IsRightLane lane = IsRight calls.file_bytes calls.file_len told cat lane.pool lane.files lane.made lane.indexes lane.recalled
-
   abbrev pub IsTurnOf : Turn F File Draft → Type 0
   IsTurnOf t = IsTurn told cat (calls.names t.view) (calls.faults t.view) (calls.write_calls t.view) t.answer
 
@@ -60,13 +57,13 @@ module _ {F File Draft : Type 0} (calls : Ghosts F File Draft) (told : Option Fi
     pub walked : (m : Files) → told ≡ Some m → IsWalked m cat
     pub window : IsWindow cat job.window
     pub size : length out ≡ job.window.rect.w * (part_of job.window job.count first (first + length lanes)).rect.h
-    pub right : All IsRightLane lanes
+    pub right : All (IsRightLane calls told cat) lanes
     pub turns_are : All IsTurnOf turns
 
   -- n lanes from one on have read, and are right; where none refused, `out` has the samples of their lines
   pub record HaveRead (job : Job) (first n : ℕ) (lanes : List (LaneView File)) (turns : List (Turn F File Draft)) (out : List ℤ) : Type 0 where
     pub lanes_count : length lanes ≡ n
     pub turns_count : length turns ≡ n
-    pub right : All IsRightLane lanes
+    pub right : All (IsRightLane calls told cat) lanes
     pub turns_are : All IsTurnOf turns
     pub shown : All IsDone turns → AreOfWindow told cat (part_of job.window job.count first (first + n)) out

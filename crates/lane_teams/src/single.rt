@@ -5,14 +5,14 @@ ghost use Rattle.outside.specs.Outside.{Files};
 ghost use Rattle.outside.specs.Reading.{OnlyRead, WhereTold};
 ghost use Rattle.catalog.specs.Walk.{IsWalked};
 ghost use Rattle.band_blocks.specs.Open.{IsUnchanged};
-ghost use Rattle.nearest_window.specs.Right.{IsReady, TellsChangeIn};
+ghost use Rattle.nearest_window.specs.Right.{IsReady, IsRightLane, TellsChangeIn};
 ghost use Rattle.nearest_window.specs.Shown.{IsWindow};
 ghost use Rattle.lane_teams.specs.Parts.{AreOfWindow};
-ghost use Rattle.lane_teams.specs.Turns.{AreReady, HaveRead, IsRightLane, IsTurnOf};
+ghost use Rattle.lane_teams.specs.Turns.{AreReady, HaveRead, IsTurnOf};
 
 use crate::cutting::{Job, part_of};
 use crate::turns::Turn;
-use band_blocks::{LoadFault, Steps};
+use band_blocks::{Counter, LoadFault};
 use geotransform::Sample;
 use nearest_window::{Lane, Supply, Window};
 use outside::Folder;
@@ -44,7 +44,7 @@ fn read_counted<F: Folder, L: Ledger, S: Scene>(
     ensures changed { IfErr result (TellsChangeIn supply.now.cat.now) }
     ensures never { WhereTold F.Folder folder.old (λ _. IfErr result IsUnchanged) }
 {
-    let mut loads: Steps<L> = Steps::open(blank);
+    let mut loads: Counter<L> = Counter::open(blank);
     lane.read_window_with(supply, folder, window, out, &mut loads)
 }
 

@@ -17,7 +17,7 @@ ghost use Rattle.lane_teams.specs.Turns.{OnlyReadByViews};
 
 use crate::beside::read_beside;
 use crate::cutting::Job;
-use band_blocks::{LoadFault, Steps};
+use band_blocks::{Counter, LoadFault};
 use catalog::Catalog;
 use geotransform::Sample;
 use nearest_window::{Lane, Supply, Window};
@@ -32,7 +32,7 @@ use std::thread::Threads;
 #[derive(Drop)]
 pub struct Team<F: Folder, L: Ledger> {
     pub lanes: Vec<Lane<F>>,
-    pub loads: Steps<L>,
+    pub loads: Counter<L>,
 }
 
 // So many lanes.
@@ -68,7 +68,7 @@ impl<F: Folder, L: Ledger> Team<F, L> {
         ensures fresh { IfOk result (λ team. All (IsFresh F.Folder) team.lanes.items) }
         ensures none { IfOk result (λ team. team.loads ≡ 0) }
     {
-        let loads = Steps::open(blank);
+        let loads = Counter::open(blank);
         let lanes = lanes_of(alloc, count, capacity)?;
         Ok(Team { lanes, loads })
     }

@@ -1,6 +1,7 @@
 -- What public clauses and laws speak of: to be read and trusted.
 pub mod Answers
 pub mod Growth
+pub mod Lists
 pub mod Options
 pub mod Places
 pub mod Texts

@@ -2,11 +2,12 @@
 use Rattle.std.specs.Prelude.{ℕ, ◌==◌, ◌||◌, Bool, not, List, drop, map, flat_map, take_while, bytes_eq}
 use Rattle.std.specs.List.{prefix_len}
 use Rattle.std.specs.Char.{to_ascii_lowercase}
+use Rattle.lists_and_answers.specs.Lists.{flattened}
 use denote.Ref.{Bor}
 
 -- these parts, one after another
 abbrev pub text : List (List ℕ) → List ℕ
-text parts = flat_map (λ part. part) parts
+text parts = flattened parts
 
 -- these lent parts, one after another
 abbrev pub joined : List (Bor (List ℕ)) → List ℕ

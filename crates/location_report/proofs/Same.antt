@@ -13,5 +13,5 @@ pub same_bytes : (a b : List ℕ) (r : Bool) → (IsTrue r ↔ (a ≡ b)) → r 
 same_bytes a b r h = same_from_decides r (bytes_eq a b) h (bytes_eq-Decides a b)
 
 -- a source that covers the pixel gives its name
-pub covered : (names : List (List ℕ)) (s : SourceValue) (target : Size) (name : List ℕ) (size : Size) (x y : ℕ) (place : ℕ × ℕ) → Some place ≡ cover_of s target size x y → with_name names name ≡ with_found names (covering_name s target name size x y)
-covered names s target name size x y place is = ap (λ (o : Option (ℕ × ℕ)). with_found names (option_map (λ p. name) o)) is
+pub covered : (names : List (List ℕ)) (s : SourceValue) (mosaic : Size) (name : List ℕ) (size : Size) (x y : ℕ) (place : ℕ × ℕ) → Some place ≡ cover_of s mosaic size x y → with_name names name ≡ with_found names (covering_name s mosaic name size x y)
+covered names s mosaic name size x y place is = ap (λ (o : Option (ℕ × ℕ)). with_found names (option_map (λ p. name) o)) is

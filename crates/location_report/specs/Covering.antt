@@ -6,7 +6,7 @@ use Rattle.geotransform.specs.declared.types.Size.{Size}
 use Rattle.vrt_profile.specs.Values.{BandValue, SourceValue}
 use Rattle.vrt_profile.specs.Cover.{cover_of}
 use Rattle.catalog.specs.Drivers.{Dataset, document_of}
-use Rattle.catalog.specs.Links.{target_of}
+use Rattle.catalog.specs.Links.{member_of}
 
 -- a name behind others, where it isn't among them
 abbrev pub with_name : List (List ℕ) → List ℕ → List (List ℕ)
@@ -17,9 +17,9 @@ abbrev pub with_found : List (List ℕ) → Option (List ℕ) → List (List ℕ
 with_found names None = names
 with_found names (Some name) = with_name names name
 
--- the name of a source's dataset, of this size, where the source covers the pixel of its mosaic, of the size `target`
+-- the name of a source's dataset, of this size, where the source covers the pixel of its mosaic, of the size `mosaic`
 abbrev pub covering_name : SourceValue → Size → List ℕ → Size → ℕ → ℕ → Option (List ℕ)
-covering_name s target name size x y = option_map (λ place. name) (cover_of s target size x y)
+covering_name s mosaic name size x y = option_map (λ place. name) (cover_of s mosaic size x y)
 
 -- the sources of a band of a dataset, counted from 0; a file has none
 abbrev pub sources_at : Dataset → ℕ → List SourceValue
@@ -27,7 +27,7 @@ sources_at d band = unwrap_or (option_map (λ (b : BandValue). b.sources) (docum
 
 -- the name of the dataset of a catalog that a source of a mosaic names, where the source covers the pixel
 abbrev pub covered_by : List Dataset → Dataset → ℕ → ℕ → SourceValue → Option (List ℕ)
-covered_by cat d x y s = option_and_then (slice_get cat) (target_of cat d.head.name s) >>= λ t. covering_name s d.head.size t.head.name t.head.size x y
+covered_by cat d x y s = option_and_then (slice_get cat) (member_of cat d.head.name s) >>= λ t. covering_name s d.head.size t.head.name t.head.size x y
 
 -- these names, and behind them those of the datasets that cover a pixel of a band by its sources, each that isn't among them yet
 unfoldable pub with_covering : List Dataset → Dataset → ℕ → ℕ → ℕ → List (List ℕ) → List (List ℕ)

@@ -74,7 +74,7 @@ struct SourceAt {
 }
 
 // Adds the name of the dataset that a source of a mosaic names, where it covers the pixel and the name isn't there yet.
-fn push_target(
+fn push_member(
     cat: &Catalog,
     at: SourceAt,
     source: &Source,
@@ -88,7 +88,7 @@ fn push_target(
     ensures err { OnErr result (out.new ≡ out.old) }
     ensures kept { take (length out.old) out.new ≡ out.old }
 {
-    let dataset = cat.head(cat.target(at.id, at.band, at.number));
+    let dataset = cat.head(cat.member(at.id, at.band, at.number));
     let mosaic = cat.head(at.id).size;
     push_covering(source, mosaic, &dataset.name, dataset.size, x, y, out)
 }
@@ -123,7 +123,7 @@ pub fn files_at(
             band,
             number: number as u32,
         };
-        push_target(cat, at, source, x, y, out)?;
+        push_member(cat, at, source, x, y, out)?;
     }
     Ok(())
 }

@@ -1,14 +1,15 @@
 -- What the making of a mosaic does, a step at a time.
-use Rattle.std.specs.Prelude.{ℕ, Bool, true, false, List, [], ◌∷◌, ◌++◌, map, codes, Result, Ok, Err}
+use Rattle.std.specs.Prelude.{ℕ, Bool, true, false, List, [], ◌∷◌, ◌++◌, map, Result, Ok, Err}
 use Rattle.vrt_writing.specs.Spelled.{spelled}
 use Rattle.vrt_profile.specs.Values.{DocumentValue}
 use Rattle.error_lines.specs.declared.faults.Fault.{Fault}
+use Rattle.error_lines.specs.Progress.{progress, progress_end}
 use Rattle.error_lines.specs.Steps.{Step, Done, Prints, Warns, Publishes, all_done, refused}
 use Rattle.mosaic_builds.specs.Built.{Built}
 
 -- what is told when all is done
 abbrev pub progress_line : List ℕ
-progress_line = codes "0...10...20...30...40...50...60...70...80...90...100 - done.\n"
+progress_line = progress ++ progress_end
 
 -- it is told unless nothing may be
 abbrev pub progress_steps : Bool → List Step

@@ -12,8 +12,8 @@ ghost use Rattle.mosaic_builds.specs.Walks.{heads_at};
 
 use crate::making::{Building, Made, make};
 use buildvrt::Skipped;
-use error_lines::{Fault, put_warning};
-use outside::{Failed, Folder, Name, Names, Sink};
+use error_lines::{Fault, progress_end_text, progress_text, put_warning};
+use outside::{Failed, Folder, Name, Names, Sink, put_all};
 use published_files::publish_document;
 use std::alloc::Global;
 use vrt_profile::Document;
@@ -48,7 +48,7 @@ fn put_progress<O: Sink>(out: &mut O, quiet: bool) -> Result<(), Fault>
     if quiet {
         return Ok(());
     }
-    match out.put(b"0...10...20...30...40...50...60...70...80...90...100 - done.\n") {
+    match put_all(out, &[progress_text(), progress_end_text()]) {
         Ok(()) => Ok(()),
         Err(Failed) => Err(Fault::OutFault),
     }

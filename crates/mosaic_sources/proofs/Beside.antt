@@ -23,19 +23,19 @@ nothing : (o : Option ℕ) → (o >>= λ x. no_place) ≡ no_place
 nothing (Some x) = refl
 nothing None = refl
 
-module _ (s : SourceValue) (part : Rectangle) (is : s.dst ≡ Some part) (target size : Size) (x y : ℕ) where
-  part_is : part_of s.dst target ≡ part
-  part_is = ap (λ o. part_of o target) is
+module _ (s : SourceValue) (part : Rectangle) (is : s.dst ≡ Some part) (mosaic size : Size) (x y : ℕ) where
+  part_is : part_of s.dst mosaic ≡ part
+  part_is = ap (λ o. part_of o mosaic) is
 
-  pub no_column : (int_le part.x (centre x) && int_lt (centre x) (part.x +ℤ part.w)) ≡ false → cover_of s target size x y ≡ None
+  pub no_column : (int_le part.x (centre x) && int_lt (centre x) (part.x +ℤ part.w)) ≡ false → cover_of s mosaic size x y ≡ None
   unfolding cover_of
   no_column h =
-      ap (λ (r : Rectangle). axis_at (columns_by r (part_of s.src size)) size.w x >>= λ column. axis_at (lines_of s target size) size.h y >>= λ line. Some (column, line)) part_is
-      ∙ ap (λ b. (cond b (counted size.w (dataset_at (columns_by part (part_of s.src size)) (centre x))) None) >>= λ column. axis_at (lines_of s target size) size.h y >>= λ line. Some (column, line)) h
+      ap (λ (r : Rectangle). axis_at (columns_by r (part_of s.src size)) size.w x >>= λ column. axis_at (lines_of s mosaic size) size.h y >>= λ line. Some (column, line)) part_is
+      ∙ ap (λ b. (cond b (counted size.w (dataset_at (columns_by part (part_of s.src size)) (centre x))) None) >>= λ column. axis_at (lines_of s mosaic size) size.h y >>= λ line. Some (column, line)) h
 
-  pub no_line : (int_le part.y (centre y) && int_lt (centre y) (part.y +ℤ part.h)) ≡ false → cover_of s target size x y ≡ None
+  pub no_line : (int_le part.y (centre y) && int_lt (centre y) (part.y +ℤ part.h)) ≡ false → cover_of s mosaic size x y ≡ None
   unfolding cover_of
   no_line h =
-      ap (λ (r : Rectangle). axis_at (columns_of s target size) size.w x >>= λ column. axis_at (lines_by r (part_of s.src size)) size.h y >>= λ line. Some (column, line)) part_is
-      ∙ ap (λ b. axis_at (columns_of s target size) size.w x >>= λ column. (cond b (counted size.h (dataset_at (lines_by part (part_of s.src size)) (centre y))) None) >>= λ line. Some (column, line)) h
-      ∙ nothing (axis_at (columns_of s target size) size.w x)
+      ap (λ (r : Rectangle). axis_at (columns_of s mosaic size) size.w x >>= λ column. axis_at (lines_by r (part_of s.src size)) size.h y >>= λ line. Some (column, line)) part_is
+      ∙ ap (λ b. axis_at (columns_of s mosaic size) size.w x >>= λ column. (cond b (counted size.h (dataset_at (lines_by part (part_of s.src size)) (centre y))) None) >>= λ line. Some (column, line)) h
+      ∙ nothing (axis_at (columns_of s mosaic size) size.w x)

@@ -107,5 +107,5 @@ rises_from : {A : Type 0} (p : A → Bool) (xs : List A) (number : ℕ) → IsSt
 rises_from p [] number = λ k less. absurd (omega (arith, less))
 rises_from p (x ∷ xs) number = rises_if (p x) number (passing_from p xs (suc number)) (λ m more e. head_above p xs (suc number) m more e) (rises_from p xs (suc number))
 
-pub rises : (sources : List SourceValue) → (target : Size) → (y : ℕ) → IsStrictlyIncreasing (covering_lines sources target y)
-rises sources target y = rises_from (λ s. covers_line s target y) sources 0
+pub rises : (sources : List SourceValue) → (mosaic : Size) → (y : ℕ) → IsStrictlyIncreasing (covering_lines sources mosaic y)
+rises sources mosaic y = rises_from (λ s. covers_line s mosaic y) sources 0

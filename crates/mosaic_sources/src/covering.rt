@@ -69,38 +69,38 @@ fn lines_in(rectangle: Option<MicroRect>, size: Size) -> Part
     }
 }
 
-/// A source along the columns: `target` is the mosaic's size, `size` that of the source's dataset, both
+/// A source along the columns: `mosaic` is the mosaic's size, `size` that of the source's dataset, both
 /// in pixels.
-pub fn columns(source: &Source, target: Size, size: Size) -> Axis
-    ensures axis { result ≡ columns_of source.now target size }
-    ensures some_mosaic { 0 < target.w → pos 0 <ℤ result.mosaic_length }
+pub fn columns(source: &Source, mosaic: Size, size: Size) -> Axis
+    ensures axis { result ≡ columns_of source.now mosaic size }
+    ensures some_mosaic { 0 < mosaic.w → pos 0 <ℤ result.mosaic_length }
     ensures some_dataset { 0 < size.w → pos 0 <ℤ result.dataset_length }
 {
-    let mosaic = columns_in(source.dst, target);
+    let part = columns_in(source.dst, mosaic);
     let dataset = columns_in(source.src, size);
-    Axis::of(mosaic.start, mosaic.length, dataset.start, dataset.length)
+    Axis::of(part.start, part.length, dataset.start, dataset.length)
 }
 
 /// A source along the lines, as `columns`.
-pub fn lines(source: &Source, target: Size, size: Size) -> Axis
-    ensures axis { result ≡ lines_of source.now target size }
-    ensures some_mosaic { 0 < target.h → pos 0 <ℤ result.mosaic_length }
+pub fn lines(source: &Source, mosaic: Size, size: Size) -> Axis
+    ensures axis { result ≡ lines_of source.now mosaic size }
+    ensures some_mosaic { 0 < mosaic.h → pos 0 <ℤ result.mosaic_length }
     ensures some_dataset { 0 < size.h → pos 0 <ℤ result.dataset_length }
 {
-    let mosaic = lines_in(source.dst, target);
+    let part = lines_in(source.dst, mosaic);
     let dataset = lines_in(source.src, size);
-    Axis::of(mosaic.start, mosaic.length, dataset.start, dataset.length)
+    Axis::of(part.start, part.length, dataset.start, dataset.length)
 }
 
-/// The column and the line of the source's dataset at column `x`, line `y` of the mosaic. `target` is the
+/// The column and the line of the source's dataset at column `x`, line `y` of the mosaic. `mosaic` is the
 /// mosaic's size and `size` the dataset's, in pixels. `None` exactly where the source doesn't cover the
 /// pixel, or the place in the dataset is outside it.
 #[tactic(auto, unfolding(vrt_profile::specs::Cover::cover_of))]
-pub fn cover(source: &Source, target: Size, size: Size, x: u32, y: u32) -> Option<(u32, u32)>
-    ensures cover { result ≡ cover_of source.now target size x y }
+pub fn cover(source: &Source, mosaic: Size, size: Size, x: u32, y: u32) -> Option<(u32, u32)>
+    ensures cover { result ≡ cover_of source.now mosaic size x y }
 {
-    let column = columns(source, target, size).at(size.w, x)?;
-    let line = lines(source, target, size).at(size.h, y)?;
+    let column = columns(source, mosaic, size).at(size.w, x)?;
+    let line = lines(source, mosaic, size).at(size.h, y)?;
     Some((column, line))
 }
 
@@ -135,7 +135,7 @@ fn is_beside(start: i64, length: i64, first: u32, count: u32) -> bool
 /// Whether the part of the mosaic that a source is made for lies beside a rectangle of the mosaic: then it
 /// covers no pixel there. This takes no division.
 pub fn misses(source: &Source, rect: Rect) -> bool
-    ensures missed { IsTrue result → (target : Size) → (size : Size) → (x : ℕ) → (y : ℕ) → rect.x ≤ x → x < rect.x + rect.w → rect.y ≤ y → y < rect.y + rect.h → cover_of source.now target size x y ≡ None }
+    ensures missed { IsTrue result → (mosaic : Size) → (size : Size) → (x : ℕ) → (y : ℕ) → rect.x ≤ x → x < rect.x + rect.w → rect.y ≤ y → y < rect.y + rect.h → cover_of source.now mosaic size x y ≡ None }
 {
     match source.dst {
         None => return false,

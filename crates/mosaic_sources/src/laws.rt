@@ -31,22 +31,22 @@ pub fn last_counts()
 
 /// A source that covers a pixel covers its line.
 pub fn covers_lines()
-    ensures line { (source : SourceValue) → (target : Size) → (size : Size) → (x : ℕ) → (y : ℕ) → (place : ℕ × ℕ) → cover_of source target size x y ≡ Some place → covers_line source target y ≡ true }
+    ensures line { (source : SourceValue) → (mosaic : Size) → (size : Size) → (x : ℕ) → (y : ℕ) → (place : ℕ × ℕ) → cover_of source mosaic size x y ≡ Some place → covers_line source mosaic y ≡ true }
 {}
 
 /// A line's list has the numbers of sources alone, and a source that isn't in it gives nothing there.
 pub fn unlisted_give_none()
-    ensures below { (sources : List SourceValue) → (number : ℕ) → (target : Size) → (y : ℕ) → Contains (covering_lines sources target y) number → number < length sources }
-    ensures none { (sources : List SourceValue) → (source : SourceValue) → (number : ℕ) → (target : Size) → (size : Size) → (x : ℕ) → (y : ℕ) → slice_get sources number ≡ Some source → ¬ Contains (covering_lines sources target y) number → cover_of source target size x y ≡ None }
+    ensures below { (sources : List SourceValue) → (number : ℕ) → (mosaic : Size) → (y : ℕ) → Contains (covering_lines sources mosaic y) number → number < length sources }
+    ensures none { (sources : List SourceValue) → (source : SourceValue) → (number : ℕ) → (mosaic : Size) → (size : Size) → (x : ℕ) → (y : ℕ) → slice_get sources number ≡ Some source → ¬ Contains (covering_lines sources mosaic y) number → cover_of source mosaic size x y ≡ None }
 {}
 
 /// What is given from a source on is what is given from a later one on, where no source between is in the line's
 /// list.
 pub fn unlisted_are_skipped()
-    ensures skipped { (sources : List SourceValue) → (from : ℕ) → (to : ℕ) → (target : Size) → (sizes : SourceValue → Size) → (pixels : SourceValue → ℕ → ℕ → ℤ) → (x : ℕ) → (y : ℕ) → from ≤ to → to ≤ length sources → ((n : ℕ) → from ≤ n → n < to → ¬ Contains (covering_lines sources target y) n) → last_given (λ s. given_of s target (sizes s) (pixels s) x y) (drop from sources) ≡ last_given (λ s. given_of s target (sizes s) (pixels s) x y) (drop to sources) }
+    ensures skipped { (sources : List SourceValue) → (from : ℕ) → (to : ℕ) → (mosaic : Size) → (sizes : SourceValue → Size) → (pixels : SourceValue → ℕ → ℕ → ℤ) → (x : ℕ) → (y : ℕ) → from ≤ to → to ≤ length sources → ((n : ℕ) → from ≤ n → n < to → ¬ Contains (covering_lines sources mosaic y) n) → last_given (λ s. given_of s mosaic (sizes s) (pixels s) x y) (drop from sources) ≡ last_given (λ s. given_of s mosaic (sizes s) (pixels s) x y) (drop to sources) }
 {}
 
 /// The numbers of a line's list rise.
 pub fn lists_rise()
-    ensures rising { (sources : List SourceValue) → (target : Size) → (y : ℕ) → IsStrictlyIncreasing (covering_lines sources target y) }
+    ensures rising { (sources : List SourceValue) → (mosaic : Size) → (y : ℕ) → IsStrictlyIncreasing (covering_lines sources mosaic y) }
 {}

@@ -16,7 +16,7 @@ use Rattle.band_blocks.specs.Blocks.{BlockView, block_view}
 use Rattle.band_blocks.specs.Keys.{IsKeyOf}
 use Rattle.nearest_window.specs.declared.picture.Picture.{Picture}
 use Rattle.nearest_window.specs.declared.picture_places.Places.{Places}
-use Rattle.nearest_window.specs.declared.targets.Piece.{Piece}
+use Rattle.nearest_window.specs.declared.members.Piece.{Piece}
 use Rattle.nearest_window.specs.Lanes.{pixel_at}
 use Rattle.nearest_window.specs.Right.{AreRecalled, IsPartBlock, IsRecalled}
 use Rattle.nearest_window.specs.Shown.{IsAreaOf, IsPartOf, IsPictureOf}

@@ -7,7 +7,7 @@ use Rattle.geotransform.specs.declared.types.Size.{Size}
 use Rattle.vrt_profile.specs.Values.{SourceValue}
 use Rattle.vrt_profile.specs.Cover.{axis_at, columns_of, lines_of, cover_of}
 use Rattle.catalog.specs.Drivers.{Dataset}
-use Rattle.catalog.specs.Pixels.{pixel_of, target_size}
+use Rattle.catalog.specs.Pixels.{pixel_of, member_size}
 use Rattle.catalog.specs.Places.{IsWithin}
 use Rattle.catalog.specs.Walk.{IsDataset, IsCatalog}
 use Rattle.catalog.proofs.Pixels.{item}
@@ -38,20 +38,20 @@ ends_below cat id d rect valid at within =
 module _ (cat : List Dataset) (key : BlockKey) (number : ℕ) (s : SourceValue) (c : Canvas) (p q : Picture) (a : Asked) (of : IsSourceOf cat key number s) (seen : IsSeenBy cat key s c.rect p) (known : IsPictureOf cat p)
     (takes : TakesBand cat s p) (falls : height_at cat p.dataset < height_at cat key.dataset) (dataset : q.dataset ≡ p.dataset) (band : q.band ≡ p.band) (taking : q.taking ≡ All) (width : q.width ≡ p.width) (columns : q.columns ≡ p.columns) (height : q.height ≡ p.height) (lines : q.lines ≡ p.lines)
     (to : q.to ≡ 0) (stride : q.stride ≡ p.width) (picture : a.picture ≡ q) (left : a.part.x ≡ c.rect.x + p.to) (top : a.part.y ≡ c.rect.y + p.top) (wide : a.part.w ≡ p.width) (high : a.part.h ≡ p.height) (room : length a.pixels.items ≡ a.part.w * a.part.h) where
-  cut : (d : Dataset) → slice_get cat key.dataset ≡ Some d → (x y : ℕ) → IsIn c.rect x y → (IsIn a.part x y → ⊥) → cover_of s d.head.size (target_size cat d s) x y ≡ None
+  cut : (d : Dataset) → slice_get cat key.dataset ≡ Some d → (x y : ℕ) → IsIn c.rect x y → (IsIn a.part x y → ⊥) → cover_of s d.head.size (member_size cat d s) x y ≡ None
   cut d at x y there out =
       let part = seen.seen d at in
       let l = there.left in let r = there.right in let t = there.top in let b = there.bottom in
       let i : c.rect.x + (x - c.rect.x) ≡ x = omega arith in
       let j : c.rect.y + (y - c.rect.y) ≡ y = omega arith in
       elim (cases_lt (x - c.rect.x) p.to) [
-        | inl u ↦ unseen_column s d.head.size (target_size cat d s) x y (subst (λ n. axis_at (columns_of s d.head.size (target_size cat d s)) (target_size cat d s).w n ≡ None) i (part.across.before (x - c.rect.x) u))
+        | inl u ↦ unseen_column s d.head.size (member_size cat d s) x y (subst (λ n. axis_at (columns_of s d.head.size (member_size cat d s)) (member_size cat d s).w n ≡ None) i (part.across.before (x - c.rect.x) u))
         | inr u ↦ elim (cases_lt (x - c.rect.x) (p.to + p.width)) [
-          | inr v ↦ unseen_column s d.head.size (target_size cat d s) x y (subst (λ n. axis_at (columns_of s d.head.size (target_size cat d s)) (target_size cat d s).w n ≡ None) i (part.across.behind (x - c.rect.x) v (omega arith)))
+          | inr v ↦ unseen_column s d.head.size (member_size cat d s) x y (subst (λ n. axis_at (columns_of s d.head.size (member_size cat d s)) (member_size cat d s).w n ≡ None) i (part.across.behind (x - c.rect.x) v (omega arith)))
           | inl v ↦ elim (cases_lt (y - c.rect.y) p.top) [
-            | inl w ↦ unseen_line s d.head.size (target_size cat d s) x y (subst (λ n. axis_at (lines_of s d.head.size (target_size cat d s)) (target_size cat d s).h n ≡ None) j (part.down.before (y - c.rect.y) w))
+            | inl w ↦ unseen_line s d.head.size (member_size cat d s) x y (subst (λ n. axis_at (lines_of s d.head.size (member_size cat d s)) (member_size cat d s).h n ≡ None) j (part.down.before (y - c.rect.y) w))
             | inr w ↦ elim (cases_lt (y - c.rect.y) (p.top + p.height)) [
-              | inr z ↦ unseen_line s d.head.size (target_size cat d s) x y (subst (λ n. axis_at (lines_of s d.head.size (target_size cat d s)) (target_size cat d s).h n ≡ None) j (part.down.behind (y - c.rect.y) z (omega arith)))
+              | inr z ↦ unseen_line s d.head.size (member_size cat d s) x y (subst (λ n. axis_at (lines_of s d.head.size (member_size cat d s)) (member_size cat d s).h n ≡ None) j (part.down.behind (y - c.rect.y) z (omega arith)))
               | inl z ↦ absurd (out (record { left = omega arith; right = omega arith; top = omega arith; bottom = omega arith }))
             ]
           ]
@@ -92,7 +92,7 @@ module _ (cat : List Dataset) (key : BlockKey) (number : ℕ) (s : SourceValue) 
         takes = λ d b at there. takes d b (subst (λ n. slice_get cat n ≡ Some d) (ap (λ (p : Picture). p.dataset) picture ∙ dataset) at) (subst (λ n. slice_get d.head.bands n ≡ Some b) (ap (λ (p : Picture). p.band) picture ∙ band) there);
         size = room;
         pixels = λ m d at x y. seen.pixels m d at x y ∙ ap (λ n. pixel_of m cat n p.band x y) (sym (ap (λ (p : Picture). p.dataset) picture ∙ dataset)) ∙ ap (λ n. pixel_of m cat a.picture.dataset n x y) (sym (ap (λ (p : Picture). p.band) picture ∙ band));
-        across = λ d at k l. ap (λ n. axis_at (columns_of s d.head.size (target_size cat d s)) (target_size cat d s).w (n + k)) left ∙ (seen.seen d at).across.there k (omega arith) ∙ ap (λ cs. Some (place_at cs k)) (sym (ap (λ (p : Picture). p.columns) picture ∙ columns));
-        down = λ d at k l. ap (λ n. axis_at (lines_of s d.head.size (target_size cat d s)) (target_size cat d s).h (n + k)) top ∙ (seen.seen d at).down.there k (omega arith) ∙ ap (λ cs. Some (place_at cs k)) (sym (ap (λ (p : Picture). p.lines) picture ∙ lines));
+        across = λ d at k l. ap (λ n. axis_at (columns_of s d.head.size (member_size cat d s)) (member_size cat d s).w (n + k)) left ∙ (seen.seen d at).across.there k (omega arith) ∙ ap (λ cs. Some (place_at cs k)) (sym (ap (λ (p : Picture). p.columns) picture ∙ columns));
+        down = λ d at k l. ap (λ n. axis_at (lines_of s d.head.size (member_size cat d s)) (member_size cat d s).h (n + k)) top ∙ (seen.seen d at).down.there k (omega arith) ∙ ap (λ cs. Some (place_at cs k)) (sym (ap (λ (p : Picture). p.lines) picture ∙ lines));
         outside = λ d at x y there out. inr (cut d at x y there out);
       }

@@ -15,7 +15,7 @@ mod Merged
 pub mod Painted
 mod Shown
 mod Sources
-mod Steps
+mod Service
 mod Windows
 mod Naming
 mod Pixels

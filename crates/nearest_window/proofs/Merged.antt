@@ -26,15 +26,15 @@ some_or None b h = cc
 still_some : (kind : PixelType) (a b g : Option ℤ) → IsSame kind a (option_or b g) → is_some b ≡ true → is_some a ≡ true
 still_some kind a b g h s = sym (some_mapped kind a) ∙ ap is_some h ∙ some_mapped kind (option_or b g) ∙ some_or b g s
 
-abbrev pub place_of : Rect → Rect → Place
-place_of rect part = record { to = part.x - rect.x; top = part.y - rect.y; columns = part.w; rows = part.h; stride = rect.w }
+abbrev pub part_place : Rect → Rect → Place
+part_place rect part = record { to = part.x - rect.x; top = part.y - rect.y; columns = part.w; rows = part.h; stride = rect.w }
 
 module _ (c c' : Canvas) (taking : Taking) (pixels : List ℤ) (part : Rect) (canvas : IsCanvas c) (size : length c.samples.items ≡ c.rect.w * c.rect.h) (inside : IsInside c.rect part)
-    (merged : IsMerged taking c.kind pixels (place_of c.rect part) part.h c.samples.items c'.samples.items) (same_rect : c'.rect ≡ c.rect) (same_kind : c'.kind ≡ c.kind) where
+    (merged : IsMerged taking c.kind pixels (part_place c.rect part) part.h c.samples.items c'.samples.items) (same_rect : c'.rect ≡ c.rect) (same_kind : c'.kind ≡ c.kind) where
   new_size : length c'.samples.items ≡ c.rect.w * c.rect.h
   new_size = merged.size ∙ size
 
-  at_or_not : (x y : ℕ) → IsAt (place_of c.rect part) part.h x y ⊎ (IsAt (place_of c.rect part) part.h x y → ⊥)
+  at_or_not : (x y : ℕ) → IsAt (part_place c.rect part) part.h x y ⊎ (IsAt (part_place c.rect part) part.h x y → ⊥)
   at_or_not x y = elim (cases_lt x (part.x - c.rect.x)) [
     | inl p ↦ inr (λ i. let q = i.left in absurd (omega arith))
     | inr p ↦ elim (cases_lt x (part.x - c.rect.x + part.w)) [

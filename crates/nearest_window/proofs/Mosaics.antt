@@ -22,11 +22,11 @@ use Rattle.catalog.specs.Drivers.{Dataset, document_of, content_head}
 use Rattle.catalog.specs.Mosaics.{mosaic_band, mosaic_head}
 use Rattle.catalog.specs.Walk.{IsDataset, IsCatalog}
 use Rattle.catalog.specs.Links.{source_at}
-use Rattle.catalog.specs.Pixels.{pixel_of, target_size, target_pixel}
+use Rattle.catalog.specs.Pixels.{pixel_of, member_size, member_pixel}
 use Rattle.catalog.specs.Places.{block_rect_of, row_by_row}
 use Rattle.catalog.specs.Blocks.{block_by}
 use Rattle.catalog.proofs.Pixels.{item}
-use Rattle.catalog.proofs.PixelLaws.{mosaic_is_of_its_targets}
+use Rattle.catalog.proofs.PixelLaws.{mosaic_is_of_its_members}
 use Rattle.band_blocks.specs.declared.key.BlockKey.{BlockKey}
 use Rattle.band_blocks.specs.Blocks.{BlockView}
 use Rattle.band_blocks.specs.Contents.{IsBlock}
@@ -78,7 +78,7 @@ module _ (cat : List Dataset) (valid : IsCatalog cat) (id : ℕ) (d : Dataset) (
   low n = subst (λ h. (block_rect_of h n).h ≤ 128) (sym as_told) (omega arith)
 
   pub pixels_are : (m : Files) (band x y : ℕ) (b : BandValue) → slice_get doc.bands band ≡ Some b → pixel_of m cat id band x y ≡ mosaic_pixel b (source_given m cat d) x y
-  pixels_are m band x y b e = mosaic_is_of_its_targets m cat id band x y d doc b valid at is e ∙ ap (λ size. mosaic_pixel b (λ s. given_of s size (target_size cat d s) (target_pixel m cat d s)) x y) (sym size_told)
+  pixels_are m band x y b e = mosaic_is_of_its_members m cat id band x y d doc b valid at is e ∙ ap (λ size. mosaic_pixel b (λ s. given_of s size (member_size cat d s) (member_pixel m cat d s)) x y) (sym size_told)
 
 -- a rectangle that has no more pixels than a block of a mosaic
 pub few_pixels : (cat : List Dataset) (key : BlockKey) (b : BandValue) → IsCatalog cat → IsMosaicKey cat key b → (d : Dataset) → slice_get cat key.dataset ≡ Some d → (block part : Rect) → block ≡ block_rect_of d.head key.block → part.w * part.h ≤ block.w * block.h → part.w * part.h < 2 ^ 32

@@ -19,7 +19,7 @@ use Rattle.block_cache.specs.declared.pool.Entry.{Entry}
 use Rattle.block_cache.specs.Entries.{held_at}
 use Rattle.std.specs.Option.{IsSomeAnd}
 use Rattle.nearest_window.specs.declared.picture.Picture.{Picture}
-use Rattle.nearest_window.specs.declared.targets.Piece.{Piece}
+use Rattle.nearest_window.specs.declared.members.Piece.{Piece}
 use Rattle.nearest_window.specs.declared.taking.Taking.TheVariants as takings
 use Rattle.nearest_window.specs.declared.window.Window.{Window}
 use Rattle.nearest_window.specs.Painted.{IsPainted, IsFilled, in_columns}

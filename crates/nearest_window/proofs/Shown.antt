@@ -16,7 +16,7 @@ use Rattle.band_blocks.specs.Blocks.{BlockView}
 use Rattle.block_cache.specs.declared.pool.Entry.{Entry}
 use Rattle.block_cache.specs.Entries.{held_at}
 use Rattle.nearest_window.specs.declared.picture.Picture.{Picture}
-use Rattle.nearest_window.specs.declared.targets.Piece.{Piece}
+use Rattle.nearest_window.specs.declared.members.Piece.{Piece}
 use Rattle.nearest_window.specs.Painted.{IsPainted, placed, in_columns}
 use Rattle.nearest_window.specs.Pictures.{from_block}
 use Rattle.band_blocks.specs.Contents.{IsBlock}

@@ -10,7 +10,7 @@ use Rattle.geotransform.specs.Types.{clamp}
 use Rattle.outside.specs.Outside.{Files}
 use Rattle.vrt_profile.specs.Values.{SourceValue}
 use Rattle.catalog.specs.Drivers.{Dataset}
-use Rattle.catalog.specs.Pixels.{target_size, target_pixel}
+use Rattle.catalog.specs.Pixels.{member_size, member_pixel}
 use Rattle.mosaic_sources.proofs.Skipped.{skipped}
 use Rattle.nearest_window.specs.declared.canvas.Canvas.{Canvas}
 use Rattle.nearest_window.specs.Canvases.{AreTaken, stands}
@@ -44,7 +44,7 @@ module _ (told : Option Files) (cat : List Dataset) (d : Dataset) (sources : Lis
   taken_before : (from to : ℕ) → from ≤ to → to ≤ length sources → ((n : ℕ) → from ≤ n → n < to → Contains numbers n → ⊥) → AreTaken told cat d to sources c → AreTaken told cat d from sources c
   taken_before from to order within none taken m e x y at =
       taken m e x y at
-      ∙ ap (option_map (clamp c.kind)) (sym (skipped sources from to d.head.size (target_size cat d) (target_pixel m cat d) x y order within (λ n low high there. none n low high (wanted.listed y (record { top = at.top; bottom = at.bottom }) n there))))
+      ∙ ap (option_map (clamp c.kind)) (sym (skipped sources from to d.head.size (member_size cat d) (member_pixel m cat d) x y order within (λ n low high there. none n low high (wanted.listed y (record { top = at.top; bottom = at.bottom }) n there))))
 
   rising_keeps : (i j : ℕ) → i ≤ j → j < length numbers → slice_index numbers i ≤ slice_index numbers j
   rising_keeps i j order less = ⊎_elim
@@ -53,8 +53,8 @@ module _ (told : Option Files) (cat : List Dataset) (d : Dataset) (sources : Lis
       (cases_lt i j)
 
   -- the place of a wanted number
-  place_of : (n : ℕ) → Contains numbers n → (k : ℕ) × (k < length numbers) × (slice_index numbers k ≡ n)
-  place_of n there = (there.0, there.1, get_or_default numbers there.0 0 n there.1 ∙ there.2)
+  number_stands : (n : ℕ) → Contains numbers n → (k : ℕ) × (k < length numbers) × (slice_index numbers k ≡ n)
+  number_stands n there = (there.0, there.1, get_or_default numbers there.0 0 n there.1 ∙ there.2)
 
   bound_within : (k : ℕ) → bound numbers k sources ≤ length sources
   bound_within k = ⊎_elim
@@ -77,7 +77,7 @@ module _ (told : Option Files) (cat : List Dataset) (d : Dataset) (sources : Lis
   taken_behind left some end taken =
       taken_before (slice_index numbers (left - 1) + 1) (bound numbers left sources) (below_bound (left - 1) left (omega (arith, some)) end) (bound_within left)
       (λ n low high there.
-      let p = place_of n there in
+      let p = number_stands n there in
       ⊎_elim
       (λ (l : p.0 < left). let e = rising_keeps p.0 (left - 1) (omega (arith, l)) (omega (arith, some, end)) in absurd (omega (arith, e, low, p.2)))
       (λ (l : left ≤ p.0). let e = bound_le left p.0 l p.1 in absurd (omega (arith, e, high, p.2)))
@@ -88,7 +88,7 @@ module _ (told : Option Files) (cat : List Dataset) (d : Dataset) (sources : Lis
   pub taken_first : AreTaken told cat d (bound numbers 0 sources) sources c → AreTaken told cat d 0 sources c
   taken_first taken =
       taken_before 0 (bound numbers 0 sources) (omega arith) (bound_within 0)
-      (λ n low high there. let p = place_of n there in let e = bound_le 0 p.0 (omega arith) p.1 in absurd (omega (arith, e, high, p.2)))
+      (λ n low high there. let p = number_stands n there in let e = bound_le 0 p.0 (omega arith) p.1 in absurd (omega (arith, e, high, p.2)))
       taken
 
   -- where no number is left, or nothing is open, all sources are taken

@@ -15,7 +15,7 @@ use Rattle.vrt_profile.specs.Values.{SourceValue, BandValue, IsBand}
 use Rattle.vrt_profile.specs.Cover.{axis_at, columns_of, lines_of}
 use Rattle.vrt_profile.specs.Value.{value_of, given_of, last_given}
 use Rattle.catalog.specs.Drivers.{Dataset}
-use Rattle.catalog.specs.Pixels.{pixel_of, target_size, target_pixel}
+use Rattle.catalog.specs.Pixels.{pixel_of, member_size, member_pixel}
 use Rattle.catalog.specs.Places.{row_by_row}
 use Rattle.catalog.specs.Walk.{IsCatalog}
 use Rattle.band_blocks.specs.declared.key.BlockKey.{BlockKey}
@@ -118,8 +118,8 @@ not_wanted b P is h = elim h [
 
 module _ (told : Option Files) (cat : List Dataset) (key : BlockKey) (s : SourceValue) (c : Canvas) (a : Asked) (asked : IsAsked cat key s c a) (d : Dataset) (at : slice_get cat key.dataset ≡ Some d)
     (taking : Taking) (makes : (pixel : ℤ) → taken_by taking pixel ≡ value_of s pixel) (zeros pixels : List ℤ) (size : length zeros ≡ a.part.w * a.part.h) where
-  abbrev target : Size
-  target = target_size cat d s
+  abbrev dataset_size : Size
+  dataset_size = member_size cat d s
 
   pixel_there : (m : Files) → IsPainted (in_columns a.picture.stride (a.picture.to + 0) (a.picture.to + 0 + a.picture.width) (shown m cat a.picture 0 0)) zeros pixels → (i j : ℕ) → i < a.part.w → j < a.part.h
       → get_or pixels (j * a.part.w + i) (pos 0) ≡ pixel_of m cat a.picture.dataset a.picture.band (place_at a.picture.columns i) (place_at a.picture.lines j)
@@ -138,15 +138,15 @@ module _ (told : Option Files) (cat : List Dataset) (key : BlockKey) (s : Source
       ∙ ap (λ n. Some (pixel_of m cat a.picture.dataset a.picture.band (place_at a.picture.columns n) (place_at a.picture.lines (0 + j)))) column
       ∙ ap (λ n. Some (pixel_of m cat a.picture.dataset a.picture.band (place_at a.picture.columns i) (place_at a.picture.lines n))) line)
 
-  given_there : (m : Files) (x y : ℕ) → IsIn a.part x y → given_of s d.head.size target (target_pixel m cat d s) x y ≡ value_of s (pixel_of m cat a.picture.dataset a.picture.band (place_at a.picture.columns (x - a.part.x)) (place_at a.picture.lines (y - a.part.y)))
+  given_there : (m : Files) (x y : ℕ) → IsIn a.part x y → given_of s d.head.size dataset_size (member_pixel m cat d s) x y ≡ value_of s (pixel_of m cat a.picture.dataset a.picture.band (place_at a.picture.columns (x - a.part.x)) (place_at a.picture.lines (y - a.part.y)))
   given_there m x y p =
       let l = p.left in let r = p.right in let t = p.top in let b = p.bottom in
       let across : a.part.x + (x - a.part.x) ≡ x = omega arith in
       let down : a.part.y + (y - a.part.y) ≡ y = omega arith in
-      let column = subst (λ n. axis_at (columns_of s d.head.size target) target.w n ≡ Some (place_at a.picture.columns (x - a.part.x))) across (asked.across d at (x - a.part.x) (omega arith)) in
-      let line = subst (λ n. axis_at (lines_of s d.head.size target) target.h n ≡ Some (place_at a.picture.lines (y - a.part.y))) down (asked.down d at (y - a.part.y) (omega arith)) in
-      pixel_given s d.head.size target x y (target_pixel m cat d s) (place_at a.picture.columns (x - a.part.x)) (place_at a.picture.lines (y - a.part.y))
-      (seen_there s d.head.size target x y (place_at a.picture.columns (x - a.part.x)) (place_at a.picture.lines (y - a.part.y)) column line)
+      let column = subst (λ n. axis_at (columns_of s d.head.size dataset_size) dataset_size.w n ≡ Some (place_at a.picture.columns (x - a.part.x))) across (asked.across d at (x - a.part.x) (omega arith)) in
+      let line = subst (λ n. axis_at (lines_of s d.head.size dataset_size) dataset_size.h n ≡ Some (place_at a.picture.lines (y - a.part.y))) down (asked.down d at (y - a.part.y) (omega arith)) in
+      pixel_given s d.head.size dataset_size x y (member_pixel m cat d s) (place_at a.picture.columns (x - a.part.x)) (place_at a.picture.lines (y - a.part.y))
+      (seen_there s d.head.size dataset_size x y (place_at a.picture.columns (x - a.part.x)) (place_at a.picture.lines (y - a.part.y)) column line)
       ∙ ap (value_of s) (asked.pixels m d at (place_at a.picture.columns (x - a.part.x)) (place_at a.picture.lines (y - a.part.y)))
 
   in_or_out : (x y : ℕ) → IsIn a.part x y ⊎ (IsIn a.part x y → ⊥)
@@ -185,20 +185,20 @@ module _ (told : Option Files) (cat : List Dataset) (key : BlockKey) (s : Source
           ∙ makes (pixel_of m cat a.picture.dataset a.picture.band (place_at a.picture.columns (x - a.part.x)) (place_at a.picture.lines (y - a.part.y)))
           ∙ sym (given_there m x y p))
       | inr p ↦ ap (option_map (clamp c.kind)) (taken.outside x y there p ∙ elim (asked.outside d at x y there p) [
-        | inl q ↦ sym (or_filled (stands_at c x y) (given_of s d.head.size target (target_pixel m cat d s) x y) q)
-        | inr q ↦ sym (ap (option_or (stands_at c x y)) (nothing_given s d.head.size target x y (target_pixel m cat d s) q) ∙ or_nothing (stands_at c x y))
+        | inl q ↦ sym (or_filled (stands_at c x y) (given_of s d.head.size dataset_size (member_pixel m cat d s) x y) q)
+        | inr q ↦ sym (ap (option_or (stands_at c x y)) (nothing_given s d.head.size dataset_size x y (member_pixel m cat d s) q) ∙ or_nothing (stands_at c x y))
       ])
     ];
   }
 
 -- a source that isn't asked changes nothing
-pub source_unasked : (told : Option Files) (cat : List Dataset) (d : Dataset) (s : SourceValue) (c : Canvas) → IsUnasked s d.head.size (target_size cat d s) c → IsSourceTaken told cat d s c c
+pub source_unasked : (told : Option Files) (cat : List Dataset) (d : Dataset) (s : SourceValue) (c : Canvas) → IsUnasked s d.head.size (member_size cat d s) c → IsSourceTaken told cat d s c c
 source_unasked told cat d s c unasked = record {
   rect = refl;
   kind = refl;
   given = λ m e x y there. ap (option_map (clamp c.kind)) (elim (unasked x y there) [
     | inl q ↦ sym (filled (stands_at c x y) (source_given m cat d s x y) q)
-    | inr q ↦ sym (ap (option_or (stands_at c x y)) (nothing_given s d.head.size (target_size cat d s) x y (target_pixel m cat d s) q) ∙ nothing (stands_at c x y))
+    | inr q ↦ sym (ap (option_or (stands_at c x y)) (nothing_given s d.head.size (member_size cat d s) x y (member_pixel m cat d s) q) ∙ nothing (stands_at c x y))
   ]);
 }
   where

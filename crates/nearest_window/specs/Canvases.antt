@@ -11,7 +11,7 @@ use Rattle.vrt_profile.specs.Values.{SourceValue}
 use Rattle.vrt_profile.specs.Cover.{axis_at, columns_of, lines_of, cover_of}
 use Rattle.vrt_profile.specs.Value.{given_of, last_given}
 use Rattle.catalog.specs.Drivers.{Dataset}
-use Rattle.catalog.specs.Pixels.{pixel_of, target_size, target_pixel}
+use Rattle.catalog.specs.Pixels.{pixel_of, member_size, member_pixel}
 use Rattle.band_blocks.specs.Blocks.{BlockView, block_view}
 use Rattle.band_blocks.specs.declared.key.BlockKey.{BlockKey}
 use Rattle.nearest_window.specs.declared.asking.Asked.{Asked}
@@ -116,14 +116,14 @@ pub record IsAsked (cat : List Dataset) (key : BlockKey) (s : SourceValue) (c : 
   pub taking : a.picture.taking ≡ All
   pub takes : TakesBand cat s a.picture
   pub size : length a.pixels.items ≡ a.part.w * a.part.h
-  pub pixels : (m : Files) (d : Dataset) → slice_get cat key.dataset ≡ Some d → (x y : ℕ) → target_pixel m cat d s x y ≡ pixel_of m cat a.picture.dataset a.picture.band x y
-  pub across : (d : Dataset) → slice_get cat key.dataset ≡ Some d → (k : ℕ) → k < a.part.w → axis_at (columns_of s d.head.size (target_size cat d s)) (target_size cat d s).w (a.part.x + k) ≡ Some (place_at a.picture.columns k)
-  pub down : (d : Dataset) → slice_get cat key.dataset ≡ Some d → (k : ℕ) → k < a.part.h → axis_at (lines_of s d.head.size (target_size cat d s)) (target_size cat d s).h (a.part.y + k) ≡ Some (place_at a.picture.lines k)
-  pub outside : (d : Dataset) → slice_get cat key.dataset ≡ Some d → (x y : ℕ) → IsIn c.rect x y → (IsIn a.part x y → ⊥) → (is_some (stands_at c x y) ≡ true) ⊎ (cover_of s d.head.size (target_size cat d s) x y ≡ None)
+  pub pixels : (m : Files) (d : Dataset) → slice_get cat key.dataset ≡ Some d → (x y : ℕ) → member_pixel m cat d s x y ≡ pixel_of m cat a.picture.dataset a.picture.band x y
+  pub across : (d : Dataset) → slice_get cat key.dataset ≡ Some d → (k : ℕ) → k < a.part.w → axis_at (columns_of s d.head.size (member_size cat d s)) (member_size cat d s).w (a.part.x + k) ≡ Some (place_at a.picture.columns k)
+  pub down : (d : Dataset) → slice_get cat key.dataset ≡ Some d → (k : ℕ) → k < a.part.h → axis_at (lines_of s d.head.size (member_size cat d s)) (member_size cat d s).h (a.part.y + k) ≡ Some (place_at a.picture.lines k)
+  pub outside : (d : Dataset) → slice_get cat key.dataset ≡ Some d → (x y : ℕ) → IsIn c.rect x y → (IsIn a.part x y → ⊥) → (is_some (stands_at c x y) ≡ true) ⊎ (cover_of s d.head.size (member_size cat d s) x y ≡ None)
 
 -- what a source of a dataset gives at a pixel, of the dataset of the catalog that it names
 abbrev pub source_given : Files → List Dataset → Dataset → SourceValue → ℕ → ℕ → Option ℤ
-source_given m cat d s x y = given_of s d.head.size (target_size cat d s) (target_pixel m cat d s) x y
+source_given m cat d s x y = given_of s d.head.size (member_size cat d s) (member_pixel m cat d s) x y
 
 -- what a source of a dataset gives stands where the canvas was open
 pub record IsSourceTaken (told : Option Files) (cat : List Dataset) (d : Dataset) (s : SourceValue) (old new : Canvas) : Type 0 where

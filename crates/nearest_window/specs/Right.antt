@@ -71,10 +71,14 @@ pub record IsRight {File : Type 0} (bytes : File → Option (List ℕ)) (len : F
   pub listed : All (IsIndexIn cat) indexes
   pub pixels : AreRecalled told cat recalled
 
+-- the lane is right for a catalog and what a folder tells
+abbrev pub IsRightLane : {F File Draft : Type 0} → Ghosts F File Draft → Option Files → List Dataset → LaneView File → Type 0
+IsRightLane calls told cat lane = IsRight calls.file_bytes calls.file_len told cat lane.pool lane.files lane.made lane.indexes lane.recalled
+
 -- The lane is ready for a catalog and a folder: what it holds is right for both, and over a folder that tells its files
 -- the catalog was walked over them.
 pub record IsReady {F File Draft : Type 0} (calls : Ghosts F File Draft) (folder : F) (cat : List Dataset) (lane : LaneView File) : Type 0 where
-  pub right : IsRight calls.file_bytes calls.file_len (calls.names folder) cat lane.pool lane.files lane.made lane.indexes lane.recalled
+  pub right : IsRightLane calls (calls.names folder) cat lane
   pub walked : WhereTold calls folder (λ m. IsWalked m cat)
 
 -- the lane is ready for each folder and each catalog that was walked over it

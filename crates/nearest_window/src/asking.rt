@@ -1,15 +1,15 @@
 // What sources are asked for.
 ghost use Rattle.std.specs.Prelude.{◌≡◌, ℕ, ◌+◌, ◌*◌, ◌<◌, ◌≤◌, None, Some, length, slice_get, IfOk, IfSome};
 ghost use Rattle.catalog.specs.Drivers.{Dataset};
-ghost use Rattle.catalog.specs.Pixels.{target_size};
+ghost use Rattle.catalog.specs.Pixels.{member_size};
 ghost use Rattle.catalog.specs.Places.{IsWithin};
 ghost use Rattle.nearest_window.specs.Canvases.{IsAsked, IsCanvas, IsUnasked};
 ghost use Rattle.nearest_window.specs.Shown.{IsSourceOf};
 
 use crate::canvas::Canvas;
+use crate::members::{Numbered, seen_in};
 use crate::picture::Picture;
 use crate::taking::Taking;
-use crate::targets::{Numbered, seen_in};
 use catalog::Catalog;
 use geotransform::{Rect, Sample};
 use std::alloc::{AllocError, Global};
@@ -56,7 +56,7 @@ pub fn asked_of<'a>(
     requires source { IsSourceOf cat.now source.key source.number source.source.now }
     requires within { (d : Dataset) → slice_get cat.now source.key.dataset ≡ Some d → IsWithin canvas.now.rect d.head.size }
     requires canvas { IsCanvas canvas.now }
-    ensures none { IfOk result (λ o. o ≡ None → (d : Dataset) → slice_get cat.now source.entry.key.dataset ≡ Some d → IsUnasked source.entry.source.now d.head.size (target_size cat.now d source.entry.source.now) canvas.now) }
+    ensures none { IfOk result (λ o. o ≡ None → (d : Dataset) → slice_get cat.now source.entry.key.dataset ≡ Some d → IsUnasked source.entry.source.now d.head.size (member_size cat.now d source.entry.source.now) canvas.now) }
     ensures asked { IfOk result (λ o. IfSome o (IsAsked cat.now source.entry.key source.entry.source.now canvas.now)) }
 {
     // This call is made for the proof: it says what holds of every catalog.

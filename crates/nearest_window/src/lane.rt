@@ -15,7 +15,7 @@ ghost use Rattle.nearest_window.specs.Canvases.{IsCanvas, IsSourceTaken};
 ghost use Rattle.nearest_window.specs.Lanes.{IsHeldWith, IsKept, IsUsed, LaneView, lane_view, held_in, pixel_at, room_of};
 ghost use Rattle.nearest_window.specs.Painted.{IsPainted, in_columns};
 ghost use Rattle.nearest_window.specs.Pictures.{IsPicture, from_block};
-ghost use Rattle.nearest_window.specs.Right.{AreRecalled, IsFresh, IsIndexIn, IsPartBlock, IsReady, IsRight, IsFileKey, IsMosaicKey, Served, Serves, state_of, TellsChangeIn};
+ghost use Rattle.nearest_window.specs.Right.{AreRecalled, IsFresh, IsIndexIn, IsPartBlock, IsReady, IsRightLane, IsFileKey, IsMosaicKey, Served, Serves, state_of, TellsChangeIn};
 ghost use Rattle.nearest_window.specs.Shown.{IsAreaOf, IsPictureOf, IsPartOf, IsLonePart};
 ghost use Rattle.nearest_window.specs.Taken.{place_at};
 ghost use Rattle.nearest_window.specs.Wanted.{IsWanted, numbers_of};
@@ -25,16 +25,16 @@ use crate::block_parts::{
 };
 use crate::indexes::Indexes;
 use crate::indexing::wanted_in;
+use crate::members::{Piece, band_of, kind_of};
 use crate::missed::Missed;
 use crate::paint::paint_rows;
 use crate::picture::Picture;
 use crate::picture_places::Span;
 use crate::recalled::Recalled;
 use crate::sharing::{Supply, offer_to, shown_in};
-use crate::targets::{Piece, band_of, kind_of};
 use crate::wanted::Wanted;
 use band_blocks::{
-    Block, BlockKey, LoadFault, OpenFiles, PixelKey, Steps, has_places, load_block, load_sample,
+    Block, BlockKey, Counter, LoadFault, OpenFiles, PixelKey, has_places, load_block, load_sample,
 };
 use block_cache::Pool;
 use catalog::Catalog;
@@ -127,7 +127,7 @@ impl<F: Folder> Lane<F> {
         requires some { 1 ≤ capacity }
         requires few { capacity ≤ 65536 }
         ensures empty { IfOk result (λ lane. lane ≡ lane_view (pool_view [] capacity) [] (pool_view [] 4096) [] []) }
-        ensures right { IfOk result (λ lane. (told : _) (cat : List Dataset) → IsRight F.file_bytes F.file_len told cat lane.pool lane.files lane.made lane.indexes lane.recalled) }
+        ensures right { IfOk result (λ lane. (told : _) (cat : List Dataset) → IsRightLane F.Folder told cat lane) }
         ensures fresh { IfOk result (λ lane. IsFresh F.Folder lane) }
     {
         let pool = Pool::new(alloc, capacity)?;
@@ -317,7 +317,7 @@ impl<F: Folder> Lane<F> {
         supply: &Supply<S>,
         folder: &mut F,
         key: BlockKey,
-        loads: &mut Steps<L>,
+        loads: &mut Counter<L>,
     ) -> Result<(), LoadFault>
         requires ready { IsReady F.Folder folder.old supply.now.cat.now self.old }
         requires told { S.told ≡ F.names folder.old }
@@ -379,7 +379,7 @@ impl<F: Folder> Lane<F> {
         folder: &mut F,
         key: BlockKey,
         rect: Rect,
-        loads: &mut Steps<L>,
+        loads: &mut Counter<L>,
     ) -> Result<Block, LoadFault>
         requires ready { IsReady F.Folder folder.old cat.now self.old }
         requires key { IsKey cat.now key }

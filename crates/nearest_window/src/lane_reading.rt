@@ -16,13 +16,13 @@ use crate::asking::{Asked, asked_of};
 use crate::block_parts::{Part, Rows, pixel_rect};
 use crate::canvas::{Canvas, is_wanted};
 use crate::lane::Lane;
+use crate::members::{Area, Around, Numbered, Piece, band_of, block_around, mosaic_rect};
 use crate::paint::paint_rows;
 use crate::picture::Picture;
 use crate::picture_places::Span;
 use crate::sharing::{Supply, offer_to};
 use crate::taking::taking_of;
-use crate::targets::{Area, Around, Numbered, Piece, band_of, block_around, mosaic_rect};
-use band_blocks::{Block, BlockKey, LoadFault, Steps};
+use band_blocks::{Block, BlockKey, Counter, LoadFault};
 use geotransform::{Rect, Sample};
 use outside::Folder;
 use shared_lines::Scene;
@@ -37,7 +37,7 @@ impl<F: Folder> Lane<F> {
         supply: &Supply<S>,
         folder: &mut F,
         key: BlockKey,
-        loads: &mut Steps<L>,
+        loads: &mut Counter<L>,
     ) -> Result<(), LoadFault>
         requires ready { IsReady F.Folder folder.old supply.now.cat.now self.old }
         requires told { S.told ≡ F.names folder.old }
@@ -71,7 +71,7 @@ impl<F: Folder> Lane<F> {
         folder: &mut F,
         key: BlockKey,
         part: Part,
-        loads: &mut Steps<L>,
+        loads: &mut Counter<L>,
     ) -> Result<Block, LoadFault>
         requires ready { IsReady F.Folder folder.old supply.now.cat.now self.old }
         requires told { S.told ≡ F.names folder.old }
@@ -104,7 +104,7 @@ impl<F: Folder> Lane<F> {
         key: BlockKey,
         band: &VrtBand,
         rect: Rect,
-        loads: &mut Steps<L>,
+        loads: &mut Counter<L>,
     ) -> Result<Block, LoadFault>
         requires ready { IsReady F.Folder folder.old supply.now.cat.now self.old }
         requires told { S.told ≡ F.names folder.old }
@@ -151,7 +151,7 @@ impl<F: Folder> Lane<F> {
         folder: &mut F,
         source: Numbered,
         canvas: &mut Canvas,
-        loads: &mut Steps<L>,
+        loads: &mut Counter<L>,
     ) -> Result<(), LoadFault>
         requires ready { IsReady F.Folder folder.old supply.now.cat.now self.old }
         requires told { S.told ≡ F.names folder.old }
@@ -188,7 +188,7 @@ impl<F: Folder> Lane<F> {
         folder: &mut F,
         picture: &Picture,
         out: &mut [Sample],
-        loads: &mut Steps<L>,
+        loads: &mut Counter<L>,
     ) -> Result<(), LoadFault>
         requires ready { IsReady F.Folder folder.old supply.now.cat.now self.old }
         requires told { S.told ≡ F.names folder.old }
@@ -230,7 +230,7 @@ impl<F: Folder> Lane<F> {
         picture: &Picture,
         lines: Span,
         out: &mut [Sample],
-        loads: &mut Steps<L>,
+        loads: &mut Counter<L>,
     ) -> Result<(), LoadFault>
         requires ready { IsReady F.Folder folder.old supply.now.cat.now self.old }
         requires told { S.told ≡ F.names folder.old }
@@ -266,7 +266,7 @@ impl<F: Folder> Lane<F> {
         picture: &Picture,
         lines: Span,
         out: &mut [Sample],
-        loads: &mut Steps<L>,
+        loads: &mut Counter<L>,
     ) -> Result<(), LoadFault>
         requires ready { IsReady F.Folder folder.old supply.now.cat.now self.old }
         requires told { S.told ≡ F.names folder.old }
@@ -311,7 +311,7 @@ impl<F: Folder> Lane<F> {
         picture: &Picture,
         piece: Piece,
         out: &mut [Sample],
-        loads: &mut Steps<L>,
+        loads: &mut Counter<L>,
     ) -> Result<(), LoadFault>
         requires ready { IsReady F.Folder folder.old supply.now.cat.now self.old }
         requires told { S.told ≡ F.names folder.old }
@@ -350,7 +350,7 @@ impl<F: Folder> Lane<F> {
         folder: &mut F,
         picture: &Picture,
         out: &mut [Sample],
-        loads: &mut Steps<L>,
+        loads: &mut Counter<L>,
     ) -> Result<(), LoadFault>
         requires ready { IsReady F.Folder folder.old supply.now.cat.now self.old }
         requires told { S.told ≡ F.names folder.old }

@@ -9,6 +9,7 @@ mod indexing;
 mod lane;
 mod lane_reading;
 mod laws;
+mod members;
 mod merging;
 mod missed;
 mod paint;
@@ -17,7 +18,6 @@ mod picture_places;
 mod recalled;
 mod sharing;
 mod taking;
-mod targets;
 mod wanted;
 mod window;
 

@@ -18,7 +18,7 @@ use crate::picture::Picture;
 use crate::picture_places::Places;
 use crate::sharing::Supply;
 use crate::taking::Taking;
-use band_blocks::{LoadFault, Steps};
+use band_blocks::{Counter, LoadFault};
 use catalog::Catalog;
 use geotransform::{Rect, Sample};
 use outside::Folder;
@@ -85,7 +85,7 @@ impl<F: Folder> Lane<F> {
         folder: &mut F,
         window: Window,
         out: &mut [Sample],
-        loads: &mut Steps<L>,
+        loads: &mut Counter<L>,
     ) -> Result<(), LoadFault>
         requires ready { IsReady F.Folder folder.old cat.now self.old }
         requires window { IsWindow cat.now window }
@@ -118,7 +118,7 @@ impl<F: Folder> Lane<F> {
         folder: &mut F,
         window: Window,
         out: &mut [Sample],
-        loads: &mut Steps<L>,
+        loads: &mut Counter<L>,
     ) -> Result<(), LoadFault>
         requires ready { IsReady F.Folder folder.old cat.now self.old }
         requires told { S.told ≡ F.names folder.old }
@@ -162,7 +162,7 @@ impl<F: Folder> Lane<F> {
         folder: &mut F,
         window: Window,
         out: &mut [Sample],
-        loads: &mut Steps<L>,
+        loads: &mut Counter<L>,
     ) -> Result<(), LoadFault>
         requires ready { IsReady F.Folder folder.old supply.now.cat.now self.old }
         requires told { S.told ≡ F.names folder.old }

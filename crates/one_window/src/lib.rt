@@ -6,7 +6,7 @@ ghost use Rattle.outside.specs.Reading.{WhereTold};
 ghost use Rattle.catalog.specs.Pixels.{pixel_of_name};
 ghost use Rattle.catalog.specs.Places.{row_by_row};
 
-use band_blocks::Steps;
+use band_blocks::Counter;
 use catalog::{Catalog, open_all};
 use geotransform::{Rect, Sample, Size};
 use nearest_window::{Lane, Window};
@@ -46,7 +46,7 @@ fn read_counted<F: Folder, L: Ledger>(
         band: 0,
         rect,
     };
-    let mut loads: Steps<L> = Steps::open(blank);
+    let mut loads: Counter<L> = Counter::open(blank);
     let read = lane.read_window(alloc, &cat, folder, window, out, &mut loads);
     read.is_ok()
 }

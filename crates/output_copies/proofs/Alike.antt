@@ -35,18 +35,18 @@ record IsPlace (h : Head) (k x y : ℕ) : Type 0 where
   line : y < h.size.h
 
 -- the place of a sample of a file, by its number
-place_of : (l : Layout) (h : Head) (i : ℕ) → IsHead h → i < h.bands * h.size.h * h.size.w → IsPlace h (band_by l h i) (column_by l h i) (line_by l h i)
-place_of Bil h i is less = let w = is.width.0 in let t = is.height.0 in let b = is.bands.0 in record {
+sample_place : (l : Layout) (h : Head) (i : ℕ) → IsHead h → i < h.bands * h.size.h * h.size.w → IsPlace h (band_by l h i) (column_by l h i) (line_by l h i)
+sample_place Bil h i is less = let w = is.width.0 in let t = is.height.0 in let b = is.bands.0 in record {
   band = mod_below (i / h.size.w) h.bands b;
   column = mod_below i h.size.w w;
   line = div_below (i / h.size.w) h.bands h.size.h b (div_below i h.size.w (h.size.h * h.bands) w (omega arith));
 }
-place_of Bip h i is less = let w = is.width.0 in let t = is.height.0 in let b = is.bands.0 in record {
+sample_place Bip h i is less = let w = is.width.0 in let t = is.height.0 in let b = is.bands.0 in record {
   band = mod_below i h.bands b;
   column = mod_below (i / h.bands) h.size.w w;
   line = div_below (i / h.bands) h.size.w h.size.h w (div_below i h.bands (h.size.h * h.size.w) b (omega arith));
 }
-place_of Bsq h i is less = let w = is.width.0 in let t = is.height.0 in let b = is.bands.0 in record {
+sample_place Bsq h i is less = let w = is.width.0 in let t = is.height.0 in let b = is.bands.0 in record {
   band = div_below (i / h.size.w) h.size.h h.bands t (div_below i h.size.w (h.bands * h.size.h) w (omega arith));
   column = mod_below i h.size.w w;
   line = mod_below (i / h.size.w) h.size.h t;
@@ -58,7 +58,7 @@ module _ (f g : ℕ → ℕ → ℕ → ℤ) where
       joined_same (λ i. sample_bytes h (f (band_by h.layout h i) (column_by h.layout h i) (line_by h.layout h i))) (λ i. sample_bytes h (g (band_by h.layout h i) (column_by h.layout h i) (line_by h.layout h i))) 0 (h.bands * h.size.h * h.size.w)
       (λ i low high.
       let less : i < h.bands * h.size.h * h.size.w = omega arith in
-      let at = place_of h.layout h i is less in
+      let at = sample_place h.layout h i is less in
       ap (sample_bytes h) (same (band_by h.layout h i) (column_by h.layout h i) (line_by h.layout h i) at.band at.column at.line))
 
   line_same : (w y : ℕ) → ((x : ℕ) → x < w → f 0 x y ≡ g 0 x y) → line_at f w y ≡ line_at g w y

@@ -7,9 +7,10 @@ use Rattle.catalog.specs.Drivers.{Dataset}
 use Rattle.translate_plan.specs.Plan.{Planned}
 use Rattle.error_lines.specs.declared.faults.Fault.{Fault}
 use Rattle.error_lines.specs.Faults.{IsOutside}
+use Rattle.error_lines.specs.Progress.{progress, progress_end}
 use Rattle.error_lines.specs.Steps.{Step, all_done, applied, published, publishes, Goes}
 use Rattle.output_copies.specs.Copying.{spoken}
-use Rattle.output_copies.specs.Steps.{progress, progress_end, size_line, translation_steps, unless_quiet, written}
+use Rattle.output_copies.specs.Steps.{size_line, translation_steps, unless_quiet, written}
 use Rattle.output_copies.proofs.Goes.{goes_stop, goes_then, spoken_done, spoken_stops}
 
 module _ (quiet : Bool) (m : Files) (d : Dataset) (p : Planned) (name : List ℕ) where

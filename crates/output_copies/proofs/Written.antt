@@ -9,8 +9,9 @@ use Rattle.translate_plan.specs.Plan.{Planned}
 use Rattle.translate_plan.specs.declared.options.Driver.{Driver}
 use Rattle.translate_plan.specs.declared.options.Driver.TheVariants.{AaiGrid, Dted, EHdr, SrtmHgt, Vrt}
 use Rattle.write_back.specs.Plans.{output_of}
+use Rattle.error_lines.specs.Progress.{progress}
 use Rattle.error_lines.specs.Steps.{Step, Publishes, publishes}
-use Rattle.output_copies.specs.Steps.{files_by, progress, raster_of, unless_quiet, written, written_by}
+use Rattle.output_copies.specs.Steps.{files_by, raster_of, unless_quiet, written, written_by}
 
 -- the steps of an output of samples between the first text and the last
 abbrev pub samples_steps : Bool → Files → Dataset → Planned → List ℕ → List Step

@@ -9,7 +9,8 @@ use Rattle.write_back.specs.Plans.{output_of}
 use Rattle.write_back.specs.View.{Output, Blocks, Rows, TargetView, columns_of, sheet_in, shown, IsIn, IsMetOn}
 use Rattle.error_lines.specs.declared.faults.Fault.{Fault}
 use Rattle.error_lines.specs.Faults.{Differs, HasCauses, IsOfReading, IsOutside}
-use Rattle.output_copies.specs.Steps.{progress, raster_of}
+use Rattle.error_lines.specs.Progress.{progress}
+use Rattle.output_copies.specs.Steps.{raster_of}
 
 -- what is put of a text, but for a quiet translation
 abbrev pub spoken : Bool → List ℕ → List ℕ

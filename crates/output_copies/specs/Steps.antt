@@ -14,18 +14,12 @@ use Rattle.translate_plan.specs.declared.options.Driver.TheVariants.{Vrt}
 use Rattle.write_back.specs.Files.{files_of}
 use Rattle.write_back.specs.Plans.{output_of}
 use Rattle.write_back.specs.View.{Output}
+use Rattle.error_lines.specs.Progress.{progress, progress_end}
 use Rattle.error_lines.specs.Steps.{Step, Prints, publishes}
 
 -- what is told before the work: the size of the source
 abbrev pub size_line : Size → List ℕ
 size_line size = text (codes "Input file size is " ∷ decimal size.w ∷ codes ", " ∷ decimal size.h ∷ codes "\n" ∷ [])
-
--- what is told while the lines are written, and behind the last file
-abbrev pub progress : List ℕ
-progress = codes "0...10...20...30...40...50...60...70...80...90..."
-
-abbrev pub progress_end : List ℕ
-progress_end = codes "100 - done.\n"
 
 -- a text is put, but for a quiet translation
 abbrev pub unless_quiet : Bool → List ℕ → List Step

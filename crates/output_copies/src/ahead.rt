@@ -5,10 +5,10 @@ ghost use Rattle.std.specs.Thread.{IsSend, IsSync};
 ghost use Rattle.outside.specs.Streams.{Gets, GetsPart};
 ghost use Rattle.lane_teams.specs.Ready.{AreLanesReady};
 ghost use Rattle.strip_copies.specs.Copies.{IsRoomFor, IsTranslation};
+ghost use Rattle.error_lines.specs.Progress.{progress};
 ghost use Rattle.output_copies.specs.Ahead.{MayBeRead, MayBeWritten, WereRead, WereWritten};
 ghost use Rattle.output_copies.specs.Copying.{spoken, IsFilled, MayEnd, Tells};
 ghost use Rattle.output_copies.specs.Parts.{AreBehind, ArePart, BeginsWith};
-ghost use Rattle.output_copies.specs.Steps.{progress};
 
 use crate::calls::at_once;
 use crate::copying::Copier;
@@ -16,7 +16,7 @@ use crate::parts::{area, read_part, write_part};
 use crate::progress::{Share, tell};
 use error_lines::Fault;
 use geotransform::Sample;
-use outside::{Folder, Sink, Steps};
+use outside::{Counter, Folder, Sink};
 use shared_lines::Scene;
 use std::sync::ledger::Ledger;
 use std::thread::Threads;
@@ -61,7 +61,7 @@ struct Reading<'a, F: Folder, L: Ledger> {
 struct Writing<'a, F: Folder, W: Ledger> {
     folder: &'a mut F,
     target: &'a mut Target<F>,
-    writes: &'a mut Steps<W>,
+    writes: &'a mut Counter<W>,
     answer: &'a mut Result<(), Fault>,
 }
 
@@ -111,7 +111,7 @@ fn write_front<F: Folder, W: Ledger>(
     target: &mut Target<F>,
     lines: Lines,
     samples: &[Sample],
-    writes: &mut Steps<W>,
+    writes: &mut Counter<W>,
 ) -> Result<(), Fault>
     requires may { MayBeWritten F.Folder translation.now.cat translation.now.id translation.now.plan lines folder.old target.old samples.now }
     ensures were { WereWritten F.Folder translation.now.cat translation.now.id translation.now.plan lines folder.old folder.new target.old target.new result }
@@ -218,7 +218,7 @@ fn who_reads<'x, F: Folder, L: Ledger>(
 fn who_writes<'x, F: Folder, W: Ledger>(
     folder: &'x mut F,
     target: &'x mut Target<F>,
-    writes: &'x mut Steps<W>,
+    writes: &'x mut Counter<W>,
     answer: &'x mut Result<(), Fault>,
 ) -> Writing<'x, F, W>
     ensures folder { result.folder ≡ folder.entry }

@@ -4,14 +4,15 @@ ghost use Rattle.outside.specs.Outside.{Files};
 ghost use Rattle.outside.specs.Streams.{Gets, GetsPart};
 ghost use Rattle.lane_teams.specs.Ready.{AreLanesReady};
 ghost use Rattle.strip_copies.specs.Copies.{IsRoomFor, IsTranslation};
+ghost use Rattle.error_lines.specs.Progress.{progress};
 ghost use Rattle.output_copies.specs.Copying.{spoken, IsFilled, MayEnd};
-ghost use Rattle.output_copies.specs.Steps.{progress};
+ghost use Rattle.output_copies.specs.Parts.{ArePart};
 
 use crate::parts::{area, read_part, write_part};
 use crate::progress::{Share, tell};
 use error_lines::Fault;
 use geotransform::Sample;
-use outside::{Folder, Sink, Steps};
+use outside::{Counter, Folder, Sink};
 use shared_lines::Scene;
 use std::sync::ledger::Ledger;
 use std::thread::Threads;
@@ -25,7 +26,7 @@ use write_back::Target;
 pub struct Copier<'a, F: Folder, L: Ledger, W: Ledger, S: Scene> {
     pub reader: StripReader<F, L>,
     pub shared: Option<&'a shared_lines::Lines<S>>,
-    pub writes: Steps<W>,
+    pub writes: Counter<W>,
     pub rows: u32,
     pub ahead: bool,
     pub quiet: bool,
@@ -52,9 +53,7 @@ fn copy_band<R: Threads + Sync, F: Folder, L: Ledger, W: Ledger, S: Scene>(
     requires ready { AreLanesReady F.Folder S.told S.cat folder.old translation.now.cat copier.old.reader.team.lanes.items }
     requires room { IsRoomFor translation.now.cat translation.now.id translation.now.plan copier.old.reader.columns copier.old.reader.samples.items }
     requires long { translation.now.plan.size.w * (lines.end - lines.first) ≤ length samples.old }
-    requires band { lines.band < length translation.now.plan.bands }
-    requires order { lines.first < lines.end }
-    requires end { lines.end ≤ translation.now.plan.size.h }
+    requires lines { ArePart translation.now.plan lines }
     requires filled { IsFilled (F.names folder.old) translation.now.cat translation.now.id translation.now.plan target.old lines.first lines.end lines.band }
     ensures filled { OnOk result (IsFilled (F.names folder.new) translation.now.cat translation.now.id translation.now.plan target.new lines.first lines.end (lines.band + 1)) }
     ensures name { target.new.name ≡ target.old.name }

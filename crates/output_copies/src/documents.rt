@@ -6,9 +6,10 @@ ghost use Rattle.catalog.specs.Drivers.{Dataset};
 ghost use Rattle.translate_plan.specs.Documents.{document_by};
 ghost use Rattle.translate_plan.specs.declared.options.Driver.TheVariants.{Vrt};
 ghost use Rattle.strip_copies.specs.Copies.{IsTranslation};
+ghost use Rattle.error_lines.specs.Progress.{progress};
 ghost use Rattle.error_lines.specs.Steps.{Publishes, all_done, Goes};
 ghost use Rattle.output_copies.specs.Copying.{MayEnd};
-ghost use Rattle.output_copies.specs.Steps.{progress, unless_quiet};
+ghost use Rattle.output_copies.specs.Steps.{unless_quiet};
 
 use crate::progress::put_progress;
 use crate::writing::Writing;

@@ -10,9 +10,10 @@ ghost use Rattle.translate_plan.specs.declared.options.Driver.TheVariants.{Vrt};
 ghost use Rattle.write_back.specs.Plans.{output_of, IsNamedFor};
 ghost use Rattle.strip_copies.specs.Copies.{IsRoomFor, IsTranslation};
 ghost use Rattle.error_lines.specs.Faults.{Differs, HasCauses, IsOfReading};
+ghost use Rattle.error_lines.specs.Progress.{progress};
 ghost use Rattle.error_lines.specs.Steps.{all_done, publishes, Goes};
 ghost use Rattle.output_copies.specs.Copying.{spoken, IsFilled, MayEnd};
-ghost use Rattle.output_copies.specs.Steps.{files_by, progress, raster_of, translation_steps, unless_quiet, written};
+ghost use Rattle.output_copies.specs.Steps.{files_by, raster_of, translation_steps, unless_quiet, written};
 
 use crate::ahead::{Rooms, copy_ahead};
 use crate::copying::{Copier, copy_all};
@@ -23,7 +24,7 @@ use crate::writing::Writing;
 use error_lines::Fault;
 use geotransform::Sample;
 use lane_teams::lines_for;
-use outside::{Folder, Sink, Steps};
+use outside::{Counter, Folder, Sink};
 use shared_lines::{Lines, Scene};
 use std::marker::Brand;
 use std::sync::ledger::{Blank, Ledger};
@@ -56,7 +57,7 @@ fn copier_for<'a, F: Folder, L: Ledger, W: Ledger, S: Scene>(
     ensures memory { IfErr result (λ f. f ≡ Fault.Memory) }
 {
     let reader = StripReader::new(translation, writing.workers, writing.blocks, loads)?;
-    let writes = Steps::open(writes);
+    let writes = Counter::open(writes);
     let rows = strip_height(translation, writing.workers, writing.blocks);
     let ahead = writing.workers.get() > 1;
     let quiet = writing.quiet;
@@ -137,7 +138,7 @@ fn publish<F: Folder, W: Ledger>(
     translation: &Translation,
     folder: &mut F,
     target: Target<F>,
-    writes: &mut Steps<W>,
+    writes: &mut Counter<W>,
 ) -> Result<(), Fault>
     requires filled { IsFilled (F.names folder.old) translation.now.cat translation.now.id translation.now.plan target translation.now.plan.size.h translation.now.plan.size.h 0 }
     ensures goes { (m : Files) (d : Dataset) → F.names folder.old ≡ Some m → slice_get translation.now.cat translation.now.id ≡ Some d → (text : Option (List ℕ)) → Goes (all_done (publishes (files_by (output_of translation.now.plan) target.name (raster_of m d translation.now.plan)))) m result (F.names folder.new) text text }

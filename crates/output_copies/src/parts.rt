@@ -1,13 +1,13 @@
 // Parts of an output: lines of a band, which are read and then written.
-ghost use Rattle.std.specs.Prelude.{◌≡◌, ◌<◌, ◌≤◌, ◌+◌, ◌-◌, ◌*◌, length, OnOk};
+ghost use Rattle.std.specs.Prelude.{◌≡◌, ◌+◌, ◌-◌, ◌*◌, length, OnOk};
 ghost use Rattle.lane_teams.specs.Ready.{AreLanesReady};
 ghost use Rattle.strip_copies.specs.Copies.{IsRoomFor, IsTranslation};
 ghost use Rattle.output_copies.specs.Copying.{IsFilled, MayEnd};
-ghost use Rattle.output_copies.specs.Parts.{AreRead};
+ghost use Rattle.output_copies.specs.Parts.{ArePart, AreRead};
 
 use error_lines::Fault;
 use geotransform::{Rect, Sample};
-use outside::{Folder, Steps};
+use outside::{Counter, Folder};
 use shared_lines::Scene;
 use std::sync::ledger::Ledger;
 use std::thread::Threads;
@@ -34,9 +34,7 @@ pub fn read_part<R: Threads + Sync, F: Folder, L: Ledger, S: Scene>(
     requires translation { IsTranslation translation.now.cat translation.now.id translation.now.plan }
     requires ready { AreLanesReady F.Folder S.told S.cat folder.old translation.now.cat reader.old.team.lanes.items }
     requires room { IsRoomFor translation.now.cat translation.now.id translation.now.plan reader.old.columns reader.old.samples.items }
-    requires band { lines.band < length translation.now.plan.bands }
-    requires order { lines.first < lines.end }
-    requires end { lines.end ≤ translation.now.plan.size.h }
+    requires lines { ArePart translation.now.plan lines }
     requires long { length samples.old ≡ translation.now.plan.size.w * (lines.end - lines.first) }
     ensures read { OnOk result (AreRead (F.names folder.old) translation.now.cat translation.now.id translation.now.plan lines samples.new) }
     ensures ready { AreLanesReady F.Folder S.told S.cat folder.new translation.now.cat reader.new.team.lanes.items }
@@ -55,11 +53,9 @@ pub fn write_part<F: Folder, W: Ledger>(
     target: &mut Target<F>,
     lines: Lines,
     samples: &[Sample],
-    writes: &mut Steps<W>,
+    writes: &mut Counter<W>,
 ) -> Result<(), Fault>
-    requires band { lines.band < length translation.now.plan.bands }
-    requires order { lines.first < lines.end }
-    requires end { lines.end ≤ translation.now.plan.size.h }
+    requires lines { ArePart translation.now.plan lines }
     requires filled { IsFilled (F.names folder.old) translation.now.cat translation.now.id translation.now.plan target.old lines.first lines.end lines.band }
     requires read { AreRead (F.names folder.old) translation.now.cat translation.now.id translation.now.plan lines samples.now }
     ensures filled { OnOk result (IsFilled (F.names folder.new) translation.now.cat translation.now.id translation.now.plan target.new lines.first lines.end (lines.band + 1)) }

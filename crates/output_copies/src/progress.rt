@@ -1,12 +1,12 @@
 // What is told while the lines of an output are written.
-ghost use Rattle.std.specs.Prelude.{◌≡◌, ◌<◌, ◌≤◌, ℕ, List, Option, IfOk, OnErr, OnOk, length, take, true};
+ghost use Rattle.std.specs.Prelude.{◌≡◌, ◌<◌, ◌≤◌, ℕ, List, Option, IfOk, OnErr, OnOk, take, true};
 ghost use Rattle.outside.specs.Outside.{Files};
 ghost use Rattle.outside.specs.Streams.{Gets, GetsPart};
+ghost use Rattle.error_lines.specs.Progress.{progress};
 ghost use Rattle.output_copies.specs.Copying.{spoken, MayEnd, Tells};
-ghost use Rattle.output_copies.specs.Steps.{progress};
 
 use crate::texts::put_text;
-use error_lines::Fault;
+use error_lines::{Fault, progress_text};
 use outside::Sink;
 
 /// How many lines of an output are written, of so many.
@@ -16,15 +16,7 @@ pub struct Share {
     pub height: u32,
 }
 
-// All that is told.
-fn progress_text() -> &'static [u8]
-    ensures text { result.now ≡ progress }
-    ensures length { length result.now ≡ 49 }
-{
-    b"0...10...20...30...40...50...60...70...80...90..."
-}
-
-// The bytes of it that are told by now: the first piece, and one more for each tenth of the lines.
+// The bytes of the text that are told by now: the first piece, and one more for each tenth of the lines.
 fn reached(share: Share) -> usize
     requires some { 0 < share.height }
     requires within { share.done ≤ share.height }
@@ -35,7 +27,7 @@ fn reached(share: Share) -> usize
     (4 + 5 * tenths as usize).min(49)
 }
 
-/// Tells how far the lines are written, where so many bytes of it were told before, and gives how many are told now.
+/// Tells how far the lines are written, where so many bytes of that text were told before, and gives how many are now.
 pub fn tell<O: Sink>(out: &mut O, quiet: bool, told: usize, share: Share) -> Result<usize, Fault>
     requires told { told ≤ 49 }
     requires some { 0 < share.height }

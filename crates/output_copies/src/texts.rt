@@ -5,10 +5,11 @@ ghost use Rattle.outside.specs.Outside.{Files};
 ghost use Rattle.outside.specs.Streams.{Gets, GetsPart};
 ghost use Rattle.catalog.specs.Drivers.{Dataset};
 ghost use Rattle.strip_copies.specs.Copies.{IsTranslation};
+ghost use Rattle.error_lines.specs.Progress.{progress_end};
 ghost use Rattle.output_copies.specs.Copying.{spoken, MayEnd};
-ghost use Rattle.output_copies.specs.Steps.{size_line, progress_end};
+ghost use Rattle.output_copies.specs.Steps.{size_line};
 
-use error_lines::Fault;
+use error_lines::{Fault, progress_end_text};
 use geotransform::Size;
 use itoa::Buffer;
 use outside::{Failed, Sink, put_all};
@@ -76,5 +77,5 @@ pub fn put_end<O: Sink>(out: &mut O, quiet: bool) -> Result<(), Fault>
     ensures quiet { quiet ≡ true → out.new ≡ out.old }
     ensures ends { (told : Option Files) (faults : ℕ) → MayEnd told faults faults (O.faults out.old) (O.faults out.new) result }
 {
-    put_text(out, quiet, &[b"100 - done.\n"])
+    put_text(out, quiet, &[progress_end_text()])
 }

@@ -27,7 +27,7 @@ pub struct DiskDraft {
 
 /// The files of the system. What is no regular file is a failed call.
 ///
-/// A draft is a file `.jirovamby.PROCESS.NUMBER.tmp` in its target's folder, made only where there was none, so that
+/// A draft is a file `.jirovamby.PROCESS.NUMBER.tmp` in the folder of its name, made only where there was none, so that
 /// two runs never share one. It is renamed by `publish`, and removed by `discard` and by a refused `publish`.
 #[derive(Drop)]
 pub struct DiskFolder<R> {
@@ -120,13 +120,13 @@ impl<R: Files<File = File> + Clone + Drop + Send> Folder for DiskFolder<R> {
     }
 
     fn create(&mut self, name: &Name) -> Result<DiskDraft, WriteFault> {
-        let target = name.as_str();
+        let path = name.as_str();
         let kept = name.try_clone()?;
-        if !may_replace(&self.rt, target) {
+        if !may_replace(&self.rt, path) {
             self.add_fault();
             return Err(WriteFault::Failed);
         }
-        match make_temporary(&self.rt, self.alloc, target, self.process, self.drafts)? {
+        match make_temporary(&self.rt, self.alloc, path, self.process, self.drafts)? {
             Some(made) => {
                 self.drafts = made.number;
                 Ok(DiskDraft {

@@ -2,6 +2,7 @@
 #![tactic(auto)]
 
 mod calm_sink;
+mod counter;
 mod disk;
 mod folder;
 mod history;
@@ -13,13 +14,13 @@ mod name;
 mod path;
 mod schedule;
 mod standard;
-mod steps;
 mod streams;
 mod system;
 mod tally;
 mod text;
 
 pub use calm_sink::CalmSink;
+pub use counter::Counter;
 pub use disk::{DiskDraft, DiskFile, DiskFolder};
 pub use folder::{Failed, Folder, OpenFault, WriteFault};
 pub use memory::{CalmFolder, MemDraft, MemFile, MemFolder, MemoryFolder};
@@ -27,7 +28,6 @@ pub use memory_streams::{CalmInput, MemInput, MemSink, MemoryInput};
 pub use name::{Ext, LONGEST_NAME, Name, NameFault, Names};
 pub use schedule::{Failing, Listed, Made, Method, Never, Schedule};
 pub use standard::{StdInput, StdSink};
-pub use steps::Steps;
 pub use streams::{Input, Sink, put_all};
 pub use system::{fill_at, put_at};
 pub use tally::Tally;

@@ -82,32 +82,32 @@ pub(crate) struct Temporary {
     pub(crate) number: u64,
 }
 
-// A name in the target's folder, with the process's number in it.
+// A name in the folder of another, with the process's number in it.
 fn temporary_path(
     alloc: Global,
-    target: &str,
+    name: &str,
     process: u32,
     number: u64,
 ) -> Result<String, AllocError> {
-    match target.rsplit_once('/') {
+    match name.rsplit_once('/') {
         Some((folder, _)) => format!(in alloc; "{folder}/.jirovamby.{process}.{number}.tmp"),
         None => format!(in alloc; ".jirovamby.{process}.{number}.tmp"),
     }
 }
 
-/// Makes a file in the target's folder that wasn't there before, for reading and writing. Its number is the first one
+/// Makes a file that wasn't there before in the folder of a name, for reading and writing. Its number is the first one
 /// behind `last` that is free. None where the system refuses.
 pub(crate) fn make_temporary<R: Files<File = File>>(
     rt: &R,
     alloc: Global,
-    target: &str,
+    name: &str,
     process: u32,
     last: u64,
 ) -> Result<Option<Temporary>, AllocError> {
     let mut number = last;
     for _ in 0..u64::MAX {
         number = number.wrapping_add(1);
-        let path = temporary_path(alloc, target, process, number)?;
+        let path = temporary_path(alloc, name, process, number)?;
         match File::create_new(rt, path.as_str()) {
             Ok(file) => return Ok(Some(Temporary { file, path, number })),
             Err(e) if e.kind() == ErrorKind::AlreadyExists => {}

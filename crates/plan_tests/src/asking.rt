@@ -7,10 +7,10 @@ use catalog::{Head, NodataWord, head_of};
 use esri_hdr::Layout;
 use geotransform::{PixelType, Ticks, read_decimal};
 use lists_and_answers::Items;
-use outside::{Ext, Listed, MemFolder, Name};
+use outside::{Listed, MemFolder, Name};
 use std::alloc::{AllocError, Global};
 use std::test::*;
-use translate_plan::{Driver, Numbers, OutSize, TranslateOptions, View};
+use translate_plan::{Driver, Numbers, OutSize, TranslateOptions, View, driver_for};
 
 /// Files by their names, the first of which is that of a dataset.
 pub type Files<'a> = &'a [(&'a str, &'a str)];
@@ -107,12 +107,8 @@ fn driver_of(name: &Name) -> Driver
     ensures { IsDriver result }
 {
     match name.extension() {
-        Some(Ext::Bil) => Driver::EHdr,
-        Some(Ext::Dt0) => Driver::Dted { level: 0 },
-        Some(Ext::Dt1) => Driver::Dted { level: 1 },
-        Some(Ext::Hgt) => Driver::SrtmHgt,
-        Some(Ext::Asc) => Driver::AaiGrid,
-        _ => Driver::Vrt,
+        Some(ext) => driver_for(ext),
+        None => Driver::Vrt,
     }
 }
 

@@ -6,7 +6,7 @@ ghost use Rattle.band_blocks.specs.Open.{AreGood};
 use crate::fixtures::{
     Case, File, add, all_hold, calm_folder, cell, cut, is_count, is_word, name_of, none_wrong, put,
 };
-use band_blocks::{Block, BlockKey, LoadFault, OpenFiles, Steps, block_at, load_block};
+use band_blocks::{Block, BlockKey, Counter, LoadFault, OpenFiles, block_at, load_block};
 use catalog::{Catalog, open_all};
 use geotransform::{Sample, read_whole};
 use outside::{CalmFolder, Folder, Name, Never, Tally};
@@ -105,7 +105,7 @@ fn load_counted<F: Folder, L: Ledger>(
     requires some { 0 < blank.parts }
     ensures good { AreGood F.file_bytes F.file_len (F.names folder.new) cat.now files.new }
 {
-    let mut loads: Steps<L> = Steps::open(blank);
+    let mut loads: Counter<L> = Counter::open(blank);
     match load_block(alloc, cat, folder, files, key, &mut loads) {
         Ok(block) => Loaded::Block(block),
         Err(fault) => Loaded::Fault(fault),

@@ -5,7 +5,7 @@ ghost use Rattle.catalog.specs.Walk.{IsWalked};
 ghost use Rattle.nearest_window.specs.Right.{IsReady};
 
 use crate::fixtures::{add, name_of, put};
-use band_blocks::{LoadFault, Steps};
+use band_blocks::{Counter, LoadFault};
 use catalog::{Catalog, open_all};
 use geotransform::{Rect, Sample, Size};
 use nearest_window::{Lane, Window};
@@ -44,7 +44,7 @@ pub const REFUSED: Sample = 2_000_000_000_000_000_000_000;
 struct Reader<F: Folder, L: Ledger> {
     alloc: Global,
     lane: Lane<F>,
-    loads: Steps<L>,
+    loads: Counter<L>,
 }
 
 // How many pixels a rectangle has.
@@ -182,7 +182,7 @@ fn read_through<F: Folder, L: Ledger>(
     requires some { 0 < blank.parts }
 {
     let lane = Lane::new(alloc, job.capacity.clamp(1, 65_536))?;
-    let loads: Steps<L> = Steps::open(blank);
+    let loads: Counter<L> = Counter::open(blank);
     let mut reader = Reader { alloc, lane, loads };
     read_each(&mut reader, cat, folder, dataset, job.windows, out);
     Ok(())

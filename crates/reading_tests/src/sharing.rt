@@ -4,7 +4,7 @@ ghost use Rattle.outside.specs.Outside.{Files};
 ghost use Rattle.catalog.specs.Walk.{IsWalked};
 
 use crate::fixtures::{File, folder_of, name_of};
-use band_blocks::Steps;
+use band_blocks::Counter;
 use catalog::{Catalog, open_all};
 use geotransform::{Rect, Sample, Size};
 use nearest_window::{Lane, Supply, Window};
@@ -45,7 +45,7 @@ fn gives<F: Folder, L: Ledger, S: Scene>(
     };
     let mut out = vec![in alloc; 0i128; (w * h) as usize]?;
     let mut lane = Lane::new(alloc, 64)?;
-    let mut loads: Steps<L> = Steps::open(blank);
+    let mut loads: Counter<L> = Counter::open(blank);
     let samples = out.as_mut_slice();
     let supply = Supply {
         alloc,

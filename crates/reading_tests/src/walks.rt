@@ -109,7 +109,7 @@ fn walks_of_mosaics(rt: HostRuntime) {
 }
 
 // The number of the dataset that a source of a mosaic names, where there is such a source.
-fn target(cat: &Catalog, id: u32, band: u32, source: u32) -> Option<u32> {
+fn member(cat: &Catalog, id: u32, band: u32, source: u32) -> Option<u32> {
     if id >= cat.count() {
         return None;
     }
@@ -122,7 +122,7 @@ fn target(cat: &Catalog, id: u32, band: u32, source: u32) -> Option<u32> {
         return None;
     }
     let _source = sources.get(source as usize);
-    Some(cat.target(id, band, source))
+    Some(cat.member(id, band, source))
 }
 
 // The height of a dataset, where there is one of this number.
@@ -214,8 +214,8 @@ const TWICE: &str = "m0.vrt m1.vrt#1 m1.vrt#1\n\
 fn is_linked(cat: &Catalog) -> bool {
     height(cat, 0) == Some(16)
         && height(cat, 16) == Some(0)
-        && target(cat, 0, 0, 1) == Some(1)
-        && target(cat, 15, 0, 0) == Some(16)
+        && member(cat, 0, 0, 1) == Some(1)
+        && member(cat, 15, 0, 0) == Some(16)
 }
 
 // How many files a walk opens that goes to its end and links the mosaics.

@@ -8,6 +8,7 @@ use Rattle.catalog.specs.declared.kind.Kind.{Kind}
 use Rattle.catalog.specs.declared.kind.Kind.TheVariants as kinds
 use Rattle.translate_plan.specs.declared.options.Driver.{Driver}
 use Rattle.translate_plan.specs.declared.options.Driver.TheVariants.{EHdr, Dted, SrtmHgt, AaiGrid, Vrt}
+use Rattle.translate_plan.specs.Window.{most_side}
 use Rattle.translate_plan.specs.Plan.{Planned}
 use Rattle.strip_copies.specs.declared.height.BlockShape.{BlockShape}
 use Rattle.strip_copies.specs.declared.height.BlockShape.TheVariants.{Columns, Squares}
@@ -46,7 +47,7 @@ is_tall cat Vrt = has_blocks Columns cat
 -- the most lines of a strip that so many workers read: for each of them those of a square where the source is a mosaic, and
 -- 32 where it is a file of lines
 abbrev pub most_lines : ℕ → List Dataset → Driver → ℕ
-most_lines workers cat driver = if is_tall cat driver then 4194304 else (if has_blocks Squares cat then 128 * workers else 32 * workers)
+most_lines workers cat driver = if is_tall cat driver then most_side else (if has_blocks Squares cat then 128 * workers else 32 * workers)
 
 -- the lines of a strip of so many columns, from 1 to 4,194,304: at most 4,194,304 samples
 abbrev pub strip_height : ℕ → ℕ → ℕ
@@ -61,7 +62,7 @@ is_woven Bsq bands = false
 -- the most lines of which none leaves a pool of so many blocks before all of its bands are written; cells are read in strips as
 -- tall as they can be all the same
 abbrev pub lines_held : ℕ → List Dataset → Planned → ℕ
-lines_held blocks cat p = if is_woven p.layout (length p.bands) && not (is_tall cat p.driver) then blocks else 4194304
+lines_held blocks cat p = if is_woven p.layout (length p.bands) && not (is_tall cat p.driver) then blocks else most_side
 
 -- the lines of an output that so many workers copy at a time, where so many blocks are held of what is written
 abbrev pub lines_copied : ℕ → ℕ → List Dataset → Planned → ℕ

@@ -58,7 +58,14 @@ fn room_height(most: u32, columns: u32, lines: u32) -> u32
     height_of(most, columns).min(lines)
 }
 
-// How many lines of the source there is room for: one where all of them are read straight into their place.
+// Whether a line that isn't shown lies between any two that are, in a source whose lines are read one by one then.
+fn is_sparse(translation: &Translation) -> bool {
+    let plan = &translation.plan;
+    lines_apart(translation) == 0 && plan.window.h / 2 >= plan.size.h
+}
+
+// How many lines of the source there is room for: one where all of them are read straight into their place, or one by
+// one.
 fn room_lines(translation: &Translation, columns: &Columns, workers: WorkerCount) -> u32
     requires translation { IsTranslation translation.now.cat translation.now.id translation.now.plan }
     requires columns { columns.now.count ≤ 4194304 }
@@ -66,7 +73,7 @@ fn room_lines(translation: &Translation, columns: &Columns, workers: WorkerCount
     ensures bound { columns.now.count * result ≤ 4194304 }
 {
     let size = source_size(translation);
-    if is_all_direct(&translation.plan, columns, size.h) {
+    if is_all_direct(&translation.plan, columns, size.h) || is_sparse(translation) {
         return 1;
     }
     room_height(most_lines(translation, workers), columns.count, size.h)

@@ -22,7 +22,7 @@ use Rattle.catalog.specs.declared.kind.Kind.TheVariants.{Raw}
 use Rattle.buildvrt.specs.Tiles.{TileValue}
 use Rattle.buildvrt.specs.Judging.{judged_of, judged_alone, judged_beside}
 use Rattle.buildvrt.specs.Grids.{GridValue, IsGrid, less_of, greater_of, union_of, some_pixels, side_within, side_of, rounded_transform, grid_by, grid_of}
-use Rattle.buildvrt.specs.Rectangles.{PatchValue, target_of, shown_at, patch_of, patches_of}
+use Rattle.buildvrt.specs.Rectangles.{PatchValue, rectangle_of, shown_at, patch_of, patches_of}
 use Rattle.buildvrt.specs.Bands.{all_bands, bands_within}
 use Rattle.buildvrt.specs.Mosaic.{document_on, document_by, mosaic_of, mosaic_by}
 use Rattle.buildvrt.specs.declared.options.Extent.{Extent}
@@ -276,8 +276,8 @@ grid_rules n side =
     }
 
 -- each tile lies on whole pixels of it
-target_is : (n m t a b : ℕ) → IsSide n → 1 ≤ m → m ≤ 8192 → target_of (grid n) (tile m t a b) ≡ record { x = pos a; y = pos b; w = pos m; h = pos m }
-target_is n m t a b side some few =
+rectangle_is : (n m t a b : ℕ) → IsSide n → 1 ≤ m → m ≤ 8192 → rectangle_of (grid n) (tile m t a b) ≡ record { x = pos a; y = pos b; w = pos m; h = pos m }
+rectangle_is n m t a b side some few =
     aligned (grid n) (tile m t a b) (pos a) (pos b) (grid_rules n side) (square_raster m some few) refl refl (omega (arith, ints)) (omega (arith, ints))
 
 within_is : (n : ℕ) → n ≤ 4096 → side_within (pos (2 * n)) ≡ Some (2 * n)
@@ -287,7 +287,7 @@ side_is : (n : ℕ) (way : ℤ) → IsSide n → way ≡ pos (2 * n) *ℤ pos un
 side_is n way side e =
     let some = side.some in
     let few = side.few in
-    let pixels : some_pixels (pos (2 * n) *ℤ pos unit) (pos unit) ≡ pos (2 * n) = ap (λ (r : PixelRect). r.w) (target_is n (2 * n) 0 0 0 side (omega arith) (omega arith)) in
+    let pixels : some_pixels (pos (2 * n) *ℤ pos unit) (pos unit) ≡ pos (2 * n) = ap (λ (r : PixelRect). r.w) (rectangle_is n (2 * n) 0 0 0 side (omega arith) (omega arith)) in
     ap (λ (w : ℤ). side_of w (pos unit)) e ∙ ap side_within pixels ∙ within_is n few
 
 gridded : (e : Extent) (w h : ℕ) (geo : Transform) → side_of (e.xmax -ℤ e.xmin) (pos unit) ≡ Some w → side_of (e.ymax -ℤ e.ymin) (pos unit) ≡ Some h → rounded_transform e.xmin e.ymax (pos unit) (pos unit) ≡ Some geo → grid_by e (pos unit, pos unit) ≡ Some (record { left = e.xmin; top = e.ymax; dx = pos unit; dy = pos unit; size = record { w = w; h = h }; geo = geo })
@@ -322,7 +322,7 @@ patch_is : (n t a b : ℕ) → IsSide n → a ≤ n → b ≤ n → patch_of (gr
 unfolding patch_of
 patch_is n t a b side p q =
     let few = side.few in
-    ap (λ (r : PixelRect). shown_at (square (2 * n)) r >>= λ shown. Ok (record { head = head n t a b; shown = shown })) (target_is n n t a b side side.some (omega arith))
+    ap (λ (r : PixelRect). shown_at (square (2 * n)) r >>= λ shown. Ok (record { head = head n t a b; shown = shown })) (rectangle_is n n t a b side side.some (omega arith))
     ∙ ap (λ (r : Result _ BuildFault). r >>= λ shown. Ok (record { head = head n t a b; shown = shown })) (shown_here n a b side p q)
 
 with_one : (g : GridValue) (t : TileValue) (ts : List TileValue) (p : PatchValue) (ps : List PatchValue) → patch_of g t ≡ Ok p → patches_of g ts ≡ Ok ps → patches_of g (t ∷ ts) ≡ Ok (p ∷ ps)

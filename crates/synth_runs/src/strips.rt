@@ -11,7 +11,7 @@ ghost use Rattle.output_copies.specs.Copying.{MayEnd};
 ghost use Rattle.synthetic_rasters.specs.Tally.{tally_of};
 ghost use Rattle.synth_runs.specs.Tallied.{lines_of, AreTallied, IsCopied};
 
-use band_blocks::Steps;
+use band_blocks::Counter;
 use catalog::Catalog;
 use command_words::BlockCount;
 use error_lines::Fault;
@@ -26,7 +26,7 @@ use synthetic_rasters::Tally;
 #[derive(Drop)]
 struct PixelReader<F: Folder, L: Ledger> {
     lane: Lane<F>,
-    loads: Steps<L>,
+    loads: Counter<L>,
 }
 
 /// A dataset of a catalog, by its number, and its size.
@@ -186,7 +186,7 @@ fn pixels_for<F: Folder, L: Ledger>(
     requires some { 0 < blank.parts }
     ensures fresh { IfOk result (λ pixels. IsFresh F.Folder pixels.lane) }
 {
-    let loads = Steps::open(blank);
+    let loads = Counter::open(blank);
     let lane = Lane::new(alloc, blocks.get())?;
     Ok(PixelReader { lane, loads })
 }

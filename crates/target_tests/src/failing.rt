@@ -317,7 +317,7 @@ fn stage_at(alloc: Global, trial: &Trial<'_>, failing: Failing) -> Result<Option
 }
 
 // Where a stage stands among those that are reached, behind the last one or there once more.
-fn place_of(stages: &[u8], reached: usize, stage: Option<u8>) -> Option<usize> {
+fn next_reached(stages: &[u8], reached: usize, stage: Option<u8>) -> Option<usize> {
     let next = reached.saturating_add(1);
     if stage.is_none() {
         None
@@ -335,7 +335,7 @@ fn comes_by(alloc: Global, trial: &Trial<'_>, stages: &[u8]) -> Result<bool, Fai
     let mut reached = 0;
     for call in 1..1000u64 {
         let stage = stage_at(alloc, trial, Failing::Call(call))?;
-        match place_of(stages, reached, stage) {
+        match next_reached(stages, reached, stage) {
             None => return Ok(false),
             Some(place) => reached = place,
         }

@@ -9,7 +9,7 @@ use catalog::{Head, NodataWord, head_of};
 use esri_hdr::Layout;
 use geotransform::{PixelType, Rect, Sample};
 use lists_and_answers::Items;
-use outside::{Ext, Failing, Folder, Listed, MemFolder, Name, Steps};
+use outside::{Counter, Ext, Failing, Folder, Listed, MemFolder, Name};
 use std::alloc::{AllocError, Global};
 use std::marker::Brand;
 use std::process::Abort;
@@ -258,7 +258,7 @@ fn put<F: Folder, L: Ledger>(
     folder: &mut F,
     window: &Window,
     samples: &[Sample],
-    writes: &mut Steps<L>,
+    writes: &mut Counter<L>,
 ) -> Result<bool, TargetFault>
     requires target { IsTarget (F.names folder.old) target.old }
     ensures target { IsTarget (F.names folder.new) target.new }
@@ -293,7 +293,7 @@ fn stays<F: Folder, L: Ledger>(
     window: &Window,
     samples: &[Sample],
     cause: TargetFault,
-    writes: &mut Steps<L>,
+    writes: &mut Counter<L>,
 ) -> bool
     requires target { IsTarget (F.names folder.old) target }
 {
@@ -316,7 +316,7 @@ pub fn carried<F: Folder, L: Ledger>(
     requires parts { blank.parts ≡ L.parts }
     requires some { 0 < blank.parts }
 {
-    let mut writes: Steps<L> = Steps::open(blank);
+    let mut writes: Counter<L> = Counter::open(blank);
     let samples = story.samples;
     for window in story.windows {
         match put(alloc, &mut target, folder, window, samples, &mut writes) {
@@ -383,7 +383,7 @@ fn given_up<F: Folder, L: Ledger>(
     requires parts { blank.parts ≡ L.parts }
     requires some { 0 < blank.parts }
 {
-    let mut writes: Steps<L> = Steps::open(blank);
+    let mut writes: Counter<L> = Counter::open(blank);
     let samples = story.samples;
     let mut all = true;
     for window in story.windows {

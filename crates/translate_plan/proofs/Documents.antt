@@ -18,12 +18,12 @@ use Rattle.catalog.specs.Drivers.{Dataset, document_of}
 use Rattle.catalog.specs.Heads.{dataset_in}
 use Rattle.catalog.specs.Mosaics.{name_of_text, source_name}
 use Rattle.catalog.specs.Walk.{IsCatalog, IsWalked, number_of}
-use Rattle.catalog.specs.Links.{source_at, target_of}
-use Rattle.catalog.specs.Pixels.{pixel_of, pixel_of_name, AreOfTargets}
+use Rattle.catalog.specs.Links.{source_at, member_of}
+use Rattle.catalog.specs.Pixels.{pixel_of, pixel_of_name, AreOfMembers}
 use Rattle.catalog.proofs.Found.{name_at}
 use Rattle.catalog.proofs.Walked.{dataset_walked}
 use Rattle.catalog.proofs.Pixels.{at_number}
-use Rattle.catalog.proofs.PixelLaws.{number_is_name, mosaic_is_of_targets}
+use Rattle.catalog.proofs.PixelLaws.{number_is_name, mosaic_is_of_members}
 use Rattle.translate_plan.specs.declared.options.Driver.{Driver}
 use Rattle.translate_plan.specs.declared.options.Driver.TheVariants.{Vrt}
 use Rattle.translate_plan.specs.declared.band.OutBand.{OutBand}
@@ -33,11 +33,11 @@ use Rattle.translate_plan.proofs.Published.{Reads, one_told, published_is}
 use Rattle.translate_plan.proofs.Covers.{axis_is, is_in_side}
 
 -- a column and a line
-abbrev place_of : ℕ → ℕ → Option (ℕ × ℕ)
-place_of column line = Some (column, line)
+abbrev both_of : ℕ → ℕ → Option (ℕ × ℕ)
+both_of column line = Some (column, line)
 
 -- that both are there
-both_axes : (a b : Bool) (c r : ℕ) → ((cond a (Some c) None) >>= λ column. (cond b (Some r) None >>= λ line. place_of column line)) ≡ cond (a && b) (place_of c r) None
+both_axes : (a b : Bool) (c r : ℕ) → ((cond a (Some c) None) >>= λ column. (cond b (Some r) None >>= λ line. both_of column line)) ≡ cond (a && b) (both_of c r) None
 both_axes true true c r = refl
 both_axes true false c r = refl
 both_axes false b c r = refl
@@ -53,7 +53,7 @@ cover_is p base name b size i j across down =
 
 -- a source that changes no pixel gives it, or nothing where there is none
 given_by : (p : Planned) (base name : List ℕ) (b : OutBand) (inside : Bool) (c r : ℕ) (pixels : ℕ → ℕ → ℤ)
-    → unwrap_or (option_map (clamp b.kind) (option_or None (cond inside (place_of c r) None >>= λ place. value_of (shown_source p base name b) (pixels place.0 place.1)))) (unwrap_or b.nodata (pos 0)) ≡ cond inside (clamp b.kind (pixels c r)) (unwrap_or b.nodata (pos 0))
+    → unwrap_or (option_map (clamp b.kind) (option_or None (cond inside (both_of c r) None >>= λ place. value_of (shown_source p base name b) (pixels place.0 place.1)))) (unwrap_or b.nodata (pos 0)) ≡ cond inside (clamp b.kind (pixels c r)) (unwrap_or b.nodata (pos 0))
 unfolding value_of
 given_by p base name b true c r pixels = refl
 given_by p base name b false c r pixels = refl
@@ -88,19 +88,19 @@ source_is d p h k n b document at =
     ∙ ap (λ (o : Option BandValue). o >>= λ v. slice_get v.sources n) (slice_get-map (shown_band p d.head.name h.name) p.bands k ∙ ap (option_map (shown_band p d.head.name h.name)) at)
 
 -- The dataset that this source names is that of the plan.
-target_named : (resolves : Resolves) (cat : List Dataset) (d : Dataset) (p : Planned) (h : DatasetHead) (t : ℕ) (b : OutBand) (s : SourceValue) → IsName h.name → s ≡ shown_source p d.head.name h.name b → target_of cat d.head.name s ≡ Some t → number_of cat h.name ≡ Some t
-target_named resolves cat d p h t b s name same is = sym (ap (target_of cat d.head.name) same ∙ ap (option_and_then (number_of cat)) (named resolves p d.head.name h.name b name)) ∙ is
+member_named : (resolves : Resolves) (cat : List Dataset) (d : Dataset) (p : Planned) (h : DatasetHead) (t : ℕ) (b : OutBand) (s : SourceValue) → IsName h.name → s ≡ shown_source p d.head.name h.name b → member_of cat d.head.name s ≡ Some t → number_of cat h.name ≡ Some t
+member_named resolves cat d p h t b s name same is = sym (ap (member_of cat d.head.name) same ∙ ap (option_and_then (number_of cat)) (named resolves p d.head.name h.name b name)) ∙ is
 
 head_is : (m : Files) (cat : List Dataset) (h : DatasetHead) (t : ℕ) (e source : Dataset) → IsWalked m cat → slice_get cat t ≡ Some e → e.head.name ≡ h.name → dataset_in m false h.name ≡ Ok source → source.head ≡ h → e.head ≡ h
 head_is m cat h t e source walked there name told is =
     let same : e ≡ source = one_told e source (dataset_in m false h.name) (ap (dataset_in m false) (sym name) ∙ dataset_walked m cat t e walked there) told in
     ap (λ (x : Dataset). x.head) same ∙ is
 
-of_target : (resolves : Resolves) (m : Files) (cat : List Dataset) (d : Dataset) (p : Planned) (h : DatasetHead) (k : ℕ) (b : OutBand) → IsCatalog cat → IsWalked m cat → document_of d.content ≡ Some (document_by p d.head.name h) → IsPublished m d.head.name p h → slice_get p.bands k ≡ Some b
-    → AreOfTargets m cat d k (λ s. h.size) (λ s x y. pixel_of_name m h.name b.source x y)
-of_target resolves m cat d p h k b is walked document shows at n t s e stands target there =
+of_member : (resolves : Resolves) (m : Files) (cat : List Dataset) (d : Dataset) (p : Planned) (h : DatasetHead) (k : ℕ) (b : OutBand) → IsCatalog cat → IsWalked m cat → document_of d.content ≡ Some (document_by p d.head.name h) → IsPublished m d.head.name p h → slice_get p.bands k ≡ Some b
+    → AreOfMembers m cat d k (λ s. h.size) (λ s x y. pixel_of_name m h.name b.source x y)
+of_member resolves m cat d p h k b is walked document shows at n t s e stands member there =
     let same : s ≡ shown_source p d.head.name h.name b = lone (shown_source p d.head.name h.name b) s n (sym (source_is d p h k n b document at) ∙ stands) in
-    let found : number_of cat h.name ≡ Some t = target_named resolves cat d p h t b s shows.name same target in
+    let found : number_of cat h.name ≡ Some t = member_named resolves cat d p h t b s shows.name same member in
     let name : e.head.name ≡ h.name = name_at cat h.name t e found there in
     let head : e.head ≡ h = head_is m cat h t e shows.source walked there name shows.told shows.head in
     let number : s.band ≡ b.source + 1 = ap (λ (x : SourceValue). x.band) same in
@@ -125,6 +125,6 @@ shows_output resolves reads m cat id k i j d p h is walked there shows few acros
     let document : document_of d.content ≡ Some (document_by p d.head.name h) = published_is reads m cat id d p h walked there shows in
     let has : slice_get (document_by p d.head.name h).bands k ≡ Some (shown_band p d.head.name h.name b.0) = slice_get-map (shown_band p d.head.name h.name) p.bands k ∙ ap (option_map (shown_band p d.head.name h.name)) b.1 in
     sym (number_is_name m cat id k i j d is walked there)
-    ∙ (mosaic_is_of_targets m cat id k i j d (document_by p d.head.name h) (shown_band p d.head.name h.name b.0) (λ s. h.size) (λ s x y. pixel_of_name m h.name b.0.source x y) is there document has (of_target resolves m cat d p h k b.0 is walked document shows b.1)
+    ∙ (mosaic_is_of_members m cat id k i j d (document_by p d.head.name h) (shown_band p d.head.name h.name b.0) (λ s. h.size) (λ s x y. pixel_of_name m h.name b.0.source x y) is there document has (of_member resolves m cat d p h k b.0 is walked document shows b.1)
     ∙ (band_is p d.head.name h.name b.0 h.size (λ x y. pixel_of_name m h.name b.0.source x y) i j across down
     ∙ sym (out_is p h.size (pixel_of_name m h.name) k i j b.0 shows.driver b.1)))

@@ -2,6 +2,8 @@
 use Rattle.std.specs.Prelude.{◌<◌, ◌≤◌, ◌≤ℤ◌, ◌^◌, ◌-◌, ℕ, ℤ, pos, neg_ℤ, Bool, List, All, Option, IfSome, unsigned_abs}
 use Rattle.geotransform.specs.Decimal.{IsRead}
 use Rattle.geotransform.specs.declared.types.PixelType.{PixelType}
+use Rattle.outside.specs.declared.name.Ext.{Ext}
+use Rattle.outside.specs.declared.name.Ext.TheVariants as exts
 use Rattle.esri_hdr.specs.declared.header_parts.Layout.{Layout}
 use Rattle.catalog.specs.declared.nodata.NodataWord.{NodataWord}
 use Rattle.catalog.specs.declared.nodata.NodataWord.TheVariants as nodata
@@ -32,6 +34,19 @@ IsDriver (drivers.Dted level) = level ≤ 2
 IsDriver drivers.SrtmHgt = Unit {0}
 IsDriver drivers.AaiGrid = Unit {0}
 IsDriver drivers.Vrt = Unit {0}
+
+-- the driver that writes files of an extension
+abbrev pub driver_for : Ext → Driver
+driver_for exts.Bil = drivers.EHdr
+driver_for exts.Bip = drivers.EHdr
+driver_for exts.Bsq = drivers.EHdr
+driver_for exts.Dt0 = drivers.Dted 0
+driver_for exts.Dt1 = drivers.Dted 1
+driver_for exts.Dt2 = drivers.Dted 2
+driver_for exts.Hgt = drivers.SrtmHgt
+driver_for exts.Asc = drivers.AaiGrid
+driver_for exts.Grd = drivers.AaiGrid
+driver_for exts.Vrt = drivers.Vrt
 
 -- a number of up to nine digits
 abbrev pub IsWhole : ℤ → Type 0

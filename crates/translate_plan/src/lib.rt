@@ -14,7 +14,7 @@ mod window;
 
 pub use band::OutBand;
 pub use laws::{pixels_are_held, plans_are_kept, plans_can_be_written, windows_are_shown};
-pub use options::{Driver, Numbers, OutSize, TranslateOptions, View};
+pub use options::{Driver, Numbers, OutSize, TranslateOptions, View, driver_for};
 pub use planned::Plan;
 pub use planning::plan;
 pub use publishing::document;

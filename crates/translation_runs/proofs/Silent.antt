@@ -4,7 +4,8 @@ use Rattle.outside.specs.Outside.{Files}
 use Rattle.catalog.specs.Drivers.{Dataset}
 use Rattle.translate_plan.specs.Options.{Options}
 use Rattle.translate_plan.specs.Plan.{Planned}
-use Rattle.output_copies.specs.Steps.{translation_steps, unless_quiet, size_line, progress, progress_end, written}
+use Rattle.error_lines.specs.Progress.{progress, progress_end}
+use Rattle.output_copies.specs.Steps.{translation_steps, unless_quiet, size_line, written}
 use Rattle.error_lines.specs.declared.faults.Fault.{Fault}
 use Rattle.error_lines.specs.Steps.{publishes, warned}
 use Rattle.error_lines.proofs.Silent.{both_silent, publishes_silent}

@@ -3,14 +3,13 @@ use Rattle.std.proofs.Common.{◌≡◌, ◌∙◌, ap, refl, true, Option, Some
 use Rattle.outside.specs.Names.{extension_of, is_raw}
 use Rattle.outside.specs.declared.name.Ext.{Ext}
 use Rattle.outside.specs.declared.name.Ext.TheVariants as ext
-use Rattle.translate_plan.specs.Options.{Options}
+use Rattle.translate_plan.specs.Options.{Options, driver_for}
 use Rattle.translate_plan.specs.declared.options.Driver.{Driver}
 use Rattle.translate_plan.specs.declared.options.Driver.TheVariants as driver
-use Rattle.write_back.specs.Plans.{driver_of}
 use Rattle.translation_runs.specs.Published.{IsNamed}
 
 -- what raw data are written under is a name of raw data
-raw_ext : (e : Option Ext) → option_map driver_of e ≡ Some driver.EHdr → is_raw e ≡ true
+raw_ext : (e : Option Ext) → option_map driver_for e ≡ Some driver.EHdr → is_raw e ≡ true
 raw_ext None is = let no : ⊥ = cc in absurd no
 raw_ext (Some ext.Bil) is = refl
 raw_ext (Some ext.Bip) is = refl

@@ -1,10 +1,9 @@
 -- The names that a translation publishes, none of which it reads.
 use Rattle.std.specs.Prelude.{ℕ, ◌≡◌, List, [], ◌∷◌, Some, option_map}
 use Rattle.outside.specs.Names.{extension_of, header_of}
-use Rattle.translate_plan.specs.Options.{Options}
+use Rattle.translate_plan.specs.Options.{Options, driver_for}
 use Rattle.translate_plan.specs.declared.options.Driver.{Driver}
 use Rattle.translate_plan.specs.declared.options.Driver.TheVariants.{EHdr, Dted, SrtmHgt, AaiGrid, Vrt}
-use Rattle.write_back.specs.Plans.{driver_of}
 
 -- the header that a driver writes beside the data
 abbrev pub header_written : Driver → List ℕ → List (List ℕ)
@@ -20,4 +19,4 @@ names_written o = o.out ∷ header_written o.driver o.out
 
 -- the extension of the output's name is one of its driver
 abbrev pub IsNamed : Options → Type 0
-IsNamed o = option_map driver_of (extension_of o.out) ≡ Some o.driver
+IsNamed o = option_map driver_for (extension_of o.out) ≡ Some o.driver

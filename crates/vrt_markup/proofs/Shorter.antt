@@ -1,5 +1,5 @@
 -- Each item takes a byte at least; so all pairs in front are the first, and those behind it.
-use Rattle.std.proofs.Common.{◌≡◌, ℕ, zero, suc, ◌+◌, ◌<◌, ◌≤◌, Bool, true, false, cond, ◌||◌, List, [], ◌∷◌, length, drop, take, Option, Some, None, refl, sym, ap, ◌∙◌, arith, ◌==◌}
+use Rattle.std.proofs.Common.{◌≡◌, ℕ, zero, suc, ◌+◌, ◌<◌, ◌≤◌, Bool, true, false, cond, ◌||◌, List, [], ◌∷◌, length, drop, take, codes, Option, Some, None, refl, sym, ap, ◌∙◌, arith, ◌==◌}
 use Rattle.std.specs.List.{prefix_len}
 use Rattle.std.proofs.lemmas.List.{length-drop}
 use Rattle.std.proofs.lemmas.List.Sums.{prefix_len-le-length}
@@ -140,7 +140,7 @@ comment_case false t cs r le h ih = omega (arith, ih r h, le)
 
 comment_short : (t r : List ℕ) → after_comment t ≡ Some r → length r ≤ length t
 comment_short [] r h = absurd cc
-comment_short (c ∷ cs) r h = comment_case (begins (45 ∷ 45 ∷ 62 ∷ []) (c ∷ cs)) (c ∷ cs) cs r (omega arith) h (comment_short cs)
+comment_short (c ∷ cs) r h = comment_case (begins (codes "-->") (c ∷ cs)) (c ∷ cs) cs r (omega arith) h (comment_short cs)
 
 run_by : (b : Bool) (n : ℕ) (t : List ℕ) → (n == 0) ≡ b → n ≤ length t → IsShorter (cond b bad (run (take n t) (drop n t))) t
 run_by true n t e le = tt
@@ -174,14 +174,14 @@ third : (t : List ℕ) (o : Option (List ℕ)) → byte_at 60 t ≡ o → IsShor
 third t None e = run_case (plain_len 60 t) t (plain_len-le 60 t)
 third t (Some r) e = tag_item t r (tag_at r) refl (byte_short 60 t r e)
 
-second : (t : List ℕ) (o : Option (List ℕ)) → strip (60 ∷ 47 ∷ []) t ≡ o → IsShorter (option_case o (option_case (byte_at 60 t) (run_at t) (λ rest. option_case (tag_at rest) bad (λ x. open_tag x.0 x.1))) (λ rest. option_case (close_at rest) bad (λ x. close_tag x.0 x.1))) t
+second : (t : List ℕ) (o : Option (List ℕ)) → strip (codes "</") t ≡ o → IsShorter (option_case o (option_case (byte_at 60 t) (run_at t) (λ rest. option_case (tag_at rest) bad (λ x. open_tag x.0 x.1))) (λ rest. option_case (close_at rest) bad (λ x. close_tag x.0 x.1))) t
 second t None e = third t (byte_at 60 t) refl
-second t (Some r) e = close_item t r (close_at r) refl (strip_shorter 60 (47 ∷ []) t r e)
+second t (Some r) e = close_item t r (close_at r) refl (strip_shorter 60 (codes "/") t r e)
 
-first : (t : List ℕ) (o : Option (List ℕ)) → strip (60 ∷ 33 ∷ 45 ∷ 45 ∷ []) t ≡ o → IsShorter (option_case o (option_case (strip (60 ∷ 47 ∷ []) t) (option_case (byte_at 60 t) (run_at t) (λ rest. option_case (tag_at rest) bad (λ x. open_tag x.0 x.1))) (λ rest. option_case (close_at rest) bad (λ x. close_tag x.0 x.1))) (λ rest. option_case (after_comment rest) bad comment)) t
-first t None e = second t (strip (60 ∷ 47 ∷ []) t) refl
-first t (Some r) e = comment_item t r (after_comment r) refl (strip_shorter 60 (33 ∷ 45 ∷ 45 ∷ []) t r e)
+first : (t : List ℕ) (o : Option (List ℕ)) → strip (codes "<!--") t ≡ o → IsShorter (option_case o (option_case (strip (codes "</") t) (option_case (byte_at 60 t) (run_at t) (λ rest. option_case (tag_at rest) bad (λ x. open_tag x.0 x.1))) (λ rest. option_case (close_at rest) bad (λ x. close_tag x.0 x.1))) (λ rest. option_case (after_comment rest) bad comment)) t
+first t None e = second t (strip (codes "</") t) refl
+first t (Some r) e = comment_item t r (after_comment r) refl (strip_shorter 60 (codes "!--") t r e)
 
 pub item_short : (t : List ℕ) → IsShorter (item_at t) t
 unfolding item_at
-item_short t = first t (strip (60 ∷ 33 ∷ 45 ∷ 45 ∷ []) t) refl
+item_short t = first t (strip (codes "<!--") t) refl

@@ -1,5 +1,5 @@
 -- The items of a document: comments, tags and runs of text.
-use Rattle.std.specs.Prelude.{ℕ, zero, suc, Bool, true, false, ◌||◌, ◌&&◌, not, List, [], ◌∷◌, length, drop, take, Option, Some, None, ◌==◌, nat_le, if◌then◌else◌}
+use Rattle.std.specs.Prelude.{ℕ, zero, suc, Bool, true, false, ◌||◌, ◌&&◌, not, List, [], ◌∷◌, length, drop, take, codes, Option, Some, None, ◌==◌, nat_le, if◌then◌else◌}
 use Rattle.std.specs.List.{prefix_len}
 use Rattle.std.specs.Cmp.Lexicographic.{pointwise}
 use Rattle.lists_and_answers.specs.Options.{◌>>=◌}
@@ -51,16 +51,16 @@ byte_at b (c ∷ cs) = if c == b then Some cs else None
 -- what stands behind the first `-->`
 abbrev pub after_comment : List ℕ → Option (List ℕ)
 after_comment [] = None
-after_comment (c ∷ cs) = if begins (45 ∷ 45 ∷ 62 ∷ []) (c ∷ cs) then Some (drop 3 (c ∷ cs)) else after_comment cs
+after_comment (c ∷ cs) = if begins (codes "-->") (c ∷ cs) then Some (drop 3 (c ∷ cs)) else after_comment cs
 
 -- an entity: the byte that it stands for, and how many bytes stand behind its `&`
 abbrev pub entity_at : List ℕ → Option (ℕ × ℕ)
 entity_at text =
-    if begins (108 ∷ 116 ∷ 59 ∷ []) text then Some (60, 3) else (
-    if begins (103 ∷ 116 ∷ 59 ∷ []) text then Some (62, 3) else (
-    if begins (97 ∷ 109 ∷ 112 ∷ 59 ∷ []) text then Some (38, 4) else (
-    if begins (113 ∷ 117 ∷ 111 ∷ 116 ∷ 59 ∷ []) text then Some (34, 5) else (
-    if begins (97 ∷ 112 ∷ 111 ∷ 115 ∷ 59 ∷ []) text then Some (39, 5) else None))))
+    if begins (codes "lt;") text then Some (60, 3) else (
+    if begins (codes "gt;") text then Some (62, 3) else (
+    if begins (codes "amp;") text then Some (38, 4) else (
+    if begins (codes "quot;") text then Some (34, 5) else (
+    if begins (codes "apos;") text then Some (39, 5) else None))))
 
 -- Plain text ends before a `<`, before an `&` that begins no entity, and before the byte q.
 abbrev pub ends_at : ℕ → ℕ → List ℕ → Bool
@@ -162,8 +162,8 @@ tag_item text = option_case (tag_at text) bad (λ t. open_tag t.0 t.1)
 
 unfoldable pub item_at : List ℕ → Item
 item_at text =
-    option_case (strip (60 ∷ 33 ∷ 45 ∷ 45 ∷ []) text)
-    (option_case (strip (60 ∷ 47 ∷ []) text)
+    option_case (strip (codes "<!--") text)
+    (option_case (strip (codes "</") text)
     (option_case (byte_at 60 text)
     (run_at text)
     tag_item)

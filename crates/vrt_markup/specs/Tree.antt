@@ -1,5 +1,5 @@
 -- The tree of a document: its markup, from the first byte to the last.
-use Rattle.std.specs.Prelude.{ℕ, zero, suc, ◌-◌, List, [], ◌∷◌, length, drop, Option, Some, None, Result, Ok, Err, nat_lt, if◌then◌else◌}
+use Rattle.std.specs.Prelude.{ℕ, zero, suc, ◌-◌, List, [], ◌∷◌, length, drop, codes, Option, Some, None, Result, Ok, Err, nat_lt, if◌then◌else◌}
 use Rattle.std.specs.Str.Lossy.{utf8_valid_len}
 use Rattle.vrt_markup.specs.Items.{Item, bad, comment, run, open_tag, close_tag, Tag, item_at, strip, begins, option_case}
 use Rattle.lists_and_answers.specs.Answers.{◌>>=◌}
@@ -32,10 +32,10 @@ without_mark bytes = option_case (strip (239 ∷ 187 ∷ 191 ∷ []) bytes) byte
 
 abbrev pub after_declaration : List ℕ → Option (List ℕ)
 after_declaration [] = None
-after_declaration (c ∷ cs) = if begins (63 ∷ 62 ∷ []) (c ∷ cs) then Some (drop 2 (c ∷ cs)) else after_declaration cs
+after_declaration (c ∷ cs) = if begins (codes "?>") (c ∷ cs) then Some (drop 2 (c ∷ cs)) else after_declaration cs
 
 abbrev pub declared_at : ℕ → List ℕ → Result (List ℕ) VrtFault
-declared_at total bytes = option_case (strip (60 ∷ 63 ∷ 120 ∷ 109 ∷ 108 ∷ []) bytes) (Ok bytes) (λ rest. option_case (after_declaration rest) (Err (BadText (total - length bytes))) Ok)
+declared_at total bytes = option_case (strip (codes "<?xml") bytes) (Ok bytes) (λ rest. option_case (after_declaration rest) (Err (BadText (total - length bytes))) Ok)
 
 -- the root's tag
 pub record Root : Type 0 where
@@ -43,12 +43,11 @@ pub record Root : Type 0 where
   pub tag : Tag
   pub rest : List ℕ
 
+-- Where `space` ends no comment stands in front and no run, since it goes on behind a comment and a blank run, and
+-- refuses another run. So the root's tag stands there, or what is no item, or an end tag.
 abbrev pub root_item : ℕ → List ℕ → Item → Result Root VrtFault
 root_item total bytes (open_tag tag rest) = Ok (record { place = total - length bytes; tag = tag; rest = rest })
-root_item total bytes bad = Err (BadText (total - length bytes))
-root_item total bytes (comment rest) = Err (BadText (total - length bytes))
-root_item total bytes (run raw rest) = Err (BadText (total - length bytes))
-root_item total bytes (close_tag name rest) = Err (BadText (total - length bytes))
+root_item total bytes other = Err (BadText (total - length bytes))
 
 -- the same behind comments and white space
 abbrev pub root_behind : ℕ → List ℕ → Result Root VrtFault

@@ -1,5 +1,5 @@
 -- Sources and bands one by one, and the limits on them.
-use Rattle.std.proofs.Common.{◌≡◌, ℕ, suc, ◌+◌, ◌<◌, ◌≤◌, Bool, true, false, cond, List, [], ◌∷◌, ◌++◌, length, map, Option, Some, None, Result, Ok, Err, IfOk, refl, sym, ap, ◌∙◌, arith, subst, nat_le, codes, ◌&&◌, ℤ, IfSome, IsUtf8}
+use Rattle.std.proofs.Common.{◌≡◌, ℕ, suc, ◌+◌, ◌<◌, ◌≤◌, Bool, List, [], ◌∷◌, ◌++◌, length, map, Option, Some, None, Result, Ok, Err, IfOk, refl, sym, ap, ◌∙◌, arith, subst, nat_le, codes, ◌&&◌, ℤ, IfSome, IsUtf8}
 use Rattle.std.specs.List.{All}
 use Rattle.std.proofs.lemmas.List.Elements.{All-nil, All-push}
 use Rattle.std.proofs.lemmas.List.Sums.{sum_by-cons}
@@ -9,12 +9,13 @@ use Rattle.geotransform.specs.declared.types.PixelType.{PixelType}
 use Rattle.vrt_markup.specs.Items.{Tag, attribute}
 use Rattle.vrt_markup.specs.Forest.{Forest, stop, text, element, Read, read_as, over, all_blank}
 use Rattle.vrt_profile.specs.Values.{SourceValue, BandValue, IsSource, IsBand, IsDecimal, source_count}
-use Rattle.vrt_profile.specs.Means.{BandParts, DatasetParts, no_band_parts, once, with_source, band_parts, band_step, band_part_of, band_end, band_of, kind_in, is_placed, is_sourced}
+use Rattle.vrt_profile.specs.Means.{BandParts, DatasetParts, no_band_parts, once, with_source, band_parts, band_step, band_part_of, band_end, band_of, kind_in, is_placed, is_sourced, wants}
+use Rattle.vrt_profile.specs.Seen.{band_by}
 use Rattle.vrt_profile.specs.Parts.{IsBandParts, IsDatasetParts}
 use Rattle.vrt_profile.specs.declared.parts.BandPart.{BandPart}
 use Rattle.vrt_profile.specs.declared.parts.BandPart.TheVariants.{NoData, Simple, Complex, Past, Unknown}
 use Rattle.vrt_markup.specs.declared.fault.VrtFault.{VrtFault}
-use Rattle.vrt_markup.specs.declared.fault.VrtFault.TheVariants.{Limit}
+use Rattle.vrt_markup.specs.declared.fault.VrtFault.TheVariants.{BadNumber, Unsupported, Limit}
 use Rattle.vrt_profile.proofs.Tables.{bind_ok, ok_same, cond_err}
 
 pub no_sources : (p : BandParts) → p.sources ≡ [] → IsBandParts p
@@ -92,18 +93,16 @@ fits_over taken s t (element place tag inside more) fits h =
     let a = bind_ok (band_step s place tag inside) _ t h in
     fits_over taken a.0 t more (fits_part taken s a.0 place tag inside (band_part_of tag.name) fits a.1) a.2
 
-guard_two : {A : Type 0} (b : Bool) (r : Result A VrtFault) (e : VrtFault) (y : A) → cond b r (Err e) ≡ Ok y → r ≡ Ok y
-guard_two true r e y h = h
-guard_two false r e y h = absurd cc
-
 abbrev sources_of : BandParts → Result BandValue VrtFault → List SourceValue
 sources_of p (Ok b) = b.sources
 sources_of p (Err e) = p.sources
 
-band_by_ok : (kind : Result PixelType VrtFault) (placed both : Bool) (parts : Result BandParts VrtFault) (e g : VrtFault) (b : BandValue) → (kind >>= λ k. cond placed (cond both (parts >>= band_end k) (Err e)) (Err g)) ≡ Ok b → (p : BandParts) × (parts ≡ Ok p) × (p.sources ≡ b.sources)
-band_by_ok kind placed both parts e g b h =
+band_by_ok : (kind : Result PixelType VrtFault) (placed sourced blank : Bool) (parts : Result BandParts VrtFault) (b : BandValue) → band_by kind placed sourced blank parts ≡ Ok b → (p : BandParts) × (parts ≡ Ok p) × (p.sources ≡ b.sources)
+band_by_ok kind placed sourced blank parts b h =
     let k = bind_ok kind _ b h in
-    let p = bind_ok parts (band_end k.0) b (guard_two both (parts >>= band_end k.0) e b (guard_two placed (cond both (parts >>= band_end k.0) (Err e)) g b k.2)) in
+    let place = bind_ok (wants placed BadNumber) _ b k.2 in
+    let plain = bind_ok (wants (sourced && blank) Unsupported) _ b place.2 in
+    let p = bind_ok parts (band_end k.0) b plain.2 in
     (p.0, p.1, ap (λ (r : Result BandValue VrtFault). sources_of p.0 r) p.2)
 
 abbrev value_of : Result (Result BandValue VrtFault × List ℕ) VrtFault → Result BandValue VrtFault
@@ -112,7 +111,7 @@ value_of (Err e) = Err e
 
 pub band_fits : (number taken : ℕ) (tag : Tag) (b : BandValue) (f : Forest) → taken ≤ 262144 → band_of number taken tag f ≡ Ok b → taken + length b.sources ≤ 262144
 band_fits number taken tag b f some h =
-    let p = band_by_ok (kind_in (attribute (codes "dataType") tag.pairs)) (is_placed number (attribute (codes "band") tag.pairs)) (is_sourced (attribute (codes "subClass") tag.pairs) && all_blank f) (over band_step (no_band_parts taken) f) _ _ b h in
+    let p = band_by_ok (kind_in (attribute (codes "dataType") tag.pairs)) (is_placed number (attribute (codes "band") tag.pairs)) (is_sourced (attribute (codes "subClass") tag.pairs)) (all_blank f) (over band_step (no_band_parts taken) f) b h in
     let all = fits_over taken (no_band_parts taken) p.0 f (record { same = refl; few = omega (arith, some) }) p.1 in
     omega (arith, all.few, ap length p.2)
 

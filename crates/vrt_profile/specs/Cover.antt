@@ -49,11 +49,11 @@ abbrev pub lines_by : Rectangle → Rectangle → Axis
 lines_by dst src = record { mosaic_start = dst.y; mosaic_length = dst.h; dataset_start = src.y; dataset_length = src.h }
 
 abbrev pub columns_of : SourceValue → Size → Size → Axis
-columns_of s target size = columns_by (part_of s.dst target) (part_of s.src size)
+columns_of s mosaic size = columns_by (part_of s.dst mosaic) (part_of s.src size)
 
 abbrev pub lines_of : SourceValue → Size → Size → Axis
-lines_of s target size = lines_by (part_of s.dst target) (part_of s.src size)
+lines_of s mosaic size = lines_by (part_of s.dst mosaic) (part_of s.src size)
 
--- At column x, line y of a mosaic of size `target`, the column and the line of the source's dataset, of size `size`.
+-- At column x, line y of a mosaic of size `mosaic`, the column and the line of the source's dataset, of size `size`.
 unfoldable pub cover_of : SourceValue → Size → Size → ℕ → ℕ → Option (ℕ × ℕ)
-cover_of s target size x y = axis_at (columns_of s target size) size.w x >>= λ column. axis_at (lines_of s target size) size.h y >>= λ line. Some (column, line)
+cover_of s mosaic size x y = axis_at (columns_of s mosaic size) size.w x >>= λ column. axis_at (lines_of s mosaic size) size.h y >>= λ line. Some (column, line)

@@ -13,4 +13,5 @@ pub mod Built
 pub mod Fronts
 pub mod NumberViews
 pub mod Parts
+pub mod Seen
 pub mod SourceViews

@@ -1,5 +1,5 @@
 -- What document a tree means: element by element, in their order.
-use Rattle.std.specs.Prelude.{ℕ, ℤ, pos, suc, ◌+◌, Bool, true, false, ◌&&◌, ◌||◌, List, [], ◌∷◌, ◌++◌, length, Option, Some, None, Result, Ok, Err, ◌==◌, nat_le, if◌then◌else◌, codes}
+use Rattle.std.specs.Prelude.{ℕ, ℤ, pos, suc, ◌+◌, Bool, true, false, not, ◌&&◌, ◌||◌, List, [], ◌∷◌, ◌++◌, length, Option, Some, None, Result, Ok, Err, ◌==◌, nat_le, if◌then◌else◌, codes}
 use Rattle.std.specs.Str.{is_utf8}
 use Rattle.std.specs.Option.{unwrap_or}
 use Rattle.lists_and_answers.specs.Answers.{◌>>=◌}
@@ -75,18 +75,23 @@ source_part_of complex name =
     if is_equal name (codes "SrcRect") then source_part.Src else (
     if is_equal name (codes "DstRect") then source_part.Dst else scaling_part complex (scaling_of name)))))
 
--- In an element that holds text or attributes alone any element is unknown.
+-- the fault, where something doesn't hold
+abbrev pub wants : Bool → VrtFault → Result (Unit {0}) VrtFault
+wants holds fault = if holds then Ok tt else Err fault
+
+-- In an element that holds text or attributes alone any element is unknown, and found behind what its text means.
 abbrev pub childless : {A : Type 0} → Option ℕ → A → Result A VrtFault
 childless None x = Ok x
 childless (Some place) x = Err (UnknownElement place)
 
--- an element's text, judged first, then a child of it
-abbrev pub judged : {A : Type 0} → Result A VrtFault → Option ℕ → Result A VrtFault
-judged value child = value >>= childless child
-
 -- A text that is kept. In a file that is UTF-8 each run of text is.
 abbrev pub kept_text : List ℕ → Result (List ℕ) VrtFault
 kept_text text = if is_utf8 text then Ok text else Err Unsupported
+
+abbrev pub text_in : List ℕ → Option ℕ → Result (List ℕ) VrtFault
+text_in text child = do
+  kept ← kept_text text
+  childless child kept
 
 -- SourceFilename: the flag first, then what stands in it
 pub record File : Type 0 where
@@ -100,42 +105,41 @@ abbrev pub flag_in : Option (List ℕ) → Result Bool VrtFault
 flag_in None = Ok false
 flag_in (Some text) = flag_by text
 
-abbrev pub file_when : Result Bool VrtFault → Result (List ℕ) VrtFault → Result File VrtFault
-file_when flag text = flag >>= λ relative. text >>= λ name. Ok (record { relative = relative; name = name })
-
-abbrev pub file_by : Result Bool VrtFault → List ℕ → Option ℕ → Result File VrtFault
-file_by flag text child = file_when flag (judged (kept_text text) child)
-
 abbrev pub file_of : Tag → Forest → Result File VrtFault
-file_of tag inside = file_by (flag_in (attribute (codes "relativeToVRT") tag.pairs)) (text_of inside) (child_of inside)
+file_of tag inside = do
+  relative ← flag_in (attribute (codes "relativeToVRT") tag.pairs)
+  name ← text_in (text_of inside) (child_of inside)
+  Ok (record { relative = relative; name = name })
 
 -- SrcRect and DstRect: their attributes in order, then text, then a child
-abbrev pub rect_end : Bool → Result Bool VrtFault → Rectangle → Result Rectangle VrtFault
-rect_end blank children r = if blank then (children >>= λ x. Ok r) else Err Unsupported
+unfoldable pub rect_of : Tag → Forest → Result Rectangle VrtFault
+rect_of tag inside = do
+  x ← offset_in (attribute (codes "xOff") tag.pairs)
+  y ← offset_in (attribute (codes "yOff") tag.pairs)
+  w ← size_in (attribute (codes "xSize") tag.pairs)
+  h ← size_in (attribute (codes "ySize") tag.pairs)
+  blank ← wants (all_blank inside) Unsupported
+  bare ← over no_child true inside
+  Ok (record { x = x; y = y; w = w; h = h })
 
-unfoldable pub rect_by : Result ℤ VrtFault → Result ℤ VrtFault → Result ℤ VrtFault → Result ℤ VrtFault → Bool → Result Bool VrtFault → Result Rectangle VrtFault
-rect_by x y w h blank children = do
-  x ← x
-  y ← y
-  w ← w
-  h ← h
-  rect_end blank children (record { x = x; y = y; w = w; h = h })
-
-abbrev pub rect_of : Tag → Forest → Result Rectangle VrtFault
-rect_of tag inside = rect_by (offset_in (attribute (codes "xOff") tag.pairs)) (offset_in (attribute (codes "yOff") tag.pairs)) (size_in (attribute (codes "xSize") tag.pairs)) (size_in (attribute (codes "ySize") tag.pairs)) (all_blank inside) (over no_child true inside)
-
--- elements whose text is a number
+-- elements whose text is a number, by their text and a child of them
 abbrev pub source_band_by : List ℕ → Option ℕ → Result ℕ VrtFault
-source_band_by text child = judged (band_number (trim text)) child
+source_band_by text child = do
+  band ← band_number (trim text)
+  childless child band
 
 abbrev pub nodata_by : List ℕ → Option ℕ → Result (Option ℤ) VrtFault
 nodata_by text child = childless child (whole_of (trim text))
 
 abbrev pub scale_text : List ℕ → Option ℕ → Result ℤ VrtFault
-scale_text text child = judged (scale_of text) child
+scale_text text child = do
+  scale ← scale_of text
+  childless child scale
 
 abbrev pub lut_by : List ℕ → Option ℕ → Result (List LutPair) VrtFault
-lut_by text child = judged (lut_of text) child
+lut_by text child = do
+  lut ← lut_of text
+  childless child lut
 
 -- A source: what is read of it so far, one element after the other.
 pub record SourceParts : Type 0 where
@@ -236,12 +240,12 @@ abbrev pub is_near : Option (List ℕ) → Bool
 is_near None = true
 is_near (Some text) = is_like text (codes "nearest") || is_like text (codes "near")
 
--- in order: its attributes, text in it, its children, what is missing
-abbrev pub source_by : Bool → Bool → Bool → Result SourceParts VrtFault → Result SourceValue VrtFault
-source_by complex near blank parts = if near then (if blank then (parts >>= source_end complex) else Err Unsupported) else Err Unsupported
-
+-- in order: its attributes and text in it, its children, what is missing
 abbrev pub source_of : Bool → Tag → Forest → Result SourceValue VrtFault
-source_of complex tag inside = source_by complex (is_near (attribute (codes "resampling") tag.pairs)) (all_blank inside) (over (source_step complex) no_parts inside)
+source_of complex tag inside = do
+  plain ← wants (is_near (attribute (codes "resampling") tag.pairs) && all_blank inside) Unsupported
+  parts ← over (source_step complex) no_parts inside
+  source_end complex parts
 
 -- A band: what is read of it so far, where so many sources were taken before it.
 pub record BandParts : Type 0 where
@@ -294,12 +298,14 @@ nodata_of kind (Some n) = if is_in kind n then Some n else None
 abbrev pub band_end : PixelType → BandParts → Result BandValue VrtFault
 band_end kind p = Ok (record { kind = kind; nodata = nodata_of kind (value_in p.nodata); sources = p.sources })
 
-abbrev pub band_by : Result PixelType VrtFault → Bool → Bool → Bool → Result BandParts VrtFault → Result BandValue VrtFault
-band_by kind placed sourced blank parts =
-    kind >>= λ k. if placed then (if sourced && blank then (parts >>= band_end k) else Err Unsupported) else Err BadNumber
-
+-- in order: its attributes and text in it, its children
 abbrev pub band_of : ℕ → ℕ → Tag → Forest → Result BandValue VrtFault
-band_of number taken tag inside = band_by (kind_in (attribute (codes "dataType") tag.pairs)) (is_placed number (attribute (codes "band") tag.pairs)) (is_sourced (attribute (codes "subClass") tag.pairs)) (all_blank inside) (over band_step (no_band_parts taken) inside)
+band_of number taken tag inside = do
+  kind ← kind_in (attribute (codes "dataType") tag.pairs)
+  placed ← wants (is_placed number (attribute (codes "band") tag.pairs)) BadNumber
+  plain ← wants (is_sourced (attribute (codes "subClass") tag.pairs) && all_blank inside) Unsupported
+  parts ← over band_step (no_band_parts taken) inside
+  band_end kind parts
 
 -- The dataset: what is read of it so far.
 pub record DatasetParts : Type 0 where
@@ -323,10 +329,12 @@ abbrev pub with_raster_band : DatasetParts → Result BandValue VrtFault → Res
 with_raster_band s band = if nat_le 256 (length s.bands) then Err Limit else (band >>= λ b. Ok (record s { bands = s.bands ++ b ∷ []; taken = s.taken + length b.sources }))
 
 abbrev pub srs_by : List ℕ → Option ℕ → Result (List ℕ) VrtFault
-srs_by text child = judged (kept_text text) child
+srs_by text child = text_in text child
 
 abbrev pub geo_by : List ℕ → Option ℕ → Result Transform VrtFault
-geo_by text child = judged (geo_of text) child
+geo_by text child = do
+  geo ← geo_of text
+  childless child geo
 
 abbrev pub dataset_parts : DatasetParts → ℕ → Tag → Forest → DatasetPart → Result DatasetParts VrtFault
 dataset_parts s place tag inside dataset_part.Srs = with_srs s (srs_by (text_of inside) (child_of inside))
@@ -341,14 +349,14 @@ dataset_step s place tag inside = dataset_parts s place tag inside (dataset_part
 abbrev pub dataset_end : ℕ → ℕ → DatasetParts → Result DocumentValue VrtFault
 dataset_end w h p = if length p.bands == 0 then Err MissingPart else Ok (record { size = record { w = w; h = h }; srs = p.srs; geo = p.geo; bands = p.bands })
 
-unfoldable pub dataset_by : Result ℕ VrtFault → Result ℕ VrtFault → Bool → Bool → Result DatasetParts VrtFault → Result DocumentValue VrtFault
-dataset_by w h derived blank parts = do
-  w ← w
-  h ← h
-  if derived then Err Unsupported else (if blank then (parts >>= dataset_end w h) else Err Unsupported)
-
-abbrev pub dataset_of : Tag → Forest → Result DocumentValue VrtFault
-dataset_of tag inside = dataset_by (side_in (attribute (codes "rasterXSize") tag.pairs)) (side_in (attribute (codes "rasterYSize") tag.pairs)) (is_some (attribute (codes "subClass") tag.pairs)) (all_blank inside) (over dataset_step no_dataset_parts inside)
+-- in order: its attributes and text in it, its children, what is missing
+unfoldable pub dataset_of : Tag → Forest → Result DocumentValue VrtFault
+dataset_of tag inside = do
+  w ← side_in (attribute (codes "rasterXSize") tag.pairs)
+  h ← side_in (attribute (codes "rasterYSize") tag.pairs)
+  plain ← wants (not (is_some (attribute (codes "subClass") tag.pairs)) && all_blank inside) Unsupported
+  parts ← over dataset_step no_dataset_parts inside
+  dataset_end w h parts
 
 abbrev pub root_of : ℕ → Tag → Forest → Result DocumentValue VrtFault
 root_of place tag inside = if is_equal tag.name (codes "VRTDataset") then dataset_of tag inside else Err (UnknownElement place)

@@ -53,7 +53,7 @@ takes_kind s kind = is_plain s || nat_le (bytes_of kind) 4
 
 -- what a source gives at a pixel of the mosaic, where the pixels of its dataset are these
 abbrev pub given_of : SourceValue → Size → Size → (ℕ → ℕ → ℤ) → ℕ → ℕ → Option ℤ
-given_of s target size pixels x y = cover_of s target size x y >>= λ place. value_of s (pixels place.0 place.1)
+given_of s mosaic size pixels x y = cover_of s mosaic size x y >>= λ place. value_of s (pixels place.0 place.1)
 
 -- what the last of the sources gives that gives something
 abbrev pub last_given : (SourceValue → Option ℤ) → List SourceValue → Option ℤ

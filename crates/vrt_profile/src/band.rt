@@ -4,7 +4,8 @@ ghost use Rattle.std.specs.Option.{option_map};
 ghost use Rattle.geotransform.specs.Types.{is_in};
 ghost use Rattle.vrt_markup.specs.Forest.{inner, read_as, text_of, child_of};
 ghost use Rattle.vrt_profile.specs.Means as means;
-ghost use Rattle.vrt_profile.specs.Means.{nodata_by, no_band_parts, with_no_data_value, with_source, band_step, kind_in, is_number, is_placed, is_sourced, nodata_of, value_in, band_end, band_by, band_of, source_of};
+ghost use Rattle.vrt_profile.specs.Means.{nodata_by, no_band_parts, with_no_data_value, with_source, band_step, kind_in, is_number, is_placed, is_sourced, nodata_of, value_in, band_end, band_of, source_of};
+ghost use Rattle.vrt_profile.specs.Seen.{band_by};
 ghost use Rattle.vrt_markup.specs.Views.{tag_view};
 ghost use Rattle.vrt_markup.specs.Kept.{Gives, seen, kept_of};
 

@@ -5,7 +5,8 @@ ghost use Rattle.vrt_markup.specs.Items.{is_some};
 ghost use Rattle.vrt_profile.specs.Values.{IsDecimal};
 ghost use Rattle.vrt_markup.specs.Forest.{inner, read_as, text_of, child_of};
 ghost use Rattle.vrt_profile.specs.Means as means;
-ghost use Rattle.vrt_profile.specs.Means.{no_dataset_parts, with_srs, with_geo, with_raster_band, srs_by, geo_by, dataset_step, dataset_end, dataset_by, dataset_of, root_of, band_of};
+ghost use Rattle.vrt_profile.specs.Means.{no_dataset_parts, with_srs, with_geo, with_raster_band, srs_by, geo_by, dataset_step, dataset_end, dataset_of, root_of, band_of};
+ghost use Rattle.vrt_profile.specs.Seen.{dataset_by};
 ghost use Rattle.vrt_markup.specs.Views.{tag_view};
 ghost use Rattle.vrt_markup.specs.Kept.{Gives, seen, kept_of};
 
@@ -221,7 +222,7 @@ fn dataset_end(w: u32, h: u32, parts: DatasetParts) -> Result<Document, VrtFault
 }
 
 // In order: the attributes, text in the dataset, its children, what is missing.
-#[tactic(auto, unfolding(crate::specs::Means::dataset_by))]
+#[tactic(auto, unfolding(crate::specs::Seen::dataset_by))]
 fn dataset_by(
     w: Result<u32, VrtFault>,
     h: Result<u32, VrtFault>,

@@ -1,6 +1,6 @@
 // Texts that a document keeps.
 ghost use Rattle.std.specs.Prelude.{Ok, Result, IfOk, IsUtf8};
-ghost use Rattle.vrt_profile.specs.Means.{kept_text, judged};
+ghost use Rattle.vrt_profile.specs.Means.{kept_text, text_in};
 ghost use Rattle.vrt_markup.specs.Kept.{Gives};
 
 use outside::Text;
@@ -24,7 +24,7 @@ fn kept_text(alloc: Global, bytes: &[u8]) -> Result<Result<Text, VrtFault>, VrtF
 
 /// The text in an element that holds text alone.
 pub fn text_by(alloc: Global, words: &Words) -> Result<Result<Text, VrtFault>, VrtFault>
-    ensures text { Gives (λ x. x) result (Ok (judged (kept_text words.now.text.items) words.now.child)) }
+    ensures text { Gives (λ x. x) result (Ok (text_in words.now.text.items words.now.child)) }
     ensures utf8 { IfOk result (λ r. IfOk r IsUtf8) }
 {
     match kept_text(alloc, &words.text) {

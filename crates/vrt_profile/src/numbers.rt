@@ -10,27 +10,9 @@ ghost use Rattle.vrt_markup.specs.declared.fault.VrtFault.TheVariants.{BadNumber
 ghost use Rattle.vrt_profile.specs.NumberViews.{six_view, IsReadSix};
 
 use crate::fields::{Six, six_of, trim, whole_text};
-use geotransform::{GeoTransform, Ticks, read_places, read_whole};
+use geotransform::{BandNumber, GeoTransform, Ticks, read_places, read_whole};
 use std::marker::Model;
 use vrt_markup::VrtFault;
-
-/// The number of a band, from 1 to 256.
-#[derive(Clone, Copy)]
-pub struct BandNumber {
-    number: u32,
-}
-
-impl Model for BandNumber {
-    ghost use Rattle.std.specs.Prelude.{ℕ, ◌<◌, ◌≤◌};
-
-    ghost Value = { ℕ };
-
-    ghost view = { λ b. b.number };
-
-    ghost invariant = { λ b. (0 < b.number) × (b.number ≤ 256) };
-
-    ghost inverse = { λ n. record { number = n } };
-}
 
 /// A NODATA, below 10^20 in magnitude.
 #[derive(Clone, Copy)]
@@ -66,16 +48,6 @@ impl Model for Scale {
     ghost invariant = { λ s. unsigned_abs s.value < 10 ^ 24 };
 
     ghost inverse = { λ z. record { value = z } };
-}
-
-impl BandNumber {
-    /// The number.
-    pub fn get(self) -> u32
-        ensures number { result ≡ self }
-        ensures bounds { (0 < result) × (result ≤ 256) }
-    {
-        self.number
-    }
 }
 
 impl NoData {
@@ -198,7 +170,7 @@ fn band_by(text: &[u8], number: Option<u64>) -> Result<BandNumber, VrtFault>
     ensures number { result ≡ band_by text.now number }
 {
     match number {
-        Some(n) if 0 < n && n <= 256 => Ok(BandNumber { number: n as u32 }),
+        Some(n) if 0 < n && n <= 256 => Ok(BandNumber::of(n as u32)),
         _ => Err(no_band_fault(text)),
     }
 }

@@ -2,7 +2,8 @@
 ghost use Rattle.std.specs.Prelude.{◌≡◌, ◌<◌, ◌≤◌, ◌<ℤ◌, pos, length, IfOk, Option, Some, Bool, true};
 ghost use Rattle.vrt_profile.specs.Values.{IsOffset};
 ghost use Rattle.vrt_markup.specs.Forest.{inner, read_as};
-ghost use Rattle.vrt_profile.specs.Means.{once, rect_end, rect_by, rect_of};
+ghost use Rattle.vrt_profile.specs.Means.{once, rect_of};
+ghost use Rattle.vrt_profile.specs.Seen.{rect_end, rect_by};
 ghost use Rattle.vrt_markup.specs.Views.{tag_view};
 ghost use Rattle.vrt_markup.specs.Kept.{Gives, kept_of, no_child};
 
@@ -51,7 +52,7 @@ fn rect_end(seen: Seen, rect: MicroRect) -> Result<MicroRect, VrtFault>
 }
 
 // The rectangle of its numbers, or their first fault, then what else stands in its element.
-#[tactic(auto, unfolding(crate::specs::Means::rect_by))]
+#[tactic(auto, unfolding(crate::specs::Seen::rect_by))]
 fn rect_by(
     x: Result<i64, VrtFault>,
     y: Result<i64, VrtFault>,

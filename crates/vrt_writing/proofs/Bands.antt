@@ -16,7 +16,8 @@ use Rattle.vrt_markup.specs.Items.{plain_len}
 use Rattle.vrt_profile.specs.Numbers.{or_fault}
 use Rattle.vrt_profile.specs.Values.{SourceValue, IsSource, BandValue, IsBand, source_count}
 use Rattle.vrt_writing.specs.Spelled.{nothing, both, words, group, nodata_markup, source_name, place_markup, scaling_markup, source_markup, sources_markup, band_pairs, band_markup, bands_markup}
-use Rattle.vrt_profile.specs.Means.{BandParts, no_parts, source_step, source_by, source_end, with_source, nodata_by, with_no_data_value, band_step, no_band_parts, kind_in, is_number, is_placed, nodata_of, value_in, band_by, DatasetParts, with_raster_band, dataset_step}
+use Rattle.vrt_profile.specs.Means.{BandParts, no_parts, source_step, source_end, with_source, nodata_by, with_no_data_value, band_step, no_band_parts, kind_in, is_number, is_placed, nodata_of, value_in, DatasetParts, with_raster_band, dataset_step}
+use Rattle.vrt_profile.specs.Seen.{source_by, band_by}
 use Rattle.vrt_markup.specs.declared.fault.VrtFault.{VrtFault}
 use Rattle.vrt_markup.specs.declared.fault.VrtFault.TheVariants.{Unsupported, Limit}
 use Rattle.vrt_writing.proofs.Places.{count_again}

@@ -11,7 +11,9 @@ use Rattle.vrt_markup.specs.Kept.{seen}
 use Rattle.vrt_profile.specs.Numbers.{side_by, side_in}
 use Rattle.vrt_profile.specs.Values.{DocumentValue, IsDocument, IsDecimal}
 use Rattle.vrt_writing.specs.Spelled.{words, written, indent, pair_text, escaped, geo_text, srs_markup, geo_markup, bands_markup, size_pairs, parts_markup, dataset_markup, spelled}
-use Rattle.vrt_profile.specs.Means.{DatasetParts, no_dataset_parts, dataset_step, with_srs, srs_by, with_geo, geo_by, judged, dataset_by, root_of}
+use Rattle.vrt_profile.specs.Means as means_of
+use Rattle.vrt_profile.specs.Means.{DatasetParts, no_dataset_parts, dataset_step, with_srs, srs_by, with_geo, geo_by, root_of}
+use Rattle.vrt_profile.specs.Seen.{dataset_by}
 use Rattle.vrt_markup.specs.Tree.{Root, root_item, root_at, end_by, end_at, markup_of}
 use Rattle.vrt_profile.specs.Document.{means, markup_means, document_of}
 use Rattle.vrt_markup.specs.declared.fault.VrtFault.{VrtFault}
@@ -25,7 +27,7 @@ use Rattle.vrt_writing.proofs.Figures.{decimal_figures, figures_value}
 use Rattle.vrt_writing.proofs.Relisted.{geo_again, geo_marks}
 use Rattle.vrt_writing.proofs.Openings.{IsOpening, tag_of, opening_item, ends_open}
 use Rattle.vrt_writing.proofs.Taken.{Takes, takes_nothing, takes_both, takes_words, group_inside, group_lines}
-use Rattle.vrt_writing.proofs.Sources.{takes_to, takes_marks}
+use Rattle.vrt_writing.proofs.Sources.{takes_to, takes_marks, judged}
 use Rattle.vrt_writing.proofs.Valid.{spelled_utf8}
 use Rattle.vrt_writing.proofs.Bands.{dataset_of, all_taken, takes_bands}
 
@@ -139,6 +141,7 @@ unfolding spelled
 spelled_whole d = sym (append-nil (written 0 (dataset_markup d))) ∙ group_lines 0 (codes "VRTDataset") (size_pairs d.size) (parts_markup d) []
 
 whole_means : (d : DocumentValue) → IsDocument d → (total place : ℕ) → Ok (Ok d, 10 ∷ []) ≡ read_as (root_of place (root_tag d)) (inner total 0 (root_tag d) (body d))
+unfolding means_of.dataset_of dataset_by
 whole_means d is total place =
     let k : Result DatasetParts VrtFault × Bool → Result DocumentValue VrtFault = λ p. dataset_by (side_in (Some (decimal d.size.w))) (side_in (Some (decimal d.size.h))) false p.1 p.0 in
     ap (λ v. Ok (v, 10 ∷ [])) (sym (dataset_again d is))

@@ -1,135 +1,24 @@
 -- Numbers of a written document are read again, in the places in which they count.
-use Rattle.std.proofs.Common.{◌≡◌, ℕ, ℤ, zero, suc, ◌+◌, ◌-◌, ◌*◌, ◌/◌, ◌%◌, ◌^◌, ◌<◌, ◌≤◌, Bool, true, false, cond, List, [], ◌∷◌, ◌++◌, length, Option, Some, None, refl, ap, ◌∙◌, sym, ⊎_elim, arith, unsigned_abs, length-append, pos, negsuc}
-use Rattle.std.specs.Prelude.{◌==◌, ◌+ℤ◌, ◌-ℤ◌, ◌*ℤ◌, neg_ℤ, nat_lt, nat_le, ◌&&◌, if◌then◌else◌}
-use Rattle.std.specs.List.{list_all, prefix_len, suffix_len}
+use Rattle.std.proofs.Common.{◌≡◌, ℕ, ℤ, suc, ◌+◌, ◌-◌, ◌*◌, ◌/◌, ◌%◌, ◌^◌, ◌<◌, ◌≤◌, Bool, true, false, cond, List, ◌++◌, length, Option, Some, None, refl, ap, ◌∙◌, sym, ⊎_elim, arith, unsigned_abs, pos, negsuc}
+use Rattle.std.specs.Prelude.{◌+ℤ◌, ◌-ℤ◌, ◌*ℤ◌, neg_ℤ, nat_lt, nat_le, ◌&&◌}
+use Rattle.std.specs.List.{list_all}
 use Rattle.std.specs.Char.{is_ascii_digit}
-use Rattle.std.specs.Fmt.{decimal, signed_decimal}
-use Rattle.std.proofs.lemmas.List.{append-nil, length-take}
-use Rattle.std.proofs.lemmas.List.Sums.{AllPass-from_list_all, list_all-from_AllPass}
-use Rattle.std.proofs.lemmas.List.Folds.{list_all-append}
-use Rattle.std.proofs.lemmas.List.Elements.{All-take}
+use Rattle.std.specs.Fmt.{decimal}
 use Rattle.std.proofs.lemmas.Bool.{cases_lt}
 use Rattle.std.proofs.lemmas.Bool.Decides.{nat_tests}
 use Rattle.std.proofs.lemmas.Nat.{pow-add, div-mul-add}
 use Rattle.std.proofs.lemmas.Int.{ints}
-use Rattle.std.proofs.lemmas.Fmt.{digits_decimal, digits_value-decimal, decimal_nonempty, length-decimal-le, length-decimal-le_wide, decimal_by_steps_wide}
+use Rattle.std.proofs.lemmas.Fmt.{digits_decimal, digits_value-decimal, decimal_nonempty, length-decimal-le}
 use Rattle.std.proofs.Math.Nat.{mul_assoc, one-le-pow, mul-div_cancel}
 use Rattle.lists_and_answers.specs.Options.{◌>>=◌}
 use Rattle.geotransform.specs.Decimal.{number, number_of}
 use Rattle.vrt_profile.specs.Fields.{whole_text}
-use Rattle.geotransform.specs.Decimal.{sign_at, digits_at, fraction_at, exponent_of, Decimal, parts_of, ticks_of, places_of, signed, scaled, half_up, magnitude, magnitude_at, near_at, mantissa, whole_of, exact}
-use Rattle.geotransform.specs.Print.{unit, rounded_to, minus, with_point, last_digits, without_last_zeros, short_of, short_text}
-use Rattle.geotransform.proofs.Numbers.{own, number-append}
+use Rattle.geotransform.specs.Decimal.{Decimal, parts_of, ticks_of, places_of, signed, scaled, half_up, magnitude, magnitude_at, near_at, mantissa}
+use Rattle.geotransform.specs.Print.{unit, rounded_to, with_point, short_of, short_text}
+use Rattle.geotransform.proofs.Numbers.{own}
 use Rattle.geotransform.proofs.Written.{rounded_is}
-use Rattle.geotransform.proofs.RoundTrip.{AreDigits, digits-cons, digits_again, sign_none, short_again}
+use Rattle.geotransform.proofs.RoundTrip.{short_again, fraction_of, fraction_short, parts_are, parts_positive, parts_negative, minus_none, minus_one}
 use Rattle.vrt_writing.specs.Spelled.{micro_text, part_text}
-
-abbrev is_zero : ℕ → Bool
-is_zero c = c == 48
-
-prefix_all : (ds rest : List ℕ) → AreDigits ds → prefix_len is_ascii_digit rest ≡ 0 → prefix_len is_ascii_digit (ds ++ rest) ≡ length ds
-prefix_all [] rest h none = none
-prefix_all (c ∷ cs) rest h none =
-    let parts = digits-cons c cs h in
-    ap (λ b. cond b (1 + prefix_len is_ascii_digit (cs ++ rest)) 0) parts.0 ∙ omega (arith, prefix_all cs rest parts.1 none)
-
-point_ends : (f : List ℕ) → prefix_len is_ascii_digit (with_point f) ≡ 0
-point_ends [] = refl
-point_ends (c ∷ cs) = refl
-
-fraction_again : (f : List ℕ) → AreDigits f → fraction_at (with_point f) ≡ Some (f, [])
-fraction_again [] h = refl
-fraction_again (c ∷ cs) h =
-    let whole : (c ∷ cs) ++ [] ≡ c ∷ cs = append-nil (c ∷ cs) in
-    let n : prefix_len is_ascii_digit (c ∷ cs) ≡ suc (length cs) = ap (prefix_len is_ascii_digit) (sym whole) ∙ prefix_all (c ∷ cs) [] h refl in
-    let more : (prefix_len is_ascii_digit (c ∷ cs) == 0) ≡ false = ap (λ k. k == 0) n ∙ grind (arith, nat_tests) in
-    ap (λ b. cond b None (Some (digits_at (c ∷ cs)))) more ∙ ap Some (ap digits_at (sym whole) ∙ digits_again (c ∷ cs) [] h refl)
-
-length-last_digits : (k n : ℕ) → length (last_digits k n) ≡ k
-length-last_digits zero n = refl
-length-last_digits (suc k) n = omega (arith, length-append (last_digits k (n / 10)) ((48 + n % 10) ∷ []), length-last_digits k (n / 10))
-
-digit_is : (n : ℕ) → is_ascii_digit (48 + n % 10) ≡ true
-digit_is n = grind (arith, nat_tests)
-
-digits-last_digits : (k n : ℕ) → AreDigits (last_digits k n)
-digits-last_digits zero n = refl
-digits-last_digits (suc k) n = list_all-append is_ascii_digit (last_digits k (n / 10)) ((48 + n % 10) ∷ []) ∙ ap (λ b. b && list_all is_ascii_digit ((48 + n % 10) ∷ [])) (digits-last_digits k (n / 10)) ∙ ap (λ b. b && true) (digit_is n)
-
--- the text of q sixteenth places without its sign
-abbrev plain : ℕ → List ℕ
-plain q = decimal (q / 10 ^ 16) ++ with_point (without_last_zeros (last_digits 16 (q % 10 ^ 16)))
-
-abbrev pub fraction_of : ℕ → List ℕ
-fraction_of q = without_last_zeros (last_digits 16 (q % 10 ^ 16))
-
-pub fraction_digits : (q : ℕ) → AreDigits (fraction_of q)
-fraction_digits q = list_all-from_AllPass is_ascii_digit (fraction_of q) (All-take (λ c. is_ascii_digit c ≡ true) (16 - suffix_len is_zero (last_digits 16 (q % 10 ^ 16))) (last_digits 16 (q % 10 ^ 16)) (AllPass-from_list_all is_ascii_digit (last_digits 16 (q % 10 ^ 16)) (digits-last_digits 16 (q % 10 ^ 16))))
-
-fraction_short : (q : ℕ) → length (fraction_of q) ≤ 16
-fraction_short q = omega (arith, length-take (length (last_digits 16 (q % 10 ^ 16)) - suffix_len is_zero (last_digits 16 (q % 10 ^ 16))) (last_digits 16 (q % 10 ^ 16)), length-last_digits 16 (q % 10 ^ 16))
-
--- what parts_of does behind the sign, for a text of n bytes
-abbrev behind_fraction : ℕ → Bool → List ℕ → Option (List ℕ × List ℕ) → Option Decimal
-behind_fraction n negative whole fraction = if nat_lt 64 n then None else (do
-  f ← fraction
-  e ← exponent_of f.1
-  if length whole + length f.0 == 0 then None else Some (record { negative = negative; whole = whole; fraction = f.0; exponent = e }))
-
-abbrev behind_digits : ℕ → Bool → List ℕ × List ℕ → Option Decimal
-behind_digits n negative w = behind_fraction n negative w.0 (fraction_at w.1)
-
-abbrev behind_sign : ℕ → Bool × List ℕ → Option Decimal
-behind_sign n s = behind_digits n s.0 (digits_at s.1)
-
-starts : (text : List ℕ) → parts_of text ≡ behind_sign (length text) (sign_at text)
-unfolding parts_of
-starts text = refl
-
-parts_text : (n : ℕ) (negative : Bool) (ds f : List ℕ) → n ≤ 64 → AreDigits ds → 0 < length ds → AreDigits f → behind_sign n (negative, ds ++ with_point f) ≡ Some (record { negative = negative; whole = ds; fraction = f; exponent = pos 0 })
-parts_text n negative ds f short digits some places =
-    let not_long : nat_lt 64 n ≡ false = grind (arith, nat_tests) in
-    let not_none : (length ds + length f == 0) ≡ false = grind (arith, nat_tests) in
-    let d : Decimal = record { negative = negative; whole = ds; fraction = f; exponent = pos 0 } in
-    ap (behind_digits n negative) (digits_again ds (with_point f) digits (point_ends f))
-    ∙ ap (behind_fraction n negative ds) (fraction_again f places)
-    ∙ ap (λ b. cond b None (cond (length ds + length f == 0) None (Some d))) not_long
-    ∙ ap (λ b. cond b None (Some d)) not_none
-
-whole_small : (q : ℕ) → q < 10 ^ 28 → q / 10 ^ 16 < 10 ^ 12
-whole_small q small = omega arith
-
-length-with_point : (f : List ℕ) → length (with_point f) ≤ 1 + length f
-length-with_point [] = omega arith
-length-with_point (c ∷ cs) = omega arith
-
--- the parts of the text with its sign
-parts_plain : (q n : ℕ) (negative : Bool) → q < 10 ^ 28 → n ≤ 64 → behind_sign n (negative, plain q) ≡ Some (record { negative = negative; whole = decimal (q / 10 ^ 16); fraction = fraction_of q; exponent = pos 0 })
-parts_plain q n negative small short =
-    let less = whole_small q small in
-    parts_text n negative (decimal (q / 10 ^ 16)) (fraction_of q) short (digits_decimal own (q / 10 ^ 16) (omega arith)) (decimal_nonempty (q / 10 ^ 16) (omega arith)) (fraction_digits q)
-
-length-plain : (q : ℕ) → q < 10 ^ 28 → length (plain q) ≤ 29
-length-plain q small =
-    let less = whole_small q small in
-    omega (arith, length-append (decimal (q / 10 ^ 16)) (with_point (fraction_of q)), length-with_point (fraction_of q), fraction_short q, length-decimal-le 12 (q / 10 ^ 16) (omega arith) less (omega arith))
-
-abbrev parts_are : Bool → ℕ → Decimal
-parts_are negative q = record { negative = negative; whole = decimal (q / 10 ^ 16); fraction = fraction_of q; exponent = pos 0 }
-
-parts_positive : (q : ℕ) → q < 10 ^ 28 → parts_of (plain q) ≡ Some (parts_are false q)
-parts_positive q small =
-    let less = whole_small q small in
-    starts (plain q) ∙ ap (behind_sign (length (plain q))) (sign_none (decimal (q / 10 ^ 16)) (with_point (fraction_of q)) (digits_decimal own (q / 10 ^ 16) (omega arith)) (decimal_nonempty (q / 10 ^ 16) (omega arith))) ∙ parts_plain q (length (plain q)) false small (omega (arith, length-plain q small))
-
-parts_negative : (q : ℕ) → q < 10 ^ 28 → parts_of (45 ∷ plain q) ≡ Some (parts_are true q)
-parts_negative q small = starts (45 ∷ plain q) ∙ parts_plain q (suc (length (plain q))) true small (omega (arith, length-plain q small))
-
-minus_none : (n q : ℕ) → minus (pos n) q ≡ []
-minus_none n q = grind (arith, nat_tests, ints)
-
-minus_one : (n q : ℕ) → 0 < q → minus (negsuc n) q ≡ 45 ∷ []
-minus_one n q some = grind (arith, nat_tests, ints)
 
 short_positive : (n : ℕ) → n % 18 ≡ 0 → n < 10 ^ 12 * unit → parts_of (short_text (pos n)) ≡ Some (parts_are false (n / 18))
 short_positive n whole small =
@@ -249,54 +138,3 @@ count_again n small =
     ∙ ap (λ b. cond (b && list_all is_ascii_digit (decimal n)) (Some (number (decimal n))) None) less
     ∙ ap (λ b. cond b (Some (number (decimal n))) None) (digits_decimal own n (omega arith))
     ∙ ap Some (digits_value-decimal own n (omega arith))
-
--- a whole number, and the number that its digits write
-abbrev Writes : ℕ → List ℕ → Type 0
-Writes n ds = AreDigits ds × (number ds ≡ n)
-
-digits_push : (n : ℕ) (ds : List ℕ) → 10 ≤ n → Writes (n / 10) ds → Writes n (ds ++ ((48 + n % 10) ∷ []))
-digits_push n ds some h = (
-  list_all-append is_ascii_digit ds ((48 + n % 10) ∷ []) ∙ ap (λ b. b && list_all is_ascii_digit ((48 + n % 10) ∷ [])) h.0 ∙ ap (λ b. b && true) (digit_is n),
-  number-append ds ((48 + n % 10) ∷ []) ∙ omega (arith, h.1),
-)
-
-digit_small : (n : ℕ) → n < 10 → Writes n ((48 + n) ∷ [])
-digit_small n small =
-    let same : n % 10 ≡ n = omega arith in
-    (ap (λ k. list_all is_ascii_digit ((48 + k) ∷ [])) (sym same) ∙ ap (λ b. b && true) (digit_is n), omega arith)
-
-pub decimal_writes : (n : ℕ) → n < 10 ^ 64 → Writes n (decimal n)
-decimal_writes n small = decimal_by_steps_wide Writes digit_small digits_push n small
-
-some_decimal : (n : ℕ) → n < 10 ^ 64 → 0 < length (decimal n)
-some_decimal n small = decimal_by_steps_wide (λ m ds. 0 < length ds) (λ m less. omega arith) (λ m ds le h. omega (arith, length-append ds ((48 + m % 10) ∷ []))) n small
-
-abbrev whole_parts : Bool → ℕ → Decimal
-whole_parts negative n = record { negative = negative; whole = decimal n; fraction = []; exponent = pos 0 }
-
-whole_behind : (m n : ℕ) (negative : Bool) → m < 10 ^ 20 → n ≤ 64 → behind_sign n (negative, decimal m) ≡ Some (whole_parts negative m)
-whole_behind m n negative small short = ap (λ (x : List ℕ). behind_sign n (negative, x)) (sym (append-nil (decimal m))) ∙ parts_text n negative (decimal m) [] short (decimal_writes m (omega arith)).0 (some_decimal m (omega arith)) refl
-
-whole_short : (m : ℕ) → m < 10 ^ 20 → length (decimal m) ≤ 20
-whole_short m small = length-decimal-le_wide 20 m (omega arith) small (omega arith)
-
-whole_positive : (m : ℕ) → m < 10 ^ 20 → parts_of (decimal m) ≡ Some (whole_parts false m)
-whole_positive m small =
-    let no_sign : sign_at (decimal m) ≡ (false, decimal m) = ap sign_at (sym (append-nil (decimal m))) ∙ sign_none (decimal m) [] (decimal_writes m (omega arith)).0 (some_decimal m (omega arith)) ∙ ap (λ (x : List ℕ). (false, x)) (append-nil (decimal m)) in
-    starts (decimal m) ∙ ap (behind_sign (length (decimal m))) no_sign ∙ whole_behind m (length (decimal m)) false small (omega (arith, whole_short m small))
-
-whole_negative : (m : ℕ) → m < 10 ^ 20 → parts_of (45 ∷ decimal m) ≡ Some (whole_parts true m)
-whole_negative m small = starts (45 ∷ decimal m) ∙ whole_behind m (suc (length (decimal m))) true small (omega (arith, whole_short m small))
-
-whole_from : (text : List ℕ) (m : ℕ) (negative : Bool) → m < 10 ^ 20 → parts_of text ≡ Some (whole_parts negative m) → whole_of text ≡ Some (signed negative m)
-unfolding whole_of
-whole_from text m negative small parts =
-    let finish : Decimal → Option ℤ = λ d. exact (mantissa d) (d.exponent -ℤ pos (length d.fraction)) >>= λ n. cond (nat_lt n (10 ^ 20)) (Some (signed d.negative n)) None in
-    let value : number (decimal m ++ []) * 1 ≡ m = ap (λ (x : List ℕ). number x * 1) (append-nil (decimal m)) ∙ ap (λ k. k * 1) (decimal_writes m (omega arith)).1 ∙ omega arith in
-    let less : nat_lt m (10 ^ 20) ≡ true = grind (arith, nat_tests) in
-    ap (λ (x : Option Decimal). x >>= finish) parts ∙ ap (λ k. cond (nat_lt k (10 ^ 20)) (Some (signed negative k)) None) value ∙ ap (λ b. cond b (Some (signed negative m)) None) less
-
--- each whole number that a NODATA may be
-pub whole_again_wide : (n : ℤ) → unsigned_abs n < 10 ^ 20 → whole_of (signed_decimal n) ≡ Some n
-whole_again_wide (pos n) small = whole_from (decimal n) n false small (whole_positive n small)
-whole_again_wide (negsuc n) small = whole_from (45 ∷ decimal (suc n)) (suc n) true small (whole_negative (suc n) small)

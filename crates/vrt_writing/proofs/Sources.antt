@@ -13,12 +13,14 @@ use Rattle.vrt_markup.specs.Kept.{stepped}
 use Rattle.vrt_profile.specs.Numbers.{or_fault, within_limit, some_size, offset_in, size_in, band_by, band_number, no_band_fault, scale_by}
 use Rattle.vrt_profile.specs.Values.{million, trillion, Rectangle, IsOffset, IsRectangle, IsLut, SourceValue, IsSource, IsSimple}
 use Rattle.vrt_writing.specs.Spelled.{Markup, nothing, both, words, pair, flag_text, micro_text, part_text, lut_text, file_markup, source_band_markup, rectangle_pairs, rectangle_markup, nodata_markup, scale_markup, lut_markup, place_markup, scaling_markup}
-use Rattle.vrt_profile.specs.Means.{File, SourceParts, no_parts, source_step, flag_in, judged, childless, file_when, file_by, rect_by, rect_of, with_file, with_band, with_src, with_dst, with_nodata, with_offset, with_ratio, with_lut, source_band_by, nodata_by, scale_text, lut_by, value_in, source_from, source_named, source_end}
+use Rattle.vrt_profile.specs.Means.{File, SourceParts, no_parts, source_step, flag_in, childless, rect_of, with_file, with_band, with_src, with_dst, with_nodata, with_offset, with_ratio, with_lut, source_band_by, nodata_by, scale_text, lut_by, value_in, source_from, source_named, source_end}
+use Rattle.vrt_profile.specs.Seen.{file_when, file_by, rect_by}
 use Rattle.vrt_profile.specs.declared.rectangle.LutPair.{LutPair}
 use Rattle.vrt_markup.specs.declared.fault.VrtFault.{VrtFault}
 use Rattle.vrt_markup.specs.declared.fault.VrtFault.TheVariants.{MissingPart, BadNumber, Limit}
 use Rattle.vrt_profile.proofs.KeptTexts.{is_text}
-use Rattle.vrt_writing.proofs.Places.{micro_again, part_again, count_again, whole_again_wide}
+use Rattle.geotransform.proofs.RoundTrip.{whole_again_wide}
+use Rattle.vrt_writing.proofs.Places.{micro_again, part_again, count_again}
 use Rattle.vrt_writing.proofs.Figures.{AreFigures, AreMarks, micro_figures, part_figures, decimal_figures, signed_figures, figures_marks, escaped_same, figures_value, trim_same}
 use Rattle.vrt_writing.proofs.Relisted.{lut_again, lut_marks}
 use Rattle.vrt_writing.proofs.Openings.{IsOpening, tag_of}
@@ -30,6 +32,10 @@ takes_to step level m kept now then p e = subst (Takes step level m kept) e p
 -- an element whose text needs no entities
 pub takes_marks : {S : Type 0} (step : Step S) (level : ℕ) (name : List ℕ) (ps : List Pair) (t : List ℕ) (kept : Result S VrtFault) (k : List ℕ × Option ℕ → Result S VrtFault) → level < 64 → IsOpening name ps → AreMarks t → ((place : ℕ) (f : Forest) → k (text_of f, child_of f) ≡ stepped step kept place (tag_of name ps false) f) → Takes step level (words name ps t) kept (k (t, None))
 takes_marks step level name ps t kept k less is marks same = subst (λ (x : List ℕ). Takes step level (words name ps x) kept (k (t, None))) (escaped_same t marks) (takes_words step level name ps t kept k less is same)
+
+-- what an element's text means, judged first, then a child of it
+abbrev pub judged : {A : Type 0} → Result A VrtFault → Option ℕ → Result A VrtFault
+judged value child = value >>= childless child
 
 -- what is read of a source so far
 abbrev pub parts : Option File → Option ℕ → Option Rectangle → Option Rectangle → Option (Option ℤ) → Option ℤ → Option ℤ → Option (List LutPair) → SourceParts
@@ -100,7 +106,7 @@ size_is v some small =
     ∙ limit_is v small
 
 rect_again : (r : Rectangle) (alone : Bool) (name : List ℕ) → IsRectangle r → rect_of (tag_of name (rectangle_pairs r) alone) stop ≡ Ok r
-unfolding rect_by
+unfolding rect_of rect_by
 rect_again r alone name is =
     let children : Result Bool VrtFault = Ok true in
     ap (λ x. rect_by x (offset_in (Some (micro_text r.y))) (size_in (Some (micro_text r.w))) (size_in (Some (micro_text r.h))) true children) (offset_is r.x is.left)

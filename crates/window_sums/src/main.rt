@@ -8,7 +8,7 @@ ghost use Rattle.outside.specs.Outside.{Files};
 ghost use Rattle.catalog.specs.Walk.{IsWalked};
 ghost use Rattle.nearest_window.specs.Right.{IsReady};
 
-use band_blocks::Steps;
+use band_blocks::Counter;
 use catalog::{Catalog, open_all};
 use geotransform::{Rect, Sample, Size};
 use itoa::Buffer;
@@ -42,7 +42,7 @@ struct Job {
 struct Reader<F: Folder, L: Ledger> {
     alloc: Global,
     lane: Lane<F>,
-    loads: Steps<L>,
+    loads: Counter<L>,
     room: Vec<Sample>,
 }
 
@@ -195,7 +195,7 @@ fn sum_of_dataset<F: Folder, L: Ledger>(
     let size = cat.head(id).size;
     let lines = lines_of(job.lines, size).min(size.h);
     let room = vec![in alloc; 0; count_of(size.w, lines)].ok()?;
-    let loads: Steps<L> = Steps::open(blank);
+    let loads: Counter<L> = Counter::open(blank);
     let mut reader = Reader {
         alloc,
         lane,

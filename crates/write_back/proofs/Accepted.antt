@@ -49,12 +49,13 @@ use Rattle.catalog.specs.Pixels.{sample_in, file_pixel, pixel_step, pixel_within
 use Rattle.translate_plan.specs.declared.options.Driver.{Driver}
 use Rattle.translate_plan.specs.declared.options.Driver.TheVariants.{EHdr, Dted, SrtmHgt, AaiGrid, Vrt}
 use Rattle.translate_plan.specs.declared.band.OutBand.{OutBand}
+use Rattle.translate_plan.specs.Options.{driver_for}
 use Rattle.translate_plan.specs.Bands.{no_out_band}
 use Rattle.translate_plan.specs.Plan.{Planned, first_band, raw_head, BandsHold, IsAlike, IsPlan}
 use Rattle.translate_plan.proofs.Written.{raw_is_head}
 use Rattle.write_back.specs.declared.forms.Writer.TheVariants as writers
 use Rattle.write_back.specs.Files.{files_of, raw_bytes, IsTight}
-use Rattle.write_back.specs.Plans.{driver_of, IsNamedFor}
+use Rattle.write_back.specs.Plans.{IsNamedFor}
 use Rattle.write_back.specs.Reading.{HasFiles, kind_read, AreSamplesOf, IsBandOf, IsDecoded, IsReadable}
 use Rattle.write_back.specs.View.{Blocks, is_writable, IsIn}
 use Rattle.write_back.proofs.Data.{len_by}
@@ -70,7 +71,7 @@ kind_by SrtmHgt = kinds.Hgt
 kind_by AaiGrid = kinds.Ascii
 kind_by Vrt = kinds.Vrt
 
-kind_of_ext : (x : Ext) → kind_of x ≡ Some (kind_by (driver_of x))
+kind_of_ext : (x : Ext) → kind_of x ≡ Some (kind_by (driver_for x))
 kind_of_ext ext.Bil = refl
 kind_of_ext ext.Bip = refl
 kind_of_ext ext.Bsq = refl
@@ -82,7 +83,7 @@ kind_of_ext ext.Asc = refl
 kind_of_ext ext.Grd = refl
 kind_of_ext ext.Vrt = refl
 
-named_kind : (e : Option Ext) (d : Driver) → option_map driver_of e ≡ Some d → option_and_then kind_of e ≡ Some (kind_by d)
+named_kind : (e : Option Ext) (d : Driver) → option_map driver_for e ≡ Some d → option_and_then kind_of e ≡ Some (kind_by d)
 named_kind None d is = absurd cc
 named_kind (Some x) d is = kind_of_ext x ∙ ap (option_map kind_by) is
 
@@ -94,7 +95,7 @@ raw_by SrtmHgt = false
 raw_by AaiGrid = false
 raw_by Vrt = false
 
-raw_of_ext : (x : Ext) → is_raw (Some x) ≡ raw_by (driver_of x)
+raw_of_ext : (x : Ext) → is_raw (Some x) ≡ raw_by (driver_for x)
 raw_of_ext ext.Bil = refl
 raw_of_ext ext.Bip = refl
 raw_of_ext ext.Bsq = refl
@@ -109,9 +110,9 @@ raw_of_ext ext.Vrt = refl
 some_driver : (a b : Driver) → Some a ≡ Some b → a ≡ b
 some_driver a b e = cc
 
-raw_ext : (e : Option Ext) (d : Driver) → option_map driver_of e ≡ Some d → d ≡ EHdr → is_raw e ≡ true
+raw_ext : (e : Option Ext) (d : Driver) → option_map driver_for e ≡ Some d → d ≡ EHdr → is_raw e ≡ true
 raw_ext None d is same = absurd cc
-raw_ext (Some x) d is same = raw_of_ext x ∙ ap raw_by (some_driver (driver_of x) d is ∙ same)
+raw_ext (Some x) d is same = raw_of_ext x ∙ ap raw_by (some_driver (driver_for x) d is ∙ same)
 
 pub named_raw : (p : Planned) (name : List ℕ) → IsNamedFor p name → p.driver ≡ EHdr → is_raw (extension_of name) ≡ true
 named_raw p name is same = raw_ext (extension_of name) p.driver is same

@@ -7,6 +7,7 @@ use Rattle.std.proofs.lemmas.List.FromFn.{length-map-range_with_len, get_or-map-
 use Rattle.std.proofs.lemmas.List.Sums.{AllPass-from_list_all}
 use Rattle.std.proofs.lemmas.Option.{get_or_from_slice_get, slice_get_within}
 use Rattle.lists_and_answers.specs.Answers.{◌>>=◌}
+use Rattle.lists_and_answers.specs.Lists.{flattened}
 use Rattle.geotransform.specs.Types.{is_in}
 use Rattle.geotransform.specs.Geo.{Transform}
 use Rattle.geotransform.specs.declared.types.PixelType.{PixelType}
@@ -14,7 +15,7 @@ use Rattle.outside.specs.Outside.{Files}
 use Rattle.ascii_grid.specs.declared.faults.GridFault.{GridFault}
 use Rattle.ascii_grid.specs.Grid as ascii
 use Rattle.ascii_grid.specs.Values.{is_value}
-use Rattle.ascii_grid.specs.Text.{joined, placing_of, AreRows, IsGridOf, IsReadAgain}
+use Rattle.ascii_grid.specs.Text.{placing_of, AreRows, IsGridOf, IsReadAgain}
 use Rattle.ascii_grid.proofs.Again.{grid_again}
 use Rattle.catalog.specs.declared.kind.BandHead.{BandHead}
 use Rattle.catalog.specs.declared.driver.DriverHead.TheVariants as heads
@@ -58,10 +59,10 @@ are_rows g samples within = record {
 }
 
 -- the value of the grid that a text is
-grid_value : (g : GridForm) (samples : ℕ → ℕ → ℕ → ℤ) (read : Transform) (x y : ℕ) → (is : IsGridOf (grid_text g samples) g.size read g.nodata (joined (rows_of g samples))) → AreRows g.size.w (rows_of g samples) → x < g.size.w → y < g.size.h → ascii.ascii_at (grid_text g samples) x y ≡ samples 0 x y
+grid_value : (g : GridForm) (samples : ℕ → ℕ → ℕ → ℤ) (read : Transform) (x y : ℕ) → (is : IsGridOf (grid_text g samples) g.size read g.nodata (flattened (rows_of g samples))) → AreRows g.size.w (rows_of g samples) → x < g.size.w → y < g.size.h → ascii.ascii_at (grid_text g samples) x y ≡ samples 0 x y
 grid_value g samples read x y is are column line =
     ap (λ (r : Result ascii.Grid GridFault). ascii.ascii_in r x y) is.grid
-    ∙ ap (λ (l : List ℤ). get_or l (y * g.size.w + x) (pos 0)) (sym (append-nil (joined (rows_of g samples))))
+    ∙ ap (λ (l : List ℤ). get_or l (y * g.size.w + x) (pos 0)) (sym (append-nil (flattened (rows_of g samples))))
     ∙ joined_at g.size.w 0 (rows_of g samples) x y are column
     ∙ ap (λ (l : List ℤ). get_or l x (pos 0)) (get_or-map-range_with_len (line_at samples g.size.w) 0 g.size.h y y [] line (zero-add y))
     ∙ made_at (λ u. samples 0 u y) g.size.w x column

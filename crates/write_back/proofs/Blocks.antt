@@ -29,8 +29,8 @@ use Rattle.write_back.proofs.Runs.{put_len, put_small, put_stands, put_below, pu
 pub range_same : (f g : ℕ → ℤ) (n : ℕ) → ((i : ℕ) → i < n → f i ≡ g i) → map f (range_with_len 0 n) ≡ map g (range_with_len 0 n)
 range_same f g n same = fill_by_all g (map f (range_with_len 0 n)) n (pos 0) (length-map-range_with_len f 0 n) (λ k below. get_or-map-range_with_len f 0 n k k (pos 0) below (zero-add k) ∙ same k below)
 
-pub place_of : (h : Head) (k u v : ℕ) → IsSpot (Raw h) k u v → IsLineSpot h k u v
-place_of h k u v spot = record { band = spot.band; spot = spot.spot; line = spot.block }
+pub line_spot : (h : Head) (k u v : ℕ) → IsSpot (Raw h) k u v → IsLineSpot h k u v
+line_spot h k u v spot = record { band = spot.band; spot = spot.spot; line = spot.block }
 
 -- a whole line that was written is a block that was written
 pub raw_written : (h : Head) (key : BlockKey) (line : List ℤ) (b c : List ℕ) → key.dataset ≡ 0 → IsRunWritten h key.band key.block 0 (spots_of h) line b c → IsBlockWritten (Raw h) key line b c
@@ -38,7 +38,7 @@ raw_written h key line b c file put = record {
   len = put.len;
   formed = put.small;
   here = λ u less. put.here u (omega arith) (omega arith);
-  others = λ k u v spot other. put.others k u v (place_of h k u v spot) (λ i. other (ap (λ n. line_key n v) i.band_is ∙ ap (λ n. line_key key.band n) i.line_is ∙ line_is key file));
+  others = λ k u v spot other. put.others k u v (line_spot h k u v spot) (λ i. other (ap (λ n. line_key n v) i.band_is ∙ ap (λ n. line_key key.band n) i.line_is ∙ line_is key file));
   met = tt;
   stays = λ v less was. tt;
 }

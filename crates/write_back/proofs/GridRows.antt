@@ -6,11 +6,12 @@ use Rattle.std.proofs.lemmas.Bool.{cases_lt}
 use Rattle.std.proofs.lemmas.List.{drop_at, get_or-take, get_or-drop, get_or_append_left, get_or-append_right, length-replicate, length-take-le, length-drop}
 use Rattle.std.proofs.lemmas.List.FromFn.{fill_by_all, length-map-range_with_len, get_or-map-range_with_len}
 use Rattle.std.proofs.Math.Nat.{mul-le-mul_right, mul_comm}
+use Rattle.lists_and_answers.specs.Lists.{flattened}
 use Rattle.geotransform.specs.declared.types.Rect.{Rect}
 use Rattle.outside.specs.Outside.{Files, Appended}
 use Rattle.ascii_grid.specs.Tokens.{tokens}
 use Rattle.ascii_grid.specs.Values.{is_value}
-use Rattle.ascii_grid.specs.Text.{row_text, joined, AreRows}
+use Rattle.ascii_grid.specs.Text.{row_text, AreRows}
 use Rattle.ascii_grid.specs.Row.{row_of, value_or_zero}
 use Rattle.ascii_grid.proofs.Again.{all_of, body_again}
 use Rattle.ascii_grid.proofs.RowReads.{body_values}
@@ -21,8 +22,8 @@ use Rattle.write_back.specs.Overlay.{IsInside, IsOverlaid}
 use Rattle.write_back.specs.Files.{line_at, grid_text}
 
 -- the values of the tokens of lines
-rows_read : (w : ℕ) (rows : List (List ℤ)) → AreRows w rows → map (λ t. value_or_zero t.text) (tokens (lines_text rows)) ≡ joined rows
-rows_read w rows are = body_values (tokens (lines_text rows)) (length (joined rows)) (joined rows) (body_again rows 0 (all_of rows are.values))
+rows_read : (w : ℕ) (rows : List (List ℤ)) → AreRows w rows → map (λ t. value_or_zero t.text) (tokens (lines_text rows)) ≡ flattened rows
+rows_read w rows are = body_values (tokens (lines_text rows)) (length (flattened rows)) (flattened rows) (body_again rows 0 (all_of rows are.values))
 
 no_zero : (n k : ℕ) → get_or (replicate n (pos 0)) k (pos 0) ≡ pos 0
 no_zero zero k = refl
@@ -33,20 +34,20 @@ tail_rows : (w : ℕ) (r : List ℤ) (rs : List (List ℤ)) → AreRows w (r ∷
 tail_rows w r rs are = record { long = λ k d less. are.long (suc k) d (omega arith); values = λ k d less. are.values (suc k) d (omega arith) }
 
 -- a value in front of zeros
-pub joined_at : (w n : ℕ) (rows : List (List ℤ)) (x y : ℕ) → AreRows w rows → x < w → get_or (joined rows ++ replicate n (pos 0)) (y * w + x) (pos 0) ≡ get_or (get_or rows y []) x (pos 0)
+pub joined_at : (w n : ℕ) (rows : List (List ℤ)) (x y : ℕ) → AreRows w rows → x < w → get_or (flattened rows ++ replicate n (pos 0)) (y * w + x) (pos 0) ≡ get_or (get_or rows y []) x (pos 0)
 joined_at w n [] x y are less = no_zero n (y * w + x)
 joined_at w n (r ∷ rs) x zero are less =
     let len : length r ≡ w = are.long 0 [] (omega arith) in
     let e : zero * w + x ≡ x = omega arith in
-    ap (λ (l : List ℤ). get_or l (zero * w + x) (pos 0)) (append_assoc r (joined rs) (replicate n (pos 0)))
-    ∙ ap (λ i. get_or (r ++ (joined rs ++ replicate n (pos 0))) i (pos 0)) e
-    ∙ get_or_append_left r (joined rs ++ replicate n (pos 0)) (pos 0) x (omega arith)
+    ap (λ (l : List ℤ). get_or l (zero * w + x) (pos 0)) (append_assoc r (flattened rs) (replicate n (pos 0)))
+    ∙ ap (λ i. get_or (r ++ (flattened rs ++ replicate n (pos 0))) i (pos 0)) e
+    ∙ get_or_append_left r (flattened rs ++ replicate n (pos 0)) (pos 0) x (omega arith)
 joined_at w n (r ∷ rs) x (suc y) are less =
     let len : length r ≡ w = are.long 0 [] (omega arith) in
     let e : suc y * w ≡ y * w + w = grind arith in
-    ap (λ (l : List ℤ). get_or l (suc y * w + x) (pos 0)) (append_assoc r (joined rs) (replicate n (pos 0)))
-    ∙ get_or-append_right r (joined rs ++ replicate n (pos 0)) w (suc y * w + x) (pos 0) len (omega arith)
-    ∙ ap (λ i. get_or (joined rs ++ replicate n (pos 0)) i (pos 0)) (let f : suc y * w + x - w ≡ y * w + x = omega arith in f)
+    ap (λ (l : List ℤ). get_or l (suc y * w + x) (pos 0)) (append_assoc r (flattened rs) (replicate n (pos 0)))
+    ∙ get_or-append_right r (flattened rs ++ replicate n (pos 0)) w (suc y * w + x) (pos 0) len (omega arith)
+    ∙ ap (λ i. get_or (flattened rs ++ replicate n (pos 0)) i (pos 0)) (let f : suc y * w + x - w ≡ y * w + x = omega arith in f)
     ∙ joined_at w n rs x y (tail_rows w r rs are) less
 
 -- the sample of a pixel is that of its line

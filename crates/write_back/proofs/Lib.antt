@@ -26,7 +26,7 @@ pub mod Runs
 pub mod Sheets
 pub mod Spelled
 pub mod States
-pub mod Steps
+pub mod PieceCounts
 pub mod Taken
 pub mod Transposed
 pub mod TileNames

@@ -19,7 +19,7 @@ use Rattle.write_back.specs.Pieces.{spot_place, AreBytes}
 use Rattle.write_back.specs.State.{IsRight}
 use Rattle.write_back.specs.View.{Blocks, Rows, TargetView, shown_on, IsIn}
 use Rattle.write_back.specs.Files.{header_text, HasHeader, IsBlockForm, IsTarget}
-use Rattle.write_back.proofs.Blocks.{place_of}
+use Rattle.write_back.proofs.Blocks.{line_spot}
 use Rattle.write_back.proofs.GridRows.{row_value}
 use Rattle.write_back.proofs.Sheets.{pixel_of}
 use Rattle.write_back.proofs.Taken.{empty_sound, empty_kept}
@@ -49,7 +49,7 @@ shows w v pool capacity draft bytes same empty is none = subst (λ u. (k x y : �
     (λ k x y place. ap (λ (p : PoolView). shown_on (Blocks w) p draft k x y) empty ∙ ap (λ d. shown_on (Blocks w) (pool_view [] capacity) d k x y) is ∙ none (plane_of (cut_of w).woven k) (spot_of (cut_of w).by_columns (cut_of w).woven (bands_in w) k x y) (block_of (cut_of w).by_columns x y) (spot_is w k x y (pixel_of w k x y place)))
 
 pub raw_zero : (h : Head) (n : ℕ) → IsHead h → n ≡ raw.needed_of h → (k u v : ℕ) → IsSpot (Raw h) k u v → under (Raw h) (replicate n 0) k u v ≡ pos 0
-raw_zero h n is long k u v spot = zero_sample h n (spot_place h k u v) (let last = spot_ends h k u v is (place_of h k u v spot) in omega arith)
+raw_zero h n is long k u v spot = zero_sample h n (spot_place h k u v) (let last = spot_ends h k u v is (line_spot h k u v spot) in omega arith)
 
 pub tile_zero : (side : ℕ) → (k u v : ℕ) → IsSpot (Hgt side) k u v → under (Hgt side) (replicate (2 * (side * side)) 0) k u v ≡ pos 0
 tile_zero side k u v spot = zero_tile side u v spot.spot spot.block

@@ -8,7 +8,7 @@ use Rattle.outside.specs.Outside.{Files}
 use Rattle.block_cache.specs.Entries.{PoolView, pool_view}
 use Rattle.write_back.specs.declared.forms.Writer.{Writer}
 use Rattle.write_back.specs.declared.forms.Writer.TheVariants.{Raw, Hgt, Dted}
-use Rattle.write_back.specs.Forms.{bands_in, cut_of, seen, IsPixel, most_calls}
+use Rattle.write_back.specs.Forms.{bands_in, cut_of, seen, HasPixel, most_calls}
 use Rattle.write_back.specs.Overlay.{overlay, AreSame, IsOverlaid, IsWindow, Stays, WasMet}
 use Rattle.write_back.specs.State.{StoreState, AreMet, Changes, HasDraft, IsRight, IsSound, Serves, lines_met}
 use Rattle.write_back.specs.View.{Output, Blocks, Rows, SheetView, all_blocks, calls_of, columns_of, is_writable, shown_on, seen_in, AreWritable, Finishes, IsIn, IsMetOn, IsNext, Keeps, Meets, Puts}
@@ -28,10 +28,10 @@ told_by None some = absurd (let clash : false ≡ true = some in cc)
 told_by (Some m) some = (m, refl)
 
 -- a pixel of an output
-pub pixel_of : (w : Writer) (k x y : ℕ) → IsIn (Blocks w) k x y → IsPixel w k x y
+pub pixel_of : (w : Writer) (k x y : ℕ) → IsIn (Blocks w) k x y → HasPixel w k x y
 pixel_of w k x y is = record { band = is.band; column = is.column; line = is.line }
 
-pub window_in : (w : Writer) (band : ℕ) (rect : Rect) (samples : List ℤ) (old new : ℕ → ℕ → ℕ → ℤ) → IsOverlaid (IsPixel w) band rect samples old new → IsOverlaid (IsIn (Blocks w)) band rect samples old new
+pub window_in : (w : Writer) (band : ℕ) (rect : Rect) (samples : List ℤ) (old new : ℕ → ℕ → ℕ → ℤ) → IsOverlaid (HasPixel w) band rect samples old new → IsOverlaid (IsIn (Blocks w)) band rect samples old new
 window_in w band rect samples old new set = record { inside = set.inside; outside = λ k x y place apart_from. set.outside k x y (pixel_of w k x y place) apart_from }
 
 module _ (w : Writer) where

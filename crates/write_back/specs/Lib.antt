@@ -12,5 +12,6 @@ pub mod State
 pub mod Pieces
 -- What private clauses, views and proofs speak of.
 pub mod Seen
+pub mod Served
 pub mod Turned
 pub mod Unwritten

@@ -3,12 +3,10 @@ use Rattle.std.specs.Prelude.{◌≡◌, ℕ, List, [], Option, Some, None, opti
 use Rattle.dted_records.specs.Head as cells
 use Rattle.dted_records.specs.Text.{head_text}
 use Rattle.outside.specs.Names.{extension_of}
-use Rattle.outside.specs.declared.name.Ext.{Ext}
-use Rattle.outside.specs.declared.name.Ext.TheVariants.{Bil, Bip, Bsq, Dt0, Dt1, Dt2, Hgt, Asc, Grd}
-use Rattle.outside.specs.declared.name.Ext.TheVariants as ext
 use Rattle.translate_plan.specs.declared.options.Driver.{Driver}
 use Rattle.translate_plan.specs.declared.options.Driver.TheVariants.{EHdr, SrtmHgt, AaiGrid, Vrt}
 use Rattle.translate_plan.specs.declared.options.Driver.TheVariants as drivers
+use Rattle.translate_plan.specs.Options.{driver_for}
 use Rattle.translate_plan.specs.Fits.{cell_in}
 use Rattle.translate_plan.specs.Plan.{Planned, first_band, raw_head}
 use Rattle.write_back.specs.Columns.{cell_of}
@@ -16,22 +14,9 @@ use Rattle.write_back.specs.View.{Output, Blocks, Rows}
 use Rattle.write_back.specs.declared.forms.Writer.TheVariants as writers
 use Rattle.write_back.specs.declared.rows.GridForm.{GridForm}
 
--- the driver that writes a kind of files
-abbrev pub driver_of : Ext → Driver
-driver_of Bil = EHdr
-driver_of Bip = EHdr
-driver_of Bsq = EHdr
-driver_of Dt0 = drivers.Dted 0
-driver_of Dt1 = drivers.Dted 1
-driver_of Dt2 = drivers.Dted 2
-driver_of Hgt = SrtmHgt
-driver_of Asc = AaiGrid
-driver_of Grd = AaiGrid
-driver_of ext.Vrt = Vrt
-
 -- the extension of a name is one of a plan's driver
 abbrev pub IsNamedFor : Planned → List ℕ → Type 0
-IsNamedFor p name = option_map driver_of (extension_of name) ≡ Some p.driver
+IsNamedFor p name = option_map driver_for (extension_of name) ≡ Some p.driver
 
 -- the cell of a head, with the head as it is written in front
 abbrev pub cell_output : Option cells.Head → Option Output

@@ -1,15 +1,21 @@
 -- How an output's data is seen.
 use Rattle.std.specs.Prelude.{ℕ, List, [], Option}
+use Rattle.outside.specs.declared.folder.Folder.{Ghosts}
 use Rattle.block_cache.specs.Entries.{pool_view}
 use Rattle.write_back.specs.declared.sheet.Kind.{Kind}
 use Rattle.write_back.specs.declared.sheet.Kind.TheVariants as kinds
 use Rattle.write_back.specs.declared.store.Store.{Store}
+use Rattle.write_back.specs.State.{StoreState, store_state}
 use Rattle.write_back.specs.Unwritten.{known}
 use Rattle.write_back.specs.View.{Blocks, Rows, SheetView}
 
 -- what a store knows of its draft's bytes
 abbrev pub known_in : {F File D : Type 0} → (D → Option (List ℕ)) → Store F File D → Option (List ℕ)
 known_in bytes s = known s.writer s.written (bytes s.draft)
+
+-- a store with its folder and a count of written blocks
+abbrev pub state_of : {F File D : Type 0} → Ghosts F File D → F → Store F File D → ℕ → StoreState
+state_of calls folder s writes = store_state (calls.names folder) s.pool (known_in calls.draft_bytes s) (calls.draft_len s.draft) (calls.draft_name s.draft) (calls.faults folder) (calls.read_calls folder) (calls.write_calls folder) writes
 
 -- blocks have a pool, and lines a count
 abbrev pub sheet_of : {F File D : Type 0} → (D → Option (List ℕ)) → (D → ℕ) → (D → List ℕ) → Kind F File D → SheetView

@@ -10,7 +10,7 @@ ghost use Rattle.write_back.specs.Grids.{HasRows, rows_in};
 use crate::TargetFault;
 use ascii_grid::write_row;
 use geotransform::{GeoTransform, Rect, Sample, Size};
-use outside::{Folder, Steps, WriteFault};
+use outside::{Counter, Folder, WriteFault};
 use std::sync::ledger::Ledger;
 
 /// What a grid is: its size, its geotransform where it has one, and its NODATA where it has one.
@@ -55,7 +55,7 @@ impl<F: Folder> RowStore<F> {
         &mut self,
         folder: &mut F,
         samples: &[Sample],
-        writes: &mut Steps<L>,
+        writes: &mut Counter<L>,
     ) -> Result<(), TargetFault>
         requires room { self.old.lines < self.old.form.size.h }
         ensures form { self.new.form ≡ self.old.form }
@@ -85,7 +85,7 @@ impl<F: Folder> RowStore<F> {
         folder: &mut F,
         rect: Rect,
         samples: &[Sample],
-        writes: &mut Steps<L>,
+        writes: &mut Counter<L>,
     ) -> Result<(), TargetFault>
         requires room { self.old.lines + rect.h ≤ self.old.form.size.h }
         requires across { rect.w ≡ self.old.form.size.w }

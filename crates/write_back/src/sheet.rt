@@ -2,14 +2,15 @@
 ghost use Rattle.std.specs.Prelude.{◌≡◌, ◌<◌, ◌≤◌, ◌+◌, ◌*◌, ℕ, List, length, Some, true, OnOk};
 ghost use Rattle.std.specs.List.{list_all};
 ghost use Rattle.outside.specs.Causes.{HasCause};
-ghost use Rattle.write_back.specs.View.{bands_of, columns_of, is_writable, rows_of, AreWritable, Finishes, IsNext, IsSoundOn, IsRightOn, Keeps, Puts};
+ghost use Rattle.write_back.specs.View.{bands_of, columns_of, is_writable, rows_of, AreWritable, IsNext, IsSoundOn, IsRightOn, Puts};
+ghost use Rattle.write_back.specs.Served.{FinishesIn, KeepsIn};
 ghost use Rattle.write_back.specs.Files.{HasBytes};
 
 use crate::TargetFault;
 use crate::rows::RowStore;
 use crate::store::Store;
 use geotransform::{PixelType, Rect, Sample, Size, holds};
-use outside::{Folder, Steps};
+use outside::{Counter, Folder};
 use std::alloc::Global;
 use std::marker::Model;
 use std::sync::ledger::Ledger;
@@ -99,7 +100,7 @@ impl<F: Folder> Sheet<F> {
         band: u32,
         rect: Rect,
         samples: &[Sample],
-        writes: &mut Steps<L>,
+        writes: &mut Counter<L>,
     ) -> Result<(), TargetFault>
         requires wide { 0 < rect.w }
         requires high { 0 < rect.h }
@@ -111,7 +112,7 @@ impl<F: Folder> Sheet<F> {
         requires size { length samples.now ≡ rect.w * rect.h }
         requires range { AreWritable self.old.output samples.now }
         requires next { IsNext self.old.output self.old.lines rect }
-        ensures kept { Keeps rect self.old self.new (F.names folder.old) (F.names folder.new) (F.read_calls folder.old) (F.read_calls folder.new) (F.write_calls folder.old) (F.write_calls folder.new) writes.old writes.new }
+        ensures kept { KeepsIn F.Folder rect folder.old self.old writes.old folder.new self.new writes.new }
         ensures put { OnOk result (Puts band rect samples.now (F.names folder.old) (F.names folder.new) self.old self.new) }
         ensures cause { HasCause TargetFault.FolderFault (F.faults folder.old) (F.faults folder.new) result }
     {
@@ -127,12 +128,12 @@ impl<F: Folder> Sheet<F> {
     pub(crate) fn finish<L: Ledger>(
         &mut self,
         folder: &mut F,
-        writes: &mut Steps<L>,
+        writes: &mut Counter<L>,
     ) -> Result<(), TargetFault>
         requires sound { IsSoundOn self.old.output self.old }
         requires right { IsRightOn self.old.output (F.names folder.old) self.old }
         ensures bytes { OnOk result (HasBytes (F.names folder.old) self.old self.new.draft) }
-        ensures kept { Finishes self.old self.new (F.names folder.old) (F.names folder.new) (F.read_calls folder.old) (F.read_calls folder.new) (F.write_calls folder.old) (F.write_calls folder.new) writes.old writes.new }
+        ensures kept { FinishesIn F.Folder folder.old self.old writes.old folder.new self.new writes.new }
         ensures cause { HasCause TargetFault.FolderFault (F.faults folder.old) (F.faults folder.new) result }
     {
         match &mut self.kind {

@@ -6,8 +6,8 @@ ghost use Rattle.band_blocks.specs.Spread.{IsSpread};
 ghost use Rattle.block_cache.specs.Entries.{held_at};
 ghost use Rattle.write_back.specs.Forms.{bands_in, cut_of, needed_of, most_calls, AreHeld, IsFormed, width_of, height_of};
 ghost use Rattle.write_back.specs.Overlay.{IsLine, IsPut, IsWindow, IsLineSet, AreSame, HoldsDirty, IsBlockWritten, held_in, line_key};
-ghost use Rattle.write_back.specs.Seen.{known_in};
-ghost use Rattle.write_back.specs.State.{AreMet, Changes, IsSound, Serves, lines_met, store_state};
+ghost use Rattle.write_back.specs.Seen.{known_in, state_of};
+ghost use Rattle.write_back.specs.State.{AreMet, Changes, IsSound, Serves, lines_met};
 
 use crate::TargetFault;
 use crate::forms::Writer;
@@ -16,7 +16,7 @@ use crate::unwritten::Written;
 use band_blocks::{Block, BlockKey};
 use block_cache::Pool;
 use geotransform::{PixelType, Rect, Sample};
-use outside::{Folder, Steps};
+use outside::{Counter, Folder};
 use std::alloc::{AllocError, Global};
 use std::sync::ledger::Ledger;
 
@@ -77,7 +77,7 @@ impl<F: Folder> Store<F> {
         folder: &mut F,
         key: BlockKey,
         block: &Block,
-        writes: &mut Steps<L>,
+        writes: &mut Counter<L>,
     ) -> Result<(), TargetFault>
         requires line { IsLine self.old.writer key block.now }
         requires long { F.draft_len self.old.draft ≡ needed_of self.old.writer }
@@ -105,7 +105,7 @@ impl<F: Folder> Store<F> {
         folder: &mut F,
         key: BlockKey,
         block: Block,
-        writes: &mut Steps<L>,
+        writes: &mut Counter<L>,
     ) -> Result<(), TargetFault>
         requires line { IsLine self.old.writer key block }
         requires long { F.draft_len self.old.draft ≡ needed_of self.old.writer }
@@ -130,15 +130,15 @@ impl<F: Folder> Store<F> {
         folder: &mut F,
         key: BlockKey,
         block: Block,
-        writes: &mut Steps<L>,
+        writes: &mut Counter<L>,
     ) -> Result<(), TargetFault>
         requires sound { IsSound self.old.writer self.old.pool }
         requires long { F.draft_len self.old.draft ≡ needed_of self.old.writer }
         requires absent { held_at key self.old.pool.entries ≡ None }
         requires line { IsLine self.old.writer key block }
         ensures head { self.new.writer ≡ self.old.writer }
-        ensures serves { Serves self.old.writer 1 0 (store_state (F.names folder.old) self.old.pool (known_in F.draft_bytes self.old) (F.draft_len self.old.draft) (F.draft_name self.old.draft) (F.faults folder.old) (F.read_calls folder.old) (F.write_calls folder.old) writes.old) (store_state (F.names folder.new) self.new.pool (known_in F.draft_bytes self.new) (F.draft_len self.new.draft) (F.draft_name self.new.draft) (F.faults folder.new) (F.read_calls folder.new) (F.write_calls folder.new) writes.new) }
-        ensures changed { OnOk result (Changes self.old.writer (IsLineSet self.old.writer key block.samples) (store_state (F.names folder.old) self.old.pool (known_in F.draft_bytes self.old) (F.draft_len self.old.draft) (F.draft_name self.old.draft) (F.faults folder.old) (F.read_calls folder.old) (F.write_calls folder.old) writes.old) (store_state (F.names folder.new) self.new.pool (known_in F.draft_bytes self.new) (F.draft_len self.new.draft) (F.draft_name self.new.draft) (F.faults folder.new) (F.read_calls folder.new) (F.write_calls folder.new) writes.new)) }
+        ensures serves { Serves self.old.writer 1 0 (state_of F.Folder folder.old self.old writes.old) (state_of F.Folder folder.new self.new writes.new) }
+        ensures changed { OnOk result (Changes self.old.writer (IsLineSet self.old.writer key block.samples) (state_of F.Folder folder.old self.old writes.old) (state_of F.Folder folder.new self.new writes.new)) }
         ensures dirty { OnOk result (HoldsDirty self.new.pool.entries key) }
         ensures cause { HasCause TargetFault.FolderFault (F.faults folder.old) (F.faults folder.new) result }
     {
@@ -230,7 +230,7 @@ impl<F: Folder> Store<F> {
         folder: &mut F,
         spot: Spot,
         samples: &[Sample],
-        writes: &mut Steps<L>,
+        writes: &mut Counter<L>,
     ) -> Result<(), TargetFault>
         requires sound { IsSound self.old.writer self.old.pool }
         requires long { F.draft_len self.old.draft ≡ needed_of self.old.writer }
@@ -240,8 +240,8 @@ impl<F: Folder> Store<F> {
         requires room { (i : ℕ) → i < length samples.now → spot.x + i * spot.stride < (cut_of self.old.writer).spots }
         requires range { AreHeld self.old.writer samples.now }
         ensures head { self.new.writer ≡ self.old.writer }
-        ensures serves { Serves self.old.writer 1 0 (store_state (F.names folder.old) self.old.pool (known_in F.draft_bytes self.old) (F.draft_len self.old.draft) (F.draft_name self.old.draft) (F.faults folder.old) (F.read_calls folder.old) (F.write_calls folder.old) writes.old) (store_state (F.names folder.new) self.new.pool (known_in F.draft_bytes self.new) (F.draft_len self.new.draft) (F.draft_name self.new.draft) (F.faults folder.new) (F.read_calls folder.new) (F.write_calls folder.new) writes.new) }
-        ensures changed { OnOk result (Changes self.old.writer (IsPut self.old.writer spot.band spot.x spot.stride spot.y samples.now) (store_state (F.names folder.old) self.old.pool (known_in F.draft_bytes self.old) (F.draft_len self.old.draft) (F.draft_name self.old.draft) (F.faults folder.old) (F.read_calls folder.old) (F.write_calls folder.old) writes.old) (store_state (F.names folder.new) self.new.pool (known_in F.draft_bytes self.new) (F.draft_len self.new.draft) (F.draft_name self.new.draft) (F.faults folder.new) (F.read_calls folder.new) (F.write_calls folder.new) writes.new)) }
+        ensures serves { Serves self.old.writer 1 0 (state_of F.Folder folder.old self.old writes.old) (state_of F.Folder folder.new self.new writes.new) }
+        ensures changed { OnOk result (Changes self.old.writer (IsPut self.old.writer (record { band = spot.band; start = spot.x; stride = spot.stride }) spot.y samples.now) (state_of F.Folder folder.old self.old writes.old) (state_of F.Folder folder.new self.new writes.new)) }
         ensures dirty { OnOk result (HoldsDirty self.new.pool.entries (line_key spot.band spot.y)) }
         ensures cause { HasCause TargetFault.FolderFault (F.faults folder.old) (F.faults folder.new) result }
     {
@@ -265,7 +265,7 @@ impl<F: Folder> Store<F> {
         band: u32,
         rect: Rect,
         samples: &[Sample],
-        writes: &mut Steps<L>,
+        writes: &mut Counter<L>,
     ) -> Result<(), TargetFault>
         requires rows { (cut_of self.old.writer).by_columns ≡ false }
         requires wide { 0 < rect.w }
@@ -277,8 +277,8 @@ impl<F: Folder> Store<F> {
         requires size { length samples.now ≡ rect.w * rect.h }
         requires range { AreHeld self.old.writer samples.now }
         ensures head { self.new.writer ≡ self.old.writer }
-        ensures serves { Serves self.old.writer rect.h 0 (store_state (F.names folder.old) self.old.pool (known_in F.draft_bytes self.old) (F.draft_len self.old.draft) (F.draft_name self.old.draft) (F.faults folder.old) (F.read_calls folder.old) (F.write_calls folder.old) writes.old) (store_state (F.names folder.new) self.new.pool (known_in F.draft_bytes self.new) (F.draft_len self.new.draft) (F.draft_name self.new.draft) (F.faults folder.new) (F.read_calls folder.new) (F.write_calls folder.new) writes.new) }
-        ensures changed { OnOk result (Changes self.old.writer (IsWindow self.old.writer band rect samples.now) (store_state (F.names folder.old) self.old.pool (known_in F.draft_bytes self.old) (F.draft_len self.old.draft) (F.draft_name self.old.draft) (F.faults folder.old) (F.read_calls folder.old) (F.write_calls folder.old) writes.old) (store_state (F.names folder.new) self.new.pool (known_in F.draft_bytes self.new) (F.draft_len self.new.draft) (F.draft_name self.new.draft) (F.faults folder.new) (F.read_calls folder.new) (F.write_calls folder.new) writes.new)) }
+        ensures serves { Serves self.old.writer rect.h 0 (state_of F.Folder folder.old self.old writes.old) (state_of F.Folder folder.new self.new writes.new) }
+        ensures changed { OnOk result (Changes self.old.writer (IsWindow self.old.writer band rect samples.now) (state_of F.Folder folder.old self.old writes.old) (state_of F.Folder folder.new self.new writes.new)) }
         ensures cause { HasCause TargetFault.FolderFault (F.faults folder.old) (F.faults folder.new) result }
     {
         // This call is made for the proof: it says that a block's number fits.
@@ -307,7 +307,7 @@ impl<F: Folder> Store<F> {
         band: u32,
         rect: Rect,
         samples: &[Sample],
-        writes: &mut Steps<L>,
+        writes: &mut Counter<L>,
     ) -> Result<(), TargetFault>
         requires columns { (cut_of self.old.writer).by_columns ≡ true }
         requires sound { IsSound self.old.writer self.old.pool }
@@ -318,9 +318,9 @@ impl<F: Folder> Store<F> {
         requires size { length samples.now ≡ rect.w * rect.h }
         requires range { AreHeld self.old.writer samples.now }
         ensures head { self.new.writer ≡ self.old.writer }
-        ensures serves { Serves self.old.writer rect.w 0 (store_state (F.names folder.old) self.old.pool (known_in F.draft_bytes self.old) (F.draft_len self.old.draft) (F.draft_name self.old.draft) (F.faults folder.old) (F.read_calls folder.old) (F.write_calls folder.old) writes.old) (store_state (F.names folder.new) self.new.pool (known_in F.draft_bytes self.new) (F.draft_len self.new.draft) (F.draft_name self.new.draft) (F.faults folder.new) (F.read_calls folder.new) (F.write_calls folder.new) writes.new) }
-        ensures changed { OnOk result (Changes self.old.writer (IsWindow self.old.writer band rect samples.now) (store_state (F.names folder.old) self.old.pool (known_in F.draft_bytes self.old) (F.draft_len self.old.draft) (F.draft_name self.old.draft) (F.faults folder.old) (F.read_calls folder.old) (F.write_calls folder.old) writes.old) (store_state (F.names folder.new) self.new.pool (known_in F.draft_bytes self.new) (F.draft_len self.new.draft) (F.draft_name self.new.draft) (F.faults folder.new) (F.read_calls folder.new) (F.write_calls folder.new) writes.new)) }
-        ensures met { OnOk result (AreMet self.old.writer band rect.x rect.w (store_state (F.names folder.old) self.old.pool (known_in F.draft_bytes self.old) (F.draft_len self.old.draft) (F.draft_name self.old.draft) (F.faults folder.old) (F.read_calls folder.old) (F.write_calls folder.old) writes.old) (store_state (F.names folder.new) self.new.pool (known_in F.draft_bytes self.new) (F.draft_len self.new.draft) (F.draft_name self.new.draft) (F.faults folder.new) (F.read_calls folder.new) (F.write_calls folder.new) writes.new)) }
+        ensures serves { Serves self.old.writer rect.w 0 (state_of F.Folder folder.old self.old writes.old) (state_of F.Folder folder.new self.new writes.new) }
+        ensures changed { OnOk result (Changes self.old.writer (IsWindow self.old.writer band rect samples.now) (state_of F.Folder folder.old self.old writes.old) (state_of F.Folder folder.new self.new writes.new)) }
+        ensures met { OnOk result (AreMet self.old.writer band rect.x rect.w (state_of F.Folder folder.old self.old writes.old) (state_of F.Folder folder.new self.new writes.new)) }
         ensures cause { HasCause TargetFault.FolderFault (F.faults folder.old) (F.faults folder.new) result }
     {
         // This call is made for the proof: it says that a block's number fits.
@@ -352,7 +352,7 @@ impl<F: Folder> Store<F> {
         band: u32,
         rect: Rect,
         samples: &[Sample],
-        writes: &mut Steps<L>,
+        writes: &mut Counter<L>,
     ) -> Result<(), TargetFault>
         requires wide { 0 < rect.w }
         requires high { 0 < rect.h }
@@ -364,9 +364,9 @@ impl<F: Folder> Store<F> {
         requires size { length samples.now ≡ rect.w * rect.h }
         requires range { AreHeld self.old.writer samples.now }
         ensures head { self.new.writer ≡ self.old.writer }
-        ensures serves { Serves self.old.writer (lines_met self.old.writer rect) 0 (store_state (F.names folder.old) self.old.pool (known_in F.draft_bytes self.old) (F.draft_len self.old.draft) (F.draft_name self.old.draft) (F.faults folder.old) (F.read_calls folder.old) (F.write_calls folder.old) writes.old) (store_state (F.names folder.new) self.new.pool (known_in F.draft_bytes self.new) (F.draft_len self.new.draft) (F.draft_name self.new.draft) (F.faults folder.new) (F.read_calls folder.new) (F.write_calls folder.new) writes.new) }
-        ensures changed { OnOk result (Changes self.old.writer (IsWindow self.old.writer band rect samples.now) (store_state (F.names folder.old) self.old.pool (known_in F.draft_bytes self.old) (F.draft_len self.old.draft) (F.draft_name self.old.draft) (F.faults folder.old) (F.read_calls folder.old) (F.write_calls folder.old) writes.old) (store_state (F.names folder.new) self.new.pool (known_in F.draft_bytes self.new) (F.draft_len self.new.draft) (F.draft_name self.new.draft) (F.faults folder.new) (F.read_calls folder.new) (F.write_calls folder.new) writes.new)) }
-        ensures met { OnOk result ((cut_of self.old.writer).by_columns ≡ true → AreMet self.old.writer band rect.x rect.w (store_state (F.names folder.old) self.old.pool (known_in F.draft_bytes self.old) (F.draft_len self.old.draft) (F.draft_name self.old.draft) (F.faults folder.old) (F.read_calls folder.old) (F.write_calls folder.old) writes.old) (store_state (F.names folder.new) self.new.pool (known_in F.draft_bytes self.new) (F.draft_len self.new.draft) (F.draft_name self.new.draft) (F.faults folder.new) (F.read_calls folder.new) (F.write_calls folder.new) writes.new)) }
+        ensures serves { Serves self.old.writer (lines_met self.old.writer rect) 0 (state_of F.Folder folder.old self.old writes.old) (state_of F.Folder folder.new self.new writes.new) }
+        ensures changed { OnOk result (Changes self.old.writer (IsWindow self.old.writer band rect samples.now) (state_of F.Folder folder.old self.old writes.old) (state_of F.Folder folder.new self.new writes.new)) }
+        ensures met { OnOk result ((cut_of self.old.writer).by_columns ≡ true → AreMet self.old.writer band rect.x rect.w (state_of F.Folder folder.old self.old writes.old) (state_of F.Folder folder.new self.new writes.new)) }
         ensures cause { HasCause TargetFault.FolderFault (F.faults folder.old) (F.faults folder.new) result }
     {
         let shape = self.writer.shape();
@@ -381,13 +381,13 @@ impl<F: Folder> Store<F> {
     pub(crate) fn flush<L: Ledger>(
         &mut self,
         folder: &mut F,
-        writes: &mut Steps<L>,
+        writes: &mut Counter<L>,
     ) -> Result<(), TargetFault>
         requires sound { IsSound self.old.writer self.old.pool }
         requires long { F.draft_len self.old.draft ≡ needed_of self.old.writer }
         ensures head { self.new.writer ≡ self.old.writer }
-        ensures serves { Serves self.old.writer (length self.old.pool.entries) (length self.old.pool.entries) (store_state (F.names folder.old) self.old.pool (known_in F.draft_bytes self.old) (F.draft_len self.old.draft) (F.draft_name self.old.draft) (F.faults folder.old) (F.read_calls folder.old) (F.write_calls folder.old) writes.old) (store_state (F.names folder.new) self.new.pool (known_in F.draft_bytes self.new) (F.draft_len self.new.draft) (F.draft_name self.new.draft) (F.faults folder.new) (F.read_calls folder.new) (F.write_calls folder.new) writes.new) }
-        ensures changed { OnOk result (Changes self.old.writer (AreSame self.old.writer) (store_state (F.names folder.old) self.old.pool (known_in F.draft_bytes self.old) (F.draft_len self.old.draft) (F.draft_name self.old.draft) (F.faults folder.old) (F.read_calls folder.old) (F.write_calls folder.old) writes.old) (store_state (F.names folder.new) self.new.pool (known_in F.draft_bytes self.new) (F.draft_len self.new.draft) (F.draft_name self.new.draft) (F.faults folder.new) (F.read_calls folder.new) (F.write_calls folder.new) writes.new)) }
+        ensures serves { Serves self.old.writer (length self.old.pool.entries) (length self.old.pool.entries) (state_of F.Folder folder.old self.old writes.old) (state_of F.Folder folder.new self.new writes.new) }
+        ensures changed { OnOk result (Changes self.old.writer (AreSame self.old.writer) (state_of F.Folder folder.old self.old writes.old) (state_of F.Folder folder.new self.new writes.new)) }
         ensures empty { OnOk result (self.new.pool.entries ≡ []) }
         ensures cause { HasCause TargetFault.FolderFault (F.faults folder.old) (F.faults folder.new) result }
     {

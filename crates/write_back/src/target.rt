@@ -31,7 +31,7 @@ use dted_records::DtedHead;
 use esri_hdr::{RawHead, write};
 use geotransform::{Rect, Sample, Size};
 use interleaved_raw::needed_len;
-use outside::{Folder, Name, Steps};
+use outside::{Counter, Folder, Name};
 use std::alloc::Global;
 use std::marker::Model;
 use std::sync::ledger::Ledger;
@@ -283,7 +283,7 @@ impl<F: Folder> Target<F> {
         band: u32,
         rect: Rect,
         samples: &[Sample],
-        writes: &mut Steps<L>,
+        writes: &mut Counter<L>,
     ) -> Result<(), TargetFault>
         requires target { IsTarget (F.names folder.old) self.old }
         requires band { band < bands_of self.old.output }
@@ -333,7 +333,7 @@ impl<F: Folder> Target<F> {
     /// Writes all blocks that aren't written yet, and publishes the data and then the header. After a refusal the
     /// first `published` files have their new bytes, and all other names keep their own; after a refused window no
     /// file is published, and the cause is that window's fault.
-    pub fn close<L: Ledger>(self, folder: &mut F, writes: &mut Steps<L>) -> Result<(), CloseFault>
+    pub fn close<L: Ledger>(self, folder: &mut F, writes: &mut Counter<L>) -> Result<(), CloseFault>
         requires target { IsTarget (F.names folder.old) self }
         // where it is whole, the first published files have their bytes, and all other names keep theirs
         ensures files { Publishes (F.names folder.old) self result (F.names folder.new) }

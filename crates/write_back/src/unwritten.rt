@@ -30,8 +30,8 @@ fn count_of(bands: u32, blocks: u32) -> usize
     bands as usize * blocks as usize
 }
 
-// The place of a block's mark.
-fn place_of(blocks: u32, band: u32, block: u32) -> usize
+// Which of the marks is a block's.
+fn mark_index(blocks: u32, band: u32, block: u32) -> usize
     ensures place { result ≡ band * blocks + block }
 {
     count_of(band, blocks) + block as usize
@@ -50,7 +50,7 @@ impl Written {
     pub(crate) fn is_written(&self, band: u32, block: u32) -> bool
         ensures written { result ≡ is_written self.now band block }
     {
-        match self.marks.get(place_of(self.blocks, band, block)) {
+        match self.marks.get(mark_index(self.blocks, band, block)) {
             Some(mark) => *mark,
             None => true,
         }
@@ -61,7 +61,7 @@ impl Written {
         ensures here { is_written self.new band block ≡ true }
         ensures others { (k v : ℕ) → is_written self.new k v ≡ false → is_written self.old k v ≡ false }
     {
-        let place = place_of(self.blocks, band, block);
+        let place = mark_index(self.blocks, band, block);
         if place < self.marks.len() {
             self.marks[place] = true;
         }

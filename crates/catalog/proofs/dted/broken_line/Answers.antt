@@ -18,6 +18,7 @@ loop-line-preserved g c = record {
   len = c.read_at.ensures.len ∙ c.loop-line.invariant.len;
   whole = c.read_at.auto.out ∙ c.loop-line.invariant.whole;
   names = c.read_at.ensures.names ∙ c.loop-line.invariant.names;
+  reads = omega (arith, c.loop-line.invariant.reads, c.read_at.ensures.read_calls);
   write_calls = c.read_at.ensures.write_calls ∙ c.loop-line.invariant.write_calls;
   later = omega (arith, c.loop-line.invariant.later, c.read_at.ensures.cause.later);
 }

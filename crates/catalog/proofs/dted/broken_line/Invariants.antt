@@ -1,4 +1,4 @@
-use Rattle.std.proofs.Common.{◌≡◌, ◌≤◌, ◌-◌, List, ℕ, length, Some}
+use Rattle.std.proofs.Common.{◌≡◌, ◌≤◌, ◌+◌, ◌-◌, List, ℕ, length, Some}
 use Rattle.std.specs.List.{range_with_len}
 use Rattle.dted_records.specs.Places.{record_len}
 use Rattle.catalog.specs.Heads.{broken_in}
@@ -12,6 +12,7 @@ invariant-loop-line g l = record {
   len : g.F.Folder.file_len l.file ≡ g.F.Folder.file_len l.fn.file;
   whole : length l.buffer ≡ record_len l.head;
   names : g.F.Folder.names l.folder ≡ g.F.Folder.names l.fn.folder;
+  reads : g.F.Folder.read_calls l.folder ≤ g.F.Folder.read_calls l.fn.folder + l.line;
   write_calls : g.F.Folder.write_calls l.folder ≡ g.F.Folder.write_calls l.fn.folder;
   later : g.F.Folder.faults l.fn.folder ≤ g.F.Folder.faults l.folder;
 }

@@ -2,7 +2,7 @@ use Rattle.std.proofs.Common.{◌+◌, ◌*◌, take, Ok}
 use Rattle.std.specs.Prelude.{flat_map}
 use Rattle.vrt_profile.specs.Values.{BandValue}
 use Rattle.catalog.specs.Linked.{IsMosaicAt, HasBand}
-use Rattle.catalog.specs.Steps.{seen, Passes, Reaches, ReachesRows}
+use Rattle.catalog.specs.Walking.{seen, Passes, Reaches, ReachesRows}
 use Rattle.catalog.proofs.walk.+walk.Given as goal
 
 abbrev pub decreases-visit : goal.decreases-visit

@@ -6,12 +6,12 @@ use Rattle.catalog.proofs.walk.check_band.Goals as goal
 
 pub band_count-requires : goal.band_count-requires
 band_count-requires c =
-    let f = found c.args.met.now.datasets c.args.wanted.now.name c.args.target c.requires.number in
-    record { known = slice_get_within c.args.met.now.datasets c.args.target f.dataset f.at }
+    let f = found c.args.met.now.datasets c.args.wanted.now.name c.args.member c.requires.number in
+    record { known = slice_get_within c.args.met.now.datasets c.args.member f.dataset f.at }
 
 pub returns-clause-told : goal.returns-clause-told
 returns-clause-told c =
-    let f = found c.args.met.now.datasets c.args.wanted.now.name c.args.target c.requires.number in
+    let f = found c.args.met.now.datasets c.args.wanted.now.name c.args.member c.requires.number in
     let bands = c.band_count.ensures.bands f.dataset f.at in
     let few = c.if-wanted-band_count.false in
-    band_there c.args.met.now.datasets c.args.wanted.now.name c.args.target f.dataset c.args.wanted.now.band c.requires.number f.at (omega arith)
+    band_there c.args.met.now.datasets c.args.wanted.now.name c.args.member f.dataset c.args.wanted.now.band c.requires.number f.at (omega arith)

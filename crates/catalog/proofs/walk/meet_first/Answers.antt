@@ -24,7 +24,7 @@ returns-in_err-id g c =
 pub returns-in-File : goal.returns-in-File
 returns-in-File g c =
     let e = c.in_ok-dataset.ensures in
-    record { meets = visits_file c.args.verify c.args.room c.args.name.now c.args.kind c.args.met.now c.requires.kind c.requires.shallow c.requires.fresh _ _ (omega arith) e.names e.write_calls c.requires.linked c.in_ok-dataset.dataset e.valid e.name e.told e.cause.later c.push.new.self c.in_ok-id.id c.in-File.field-0 c.of_file.result (ap (λ (d : Dataset). d.content) (sym c.dataset.view_is) ∙ c.in-File.is) c.of_file.ensures.file c.in_ok-id.ensures.ok c.in_ok-id.ensures.id }
+    record { meets = visits_file c.args.verify c.args.room c.args.name.now c.args.kind c.args.met.now c.requires.kind c.requires.shallow c.requires.fresh _ _ (omega arith) e.names e.write_calls c.requires.linked c.in_ok-dataset.dataset e.valid e.name e.told e.cause.later e.reads c.push.new.self c.in_ok-id.id c.in-File.field-0 c.of_file.result (ap (λ (d : Dataset). d.content) (sym c.dataset.view_is) ∙ c.in-File.is) c.of_file.ensures.file c.in_ok-id.ensures.ok c.in_ok-id.ensures.id }
 
 pub returns-in_err-id-2 : goal.returns-in_err-id-2
 returns-in_err-id-2 g c =
@@ -35,4 +35,4 @@ returns-in_err-id-2 g c =
 pub returns : goal.returns
 returns g c =
     let e = c.in_ok-dataset.ensures in
-    record { meets = opened c.args.verify c.args.room c.args.name.now c.args.kind c.args.met.now c.requires.kind c.requires.shallow c.requires.fresh _ _ (omega arith) e.names e.write_calls c.requires.linked c.in_ok-dataset.dataset e.valid e.name e.told e.cause.later c.push-2.new.self c.in_ok-id-2.id c.in_default.field-0 (ap (λ (d : Dataset). d.content) (sym c.dataset.view_is) ∙ c.in_default.is) c.in_ok-id-2.ensures.ok c.in_ok-id-2.ensures.id }
+    record { meets = opened c.args.verify c.args.room c.args.name.now c.args.kind c.args.met.now c.requires.kind c.requires.shallow c.requires.fresh _ _ (omega arith) e.names e.write_calls c.requires.linked c.in_ok-dataset.dataset e.valid e.name e.told e.cause.later e.reads c.push-2.new.self c.in_ok-id-2.id c.in_default.field-0 (ap (λ (d : Dataset). d.content) (sym c.dataset.view_is) ∙ c.in_default.is) c.in_ok-id-2.ensures.ok c.in_ok-id-2.ensures.id }

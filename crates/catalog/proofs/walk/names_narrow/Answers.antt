@@ -6,12 +6,12 @@ use Rattle.catalog.proofs.walk.names_narrow.Goals as goal
 
 pub is_narrow-requires : goal.is_narrow-requires
 is_narrow-requires c =
-    let f = found c.args.met.now.datasets c.args.wanted.now.name c.args.target c.requires.number in
-    record { known = slice_get_within c.args.met.now.datasets c.args.target f.dataset f.at }
+    let f = found c.args.met.now.datasets c.args.wanted.now.name c.args.member c.requires.number in
+    record { known = slice_get_within c.args.met.now.datasets c.args.member f.dataset f.at }
 
 pub returns : goal.returns
 returns c =
     let cat = c.args.met.now.datasets in
-    let f = found cat c.args.wanted.now.name c.args.target c.requires.number in
-    let named = named_at cat c.args.wanted.now.name c.args.target f.dataset c.requires.number f.at in
+    let f = found cat c.args.wanted.now.name c.args.member c.requires.number in
+    let named = named_at cat c.args.wanted.now.name c.args.member f.dataset c.requires.number f.at in
     record { narrow = c.is_narrow.ensures.narrow f.dataset f.at ∙ ap (λ o. is_narrow_band (band_named o c.args.wanted.now.band)) (sym named) }

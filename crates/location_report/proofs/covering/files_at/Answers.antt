@@ -15,8 +15,8 @@ overflow_cast-at c =
     let len = ap (λ (ss : List SourceValue). length ss) c.as_slice-source-items.ensures.items in
     omega (arith, c.loop-number-test.true)
 
-pub push_target-requires-clause-source : goal.push_target-requires-clause-source
-push_target-requires-clause-source c d at =
+pub push_member-requires-clause-source : goal.push_member-requires-clause-source
+push_member-requires-clause-source c d at =
     let band_at = ap (λ (doc : DocumentValue). slice_get doc.bands c.args.band) (sym c.document-2.view_is) ∙ c.get.ensures.item in
     let item = ap (λ (ss : List SourceValue). slice_get ss c.loop-number.number) (sym (c.as_slice-source-items.ensures.items ∙ ap (λ (b : BandValue). b.sources) c.behind-document.view_is)) ∙ slice_get-get_or c.as_slice-source-items.result.now c.loop-number.number _ c.loop-number-test.true ∙ ap (λ (s : SourceValue). Some s) (sym c.source-item.is) in
     source_stands c.args.cat.now c.args.id c.args.band c.loop-number.number d c.in-Some.document.now c.get.result.now c.source-item.result c.in-Some.ensures.document band_at item at
@@ -24,10 +24,10 @@ push_target-requires-clause-source c d at =
 pub loop-number-preserved : goal.loop-number-preserved
 loop-number-preserved c = record {
   names = λ d at.
-      c.in_ok-push_target.ensures.ok d at
+      c.in_ok-push_member.ensures.ok d at
       ∙ ap (λ (ns : List (List ℕ)). with_found ns (covered_by c.args.cat.now d c.args.x c.args.y c.source-item.result)) (c.loop-number.invariant.names d at)
       ∙ sym (fold_more (λ ns s. with_found ns (covered_by c.args.cat.now d c.args.x c.args.y s)) c.args.out.now c.as_slice-source-items.result.now c.loop-number.number c.source-item.result _ c.loop-number-test.true c.source-item.is);
-  kept = kept_then c.args.out.now _ _ c.loop-number.invariant.kept c.in_ok-push_target.ensures.kept;
+  kept = kept_then c.args.out.now _ _ c.loop-number.invariant.kept c.in_ok-push_member.ensures.kept;
 }
 
 pub returns-clause-ok : goal.returns-clause-ok

@@ -12,8 +12,8 @@ returns-then-is_beside c =
     let b = near_fits c.part.inside.w (let i = c.part.invariant.width in omega arith) in
     let beside = simp to_z-of_z at (c.is_beside.ensures.beside c.if-is_beside.true) in
     record {
-      missed = λ h target size x y left right top bottom.
-          no_column c.args.source.now c.in-Some.part (sym (ap (λ (s : SourceValue). s.dst) c.source.view_is) ∙ c.in-Some.is) target size x y
+      missed = λ h mosaic size x y left right top bottom.
+          no_column c.args.source.now c.in-Some.part (sym (ap (λ (s : SourceValue). s.dst) c.source.view_is) ∙ c.in-Some.is) mosaic size x y
           (subst (λ (r : Rectangle). (int_le r.x (centre x) && int_lt (centre x) (r.x +ℤ r.w)) ≡ false) c.part.view_is (beside x left right));
     }
 
@@ -22,8 +22,8 @@ returns-in-Some c =
     let a = near_fits c.part.inside.y (let i = c.part.invariant.top in omega arith) in
     let b = near_fits c.part.inside.h (let i = c.part.invariant.height in omega arith) in
     record {
-      missed = λ h target size x y left right top bottom.
+      missed = λ h mosaic size x y left right top bottom.
           let beside = simp to_z-of_z at (c.is_beside-in-Some.ensures.beside h) in
-          no_line c.args.source.now c.in-Some.part (sym (ap (λ (s : SourceValue). s.dst) c.source.view_is) ∙ c.in-Some.is) target size x y
+          no_line c.args.source.now c.in-Some.part (sym (ap (λ (s : SourceValue). s.dst) c.source.view_is) ∙ c.in-Some.is) mosaic size x y
           (subst (λ (r : Rectangle). (int_le r.y (centre y) && int_lt (centre y) (r.y +ℤ r.h)) ≡ false) c.part.view_is (beside y top bottom));
     }

@@ -3,9 +3,9 @@ use Rattle.std.specs.Prelude.{OnErr, OnOk}
 use Rattle.outside.specs.Outside.{Files}
 use Rattle.outside.specs.Streams.{Gets, GetsPart}
 use Rattle.error_lines.specs.declared.faults.Fault.{Fault}
+use Rattle.error_lines.specs.Progress.{progress}
 use Rattle.output_copies.specs.Copying.{spoken, IsFilled}
 use Rattle.output_copies.specs.Parts.{BeginsWith}
-use Rattle.output_copies.specs.Steps.{progress}
 use Rattle.output_copies.proofs.Beside.{fewer_left, filled_on}
 use Rattle.output_copies.proofs.Copied.{filled_next, filled_to}
 use Rattle.output_copies.proofs.Ends.{ends_after, ends_beside, ends_ok, ends_so, err_is}

@@ -3,8 +3,8 @@ use Rattle.std.specs.Prelude.{OnErr}
 use Rattle.outside.specs.Outside.{Files}
 use Rattle.outside.specs.Streams.{Gets, GetsPart}
 use Rattle.error_lines.specs.declared.faults.Fault.{Fault}
+use Rattle.error_lines.specs.Progress.{progress}
 use Rattle.output_copies.specs.Copying.{spoken, IsFilled}
-use Rattle.output_copies.specs.Steps.{progress}
 use Rattle.output_copies.proofs.Ends.{ends_after, ends_beside, ends_so, err_is}
 use Rattle.output_copies.proofs.Told.{told_none, told_so_far}
 use Rattle.output_copies.proofs.copying.copy_all.Goals as goal

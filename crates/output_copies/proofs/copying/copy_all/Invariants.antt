@@ -2,8 +2,8 @@ use Rattle.std.proofs.Common.{◌≡◌, ◌≤◌, ◌-◌, take, true}
 use Rattle.outside.specs.Streams.{Gets}
 use Rattle.lane_teams.specs.Ready.{AreLanesReady}
 use Rattle.strip_copies.specs.Copies.{IsRoomFor}
+use Rattle.error_lines.specs.Progress.{progress}
 use Rattle.output_copies.specs.Copying.{spoken, IsFilled}
-use Rattle.output_copies.specs.Steps.{progress}
 use Rattle.output_copies.proofs.copying.copy_all.Given as goal
 
 -- the lines so far

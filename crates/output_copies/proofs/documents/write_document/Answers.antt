@@ -2,8 +2,9 @@ use Rattle.std.proofs.Common.{refl, subst, sym, [], ◌∷◌, Some}
 use Rattle.vrt_writing.specs.Spelled.{spelled}
 use Rattle.vrt_profile.specs.Values.{DocumentValue}
 use Rattle.translate_plan.specs.Documents.{document_by}
+use Rattle.error_lines.specs.Progress.{progress}
 use Rattle.error_lines.specs.Steps.{Publishes, all_done, Goes}
-use Rattle.output_copies.specs.Steps.{progress, unless_quiet}
+use Rattle.output_copies.specs.Steps.{unless_quiet}
 use Rattle.output_copies.proofs.Ends.{ends_after, ends_beside, ends_published, ends_so, err_is, outside_memory}
 use Rattle.output_copies.proofs.Goes.{goes_refused, goes_stop, goes_then, spoken_done, spoken_stops}
 use Rattle.output_copies.proofs.Written.{document_steps}

@@ -1,11 +1,12 @@
 use Rattle.std.proofs.Common.{◌≡◌, ◌∙◌, refl, arith, sym, subst, ℕ, Bool, List, Some, Err}
 use Rattle.outside.specs.Streams.{Gets, GetsPart}
 use Rattle.error_lines.specs.Faults.{target_fault_of}
+use Rattle.error_lines.specs.Progress.{progress}
 use Rattle.error_lines.specs.Steps.{all_done, publishes, Goes}
 use Rattle.write_back.specs.Plans.{output_of}
 use Rattle.lane_teams.proofs.Lanes.{lanes_begin}
 use Rattle.output_copies.specs.Copying.{spoken, MayEnd}
-use Rattle.output_copies.specs.Steps.{files_by, progress, raster_of, unless_quiet}
+use Rattle.output_copies.specs.Steps.{files_by, raster_of, unless_quiet}
 use Rattle.output_copies.proofs.Ends.{ends_after, ends_beside, ends_so, ends_target, err_is, outside_memory, outside_target}
 use Rattle.output_copies.proofs.Goes.{goes_refused, goes_stop, goes_then, spoken_done, spoken_stops}
 use Rattle.output_copies.proofs.Written.{samples_steps}

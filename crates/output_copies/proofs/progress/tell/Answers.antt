@@ -1,7 +1,7 @@
 use Rattle.std.proofs.Common.{◌≡◌, ◌-◌, ◌≤◌, ap, sym, subst, arith, ℕ, List, take, drop, Result}
 use Rattle.error_lines.specs.declared.faults.Fault.{Fault}
+use Rattle.error_lines.specs.Progress.{progress}
 use Rattle.output_copies.specs.Copying.{Tells}
-use Rattle.output_copies.specs.Steps.{progress}
 use Rattle.output_copies.proofs.Ends.{ends_ok, ends_so, err_is}
 use Rattle.output_copies.proofs.Told.{told_more, told_part}
 use Rattle.output_copies.proofs.progress.tell.Goals as goal

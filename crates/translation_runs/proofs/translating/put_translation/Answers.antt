@@ -6,9 +6,8 @@ use Rattle.catalog.specs.Outcomes as outcomes
 use Rattle.catalog.specs.Drivers.{Dataset}
 use Rattle.catalog.specs.Walk.{walked}
 use Rattle.catalog.proofs.Found.{found}
-use Rattle.translate_plan.specs.Options.{Options, IsOptions}
+use Rattle.translate_plan.specs.Options.{Options, IsOptions, driver_for}
 use Rattle.translate_plan.specs.Plan.{plan_of}
-use Rattle.write_back.specs.Plans.{driver_of}
 use Rattle.strip_copies.proofs.Sources.{sources_known}
 use Rattle.error_lines.specs.declared.faults.Fault.{Fault}
 use Rattle.error_lines.specs.Faults.{fault_of}
@@ -104,7 +103,7 @@ write_output-requires-clause-translation g c κs within =
 pub write_output-requires-clause-extension : goal.write_output-requires-clause-extension
 write_output-requires-clause-extension g c κs within =
     let plan = plan_is c.plan.result c.in_ok-plan.plan (sym c.in_ok-plan.ensures) in
-    ap (λ (o : Options). option_map driver_of (extension_of o.out)) c.options.view_is
+    ap (λ (o : Options). option_map driver_for (extension_of o.out)) c.options.view_is
     ∙ c.requires.named
     ∙ ap Some (sym (planned_driver c.args.options.now c.head.result.now c.in_ok-plan.plan (sym c.plan.ensures.plan ∙ plan)))
 

@@ -2,7 +2,8 @@ use Rattle.std.proofs.Common.{◌≡◌, ap, ◌∙◌, Ok, true, codes}
 use Rattle.vrt_markup.specs.Items.{attribute}
 use Rattle.vrt_markup.specs.Forest.{inner, read_as}
 use Rattle.vrt_markup.specs.Kept.{seen, kept_of}
-use Rattle.vrt_profile.specs.Means.{band_step, no_band_parts, band_by, kind_in, is_placed, is_sourced}
+use Rattle.vrt_profile.specs.Means.{band_step, no_band_parts, kind_in, is_placed, is_sourced}
+use Rattle.vrt_profile.specs.Seen.{band_by}
 use Rattle.vrt_markup.specs.Views.{tag_view}
 use Rattle.vrt_markup.proofs.Reading.{read_then}
 use Rattle.vrt_profile.proofs.band.band_element.Goals as goal

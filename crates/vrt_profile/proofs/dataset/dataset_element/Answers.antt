@@ -3,12 +3,14 @@ use Rattle.vrt_markup.specs.Items.{attribute, is_some}
 use Rattle.vrt_markup.specs.Forest.{inner, read_as}
 use Rattle.vrt_markup.specs.Kept.{seen, kept_of}
 use Rattle.vrt_profile.specs.Numbers.{side_in}
-use Rattle.vrt_profile.specs.Means.{dataset_step, no_dataset_parts, dataset_by}
+use Rattle.vrt_profile.specs.Means.{dataset_step, no_dataset_parts, dataset_of}
+use Rattle.vrt_profile.specs.Seen.{dataset_by}
 use Rattle.vrt_markup.specs.Views.{tag_view}
 use Rattle.vrt_markup.proofs.Reading.{read_then}
 use Rattle.vrt_profile.proofs.dataset.dataset_element.Goals as goal
 
 pub returns-in-Ok-clause-dataset : goal.returns-in-Ok-clause-dataset
+unfolding dataset_of dataset_by
 returns-in-Ok-clause-dataset c =
     let tag = tag_view c.args.tag in
     let inside = inner c.args.level.total c.args.level.depth tag c.args.bytes.now in

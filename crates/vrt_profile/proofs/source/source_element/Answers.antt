@@ -2,7 +2,8 @@ use Rattle.std.proofs.Common.{◌≡◌, ap, ◌∙◌, Ok, true, codes}
 use Rattle.vrt_markup.specs.Items.{attribute}
 use Rattle.vrt_markup.specs.Forest.{inner, read_as}
 use Rattle.vrt_markup.specs.Kept.{seen, kept_of}
-use Rattle.vrt_profile.specs.Means.{source_step, no_parts, source_by, is_near}
+use Rattle.vrt_profile.specs.Means.{source_step, no_parts, is_near}
+use Rattle.vrt_profile.specs.Seen.{source_by}
 use Rattle.vrt_profile.specs.SourceViews.{source_view}
 use Rattle.vrt_markup.specs.Views.{tag_view}
 use Rattle.vrt_markup.proofs.Reading.{read_then, ok_value}

@@ -1,7 +1,7 @@
 use Rattle.std.proofs.Common.{◌≡◌, ◌<◌, ◌≤◌, ◌*◌, min, ap, subst, ◌∙◌}
 use Rattle.esri_hdr.specs.Head.{Head, IsHead, sample_len}
 use Rattle.write_back.specs.Pieces.{spots_of}
-use Rattle.write_back.proofs.Steps.{few_pieces}
+use Rattle.write_back.proofs.PieceCounts.{few_pieces}
 use Rattle.write_back.proofs.writer.step_of.Goals as goal
 
 pub returns-clause-pieces : goal.returns-clause-pieces

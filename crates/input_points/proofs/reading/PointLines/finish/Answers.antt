@@ -5,7 +5,7 @@ use Rattle.std.proofs.lemmas.Bool.{eqb-true, eqb-false, cases_lt}
 use Rattle.input_points.specs.Lines.{is_inside}
 use Rattle.input_points.specs.Points.{kind_of}
 use Rattle.input_points.specs.Reading.{Reading}
-use Rattle.input_points.proofs.Steps.{over_nothing, no_end_comes, end_comes}
+use Rattle.input_points.proofs.PieceCalls.{over_nothing, no_end_comes, end_comes}
 use Rattle.input_points.proofs.reading.PointLines.finish.Goals as goal
 
 -- where bytes are kept, the line isn't one too many

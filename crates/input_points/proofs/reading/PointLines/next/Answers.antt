@@ -4,7 +4,7 @@ use Rattle.std.specs.Str.Lines.{lines}
 use Rattle.std.proofs.lemmas.Bool.{eqb-false, eqb-true, both_ways}
 use Rattle.input_points.specs.Lines.{is_inside, ended_lines}
 use Rattle.input_points.specs.Reading.{Reading}
-use Rattle.input_points.proofs.Steps.{nothing_comes, over_nothing, none_ended, past_comes, last_over, kept_nothing}
+use Rattle.input_points.proofs.PieceCalls.{nothing_comes, over_nothing, none_ended, past_comes, last_over, kept_nothing}
 use Rattle.input_points.proofs.reading.PointLines.next.Goals as goal
 
 pub returns-then-self-clause-all : goal.returns-then-self-clause-all

@@ -23,7 +23,7 @@ use Rattle.nearest_window.specs.Taken.{place_at, TakesPixel}
 use Rattle.nearest_window.specs.Shown.{shown, AreTyped, IsTyped, IsShown, IsSourceOf}
 use Rattle.nearest_window.proofs.Alone.{alone_in}
 use Rattle.nearest_window.proofs.Keys.{held_made}
-use Rattle.nearest_window.proofs.Steps.{ready_then, serves_indexed, serves_refl, serves_slack, serves_trans, serves_keep, serves_noted, serves_used}
+use Rattle.nearest_window.proofs.Service.{ready_then, serves_indexed, serves_refl, serves_slack, serves_trans, serves_keep, serves_noted, serves_used}
 use Rattle.nearest_window.proofs.Shown.{held_sized, rect_shown, used_shown}
 use Rattle.nearest_window.specs.Canvases.{AreTaken, IsPackedOf, IsTaken}
 use Rattle.nearest_window.proofs.Mosaics.{source_stands, whole_block}

@@ -1,5 +1,5 @@
 use Rattle.nearest_window.specs.Right.{state_of}
-use Rattle.nearest_window.proofs.Steps.{ready_then, serves_refl}
+use Rattle.nearest_window.proofs.Service.{ready_then, serves_refl}
 use Rattle.nearest_window.proofs.lane.Lane.finds.Goals as goal
 
 pub returns-then-holds-clause-serves : goal.returns-then-holds-clause-serves

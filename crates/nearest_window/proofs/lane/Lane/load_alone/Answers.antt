@@ -5,7 +5,7 @@ use Rattle.block_cache.specs.Entries.{held_at}
 use Rattle.nearest_window.specs.Lanes.{lane_view}
 use Rattle.nearest_window.specs.Right.{IsReady, Serves, slack_of, state_of}
 use Rattle.nearest_window.proofs.Alone.{one_in, pixel_block}
-use Rattle.nearest_window.proofs.Steps.{serves_alone}
+use Rattle.nearest_window.proofs.Service.{serves_alone}
 use Rattle.nearest_window.proofs.lane.Lane.load_alone.Goals as goal
 
 pub returns-in_err-sample-clause-serves : goal.returns-in_err-sample-clause-serves

@@ -4,7 +4,7 @@ use Rattle.nearest_window.specs.Right.{slack_of}
 use Rattle.nearest_window.specs.Shown.{IsInBand}
 use Rattle.nearest_window.proofs.Fills.{on_ok}
 use Rattle.nearest_window.proofs.Ranges.{no_sample, window_typed}
-use Rattle.nearest_window.proofs.Steps.{ready_then}
+use Rattle.nearest_window.proofs.Service.{ready_then}
 use Rattle.nearest_window.proofs.Windows.{window_shown, empty_window, named_window}
 use Rattle.nearest_window.proofs.lane.Lane.read_window_with.Goals as goal
 

@@ -2,7 +2,7 @@ use Rattle.std.proofs.Common.{false, subst}
 use Rattle.band_blocks.specs.Contents.{IsBlock}
 use Rattle.block_cache.specs.Entries.{entry_of}
 use Rattle.nearest_window.specs.Right.{state_of}
-use Rattle.nearest_window.proofs.Steps.{serves_kept, serves_refl, serves_same}
+use Rattle.nearest_window.proofs.Service.{serves_kept, serves_refl, serves_same}
 use Rattle.nearest_window.proofs.Keys.{held_made}
 use Rattle.nearest_window.proofs.lane.Lane.takes_shown.Goals as goal
 

@@ -2,8 +2,7 @@ use Rattle.std.proofs.Common.{◌≡◌, refl, ap, sym, ◌∙◌}
 use Rattle.block_cache.specs.Entries.{PoolView, held_at}
 use Rattle.block_cache.specs.Spreads.{IsSpreadInto}
 use Rattle.write_back.specs.Overlay.{line_key, IsLineSet}
-use Rattle.write_back.specs.Seen.{known_in}
-use Rattle.write_back.specs.State.{store_state}
+use Rattle.write_back.specs.Seen.{state_of}
 use Rattle.write_back.proofs.MetColumns.{dirty_patched}
 use Rattle.write_back.proofs.Runs.{on_ok}
 use Rattle.write_back.proofs.States.{held_range, held_room, some_of, none_of, spread_line, patched_sound, patched_changes, set_changes, serves_unwritten, changes_from, set_as}
@@ -50,7 +49,7 @@ returns-clause-changed g c =
     let same : c.patch_spread.new.self ≡ p = c.patch_spread.ensures.absent absent in
     let w = c.line_with.ensures in
     on_ok c.keep.result _ _ (λ set.
-    let before = store_state (g.F.Folder.names c.args.folder.now) c.args.self.now.pool (known_in g.F.Folder.draft_bytes c.args.self.now) (g.F.Folder.draft_len c.args.self.now.draft) (g.F.Folder.draft_name c.args.self.now.draft) (g.F.Folder.faults c.args.folder.now) (g.F.Folder.read_calls c.args.folder.now) (g.F.Folder.write_calls c.args.folder.now) c.args.writes.now in
+    let before = state_of g.F.Folder c.args.folder.now c.args.self.now c.args.writes.now in
     let from = changes_from h (IsLineSet h (line_key c.args.spot.band c.args.spot.y) c.in_ok-block.block.samples) before _ _ (w.pool ∙ same) w.bytes w.len (set_as _ _ (line_key c.args.spot.band c.args.spot.y) c.in_ok-block.block.samples _ _ w.head set) in
     record {
       long = from.long;

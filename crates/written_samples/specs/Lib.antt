@@ -1,0 +1,3 @@
+-- What public laws speak of: to be read and trusted.
+pub mod Put
+pub mod Grids
