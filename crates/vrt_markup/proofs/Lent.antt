@@ -1,11 +1,11 @@
 -- Texts that stand in a document as they are.
-use Rattle.std.proofs.Common.{◌≡◌, ℕ, suc, Bool, true, false, cond, not, ◌||◌, ◌&&◌, List, [], ◌∷◌, ◌++◌, length, drop, take, codes, Option, Some, None, Ok, refl, sym, ap, ◌∙◌, arith, ◌==◌}
+use Rattle.std.proofs.Common.{◌≡◌, ℕ, suc, Bool, true, false, cond, not, ◌||◌, ◌&&◌, List, [], ◌∷◌, ◌++◌, length, drop, take, Option, Some, None, Ok, refl, sym, ap, ◌∙◌, arith, ◌==◌}
 use Rattle.std.specs.List.{prefix_len, list_all}
 use Rattle.std.specs.Cmp.Lexicographic.{pointwise}
 use Rattle.std.proofs.Math.Seq.{drop-append_seam, take-append_seam}
 use Rattle.std.proofs.lemmas.List.{take-append-drop}
 use Rattle.std.proofs.lemmas.Bool.Decides.{nat_tests}
-use Rattle.vrt_markup.specs.Items.{option_case, is_some, entity_at, is_name, plain_len, after_comment, strip, close_at, run_at, tag_item, item_at, bad, comment, run, close_tag}
+use Rattle.vrt_markup.specs.Items.{option_case, is_some, entity_at, is_name, plain_len, after_comment, close_at, run_at, tag_item, item_at, bad, comment, run, close_tag}
 use Rattle.vrt_markup.specs.Keys.{is_plain}
 use Rattle.vrt_markup.specs.Forest.{nodes, read_as, decoded, decoded_from}
 use Rattle.vrt_markup.specs.Kept.{worded}
