@@ -56,9 +56,13 @@ is_tall cat Vrt = has_blocks Columns cat
 abbrev pub lines_each : List Dataset → ℕ
 lines_each cat = if has_blocks Squares cat then 128 else 32
 
--- the fewest samples for which a worker gets a thread: fewer where they are made of others, or of digits, than where they are copied
+-- samples are made of others, or of digits: those of a file of bytes are copied
+abbrev pub is_made : List Dataset → Bool
+is_made cat = has_blocks Squares cat || has_blocks Digits cat
+
+-- the fewest samples for which a worker gets a thread
 abbrev pub fewest_read : List Dataset → ℕ
-fewest_read cat = if has_blocks Squares cat || has_blocks Digits cat then 262144 else 1000000
+fewest_read cat = if is_made cat then 262144 else 1000000
 
 -- several workers read a strip of a window so wide where each has enough samples for a thread
 abbrev pub is_shared : ℕ → List Dataset → ℕ → Bool
@@ -70,7 +74,7 @@ lines_near width = min (max (65536 / width) 1) 32
 
 -- the lines of a strip that one worker reads alone: of a file of bytes those that stay in the cache
 abbrev pub lines_alone : List Dataset → ℕ → ℕ
-lines_alone cat width = if has_blocks Squares cat || has_blocks Digits cat then lines_each cat else lines_near width
+lines_alone cat width = if is_made cat then lines_each cat else lines_near width
 
 -- the most lines of a strip: so many for each of the workers that share it, or as many as it can have
 abbrev pub most_lines : ℕ → List Dataset → Planned → ℕ

@@ -2,7 +2,7 @@
 ghost use Rattle.std.specs.Prelude.{◌≡◌, ◌<◌, ◌≤◌, ◌*◌, ◌/◌, Some, length, slice_get};
 ghost use Rattle.catalog.specs.Drivers.{Dataset};
 ghost use Rattle.strip_copies.specs.declared.height.BlockShape.TheVariants.{Squares};
-ghost use Rattle.strip_copies.specs.Heights.{fewest_read, has_blocks, is_cell, is_cut_in, is_grid, is_mosaic, is_tall, is_woven, is_shared, lines_alone, lines_copied, lines_each, lines_held, lines_near, most_lines, strip_height};
+ghost use Rattle.strip_copies.specs.Heights.{fewest_read, has_blocks, is_cell, is_cut_in, is_grid, is_made, is_mosaic, is_shared, is_tall, is_woven, lines_alone, lines_copied, lines_each, lines_held, lines_near, most_lines, strip_height};
 
 use crate::making::area;
 use crate::shares::{FEWEST_COPIED, FEWEST_MADE};
@@ -119,11 +119,18 @@ fn lines_each(cat: &Catalog) -> u32
     }
 }
 
+// Whether samples are made of others, or of digits: those of a file of bytes are copied.
+fn is_made(cat: &Catalog) -> bool
+    ensures made { result ≡ is_made cat.now }
+{
+    has_blocks(cat, BlockShape::Squares) || has_blocks(cat, BlockShape::Digits)
+}
+
 // The fewest samples for which a worker gets a thread.
 fn fewest_read(cat: &Catalog) -> usize
     ensures fewest { result ≡ fewest_read cat.now }
 {
-    if has_blocks(cat, BlockShape::Squares) || has_blocks(cat, BlockShape::Digits) {
+    if is_made(cat) {
         FEWEST_MADE
     } else {
         FEWEST_COPIED
@@ -166,7 +173,7 @@ fn lines_alone(translation: &Translation) -> u32
     let plan = &translation.plan;
     plan.rules();
     let cat = &translation.cat;
-    if has_blocks(cat, BlockShape::Squares) || has_blocks(cat, BlockShape::Digits) {
+    if is_made(cat) {
         lines_each(cat)
     } else {
         lines_near(plan.size.w)
