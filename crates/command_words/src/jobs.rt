@@ -53,10 +53,11 @@ fn form_of(values_only: Option<u64>, files_only: Option<u64>) -> Result<Form, Wo
 }
 
 #[tactic(auto, unfolding(crate::specs::Jobs::info_job))]
-fn info_job(count: u64, said: Spoken) -> Result<Job, WordFault>
+fn info_job(count: u64, mut said: Spoken) -> Result<Job, WordFault>
     ensures { result ≡ info_job count said }
 {
-    let Spoken { source, .. } = said;
+    let source = said.source.take();
+    drop(said);
     match source {
         Some(name) => Ok(Job::Info { name }),
         None => Err(WordFault::Usage { word: count }),
@@ -72,11 +73,15 @@ fn locate_job(count: u64, said: Spoken) -> Result<Job, WordFault>
         files_only,
         geoloc,
         bands,
+        list,
+        inputs,
         source,
+        output,
         x,
         y,
         ..
     } = said;
+    drop((list, inputs, output));
     let Some(name) = source else {
         return Err(WordFault::Usage { word: count });
     };
@@ -258,11 +263,17 @@ fn translate_job(alloc: Global, count: u64, said: Spoken) -> Result<Job, WordFau
         bands,
         quiet,
         wanted,
+        list,
+        inputs,
         source,
         output,
         ..
     } = said;
-    let (Some(src), Some((at, out))) = (source, output) else {
+    drop((list, inputs));
+    let Some(src) = source else {
+        return Err(WordFault::Usage { word: count });
+    };
+    let Some((at, out)) = output else {
         return Err(WordFault::Usage { word: count });
     };
     let asked = asked_of(wanted, at, &out)?;
@@ -414,9 +425,11 @@ fn build_job(alloc: Global, count: u64, said: Spoken) -> Result<Job, WordFault>
         mosaic,
         list,
         inputs,
+        source,
         output,
         ..
     } = said;
+    drop(source);
     let Some((at, out)) = output else {
         return Err(WordFault::Usage { word: count });
     };
@@ -444,7 +457,8 @@ fn build_job(alloc: Global, count: u64, said: Spoken) -> Result<Job, WordFault>
 fn synth_job(count: u64, said: Spoken) -> Result<Job, WordFault>
     ensures { result ≡ synth_job count said }
 {
-    let Spoken { tile, .. } = said;
+    let tile = said.tile;
+    drop(said);
     match tile {
         Some(side) => Ok(Job::Synth { side }),
         None => Err(WordFault::Usage { word: count }),

@@ -1,6 +1,7 @@
 // The commands and their options.
-ghost use Rattle.std.specs.Prelude.{◌≡◌, ◌≤◌};
+ghost use Rattle.std.specs.Prelude.{◌≡◌, ◌≤◌, ℕ, List, ◌∷◌};
 ghost use Rattle.command_words.specs.Options.{tool_of, shared_option_of, own_option_of, option_of, option_in, locate_options, translate_options, build_options, value_count};
+ghost use Rattle.command_words.specs.declared.options.OptionWord.{OptionWord};
 
 /// The command that the first word names.
 #[derive(Clone, Copy, Debug, PartialEq, Eq)]
@@ -93,42 +94,48 @@ fn locate_option_of(word: &str) -> Option<OptionWord>
     }
 }
 
+// The option, where the word is its name, or else another one.
+fn named(
+    word: &str,
+    name: &str,
+    option: OptionWord,
+    other: Option<OptionWord>,
+) -> Option<OptionWord>
+    ensures { (table : List (List ℕ × OptionWord)) → other ≡ option_in table word.now → result ≡ option_in ((name.now, option) ∷ table) word.now }
+{
+    if word == name { Some(option) } else { other }
+}
+
 fn translate_option_of(word: &str) -> Option<OptionWord>
     ensures { result ≡ option_in translate_options word.now }
 {
-    match word {
-        _ if word == "-of" => Some(OptionWord::Format),
-        _ if word == "-b" => Some(OptionWord::Band),
-        _ if word == "-srcwin" => Some(OptionWord::Window),
-        _ if word == "-projwin" => Some(OptionWord::Places),
-        _ if word == "-outsize" => Some(OptionWord::OutSize),
-        _ if word == "-a_nodata" => Some(OptionWord::Nodata),
-        _ if word == "-ot" => Some(OptionWord::Kind),
-        _ if word == "-co" => Some(OptionWord::Creation),
-        _ if word == "-q" => Some(OptionWord::Quiet),
-        _ if word == "-epo" => Some(OptionWord::Inside),
-        _ if word == "-eco" => Some(OptionWord::Touching),
-        _ => None,
-    }
+    let other = named(word, "-eco", OptionWord::Touching, None);
+    let other = named(word, "-epo", OptionWord::Inside, other);
+    let other = named(word, "-q", OptionWord::Quiet, other);
+    let other = named(word, "-co", OptionWord::Creation, other);
+    let other = named(word, "-ot", OptionWord::Kind, other);
+    let other = named(word, "-a_nodata", OptionWord::Nodata, other);
+    let other = named(word, "-outsize", OptionWord::OutSize, other);
+    let other = named(word, "-projwin", OptionWord::Places, other);
+    let other = named(word, "-srcwin", OptionWord::Window, other);
+    let other = named(word, "-b", OptionWord::Band, other);
+    named(word, "-of", OptionWord::Format, other)
 }
 
 fn build_option_of(word: &str) -> Option<OptionWord>
     ensures { result ≡ option_in build_options word.now }
 {
-    match word {
-        _ if word == "-b" => Some(OptionWord::Band),
-        _ if word == "-q" => Some(OptionWord::Quiet),
-        _ if word == "-resolution" => Some(OptionWord::Resolution),
-        _ if word == "-tr" => Some(OptionWord::PixelSize),
-        _ if word == "-te" => Some(OptionWord::Extent),
-        _ if word == "-srcnodata" => Some(OptionWord::SourceNodata),
-        _ if word == "-vrtnodata" => Some(OptionWord::MosaicNodata),
-        _ if word == "-separate" => Some(OptionWord::Separate),
-        _ if word == "-strict" => Some(OptionWord::Strict),
-        _ if word == "-overwrite" => Some(OptionWord::Overwrite),
-        _ if word == "-input_file_list" => Some(OptionWord::InputList),
-        _ => None,
-    }
+    let other = named(word, "-input_file_list", OptionWord::InputList, None);
+    let other = named(word, "-overwrite", OptionWord::Overwrite, other);
+    let other = named(word, "-strict", OptionWord::Strict, other);
+    let other = named(word, "-separate", OptionWord::Separate, other);
+    let other = named(word, "-vrtnodata", OptionWord::MosaicNodata, other);
+    let other = named(word, "-srcnodata", OptionWord::SourceNodata, other);
+    let other = named(word, "-te", OptionWord::Extent, other);
+    let other = named(word, "-tr", OptionWord::PixelSize, other);
+    let other = named(word, "-resolution", OptionWord::Resolution, other);
+    let other = named(word, "-q", OptionWord::Quiet, other);
+    named(word, "-b", OptionWord::Band, other)
 }
 
 #[tactic(auto, unfolding(crate::specs::Options::own_option_of))]
