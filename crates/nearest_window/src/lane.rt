@@ -202,8 +202,14 @@ impl<F: Folder> Lane<F> {
         ensures valid { IsPool self.new.pool }
     {
         match self.pool.admit(key, block, false) {
-            Ok(_) => return Ok(()),
-            Err(_) => return Err(LoadFault::Memory),
+            Ok(last) => {
+                drop(last);
+                return Ok(());
+            }
+            Err(refused) => {
+                drop(refused);
+                return Err(LoadFault::Memory);
+            }
         }
     }
 
@@ -215,8 +221,14 @@ impl<F: Folder> Lane<F> {
         ensures valid { IsPool self.new.made }
     {
         match self.made.admit(key, block, false) {
-            Ok(_) => return Ok(()),
-            Err(_) => return Err(LoadFault::Memory),
+            Ok(last) => {
+                drop(last);
+                return Ok(());
+            }
+            Err(refused) => {
+                drop(refused);
+                return Err(LoadFault::Memory);
+            }
         }
     }
 

@@ -252,6 +252,7 @@ impl<F: Folder> Lane<F> {
             let Piece { key, rect, area } = piece;
             let block = self.fill(supply, folder, key, band, rect, loads)?;
             paint_rows(&block, rect, picture, area, out);
+            drop(block);
             return Ok(());
         }
         self.paint_pieces(supply, folder, picture, lines, out, loads)
@@ -330,12 +331,14 @@ impl<F: Folder> Lane<F> {
         if let Some(part) = self.lone_part(supply.cat, picture, piece) {
             let block = self.part_block(supply, folder, piece.key, part, loads)?;
             paint_rows(&block, part.rect, picture, piece.area, out);
+            drop(block);
             return Ok(());
         }
         if self.is_jump(supply.cat, picture, piece) {
             let rect = pixel_rect(picture, piece.area);
             let block = self.load_alone(supply.alloc, supply.cat, folder, piece.key, rect, loads)?;
             paint_rows(&block, rect, picture, piece.area, out);
+            drop(block);
             return Ok(());
         }
         self.hold(supply, folder, piece.key, loads)?;
