@@ -354,13 +354,11 @@ impl<F: Folder> Lane<F> {
         self.keep(key, block)
     }
 
-    // Whether a piece of a picture is read by itself: the picture is one pixel of a file whose block isn't held
-    // and wasn't missed before, and the pool is full.
-    pub(crate) fn is_jump(&mut self, cat: &Catalog, picture: &Picture, piece: Piece) -> bool
+    // Whether a picture is one pixel of a file whose block isn't held, and the pool is full.
+    fn may_jump(&self, cat: &Catalog, picture: &Picture, piece: Piece) -> bool
         requires known { piece.key.dataset < length cat.now }
-        ensures same { self.new ≡ self.old }
-        ensures absent { result ≡ true → held_at piece.key self.old.pool.entries ≡ None }
-        ensures full { result ≡ true → room_of self.old ≤ held_in self.old }
+        ensures absent { result ≡ true → held_at piece.key self.now.pool.entries ≡ None }
+        ensures full { result ≡ true → room_of self.now ≤ held_in self.now }
         ensures direct { result ≡ true → (d : Dataset) → slice_get cat.now piece.key.dataset ≡ Some d → IsDirect d.content }
         ensures narrow { result ≡ true → picture.now.width ≡ 1 }
         ensures low { result ≡ true → picture.now.height ≡ 1 }
@@ -377,7 +375,20 @@ impl<F: Folder> Lane<F> {
         if self.holds(&piece.key) {
             return false;
         }
-        if !has_places(cat, piece.key.dataset) {
+        has_places(cat, piece.key.dataset)
+    }
+
+    // Whether a piece of a picture is read by itself: it may be, and its block wasn't missed before.
+    pub(crate) fn is_jump(&mut self, cat: &Catalog, picture: &Picture, piece: Piece) -> bool
+        requires known { piece.key.dataset < length cat.now }
+        ensures same { self.new ≡ self.old }
+        ensures absent { result ≡ true → held_at piece.key self.old.pool.entries ≡ None }
+        ensures full { result ≡ true → room_of self.old ≤ held_in self.old }
+        ensures direct { result ≡ true → (d : Dataset) → slice_get cat.now piece.key.dataset ≡ Some d → IsDirect d.content }
+        ensures narrow { result ≡ true → picture.now.width ≡ 1 }
+        ensures low { result ≡ true → picture.now.height ≡ 1 }
+    {
+        if !self.may_jump(cat, picture, piece) {
             return false;
         }
         self.missed.is_new(piece.key)

@@ -175,6 +175,7 @@ impl<F: Folder> Lane<F> {
             mut pixels,
         } = asked;
         self.paint_picture(supply, folder, &picture, pixels.as_mut_slice(), loads)?;
+        drop(picture);
         let taking = taking_of(source.source);
         canvas.take(supply.alloc, &taking, part, pixels)?;
         Ok(())
