@@ -54,6 +54,7 @@ fn room_for(
         if block.kind() == kind && block.len() == len {
             return Ok(block);
         }
+        drop(block);
     }
     Block::new(alloc, kind, len)
 }
@@ -120,7 +121,9 @@ impl<F: Folder> Store<F> {
         ensures one { writes.new ≡ writes.old + 1 }
         ensures cause { HasCause TargetFault.FolderFault (F.faults folder.old) (F.faults folder.new) result }
     {
-        self.write_out(folder, key, &block, writes)
+        let written = self.write_out(folder, key, &block, writes);
+        drop(block);
+        written
     }
 
     // Keeps a line that isn't held. The line that a full pool drops for it is written, and is spare: no held line was
@@ -146,10 +149,13 @@ impl<F: Folder> Store<F> {
             Ok(None) => Ok(()),
             Ok(Some(last)) => {
                 let written = self.write_out(folder, last.key, &last.block, writes);
-                self.spare = Some(last.block);
+                drop(self.spare.replace(last.block));
                 written
             }
-            Err(_) => Err(TargetFault::Memory),
+            Err(refused) => {
+                drop(refused);
+                Err(TargetFault::Memory)
+            }
         }
     }
 
@@ -218,9 +224,16 @@ impl<F: Folder> Store<F> {
             block.write_run(0, samples);
             return Ok(block);
         }
-        self.fetch(folder, spot.band, spot.y, &mut block)?;
-        block.write_spread(spot.x, spot.stride, samples);
-        Ok(block)
+        match self.fetch(folder, spot.band, spot.y, &mut block) {
+            Ok(()) => {
+                block.write_spread(spot.x, spot.stride, samples);
+                return Ok(block);
+            }
+            Err(fault) => {
+                drop(block);
+                return Err(fault);
+            }
+        }
     }
 
     // Puts samples into a block from a place on.
