@@ -151,12 +151,13 @@ impl<F: Folder> Sheet<F> {
         match kind {
             Kind::Blocks(store) => {
                 let Store {
-                    writer: _,
-                    pool: _,
+                    writer,
+                    pool,
                     draft,
-                    written: _,
-                    spare: _,
+                    written,
+                    spare,
                 } = store;
+                drop((writer, pool, written, spare));
                 draft
             }
             Kind::Rows(rows) => {
