@@ -119,6 +119,7 @@ impl Pool {
             }
         };
         if held {
+            drop(replaced);
             return Ok(None);
         }
         match replaced {
