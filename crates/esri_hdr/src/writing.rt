@@ -84,7 +84,6 @@ fn push_layout(head: &RawHead, out: &mut Vec<u8>) -> Result<(), AllocError>
     Ok(())
 }
 
-#[tactic(auto, using(crate::proofs::Writes::keeps_after))]
 fn push_samples(head: &RawHead, out: &mut Vec<u8>) -> Result<(), AllocError>
     ensures ok { OnOk result (AppendsLines out.old.items out.new.items (sample_fields head.now)) }
     ensures err { OnErr result (KeepsFront out.old.items out.new.items) }
@@ -117,7 +116,6 @@ fn push_nodata(nodata: Option<Sample>, out: &mut Vec<u8>) -> Result<(), AllocErr
     push_text(NODATA, buffer.format(n).as_bytes(), out)
 }
 
-#[tactic(auto, using(crate::proofs::Writes::four_lines, crate::proofs::Writes::keeps_after))]
 fn push_four(geo: &RawGeo, out: &mut Vec<u8>) -> Result<(), AllocError>
     ensures ok { OnOk result (AppendsLines out.old.items out.new.items (geo_fields (Some geo.now))) }
     ensures err { OnErr result (KeepsFront out.old.items out.new.items) }
