@@ -10,7 +10,7 @@ pub type Numbers = Items<u32>;
 
 /// The size of the mosaic's pixels: the least or the greatest of the inputs along each axis, their
 /// mean, or the given one.
-#[derive(Clone, Copy, PartialEq, Eq, Debug)]
+#[derive(Clone, Copy, PartialEq, Eq)]
 pub enum Resolution {
     Highest,
     Lowest,
@@ -20,7 +20,7 @@ pub enum Resolution {
 }
 
 /// The extent of a mosaic: not empty, and each place below 10^12 units in magnitude.
-#[derive(Clone, Copy, PartialEq, Eq, Debug)]
+#[derive(Clone, Copy, PartialEq, Eq)]
 pub struct Extent {
     pub xmin: Ticks,
     pub ymin: Ticks,

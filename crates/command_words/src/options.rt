@@ -4,7 +4,7 @@ ghost use Rattle.command_words.specs.Options.{tool_of, shared_option_of, own_opt
 ghost use Rattle.command_words.specs.declared.options.OptionWord.{OptionWord};
 
 /// The command that the first word names.
-#[derive(Clone, Copy, Debug, PartialEq, Eq)]
+#[derive(Clone, Copy, PartialEq, Eq)]
 pub enum Tool {
     Info,
     Locate,
@@ -14,7 +14,7 @@ pub enum Tool {
 }
 
 /// An option's name.
-#[derive(Clone, Copy, Debug, PartialEq, Eq)]
+#[derive(Clone, Copy, PartialEq, Eq)]
 pub enum OptionWord {
     Config,
     Blocks,

@@ -9,7 +9,7 @@ use std::marker::Model;
 
 /// The head of a raw raster. It keeps each rule of a header: the sides are from 1 to 4,194,304, the
 /// bands from 1 to 256, and the rows are as long as the layout and the samples want.
-#[derive(Clone, Copy, Debug)]
+#[derive(Clone, Copy)]
 pub struct RawHead {
     /// Columns and lines.
     pub size: Size,

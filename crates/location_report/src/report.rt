@@ -16,7 +16,7 @@ use outside::{Failed, Names, Sink};
 use std::alloc::{AllocError, Global};
 
 /// What is told of a place: a report, the values alone, or the names of the files alone.
-#[derive(Clone, Copy, Debug, PartialEq, Eq)]
+#[derive(Clone, Copy, PartialEq, Eq)]
 pub enum Form {
     Report,
     ValuesOnly,
@@ -24,7 +24,7 @@ pub enum Form {
 }
 
 /// What is asked: a form, and a place by its column and its line, which may lie off the raster.
-#[derive(Clone, Copy, Debug, PartialEq, Eq)]
+#[derive(Clone, Copy, PartialEq, Eq)]
 pub struct Question {
     pub form: Form,
     pub x: i128,

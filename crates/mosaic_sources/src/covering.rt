@@ -12,7 +12,7 @@ use geotransform::{Rect, Size};
 use vrt_profile::{MicroRect, Source};
 
 /// A part of an axis, in millionths of a pixel.
-#[derive(Clone, Copy, PartialEq, Eq, Debug)]
+#[derive(Clone, Copy, PartialEq, Eq)]
 struct Part {
     start: i64,
     length: i64,
