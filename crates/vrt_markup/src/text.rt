@@ -12,6 +12,7 @@ use crate::fault::VrtFault;
 use crate::items::{Item, entity_at, is_equal, is_white, item_at};
 use crate::past::past_element;
 use crate::tag::Tag;
+use memchr::memchr2;
 use std::alloc::{AllocError, Global};
 
 /// Whether it is white space alone.
@@ -138,19 +139,13 @@ fn text_nodes<'a>(
     }
 }
 
-// Whether it begins neither a tag nor an entity.
-fn is_plain(c: u8) -> bool
-    ensures { result ≡ is_plain c }
-{
-    c != b'<' && c != b'&'
-}
-
 // How many bytes stand in front of the first tag or entity.
+#[tactic(auto, using(crate::proofs::Fronts::first_place, crate::proofs::Fronts::place_within))]
 fn plain_front(bytes: &[u8]) -> usize
     ensures count { result ≡ prefix_len is_plain bytes.now }
     ensures bound { result ≤ length bytes.now }
 {
-    bytes.iter().take_while(|c| is_plain(**c)).count()
+    memchr2(b'<', b'&', bytes).unwrap_or(bytes.len())
 }
 
 // The text in an element of this name, behind its start tag, where it stands there in one piece as it is.

@@ -443,8 +443,8 @@ pub fn source_element<'a>(
     ensures source { Gives (λ x. (x.0, x.1.now)) result (read_as (source_of complex (tag_view tag.entry)) (inner level.total level.depth (tag_view tag.entry) bytes.now)) }
     ensures shorter { IfOk result (λ x. length x.1.now ≤ length bytes.now) }
 {
-    let near = is_near(attribute(tag.attributes, b"resampling"));
     let mut parts = no_parts(complex);
+    let near = is_near(attribute(tag.attributes, b"resampling"));
     match children_of(alloc, level, tag, &mut parts, bytes) {
         Ok((seen, rest)) => match source_by(alloc, complex, near, seen, parts) {
             Ok(source) => Ok((source, rest)),
