@@ -1,31 +1,48 @@
 -- Lines that are read while those before them are written.
-use Rattle.std.proofs.Common.{◌≡◌, ap, sym, subst, ◌+◌, ◌-◌, ◌*◌, ◌<◌, ◌≤◌, arith, ℕ, ℤ, List, length, inl, inr, Option, Result, Err}
+use Rattle.std.proofs.Common.{◌≡◌, ◌∙◌, ap, sym, subst, ◌+◌, ◌-◌, ◌*◌, ◌<◌, ◌≤◌, arith, ℕ, ℤ, List, length, inl, inr, Option, Result, Err}
 use Rattle.std.proofs.lemmas.Bool.{cases_lt}
-use Rattle.outside.specs.Causes.{Rose}
+use Rattle.outside.specs.Causes.{Absorbed, Rose}
 use Rattle.outside.specs.Outside.{Files}
-use Rattle.outside.specs.declared.folder.Folder.{Ghosts}
 use Rattle.catalog.specs.Drivers.{Dataset}
-use Rattle.nearest_window.specs.Lanes.{LaneView}
 use Rattle.translate_plan.specs.Plan.{Planned, IsPlan}
 use Rattle.write_back.specs.View.{TargetView}
-use Rattle.strip_copies.specs.declared.columns.Columns.{Columns}
 use Rattle.strip_copies.specs.declared.reading.Lines.{Lines}
 use Rattle.error_lines.specs.declared.faults.Fault.{Fault}
-use Rattle.output_copies.specs.Ahead.{MayBeRead}
 use Rattle.output_copies.specs.Copying.{IsFilled, MayEnd}
 use Rattle.output_copies.specs.Parts.{AreBehind, ArePart}
 use Rattle.output_copies.proofs.Copied.{filled_next}
 
-module _ {F File Draft : Type 0} (calls : Ghosts F File Draft) (cat : List Dataset) (id : ℕ) (p : Planned) (lines : Lines) where
-  -- what may be read, by what the view, the reader and the room are
-  pub may_read_at : (told : Option Files) (scene : List Dataset) (view view' : F) (lanes lanes' : List (LaneView File)) (columns columns' : Columns) (strip strip' room room' : List ℤ)
-      → MayBeRead calls cat id p lines told scene view lanes columns strip room → view ≡ view' → lanes ≡ lanes' → columns ≡ columns' → strip ≡ strip' → room ≡ room' → MayBeRead calls cat id p lines told scene view' lanes' columns' strip' room'
-  may_read_at told scene view view' lanes lanes' columns columns' strip strip' room room' may d e f g h =
-      subst (λ (x : F). MayBeRead calls cat id p lines told scene x lanes' columns' strip' room') d
-      (subst (λ (x : List (LaneView File)). MayBeRead calls cat id p lines told scene view x columns' strip' room') e
-      (subst (λ (x : Columns). MayBeRead calls cat id p lines told scene view lanes x strip' room') f
-      (subst (λ (x : List ℤ). MayBeRead calls cat id p lines told scene view lanes columns x room') g
-      (subst (λ (x : List ℤ). MayBeRead calls cat id p lines told scene view lanes columns strip x) h may))))
+-- a part that was done through a view, which was absorbed then
+pub ends_of_view : {T : Type 0} (told told' : Option Files) (f g h v w : ℕ) (r : Result T Fault) → told' ≡ told → v ≡ 0 → f ≤ g → Absorbed g w h → MayEnd told' v w 0 0 r → MayEnd told f h 0 0 r
+ends_of_view told told' f g h v w r same none later absorbed ends = record {
+  cause = record {
+    folder_later = (let more = absorbed.later in omega (arith, later, more));
+    out_later = ends.cause.out_later;
+    folder_failed = λ is.
+        let rose : Rose v w = ends.cause.folder_failed is in
+        let some : 1 ≤ w = omega (arith, rose, none) in
+        let risen : Rose g h = absorbed.risen some in
+        omega (arith, risen, later);
+    out_failed = ends.cause.out_failed;
+  };
+  reading = ends.reading;
+  differs = ends.differs;
+  never = λ m is. ends.never m (same ∙ is);
+}
+
+-- a part that was done beside, before a view was absorbed
+pub ends_with_view : {T : Type 0} (told : Option Files) (f g h : ℕ) (r : Result T Fault) → g ≤ h → MayEnd told f g 0 0 r → MayEnd told f h 0 0 r
+ends_with_view told f g h r later ends = record {
+  cause = record {
+    folder_later = (let first = ends.cause.folder_later in omega (arith, first, later));
+    out_later = ends.cause.out_later;
+    folder_failed = λ is. let rose : Rose f g = ends.cause.folder_failed is in omega (arith, rose, later);
+    out_failed = ends.cause.out_failed;
+  };
+  reading = ends.reading;
+  differs = ends.differs;
+  never = ends.never;
+}
 
 -- a fault that comes while the output is put to
 pub ends_beside_put : {T U : Type 0} (told : Option Files) (f g o q : ℕ) (x : Fault) → o ≤ q → MayEnd {T = T} told f g 0 0 (Err x) → MayEnd {T = U} told f g o q (Err x)

@@ -3,6 +3,7 @@ mod Beside
 pub mod Copied
 pub mod Ends
 pub mod Goes
+mod Moved
 pub mod Told
 pub mod Whole
 pub mod Written

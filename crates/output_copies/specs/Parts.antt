@@ -31,3 +31,9 @@ BeginsWith told cat id p lines room = AreRead told cat id p lines (take (p.size.
 pub record AreBehind (p : Planned) (last next : Lines) : Type 0 where
   pub beside : 0 < next.band → (next.band ≡ last.band + 1) × (next.first ≡ last.first) × (next.end ≡ last.end)
   pub below : next.band ≡ 0 → (last.band + 1 ≡ length p.bands) × (next.first ≡ last.end)
+
+-- lines behind those of a band that may be copied next, of so many lines at most
+pub record AreNext (p : Planned) (rows : ℕ) (last next : Lines) : Type 0 where
+  pub part : ArePart p next
+  pub behind : AreBehind p last next
+  pub few : next.end ≤ next.first + rows

@@ -1,14 +1,13 @@
-// Lines of a translation's output, copied into a target.
-ghost use Rattle.std.specs.Prelude.{◌≡◌, ◌<◌, ◌≤◌, ◌+◌, ◌-◌, ◌*◌, ℕ, Option, Some, OnOk, OnErr, length, slice_get, true};
+// Lines of a translation's output, copied into a target: those that were read are written, and then the next ones read.
+ghost use Rattle.std.specs.Prelude.{◌≡◌, ◌<◌, ◌≤◌, ℕ, List, Option, IfOk, take, true};
 ghost use Rattle.outside.specs.Outside.{Files};
-ghost use Rattle.outside.specs.Streams.{Gets, GetsPart};
-ghost use Rattle.lane_teams.specs.Ready.{AreLanesReady};
-ghost use Rattle.strip_copies.specs.Copies.{IsRoomFor, IsTranslation};
+ghost use Rattle.outside.specs.Streams.{Gets};
 ghost use Rattle.error_lines.specs.Progress.{progress};
-ghost use Rattle.output_copies.specs.Copying.{spoken, IsFilled, MayEnd};
-ghost use Rattle.output_copies.specs.Parts.{ArePart};
+ghost use Rattle.output_copies.specs.Copying.{spoken, MayEnd, Tells};
+ghost use Rattle.output_copies.specs.Moves.{AreAt, HasMoved, MayCopy};
+ghost use Rattle.output_copies.specs.Parts.{AreNext, ArePart};
 
-use crate::parts::{area, read_part, write_part};
+use crate::parts::{read_front, write_front};
 use crate::progress::{Share, tell};
 use error_lines::Fault;
 use geotransform::Sample;
@@ -17,135 +16,117 @@ use shared_lines::Scene;
 use std::sync::ledger::Ledger;
 use std::thread::Threads;
 use strip_copies::{Lines, StripReader, Translation};
+use translate_plan::Plan;
 use write_back::Target;
 
-/// What lines are copied with: a reader, the lines that its lanes share, if there are any, the count of the blocks that
-/// are written, how many lines are copied at a time, whether the next ones are read while the last ones are written,
+/// At which pace lines are copied: how many at a time, whether the next ones are read while the last ones are written,
 /// and whether nothing is told.
-#[derive(Drop)]
-pub struct Copier<'a, F: Folder, L: Ledger, W: Ledger, S: Scene> {
-    pub reader: StripReader<F, L>,
-    pub shared: Option<&'a shared_lines::Lines<S>>,
-    pub writes: Counter<W>,
+#[derive(Clone, Copy)]
+pub struct Pace {
     pub rows: u32,
     pub ahead: bool,
     pub quiet: bool,
 }
 
-// Lines of an output from `first` up to `end`.
+/// Rooms for lines: one with lines that were read and are written next, and one for the lines behind them, which is
+/// empty where these are read later.
+#[derive(Drop)]
+pub struct Rooms {
+    pub ready: Vec<Sample>,
+    pub next: Vec<Sample>,
+}
+
+/// What lines are copied with: a reader, the lines that its lanes share, if there are any, the count of the blocks that
+/// are written, and rooms for lines.
+#[derive(Drop)]
+pub struct Copier<'a, F: Folder, L: Ledger, W: Ledger, S: Scene> {
+    pub reader: StripReader<F, L>,
+    pub shared: Option<&'a shared_lines::Lines<S>>,
+    pub writes: Counter<W>,
+    pub rooms: Rooms,
+}
+
+/// Lines that were read and aren't written yet, where so many bytes of the progress line were told.
 #[derive(Clone, Copy)]
-struct Strip {
-    first: u32,
-    end: u32,
+pub struct Stage {
+    pub pace: Pace,
+    pub told: usize,
+    pub last: Lines,
 }
 
-// Copies lines of a band.
-fn copy_band<R: Threads + Sync, F: Folder, L: Ledger, W: Ledger, S: Scene>(
-    rt: &R,
-    translation: &Translation,
-    copier: &mut Copier<F, L, W, S>,
-    folder: &mut F,
-    target: &mut Target<F>,
-    lines: Lines,
-    samples: &mut [Sample],
-) -> Result<(), Fault>
-    requires translation { IsTranslation translation.now.cat translation.now.id translation.now.plan }
-    requires ready { AreLanesReady F.Folder S.told S.cat folder.old translation.now.cat copier.old.reader.team.lanes.items }
-    requires room { IsRoomFor translation.now.cat translation.now.id translation.now.plan copier.old.reader.columns copier.old.reader.samples.items }
-    requires long { translation.now.plan.size.w * (lines.end - lines.first) ≤ length samples.old }
-    requires lines { ArePart translation.now.plan lines }
-    requires filled { IsFilled (F.names folder.old) translation.now.cat translation.now.id translation.now.plan target.old lines.first lines.end lines.band }
-    ensures filled { OnOk result (IsFilled (F.names folder.new) translation.now.cat translation.now.id translation.now.plan target.new lines.first lines.end (lines.band + 1)) }
-    ensures name { target.new.name ≡ target.old.name }
-    ensures ready { AreLanesReady F.Folder S.told S.cat folder.new translation.now.cat copier.new.reader.team.lanes.items }
-    ensures room { IsRoomFor translation.now.cat translation.now.id translation.now.plan copier.new.reader.columns copier.new.reader.samples.items }
-    ensures names { F.names folder.new ≡ F.names folder.old }
-    ensures ends { MayEnd (F.names folder.old) (F.faults folder.old) (F.faults folder.new) 0 0 result }
-{
-    let count = area(translation.plan.size.w, lines.end - lines.first);
-    let shared = copier.shared;
-    let reader = &mut copier.reader;
-    let writes = &mut copier.writes;
-    let part = &mut samples[..count];
-    read_part(rt, translation, reader, folder, shared, lines, part)?;
-    write_part(translation, folder, target, lines, part, writes)
+/// The same, and the lines behind them.
+#[derive(Clone, Copy)]
+pub struct Step {
+    pub stage: Stage,
+    pub next: Lines,
 }
 
-// Copies the lines of a strip of all bands.
-fn copy_strip<R: Threads + Sync, F: Folder, L: Ledger, W: Ledger, S: Scene>(
-    rt: &R,
-    translation: &Translation,
-    copier: &mut Copier<F, L, W, S>,
-    folder: &mut F,
-    target: &mut Target<F>,
-    strip: Strip,
-    samples: &mut [Sample],
-) -> Result<(), Fault>
-    requires translation { IsTranslation translation.now.cat translation.now.id translation.now.plan }
-    requires ready { AreLanesReady F.Folder S.told S.cat folder.old translation.now.cat copier.old.reader.team.lanes.items }
-    requires room { IsRoomFor translation.now.cat translation.now.id translation.now.plan copier.old.reader.columns copier.old.reader.samples.items }
-    requires long { translation.now.plan.size.w * (strip.end - strip.first) ≤ length samples.old }
-    requires order { strip.first < strip.end }
-    requires end { strip.end ≤ translation.now.plan.size.h }
-    requires filled { IsFilled (F.names folder.old) translation.now.cat translation.now.id translation.now.plan target.old strip.first strip.first 0 }
-    ensures filled { OnOk result (IsFilled (F.names folder.new) translation.now.cat translation.now.id translation.now.plan target.new strip.end strip.end 0) }
-    ensures name { target.new.name ≡ target.old.name }
-    ensures ready { AreLanesReady F.Folder S.told S.cat folder.new translation.now.cat copier.new.reader.team.lanes.items }
-    ensures room { IsRoomFor translation.now.cat translation.now.id translation.now.plan copier.new.reader.columns copier.new.reader.samples.items }
-    ensures names { F.names folder.new ≡ F.names folder.old }
-    ensures ends { MayEnd (F.names folder.old) (F.faults folder.old) (F.faults folder.new) 0 0 result }
+/// Tells how far it is, where lines of the last band were written.
+pub fn tell_behind<O: Sink>(
+    out: &mut O,
+    quiet: bool,
+    told: usize,
+    plan: &Plan,
+    last: Lines,
+) -> Result<usize, Fault>
+    requires told { told ≤ 49 }
+    requires last { ArePart plan.now last }
+    ensures told { (before : Option (List ℕ)) → Gets (spoken quiet (take told progress)) before (O.got out.old) → Tells quiet result before (O.got out.new) }
+    ensures within { IfOk result (λ next. next ≤ 49) }
+    ensures quiet { quiet ≡ true → out.new ≡ out.old }
+    ensures ends { (names : Option Files) (faults : ℕ) → MayEnd names faults faults (O.faults out.old) (O.faults out.new) result }
 {
-    let plan = &translation.plan;
-    plan.rules();
     let bands = plan.count();
-    for band in 0..bands {
-        let lines = Lines {
-            band,
-            first: strip.first,
-            end: strip.end,
-        };
-        copy_band(rt, translation, copier, folder, target, lines, samples)?;
+    let height = plan.size.h;
+    if last.band + 1 < bands {
+        return Ok(told);
     }
-    Ok(())
+    let done = last.end;
+    tell(out, quiet, told, Share { done, height })
 }
 
-/// Copies all lines of all bands, strip by strip, and tells how far it is.
-pub fn copy_all<R: Threads + Sync, F: Folder, O: Sink, L: Ledger, W: Ledger, S: Scene>(
+/// Writes the last lines, tells how far it is, and reads the next ones into their room.
+pub fn in_turn<R: Threads + Sync, F: Folder, O: Sink, L: Ledger, W: Ledger, S: Scene>(
     rt: &R,
     translation: &Translation,
     copier: &mut Copier<F, L, W, S>,
     folder: &mut F,
     target: &mut Target<F>,
     out: &mut O,
-    samples: &mut [Sample],
-) -> Result<(), Fault>
-    requires translation { IsTranslation translation.now.cat translation.now.id translation.now.plan }
-    requires ready { AreLanesReady F.Folder S.told S.cat folder.old translation.now.cat copier.old.reader.team.lanes.items }
-    requires room { IsRoomFor translation.now.cat translation.now.id translation.now.plan copier.old.reader.columns copier.old.reader.samples.items }
-    requires rows { 1 ≤ copier.old.rows }
-    requires long { translation.now.plan.size.w * copier.old.rows ≤ length samples.old }
-    requires filled { IsFilled (F.names folder.old) translation.now.cat translation.now.id translation.now.plan target.old 0 0 0 }
-    ensures filled { OnOk result (IsFilled (F.names folder.new) translation.now.cat translation.now.id translation.now.plan target.new translation.now.plan.size.h translation.now.plan.size.h 0) }
-    ensures name { target.new.name ≡ target.old.name }
-    ensures names { F.names folder.new ≡ F.names folder.old }
-    ensures ok { OnOk result (Gets (spoken copier.old.quiet progress) (O.got out.old) (O.got out.new)) }
-    ensures err { OnErr result (GetsPart (spoken copier.old.quiet progress) (O.got out.old) (O.got out.new)) }
-    ensures quiet { copier.old.quiet ≡ true → out.new ≡ out.old }
-    ensures ends { MayEnd (F.names folder.old) (F.faults folder.old) (F.faults folder.new) (O.faults out.old) (O.faults out.new) result }
+    step: Step,
+) -> Result<usize, Fault>
+    requires may { MayCopy F.Folder translation.now.cat translation.now.id translation.now.plan S.told S.cat step.stage.pace
+        folder.old copier.old.reader.team.lanes.items copier.old.reader.columns copier.old.reader.samples.items
+        copier.old.rooms.ready.items copier.old.rooms.next.items }
+    requires so_far { AreAt F.Folder translation.now.cat translation.now.id translation.now.plan step.stage.pace.rows step.stage.last
+        folder.old target.old copier.old.rooms.ready.items }
+    requires next { AreNext translation.now.plan step.stage.pace.rows step.stage.last step.next }
+    requires told { step.stage.told ≤ 49 }
+    ensures moved { HasMoved F.Folder O.Sink translation.now.cat translation.now.id translation.now.plan S.told S.cat step
+        folder.old folder.new target.old target.new out.old out.new
+        copier.new.reader.team.lanes.items copier.new.reader.columns copier.new.reader.samples.items
+        copier.new.rooms.ready.items copier.new.rooms.next.items result }
 {
+    let writes = &mut copier.writes;
+    write_front(
+        translation,
+        folder,
+        target,
+        step.stage.last,
+        &copier.rooms.ready,
+        writes,
+    )?;
     let plan = &translation.plan;
-    plan.rules();
-    let height = plan.size.h;
-    let rows = copier.rows;
-    let quiet = copier.quiet;
-    let mut told = tell(out, quiet, 0, Share { done: 0, height })?;
-    let mut line = 0;
-    while line < height {
-        let end = line + rows.min(height - line);
-        let strip = Strip { first: line, end };
-        copy_strip(rt, translation, copier, folder, target, strip, samples)?;
-        told = tell(out, quiet, told, Share { done: end, height })?;
-        line = end;
-    }
-    Ok(())
+    let told = tell_behind(
+        out,
+        step.stage.pace.quiet,
+        step.stage.told,
+        plan,
+        step.stage.last,
+    )?;
+    let shared = copier.shared;
+    let reader = &mut copier.reader;
+    let room = copier.rooms.ready.as_mut_slice();
+    read_front(rt, translation, reader, folder, shared, step.next, room)?;
+    Ok(told)
 }

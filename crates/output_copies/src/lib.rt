@@ -3,9 +3,11 @@
 #![tactic(auto)]
 
 mod ahead;
+mod both;
 mod calls;
 mod copying;
 mod documents;
+mod order;
 mod output;
 mod parts;
 mod progress;

@@ -1,29 +1,29 @@
 // A translation, from its first text to its last.
-ghost use Rattle.std.specs.Prelude.{◌≡◌, ◌≢◌, ◌≤◌, ◌<◌, ◌*◌, ◌++◌, ℕ, List, Option, IfErr, IfOk, IfSome, OnErr, OnOk, Some, length, slice_get, true};
+ghost use Rattle.std.specs.Prelude.{◌≡◌, ◌≢◌, ◌≤◌, ◌<◌, ◌*◌, ◌++◌, ℕ, List, Option, IfErr, IfOk, IfSome, OnErr, OnOk, Some, length, slice_get, false, true};
 ghost use Rattle.outside.specs.Outside.{Files};
 ghost use Rattle.outside.specs.Reading.{WhereTold};
-ghost use Rattle.outside.specs.Streams.{Gets, GetsPart};
 ghost use Rattle.catalog.specs.Drivers.{Dataset};
 ghost use Rattle.catalog.specs.Walk.{IsWalked};
-ghost use Rattle.lane_teams.specs.Ready.{AreLanesFresh, AreLanesReady};
+ghost use Rattle.lane_teams.specs.Ready.{AreLanesFresh};
 ghost use Rattle.translate_plan.specs.declared.options.Driver.TheVariants.{Vrt};
 ghost use Rattle.write_back.specs.Plans.{output_of, IsNamedFor};
 ghost use Rattle.strip_copies.specs.Copies.{IsRoomFor, IsTranslation};
 ghost use Rattle.error_lines.specs.Faults.{Differs, HasCauses, IsOfReading};
 ghost use Rattle.error_lines.specs.Progress.{progress};
 ghost use Rattle.error_lines.specs.Steps.{all_done, publishes, Goes};
-ghost use Rattle.output_copies.specs.Copying.{spoken, IsFilled, MayEnd};
+ghost use Rattle.output_copies.specs.Copying.{IsFilled, MayEnd};
+ghost use Rattle.output_copies.specs.Moves.{MayCopy};
 ghost use Rattle.output_copies.specs.Steps.{files_by, raster_of, translation_steps, unless_quiet, written};
 
-use crate::ahead::{Rooms, copy_ahead};
-use crate::copying::{Copier, copy_all};
+use crate::ahead::copy_parts;
+use crate::copying::{Copier, Pace, Rooms};
 use crate::documents::write_document;
 use crate::parts::area;
 use crate::texts::{put_end, put_size};
 use crate::writing::Writing;
 use error_lines::Fault;
 use geotransform::Sample;
-use lane_teams::lines_for;
+use lane_teams::{WorkerCount, lines_for};
 use outside::{Counter, Folder, Sink};
 use shared_lines::{Lines, Scene};
 use std::marker::Brand;
@@ -33,11 +33,26 @@ use strip_copies::{StripReader, Translation, shares_blocks, strip_height};
 use translate_plan::Driver;
 use write_back::Target;
 
-// What a translation's lines are copied with.
+// At which pace a translation's lines are copied, where the next ones aren't read ahead.
+fn pace_for(translation: &Translation, writing: &Writing) -> Pace
+    requires some { 1 ≤ writing.now.blocks }
+    ensures rows { 1 ≤ result.rows }
+    ensures ahead { result.ahead ≡ false }
+    ensures quiet { result.quiet ≡ writing.now.quiet }
+{
+    Pace {
+        rows: strip_height(translation, writing.workers, writing.blocks),
+        ahead: false,
+        quiet: writing.quiet,
+    }
+}
+
+// What so many of a translation's lines are copied with at a time.
 fn copier_for<'a, F: Folder, L: Ledger, W: Ledger, S: Scene>(
     translation: &Translation,
     shared: Option<&'a Lines<S>>,
     writing: &Writing,
+    rows: u32,
     loads: Blank,
     writes: Blank,
 ) -> Result<Copier<'a, F, L, W, S>, Fault>
@@ -51,23 +66,23 @@ fn copier_for<'a, F: Folder, L: Ledger, W: Ledger, S: Scene>(
     requires writes_parts { writes.parts ≡ W.parts }
     requires writes_shares { 0 < writes.parts }
     ensures fresh { IfOk result (λ copier. AreLanesFresh F.Folder copier.reader.team.lanes.items) }
-    ensures room { IfOk result (λ copier. IsRoomFor translation.now.cat translation.now.id translation.now.plan copier.reader.columns copier.reader.samples.items) }
-    ensures rows { IfOk result (λ copier. 1 ≤ copier.rows) }
-    ensures quiet { IfOk result (λ copier. copier.quiet ≡ writing.now.quiet) }
+    ensures room { IfOk result (λ copier. IsRoomFor translation.now.cat translation.now.id translation.now.plan
+        copier.reader.columns copier.reader.samples.items) }
+    ensures long { IfOk result (λ copier. translation.now.plan.size.w * rows ≤ length copier.rooms.ready.items) }
     ensures memory { IfErr result (λ f. f ≡ Fault.Memory) }
 {
     let reader = StripReader::new(translation, writing.workers, writing.blocks, loads)?;
+    let ready = room_for(translation, rows)?;
+    let rooms = Rooms {
+        ready,
+        next: Vec::new(translation.alloc),
+    };
     let writes = Counter::open(writes);
-    let rows = strip_height(translation, writing.workers, writing.blocks);
-    let ahead = writing.workers.get() > 1;
-    let quiet = writing.quiet;
     Ok(Copier {
         reader,
         shared,
         writes,
-        rows,
-        ahead,
-        quiet,
+        rooms,
     })
 }
 
@@ -86,12 +101,13 @@ fn room_for(translation: &Translation, rows: u32) -> Result<Vec<Sample>, Fault>
 // that the threads of one more step cost more than it brings.
 const FEWEST_AHEAD: usize = 500_000;
 
-// A second room, for lines that are read while others are written: where that is wanted, there are any others, each
+// A second room, for lines that are read while others are written: where there are several workers and any others, each
 // strip has so many samples that it pays, and memory is had for it.
-fn second_room(translation: &Translation, ahead: bool, rows: u32) -> Option<Vec<Sample>>
+fn second_room(translation: &Translation, workers: WorkerCount, rows: u32) -> Option<Vec<Sample>>
     ensures long { IfSome result (λ samples. translation.now.plan.size.w * rows ≤ length samples.items) }
 {
     let plan = &translation.plan;
+    let ahead = workers.get() > 1;
     let some = rows < plan.size.h || plan.count() > 1;
     let pays = area(plan.size.w, rows) >= FEWEST_AHEAD;
     if !ahead || !some || !pays {
@@ -100,36 +116,29 @@ fn second_room(translation: &Translation, ahead: bool, rows: u32) -> Option<Vec<
     room_for(translation, rows).ok()
 }
 
-// Copies all lines of all bands; where a second room is had, the next ones are read while the last ones are written.
-fn copy_lines<R: Threads + Sync, F: Folder, O: Sink, L: Ledger + Send, W: Ledger, S: Scene>(
-    rt: &R,
-    translation: &Translation,
-    copier: &mut Copier<F, L, W, S>,
-    folder: &mut F,
-    target: &mut Target<F>,
-    out: &mut O,
-    mut ready: Vec<Sample>,
-) -> Result<(), Fault>
-    requires translation { IsTranslation translation.now.cat translation.now.id translation.now.plan }
-    requires ready { AreLanesReady F.Folder S.told S.cat folder.old translation.now.cat copier.old.reader.team.lanes.items }
-    requires room { IsRoomFor translation.now.cat translation.now.id translation.now.plan copier.old.reader.columns copier.old.reader.samples.items }
-    requires rows { 1 ≤ copier.old.rows }
-    requires long { translation.now.plan.size.w * copier.old.rows ≤ length ready.items }
-    requires filled { IsFilled (F.names folder.old) translation.now.cat translation.now.id translation.now.plan target.old 0 0 0 }
-    ensures filled { OnOk result (IsFilled (F.names folder.new) translation.now.cat translation.now.id translation.now.plan target.new translation.now.plan.size.h translation.now.plan.size.h 0) }
-    ensures name { target.new.name ≡ target.old.name }
-    ensures names { F.names folder.new ≡ F.names folder.old }
-    ensures ok { OnOk result (Gets (spoken copier.old.quiet progress) (O.got out.old) (O.got out.new)) }
-    ensures err { OnErr result (GetsPart (spoken copier.old.quiet progress) (O.got out.old) (O.got out.new)) }
-    ensures quiet { copier.old.quiet ≡ true → out.new ≡ out.old }
-    ensures ends { MayEnd (F.names folder.old) (F.faults folder.old) (F.faults folder.new) (O.faults out.old) (O.faults out.new) result }
+// Makes a second room, if it can, and says at which pace lines are copied then.
+fn paced(translation: &Translation, workers: WorkerCount, rooms: &mut Rooms, pace: Pace) -> Pace
+    ensures rows { result.rows ≡ pace.rows }
+    ensures quiet { result.quiet ≡ pace.quiet }
+    ensures ready { rooms.new.ready.items ≡ rooms.old.ready.items }
+    ensures long { result.ahead ≡ true → translation.now.plan.size.w * pace.rows ≤ length rooms.new.next.items }
 {
-    match second_room(translation, copier.ahead, copier.rows) {
+    let rows = pace.rows;
+    let quiet = pace.quiet;
+    match second_room(translation, workers, rows) {
         Some(next) => {
-            let mut rooms = Rooms { ready, next };
-            copy_ahead(rt, translation, copier, folder, target, out, &mut rooms)
+            rooms.next = next;
+            Pace {
+                rows,
+                ahead: true,
+                quiet,
+            }
         }
-        None => copy_all(rt, translation, copier, folder, target, out, &mut ready),
+        None => Pace {
+            rows,
+            ahead: false,
+            quiet,
+        },
     }
 }
 
@@ -177,6 +186,41 @@ fn lines_of<F: Folder, S: Scene>(
 }
 
 // Copies the lines of an output, and publishes its files.
+fn copy_and_publish<R: Threads + Sync, F: Folder, O: Sink, L: Ledger + Send, W: Ledger, S: Scene>(
+    rt: &R,
+    translation: &Translation,
+    copier: &mut Copier<F, L, W, S>,
+    folder: &mut F,
+    out: &mut O,
+    writing: &Writing,
+    pace: Pace,
+) -> Result<(), Fault>
+    requires may { MayCopy F.Folder translation.now.cat translation.now.id translation.now.plan S.told S.cat pace
+        folder.old copier.old.reader.team.lanes.items copier.old.reader.columns copier.old.reader.samples.items
+        copier.old.rooms.ready.items copier.old.rooms.next.items }
+    requires quiet { pace.quiet ≡ writing.now.quiet }
+    requires some { 1 ≤ writing.now.blocks }
+    requires few { writing.now.blocks ≤ 65536 }
+    requires files { translation.now.plan.driver ≢ Vrt }
+    requires extension { IsNamedFor translation.now.plan writing.now.name.now }
+    ensures goes { (m : Files) (d : Dataset) → F.names folder.old ≡ Some m → slice_get translation.now.cat translation.now.id ≡ Some d → Goes (all_done (unless_quiet writing.now.quiet progress ++ publishes (files_by (output_of translation.now.plan) writing.now.name.now (raster_of m d translation.now.plan)))) m result (F.names folder.new) (O.got out.old) (O.got out.new) }
+    ensures quiet { writing.now.quiet ≡ true → out.new ≡ out.old }
+    ensures ends { MayEnd (F.names folder.old) (F.faults folder.old) (F.faults folder.new) (O.faults out.old) (O.faults out.new) result }
+{
+    let alloc = translation.alloc;
+    let plan = &translation.plan;
+    let mut target = Target::create(alloc, folder, plan, writing.name, writing.blocks)?;
+    let pace = paced(translation, writing.workers, &mut copier.rooms, pace);
+    match copy_parts(rt, translation, copier, folder, &mut target, out, pace) {
+        Ok(()) => publish(translation, folder, target, &mut copier.writes),
+        Err(fault) => {
+            target.give_up(folder);
+            Err(fault)
+        }
+    }
+}
+
+// Makes what the lines of an output are copied with, copies them, and publishes the files.
 fn write_files<R: Threads + Sync, F: Folder, O: Sink, L: Ledger + Send, W: Ledger, S: Scene>(
     rt: &R,
     translation: &Translation,
@@ -204,29 +248,20 @@ fn write_files<R: Threads + Sync, F: Folder, O: Sink, L: Ledger + Send, W: Ledge
     ensures quiet { writing.now.quiet ≡ true → out.new ≡ out.old }
     ensures ends { MayEnd (F.names folder.old) (F.faults folder.old) (F.faults folder.new) (O.faults out.old) (O.faults out.new) result }
 {
-    let alloc = translation.alloc;
-    let plan = &translation.plan;
-    let blocks = writing.blocks;
+    translation.plan.rules();
+    let pace = pace_for(translation, writing);
     let made: Option<Lines<S>> = lines_of(translation, folder, writing);
     let shared = made.as_ref();
-    let mut copier: Copier<F, L, W, S> = copier_for(translation, shared, writing, loads, writes)?;
-    let samples = room_for(translation, copier.rows)?;
-    let mut target = Target::create(alloc, folder, plan, writing.name, blocks)?;
-    match copy_lines(
-        rt,
+    let rows = pace.rows;
+    let mut copier: Copier<F, L, W, S> = copier_for(
         translation,
-        &mut copier,
-        folder,
-        &mut target,
-        out,
-        samples,
-    ) {
-        Ok(()) => publish(translation, folder, target, &mut copier.writes),
-        Err(fault) => {
-            target.give_up(folder);
-            Err(fault)
-        }
-    }
+        shared,
+        writing,
+        rows,
+        loads,
+        writes,
+    )?;
+    copy_and_publish(rt, translation, &mut copier, folder, out, writing, pace)
 }
 
 // Writes what the driver of an output's plan makes of it.

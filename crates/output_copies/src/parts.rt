@@ -2,6 +2,7 @@
 ghost use Rattle.std.specs.Prelude.{◌≡◌, ◌+◌, ◌-◌, ◌*◌, length, OnOk};
 ghost use Rattle.lane_teams.specs.Ready.{AreLanesReady};
 ghost use Rattle.strip_copies.specs.Copies.{IsRoomFor, IsTranslation};
+ghost use Rattle.output_copies.specs.Ahead.{MayBeRead, MayBeWritten, WereRead, WereWritten};
 ghost use Rattle.output_copies.specs.Copying.{IsFilled, MayEnd};
 ghost use Rattle.output_copies.specs.Parts.{ArePart, AreRead};
 
@@ -74,4 +75,44 @@ pub fn write_part<F: Folder, W: Ledger>(
     let alloc = translation.alloc;
     target.write_window(alloc, folder, lines.band, rect, samples, writes)?;
     Ok(())
+}
+
+/// Reads lines into the front of a room.
+pub fn read_front<R: Threads + Sync, F: Folder, L: Ledger, S: Scene>(
+    rt: &R,
+    translation: &Translation,
+    reader: &mut StripReader<F, L>,
+    view: &mut F,
+    shared: Option<&shared_lines::Lines<S>>,
+    lines: Lines,
+    room: &mut [Sample],
+) -> Result<(), Fault>
+    requires may { MayBeRead F.Folder translation.now.cat translation.now.id translation.now.plan lines
+        S.told S.cat view.old reader.old.team.lanes.items reader.old.columns reader.old.samples.items room.old }
+    ensures were { WereRead F.Folder translation.now.cat translation.now.id translation.now.plan lines
+        S.told S.cat view.old view.new reader.new.team.lanes.items reader.new.columns reader.new.samples.items
+        (length room.old) room.new result }
+{
+    let count = area(translation.plan.size.w, lines.end - lines.first);
+    let part = &mut room[..count];
+    read_part(rt, translation, reader, view, shared, lines, part)
+}
+
+/// Writes lines that a room begins with.
+pub fn write_front<F: Folder, W: Ledger>(
+    translation: &Translation,
+    folder: &mut F,
+    target: &mut Target<F>,
+    lines: Lines,
+    samples: &[Sample],
+    writes: &mut Counter<W>,
+) -> Result<(), Fault>
+    requires may { MayBeWritten F.Folder translation.now.cat translation.now.id translation.now.plan lines
+        folder.old target.old samples.now }
+    ensures were { WereWritten F.Folder translation.now.cat translation.now.id translation.now.plan lines
+        folder.old folder.new target.old target.new result }
+{
+    let count = area(translation.plan.size.w, lines.end - lines.first);
+    let part = &samples[..count];
+    write_part(translation, folder, target, lines, part, writes)
 }

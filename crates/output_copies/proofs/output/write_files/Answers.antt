@@ -1,14 +1,7 @@
-use Rattle.std.proofs.Common.{◌≡◌, ◌∙◌, refl, arith, sym, subst, ℕ, Bool, List, Some, Err}
-use Rattle.outside.specs.Streams.{Gets, GetsPart}
-use Rattle.error_lines.specs.Faults.{target_fault_of}
-use Rattle.error_lines.specs.Progress.{progress}
-use Rattle.error_lines.specs.Steps.{all_done, publishes, Goes}
-use Rattle.write_back.specs.Plans.{output_of}
+use Rattle.std.proofs.Common.{◌≡◌}
 use Rattle.lane_teams.proofs.Lanes.{lanes_begin}
-use Rattle.output_copies.specs.Copying.{spoken, MayEnd}
-use Rattle.output_copies.specs.Steps.{files_by, raster_of, unless_quiet}
-use Rattle.output_copies.proofs.Ends.{ends_after, ends_beside, ends_so, ends_target, err_is, outside_memory, outside_target}
-use Rattle.output_copies.proofs.Goes.{goes_refused, goes_stop, goes_then, spoken_done, spoken_stops}
+use Rattle.output_copies.proofs.Ends.{err_is, outside_memory}
+use Rattle.output_copies.proofs.Goes.{goes_refused}
 use Rattle.output_copies.proofs.Written.{samples_steps}
 use Rattle.output_copies.proofs.output.write_files.Goals as goal
 
@@ -17,61 +10,33 @@ returns-in_err-copier-clause-goes g c = λ m d told at.
     goes_refused (samples_steps c.args.writing.now.quiet m d c.args.translation.now.plan c.args.writing.now.name.now) m c.from_residual.result c.in_err-copier.field-0.0 (g.F.Folder.names c.args.folder.now) (g.O.Sink.got c.args.out.now)
     (err_is c.from_residual.result c.in_err-copier.field-0.0 c.from_residual.ensures) told (outside_memory c.in_err-copier.field-0.0 c.in_err-copier.ensures.memory)
 
-pub returns-in_err-samples-clause-goes : goal.returns-in_err-samples-clause-goes
-returns-in_err-samples-clause-goes g c = λ m d told at.
-    goes_refused (samples_steps c.args.writing.now.quiet m d c.args.translation.now.plan c.args.writing.now.name.now) m c.from_residual-in_err-samples.result c.in_err-samples.field-0.0 (g.F.Folder.names c.args.folder.now) (g.O.Sink.got c.args.out.now)
-    (err_is c.from_residual-in_err-samples.result c.in_err-samples.field-0.0 c.from_residual-in_err-samples.ensures) told (outside_memory c.in_err-samples.field-0.0 c.in_err-samples.ensures.memory)
-
-pub returns-in_err-target-clause-goes : goal.returns-in_err-target-clause-goes
-returns-in_err-target-clause-goes g c = λ m d told at.
-    let t = c.in_err-target.field-0.0 in
-    goes_refused (samples_steps c.args.writing.now.quiet m d c.args.translation.now.plan c.args.writing.now.name.now) m c.from_residual-in_err-target.result (target_fault_of t) (g.F.Folder.names c.create.new.folder) (g.O.Sink.got c.args.out.now)
-    (err_is c.from_residual-in_err-target.result (target_fault_of t) c.from_residual-in_err-target.ensures) (c.create.ensures.names ∙ told) (outside_target t (target_fault_of t) refl)
-
-pub returns-in_err-target-clause-ends : goal.returns-in_err-target-clause-ends
-returns-in_err-target-clause-ends g c =
-    let t = c.in_err-target.field-0.0 in
-    let told = g.F.Folder.names c.args.folder.now in
-    ends_so told _ _ _ _ (target_fault_of t) c.from_residual-in_err-target.result (err_is c.from_residual-in_err-target.result (target_fault_of t) c.from_residual-in_err-target.ensures)
-    (ends_beside {T = Unit {0}} told (g.F.Folder.faults c.args.folder.now) (g.F.Folder.faults c.create.new.folder) (g.O.Sink.faults c.args.out.now) (Err (target_fault_of t))
-    (ends_target t told (g.F.Folder.faults c.args.folder.now) (g.F.Folder.faults c.create.new.folder) c.in_err-target.ensures.cause))
-
-pub copy_lines-requires-clause-ready : goal.copy_lines-requires-clause-ready
-copy_lines-requires-clause-ready g c κs within = lanes_begin g.F.Folder g.S.Scene.told g.S.Scene.cat c.args.translation.now.cat _ c.create.new.folder (c.requires.told ∙ sym c.create.ensures.names) c.requires.scene (λ m is. c.requires.walked m (sym c.create.ensures.names ∙ is)) c.in_ok-copier.ensures.fresh
-
-pub returns-in-Ok-clause-goes : goal.returns-in-Ok-clause-goes
-returns-in-Ok-clause-goes g c = λ m d told at.
-    let p = c.args.translation.now.plan in
-    let q = c.args.writing.now.quiet in
-    let before = g.O.Sink.got c.args.out.now in
-    let after = g.O.Sink.got c.copy_lines.new.out in
-    let names : g.F.Folder.names c.copy_lines.new.folder ≡ Some m = c.copy_lines.ensures.names ∙ (c.create.ensures.names ∙ told) in
-    let name : c.copy_lines.new.target.name ≡ c.args.writing.now.name.now = c.copy_lines.ensures.name ∙ c.in_ok-target.ensures.name in
-    goes_then (unless_quiet q progress) (publishes (files_by (output_of p) c.args.writing.now.name.now (raster_of m d p))) m m c.publish.result (g.F.Folder.names c.publish.new.folder) before after after
-    (spoken_done q progress m (Some m) before after refl (subst (λ (b : Bool). Gets (spoken b progress) before after) c.in_ok-copier.ensures.quiet c.in-Ok.ensures.ok))
-    (subst (λ (n : List ℕ). Goes (all_done (publishes (files_by (output_of p) n (raster_of m d p)))) m c.publish.result (g.F.Folder.names c.publish.new.folder) (g.O.Sink.got c.copy_lines.new.out) (g.O.Sink.got c.copy_lines.new.out)) name
-    (c.publish.ensures.goes m d names at after))
-
-pub returns-in-Ok-clause-ends : goal.returns-in-Ok-clause-ends
-returns-in-Ok-clause-ends g c =
-    let copied = c.in-Ok.ensures.ends.cause in
-    let made = c.create.ensures.cause.later in
-    ends_after (g.F.Folder.names c.args.folder.now) (g.F.Folder.names c.copy_lines.new.folder) (g.F.Folder.faults c.args.folder.now) (g.F.Folder.faults c.copy_lines.new.folder) (g.F.Folder.faults c.publish.new.folder) (g.O.Sink.faults c.args.out.now) (g.O.Sink.faults c.copy_lines.new.out) (g.O.Sink.faults c.copy_lines.new.out) c.publish.result
-    (c.copy_lines.ensures.names ∙ c.create.ensures.names) (omega (arith, made, copied.folder_later)) copied.out_later
-    (ends_beside (g.F.Folder.names c.copy_lines.new.folder) (g.F.Folder.faults c.copy_lines.new.folder) (g.F.Folder.faults c.publish.new.folder) (g.O.Sink.faults c.copy_lines.new.out) c.publish.result c.publish.ensures.ends)
+pub copy_and_publish-requires : goal.copy_and_publish-requires
+copy_and_publish-requires g c κs within =
+    let t = c.args.translation.now in
+    let pace = c.pace_for-pace.ensures in
+    let made = c.in_ok-copier.ensures in
+    record {
+      may = record {
+        rules = c.rules.ensures.kept;
+        translation = c.requires.translation;
+        lanes_ready = lanes_begin g.F.Folder g.S.Scene.told g.S.Scene.cat t.cat _ c.args.folder.now c.requires.told c.requires.scene c.requires.walked made.fresh;
+        room_for = made.room;
+        rows = pace.rows;
+        long = made.long;
+        long_next = λ ahead. (let later = pace.ahead in let no : ⊥ = cc in absurd no);
+      };
+      quiet = pace.quiet;
+      some = c.requires.some;
+      few = c.requires.few;
+      files = c.requires.files;
+      extension = c.requires.extension;
+    }
 
 pub returns-clause-goes : goal.returns-clause-goes
-returns-clause-goes g c = λ m d told at.
-    let p = c.args.translation.now.plan in
-    let q = c.args.writing.now.quiet in
-    let f = c.in-Err.fault in
-    let here : g.F.Folder.names c.create.new.folder ≡ Some m = c.create.ensures.names ∙ told in
-    goes_stop (unless_quiet q progress) (publishes (files_by (output_of p) c.args.writing.now.name.now (raster_of m d p))) m f (g.F.Folder.names c.give_up.new.folder) (g.O.Sink.got c.args.out.now) (g.O.Sink.got c.copy_lines.new.out)
-    (spoken_stops q progress f m (g.F.Folder.names c.give_up.new.folder) (g.O.Sink.got c.args.out.now) (g.O.Sink.got c.copy_lines.new.out) (c.give_up.ensures.names ∙ (c.copy_lines.ensures.names ∙ here)) (c.in-Err.ensures.ends.never m here) (subst (λ (b : Bool). GetsPart (spoken b progress) (g.O.Sink.got c.args.out.now) (g.O.Sink.got c.copy_lines.new.out)) c.in_ok-copier.ensures.quiet c.in-Err.ensures.err))
+returns-clause-goes g c = c.copy_and_publish.ensures.goes
+
+pub returns-clause-quiet : goal.returns-clause-quiet
+returns-clause-quiet g c = c.copy_and_publish.ensures.quiet
 
 pub returns-clause-ends : goal.returns-clause-ends
-returns-clause-ends g c =
-    let f = c.in-Err.fault in
-    subst (λ (n : ℕ). MayEnd {T = Unit {0}} (g.F.Folder.names c.args.folder.now) (g.F.Folder.faults c.args.folder.now) n (g.O.Sink.faults c.args.out.now) (g.O.Sink.faults c.copy_lines.new.out) (Err c.in-Err.fault)) (sym c.give_up.ensures.faults)
-    (ends_after (g.F.Folder.names c.args.folder.now) (g.F.Folder.names c.create.new.folder) (g.F.Folder.faults c.args.folder.now) (g.F.Folder.faults c.create.new.folder) (g.F.Folder.faults c.copy_lines.new.folder) (g.O.Sink.faults c.args.out.now) (g.O.Sink.faults c.args.out.now) (g.O.Sink.faults c.copy_lines.new.out) (Err c.in-Err.fault)
-    c.create.ensures.names c.create.ensures.cause.later (omega arith) c.in-Err.ensures.ends)
+returns-clause-ends g c = c.copy_and_publish.ensures.ends

@@ -3,7 +3,7 @@ use Rattle.error_lines.specs.declared.faults.Fault.{Fault}
 use Rattle.output_copies.specs.Copying.{MayEnd}
 use Rattle.output_copies.proofs.Beside.{ends_beside_put}
 use Rattle.output_copies.proofs.Ends.{ends_after, ends_ok, ends_so, err_is}
-use Rattle.output_copies.proofs.ahead.tell_and_answer.Goals as goal
+use Rattle.output_copies.proofs.both.tell_and_answer.Goals as goal
 
 pub returns-in_err-read-in-Ok-clause-ends : goal.returns-in_err-read-in-Ok-clause-ends
 returns-in_err-read-in-Ok-clause-ends g c = λ names before now ends.
