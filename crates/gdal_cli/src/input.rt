@@ -1,5 +1,6 @@
 // The points of an input.
-ghost use Rattle.std.specs.Prelude.{◌≡◌, ◌≤◌, ◌<◌, ℕ, List, IfErr, OnOk, Option, Err, Some, None, [], IfOk, true, length, slice_get};
+ghost use Rattle.std.specs.Prelude.{◌≡◌, ◌≤◌, ◌<◌, ℕ, List, IfErr, OnOk, Option, Err, Some, None, [], IfOk, true};
+ghost use Rattle.std.specs.Prelude.{length, slice_get};
 ghost use Rattle.outside.specs.Outside.{Files};
 ghost use Rattle.outside.specs.Causes.{HasCause};
 ghost use Rattle.input_points.specs.Entries.{ends};
@@ -8,7 +9,8 @@ ghost use Rattle.input_points.specs.Reading.{start, coming};
 ghost use Rattle.catalog.specs.Drivers.{Dataset};
 ghost use Rattle.error_lines.specs.Faults.{Differs, HasCauses};
 ghost use Rattle.gdal_cli.specs.Faults.{IsOfLines};
-ghost use Rattle.gdal_cli.specs.Input.{IsReading, room_of, AnswersNext, AnswersPiece, AnswersPieces, AnswersInput, StopsBehind};
+ghost use Rattle.gdal_cli.specs.Input.{IsReading, room_of, AnswersNext, AnswersPiece, AnswersPieces, AnswersInput};
+ghost use Rattle.gdal_cli.specs.Input.{StopsBehind};
 ghost use Rattle.gdal_cli.specs.Lanes.{IsReadyWith};
 ghost use Rattle.gdal_cli.specs.Location.{answers, point_text, line_text, line_fault, PutsText};
 ghost use Rattle.gdal_cli.specs.Pixels.{HasBands};
@@ -40,10 +42,14 @@ fn answer_line<F: Folder, O: Sink, L: Ledger, S: Scene>(
     requires ready { IsReadyWith F.Folder S.told S.cat folder.old question.now.cat points.old.pixels.lane }
     requires bands { HasBands question.now.cat question.now.id question.now.asked.bands }
     requires room { length points.old.room.values.items ≡ length question.now.asked.bands }
-    ensures told { (m : Files) → F.names folder.old ≡ Some m → (d : Dataset) → slice_get question.now.cat question.now.id ≡ Some d → line_fault line kind ≡ None → PutsText (line_text (point_text m question.now.cat d question.now.asked) kind) result (O.got out.old) (O.got out.new) }
+    ensures told { (m : Files) → F.names folder.old ≡ Some m → (d : Dataset) →
+        slice_get question.now.cat question.now.id ≡ Some d → line_fault line kind ≡ None →
+        PutsText (line_text (point_text m question.now.cat d question.now.asked) kind) result (O.got out.old)
+        (O.got out.new) }
     ensures refused { (f : Fault) → line_fault line kind ≡ Some f → (result ≡ Err f) × (O.got out.new ≡ O.got out.old) }
     ensures ends { ends kind ≡ true → IfOk result (λ done. ⊥) }
-    ensures never { (m : Files) → F.names folder.old ≡ Some m → (name : List ℕ) (was : ℕ) (now : Option ℕ) → result ≡ Err (Fault.Changed name was now) → ⊥ }
+    ensures never { (m : Files) → F.names folder.old ≡ Some m → (name : List ℕ) (was : ℕ) (now : Option ℕ) →
+        result ≡ Err (Fault.Changed name was now) → ⊥ }
     ensures cause { HasCauses (F.faults folder.old) (F.faults folder.new) (O.faults out.old) (O.faults out.new) result }
     ensures not_input { result ≡ Err Fault.InputFault → ⊥ }
     ensures ready { IsReadyWith F.Folder S.told S.cat folder.new question.now.cat points.new.pixels.lane }
@@ -79,12 +85,16 @@ fn answer_next<F: Folder, O: Sink, L: Ledger, S: Scene>(
     requires room { length points.old.room.values.items ≡ length question.now.asked.bands }
     requires reading { IsReading reader.old }
     requires some { 0 < length piece.now }
-    ensures told { (m : Files) → F.names folder.old ≡ Some m → (d : Dataset) → slice_get question.now.cat question.now.id ≡ Some d → AnswersNext (point_text m question.now.cat d question.now.asked) reader.old piece.now reader.new result (O.got out.old) (O.got out.new) }
+    ensures told { (m : Files) → F.names folder.old ≡ Some m → (d : Dataset) →
+        slice_get question.now.cat question.now.id ≡ Some d →
+        AnswersNext (point_text m question.now.cat d question.now.asked) reader.old piece.now reader.new result
+        (O.got out.old) (O.got out.new) }
     ensures used { IfOk result (λ used. (0 < used) × (used ≤ length piece.now)) }
     // no line that has an end is left unanswered, and less can be taken than before
     ensures reading { OnOk result (IsReading reader.new × (room_of reader.new < room_of reader.old)) }
     ensures none { OnOk result (coming ended_lines reader.new [] ≡ []) }
-    ensures never { (m : Files) → F.names folder.old ≡ Some m → (name : List ℕ) (was : ℕ) (now : Option ℕ) → result ≡ Err (Fault.Changed name was now) → ⊥ }
+    ensures never { (m : Files) → F.names folder.old ≡ Some m → (name : List ℕ) (was : ℕ) (now : Option ℕ) →
+        result ≡ Err (Fault.Changed name was now) → ⊥ }
     ensures cause { HasCauses (F.faults folder.old) (F.faults folder.new) (O.faults out.old) (O.faults out.new) result }
     ensures not_input { result ≡ Err Fault.InputFault → ⊥ }
     ensures ready { IsReadyWith F.Folder S.told S.cat folder.new question.now.cat points.new.pixels.lane }
@@ -117,12 +127,16 @@ fn answer_piece<F: Folder, O: Sink, L: Ledger, S: Scene>(
     requires bands { HasBands question.now.cat question.now.id question.now.asked.bands }
     requires room { length points.old.room.values.items ≡ length question.now.asked.bands }
     requires reading { IsReading reader.old }
-    ensures told { (m : Files) → F.names folder.old ≡ Some m → (d : Dataset) → slice_get question.now.cat question.now.id ≡ Some d → AnswersPiece (point_text m question.now.cat d question.now.asked) reader.old piece.now reader.new result (O.got out.old) (O.got out.new) }
+    ensures told { (m : Files) → F.names folder.old ≡ Some m → (d : Dataset) →
+        slice_get question.now.cat question.now.id ≡ Some d →
+        AnswersPiece (point_text m question.now.cat d question.now.asked) reader.old piece.now reader.new result
+        (O.got out.old) (O.got out.new) }
     // no line that has an end is left unanswered, and less can be taken than before
     ensures reading { OnOk result (IsReading reader.new) }
     ensures none { OnOk result (0 < length piece.now → coming ended_lines reader.new [] ≡ []) }
     ensures forward { OnOk result (0 < length piece.now → room_of reader.new < room_of reader.old) }
-    ensures never { (m : Files) → F.names folder.old ≡ Some m → (name : List ℕ) (was : ℕ) (now : Option ℕ) → result ≡ Err (Fault.Changed name was now) → ⊥ }
+    ensures never { (m : Files) → F.names folder.old ≡ Some m → (name : List ℕ) (was : ℕ) (now : Option ℕ) →
+        result ≡ Err (Fault.Changed name was now) → ⊥ }
     ensures cause { HasCauses (F.faults folder.old) (F.faults folder.new) (O.faults out.old) (O.faults out.new) result }
     ensures not_input { result ≡ Err Fault.InputFault → ⊥ }
     ensures ready { IsReadyWith F.Folder S.told S.cat folder.new question.now.cat points.new.pixels.lane }
@@ -156,10 +170,17 @@ fn answer_pieces<F: Folder, I: Input, O: Sink, L: Ledger, S: Scene>(
     requires room { length points.old.room.values.items ≡ length question.now.asked.bands }
     requires start { reader.old ≡ start }
     requires some { 0 < length bytes.old }
-    ensures told { (m : Files) → F.names folder.old ≡ Some m → (d : Dataset) → slice_get question.now.cat question.now.id ≡ Some d → (i : List ℕ) → I.left input.old ≡ Some i → AnswersPieces (point_text m question.now.cat d question.now.asked) i (I.left input.new) reader.new result (O.got out.old) (O.got out.new) }
-    ensures stopped { result ≡ Err Fault.InputFault → (m : Files) → F.names folder.old ≡ Some m → (d : Dataset) → slice_get question.now.cat question.now.id ≡ Some d → (i : List ℕ) → I.left input.old ≡ Some i → StopsBehind (answers (point_text m question.now.cat d question.now.asked) None) i (I.left input.new) (O.got out.old) (O.got out.new) }
+    ensures told { (m : Files) → F.names folder.old ≡ Some m → (d : Dataset) →
+        slice_get question.now.cat question.now.id ≡ Some d → (i : List ℕ) → I.left input.old ≡ Some i →
+        AnswersPieces (point_text m question.now.cat d question.now.asked) i (I.left input.new) reader.new result
+        (O.got out.old) (O.got out.new) }
+    ensures stopped { result ≡ Err Fault.InputFault → (m : Files) → F.names folder.old ≡ Some m → (d : Dataset) →
+        slice_get question.now.cat question.now.id ≡ Some d → (i : List ℕ) → I.left input.old ≡ Some i →
+        StopsBehind (answers (point_text m question.now.cat d question.now.asked) None) i (I.left input.new)
+        (O.got out.old) (O.got out.new) }
     ensures read { OnOk result ((i : List ℕ) → I.left input.old ≡ Some i → I.left input.new ≡ Some []) }
-    ensures never { (m : Files) → F.names folder.old ≡ Some m → (name : List ℕ) (was : ℕ) (now : Option ℕ) → result ≡ Err (Fault.Changed name was now) → ⊥ }
+    ensures never { (m : Files) → F.names folder.old ≡ Some m → (name : List ℕ) (was : ℕ) (now : Option ℕ) →
+        result ≡ Err (Fault.Changed name was now) → ⊥ }
     ensures cause { HasCauses (F.faults folder.old) (F.faults folder.new) (O.faults out.old) (O.faults out.new) result }
     ensures input_cause { HasCause Fault.InputFault (I.faults input.old) (I.faults input.new) result }
     ensures ready { IsReadyWith F.Folder S.told S.cat folder.new question.now.cat points.new.pixels.lane }
@@ -199,12 +220,19 @@ pub fn answer_input<F: Folder, I: Input, O: Sink, L: Ledger, S: Scene>(
     requires ready { IsReadyWith F.Folder S.told S.cat folder.old question.now.cat points.old.pixels.lane }
     requires bands { HasBands question.now.cat question.now.id question.now.asked.bands }
     requires room { length points.old.room.values.items ≡ length question.now.asked.bands }
-    ensures told { (m : Files) → F.names folder.old ≡ Some m → (d : Dataset) → slice_get question.now.cat question.now.id ≡ Some d → (i : List ℕ) → I.left input.old ≡ Some i → AnswersInput (point_text m question.now.cat d question.now.asked) i (I.left input.new) result (O.got out.old) (O.got out.new) }
-    ensures stopped { result ≡ Err Fault.InputFault → (m : Files) → F.names folder.old ≡ Some m → (d : Dataset) → slice_get question.now.cat question.now.id ≡ Some d → (i : List ℕ) → I.left input.old ≡ Some i → StopsBehind (answers (point_text m question.now.cat d question.now.asked) None) i (I.left input.new) (O.got out.old) (O.got out.new) }
+    ensures told { (m : Files) → F.names folder.old ≡ Some m → (d : Dataset) →
+        slice_get question.now.cat question.now.id ≡ Some d → (i : List ℕ) → I.left input.old ≡ Some i →
+        AnswersInput (point_text m question.now.cat d question.now.asked) i (I.left input.new) result (O.got out.old)
+        (O.got out.new) }
+    ensures stopped { result ≡ Err Fault.InputFault → (m : Files) → F.names folder.old ≡ Some m → (d : Dataset) →
+        slice_get question.now.cat question.now.id ≡ Some d → (i : List ℕ) → I.left input.old ≡ Some i →
+        StopsBehind (answers (point_text m question.now.cat d question.now.asked) None) i (I.left input.new)
+        (O.got out.old) (O.got out.new) }
     // over every folder, success is at the end of the input; over one that tells its names, no length is said to have
     // changed
     ensures read { OnOk result ((i : List ℕ) → I.left input.old ≡ Some i → I.left input.new ≡ Some []) }
-    ensures never { (m : Files) → F.names folder.old ≡ Some m → (name : List ℕ) (was : ℕ) (now : Option ℕ) → result ≡ Err (Fault.Changed name was now) → ⊥ }
+    ensures never { (m : Files) → F.names folder.old ≡ Some m → (name : List ℕ) (was : ℕ) (now : Option ℕ) →
+        result ≡ Err (Fault.Changed name was now) → ⊥ }
     ensures cause { HasCauses (F.faults folder.old) (F.faults folder.new) (O.faults out.old) (O.faults out.new) result }
     ensures input_cause { HasCause Fault.InputFault (I.faults input.old) (I.faults input.new) result }
     ensures ready { IsReadyWith F.Folder S.told S.cat folder.new question.now.cat points.new.pixels.lane }

@@ -1,5 +1,6 @@
 // The commands, from a job to its text.
-ghost use Rattle.std.specs.Prelude.{◌≡◌, ◌<◌, ℕ, List, IfErr, OnOk, Option, Some, Ok, Err, [], not, true, false, slice_get, is_some};
+ghost use Rattle.std.specs.Prelude.{◌≡◌, ◌<◌, ℕ, List, IfErr, OnOk, Option, Some, Ok, Err, [], not, true, false};
+ghost use Rattle.std.specs.Prelude.{slice_get, is_some};
 ghost use Rattle.outside.specs.Outside.{Files};
 ghost use Rattle.outside.specs.Causes.{HasCause};
 ghost use Rattle.outside.specs.Reading.{OnlyRead};
@@ -14,7 +15,8 @@ ghost use Rattle.gdal_cli.specs.Input.{StopsBehind};
 ghost use Rattle.gdal_cli.specs.Location.{answers, point_text};
 ghost use Rattle.gdal_cli.specs.Pixels.{HasBands};
 ghost use Rattle.gdal_cli.specs.Published.{IsNamedJob};
-ghost use Rattle.gdal_cli.specs.Run.{Ends, MayEnd, MayWarn, IsRefusal, name_read, names_published, makes_rasters, reads_sources, reads_input, warns_of_inputs, RefusesIn, RefusesKind};
+ghost use Rattle.gdal_cli.specs.Run.{Ends, MayEnd, MayWarn, IsRefusal, name_read, names_published, makes_rasters};
+ghost use Rattle.gdal_cli.specs.Run.{reads_sources, reads_input, warns_of_inputs, RefusesIn, RefusesKind};
 ghost use Rattle.error_lines.specs.Steps.{AreWarned, GoesWarning};
 ghost use Rattle.gdal_cli.specs.Work.{info_judged, location_judged, judged_by, carried_out};
 
@@ -79,7 +81,8 @@ fn put_info<F: Folder, O: Sink>(
     name: &Name,
     verify: bool,
 ) -> Result<(), Fault>
-    ensures told { (m : Files) → F.names folder.old ≡ Some m → (lines : List Entry) → Ends (carried_out (info_judged m verify name.now) m lines) result (O.got out.old) (O.got out.new) }
+    ensures told { (m : Files) → F.names folder.old ≡ Some m → (lines : List Entry) →
+        Ends (carried_out (info_judged m verify name.now) m lines) result (O.got out.old) (O.got out.new) }
     ensures refused { IsRefusal (ended result) → out.new ≡ out.old }
     ensures names { F.names folder.new ≡ F.names folder.old }
     ensures writes { F.write_calls folder.new ≡ F.write_calls folder.old }
@@ -113,10 +116,19 @@ fn put_answers<F: Folder, I: Input, O: Sink, L: Ledger, S: Scene>(
     requires some { 0 < blank.parts }
     requires walked { (m : Files) → F.names folder.old ≡ Some m → IsWalked m question.now.cat }
     requires bands { HasBands question.now.cat question.now.id question.now.asked.bands }
-    ensures told { (m : Files) → F.names folder.old ≡ Some m → (d : Dataset) → slice_get question.now.cat question.now.id ≡ Some d → (i : List ℕ) → (is_some point ≡ false → I.left input.old ≡ Some i) → Ends (answers (point_text m question.now.cat d question.now.asked) point (entries i)) result (O.got out.old) (O.got out.new) }
-    ensures never { (m : Files) → F.names folder.old ≡ Some m → (name : List ℕ) (was : ℕ) (now : Option ℕ) → result ≡ Err (Fault.Changed name was now) → ⊥ }
-    ensures stopped { result ≡ Err Fault.InputFault → (m : Files) → F.names folder.old ≡ Some m → (d : Dataset) → slice_get question.now.cat question.now.id ≡ Some d → (i : List ℕ) → I.left input.old ≡ Some i → StopsBehind (answers (point_text m question.now.cat d question.now.asked) point) i (I.left input.new) (O.got out.old) (O.got out.new) }
-    ensures read { OnOk result (is_some point ≡ false → (i : List ℕ) → I.left input.old ≡ Some i → I.left input.new ≡ Some []) }
+    ensures told { (m : Files) → F.names folder.old ≡ Some m → (d : Dataset) →
+        slice_get question.now.cat question.now.id ≡ Some d → (i : List ℕ) →
+        (is_some point ≡ false → I.left input.old ≡ Some i) →
+        Ends (answers (point_text m question.now.cat d question.now.asked) point (entries i)) result (O.got out.old)
+        (O.got out.new) }
+    ensures never { (m : Files) → F.names folder.old ≡ Some m → (name : List ℕ) (was : ℕ) (now : Option ℕ) →
+        result ≡ Err (Fault.Changed name was now) → ⊥ }
+    ensures stopped { result ≡ Err Fault.InputFault → (m : Files) → F.names folder.old ≡ Some m → (d : Dataset) →
+        slice_get question.now.cat question.now.id ≡ Some d → (i : List ℕ) → I.left input.old ≡ Some i →
+        StopsBehind (answers (point_text m question.now.cat d question.now.asked) point) i (I.left input.new)
+        (O.got out.old) (O.got out.new) }
+    ensures read { OnOk result (is_some point ≡ false → (i : List ℕ) → I.left input.old ≡ Some i →
+        I.left input.new ≡ Some []) }
     ensures untouched { is_some point ≡ true → input.new ≡ input.old }
     ensures cause { HasCauses (F.faults folder.old) (F.faults folder.new) (O.faults out.old) (O.faults out.new) result }
     ensures input_cause { HasCause Fault.InputFault (I.faults input.old) (I.faults input.new) result }
@@ -150,9 +162,16 @@ fn put_location<F: Folder, I: Input, O: Sink>(
     bands: &[BandNumber],
     options: LocateOptions,
 ) -> Result<(), Fault>
-    ensures told { (m : Files) → F.names folder.old ≡ Some m → (i : List ℕ) → (is_some options.point ≡ false → I.left input.old ≡ Some i) → Ends (carried_out (location_judged m options.verify name.now options.point bands.now options.form options.geoloc) m (entries i)) result (O.got out.old) (O.got out.new) }
-    ensures stopped { result ≡ Err Fault.InputFault → (m : Files) → F.names folder.old ≡ Some m → (i : List ℕ) → I.left input.old ≡ Some i → StopsBehind (carried_out (location_judged m options.verify name.now options.point bands.now options.form options.geoloc) m) i (I.left input.new) (O.got out.old) (O.got out.new) }
-    ensures read { OnOk result (is_some options.point ≡ false → (i : List ℕ) → I.left input.old ≡ Some i → I.left input.new ≡ Some []) }
+    ensures told { (m : Files) → F.names folder.old ≡ Some m → (i : List ℕ) →
+        (is_some options.point ≡ false → I.left input.old ≡ Some i) →
+        Ends (carried_out (location_judged m options.verify name.now options.point bands.now options.form
+        options.geoloc) m (entries i)) result (O.got out.old) (O.got out.new) }
+    ensures stopped { result ≡ Err Fault.InputFault → (m : Files) → F.names folder.old ≡ Some m → (i : List ℕ) →
+        I.left input.old ≡ Some i → StopsBehind
+        (carried_out (location_judged m options.verify name.now options.point bands.now options.form options.geoloc) m)
+        i (I.left input.new) (O.got out.old) (O.got out.new) }
+    ensures read { OnOk result (is_some options.point ≡ false → (i : List ℕ) → I.left input.old ≡ Some i →
+        I.left input.new ≡ Some []) }
     ensures untouched { is_some options.point ≡ true → input.new ≡ input.old }
     ensures refused { IsRefusal (ended result) → (out.new ≡ out.old) × (input.new ≡ input.old) }
     ensures may_end { IfErr result (MayEnd (Job.Locate name.now options.point bands.now options.form options.geoloc)) }
@@ -204,14 +223,24 @@ pub fn put_job<R: Threads + Sync, F: Folder, I: Input, O: Sink, E: Sink>(
 ) -> Result<(), Fault>
     requires named { IsNamedJob command.job }
     requires fresh { failed.old ≡ false }
-    ensures told { (m : Files) → F.names folder.old ≡ Some m → (i : List ℕ) → (reads_input command.job ≡ true → I.left input.old ≡ Some i) → GoesWarning (carried_out (judged_by command.job command.verify m) m (entries i)) m result (F.names folder.new) (O.got out.old) (O.got out.new) (λ steps. AreWarned steps failed.new (E.faults err.old) (E.faults err.new) (E.got err.old) (E.got err.new)) }
-    ensures stopped { result ≡ Err Fault.InputFault → (m : Files) → F.names folder.old ≡ Some m → (i : List ℕ) → I.left input.old ≡ Some i → StopsBehind (carried_out (judged_by command.job command.verify m) m) i (I.left input.new) (O.got out.old) (O.got out.new) }
-    ensures refused { makes_rasters command.job ≡ false → IsRefusal (ended result) → (out.new ≡ out.old) × (input.new ≡ input.old) × (F.names folder.new ≡ F.names folder.old) }
-    ensures made { makes_rasters command.job ≡ true → (m : Files) → F.names folder.old ≡ Some m → IfErr result IsOutside }
-    ensures warned { MayWarn (warns_of_inputs command.job) (ended result) failed.new (E.faults err.old) (E.faults err.new) (E.got err.old) (E.got err.new) }
+    ensures told { (m : Files) → F.names folder.old ≡ Some m → (i : List ℕ) →
+        (reads_input command.job ≡ true → I.left input.old ≡ Some i) →
+        GoesWarning (carried_out (judged_by command.job command.verify m) m (entries i)) m result (F.names folder.new)
+        (O.got out.old) (O.got out.new) (λ steps. AreWarned steps failed.new (E.faults err.old) (E.faults err.new)
+        (E.got err.old) (E.got err.new)) }
+    ensures stopped { result ≡ Err Fault.InputFault → (m : Files) → F.names folder.old ≡ Some m → (i : List ℕ) →
+        I.left input.old ≡ Some i → StopsBehind (carried_out (judged_by command.job command.verify m) m) i
+        (I.left input.new) (O.got out.old) (O.got out.new) }
+    ensures refused { makes_rasters command.job ≡ false → IsRefusal (ended result) → (out.new ≡ out.old) ×
+        (input.new ≡ input.old) × (F.names folder.new ≡ F.names folder.old) }
+    ensures made { makes_rasters command.job ≡ true → (m : Files) → F.names folder.old ≡ Some m →
+        IfErr result IsOutside }
+    ensures warned { MayWarn (warns_of_inputs command.job) (ended result) failed.new (E.faults err.old)
+        (E.faults err.new) (E.got err.old) (E.got err.new) }
     ensures only_read { names_published command.job ≡ [] → OnlyRead F.Folder folder.old folder.new }
     ensures may_end { IfErr result (MayEnd command.job) }
-    ensures read { OnOk result (reads_input command.job ≡ true → (i : List ℕ) → I.left input.old ≡ Some i → I.left input.new ≡ Some []) }
+    ensures read { OnOk result (reads_input command.job ≡ true → (i : List ℕ) → I.left input.old ≡ Some i →
+        I.left input.new ≡ Some []) }
     ensures untouched { reads_input command.job ≡ false → input.new ≡ input.old }
     ensures cause { HasCauses (F.faults folder.old) (F.faults folder.new) (O.faults out.old) (O.faults out.new) result }
     ensures input_cause { HasCause Fault.InputFault (I.faults input.old) (I.faults input.new) result }

@@ -28,10 +28,16 @@ pub fn put_build<F: Folder, O: Sink, E: Sink>(
     building: Building,
 ) -> Result<(), Fault>
     requires fresh { failed.old ≡ false }
-    ensures told { (m : Files) → F.names folder.old ≡ Some m → (lines : List Entry) → GoesWarning (carried_out (build_judged m building.entry.verify inputs building.entry.list.now building.entry.options.now building.entry.quiet) m lines) m result (F.names folder.new) (O.got out.old) (O.got out.new) (λ steps. AreWarned steps failed.new (E.faults err.old) (E.faults err.new) (E.got err.old) (E.got err.new)) }
+    ensures told { (m : Files) → F.names folder.old ≡ Some m → (lines : List Entry) →
+        GoesWarning (carried_out (build_judged m building.entry.verify inputs building.entry.list.now
+        building.entry.options.now building.entry.quiet) m lines) m result (F.names folder.new) (O.got out.old)
+        (O.got out.new) (λ steps. AreWarned steps failed.new (E.faults err.old) (E.faults err.new) (E.got err.old)
+        (E.got err.new)) }
     ensures refused { IsRefusal (ended result) → (out.new ≡ out.old) × (F.names folder.new ≡ F.names folder.old) }
-    ensures warned { MayWarn true (ended result) failed.new (E.faults err.old) (E.faults err.new) (E.got err.old) (E.got err.new) }
-    ensures may_end { IfErr result (MayEnd (Job.Build inputs building.entry.list.now building.entry.options.now building.entry.quiet)) }
+    ensures warned { MayWarn true (ended result) failed.new (E.faults err.old) (E.faults err.new) (E.got err.old)
+        (E.got err.new) }
+    ensures may_end { IfErr result (MayEnd (Job.Build inputs building.entry.list.now building.entry.options.now
+        building.entry.quiet)) }
     ensures cause { HasCauses (F.faults folder.old) (F.faults folder.new) (O.faults out.old) (O.faults out.new) result }
     ensures not_input { result ≡ Err Fault.InputFault → ⊥ }
     ensures unknown { RefusesOnly result }

@@ -31,7 +31,8 @@ fn covering(
     y: u32,
 ) -> Result<Names, Fault>
     requires bands { HasBands cat.now id bands.now }
-    ensures files { (d : Dataset) → slice_get cat.now id ≡ Some d → IfOk result (λ files. files ≡ covering_files cat.now d x y bands.now) }
+    ensures files { (d : Dataset) → slice_get cat.now id ≡ Some d →
+        IfOk result (λ files. files ≡ covering_files cat.now d x y bands.now) }
     ensures memory { IfErr result (λ f. f ≡ Fault.Memory) }
 {
     let mut files = Names::new(alloc);
@@ -55,7 +56,9 @@ fn make_inside<F: Folder, L: Ledger, S: Scene>(
     requires room { length room.old.values.items ≡ length question.now.asked.bands }
     requires pixel { IsOnRaster question.now.cat question.now.id x y }
     requires empty { room.old.text.items ≡ [] }
-    ensures text { (m : Files) → F.names folder.old ≡ Some m → (d : Dataset) → slice_get question.now.cat question.now.id ≡ Some d → OnOk result (room.new.text.items ≡ told_text m question.now.cat d question.now.asked (pos x, pos y)) }
+    ensures text { (m : Files) → F.names folder.old ≡ Some m → (d : Dataset) →
+        slice_get question.now.cat question.now.id ≡ Some d →
+        OnOk result (room.new.text.items ≡ told_text m question.now.cat d question.now.asked (pos x, pos y)) }
     ensures never { (m : Files) → F.names folder.old ≡ Some m → IfErr result IsOutside }
     ensures cause { HasCause Fault.FolderFault (F.faults folder.old) (F.faults folder.new) result }
     ensures not_input { result ≡ Err Fault.InputFault → ⊥ }
@@ -108,7 +111,9 @@ fn make_text<F: Folder, L: Ledger, S: Scene>(
     requires ready { IsReadyWith F.Folder S.told S.cat folder.old question.now.cat pixels.old.lane }
     requires bands { HasBands question.now.cat question.now.id question.now.asked.bands }
     requires room { length room.old.values.items ≡ length question.now.asked.bands }
-    ensures text { (m : Files) → F.names folder.old ≡ Some m → (d : Dataset) → slice_get question.now.cat question.now.id ≡ Some d → OnOk result (room.new.text.items ≡ told_text m question.now.cat d question.now.asked (column, line)) }
+    ensures text { (m : Files) → F.names folder.old ≡ Some m → (d : Dataset) →
+        slice_get question.now.cat question.now.id ≡ Some d →
+        OnOk result (room.new.text.items ≡ told_text m question.now.cat d question.now.asked (column, line)) }
     ensures never { (m : Files) → F.names folder.old ≡ Some m → IfErr result IsOutside }
     ensures cause { HasCause Fault.FolderFault (F.faults folder.old) (F.faults folder.new) result }
     ensures not_input { result ≡ Err Fault.InputFault → ⊥ }
@@ -157,8 +162,11 @@ pub fn put_point<F: Folder, O: Sink, L: Ledger, S: Scene>(
     requires ready { IsReadyWith F.Folder S.told S.cat folder.old question.now.cat points.old.pixels.lane }
     requires bands { HasBands question.now.cat question.now.id question.now.asked.bands }
     requires room { length points.old.room.values.items ≡ length question.now.asked.bands }
-    ensures told { (m : Files) → F.names folder.old ≡ Some m → (d : Dataset) → slice_get question.now.cat question.now.id ≡ Some d → PutsText (point_text m question.now.cat d question.now.asked x y) result (O.got out.old) (O.got out.new) }
-    ensures never { (m : Files) → F.names folder.old ≡ Some m → (name : List ℕ) (was : ℕ) (now : Option ℕ) → result ≡ Err (Fault.Changed name was now) → ⊥ }
+    ensures told { (m : Files) → F.names folder.old ≡ Some m → (d : Dataset) →
+        slice_get question.now.cat question.now.id ≡ Some d →
+        PutsText (point_text m question.now.cat d question.now.asked x y) result (O.got out.old) (O.got out.new) }
+    ensures never { (m : Files) → F.names folder.old ≡ Some m → (name : List ℕ) (was : ℕ) (now : Option ℕ) →
+        result ≡ Err (Fault.Changed name was now) → ⊥ }
     ensures cause { HasCauses (F.faults folder.old) (F.faults folder.new) (O.faults out.old) (O.faults out.new) result }
     ensures not_input { result ≡ Err Fault.InputFault → ⊥ }
     ensures ready { IsReadyWith F.Folder S.told S.cat folder.new question.now.cat points.new.pixels.lane }

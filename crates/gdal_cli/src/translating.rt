@@ -32,7 +32,9 @@ pub fn put_translated<R: Threads + Sync, F: Folder, O: Sink>(
     way: Way,
 ) -> Result<(), Fault>
     requires named { IsNamed options.now }
-    ensures told { (m : Files) → F.names folder.old ≡ Some m → (lines : List Entry) → Goes (carried_out (translate_judged m way.verify src.now options.now way.quiet) m lines) m result (F.names folder.new) (O.got out.old) (O.got out.new) }
+    ensures told { (m : Files) → F.names folder.old ≡ Some m → (lines : List Entry) →
+        Goes (carried_out (translate_judged m way.verify src.now options.now way.quiet) m lines) m result
+        (F.names folder.new) (O.got out.old) (O.got out.new) }
     ensures refused { IsRefusal (ended result) → (out.new ≡ out.old) × (F.names folder.new ≡ F.names folder.old) }
     ensures may_end { IfErr result (MayEnd (Job.Translate src.now options.now way.quiet)) }
     ensures cause { HasCauses (F.faults folder.old) (F.faults folder.new) (O.faults out.old) (O.faults out.new) result }

@@ -27,7 +27,8 @@ fn read_value<F: Folder, L: Ledger, S: Scene>(
     requires ready { IsReadyWith F.Folder S.told S.cat folder.old question.now.cat pixels.old.lane }
     requires pixel { IsOnRaster question.now.cat question.now.id x y }
     requires band { AreBands question.now.cat question.now.id (λ count. band < count) }
-    ensures value { (m : Files) → F.names folder.old ≡ Some m → IfOk result (λ v. v ≡ pixel_of m question.now.cat question.now.id band x y) }
+    ensures value { (m : Files) → F.names folder.old ≡ Some m →
+        IfOk result (λ v. v ≡ pixel_of m question.now.cat question.now.id band x y) }
     ensures ready { IsReadyWith F.Folder S.told S.cat folder.new question.now.cat pixels.new.lane }
     ensures never { (m : Files) → F.names folder.old ≡ Some m → IfErr result IsOutside }
     ensures late { IfErr result IsOfReading }
@@ -73,7 +74,8 @@ pub fn read_values<F: Folder, L: Ledger, S: Scene>(
     requires pixel { IsOnRaster question.now.cat question.now.id x y }
     requires bands { HasBands question.now.cat question.now.id bands.now }
     requires room { length values.old ≡ length bands.now }
-    ensures values { (m : Files) → F.names folder.old ≡ Some m → OnOk result (values.new ≡ map (λ band. pixel_of m question.now.cat question.now.id (band - 1) x y) bands.now) }
+    ensures values { (m : Files) → F.names folder.old ≡ Some m →
+        OnOk result (values.new ≡ map (λ band. pixel_of m question.now.cat question.now.id (band - 1) x y) bands.now) }
     ensures room { length values.new ≡ length values.old }
     ensures ready { IsReadyWith F.Folder S.told S.cat folder.new question.now.cat pixels.new.lane }
     ensures never { (m : Files) → F.names folder.old ≡ Some m → IfErr result IsOutside }

@@ -1,5 +1,5 @@
 -- How many lines are copied at a time.
-use Rattle.std.specs.Prelude.{ℕ, ◌*◌, ◌/◌, min, nat_lt, not, ◌&&◌, Bool, true, false, List, length, if◌then◌else◌}
+use Rattle.std.specs.Prelude.{ℕ, ◌*◌, ◌/◌, min, max, nat_lt, nat_le, not, ◌&&◌, ◌||◌, Bool, true, false, List, length, if◌then◌else◌}
 use Rattle.std.specs.List.{list_any}
 use Rattle.esri_hdr.specs.declared.header_parts.Layout.{Layout}
 use Rattle.esri_hdr.specs.declared.header_parts.Layout.TheVariants.{Bil, Bip, Bsq}
@@ -11,9 +11,9 @@ use Rattle.translate_plan.specs.declared.options.Driver.TheVariants.{EHdr, Dted,
 use Rattle.translate_plan.specs.Window.{most_side}
 use Rattle.translate_plan.specs.Plan.{Planned}
 use Rattle.strip_copies.specs.declared.height.BlockShape.{BlockShape}
-use Rattle.strip_copies.specs.declared.height.BlockShape.TheVariants.{Columns, Squares}
+use Rattle.strip_copies.specs.declared.height.BlockShape.TheVariants.{Columns, Squares, Digits}
 
--- datasets whose blocks are whole columns are cells, and those whose blocks are squares are mosaics
+-- datasets whose blocks are whole columns are cells, those whose blocks are squares are mosaics, and those of digits are grids
 abbrev pub is_cell : Kind → Bool
 is_cell kinds.Raw = false
 is_cell kinds.Dted = true
@@ -28,9 +28,17 @@ is_mosaic kinds.Hgt = false
 is_mosaic kinds.Ascii = false
 is_mosaic kinds.Vrt = true
 
+abbrev pub is_grid : Kind → Bool
+is_grid kinds.Raw = false
+is_grid kinds.Dted = false
+is_grid kinds.Hgt = false
+is_grid kinds.Ascii = true
+is_grid kinds.Vrt = false
+
 abbrev pub is_cut_in : BlockShape → Kind → Bool
 is_cut_in Columns kind = is_cell kind
 is_cut_in Squares kind = is_mosaic kind
+is_cut_in Digits kind = is_grid kind
 
 -- some dataset is cut into such blocks
 abbrev pub has_blocks : BlockShape → List Dataset → Bool
@@ -44,10 +52,33 @@ is_tall cat SrtmHgt = has_blocks Columns cat
 is_tall cat AaiGrid = has_blocks Columns cat
 is_tall cat Vrt = has_blocks Columns cat
 
--- the most lines of a strip that so many workers read: for each of them those of a square where the source is a mosaic, and
--- 32 where it is a file of lines
-abbrev pub most_lines : ℕ → List Dataset → Driver → ℕ
-most_lines workers cat driver = if is_tall cat driver then most_side else (if has_blocks Squares cat then 128 * workers else 32 * workers)
+-- the lines of a strip that each of several workers reads: those of a square where the source is a mosaic, and 32 where it is a file of lines
+abbrev pub lines_each : List Dataset → ℕ
+lines_each cat = if has_blocks Squares cat then 128 else 32
+
+-- samples are made of others, or of digits: those of a file of bytes are copied
+abbrev pub is_made : List Dataset → Bool
+is_made cat = has_blocks Squares cat || has_blocks Digits cat
+
+-- the fewest samples for which a worker gets a thread
+abbrev pub fewest_read : List Dataset → ℕ
+fewest_read cat = if is_made cat then 262144 else 1000000
+
+-- several workers read a strip of a window so wide where each has enough samples for a thread
+abbrev pub is_shared : ℕ → List Dataset → ℕ → Bool
+is_shared workers cat width = nat_lt 1 workers && nat_le (fewest_read cat) (min (lines_each cat * width) (most_side / workers))
+
+-- the lines of so many columns that stay in a processor's cache
+abbrev pub lines_near : ℕ → ℕ
+lines_near width = min (max (65536 / width) 1) 32
+
+-- the lines of a strip that one worker reads alone: of a file of bytes those that stay in the cache
+abbrev pub lines_alone : List Dataset → ℕ → ℕ
+lines_alone cat width = if is_made cat then lines_each cat else lines_near width
+
+-- the most lines of a strip: so many for each of the workers that share it, or as many as it can have
+abbrev pub most_lines : ℕ → List Dataset → Planned → ℕ
+most_lines workers cat p = if is_tall cat p.driver then most_side else (if is_shared workers cat p.window.w then lines_each cat * workers else lines_alone cat p.size.w)
 
 -- the lines of a strip of so many columns, from 1 to 4,194,304: at most 4,194,304 samples
 abbrev pub strip_height : ℕ → ℕ → ℕ
@@ -66,4 +97,4 @@ lines_held blocks cat p = if is_woven p.layout (length p.bands) && not (is_tall 
 
 -- the lines of an output that so many workers copy at a time, where so many blocks are held of what is written
 abbrev pub lines_copied : ℕ → ℕ → List Dataset → Planned → ℕ
-lines_copied workers blocks cat p = min (min (strip_height (most_lines workers cat p.driver) p.size.w) p.size.h) (lines_held blocks cat p)
+lines_copied workers blocks cat p = min (min (strip_height (most_lines workers cat p) p.size.w) p.size.h) (lines_held blocks cat p)

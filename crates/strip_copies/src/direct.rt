@@ -30,7 +30,8 @@ fn are_lines(plan: &Plan, height: u32, run: Run) -> bool
     requires end { run.end ≤ plan.now.size.h }
     requires inside { run.span.top + run.span.height ≤ height }
     ensures tall { result ≡ true → run.span.height ≡ run.end - run.first }
-    ensures lines { result ≡ true → (r : ℕ) → r < run.span.height → within height (shown_line plan.now (run.first + r)) ≡ Some (run.span.top + r) }
+    ensures lines { result ≡ true → (r : ℕ) → r < run.span.height → within height (shown_line plan.now (run.first + r))
+        ≡ Some (run.span.top + r) }
 {
     if plan.window.h != plan.size.h || run.span.height != run.end - run.first {
         return false;
@@ -72,7 +73,8 @@ pub fn is_all_direct(plan: &Plan, columns: &Columns, height: u32) -> bool {
 /// Makes each sample the nearest one that a band can hold. All are of a type.
 pub fn hold_all(holding: Holding, kind: PixelType, samples: &mut [Sample])
     requires kind { All (λ v. is_in kind v ≡ true) samples.old }
-    ensures samples { (i : ℕ) → i < length samples.old → get_or samples.new i (pos 0) ≡ nearest holding.least holding.most (get_or samples.old i (pos 0)) }
+    ensures samples { (i : ℕ) → i < length samples.old → get_or samples.new i (pos 0) ≡ nearest holding.least
+        holding.most (get_or samples.old i (pos 0)) }
 {
     if holding.holds_all(kind) {
         return;

@@ -1,22 +1,28 @@
 // How many lines are copied at a time.
-ghost use Rattle.std.specs.Prelude.{◌≡◌, ◌<◌, ◌≤◌, ◌*◌, Some, length, slice_get};
+ghost use Rattle.std.specs.Prelude.{◌≡◌, ◌<◌, ◌≤◌, ◌*◌, ◌/◌, Some, length, slice_get};
 ghost use Rattle.catalog.specs.Drivers.{Dataset};
 ghost use Rattle.strip_copies.specs.declared.height.BlockShape.TheVariants.{Squares};
-ghost use Rattle.strip_copies.specs.Heights.{has_blocks, is_cell, is_cut_in, is_mosaic, is_tall, is_woven, lines_copied, lines_held, most_lines, strip_height};
+ghost use Rattle.strip_copies.specs.Heights.{fewest_read, has_blocks, is_cell, is_cut_in, is_grid, is_made, is_mosaic};
+ghost use Rattle.strip_copies.specs.Heights.{is_shared, is_tall, is_woven, lines_alone, lines_copied, lines_each};
+ghost use Rattle.strip_copies.specs.Heights.{lines_held, lines_near, most_lines, strip_height};
 
+use crate::making::area;
+use crate::shares::{FEWEST_COPIED, FEWEST_MADE};
 use crate::translation::Translation;
 use catalog::{Catalog, Kind};
 use esri_hdr::Layout;
 use lane_teams::WorkerCount;
 use translate_plan::{Driver, Plan};
 
-/// How a dataset's blocks lie, where they are taller than a line.
+/// How a dataset's blocks lie, where they aren't lines of bytes.
 #[derive(Clone, Copy)]
 pub enum BlockShape {
     /// Whole columns, as in a DTED cell.
     Columns,
     /// Squares of 128 pixels, as in a mosaic.
     Squares,
+    /// Lines of digits, as in a grid.
+    Digits,
 }
 
 /// The lines of a strip of so many columns, at most so many. It has 4,194,304 samples at most, or one line.
@@ -52,6 +58,16 @@ fn is_mosaic(kind: Kind) -> bool
     }
 }
 
+// Whether they are grids.
+fn is_grid(kind: Kind) -> bool
+    ensures grid { result ≡ is_grid kind }
+{
+    match kind {
+        Kind::Ascii => true,
+        Kind::Raw | Kind::Dted | Kind::Hgt | Kind::Vrt => false,
+    }
+}
+
 // Whether a dataset of the catalog is cut into such blocks.
 fn is_cut_at(cat: &Catalog, id: u32, shape: BlockShape) -> bool
     requires known { id < length cat.now }
@@ -61,6 +77,7 @@ fn is_cut_at(cat: &Catalog, id: u32, shape: BlockShape) -> bool
     match shape {
         BlockShape::Columns => is_cell(head.kind),
         BlockShape::Squares => is_mosaic(head.kind),
+        BlockShape::Digits => is_grid(head.kind),
     }
 }
 
@@ -90,18 +107,105 @@ fn is_tall(translation: &Translation) -> bool
     }
 }
 
-/// The most lines of a strip that so many workers read: for each of them as many as a square of a mosaic has, so that
-/// it isn't made again for each of its lines, and 32 of a file of lines.
+// The lines of a strip that each of several workers reads: as many as a square of a mosaic has, so that it isn't made
+// again for each of its lines, and 32 of a file of lines.
+fn lines_each(cat: &Catalog) -> u32
+    ensures lines { result ≡ lines_each cat.now }
+    ensures some { 1 ≤ result }
+    ensures few { result ≤ 128 }
+{
+    if has_blocks(cat, BlockShape::Squares) {
+        128
+    } else {
+        32
+    }
+}
+
+// Whether samples are made of others, or of digits: those of a file of bytes are copied.
+fn is_made(cat: &Catalog) -> bool
+    ensures made { result ≡ is_made cat.now }
+{
+    has_blocks(cat, BlockShape::Squares) || has_blocks(cat, BlockShape::Digits)
+}
+
+// The fewest samples for which a worker gets a thread.
+fn fewest_read(cat: &Catalog) -> usize
+    ensures fewest { result ≡ fewest_read cat.now }
+{
+    if is_made(cat) {
+        FEWEST_MADE
+    } else {
+        FEWEST_COPIED
+    }
+}
+
+// The most samples of a strip for each of so many workers.
+fn share_of(workers: u32) -> usize
+    requires some { 1 ≤ workers }
+    ensures share { result ≡ 4194304 / workers }
+{
+    4_194_304 / workers as usize
+}
+
+// Whether several workers read a strip: where there are several, and each of them has enough samples for a thread.
+fn is_shared(translation: &Translation, workers: WorkerCount) -> bool
+    ensures shared { result ≡ is_shared workers translation.now.cat translation.now.plan.window.w }
+{
+    let cat = &translation.cat;
+    let count = workers.get();
+    let share = area(lines_each(cat), translation.plan.window.w).min(share_of(count));
+    count > 1 && share >= fewest_read(cat)
+}
+
+// The lines of so many columns whose samples stay in a processor's cache: 65,536 samples, which are 1 MiB; at least one
+// line, and at most 32.
+fn lines_near(width: u32) -> u32
+    requires some { 0 < width }
+    ensures lines { result ≡ lines_near width }
+    ensures any { 1 ≤ result }
+{
+    (65_536 / width).max(1).min(32)
+}
+
+// The lines of a strip that one worker reads alone: of a file of bytes those that stay in the cache.
+fn lines_alone(translation: &Translation) -> u32
+    ensures lines { result ≡ lines_alone translation.now.cat translation.now.plan.size.w }
+    ensures some { 1 ≤ result }
+{
+    let plan = &translation.plan;
+    plan.rules();
+    let cat = &translation.cat;
+    if is_made(cat) {
+        lines_each(cat)
+    } else {
+        lines_near(plan.size.w)
+    }
+}
+
+// So many lines for each of so many workers.
+fn lines_of_all(each: u32, workers: u32) -> u32
+    requires lines { each ≤ 128 }
+    requires workers { workers ≤ 16 }
+    requires any { 1 ≤ each }
+    requires some { 1 ≤ workers }
+    ensures lines { result ≡ each * workers }
+    ensures some { 1 ≤ result }
+{
+    each * workers
+}
+
+/// The most lines of a strip: so many for each of the workers that share it, else those that one reads alone; of cells
+/// as many as it can have.
 pub fn most_lines(translation: &Translation, workers: WorkerCount) -> u32
-    ensures most { result ≡ most_lines workers translation.now.cat translation.now.plan.driver }
+    ensures most { result ≡ most_lines workers translation.now.cat translation.now.plan }
     ensures some { 1 ≤ result }
 {
     if is_tall(translation) {
         4_194_304
-    } else if has_blocks(&translation.cat, BlockShape::Squares) {
-        128 * workers.get()
+    } else if is_shared(translation, workers) {
+        lines_of_all(lines_each(&translation.cat), workers.get())
     } else {
-        32 * workers.get()
+        lines_alone(translation)
     }
 }
 

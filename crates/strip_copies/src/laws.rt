@@ -7,5 +7,6 @@ ghost use Rattle.strip_copies.specs.Copies.{IsTranslation};
 
 /// A plan of a dataset's head shows bands that the dataset has.
 pub fn plans_are_translations()
-    ensures translation { (cat : List Dataset) (id : ℕ) (d : Dataset) (o : Options) (p : Planned) → slice_get cat id ≡ Some d → IsOptions o → plan_of o d.head ≡ Ok p → IsTranslation cat id p }
+    ensures translation { (cat : List Dataset) (id : ℕ) (d : Dataset) (o : Options) (p : Planned) →
+        slice_get cat id ≡ Some d → IsOptions o → plan_of o d.head ≡ Ok p → IsTranslation cat id p }
 {}

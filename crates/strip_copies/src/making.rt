@@ -34,7 +34,8 @@ fn line_in(strip: &[Sample], columns: u32, lines: u32, line: u32) -> &[Sample]
     requires size { length strip.now ≡ columns * lines }
     requires inside { line < lines }
     ensures size { length result.now ≡ columns }
-    ensures samples { (c : ℕ) → c < columns → get_or result.now c (pos 0) ≡ get_or strip.now (line * columns + c) (pos 0) }
+    ensures samples { (c : ℕ) → c < columns → get_or result.now c (pos 0) ≡ get_or strip.now (line * columns + c)
+        (pos 0) }
 {
     let at = area(line, columns);
     &strip[at..at + columns as usize]
@@ -47,7 +48,9 @@ fn make_row(making: Making, span: Span, strip: &[Sample], line: u32, row: &mut [
     requires row { length row.old ≡ making.plan.now.size.w }
     requires strip { length strip.now ≡ making.columns.now.count * span.height }
     requires lines { AreIn making.plan.now making.size.h line (line + 1) span }
-    ensures row { (told : Option Files) (name : List ℕ) → IsStrip told name making.entry.plan.now making.entry.band (strip_rect making.entry.columns.now span) strip.now → IsRow told name making.entry.plan.now making.entry.size making.entry.band line row.new }
+    ensures row { (told : Option Files) (name : List ℕ) → IsStrip told name making.entry.plan.now making.entry.band
+        (strip_rect making.entry.columns.now span) strip.now → IsRow told name making.entry.plan.now making.entry.size
+        making.entry.band line row.new }
 {
     match line_at(making.plan, making.size.h, line) {
         None => fill_row(making.holding, row),
@@ -67,7 +70,10 @@ pub fn make_lines(making: Making, run: Run, strip: &[Sample], out: &mut [Sample]
     requires room { length out.old ≡ (run.end - run.first) * making.plan.now.size.w }
     requires strip { length strip.now ≡ making.columns.now.count * run.span.height }
     requires lines { AreIn making.plan.now making.size.h run.first run.end run.span }
-    ensures samples { (told : Option Files) (name : List ℕ) → IsStrip told name making.entry.plan.now making.entry.band (strip_rect making.entry.columns.now run.span) strip.now → AreSamples told name making.entry.plan.now making.entry.size making.entry.band run.first (length out.old) out.new }
+    ensures samples { (told : Option Files) (name : List ℕ) → IsStrip told name making.entry.plan.now making.entry.band
+        (strip_rect making.entry.columns.now run.span) strip.now →
+        AreSamples told name making.entry.plan.now making.entry.size making.entry.band run.first (length out.old)
+        out.new }
 {
     let plan = making.plan;
     plan.rules();

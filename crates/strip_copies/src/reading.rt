@@ -1,5 +1,6 @@
 // Lines of a translation's output, read by a team of lanes.
-ghost use Rattle.std.specs.Prelude.{◌≡◌, ◌<◌, ◌≤◌, ◌+◌, ◌-◌, ◌*◌, All, IfErr, IfOk, OnOk, length, option_map, slice_get, false, true, Some};
+ghost use Rattle.std.specs.Prelude.{◌≡◌, ◌<◌, ◌≤◌, ◌+◌, ◌-◌, ◌*◌, All, IfErr, IfOk, OnOk, length, option_map};
+ghost use Rattle.std.specs.Prelude.{slice_get, false, true, Some};
 ghost use Rattle.geotransform.specs.Geo.{IsRaster};
 ghost use Rattle.outside.specs.Causes.{HasCause};
 ghost use Rattle.outside.specs.Reading.{WhereTold};
@@ -80,8 +81,8 @@ fn room_lines(translation: &Translation, columns: &Columns, workers: WorkerCount
 }
 
 impl<F: Folder, L: Ledger> StripReader<F, L> {
-    /// A reader for a translation with a lane for each worker. Each lane holds so many blocks at a time, 1 to 65,536. It
-    /// has read nothing. The room for lines has 4,194,304 samples at most.
+    /// A reader for a translation with a lane for each worker. Each lane holds so many blocks at a time, 1 to 65,536.
+    /// It has read nothing. The room for lines has 4,194,304 samples at most.
     pub fn new(
         translation: &Translation,
         workers: WorkerCount,
@@ -96,7 +97,8 @@ impl<F: Folder, L: Ledger> StripReader<F, L> {
         requires shares { 0 < blank.parts }
         ensures lanes { IfOk result (λ reader. length reader.team.lanes.items ≡ workers) }
         ensures fresh { IfOk result (λ reader. AreLanesFresh F.Folder reader.team.lanes.items) }
-        ensures room { IfOk result (λ reader. IsRoomFor translation.now.cat translation.now.id translation.now.plan reader.columns reader.samples.items) }
+        ensures room { IfOk result (λ reader. IsRoomFor translation.now.cat translation.now.id translation.now.plan
+            reader.columns reader.samples.items) }
         ensures bound { IfOk result (λ reader. length reader.samples.items ≤ 4194304) }
         ensures none { IfOk result (λ reader. reader.team.loads ≡ 0) }
     {
@@ -157,13 +159,15 @@ fn window_of(translation: &Translation, columns: &Columns, run: Run) -> Window
 // What rows of a band of the output are made with.
 fn making_of<'a>(translation: &'a Translation, columns: &'a Columns, band: u32) -> Making<'a>
     requires translation { IsTranslation translation.now.cat translation.now.id translation.now.plan }
-    requires columns { (d : Dataset) → slice_get translation.now.cat translation.now.id ≡ Some d → AreColumns translation.now.plan d.head.size.w columns.now }
+    requires columns { (d : Dataset) → slice_get translation.now.cat translation.now.id ≡ Some d →
+        AreColumns translation.now.plan d.head.size.w columns.now }
     requires band { band < length translation.now.plan.bands }
     ensures making { IsMaking result }
     ensures plan { result.plan.now ≡ translation.now.plan }
     ensures columns { result.columns.now ≡ columns.now }
     ensures band { result.band ≡ band }
-    ensures size { (d : Dataset) → slice_get translation.now.cat translation.now.id ≡ Some d → result.size ≡ d.head.size }
+    ensures size { (d : Dataset) → slice_get translation.now.cat translation.now.id ≡ Some d →
+        result.size ≡ d.head.size }
 {
     let plan = &translation.plan;
     Making {
@@ -193,7 +197,8 @@ struct Next {
 // The first of some lines, as many as are read at once: into their place where that can be, else into room for so many
 // lines of the source.
 fn next_run<S: Scene>(shown: &Shown<S>, rows: u32, lines: Lines) -> Next
-    requires translation { IsTranslation shown.now.translation.now.cat shown.now.translation.now.id shown.now.translation.now.plan }
+    requires translation { IsTranslation shown.now.translation.now.cat shown.now.translation.now.id
+        shown.now.translation.now.plan }
     requires columns { length shown.now.columns.now.places.items ≡ shown.now.translation.now.plan.size.w }
     requires rows { 1 ≤ rows }
     requires order { lines.first < lines.end }
@@ -202,8 +207,11 @@ fn next_run<S: Scene>(shown: &Shown<S>, rows: u32, lines: Lines) -> Next
     ensures first { result.run.first ≡ lines.first }
     ensures some { lines.first < result.run.end }
     ensures end { result.run.end ≤ lines.end }
-    ensures lines { (d : Dataset) → slice_get shown.now.translation.now.cat shown.now.translation.now.id ≡ Some d → AreIn shown.now.translation.now.plan d.head.size.h lines.first result.run.end result.run.span }
-    ensures direct { result.direct ≡ true → (d : Dataset) → slice_get shown.now.translation.now.cat shown.now.translation.now.id ≡ Some d → IsDirect shown.now.translation.now.plan d.head.size.h shown.now.columns.now result.run }
+    ensures lines { (d : Dataset) → slice_get shown.now.translation.now.cat shown.now.translation.now.id ≡ Some d →
+        AreIn shown.now.translation.now.plan d.head.size.h lines.first result.run.end result.run.span }
+    ensures direct { result.direct ≡ true → (d : Dataset) → slice_get shown.now.translation.now.cat
+        shown.now.translation.now.id ≡ Some d → IsDirect shown.now.translation.now.plan d.head.size.h
+        shown.now.columns.now result.run }
     ensures few { result.direct ≡ false → result.run.span.height ≤ rows }
 {
     let plan = &shown.translation.plan;
@@ -225,8 +233,10 @@ fn next_run<S: Scene>(shown: &Shown<S>, rows: u32, lines: Lines) -> Next
 // The type of a band of the dataset, counted from 0.
 fn kind_of(translation: &Translation, band: u32) -> PixelType
     requires translation { IsTranslation translation.now.cat translation.now.id translation.now.plan }
-    requires known { (d : Dataset) → slice_get translation.now.cat translation.now.id ≡ Some d → band < length d.head.bands }
-    ensures kind { (d : Dataset) → slice_get translation.now.cat translation.now.id ≡ Some d → option_map (λ b. b.kind) (slice_get d.head.bands band) ≡ Some result }
+    requires known { (d : Dataset) → slice_get translation.now.cat translation.now.id ≡ Some d →
+        band < length d.head.bands }
+    ensures kind { (d : Dataset) → slice_get translation.now.cat translation.now.id ≡ Some d →
+        option_map (λ b. b.kind) (slice_get d.head.bands band) ≡ Some result }
 {
     translation
         .cat
@@ -247,11 +257,15 @@ fn read_direct<R: Threads + Sync, F: Folder, L: Ledger, S: Scene>(
     out: &mut [Sample],
 ) -> Result<(), LoadFault>
     requires ready { AreLanesReady F.Folder S.told S.cat folder.old shown.now.translation.now.cat team.old.lanes.items }
-    requires translation { IsTranslation shown.now.translation.now.cat shown.now.translation.now.id shown.now.translation.now.plan }
-    requires part { IsPart shown.now.translation.now.cat shown.now.translation.now.id shown.now.translation.now.plan shown.now.columns.now run }
-    requires direct { (d : Dataset) → slice_get shown.now.translation.now.cat shown.now.translation.now.id ≡ Some d → IsDirect shown.now.translation.now.plan d.head.size.h shown.now.columns.now run }
+    requires translation { IsTranslation shown.now.translation.now.cat shown.now.translation.now.id
+        shown.now.translation.now.plan }
+    requires part { IsPart shown.now.translation.now.cat shown.now.translation.now.id shown.now.translation.now.plan
+        shown.now.columns.now run }
+    requires direct { (d : Dataset) → slice_get shown.now.translation.now.cat shown.now.translation.now.id ≡ Some d →
+        IsDirect shown.now.translation.now.plan d.head.size.h shown.now.columns.now run }
     requires room { length out.old ≡ (run.end - run.first) * shown.now.translation.now.plan.size.w }
-    ensures samples { OnOk result (AreOf (F.names folder.old) shown.now.translation.now.cat shown.now.translation.now.id shown.now.translation.now.plan run.band run.first (length out.old) out.new) }
+    ensures samples { OnOk result (AreOf (F.names folder.old) shown.now.translation.now.cat shown.now.translation.now.id
+        shown.now.translation.now.plan run.band run.first (length out.old) out.new) }
     ensures ready { AreLanesReady F.Folder S.told S.cat folder.new shown.now.translation.now.cat team.new.lanes.items }
     ensures lanes { length team.new.lanes.items ≡ length team.old.lanes.items }
     ensures only_read { OnlyReadByViews F.Folder folder.old folder.new }
@@ -259,7 +273,8 @@ fn read_direct<R: Threads + Sync, F: Folder, L: Ledger, S: Scene>(
     ensures changed { IfErr result (TellsChangeIn shown.now.translation.now.cat) }
     ensures never { WhereTold F.Folder folder.old (λ _. IfErr result IsUnchanged) }
     ensures counted { team.old.loads ≤ team.new.loads }
-    ensures reads { length team.old.lanes.items ≡ 1 → F.read_calls folder.new ≤ F.read_calls folder.old + most_calls shown.now.translation.now.cat * (team.new.loads - team.old.loads) }
+    ensures reads { length team.old.lanes.items ≡ 1 → F.read_calls folder.new ≤ F.read_calls folder.old + most_calls
+        shown.now.translation.now.cat * (team.new.loads - team.old.loads) }
 {
     let translation = shown.translation;
     let columns = shown.columns;
@@ -289,11 +304,14 @@ fn read_made<R: Threads + Sync, F: Folder, L: Ledger, S: Scene>(
     out: &mut [Sample],
 ) -> Result<(), LoadFault>
     requires ready { AreLanesReady F.Folder S.told S.cat folder.old shown.now.translation.now.cat team.old.lanes.items }
-    requires translation { IsTranslation shown.now.translation.now.cat shown.now.translation.now.id shown.now.translation.now.plan }
-    requires part { IsPart shown.now.translation.now.cat shown.now.translation.now.id shown.now.translation.now.plan shown.now.columns.now run }
+    requires translation { IsTranslation shown.now.translation.now.cat shown.now.translation.now.id
+        shown.now.translation.now.plan }
+    requires part { IsPart shown.now.translation.now.cat shown.now.translation.now.id shown.now.translation.now.plan
+        shown.now.columns.now run }
     requires strip { length strip.old ≡ shown.now.columns.now.count * run.span.height }
     requires room { length out.old ≡ (run.end - run.first) * shown.now.translation.now.plan.size.w }
-    ensures samples { OnOk result (AreOf (F.names folder.old) shown.now.translation.now.cat shown.now.translation.now.id shown.now.translation.now.plan run.band run.first (length out.old) out.new) }
+    ensures samples { OnOk result (AreOf (F.names folder.old) shown.now.translation.now.cat shown.now.translation.now.id
+        shown.now.translation.now.plan run.band run.first (length out.old) out.new) }
     ensures ready { AreLanesReady F.Folder S.told S.cat folder.new shown.now.translation.now.cat team.new.lanes.items }
     ensures lanes { length team.new.lanes.items ≡ length team.old.lanes.items }
     ensures only_read { OnlyReadByViews F.Folder folder.old folder.new }
@@ -301,7 +319,8 @@ fn read_made<R: Threads + Sync, F: Folder, L: Ledger, S: Scene>(
     ensures changed { IfErr result (TellsChangeIn shown.now.translation.now.cat) }
     ensures never { WhereTold F.Folder folder.old (λ _. IfErr result IsUnchanged) }
     ensures counted { team.old.loads ≤ team.new.loads }
-    ensures reads { length team.old.lanes.items ≡ 1 → F.read_calls folder.new ≤ F.read_calls folder.old + most_calls shown.now.translation.now.cat * (team.new.loads - team.old.loads) }
+    ensures reads { length team.old.lanes.items ≡ 1 → F.read_calls folder.new ≤ F.read_calls folder.old + most_calls
+        shown.now.translation.now.cat * (team.new.loads - team.old.loads) }
 {
     let translation = shown.translation;
     let columns = shown.columns;
@@ -329,12 +348,17 @@ fn read_part<R: Threads + Sync, F: Folder, L: Ledger, S: Scene>(
     out: &mut [Sample],
 ) -> Result<(), LoadFault>
     requires ready { AreLanesReady F.Folder S.told S.cat folder.old shown.now.translation.now.cat team.old.lanes.items }
-    requires translation { IsTranslation shown.now.translation.now.cat shown.now.translation.now.id shown.now.translation.now.plan }
-    requires part { IsPart shown.now.translation.now.cat shown.now.translation.now.id shown.now.translation.now.plan shown.now.columns.now next.run }
-    requires direct { next.direct ≡ true → (d : Dataset) → slice_get shown.now.translation.now.cat shown.now.translation.now.id ≡ Some d → IsDirect shown.now.translation.now.plan d.head.size.h shown.now.columns.now next.run }
+    requires translation { IsTranslation shown.now.translation.now.cat shown.now.translation.now.id
+        shown.now.translation.now.plan }
+    requires part { IsPart shown.now.translation.now.cat shown.now.translation.now.id shown.now.translation.now.plan
+        shown.now.columns.now next.run }
+    requires direct { next.direct ≡ true → (d : Dataset) → slice_get shown.now.translation.now.cat
+        shown.now.translation.now.id ≡ Some d → IsDirect shown.now.translation.now.plan d.head.size.h
+        shown.now.columns.now next.run }
     requires few { next.direct ≡ false → shown.now.columns.now.count * next.run.span.height ≤ length samples.old }
     requires room { length out.old ≡ (next.run.end - next.run.first) * shown.now.translation.now.plan.size.w }
-    ensures samples { OnOk result (AreOf (F.names folder.old) shown.now.translation.now.cat shown.now.translation.now.id shown.now.translation.now.plan next.run.band next.run.first (length out.old) out.new) }
+    ensures samples { OnOk result (AreOf (F.names folder.old) shown.now.translation.now.cat shown.now.translation.now.id
+        shown.now.translation.now.plan next.run.band next.run.first (length out.old) out.new) }
     ensures ready { AreLanesReady F.Folder S.told S.cat folder.new shown.now.translation.now.cat team.new.lanes.items }
     ensures lanes { length team.new.lanes.items ≡ length team.old.lanes.items }
     ensures only_read { OnlyReadByViews F.Folder folder.old folder.new }
@@ -342,7 +366,8 @@ fn read_part<R: Threads + Sync, F: Folder, L: Ledger, S: Scene>(
     ensures changed { IfErr result (TellsChangeIn shown.now.translation.now.cat) }
     ensures never { WhereTold F.Folder folder.old (λ _. IfErr result IsUnchanged) }
     ensures counted { team.old.loads ≤ team.new.loads }
-    ensures reads { length team.old.lanes.items ≡ 1 → F.read_calls folder.new ≤ F.read_calls folder.old + most_calls shown.now.translation.now.cat * (team.new.loads - team.old.loads) }
+    ensures reads { length team.old.lanes.items ≡ 1 → F.read_calls folder.new ≤ F.read_calls folder.old + most_calls
+        shown.now.translation.now.cat * (team.new.loads - team.old.loads) }
 {
     if next.direct {
         return read_direct(rt, shown, team, folder, next.run, out);
@@ -375,13 +400,16 @@ fn read_runs<R: Threads + Sync, F: Folder, L: Ledger, S: Scene>(
     out: &mut [Sample],
 ) -> Result<(), LoadFault>
     requires ready { AreLanesReady F.Folder S.told S.cat folder.old shown.now.translation.now.cat team.old.lanes.items }
-    requires translation { IsTranslation shown.now.translation.now.cat shown.now.translation.now.id shown.now.translation.now.plan }
-    requires room { IsRoomFor shown.now.translation.now.cat shown.now.translation.now.id shown.now.translation.now.plan shown.now.columns.now samples.old }
+    requires translation { IsTranslation shown.now.translation.now.cat shown.now.translation.now.id
+        shown.now.translation.now.plan }
+    requires room { IsRoomFor shown.now.translation.now.cat shown.now.translation.now.id shown.now.translation.now.plan
+        shown.now.columns.now samples.old }
     requires band { lines.band < length shown.now.translation.now.plan.bands }
     requires order { lines.first ≤ lines.end }
     requires end { lines.end ≤ shown.now.translation.now.plan.size.h }
     requires size { length out.old ≡ (lines.end - lines.first) * shown.now.translation.now.plan.size.w }
-    ensures samples { OnOk result (AreOf (F.names folder.old) shown.now.translation.now.cat shown.now.translation.now.id shown.now.translation.now.plan lines.band lines.first (length out.old) out.new) }
+    ensures samples { OnOk result (AreOf (F.names folder.old) shown.now.translation.now.cat shown.now.translation.now.id
+        shown.now.translation.now.plan lines.band lines.first (length out.old) out.new) }
     ensures ready { AreLanesReady F.Folder S.told S.cat folder.new shown.now.translation.now.cat team.new.lanes.items }
     ensures lanes { length team.new.lanes.items ≡ length team.old.lanes.items }
     ensures only_read { OnlyReadByViews F.Folder folder.old folder.new }
@@ -389,7 +417,8 @@ fn read_runs<R: Threads + Sync, F: Folder, L: Ledger, S: Scene>(
     ensures changed { IfErr result (TellsChangeIn shown.now.translation.now.cat) }
     ensures never { WhereTold F.Folder folder.old (λ _. IfErr result IsUnchanged) }
     ensures counted { team.old.loads ≤ team.new.loads }
-    ensures reads { length team.old.lanes.items ≡ 1 → F.read_calls folder.new ≤ F.read_calls folder.old + most_calls shown.now.translation.now.cat * (team.new.loads - team.old.loads) }
+    ensures reads { length team.old.lanes.items ≡ 1 → F.read_calls folder.new ≤ F.read_calls folder.old + most_calls
+        shown.now.translation.now.cat * (team.new.loads - team.old.loads) }
 {
     let plan = &shown.translation.plan;
     plan.rules();
@@ -431,23 +460,29 @@ pub fn read_lines<R: Threads + Sync, F: Folder, L: Ledger, S: Scene>(
 ) -> Result<(), LoadFault>
     requires ready { AreLanesReady F.Folder S.told S.cat folder.old translation.now.cat reader.old.team.lanes.items }
     requires translation { IsTranslation translation.now.cat translation.now.id translation.now.plan }
-    requires room { IsRoomFor translation.now.cat translation.now.id translation.now.plan reader.old.columns reader.old.samples.items }
+    requires room { IsRoomFor translation.now.cat translation.now.id translation.now.plan reader.old.columns
+        reader.old.samples.items }
     requires band { lines.band < length translation.now.plan.bands }
     requires order { lines.first ≤ lines.end }
     requires end { lines.end ≤ translation.now.plan.size.h }
     requires size { length out.old ≡ (lines.end - lines.first) * translation.now.plan.size.w }
-    ensures pixels { WhereTold F.Folder folder.old (λ m. (d : Dataset) → slice_get translation.now.cat translation.now.id ≡ Some d → OnOk result (out.new ≡ row_by_row (out_pixel translation.now.plan d.head.size (pixel_of_name m d.head.name) lines.band) (lines_rect translation.now.plan.size lines.first lines.end))) }
+    ensures pixels { WhereTold F.Folder folder.old (λ m. (d : Dataset) →
+        slice_get translation.now.cat translation.now.id ≡ Some d →
+        OnOk result (out.new ≡ row_by_row (out_pixel translation.now.plan d.head.size (pixel_of_name m d.head.name)
+        lines.band) (lines_rect translation.now.plan.size lines.first lines.end))) }
     // each sample is one that the output can hold, whatever the folder tells
     ensures held { OnOk result (All (IsHeldIn translation.now.plan lines.band) out.new) }
     ensures ready { AreLanesReady F.Folder S.told S.cat folder.new translation.now.cat reader.new.team.lanes.items }
     ensures lanes { length reader.new.team.lanes.items ≡ length reader.old.team.lanes.items }
-    ensures room { IsRoomFor translation.now.cat translation.now.id translation.now.plan reader.new.columns reader.new.samples.items }
+    ensures room { IsRoomFor translation.now.cat translation.now.id translation.now.plan reader.new.columns
+        reader.new.samples.items }
     ensures only_read { OnlyReadByViews F.Folder folder.old folder.new }
     ensures cause { HasCause LoadFault.FolderFault (F.faults folder.old) (F.faults folder.new) result }
     ensures changed { IfErr result (TellsChangeIn translation.now.cat) }
     ensures never { WhereTold F.Folder folder.old (λ _. IfErr result IsUnchanged) }
     ensures counted { reader.old.team.loads ≤ reader.new.team.loads }
-    ensures reads { length reader.old.team.lanes.items ≡ 1 → F.read_calls folder.new ≤ F.read_calls folder.old + most_calls translation.now.cat * (reader.new.team.loads - reader.old.team.loads) }
+    ensures reads { length reader.old.team.lanes.items ≡ 1 → F.read_calls folder.new ≤ F.read_calls folder.old
+        + most_calls translation.now.cat * (reader.new.team.loads - reader.old.team.loads) }
 {
     translation.plan.rules();
     let columns = &reader.columns;

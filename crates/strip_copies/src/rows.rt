@@ -18,7 +18,8 @@ fn made_at(holding: Holding, line: &[Sample], place: u32) -> Sample
 /// Makes a row of the output of a line of the source, each sample of the one at its place there.
 pub fn map_row(holding: Holding, places: &[u32], line: &[Sample], row: &mut [Sample])
     requires places { length places.now ≡ length row.old }
-    ensures samples { (i : ℕ) → i < length row.old → get_or row.new i (pos 0) ≡ made_of holding line.now (get_or places.now i 0) }
+    ensures samples { (i : ℕ) → i < length row.old → get_or row.new i (pos 0) ≡ made_of holding line.now
+        (get_or places.now i 0) }
 {
     for at in 0..row.len() {
         row[at] = made_at(holding, line, places[at]);

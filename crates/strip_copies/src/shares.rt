@@ -4,12 +4,13 @@ ghost use Rattle.strip_copies.specs.Copies.{IsTranslation};
 use crate::translation::Translation;
 use catalog::Kind;
 
-// The fewest samples for which a lane gets a thread, where they are lines of a file's bytes: a lane reads about so many
-// in the time in which a thread is started and joined.
-const FEWEST_COPIED: usize = 1_000_000;
+/// The fewest samples for which a lane gets a thread, where they are lines of a file's bytes: a lane reads about so
+/// many in the time in which a thread is started and joined.
+pub const FEWEST_COPIED: usize = 1_000_000;
 
-// The same where samples are made of others, or of digits, or lie in columns, each of which takes several times as long.
-const FEWEST_MADE: usize = 262_144;
+/// The same where samples are made of others, or of digits, or lie in columns, each of which takes several times as
+/// long.
+pub const FEWEST_MADE: usize = 262_144;
 
 fn fewest_of(kind: Kind) -> usize {
     match kind {

@@ -46,7 +46,8 @@ fn reached(span: Span, reach: Reach, line: u32) -> Option<Span>
     ensures within { IfSome result (λ s. IsIn s line) }
     ensures kept { IfSome result (λ s. (y : ℕ) → IsIn span y → IsIn s y) }
     ensures few { IfSome result (λ s. span.height ≤ reach.rows → s.height ≤ reach.rows) }
-    ensures side { IfSome result (λ s. (side : ℕ) → line < side → span.top + span.height ≤ side → s.top + s.height ≤ side) }
+    ensures side { IfSome result (λ s. (side : ℕ) → line < side → span.top + span.height ≤ side →
+        s.top + s.height ≤ side) }
 {
     if line < span.top || line - span.top >= reach.rows {
         return None;
@@ -68,7 +69,8 @@ fn widened(span: Span, reach: Reach, place: Option<u32>) -> Option<Span>
     ensures within { IfSome result (λ s. (y : ℕ) → place ≡ Some y → IsIn s y) }
     ensures kept { IfSome result (λ s. (y : ℕ) → IsIn span y → IsIn s y) }
     ensures few { IfSome result (λ s. span.height ≤ reach.rows → s.height ≤ reach.rows) }
-    ensures side { IfSome result (λ s. (side : ℕ) → IfSome place (λ y. y < side) → span.top + span.height ≤ side → s.top + s.height ≤ side) }
+    ensures side { IfSome result (λ s. (side : ℕ) → IfSome place (λ y. y < side) → span.top + span.height ≤ side →
+        s.top + s.height ≤ side) }
 {
     match place {
         None => Some(span),

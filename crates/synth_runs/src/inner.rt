@@ -42,7 +42,8 @@ fn make_inner<F: Folder>(
     options: &BuildOptions,
 ) -> Result<Made, Fault>
     requires asked { options.now ≡ inner_options }
-    ensures told { (m : Files) → F.names folder.old ≡ Some m → Gives IsOutside built_by result (built_in m false tile_names None inner_options) }
+    ensures told { (m : Files) → F.names folder.old ≡ Some m → Gives IsOutside built_by result
+        (built_in m false tile_names None inner_options) }
     ensures names { F.names folder.new ≡ F.names folder.old }
     ensures cause { HasCause Fault.FolderFault (F.faults folder.old) (F.faults folder.new) result }
     ensures faults { IfErr result (IsOfMaking inner_name) }
@@ -64,7 +65,8 @@ fn make_inner<F: Folder>(
 /// published.
 pub fn put_inner<F: Folder>(alloc: Global, folder: &mut F) -> Result<(), Fault>
     // over a folder that tells its files: the mosaic stands under its name, or it was refused, and nothing is put
-    ensures told { (m : Files) → F.names folder.old ≡ Some m → (out : Option (List ℕ)) → Goes (inner_run m) m result (F.names folder.new) out out }
+    ensures told { (m : Files) → F.names folder.old ≡ Some m → (out : Option (List ℕ)) →
+        Goes (inner_run m) m result (F.names folder.new) out out }
     ensures faults { IfErr result (IsOfMaking inner_name) }
     ensures cause { HasCause Fault.FolderFault (F.faults folder.old) (F.faults folder.new) result }
 {

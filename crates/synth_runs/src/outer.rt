@@ -16,7 +16,8 @@ use synthetic_rasters::{TileSide, outer_document, outer_name};
 /// freely.
 pub fn publish_outer<F: Folder>(alloc: Global, folder: &mut F, side: TileSide) -> Result<(), Fault>
     // over a folder that tells its files: the mosaic stands under its name, and nothing is put
-    ensures told { (m : Files) → F.names folder.old ≡ Some m → (out : Option (List ℕ)) → Goes (outer_run side) m result (F.names folder.new) out out }
+    ensures told { (m : Files) → F.names folder.old ≡ Some m → (out : Option (List ℕ)) →
+        Goes (outer_run side) m result (F.names folder.new) out out }
     ensures faults { IfErr result IsOfFolder }
     ensures cause { HasCause Fault.FolderFault (F.faults folder.old) (F.faults folder.new) result }
 {

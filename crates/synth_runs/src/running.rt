@@ -30,7 +30,8 @@ fn put_copy<R: Threads + Sync, F: Folder, O: Sink>(
     blocks: BlockCount,
     workers: WorkerCount,
 ) -> Result<(), Fault>
-    ensures told { (m : Files) → F.names folder.old ≡ Some m → Goes (copy_run m) m result (F.names folder.new) (O.got out.old) (O.got out.new) }
+    ensures told { (m : Files) → F.names folder.old ≡ Some m → Goes (copy_run m) m result (F.names folder.new)
+        (O.got out.old) (O.got out.new) }
     ensures may_end { IfErr result MayEnd }
     ensures changed { HasChanged (F.names folder.old) (ended result) }
     ensures cause { HasCauses (F.faults folder.old) (F.faults folder.new) (O.faults out.old) (O.faults out.new) result }
@@ -51,7 +52,8 @@ fn put_outer<R: Threads + Sync, F: Folder, O: Sink>(
     blocks: BlockCount,
     workers: WorkerCount,
 ) -> Result<(), Fault>
-    ensures told { (m : Files) → F.names folder.old ≡ Some m → Goes (outer_runs side m) m result (F.names folder.new) (O.got out.old) (O.got out.new) }
+    ensures told { (m : Files) → F.names folder.old ≡ Some m → Goes (outer_runs side m) m result (F.names folder.new)
+        (O.got out.old) (O.got out.new) }
     ensures may_end { IfErr result MayEnd }
     ensures changed { HasChanged (F.names folder.old) (ended result) }
     ensures cause { HasCauses (F.faults folder.old) (F.faults folder.new) (O.faults out.old) (O.faults out.new) result }
@@ -72,7 +74,8 @@ fn put_mosaics<R: Threads + Sync, F: Folder, O: Sink>(
     blocks: BlockCount,
     workers: WorkerCount,
 ) -> Result<(), Fault>
-    ensures told { (m : Files) → F.names folder.old ≡ Some m → Goes (mosaic_runs side m) m result (F.names folder.new) (O.got out.old) (O.got out.new) }
+    ensures told { (m : Files) → F.names folder.old ≡ Some m → Goes (mosaic_runs side m) m result (F.names folder.new)
+        (O.got out.old) (O.got out.new) }
     ensures may_end { IfErr result MayEnd }
     ensures changed { HasChanged (F.names folder.old) (ended result) }
     ensures cause { HasCauses (F.faults folder.old) (F.faults folder.new) (O.faults out.old) (O.faults out.new) result }
@@ -102,7 +105,8 @@ pub fn put_rasters<R: Threads + Sync, F: Folder, O: Sink>(
     workers: WorkerCount,
 ) -> Result<(), Fault>
     // over a folder that tells its files: all the steps are done, or where the outside failed the first of them
-    ensures told { (m : Files) → F.names folder.old ≡ Some m → Goes (synth_run side m) m result (F.names folder.new) (O.got out.old) (O.got out.new) }
+    ensures told { (m : Files) → F.names folder.old ≡ Some m → Goes (synth_run side m) m result (F.names folder.new)
+        (O.got out.old) (O.got out.new) }
     // and it is refused by nothing
     ensures made { (m : Files) → F.names folder.old ≡ Some m → IfErr result IsOutside }
     ensures may_end { IfErr result MayEnd }

@@ -1,5 +1,6 @@
 // The samples of a dataset's first band, read line by line through a lane and tallied.
-ghost use Rattle.std.specs.Prelude.{◌≡◌, ◌<◌, ◌≤◌, ◌-◌, ◌*◌, ◌^◌, All, IfOk, OnOk, Some, length, slice_get, unsigned_abs};
+ghost use Rattle.std.specs.Prelude.{◌≡◌, ◌<◌, ◌≤◌, ◌-◌, ◌*◌, ◌^◌, All, IfOk, OnOk, Some, length, slice_get};
+ghost use Rattle.std.specs.Prelude.{unsigned_abs};
 ghost use Rattle.geotransform.specs.Geo.{IsRaster};
 ghost use Rattle.outside.specs.Reading.{WhereTold};
 ghost use Rattle.catalog.specs.Drivers.{Dataset};
@@ -97,7 +98,9 @@ fn read_strip<F: Folder, L: Ledger>(
     requires order { strip.first ≤ strip.end }
     requires end { strip.end ≤ copied.now.size.h }
     requires long { length samples.old ≡ copied.now.size.w * (strip.end - strip.first) }
-    ensures samples { WhereTold F.Folder folder.old (λ m. (d : Dataset) → slice_get copied.now.cat copied.now.id ≡ Some d → OnOk result (samples.new ≡ lines_of m d.head.name copied.now.size strip.first strip.end)) }
+    ensures samples { WhereTold F.Folder folder.old (λ m. (d : Dataset) →
+        slice_get copied.now.cat copied.now.id ≡ Some d →
+        OnOk result (samples.new ≡ lines_of m d.head.name copied.now.size strip.first strip.end)) }
     ensures near { OnOk result (All (λ n. unsigned_abs n < 2 ^ 64) samples.new) }
     ensures long { length samples.new ≡ length samples.old }
     ensures ready { IsReady F.Folder folder.new copied.now.cat pixels.new.lane }
@@ -127,8 +130,10 @@ fn tally_strip<F: Folder, L: Ledger>(
     requires order { strip.first ≤ strip.end }
     requires end { strip.end ≤ copied.now.size.h }
     requires long { copied.now.size.w * (strip.end - strip.first) ≤ length samples.old }
-    requires tallied { AreTallied (F.names folder.old) copied.now.cat copied.now.id copied.now.size strip.first tally.old }
-    ensures tallied { OnOk result (AreTallied (F.names folder.new) copied.now.cat copied.now.id copied.now.size strip.end tally.new) }
+    requires tallied { AreTallied (F.names folder.old) copied.now.cat copied.now.id copied.now.size strip.first
+        tally.old }
+    ensures tallied { OnOk result (AreTallied (F.names folder.new) copied.now.cat copied.now.id copied.now.size
+        strip.end tally.new) }
     ensures long { length samples.new ≡ length samples.old }
     ensures ready { IsReady F.Folder folder.new copied.now.cat pixels.new.lane }
     ensures names { F.names folder.new ≡ F.names folder.old }
@@ -156,7 +161,8 @@ fn tally_lines<F: Folder, L: Ledger>(
     requires ready { IsReady F.Folder folder.old copied.now.cat pixels.old.lane }
     requires rows { 1 ≤ rows }
     requires long { copied.now.size.w * rows ≤ length samples.old }
-    ensures tallied { IfOk result (AreTallied (F.names folder.old) copied.now.cat copied.now.id copied.now.size copied.now.size.h) }
+    ensures tallied { IfOk result (AreTallied (F.names folder.old) copied.now.cat copied.now.id copied.now.size
+        copied.now.size.h) }
     ensures names { F.names folder.new ≡ F.names folder.old }
     ensures ends { MayEnd (F.names folder.old) (F.faults folder.old) (F.faults folder.new) 0 0 result }
 {
@@ -203,7 +209,9 @@ pub fn tally_copied<F: Folder, L: Ledger>(
     requires name { blank.name ≡ L.name }
     requires parts { blank.parts ≡ L.parts }
     requires some { 0 < blank.parts }
-    ensures tally { WhereTold F.Folder folder.old (λ m. (d : Dataset) → slice_get copied.now.cat copied.now.id ≡ Some d → IfOk result (λ t. t ≡ tally_of (lines_of m d.head.name copied.now.size 0 copied.now.size.h))) }
+    ensures tally { WhereTold F.Folder folder.old (λ m. (d : Dataset) →
+        slice_get copied.now.cat copied.now.id ≡ Some d →
+        IfOk result (λ t. t ≡ tally_of (lines_of m d.head.name copied.now.size 0 copied.now.size.h))) }
     ensures names { F.names folder.new ≡ F.names folder.old }
     ensures ends { MayEnd (F.names folder.old) (F.faults folder.old) (F.faults folder.new) 0 0 result }
 {

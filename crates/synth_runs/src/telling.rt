@@ -27,8 +27,10 @@ use synthetic_rasters::{output_name, tally_text};
 
 // Puts a text.
 fn put_lines<O: Sink>(out: &mut O, text: &[u8]) -> Result<(), Fault>
-    ensures told { (m : Files) (names : Option Files) → names ≡ Some m → Goes (all_done (prints (text.now ∷ []))) m result names (O.got out.old) (O.got out.new) }
-    ensures ends { (names : Option Files) (faults : ℕ) → copying.MayEnd names faults faults (O.faults out.old) (O.faults out.new) result }
+    ensures told { (m : Files) (names : Option Files) → names ≡ Some m →
+        Goes (all_done (prints (text.now ∷ []))) m result names (O.got out.old) (O.got out.new) }
+    ensures ends { (names : Option Files) (faults : ℕ) → copying.MayEnd names faults faults (O.faults out.old)
+        (O.faults out.new) result }
 {
     match out.put(text) {
         Ok(()) => Ok(()),
@@ -40,7 +42,8 @@ fn put_lines<O: Sink>(out: &mut O, text: &[u8]) -> Result<(), Fault>
 fn open_copied<F: Folder>(alloc: Global, folder: &mut F) -> Result<Copied, Fault>
     ensures copied { IfOk result (λ c. IsCopied c.cat c.id c.size) }
     ensures walked { WhereTold F.Folder folder.old (λ m. IfOk result (λ c. IsWalked m c.cat)) }
-    ensures dataset { WhereTold F.Folder folder.old (λ m. IfOk result (λ c. (d : Dataset) → slice_get c.cat c.id ≡ Some d → copied m ≡ Ok d)) }
+    ensures dataset { WhereTold F.Folder folder.old (λ m. IfOk result (λ c. (d : Dataset) →
+        slice_get c.cat c.id ≡ Some d → copied m ≡ Ok d)) }
     ensures refused { WhereTold F.Folder folder.old (λ m. IfErr result (λ f. IsOutside f ⊎ (copied m ≡ Err f))) }
     ensures faults { IfErr result (IsOfMaking output_name) }
     ensures names { F.names folder.new ≡ F.names folder.old }
@@ -71,8 +74,11 @@ fn put_told<F: Folder, O: Sink>(
 ) -> Result<(), Fault>
     requires copied { IsCopied copied.now.cat copied.now.id copied.now.size }
     requires walked { WhereTold F.Folder folder.old (λ m. IsWalked m copied.now.cat) }
-    ensures told { (m : Files) (d : Dataset) → F.names folder.old ≡ Some m → slice_get copied.now.cat copied.now.id ≡ Some d → Goes (tally_done m (Ok d)) m result (F.names folder.new) (O.got out.old) (O.got out.new) }
-    ensures ends { copying.MayEnd (F.names folder.old) (F.faults folder.old) (F.faults folder.new) (O.faults out.old) (O.faults out.new) result }
+    ensures told { (m : Files) (d : Dataset) → F.names folder.old ≡ Some m →
+        slice_get copied.now.cat copied.now.id ≡ Some d → Goes (tally_done m (Ok d)) m result (F.names folder.new)
+        (O.got out.old) (O.got out.new) }
+    ensures ends { copying.MayEnd (F.names folder.old) (F.faults folder.old) (F.faults folder.new) (O.faults out.old)
+        (O.faults out.new) result }
 {
     let tally = tally_copied::<F, Brand>(copied, folder, blocks, Blank::new(1))?;
     let text = tally_text(copied.alloc, copied.size, &tally)?;
@@ -89,7 +95,8 @@ pub fn put_tally<F: Folder, O: Sink>(
     out: &mut O,
     blocks: BlockCount,
 ) -> Result<(), Fault>
-    ensures told { (m : Files) → F.names folder.old ≡ Some m → Goes (tally_run m) m result (F.names folder.new) (O.got out.old) (O.got out.new) }
+    ensures told { (m : Files) → F.names folder.old ≡ Some m → Goes (tally_run m) m result (F.names folder.new)
+        (O.got out.old) (O.got out.new) }
     ensures may_end { IfErr result MayEnd }
     ensures changed { HasChanged (F.names folder.old) (ended result) }
     ensures cause { HasCauses (F.faults folder.old) (F.faults folder.new) (O.faults out.old) (O.faults out.new) result }

@@ -14,7 +14,8 @@ use translate_plan::{Driver, TranslateOptions};
 /// Memory freely.
 pub fn unless_read(alloc: Global, cat: &Catalog, options: &TranslateOptions) -> Result<(), Fault>
     requires named { IsNamed options.now }
-    ensures gives { Gives (λ f. f ≡ Fault.Memory) (λ done. done) result (unless_read cat.now (names_written options.now)) }
+    ensures gives { Gives (λ f. f ≡ Fault.Memory) (λ done. done) result
+        (unless_read cat.now (names_written options.now)) }
 {
     unless_own(alloc, cat, &options.out)?;
     match options.driver {

@@ -52,9 +52,12 @@ pub fn put_translation<R: Threads + Sync, F: Folder, O: Sink>(
 ) -> Result<(), Fault>
     requires named { IsNamed options.now }
     // over a folder that tells its files: all the steps are done, or where the outside failed the first of them
-    ensures told { (m : Files) → F.names folder.old ≡ Some m → Goes (translation_run m way.verify src.now options.now way.quiet) m result (F.names folder.new) (O.got out.old) (O.got out.new) }
+    ensures told { (m : Files) → F.names folder.old ≡ Some m →
+        Goes (translation_run m way.verify src.now options.now way.quiet) m result (F.names folder.new) (O.got out.old)
+        (O.got out.new) }
     // over every folder: a refused translation has done nothing
-    ensures refused { IfErr result (λ f. fault_status f ≡ 1 → (out.new ≡ out.old) × (F.names folder.new ≡ F.names folder.old)) }
+    ensures refused { IfErr result (λ f. fault_status f ≡ 1 → (out.new ≡ out.old) ×
+        (F.names folder.new ≡ F.names folder.old)) }
     // over every folder and for every answer: a quiet translation leaves the sink as it was
     ensures quiet { way.quiet ≡ true → out.new ≡ out.old }
     ensures may_end { IfErr result (MayEnd options.now) }

@@ -1,7 +1,7 @@
 -- What stands behind an element, by the item in front.
-use Rattle.std.proofs.Common.{◌≡◌, ℕ, ◌-◌, ◌<◌, ◌≤◌, true, false, cond, List, [], length, Result, Ok, Err, refl, sym, ap, subst, ◌∙◌, arith, nat_le}
+use Rattle.std.proofs.Common.{◌≡◌, ℕ, ◌-◌, ◌<◌, ◌≤◌, true, false, cond, List, [], ◌∷◌, ◌++◌, length, Result, Ok, Err, refl, sym, ap, subst, ◌∙◌, arith, nat_le}
 use Rattle.std.proofs.lemmas.Bool.Decides.{nat_tests}
-use Rattle.vrt_markup.specs.Items.{item_at, Item, bad, comment, run, open_tag, close_tag, Tag, is_equal}
+use Rattle.vrt_markup.specs.Items.{item_at, Item, bad, comment, run, open_tag, close_tag, Tag, is_equal, is_name}
 use Rattle.lists_and_answers.specs.Answers.{◌>>=◌}
 use Rattle.vrt_markup.specs.Forest.{Forest, stop, Read, with_text, with_element, nodes_step, nodes, inner}
 use Rattle.vrt_markup.specs.Views.{past}
@@ -9,6 +9,7 @@ use Rattle.vrt_markup.specs.declared.fault.VrtFault.{VrtFault}
 use Rattle.vrt_markup.specs.declared.fault.VrtFault.TheVariants.{BadText, UnknownElement, MissingPart, BadNumber, Unsupported, Limit, Memory}
 use Rattle.vrt_markup.specs.Kept.{Fails}
 use Rattle.vrt_markup.proofs.Next.{next}
+use Rattle.vrt_markup.proofs.EndTags.{end_item, equal_itself}
 
 -- nodes by an item that is known
 pub at_item : (T d : ℕ) (n t : List ℕ) (i : Item) → i ≡ item_at t → nodes T d n t ≡ nodes_step (nodes T) T d n t i
@@ -35,6 +36,10 @@ past_run T d n t raw r e = ap past (at_item T d n t (run raw r) e) ∙ behind_te
 
 pub past_close : (T d : ℕ) (n t o r : List ℕ) → close_tag o r ≡ item_at t → is_equal o n ≡ true → past (nodes T d n t) ≡ Ok r
 past_close T d n t o r e same = ap past (at_item T d n t (close_tag o r) e) ∙ ap (λ b. past (cond b (Ok (stop, r)) (Err (BadText (T - length t))))) same
+
+-- the end tag of the element's own name
+pub past_end : (T d : ℕ) (n t r : List ℕ) → t ≡ 60 ∷ 47 ∷ n ++ 62 ∷ r → is_name n ≡ true → past (nodes T d n t) ≡ Ok r
+past_end T d n t r e named = past_close T d n t n r (end_item t n r e named) (equal_itself n)
 
 pub past_other : (T d : ℕ) (n t o r : List ℕ) → close_tag o r ≡ item_at t → is_equal o n ≡ false → past (nodes T d n t) ≡ Err (BadText (T - length t))
 past_other T d n t o r e same = ap past (at_item T d n t (close_tag o r) e) ∙ ap (λ b. past (cond b (Ok (stop, r)) (Err (BadText (T - length t))))) same

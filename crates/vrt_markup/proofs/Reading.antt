@@ -1,13 +1,14 @@
 -- What an element means after the item in front, for any meaning of what is left.
-use Rattle.std.proofs.Common.{◌≡◌, ℕ, ◌-◌, ◌<◌, ◌≤◌, Bool, true, false, cond, ◌&&◌, List, ◌++◌, length, Option, Some, None, Result, Ok, Err, refl, sym, ap, subst, ◌∙◌, append_assoc}
+use Rattle.std.proofs.Common.{◌≡◌, ℕ, ◌-◌, ◌<◌, ◌≤◌, Bool, true, false, cond, ◌&&◌, List, ◌∷◌, ◌++◌, length, Option, Some, None, Result, Ok, Err, refl, sym, ap, subst, ◌∙◌, append_assoc}
 use Rattle.std.proofs.lemmas.List.{append-nil}
-use Rattle.vrt_markup.specs.Items.{item_at, bad, comment, run, open_tag, close_tag, Tag, is_equal}
+use Rattle.vrt_markup.specs.Items.{item_at, bad, comment, run, open_tag, close_tag, Tag, is_equal, is_name}
 use Rattle.lists_and_answers.specs.Answers.{◌>>=◌}
 use Rattle.vrt_markup.specs.Forest.{Forest, stop, text, element, Read, with_text, with_element, nodes, inner, read_as, over, all_blank, is_blank, text_of, child_of, decoded}
 use Rattle.vrt_markup.specs.Views.{past}
 use Rattle.vrt_markup.specs.Kept.{seen, worded, first_child, stepped, Fails, Gives}
 use Rattle.vrt_markup.specs.declared.fault.VrtFault.{VrtFault}
 use Rattle.vrt_markup.specs.declared.fault.VrtFault.TheVariants.{BadText, Limit}
+use Rattle.vrt_markup.proofs.EndTags.{end_item, equal_itself}
 use Rattle.vrt_markup.proofs.Behind.{not_ok, err_same, at_item, at_open, leb_deep, opened}
 
 pub read_bad : {A : Type 0} (g : Forest → A) (T d : ℕ) (n t : List ℕ) → bad ≡ item_at t → read_as g (nodes T d n t) ≡ Err (BadText (T - length t))
@@ -84,6 +85,9 @@ seen_run step kept blank T d n t raw r e = read_run (seen step kept blank) (seen
 pub seen_close : {S : Type 0} (step : Step S) (kept : Result S VrtFault) (blank : Bool) (T d : ℕ) (n t o r : List ℕ) → close_tag o r ≡ item_at t → is_equal o n ≡ true → read_as (seen step kept blank) (nodes T d n t) ≡ Ok ((kept, blank), r)
 seen_close step kept blank T d n t o r e same = read_close (seen step kept blank) T d n t o r e same ∙ ap (λ k. Ok ((k, blank && true), r)) (bind_end kept) ∙ ap (λ b. Ok ((kept, b), r)) (and_true blank)
 
+pub seen_end : {S : Type 0} (step : Step S) (kept : Result S VrtFault) (blank : Bool) (T d : ℕ) (n t r : List ℕ) → t ≡ 60 ∷ 47 ∷ n ++ 62 ∷ r → is_name n ≡ true → read_as (seen step kept blank) (nodes T d n t) ≡ Ok ((kept, blank), r)
+seen_end step kept blank T d n t r e named = seen_close step kept blank T d n t n r (end_item t n r e named) (equal_itself n)
+
 pub seen_open : {S : Type 0} (step : Step S) (kept : Result S VrtFault) (blank : Bool) (T d : ℕ) (n t : List ℕ) (tag : Tag) (r : List ℕ) (now : Result S VrtFault) (s : List ℕ) → open_tag tag r ≡ item_at t → d < 64 → Ok (now, s) ≡ read_as (stepped step kept (T - length t) tag) (inner T d tag r) → read_as (seen step kept blank) (nodes T d n t) ≡ read_as (seen step now blank) (nodes T d n s)
 seen_open step kept blank T d n t tag r now s e less inside = read_open (seen step kept blank) (stepped step kept (T - length t) tag) (λ k. seen step k blank) T d n t tag r now s (λ i f. ap (λ k. (k, blank && all_blank f)) (bind_assoc kept (λ p. step p (T - length t) tag i) (λ p. over step p f))) e less inside
 
@@ -101,6 +105,9 @@ first_assoc (Some x) place later = refl
 
 pub worded_close : (front : List ℕ) (child : Option ℕ) (T d : ℕ) (n t o r : List ℕ) → close_tag o r ≡ item_at t → is_equal o n ≡ true → read_as (worded front child) (nodes T d n t) ≡ Ok ((front, child), r)
 worded_close front child T d n t o r e same = read_close (worded front child) T d n t o r e same ∙ ap (λ w. Ok ((w, first_child child None), r)) (append-nil front) ∙ ap (λ c. Ok ((front, c), r)) (first_none child)
+
+pub worded_end : (front : List ℕ) (child : Option ℕ) (T d : ℕ) (n t r : List ℕ) → t ≡ 60 ∷ 47 ∷ n ++ 62 ∷ r → is_name n ≡ true → read_as (worded front child) (nodes T d n t) ≡ Ok ((front, child), r)
+worded_end front child T d n t r e named = worded_close front child T d n t n r (end_item t n r e named) (equal_itself n)
 
 abbrev past_of : List ℕ → Result (List ℕ) VrtFault → List ℕ
 past_of s (Ok r) = r

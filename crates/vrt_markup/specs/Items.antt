@@ -1,6 +1,6 @@
 -- The items of a document: comments, tags and runs of text.
 use Rattle.std.specs.Prelude.{ℕ, zero, suc, Bool, true, false, ◌||◌, ◌&&◌, not, List, [], ◌∷◌, length, drop, take, codes, Option, Some, None, ◌==◌, nat_le, if◌then◌else◌}
-use Rattle.std.specs.List.{prefix_len}
+use Rattle.std.specs.List.{prefix_len, list_all}
 use Rattle.std.specs.Cmp.Lexicographic.{pointwise}
 use Rattle.lists_and_answers.specs.Options.{◌>>=◌}
 
@@ -42,6 +42,10 @@ has_first (c ∷ cs) = is_first c
 
 abbrev pub name_at : List ℕ → Option (List ℕ × List ℕ)
 name_at text = if has_first text then Some (take (prefix_len is_later text) text, drop (prefix_len is_later text) text) else None
+
+-- whether the whole of a text is a name
+abbrev pub is_name : List ℕ → Bool
+is_name text = has_first text && list_all is_later text
 
 -- the byte in front
 abbrev pub byte_at : ℕ → List ℕ → Option (List ℕ)

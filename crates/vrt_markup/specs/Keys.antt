@@ -1,4 +1,4 @@
--- The keys by which the names of a tag's attributes are sorted.
+-- The keys by which the names of a tag's attributes are sorted, and texts that stand in a document as they are.
 use Rattle.std.specs.Prelude.{ℕ, ◌+◌, ◌*◌, ◌%◌, ◌==◌, Bool, true, not, ◌&&◌, List, [], ◌∷◌, Option, Some, None, if◌then◌else◌}
 use Rattle.std.specs.List.{list_any}
 use Rattle.vrt_markup.specs.Items.{Pair}
@@ -29,3 +29,7 @@ double_from last (n ∷ ns) = if n == last then Some last else double_from n ns
 abbrev pub double_of : List ℕ → Option ℕ
 double_of [] = None
 double_of (n ∷ ns) = double_from n ns
+
+-- a byte that begins neither a tag nor an entity
+abbrev pub is_plain : ℕ → Bool
+is_plain c = not (c == 60) && not (c == 38)

@@ -1,6 +1,8 @@
 -- What structs of the code are for the definitions.
 use Rattle.std.specs.Prelude.{◌≡◌, ℕ, Option, List, ◌<◌, length, Result, Ok, Err}
 use Rattle.vrt_markup.specs.declared.text.Words.{Words}
+use Rattle.vrt_markup.specs.declared.text.Plain.{Plain}
+use Rattle.vrt_markup.specs.declared.text.Plain.TheVariants.{Lent, Own}
 use Rattle.vrt_markup.specs.declared.fault.VrtFault.{VrtFault}
 use Rattle.vrt_markup.specs.Forest.{Read}
 use Rattle.vrt_markup.specs.Tree as tree
@@ -8,7 +10,7 @@ use Rattle.vrt_markup.specs.declared.root.Root.{Root}
 use Rattle.vrt_markup.specs.Items as items
 use Rattle.vrt_markup.specs.Items.{pairs, bad, comment, run, open_tag, close_tag}
 use Rattle.vrt_markup.specs.declared.items.Pair.{Pair}
-use Rattle.vrt_markup.specs.declared.items.Tag.{Tag}
+use Rattle.vrt_markup.specs.declared.tag.Tag.{Tag}
 use Rattle.vrt_markup.specs.declared.items.Item.{Item}
 use Rattle.vrt_markup.specs.declared.items.Item.TheVariants.{NoMemory, Bad, Comment, Run, Open, Close}
 
@@ -48,8 +50,12 @@ abbrev pub past : Read → Result (List ℕ) VrtFault
 past (Ok x) = Ok x.1
 past (Err e) = Err e
 
+abbrev pub plain_text : Plain → List ℕ
+plain_text (Lent text) = text.now
+plain_text (Own text) = text.items
+
 abbrev pub text_view : Words → List ℕ × Option ℕ
-text_view w = (w.text.items, w.child)
+text_view w = (plain_text w.text, w.child)
 
 abbrev pub result_view : {A B : Type 0} → (A → B) → Result A VrtFault → Result B VrtFault
 result_view view (Ok x) = Ok (view x)

@@ -1,14 +1,17 @@
 // Elements that hold elements alone: what their children make of them, one after the other.
 ghost use Rattle.std.specs.Prelude.{◌≡◌, ℕ, ◌<◌, ◌≤◌, ◌-◌, length, IfOk, Result, Ok, true};
 ghost use Rattle.vrt_markup.specs.Items as items;
+ghost use Rattle.vrt_markup.specs.Items.{is_name};
 ghost use Rattle.vrt_markup.specs.Forest.{Forest, nodes, inner, read_as};
 ghost use Rattle.vrt_markup.specs.Views.{tag_view};
 ghost use Rattle.vrt_markup.specs.Kept.{Gives, seen, stepped, kept_of};
 ghost use Rattle.vrt_markup.specs.declared.fault.VrtFault.{VrtFault};
 
+use crate::ends::own_end;
 use crate::fault::VrtFault;
-use crate::items::{Item, Tag, is_equal, item_at};
+use crate::items::{Item, is_equal, item_at};
 use crate::past::past_element;
+use crate::tag::Tag;
 use crate::text::is_blank;
 use std::alloc::Global;
 
@@ -79,7 +82,7 @@ fn next_child<'a, P: Parts>(
 }
 
 // What the elements in an element of this name make of its parts, behind its start tag.
-#[tactic(auto, using(crate::proofs::Reading::seen_close))]
+#[tactic(auto, using(crate::proofs::Reading::seen_close, crate::proofs::Reading::seen_end))]
 fn child_nodes<'a, P: Parts>(
     alloc: Global,
     level: Level,
@@ -89,6 +92,7 @@ fn child_nodes<'a, P: Parts>(
 ) -> Result<(Seen, &'a [u8]), VrtFault>
     requires within { length bytes.now ≤ level.total }
     requires depth { level.depth ≤ 64 }
+    requires named { is_name name.now ≡ true }
     ensures seen { Gives (λ x. ((kept_of (P.value parts.new) x.0.kept, x.0.blank), x.1.now)) result (read_as (seen (P.step parts.old) (Ok (P.value parts.old)) true) (nodes level.total level.depth name.now bytes.now)) }
     ensures shorter { IfOk result (λ x. length x.1.now < length bytes.now) }
 {
@@ -98,6 +102,9 @@ fn child_nodes<'a, P: Parts>(
         blank: true,
     };
     'items: loop {
+        if let Some(behind) = own_end(rest, name) {
+            return Ok((seen, behind));
+        }
         let place = (level.total - rest.len()) as u64;
         match item_at(alloc, rest) {
             Item::NoMemory => return Err(VrtFault::Memory),
@@ -107,7 +114,8 @@ fn child_nodes<'a, P: Parts>(
                 rest = more;
             }
             Item::Close(other, more) if is_equal(other, name) => return Ok((seen, more)),
-            Item::Bad | Item::Close(_, _) => return Err(VrtFault::BadText(place)),
+            Item::Bad => return Err(VrtFault::BadText(place)),
+            Item::Close(_, _) => return Err(VrtFault::BadText(place)),
             Item::Open(_, _) if level.depth >= 64 => return Err(VrtFault::Limit),
             Item::Open(tag, more) => {
                 match next_child(alloc, level, seen.kept, place, parts, tag, more) {

@@ -2,10 +2,11 @@
 ghost use Rattle.std.specs.Prelude.{◌≡◌, ◌<◌, ◌≤◌, ◌+◌, ◌==◌, length, map, true, false, IfSome, IfOk, Option, Some, None, []};
 ghost use Rattle.std.specs.Option.{option_map};
 ghost use Rattle.std.specs.List.{prefix_len};
-ghost use Rattle.vrt_markup.specs.Items.{is_some, strip, is_white, trim_front, is_first, is_later, has_first, name_at, byte_at, after_comment, entity_at, ends_at, plain_len, spaces_at, quote_at, value_at, pair_at, is_equal, begins, pairs, attribute, is_distinct, tag_end, tag_front, tag_item, tag_at, close_at, run_at, item_at};
+ghost use Rattle.vrt_markup.specs.Items.{is_name, is_some, strip, is_white, trim_front, is_first, is_later, has_first, name_at, byte_at, after_comment, entity_at, ends_at, plain_len, spaces_at, quote_at, value_at, pair_at, is_equal, begins, pairs, attribute, is_distinct, tag_end, tag_front, tag_item, tag_at, close_at, run_at, item_at};
 ghost use Rattle.vrt_markup.specs.Keys.{last_bytes, key_of, number_of, apart, double_from, double_of};
 ghost use Rattle.vrt_markup.specs.Views.{pair_view, tag_view, Finds, Shortens};
 
+use crate::tag::Tag;
 use std::alloc::{AllocError, Global};
 
 /// What stands behind the front, where the text begins so.
@@ -51,10 +52,21 @@ fn is_first(c: u8) -> bool
     (b'A' <= c && c <= b'Z') || (b'a' <= c && c <= b'z') || c == b'_'
 }
 
+// Each byte that may stand in a name stands at its own place, and a comma at every other place.
+static LATER: [u8; 256] = *b"\
+    ,,,,,,,,,,,,,,,,,,,,,,,,,,,,,,,,\
+    ,,,,,,,,,,,,,-.,0123456789:,,,,,\
+    ,ABCDEFGHIJKLMNOPQRSTUVWXYZ,,,,_\
+    ,abcdefghijklmnopqrstuvwxyz,,,,,\
+    ,,,,,,,,,,,,,,,,,,,,,,,,,,,,,,,,\
+    ,,,,,,,,,,,,,,,,,,,,,,,,,,,,,,,,\
+    ,,,,,,,,,,,,,,,,,,,,,,,,,,,,,,,,\
+    ,,,,,,,,,,,,,,,,,,,,,,,,,,,,,,,,";
+
 fn is_later(c: u8) -> bool
     ensures { result ≡ is_later c }
 {
-    is_first(c) || (b'0' <= c && c <= b':') || c == b'-' || c == b'.'
+    LATER[c as usize] != b','
 }
 
 fn later_len(text: &[u8]) -> usize
@@ -76,6 +88,7 @@ fn has_first(text: &[u8]) -> bool
 /// The name in front, and what stands behind it.
 fn name_at(text: &[u8]) -> Option<(&[u8], &[u8])>
     ensures name { option_map (λ x. (x.0.now, x.1.now)) result ≡ name_at text.now }
+    ensures named { IfSome result (λ x. is_name x.0.now ≡ true) }
     ensures shorter { IfSome result (λ x. length x.1.now ≤ length text.now) }
 {
     if !has_first(text) {
@@ -85,7 +98,7 @@ fn name_at(text: &[u8]) -> Option<(&[u8], &[u8])>
 }
 
 /// What stands behind the byte in front.
-fn byte_at(text: &[u8], byte: u8) -> Option<&[u8]>
+pub(crate) fn byte_at(text: &[u8], byte: u8) -> Option<&[u8]>
     ensures rest { option_map (λ r. r.now) result ≡ byte_at byte text.now }
     ensures shorter { IfSome result (λ r. length r.now < length text.now) }
 {
@@ -206,9 +219,9 @@ fn pair_at(text: &[u8]) -> Option<(Pair, &[u8])>
     Some((Pair { name, value }, rest))
 }
 
-/// The value of the first attribute with this name.
+/// The value of the first attribute with this name, in a text in which attributes may stand.
 #[tactic(auto, using(crate::proofs::Shorter::pairs_next, crate::proofs::Shorter::pairs_none))]
-pub fn attribute<'a>(text: &'a [u8], name: &[u8]) -> Option<&'a [u8]>
+fn attribute_in<'a>(text: &'a [u8], name: &[u8]) -> Option<&'a [u8]>
     ensures value { option_map (λ v. v.now) result ≡ attribute name.now (pairs text.now).0 }
 {
     let mut rest = text;
@@ -219,6 +232,17 @@ pub fn attribute<'a>(text: &'a [u8], name: &[u8]) -> Option<&'a [u8]>
         rest = more;
     }
     None
+}
+
+/// The value of the first attribute with this name.
+#[tactic(auto, using(crate::proofs::Names::spaceless))]
+pub fn attribute<'a>(text: &'a [u8], name: &[u8]) -> Option<&'a [u8]>
+    ensures value { option_map (λ v. v.now) result ≡ attribute name.now (pairs text.now).0 }
+{
+    if !has_space(text) {
+        return None;
+    }
+    attribute_in(text, name)
 }
 
 /// The number that the last eight bytes of a name make.
@@ -398,14 +422,6 @@ fn tag_end(text: &[u8]) -> Option<(bool, &[u8])>
         }
         _ => None,
     }
-}
-
-/// A tag; the attributes stand in front of the last text.
-#[derive(Clone, Copy)]
-pub struct Tag<'a> {
-    pub name: &'a [u8],
-    pub attributes: &'a [u8],
-    pub empty: bool,
 }
 
 /// A tag, what stands behind it, and the numbers of its attributes' names; none also where one of the

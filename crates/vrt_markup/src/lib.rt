@@ -2,15 +2,18 @@
 #![tactic(auto)]
 
 mod children;
+mod ends;
 pub mod fault;
 mod items;
 mod past;
 mod root;
+mod tag;
 mod text;
 
 pub use children::{Level, Parts, Seen, children_of};
 pub use fault::VrtFault;
-pub use items::{Item, Tag, attribute, is_equal, is_white, item_at, trim_front};
+pub use items::{Item, attribute, is_equal, is_white, item_at, trim_front};
 pub use past::past_element;
 pub use root::{Root, end_at, root_at, utf8_of};
-pub use text::{Words, is_blank, text_element};
+pub use tag::Tag;
+pub use text::{Plain, Words, is_blank, text_element};

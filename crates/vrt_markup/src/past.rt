@@ -1,14 +1,17 @@
 // Elements that are read past, with all that they hold.
-ghost use Rattle.std.specs.Prelude.{◌<◌, ◌≤◌, ◌+◌, length, IfOk, Result, Ok, Err};
+ghost use Rattle.std.specs.Prelude.{◌≡◌, true, ◌<◌, ◌≤◌, ◌+◌, length, IfOk, Result, Ok, Err};
+ghost use Rattle.vrt_markup.specs.Items.{is_name};
 ghost use Rattle.vrt_markup.specs.Forest.{nodes, inner};
 ghost use Rattle.vrt_markup.specs.Views.{tag_view, past};
 ghost use Rattle.vrt_markup.specs.Kept.{Gives};
 
+use crate::ends::own_end;
 use crate::fault::VrtFault;
-use crate::items::{Item, Tag, item_at};
+use crate::items::{Item, item_at};
+use crate::tag::Tag;
 use std::alloc::Global;
 
-#[tactic(auto, using(crate::proofs::Behind::past_bad, crate::proofs::Behind::past_comment, crate::proofs::Behind::past_run, crate::proofs::Behind::past_close, crate::proofs::Behind::past_other, crate::proofs::Behind::past_deep, crate::proofs::Behind::past_open, crate::proofs::Behind::past_fails))]
+#[tactic(auto, using(crate::proofs::Behind::past_bad, crate::proofs::Behind::past_comment, crate::proofs::Behind::past_run, crate::proofs::Behind::past_close, crate::proofs::Behind::past_end, crate::proofs::Behind::past_other, crate::proofs::Behind::past_deep, crate::proofs::Behind::past_open, crate::proofs::Behind::past_fails))]
 #[cycle(past)]
 // What stands behind the end of an element.
 fn past_nodes<'a>(
@@ -20,11 +23,15 @@ fn past_nodes<'a>(
 ) -> Result<&'a [u8], VrtFault>
     requires within { length text.now ≤ total }
     requires depth { depth ≤ 64 }
+    requires named { is_name name.now ≡ true }
     ensures rest { Gives (λ r. r.now) result (past (nodes total depth name.now text.now)) }
     ensures shorter { IfOk result (λ r. length r.now < length text.now) }
 {
     let mut rest = text;
-    loop {
+    'items: loop {
+        if let Some(behind) = own_end(rest, name) {
+            return Ok(behind);
+        }
         match item_at(alloc, rest) {
             Item::NoMemory => return Err(VrtFault::Memory),
             Item::Bad => return Err(VrtFault::BadText((total - rest.len()) as u64)),

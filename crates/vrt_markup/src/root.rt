@@ -6,7 +6,8 @@ ghost use Rattle.vrt_markup.specs.Kept.{Gives};
 ghost use Rattle.vrt_markup.specs.Tree.{utf8_of, space, without_mark, after_declaration, declared_at, root_behind, root_at, end_by, end_at};
 
 use crate::fault::VrtFault;
-use crate::items::{Item, Tag, item_at, strip};
+use crate::items::{Item, item_at, strip};
+use crate::tag::Tag;
 use crate::text::is_blank;
 use std::alloc::Global;
 use std::str;

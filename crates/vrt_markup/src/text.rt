@@ -1,13 +1,17 @@
 // The text directly in an element, and elements that hold text alone.
-ghost use Rattle.std.specs.Prelude.{◌≡◌, ◌<◌, ◌≤◌, ◌-◌, ◌++◌, [], length, IfOk, OnOk, Result, Ok, Option, None, Some};
-ghost use Rattle.vrt_markup.specs.Items.{is_white};
+ghost use Rattle.std.specs.Prelude.{◌≡◌, ℕ, true, IfSome, ◌<◌, ◌≤◌, ◌-◌, ◌++◌, [], length, IfOk, OnOk, Result, Ok, Option, None, Some};
+ghost use Rattle.std.specs.List.{prefix_len};
+ghost use Rattle.vrt_markup.specs.Items.{is_white, is_name};
+ghost use Rattle.vrt_markup.specs.Keys.{is_plain};
 ghost use Rattle.vrt_markup.specs.Forest.{nodes, inner, is_blank, plain_at, decoded, read_as};
-ghost use Rattle.vrt_markup.specs.Views.{tag_view, text_view};
+ghost use Rattle.vrt_markup.specs.Views.{tag_view, text_view, plain_text};
 ghost use Rattle.vrt_markup.specs.Kept.{Gives, worded, first_child};
 
+use crate::ends::own_end;
 use crate::fault::VrtFault;
-use crate::items::{Item, Tag, entity_at, is_equal, is_white, item_at};
+use crate::items::{Item, entity_at, is_equal, is_white, item_at};
 use crate::past::past_element;
+use crate::tag::Tag;
 use std::alloc::{AllocError, Global};
 
 /// Whether it is white space alone.
@@ -50,10 +54,29 @@ fn push_decoded(out: &mut Vec<u8>, raw: &[u8]) -> Result<(), AllocError>
     Ok(())
 }
 
+/// A text with its entities read: as it stands in the document, or on its own where it stands there in another form.
+#[derive(Drop)]
+pub enum Plain<'a> {
+    Lent(&'a [u8]),
+    Own(Vec<u8>),
+}
+
+impl<'a> Plain<'a> {
+    /// Its bytes.
+    pub fn as_slice(&self) -> &[u8]
+        ensures bytes { result.now ≡ plain_text self.now }
+    {
+        match self {
+            Plain::Lent(text) => text,
+            Plain::Own(text) => text.as_slice(),
+        }
+    }
+}
+
 /// The text directly in an element, and the place of the first element in it.
 #[derive(Drop)]
-pub struct Words {
-    pub text: Vec<u8>,
+pub struct Words<'a> {
+    pub text: Plain<'a>,
     pub child: Option<u64>,
 }
 
@@ -75,7 +98,7 @@ fn text_nodes<'a>(
     depth: usize,
     name: &[u8],
     bytes: &'a [u8],
-) -> Result<(Words, &'a [u8]), VrtFault>
+) -> Result<(Words<'a>, &'a [u8]), VrtFault>
     requires within { length bytes.now ≤ total }
     requires depth { depth ≤ 64 }
     ensures text { Gives (λ x. (text_view x.0, x.1.now)) result (read_as (worded [] None) (nodes total depth name.now bytes.now)) }
@@ -94,7 +117,10 @@ fn text_nodes<'a>(
                 rest = more;
             }
             Item::Close(other, more) if is_equal(other, name) => return Ok((
-                Words { text, child },
+                Words {
+                    text: Plain::Own(text),
+                    child,
+                },
                 more,
             )),
             Item::Bad | Item::Close(_, _) => return Err(VrtFault::BadText(place)),
@@ -112,6 +138,33 @@ fn text_nodes<'a>(
     }
 }
 
+// Whether it begins neither a tag nor an entity.
+fn is_plain(c: u8) -> bool
+    ensures { result ≡ is_plain c }
+{
+    c != b'<' && c != b'&'
+}
+
+// How many bytes stand in front of the first tag or entity.
+fn plain_front(bytes: &[u8]) -> usize
+    ensures count { result ≡ prefix_len is_plain bytes.now }
+    ensures bound { result ≤ length bytes.now }
+{
+    bytes.iter().take_while(|c| is_plain(**c)).count()
+}
+
+// The text in an element of this name, behind its start tag, where it stands there in one piece as it is.
+#[tactic(auto, using(crate::proofs::Lent::lent))]
+fn lent_text<'a>(name: &[u8], bytes: &'a [u8]) -> Option<(&'a [u8], &'a [u8])>
+    requires named { is_name name.now ≡ true }
+    ensures text { IfSome result (λ x. (total depth : ℕ) → Ok ((x.0.now, None), x.1.now) ≡ read_as (worded [] None) (nodes total depth name.now bytes.now)) }
+    ensures shorter { IfSome result (λ x. length x.1.now < length bytes.now) }
+{
+    let (text, rest) = bytes.split_at(plain_front(bytes));
+    let behind = own_end(rest, name)?;
+    Some((text, behind))
+}
+
 /// The text in an element that begins with a tag, and the first element in it.
 pub fn text_element<'a>(
     alloc: Global,
@@ -119,7 +172,7 @@ pub fn text_element<'a>(
     depth: usize,
     tag: Tag,
     bytes: &'a [u8],
-) -> Result<(Words, &'a [u8]), VrtFault>
+) -> Result<(Words<'a>, &'a [u8]), VrtFault>
     requires within { length bytes.now ≤ total }
     requires depth { depth < 64 }
     ensures text { Gives (λ x. (text_view x.0, x.1.now)) result (read_as (worded [] None) (inner total depth (tag_view tag.entry) bytes.now)) }
@@ -128,11 +181,20 @@ pub fn text_element<'a>(
     if tag.empty {
         return Ok((
             Words {
-                text: Vec::new(alloc),
+                text: Plain::Lent(&[]),
                 child: None,
             },
             bytes,
         ));
     }
-    text_nodes(alloc, total, depth + 1, tag.name, bytes)
+    match lent_text(tag.name, bytes) {
+        Some((text, behind)) => Ok((
+            Words {
+                text: Plain::Lent(text),
+                child: None,
+            },
+            behind,
+        )),
+        None => text_nodes(alloc, total, depth + 1, tag.name, bytes),
+    }
 }

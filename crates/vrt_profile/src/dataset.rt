@@ -7,7 +7,7 @@ ghost use Rattle.vrt_markup.specs.Forest.{inner, read_as, text_of, child_of};
 ghost use Rattle.vrt_profile.specs.Means as means;
 ghost use Rattle.vrt_profile.specs.Means.{no_dataset_parts, with_srs, with_geo, with_raster_band, srs_by, geo_by, dataset_step, dataset_end, dataset_of, root_of, band_of};
 ghost use Rattle.vrt_profile.specs.Seen.{dataset_by};
-ghost use Rattle.vrt_markup.specs.Views.{tag_view};
+ghost use Rattle.vrt_markup.specs.Views.{plain_text, tag_view};
 ghost use Rattle.vrt_markup.specs.Kept.{Gives, seen, kept_of};
 
 use crate::band::band_element;
@@ -59,10 +59,10 @@ fn no_dataset_parts(alloc: Global) -> DatasetParts
 }
 
 fn geo_by(words: &Words) -> Result<GeoTransform, VrtFault>
-    ensures geo { result ≡ geo_by words.now.text.items words.now.child }
+    ensures geo { result ≡ geo_by (plain_text words.now.text) words.now.child }
     ensures decimal { IfOk result IsDecimal }
 {
-    let geo = geo_of(&words.text)?;
+    let geo = geo_of(words.text.as_slice())?;
     match words.child {
         None => Ok(geo),
         Some(place) => Err(VrtFault::UnknownElement(place)),

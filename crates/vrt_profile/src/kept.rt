@@ -2,6 +2,7 @@
 ghost use Rattle.std.specs.Prelude.{Ok, Result, IfOk, IsUtf8};
 ghost use Rattle.vrt_profile.specs.Means.{kept_text, text_in};
 ghost use Rattle.vrt_markup.specs.Kept.{Gives};
+ghost use Rattle.vrt_markup.specs.Views.{plain_text};
 
 use outside::Text;
 use std::alloc::Global;
@@ -24,10 +25,10 @@ fn kept_text(alloc: Global, bytes: &[u8]) -> Result<Result<Text, VrtFault>, VrtF
 
 /// The text in an element that holds text alone.
 pub fn text_by(alloc: Global, words: &Words) -> Result<Result<Text, VrtFault>, VrtFault>
-    ensures text { Gives (λ x. x) result (Ok (text_in words.now.text.items words.now.child)) }
+    ensures text { Gives (λ x. x) result (Ok (text_in (plain_text words.now.text) words.now.child)) }
     ensures utf8 { IfOk result (λ r. IfOk r IsUtf8) }
 {
-    match kept_text(alloc, &words.text) {
+    match kept_text(alloc, words.text.as_slice()) {
         Ok(Ok(text)) => match words.child {
             None => {
                 text_rules(&text);

@@ -6,7 +6,7 @@ ghost use Rattle.vrt_profile.specs.Means as means;
 ghost use Rattle.vrt_profile.specs.Means.{flag_in, flag_by, file_of, source_band_by, nodata_by, scale_text, lut_by, with_file, number_parts, source_step, no_parts, is_like, is_near, source_end, source_of, value_in};
 ghost use Rattle.vrt_profile.specs.Seen.{file_by, source_by};
 ghost use Rattle.vrt_profile.specs.Values.{IsRectangle, IsLut};
-ghost use Rattle.vrt_markup.specs.Views.{tag_view};
+ghost use Rattle.vrt_markup.specs.Views.{plain_text, tag_view};
 ghost use Rattle.vrt_markup.specs.Kept.{Gives, seen, kept_of};
 ghost use Rattle.vrt_profile.specs.SourceViews.{source_view, no_source};
 ghost use Rattle.vrt_profile.specs.Scaling.{IsScaling, no_scaling, scaling_of};
@@ -71,7 +71,7 @@ fn file_by(
     flag: Result<bool, VrtFault>,
     words: &Words,
 ) -> Result<Result<File, VrtFault>, VrtFault>
-    ensures file { Gives (λ x. x) result (Ok (file_by flag words.now.text.items words.now.child)) }
+    ensures file { Gives (λ x. x) result (Ok (file_by flag (plain_text words.now.text) words.now.child)) }
 {
     match flag {
         Err(fault) => Ok(Err(fault)),
@@ -106,9 +106,9 @@ fn file_element<'a>(
 
 // What the texts of numbers mean, and then a child of their elements.
 fn source_band_by(words: &Words) -> Result<BandNumber, VrtFault>
-    ensures band { result ≡ source_band_by words.now.text.items words.now.child }
+    ensures band { result ≡ source_band_by (plain_text words.now.text) words.now.child }
 {
-    let band = band_number(trim(&words.text))?;
+    let band = band_number(trim(words.text.as_slice()))?;
     match words.child {
         None => Ok(band),
         Some(place) => Err(VrtFault::UnknownElement(place)),
@@ -116,18 +116,18 @@ fn source_band_by(words: &Words) -> Result<BandNumber, VrtFault>
 }
 
 pub fn nodata_by(words: &Words) -> Result<Option<NoData>, VrtFault>
-    ensures nodata { result ≡ nodata_by words.now.text.items words.now.child }
+    ensures nodata { result ≡ nodata_by (plain_text words.now.text) words.now.child }
 {
     match words.child {
-        None => Ok(nodata_in(trim(&words.text))),
+        None => Ok(nodata_in(trim(words.text.as_slice()))),
         Some(place) => Err(VrtFault::UnknownElement(place)),
     }
 }
 
 fn scale_by(words: &Words) -> Result<Scale, VrtFault>
-    ensures scale { result ≡ scale_text words.now.text.items words.now.child }
+    ensures scale { result ≡ scale_text (plain_text words.now.text) words.now.child }
 {
-    let scale = scale_of(&words.text)?;
+    let scale = scale_of(words.text.as_slice())?;
     match words.child {
         None => Ok(scale),
         Some(place) => Err(VrtFault::UnknownElement(place)),
@@ -135,9 +135,9 @@ fn scale_by(words: &Words) -> Result<Scale, VrtFault>
 }
 
 fn lut_by(alloc: Global, words: &Words) -> Result<Result<Lut, VrtFault>, VrtFault>
-    ensures lut { Gives (λ x. x) result (Ok (lut_by words.now.text.items words.now.child)) }
+    ensures lut { Gives (λ x. x) result (Ok (lut_by (plain_text words.now.text) words.now.child)) }
 {
-    match lut_of(alloc, &words.text) {
+    match lut_of(alloc, words.text.as_slice()) {
         Ok(Ok(lut)) => match words.child {
             None => Ok(Ok(lut)),
             Some(place) => Ok(Err(VrtFault::UnknownElement(place))),
@@ -185,7 +185,7 @@ impl SourceParts {
         part: NumberPart,
         words: &Words,
     ) -> Result<Result<(), VrtFault>, VrtFault>
-        ensures parts { Gives (λ k. kept_of (source_view self.new) k) result (Ok (number_parts (source_view self.old) words.now.text.items words.now.child part)) }
+        ensures parts { Gives (λ k. kept_of (source_view self.new) k) result (Ok (number_parts (source_view self.old) (plain_text words.now.text) words.now.child part)) }
         ensures same { self.new.complex ≡ self.old.complex }
     {
         match part {

@@ -2,11 +2,11 @@ use Rattle.std.proofs.Common.{arith, ap, sym, subst, ◌∙◌, ◌-◌, length,
 use Rattle.vrt_markup.specs.Forest.{nodes, inner, read_as}
 use Rattle.vrt_markup.specs.Kept.{seen, stepped, kept_of, Fails}
 use Rattle.vrt_markup.specs.Views.{tag_view}
-use Rattle.vrt_markup.proofs.Reading.{read_comment, seen_run, seen_open, child_fails}
+use Rattle.vrt_markup.proofs.Reading.{read_comment, read_deep, seen_run, seen_open, child_fails}
 use Rattle.vrt_markup.proofs.children.child_nodes.Goals as goal
 
-pub items-preserved-in-Comment-1 : goal.items-preserved-in-Comment-1
-items-preserved-in-Comment-1 g c =
+pub items-preserved-in-Comment : goal.items-preserved-in-Comment
+items-preserved-in-Comment g c =
     let step = g.P.Parts.step c.args.parts.now in
     let kept = kept_of (g.P.Parts.value c.items.parts) c.items.seen.kept in
     record {
@@ -15,8 +15,8 @@ items-preserved-in-Comment-1 g c =
       shorter = omega (arith, c.in-Comment.ensures.shorter, c.items.invariant.shorter);
     }
 
-pub items-preserved-in-Run-1 : goal.items-preserved-in-Run-1
-items-preserved-in-Run-1 g c =
+pub items-preserved-in-Run : goal.items-preserved-in-Run
+items-preserved-in-Run g c =
     let step = g.P.Parts.step c.args.parts.now in
     let kept = kept_of (g.P.Parts.value c.items.parts) c.items.seen.kept in
     record {
@@ -53,3 +53,9 @@ returns-in-Err-clause-seen g c =
     let more = c.in-Open.field-1.now in
     child_fails (seen step kept c.items.seen.blank) (stepped step kept place tag) total depth c.args.name.now c.items.rest.now tag more _ c.in-Err.error c.in-Open.ensures.item c.if-level-ge64.false c.items.invariant.left
     (subst (λ s. Fails c.in-Err.error (read_as (stepped s kept place tag) (inner total depth tag more))) c.items.invariant.same c.in-Err.ensures.child)
+
+pub returns-in-Open-clause-seen : goal.returns-in-Open-clause-seen
+returns-in-Open-clause-seen g c =
+    let so_far = seen (g.P.Parts.step c.args.parts.now) (kept_of (g.P.Parts.value c.items.parts) c.items.seen.kept) c.items.seen.blank in
+    sym (read_deep so_far c.args.level.total c.args.level.depth c.args.name.now c.items.rest.now (tag_view c.in-Open.field-0) c.in-Open.field-1.now c.in-Open.ensures.item c.if-level-ge64.true)
+    ∙ c.items.invariant.left

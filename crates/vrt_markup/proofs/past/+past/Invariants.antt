@@ -9,8 +9,8 @@ decreases-past_element l = 2 * (64 - l.depth)
 abbrev pub decreases-past_nodes : goal.decreases-past_nodes
 decreases-past_nodes l = 2 * (64 - l.depth) + 1
 
-abbrev pub invariant-past_nodes-loop-more : goal.invariant-past_nodes-loop-more
-invariant-past_nodes-loop-more l = record { left : past (nodes l.total l.depth l.name l.rest) ≡ past (nodes l.total l.depth l.name l.text); shorter : length l.rest ≤ length l.text }
+abbrev pub invariant-past_nodes-items : goal.invariant-past_nodes-items
+invariant-past_nodes-items l = record { left : past (nodes l.total l.depth l.name l.rest) ≡ past (nodes l.total l.depth l.name l.text); shorter : length l.rest ≤ length l.text }
 
-abbrev pub decreases-past_nodes-loop-more : goal.decreases-past_nodes-loop-more
-decreases-past_nodes-loop-more l = length l.rest
+abbrev pub decreases-past_nodes-items : goal.decreases-past_nodes-items
+decreases-past_nodes-items l = length l.rest

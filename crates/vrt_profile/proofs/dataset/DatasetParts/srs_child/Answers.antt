@@ -1,7 +1,7 @@
 use Rattle.std.proofs.Common.{ap, ◌∙◌, Ok, [], None, IsUtf8}
 use Rattle.vrt_markup.specs.Forest.{inner}
 use Rattle.vrt_markup.specs.Kept.{worded}
-use Rattle.vrt_markup.specs.Views.{tag_view, text_view}
+use Rattle.vrt_markup.specs.Views.{plain_text, tag_view, text_view}
 use Rattle.vrt_markup.proofs.Reading.{read_then, ok_value}
 use Rattle.vrt_profile.specs.Means.{DatasetParts, with_srs, srs_by}
 use Rattle.vrt_profile.proofs.Once.{once_put, put_keeps}
@@ -27,5 +27,5 @@ returns-in-Ok-text_by-clause-child c =
     let srs = c.in-Ok-text_by.srs in
     ap (λ k. Ok (k, rest)) (once_put (λ o. record s { srs = o }) s.srs c.put_once.new.place srs c.put_once.result c.put_once.ensures.put
     ∙ ap (λ p. with_srs p srs) c.self.view_is
-    ∙ ap (with_srs c.args.self.now) (ok_value srs (srs_by words.text.items words.child) c.in-Ok-text_by.ensures.text))
+    ∙ ap (with_srs c.args.self.now) (ok_value srs (srs_by (plain_text words.text) words.child) c.in-Ok-text_by.ensures.text))
     ∙ read_then (λ w. with_srs c.args.self.now (srs_by w.0 w.1)) (worded [] None) (text_view words) rest (inner c.args.level.total c.args.level.depth (tag_view c.args.tag) c.args.bytes.now) c.in-Ok.ensures.text

@@ -1,4 +1,5 @@
 use Rattle.std.proofs.Common.{ap, ◌∙◌, Ok}
+use Rattle.vrt_markup.specs.Views.{plain_text}
 use Rattle.vrt_profile.specs.Means.{with_band, with_nodata, with_offset, with_ratio, with_lut, lut_by}
 use Rattle.vrt_profile.specs.SourceViews.{source_view}
 use Rattle.vrt_markup.proofs.Reading.{ok_value}
@@ -29,4 +30,4 @@ pub returns-in-Ok-clause-parts : goal.returns-in-Ok-clause-parts
 returns-in-Ok-clause-parts c =
     let s = source_view c.args.self.now in
     rw c.in-Lut.is (ap Ok (once_put (λ o. record s { lut = o }) s.lut c.put_once-in-Ok.new.place c.in-Ok.lut c.put_once-in-Ok.result c.put_once-in-Ok.ensures.put
-    ∙ ap (with_lut s) (ok_value c.in-Ok.lut (lut_by c.args.words.now.text.items c.args.words.now.child) c.in-Ok.ensures.lut)))
+    ∙ ap (with_lut s) (ok_value c.in-Ok.lut (lut_by (plain_text c.args.words.now.text) c.args.words.now.child) c.in-Ok.ensures.lut)))
