@@ -1,7 +1,8 @@
 -- The numbers and the places of the faults of a grid.
 use Rattle.std.specs.Prelude.{◌≡◌, ℕ, Option, Some, None}
 use Rattle.ascii_grid.specs.declared.faults.GridFault.{GridFault}
-use Rattle.ascii_grid.specs.declared.faults.GridFault.TheVariants.{MissingKey, BadToken, NotInteger, TooFew, TooMany, Limit, Memory}
+use Rattle.ascii_grid.specs.declared.faults.GridFault.TheVariants.{MissingKey, BadToken, NotInteger, TooFew, TooMany}
+use Rattle.ascii_grid.specs.declared.faults.GridFault.TheVariants.{Limit, Memory}
 
 -- the number that error lines print, 0 for want of memory
 abbrev pub fault_number : GridFault → ℕ

@@ -1,5 +1,6 @@
 -- The grid that a text gives, or its first fault.
-use Rattle.std.specs.Prelude.{◌≡◌, ◌<◌, ◌≤◌, ℕ, ℤ, pos, true, ◌+◌, ◌-◌, ◌*◌, List, [], ◌∷◌, length, map, Option, None, Result, Ok, Err, ok_or, IfSome, ◌==◌, if◌then◌else◌, get_or}
+use Rattle.std.specs.Prelude.{◌≡◌, ◌<◌, ◌≤◌, ℕ, ℤ, pos, true, ◌+◌, ◌-◌, ◌*◌, List, [], ◌∷◌, length, map, Option, None}
+use Rattle.std.specs.Prelude.{Result, Ok, Err, ok_or, IfSome, ◌==◌, if◌then◌else◌, get_or}
 use Rattle.std.specs.List.{range_with_len}
 use Rattle.lists_and_answers.specs.Answers.{◌>>=◌}
 use Rattle.geotransform.specs.Geo.{Transform, IsRaster, IsTransform}
@@ -63,7 +64,16 @@ grid_in h = do
   Ok (record { head = head_with s (rows_of s.w 0 h.1); values = values })
 
 abbrev pub nothing : Found
-nothing = record { ncols = None; nrows = None; x = None; y = None; cellsize = None; dx = None; dy = None; nodata = None }
+nothing = record {
+  ncols = None;
+  nrows = None;
+  x = None;
+  y = None;
+  cellsize = None;
+  dx = None;
+  dy = None;
+  nodata = None;
+}
 
 -- the grid that a text gives, or its first fault
 unfoldable pub grid_of : List ℕ → Result Grid GridFault

@@ -1,12 +1,14 @@
 -- The keys of the head, and what they say.
-use Rattle.std.specs.Prelude.{ℕ, ℤ, pos, neg_ℤ, ◌+ℤ◌, ◌-ℤ◌, ◌*◌, ◌/◌, List, codes, Option, Some, None, Result, Ok, ok_or, if◌then◌else◌}
+use Rattle.std.specs.Prelude.{ℕ, ℤ, pos, neg_ℤ, ◌+ℤ◌, ◌-ℤ◌, ◌*◌, ◌/◌, List, codes, Option, Some, None, Result, Ok}
+use Rattle.std.specs.Prelude.{ok_or, if◌then◌else◌}
 use Rattle.lists_and_answers.specs.Answers.{◌>>=◌}
 use Rattle.lists_and_answers.specs.Texts.{same_letters}
 use Rattle.geotransform.specs.Geo.{Transform, transform_of}
 use Rattle.ascii_grid.specs.declared.faults.GridFault.{GridFault}
 use Rattle.ascii_grid.specs.declared.faults.GridFault.TheVariants.{MissingKey, Limit}
 use Rattle.ascii_grid.specs.declared.head_parts.Key.{Key}
-use Rattle.ascii_grid.specs.declared.head_parts.Key.TheVariants.{Ncols, Nrows, Xllcorner, Xllcenter, Yllcorner, Yllcenter, Cellsize, Dx, Dy, Nodata}
+use Rattle.ascii_grid.specs.declared.head_parts.Key.TheVariants.{Ncols, Nrows, Xllcorner, Xllcenter, Yllcorner}
+use Rattle.ascii_grid.specs.declared.head_parts.Key.TheVariants.{Yllcenter, Cellsize, Dx, Dy, Nodata}
 use Rattle.ascii_grid.specs.declared.head_parts.LowerLeft.{LowerLeft}
 use Rattle.ascii_grid.specs.declared.head_parts.LowerLeft.TheVariants.{Edge, Centre}
 use Rattle.ascii_grid.specs.declared.head_parts.Found.{Found}
@@ -32,34 +34,124 @@ key_of text =
 unfoldable pub with_value : Found → Key → Token → Result Found GridFault
 with_value f Ncols t = do
   n ← side_in t.at t.text
-  Ok (record { ncols = Some n; nrows = f.nrows; x = f.x; y = f.y; cellsize = f.cellsize; dx = f.dx; dy = f.dy; nodata = f.nodata })
+  Ok (record {
+    ncols = Some n;
+    nrows = f.nrows;
+    x = f.x;
+    y = f.y;
+    cellsize = f.cellsize;
+    dx = f.dx;
+    dy = f.dy;
+    nodata = f.nodata;
+  })
 with_value f Nrows t = do
   n ← side_in t.at t.text
-  Ok (record { ncols = f.ncols; nrows = Some n; x = f.x; y = f.y; cellsize = f.cellsize; dx = f.dx; dy = f.dy; nodata = f.nodata })
+  Ok (record {
+    ncols = f.ncols;
+    nrows = Some n;
+    x = f.x;
+    y = f.y;
+    cellsize = f.cellsize;
+    dx = f.dx;
+    dy = f.dy;
+    nodata = f.nodata;
+  })
 with_value f Xllcorner t = do
   v ← coordinate_in t.at t.text
-  Ok (record { ncols = f.ncols; nrows = f.nrows; x = Some (Edge v); y = f.y; cellsize = f.cellsize; dx = f.dx; dy = f.dy; nodata = f.nodata })
+  Ok (record {
+    ncols = f.ncols;
+    nrows = f.nrows;
+    x = Some (Edge v);
+    y = f.y;
+    cellsize = f.cellsize;
+    dx = f.dx;
+    dy = f.dy;
+    nodata = f.nodata;
+  })
 with_value f Xllcenter t = do
   v ← coordinate_in t.at t.text
-  Ok (record { ncols = f.ncols; nrows = f.nrows; x = Some (Centre v); y = f.y; cellsize = f.cellsize; dx = f.dx; dy = f.dy; nodata = f.nodata })
+  Ok (record {
+    ncols = f.ncols;
+    nrows = f.nrows;
+    x = Some (Centre v);
+    y = f.y;
+    cellsize = f.cellsize;
+    dx = f.dx;
+    dy = f.dy;
+    nodata = f.nodata;
+  })
 with_value f Yllcorner t = do
   v ← coordinate_in t.at t.text
-  Ok (record { ncols = f.ncols; nrows = f.nrows; x = f.x; y = Some (Edge v); cellsize = f.cellsize; dx = f.dx; dy = f.dy; nodata = f.nodata })
+  Ok (record {
+    ncols = f.ncols;
+    nrows = f.nrows;
+    x = f.x;
+    y = Some (Edge v);
+    cellsize = f.cellsize;
+    dx = f.dx;
+    dy = f.dy;
+    nodata = f.nodata;
+  })
 with_value f Yllcenter t = do
   v ← coordinate_in t.at t.text
-  Ok (record { ncols = f.ncols; nrows = f.nrows; x = f.x; y = Some (Centre v); cellsize = f.cellsize; dx = f.dx; dy = f.dy; nodata = f.nodata })
+  Ok (record {
+    ncols = f.ncols;
+    nrows = f.nrows;
+    x = f.x;
+    y = Some (Centre v);
+    cellsize = f.cellsize;
+    dx = f.dx;
+    dy = f.dy;
+    nodata = f.nodata;
+  })
 with_value f Cellsize t = do
   d ← step_in t.at t.text
-  Ok (record { ncols = f.ncols; nrows = f.nrows; x = f.x; y = f.y; cellsize = Some d; dx = f.dx; dy = f.dy; nodata = f.nodata })
+  Ok (record {
+    ncols = f.ncols;
+    nrows = f.nrows;
+    x = f.x;
+    y = f.y;
+    cellsize = Some d;
+    dx = f.dx;
+    dy = f.dy;
+    nodata = f.nodata;
+  })
 with_value f Dx t = do
   d ← step_in t.at t.text
-  Ok (record { ncols = f.ncols; nrows = f.nrows; x = f.x; y = f.y; cellsize = f.cellsize; dx = Some d; dy = f.dy; nodata = f.nodata })
+  Ok (record {
+    ncols = f.ncols;
+    nrows = f.nrows;
+    x = f.x;
+    y = f.y;
+    cellsize = f.cellsize;
+    dx = Some d;
+    dy = f.dy;
+    nodata = f.nodata;
+  })
 with_value f Dy t = do
   d ← step_in t.at t.text
-  Ok (record { ncols = f.ncols; nrows = f.nrows; x = f.x; y = f.y; cellsize = f.cellsize; dx = f.dx; dy = Some d; nodata = f.nodata })
+  Ok (record {
+    ncols = f.ncols;
+    nrows = f.nrows;
+    x = f.x;
+    y = f.y;
+    cellsize = f.cellsize;
+    dx = f.dx;
+    dy = Some d;
+    nodata = f.nodata;
+  })
 with_value f Nodata t = do
   n ← nodata_in t.at t.text
-  Ok (record { ncols = f.ncols; nrows = f.nrows; x = f.x; y = f.y; cellsize = f.cellsize; dx = f.dx; dy = f.dy; nodata = n })
+  Ok (record {
+    ncols = f.ncols;
+    nrows = f.nrows;
+    x = f.x;
+    y = f.y;
+    cellsize = f.cellsize;
+    dx = f.dx;
+    dy = f.dy;
+    nodata = n;
+  })
 
 -- the left or the lower edge of the lower left pixel, whose size is d
 abbrev pub edge_of : LowerLeft → ℕ → ℤ

@@ -1,5 +1,6 @@
 -- A row that is read in pieces.
-use Rattle.std.specs.Prelude.{ℕ, ℤ, pos, Bool, true, false, ◌+◌, ◌-◌, List, [], ◌∷◌, ◌++◌, length, take, drop, map, Result, Ok, Err, nat_lt, if◌then◌else◌, slice_set, ◌≡◌, ◌≤◌, replicate}
+use Rattle.std.specs.Prelude.{ℕ, ℤ, pos, Bool, true, false, ◌+◌, ◌-◌, List, [], ◌∷◌, ◌++◌, length, take, drop, map}
+use Rattle.std.specs.Prelude.{Result, Ok, Err, nat_lt, if◌then◌else◌, slice_set, ◌≡◌, ◌≤◌, replicate}
 use Rattle.std.specs.List.{fold}
 use Rattle.ascii_grid.specs.declared.faults.GridFault.{GridFault}
 use Rattle.ascii_grid.specs.Tokens.{tokens, is_white}
@@ -20,7 +21,10 @@ pub record Row : Type 0 where
   pub out : List ℤ
 
 abbrev pub put : Row → List ℕ → Row
-put r text = if nat_lt r.filled (length r.out) then record { filled = r.filled + 1; out = slice_set r.out r.filled (value_or_zero text) } else r
+put r text = if nat_lt r.filled (length r.out) then record {
+  filled = r.filled + 1;
+  out = slice_set r.out r.filled (value_or_zero text);
+} else r
 
 -- a row and the token that is open
 pub record Reading : Type 0 where
@@ -31,7 +35,10 @@ abbrev pub row_ended : Reading → Row
 row_ended s = if is_open s.held.text then put s.row s.held.text else s.row
 
 unfoldable pub row_byte : Reading → ℕ → Reading
-row_byte s c = if is_white c then record { held = passed s.held; row = row_ended s } else record { held = opened s.held c; row = s.row }
+row_byte s c = if is_white c then record {
+  held = passed s.held;
+  row = row_ended s;
+} else record { held = opened s.held c; row = s.row }
 
 abbrev pub row_fed : Reading → List ℕ → Reading
 row_fed s bytes = fold row_byte s bytes
@@ -62,10 +69,12 @@ pub record Fills (s : RowNow) (out : List ℤ) (text : List ℕ) : Type 0 where
   pub going : s.over ≡ false
   pub read : reading s out ≡ row_fed (reading fresh before) text
 
--- how many tokens have ended in a text, which begins inside a token or not: one at each white byte behind one that isn't
+-- how many tokens have ended in a text, which begins inside a token or not: one at each white byte behind one that
+-- isn't
 abbrev pub ended_from : Bool → List ℕ → ℕ
 ended_from inside [] = 0
-ended_from inside (c ∷ cs) = if is_white c then (if inside then 1 + ended_from false cs else ended_from false cs) else ended_from true cs
+ended_from inside (c ∷ cs) = if is_white c then (if inside then 1 + ended_from false cs else ended_from false cs)
+    else ended_from true cs
 
 abbrev pub ended_in : List ℕ → ℕ
 ended_in text = ended_from false text

@@ -1,5 +1,6 @@
 -- The scanner as a machine: what each byte changes.
-use Rattle.std.specs.Prelude.{ℕ, Bool, true, false, ◌+◌, ◌-◌, ◌*◌, List, [], ◌∷◌, ◌++◌, length, take, Option, Some, None, Result, Ok, Err, ok_or, nat_lt, ◌<◌, ◌≤◌, ◌≡◌, ◌⊎◌, ◌==◌, if◌then◌else◌, min}
+use Rattle.std.specs.Prelude.{ℕ, Bool, true, false, ◌+◌, ◌-◌, ◌*◌, List, [], ◌∷◌, ◌++◌, length, take, Option, Some}
+use Rattle.std.specs.Prelude.{None, Result, Ok, Err, ok_or, nat_lt, ◌<◌, ◌≤◌, ◌≡◌, ◌⊎◌, ◌==◌, if◌then◌else◌, min}
 use Rattle.std.specs.List.{fold}
 use Rattle.lists_and_answers.specs.Answers.{◌>>=◌}
 use Rattle.ascii_grid.specs.declared.faults.GridFault.{GridFault}
@@ -12,7 +13,8 @@ use Rattle.ascii_grid.specs.Values.{is_body_start, value_in}
 use Rattle.ascii_grid.specs.Keys.{key_of, with_value, shape_of}
 use Rattle.ascii_grid.specs.Grid.{Head, head_with, nothing, grid_head}
 
--- a token of the body, n of which were read, the last of them before column x: what is read then, and whether the token is the first of a row
+-- a token of the body, n of which were read, the last of them before column x: what is read then, and whether the token
+-- is the first of a row
 unfoldable pub body_step : Shape → ℕ → ℕ → Token → Result (Stage × Bool) GridFault
 body_step s n x t = if n == s.w * s.h then Err (TooMany t.at) else (do
   v ← value_in t.at t.text

@@ -1,5 +1,6 @@
 -- The text that is written of a grid.
-use Rattle.std.specs.Prelude.{◌≡◌, ◌-◌, ◌<ℤ◌, ℕ, ℤ, Bool, pos, neg_ℤ, true, int_le, ◌&&◌, unsigned_abs, List, [], ◌∷◌, ◌++◌, length, replicate, Option, Some, None, Ok, codes, if◌then◌else◌}
+use Rattle.std.specs.Prelude.{◌≡◌, ◌-◌, ◌<ℤ◌, ℕ, ℤ, Bool, pos, neg_ℤ, true, int_le, ◌&&◌, unsigned_abs, List, [], ◌∷◌}
+use Rattle.std.specs.Prelude.{◌++◌, length, replicate, Option, Some, None, Ok, codes, if◌then◌else◌}
 use Rattle.std.specs.List.{flat_map, All}
 use Rattle.std.specs.Fmt.{decimal, signed_decimal}
 use Rattle.geotransform.specs.Print.{short_text, unit}
@@ -19,10 +20,16 @@ label key = key ++ replicate (13 - length key) 32
 abbrev pub line : List ℕ → List ℕ → List ℕ
 line key value = label key ++ (value ++ 10 ∷ [])
 
--- the edges and the sizes that are written, rounded to 16 places: those of a geotransform, or else the place 0 and sizes of one unit
+-- the edges and the sizes that are written, rounded to 16 places: those of a geotransform, or else the place 0 and
+-- sizes of one unit
 abbrev pub placing_of : Size → Option Transform → Placing
 placing_of size None = record { left = pos 0; bottom = pos 0; width = pos unit; height = pos unit }
-placing_of size (Some g) = record { left = sixteen_places g.ox; bottom = sixteen_places (along g.oy g.dy (pos size.h)); width = sixteen_places g.dx; height = sixteen_places (neg_ℤ g.dy) }
+placing_of size (Some g) = record {
+  left = sixteen_places g.ox;
+  bottom = sixteen_places (along g.oy g.dy (pos size.h));
+  width = sixteen_places g.dx;
+  height = sixteen_places (neg_ℤ g.dy);
+}
 
 abbrev pub size_lines : Size → List ℕ
 size_lines size = line (codes "ncols") (decimal size.w) ++ line (codes "nrows") (decimal size.h)
@@ -35,7 +42,8 @@ abbrev pub are_same : ℤ → ℤ → Bool
 are_same a b = int_le a b && int_le b a
 
 abbrev pub step_lines : Placing → List ℕ
-step_lines p = if are_same p.width p.height then line (codes "cellsize") (short_text p.width) else (line (codes "dx") (short_text p.width) ++ line (codes "dy") (short_text p.height))
+step_lines p = if are_same p.width p.height then line (codes "cellsize") (short_text p.width)
+    else (line (codes "dx") (short_text p.width) ++ line (codes "dy") (short_text p.height))
 
 abbrev pub nodata_line : Option ℤ → List ℕ
 nodata_line None = []
@@ -79,4 +87,7 @@ pub record IsReadAgain (size : Size) (p : Placing) (geo : Transform) : Type 0 wh
 -- a text is a grid with this head, wherever its rows begin, and these values
 pub record IsGridOf (text : List ℕ) (size : Size) (geo : Transform) (nodata : Option ℤ) (values : List ℤ) : Type 0 where
   pub rows : List ℕ
-  pub grid : grid_of text ≡ Ok (record { head = record { size = size; geo = geo; nodata = nodata; rows = rows }; values = values })
+  pub grid : grid_of text ≡ Ok (record {
+    head = record { size = size; geo = geo; nodata = nodata; rows = rows };
+    values = values;
+  })

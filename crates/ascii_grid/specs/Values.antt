@@ -1,5 +1,6 @@
 -- What a token says.
-use Rattle.std.specs.Prelude.{ℕ, ℤ, pos, Bool, true, false, ◌&&◌, ◌||◌, List, [], ◌∷◌, length, codes, Option, Some, None, Result, Ok, Err, ok_or, nat_lt, nat_le, ◌==◌, if◌then◌else◌, int_lt, unsigned_abs}
+use Rattle.std.specs.Prelude.{ℕ, ℤ, pos, Bool, true, false, ◌&&◌, ◌||◌, List, [], ◌∷◌, length, codes, Option, Some}
+use Rattle.std.specs.Prelude.{None, Result, Ok, Err, ok_or, nat_lt, nat_le, ◌==◌, if◌then◌else◌, int_lt, unsigned_abs}
 use Rattle.std.specs.List.{list_all}
 use Rattle.std.specs.Char.{is_ascii_digit}
 use Rattle.lists_and_answers.specs.Answers.{◌>>=◌}
@@ -36,7 +37,8 @@ when_value (Some n) = if is_value n then Some n else None
 
 -- a NODATA: none where the number isn't whole or isn't of the band
 unfoldable pub nodata_in : ℕ → List ℕ → Result (Option ℤ) GridFault
-nodata_in at text = if is_decimal text || same_letters text (codes "nan") then Ok (when_value (whole_of text)) else Err (BadToken at)
+nodata_in at text = if is_decimal text || same_letters text (codes "nan") then Ok (when_value (whole_of text))
+    else Err (BadToken at)
 
 -- an optional point with at least one zero behind it and nothing else
 abbrev pub is_whole_end : List ℕ → Bool
@@ -45,7 +47,8 @@ is_whole_end (c ∷ cs) = (c == 46) && (nat_lt 0 (length cs) && list_all (λ d. 
 
 -- an optional sign, digits, and optionally a point with zeros alone behind it
 abbrev pub is_whole_text : List ℕ → Bool
-is_whole_text text = let w = digits_at (sign_at text).1 in nat_le (length text) 64 && (nat_lt 0 (length w.0) && is_whole_end w.1)
+is_whole_text text = let w = digits_at (sign_at text).1 in nat_le (length text) 64 &&
+    (nat_lt 0 (length w.0) && is_whole_end w.1)
 
 abbrev pub whole_value : List ℕ → ℤ
 whole_value text = signed (sign_at text).0 (number (digits_at (sign_at text).1).0)

@@ -1,5 +1,6 @@
 // The keys of the head, and what they say.
-ghost use Rattle.std.specs.Prelude.{◌≡◌, ℤ, pos, neg_ℤ, ◌+ℤ◌, ◌<◌, ◌≤◌, ◌*◌, ◌/◌, ◌^◌, unsigned_abs, Ok, Err, IfSome, IfErr, OnOk};
+ghost use Rattle.std.specs.Prelude.{◌≡◌, ℤ, pos, neg_ℤ, ◌+ℤ◌, ◌<◌, ◌≤◌, ◌*◌, ◌/◌, ◌^◌, unsigned_abs, Ok, Err, IfSome};
+ghost use Rattle.std.specs.Prelude.{IfErr, OnOk};
 ghost use Rattle.lists_and_answers.specs.Texts.{same_letters};
 ghost use Rattle.geotransform.specs.Geo.{IsTransform};
 ghost use Rattle.ascii_grid.specs.Keys.{key_of, with_value, edge_of, steps_of, placed, shape_of};

@@ -78,7 +78,8 @@ impl Open {
 
     /// Takes so many bytes of white space, where no token is open.
     pub fn pass_white(&mut self, len: usize)
-        ensures { self.new ≡ record { at = min (self.old.at + len) 18446744073709551615; begun = self.old.begun; text = [] } }
+        ensures { self.new
+            ≡ record { at = min (self.old.at + len) 18446744073709551615; begun = self.old.begun; text = [] } }
     {
         self.len = 0;
         self.at = self.at.saturating_add(len as u64);

@@ -16,7 +16,6 @@ pub struct Placing {
 }
 
 // The way over so many lines.
-#[tactic(auto, using(crate::proofs::Products::depth_small))]
 fn depth(h: u32, step: Ticks) -> i128
     requires h { h ≤ 4194304 }
     requires step { IsNear step }

@@ -1,9 +1,11 @@
 // The samples of a row, read in pieces.
-ghost use Rattle.std.specs.Prelude.{◌≡◌, ℕ, ℤ, ◌≤◌, ◌<◌, ◌+◌, length, take, get_or, true, false, [], ◌∷◌, ◌++◌, List, ◌||◌, ◌==◌, nat_le, min, drop};
+ghost use Rattle.std.specs.Prelude.{◌≡◌, ℕ, ℤ, ◌≤◌, ◌<◌, ◌+◌, length, take, get_or, true, false, [], ◌∷◌, ◌++◌, List};
+ghost use Rattle.std.specs.Prelude.{◌||◌, ◌==◌, nat_le, min, drop};
 ghost use Rattle.ascii_grid.specs.Tokens.{is_white};
 ghost use Rattle.lists_and_answers.specs.Places.{StandsAt};
 ghost use Rattle.ascii_grid.specs.Scan.{is_open};
-ghost use Rattle.ascii_grid.specs.Row.{value_or_zero, put, reading, row_ended, row_byte, row_fed, padded, Fills, row_of, ended_in, ended_from, fresh, HasRead};
+ghost use Rattle.ascii_grid.specs.Row.{value_or_zero, put, reading, row_ended, row_byte, row_fed, padded, Fills};
+ghost use Rattle.ascii_grid.specs.Row.{row_of, ended_in, ended_from, fresh, HasRead};
 
 use crate::open::Open;
 use crate::tokens::{dark_len, is_white, white_len};
@@ -67,7 +69,8 @@ impl RowState {
         requires few { length token.now ≤ 64 }
         requires dark { (k : ℕ) → k < length token.now → is_white (get_or token.now k 0) ≡ false }
         requires closed { self.old.held.text ≡ [] }
-        ensures fed { (c : ℕ) → is_white c ≡ true → reading self.new out.new ≡ row_fed (reading self.old out.old) (token.now ++ c ∷ []) }
+        ensures fed { (c : ℕ) → is_white c ≡ true → reading self.new out.new ≡ row_fed (reading self.old out.old)
+            (token.now ++ c ∷ []) }
         ensures over { self.new.over ≡ self.old.over }
         ensures room { self.new.filled ≤ length out.new }
         ensures size { length out.new ≡ length out.old }
@@ -161,11 +164,15 @@ impl RowState {
     #[tactic(auto, using(crate::proofs::Rows::fills_more, crate::proofs::Rows::counted))]
     fn read(&mut self, bytes: &[u8], out: &mut [i32]) -> bool
         requires { self.old.filled ≤ length out.old }
-        ensures fills { (text : List ℕ) → Fills self.old out.old text → 0 < length bytes.now → Fills self.new out.new (text ++ bytes.now) }
-        ensures row { (text : List ℕ) → Fills self.old out.old text → result ≡ true → out.new ≡ row_of (length out.new) (text ++ bytes.now) }
+        ensures fills { (text : List ℕ) → Fills self.old out.old text → 0 < length bytes.now →
+            Fills self.new out.new (text ++ bytes.now) }
+        ensures row { (text : List ℕ) → Fills self.old out.old text → result ≡ true →
+            out.new ≡ row_of (length out.new) (text ++ bytes.now) }
         ensures whole { result ≡ ((length bytes.now == 0) || (self.old.over || (self.new.filled == length out.new))) }
-        ensures counted { 0 < length bytes.now → self.old.over ≡ false → self.new.filled ≡ min (length out.old) (self.old.filled + ended_from (is_open self.old.held.text) bytes.now) }
-        ensures ended { (text : List ℕ) → Fills self.old out.old text → 0 < length bytes.now → result ≡ nat_le (length out.new) (ended_in (text ++ bytes.now)) }
+        ensures counted { 0 < length bytes.now → self.old.over ≡ false → self.new.filled ≡ min (length out.old)
+            (self.old.filled + ended_from (is_open self.old.held.text) bytes.now) }
+        ensures ended { (text : List ℕ) → Fills self.old out.old text → 0 < length bytes.now →
+            result ≡ nat_le (length out.new) (ended_in (text ++ bytes.now)) }
         ensures over { self.new.over ≡ (self.old.over || (length bytes.now == 0)) }
         ensures room { self.new.filled ≤ length out.new }
         ensures size { length out.new ≡ length out.old }
@@ -192,18 +199,25 @@ impl RowState {
 pub fn decode_more(state: &mut RowState, bytes: &[u8], out: &mut [i32]) -> bool
     requires room { state.old.filled ≤ length out.old }
     // what was read goes on with these bytes
-    ensures fills { (text : List ℕ) → Fills state.old out.old text → 0 < length bytes.now → Fills state.new out.new (text ++ bytes.now) }
+    ensures fills { (text : List ℕ) → Fills state.old out.old text → 0 < length bytes.now →
+        Fills state.new out.new (text ++ bytes.now) }
     // once it is true, the samples are the first values of all bytes
-    ensures row { (text : List ℕ) → Fills state.old out.old text → result ≡ true → out.new ≡ row_of (length out.new) (text ++ bytes.now) }
+    ensures row { (text : List ℕ) → Fills state.old out.old text → result ≡ true →
+        out.new ≡ row_of (length out.new) (text ++ bytes.now) }
     // when it is true
     ensures whole { result ≡ ((length bytes.now == 0) || (state.old.over || (state.new.filled == length out.new))) }
-    ensures counted { 0 < length bytes.now → state.old.over ≡ false → state.new.filled ≡ min (length out.old) (state.old.filled + ended_from (is_open state.old.held.text) bytes.now) }
+    ensures counted { 0 < length bytes.now → state.old.over ≡ false → state.new.filled ≡ min (length out.old)
+        (state.old.filled + ended_from (is_open state.old.held.text) bytes.now) }
     ensures over { state.new.over ≡ (state.old.over || (length bytes.now == 0)) }
-    ensures ended { (text : List ℕ) → Fills state.old out.old text → 0 < length bytes.now → result ≡ nat_le (length out.new) (ended_in (text ++ bytes.now)) }
+    ensures ended { (text : List ℕ) → Fills state.old out.old text → 0 < length bytes.now →
+        result ≡ nat_le (length out.new) (ended_in (text ++ bytes.now)) }
     // the bytes of a file from a place on
-    ensures more { (file : List ℕ) (from at : ℕ) → HasRead state.old out.old file from at → StandsAt file bytes.now at → 0 < length bytes.now → HasRead state.new out.new file from (at + length bytes.now) }
-    ensures line { (file : List ℕ) (from at : ℕ) → HasRead state.old out.old file from at → StandsAt file bytes.now at → 0 < length bytes.now → result ≡ true → out.new ≡ row_of (length out.new) (drop from file) }
-    ensures end { (file : List ℕ) (from at : ℕ) → HasRead state.old out.old file from at → length file ≤ at → length bytes.now ≡ 0 → out.new ≡ row_of (length out.new) (drop from file) }
+    ensures more { (file : List ℕ) (from at : ℕ) → HasRead state.old out.old file from at → StandsAt file bytes.now at →
+        0 < length bytes.now → HasRead state.new out.new file from (at + length bytes.now) }
+    ensures line { (file : List ℕ) (from at : ℕ) → HasRead state.old out.old file from at → StandsAt file bytes.now at →
+        0 < length bytes.now → result ≡ true → out.new ≡ row_of (length out.new) (drop from file) }
+    ensures end { (file : List ℕ) (from at : ℕ) → HasRead state.old out.old file from at → length file ≤ at →
+        length bytes.now ≡ 0 → out.new ≡ row_of (length out.new) (drop from file) }
     ensures filled { state.new.filled ≤ length out.new }
     ensures size { length out.new ≡ length out.old }
 {
@@ -220,7 +234,8 @@ fn value_or_zero(text: &[u8]) -> i32
 // Puts a value into the row, where there is room.
 fn put_value(value: i32, filled: usize, out: &mut [i32]) -> usize
     requires { filled ≤ length out.old }
-    ensures row { (token : List ℕ) → value ≡ value_or_zero token → record { filled = result; out = out.new } ≡ put (record { filled = filled; out = out.old }) token }
+    ensures row { (token : List ℕ) → value ≡ value_or_zero token → record { filled = result; out = out.new }
+        ≡ put (record { filled = filled; out = out.old }) token }
     ensures room { result ≤ length out.new }
     ensures size { length out.new ≡ length out.old }
 {
@@ -235,7 +250,8 @@ fn put_value(value: i32, filled: usize, out: &mut [i32]) -> usize
 // Puts the value of a token into the row, where there is room.
 fn put(token: &[u8], filled: usize, out: &mut [i32]) -> usize
     requires { filled ≤ length out.old }
-    ensures row { record { filled = result; out = out.new } ≡ put (record { filled = filled; out = out.old }) token.now }
+    ensures row { record { filled = result; out = out.new } ≡ put (record { filled = filled; out = out.old })
+        token.now }
     ensures room { result ≤ length out.new }
     ensures size { length out.new ≡ length out.old }
 {
@@ -245,7 +261,8 @@ fn put(token: &[u8], filled: usize, out: &mut [i32]) -> usize
 // Puts the value of the open token into the row, where there is one and there is room.
 fn ended(held: &Open, filled: usize, out: &mut [i32]) -> usize
     requires { filled ≤ length out.old }
-    ensures row { record { filled = result; out = out.new } ≡ row_ended (record { held = held.now; row = record { filled = filled; out = out.old } }) }
+    ensures row { record { filled = result; out = out.new } ≡ row_ended
+        (record { held = held.now; row = record { filled = filled; out = out.old } }) }
     ensures room { result ≤ length out.new }
     ensures size { length out.new ≡ length out.old }
 {

@@ -1,5 +1,6 @@
 // The scanner of a grid's text.
-ghost use Rattle.std.specs.Prelude.{◌≡◌, ℕ, [], ◌∷◌, ◌++◌, List, Ok, Err, IfOk, length, take, get_or, true, false, ◌<◌, ◌≤◌, ◌+◌, ◌*◌};
+ghost use Rattle.std.specs.Prelude.{◌≡◌, ℕ, [], ◌∷◌, ◌++◌, List, Ok, Err, IfOk, length, take, get_or, true, false, ◌<◌};
+ghost use Rattle.std.specs.Prelude.{◌≤◌, ◌+◌, ◌*◌};
 ghost use Rattle.lists_and_answers.specs.Answers.{Gives};
 ghost use Rattle.ascii_grid.specs.Faults.{IsMemory};
 ghost use Rattle.ascii_grid.specs.Grid.{grid_head, head_with, IsHead};
@@ -7,7 +8,8 @@ ghost use Rattle.ascii_grid.specs.Tokens.{is_white};
 ghost use Rattle.ascii_grid.specs.Values.{has_value};
 ghost use Rattle.ascii_grid.specs.declared.head_parts.Stage.TheVariants.{AtKey};
 ghost use Rattle.lists_and_answers.specs.Places.{StandsAt};
-ghost use Rattle.ascii_grid.specs.Scan.{State, then_byte, fed, start, Reaches, answer_of, grid_after, IsAt, with_read, ended, body_closed, closed, Reads, IsFaultOf, HasScanned, IsFaultIn};
+ghost use Rattle.ascii_grid.specs.Scan.{State, then_byte, fed, start, Reaches, answer_of, grid_after, IsAt, with_read};
+ghost use Rattle.ascii_grid.specs.Scan.{ended, body_closed, closed, Reads, IsFaultOf, HasScanned, IsFaultIn};
 
 use crate::faults::GridFault;
 use crate::head::GridHead;
@@ -228,7 +230,8 @@ impl Scanner {
     #[tactic(auto, using(crate::proofs::Whole::reads_more))]
     fn read(&mut self, bytes: &[u8]) -> Result<(), GridFault>
         ensures reads { (text : List ℕ) → Reads self.old text → Reads self.new (text ++ bytes.now) }
-        ensures fault { (text : List ℕ) (f : GridFault) → Reads self.old text → result ≡ Err f → IsFaultOf f (text ++ bytes.now) }
+        ensures fault { (text : List ℕ) (f : GridFault) → Reads self.old text → result ≡ Err f →
+            IsFaultOf f (text ++ bytes.now) }
         ensures stays { (f : GridFault) → self.old ≡ Err f → self.new ≡ Err f }
         ensures answer { result ≡ answer_of self.new }
     {
@@ -246,12 +249,15 @@ impl Scanner {
         // what was fed goes on with these bytes
         ensures reads { (text : List ℕ) → Reads self.old text → Reads self.new (text ++ bytes.now) }
         // a fault is that of all bytes, and stays
-        ensures fault { (text : List ℕ) (f : GridFault) → Reads self.old text → result ≡ Err f → IsFaultOf f (text ++ bytes.now) }
+        ensures fault { (text : List ℕ) (f : GridFault) → Reads self.old text → result ≡ Err f →
+            IsFaultOf f (text ++ bytes.now) }
         ensures stays { (f : GridFault) → self.old ≡ Err f → self.new ≡ Err f }
         ensures answer { result ≡ answer_of self.new }
         // the pieces of a file
-        ensures more { (file : List ℕ) (at : ℕ) → HasScanned self.old file at → StandsAt file bytes.now at → HasScanned self.new file (at + length bytes.now) }
-        ensures refused { (file : List ℕ) (at : ℕ) (f : GridFault) → HasScanned self.old file at → StandsAt file bytes.now at → result ≡ Err f → IsFaultIn f file }
+        ensures more { (file : List ℕ) (at : ℕ) → HasScanned self.old file at → StandsAt file bytes.now at →
+            HasScanned self.new file (at + length bytes.now) }
+        ensures refused { (file : List ℕ) (at : ℕ) (f : GridFault) → HasScanned self.old file at →
+            StandsAt file bytes.now at → result ≡ Err f → IsFaultIn f file }
     {
         self.read(bytes)
     }
@@ -274,7 +280,8 @@ impl Scanner {
     /// fault.
     pub fn finish(self) -> Result<GridHead, GridFault>
         ensures grid { (text : List ℕ) → Reads self text → Gives IsMemory (λ h. h) result (grid_head text) }
-        ensures whole { (file : List ℕ) (at : ℕ) → HasScanned self file at → length file ≤ at → Gives IsMemory (λ h. h) result (grid_head file) }
+        ensures whole { (file : List ℕ) (at : ℕ) → HasScanned self file at → length file ≤ at →
+            Gives IsMemory (λ h. h) result (grid_head file) }
         ensures kept { IfOk result IsHead }
         ensures stays { (f : GridFault) → self ≡ Err f → result ≡ Err f }
     {
@@ -285,7 +292,8 @@ impl Scanner {
 // Reads the token that is open, where one is.
 fn ended(stage: &mut Stage, rows: &mut Starts, held: &Open) -> Result<(), GridFault>
     requires { IsAt stage.old rows.old }
-    ensures read { Reaches (with_read result (record { stage = stage.new; rows = rows.new })) (ended (record { held = held.now; read = record { stage = stage.old; rows = rows.old } })) }
+    ensures read { Reaches (with_read result (record { stage = stage.new; rows = rows.new }))
+        (ended (record { held = held.now; read = record { stage = stage.old; rows = rows.old } })) }
     ensures keeps { IsAt stage.new rows.new }
 {
     if held.is_open() {

@@ -1,5 +1,6 @@
 // What a token changes.
-ghost use Rattle.std.specs.Prelude.{◌≡◌, ℕ, true, List, ◌≤◌, ◌<◌, ◌+◌, ◌*◌, ◌^◌, ◌++◌, ◌==◌, [], ◌∷◌, if◌then◌else◌, IfOk, IfErr, OnOk, OnErr};
+ghost use Rattle.std.specs.Prelude.{◌≡◌, ℕ, true, List, ◌≤◌, ◌<◌, ◌+◌, ◌*◌, ◌^◌, ◌++◌, ◌==◌, [], ◌∷◌, if◌then◌else◌};
+ghost use Rattle.std.specs.Prelude.{IfOk, IfErr, OnOk, OnErr};
 ghost use Rattle.ascii_grid.specs.Tokens.{Token};
 ghost use Rattle.ascii_grid.specs.Values.{has_value};
 ghost use Rattle.ascii_grid.specs.Faults.{IsMemory};
@@ -55,7 +56,9 @@ fn add_value(
     text: &[u8],
 ) -> Result<(), GridFault>
     requires { IsBody shape.now n.old x.old rows.old }
-    ensures read { Reaches (with_read result (record { stage = InBody shape.now n.new x.new; rows = rows.new })) (add_token (record { stage = InBody shape.now n.old x.old; rows = rows.old }) (record { at = at; text = text.now })) }
+    ensures read { Reaches (with_read result (record { stage = InBody shape.now n.new x.new; rows = rows.new }))
+        (add_token (record { stage = InBody shape.now n.old x.old; rows = rows.old })
+        (record { at = at; text = text.now })) }
     ensures keeps { IsBody shape.now n.new x.new rows.new }
     ensures same { OnErr result (rows.new ≡ rows.old) }
 {
@@ -79,7 +82,10 @@ fn count_value(
     at: u64,
 ) -> Result<(), GridFault>
     requires { IsBody shape.now n.old x.old rows.old }
-    ensures read { (text : List ℕ) → has_value text ≡ true → Reaches (with_read result (record { stage = InBody shape.now n.new x.new; rows = rows.new })) (add_token (record { stage = InBody shape.now n.old x.old; rows = rows.old }) (record { at = at; text = text })) }
+    ensures read { (text : List ℕ) → has_value text ≡ true →
+        Reaches (with_read result (record { stage = InBody shape.now n.new x.new; rows = rows.new }))
+        (add_token (record { stage = InBody shape.now n.old x.old; rows = rows.old })
+        (record { at = at; text = text })) }
     ensures keeps { IsBody shape.now n.new x.new rows.new }
     ensures same { OnErr result (rows.new ≡ rows.old) }
 {
@@ -96,7 +102,8 @@ fn count_value(
 #[tactic(auto, unfolding(crate::specs::Scan::step), using(crate::proofs::Bodies::body_begins))]
 fn after_key(found: Found, rows: &mut Starts, at: u64, text: &[u8]) -> Result<Stage, GridFault>
     requires { rows.old ≡ [] }
-    ensures read { Reaches (with_rows result rows.new) (add_token (record { stage = AtKey found; rows = rows.old }) (record { at = at; text = text.now })) }
+    ensures read { Reaches (with_rows result rows.new) (add_token (record { stage = AtKey found; rows = rows.old })
+        (record { at = at; text = text.now })) }
     ensures keeps { IfOk result (λ stage. IsAt stage rows.new) }
     ensures same { IfErr result (λ _. rows.new ≡ rows.old) }
 {
@@ -117,7 +124,8 @@ fn after_key(found: Found, rows: &mut Starts, at: u64, text: &[u8]) -> Result<St
 #[tactic(auto, unfolding(crate::specs::Scan::step))]
 fn add_any(stage: &mut Stage, rows: &mut Starts, at: u64, text: &[u8]) -> Result<(), GridFault>
     requires { IsAt stage.old rows.old }
-    ensures read { Reaches (with_read result (record { stage = stage.new; rows = rows.new })) (add_token (record { stage = stage.old; rows = rows.old }) (record { at = at; text = text.now })) }
+    ensures read { Reaches (with_read result (record { stage = stage.new; rows = rows.new }))
+        (add_token (record { stage = stage.old; rows = rows.old }) (record { at = at; text = text.now })) }
     ensures keeps { IsAt stage.new rows.new }
 {
     match stage {
@@ -142,7 +150,8 @@ pub fn add_token(
     text: &[u8],
 ) -> Result<(), GridFault>
     requires { IsAt stage.old rows.old }
-    ensures read { Reaches (with_read result (record { stage = stage.new; rows = rows.new })) (add_token (record { stage = stage.old; rows = rows.old }) (record { at = at; text = text.now })) }
+    ensures read { Reaches (with_read result (record { stage = stage.new; rows = rows.new }))
+        (add_token (record { stage = stage.old; rows = rows.old }) (record { at = at; text = text.now })) }
     ensures keeps { IsAt stage.new rows.new }
 {
     if let Stage::InBody(shape, n, x) = stage {
@@ -161,7 +170,8 @@ pub fn add_number(
 ) -> Result<(), GridFault>
     requires at { IsAt stage.old rows.old }
     requires value { has_value text.now ≡ true }
-    ensures read { Reaches (with_read result (record { stage = stage.new; rows = rows.new })) (add_token (record { stage = stage.old; rows = rows.old }) (record { at = at; text = text.now })) }
+    ensures read { Reaches (with_read result (record { stage = stage.new; rows = rows.new }))
+        (add_token (record { stage = stage.old; rows = rows.old }) (record { at = at; text = text.now })) }
     ensures keeps { IsAt stage.new rows.new }
 {
     if let Stage::InBody(shape, n, x) = stage {

@@ -1,9 +1,11 @@
 // What a token says.
-ghost use Rattle.std.specs.Prelude.{◌≡◌, ◌≤◌, ◌<◌, ℕ, ℤ, pos, ◌^◌, true, false, length, take, get_or, IfSome, ◌+◌, ◌-◌, ◌*◌, ◌==◌, min, Some, None, if◌then◌else◌};
+ghost use Rattle.std.specs.Prelude.{◌≡◌, ◌≤◌, ◌<◌, ℕ, ℤ, pos, ◌^◌, true, false, length, take, get_or, IfSome, ◌+◌, ◌-◌};
+ghost use Rattle.std.specs.Prelude.{◌*◌, ◌==◌, min, Some, None, if◌then◌else◌};
 ghost use Rattle.std.specs.List.{list_all};
 ghost use Rattle.std.specs.Char.{is_ascii_digit};
 ghost use Rattle.geotransform.specs.Decimal.{IsRead, number, signed, ticks_of};
-ghost use Rattle.ascii_grid.specs.Values.{is_body_start, side_in, coordinate_in, step_in, when_value, nodata_in, is_whole_end, value_in, is_value, has_value};
+ghost use Rattle.ascii_grid.specs.Values.{is_body_start, side_in, coordinate_in, step_in, when_value, nodata_in};
+ghost use Rattle.ascii_grid.specs.Values.{is_whole_end, value_in, is_value, has_value};
 ghost use Rattle.ascii_grid.specs.Tokens.{is_white};
 ghost use Rattle.ascii_grid.specs.Row.{value_or_zero};
 
@@ -162,7 +164,8 @@ fn capped(digits: &[u8]) -> u64
 
 // The number with this sign and these digits, where it is one of the band.
 fn signed_value(negative: bool, digits: &[u8]) -> Option<i32>
-    ensures { result ≡ (if is_value (signed negative (number digits.now)) then Some (signed negative (number digits.now)) else None) }
+    ensures { result ≡ (if is_value (signed negative (number digits.now)) then Some
+        (signed negative (number digits.now)) else None) }
 {
     let n = capped(digits) as i64;
     if negative && n <= 2_147_483_648 {

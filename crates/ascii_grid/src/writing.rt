@@ -6,7 +6,8 @@ ghost use Rattle.std.specs.Fmt.{decimal, signed_decimal};
 ghost use Rattle.lists_and_answers.specs.Growth.{KeepsFront};
 ghost use Rattle.geotransform.specs.Geo.{IsRaster};
 ghost use Rattle.geotransform.specs.Print.{short_text};
-ghost use Rattle.ascii_grid.specs.Text.{Adds, more_text, row_text, line, size_lines, edge_lines, step_lines, nodata_line, head_text};
+ghost use Rattle.ascii_grid.specs.Text.{Adds, more_text, row_text, line, size_lines, edge_lines, step_lines};
+ghost use Rattle.ascii_grid.specs.Text.{nodata_line, head_text};
 
 use crate::placing::{Placing, placing_of};
 use geotransform::{GeoTransform, Sample, Size, Ticks, print_short};
@@ -115,7 +116,8 @@ fn push_edges(placing: &Placing, out: &mut Vec<u8>) -> Result<(), AllocError>
 
 #[tactic(auto, using(crate::proofs::Writes::two_added, crate::proofs::Writes::keeps_added))]
 fn push_two_steps(placing: &Placing, out: &mut Vec<u8>) -> Result<(), AllocError>
-    ensures ok { OnOk result (Adds out.old.items out.new.items (line (codes "dx") (short_text placing.now.width) ++ line (codes "dy") (short_text placing.now.height))) }
+    ensures ok { OnOk result (Adds out.old.items out.new.items (line (codes "dx") (short_text placing.now.width)
+        ++ line (codes "dy") (short_text placing.now.height))) }
     ensures err { OnErr result (KeepsFront out.old.items out.new.items) }
 {
     push_ticks(b"dx           ", placing.width, out)?;
@@ -162,7 +164,8 @@ pub fn write_head(
     out: &mut Vec<u8>,
 ) -> Result<(), AllocError>
     requires size { IsRaster size }
-    ensures ok { OnOk result (out.new.items ≡ out.old.items ++ head_text size (option_map (λ g. g.now) geo.entry) nodata) }
+    ensures ok { OnOk result (out.new.items ≡ out.old.items ++ head_text size (option_map (λ g. g.now) geo.entry)
+        nodata) }
     ensures err { OnErr result (KeepsFront out.old.items out.new.items) }
 {
     let placing = placing_of(size, geo);

@@ -47,4 +47,5 @@ HasSample (Ascii h) band x y = (x < h.size.w) × (y < h.size.h)
 
 -- the sample is in the type of a band of a dataset
 abbrev pub IsOfType : Dataset → ℕ → ℤ → Type 0
-IsOfType d band sample = (kind : PixelType) → option_map (λ b. b.kind) (slice_get d.head.bands band) ≡ Some kind → is_in kind sample ≡ true
+IsOfType d band sample = (kind : PixelType) → option_map (λ b. b.kind) (slice_get d.head.bands band) ≡ Some kind →
+    is_in kind sample ≡ true

@@ -1,5 +1,6 @@
 // A block of samples.
-ghost use Rattle.std.specs.Prelude.{◌≡◌, ◌≤◌, ◌<◌, ◌+◌, ◌*◌, ◌^◌, ℕ, List, length, map, replicate, pos, true, IfOk, get_or, slice_index_or, slice_set};
+ghost use Rattle.std.specs.Prelude.{◌≡◌, ◌≤◌, ◌<◌, ◌+◌, ◌*◌, ◌^◌, ℕ, List, length, map, replicate, pos, true, IfOk};
+ghost use Rattle.std.specs.Prelude.{get_or, slice_index_or, slice_set};
 ghost use Rattle.std.specs.List.{range_with_len, All};
 ghost use Rattle.geotransform.specs.Types.{is_in, clamp};
 ghost use Rattle.geotransform.specs.declared.types.PixelType.TheVariants.{Int16, Int32};
@@ -229,7 +230,8 @@ impl Block {
         requires kind { self.old.kind ≡ head.now.kind }
         requires holds { Holds head.now bytes.now count }
         requires within { at + count ≤ length self.old.samples }
-        ensures samples { self.new ≡ block_view self.old.kind (written at (map (sample_of head.now bytes.now) (range_with_len 0 count)) self.old.samples) }
+        ensures samples { self.new ≡ block_view self.old.kind (written at
+            (map (sample_of head.now bytes.now) (range_with_len 0 count)) self.old.samples) }
     {
         let at = at as usize;
         let count = count as usize;
@@ -242,8 +244,10 @@ impl Block {
         requires kind { self.now.kind ≡ head.now.kind }
         requires holds { Holds head.now bytes.old count }
         requires within { at + count ≤ length self.now.samples }
-        ensures bytes { (i : ℕ) → i < count → bytes_at head.now bytes.new i ≡ sample_bytes head.now (get_or (run_of at count self.now.samples) i (pos 0)) }
-        ensures samples { map (sample_of head.now bytes.new) (range_with_len 0 count) ≡ run_of at count self.now.samples }
+        ensures bytes { (i : ℕ) → i < count → bytes_at head.now bytes.new i ≡ sample_bytes head.now
+            (get_or (run_of at count self.now.samples) i (pos 0)) }
+        ensures samples { map (sample_of head.now bytes.new) (range_with_len 0 count) ≡ run_of at count
+            self.now.samples }
         ensures others { (j : ℕ) → IsBetween head.now count j → get_or bytes.new j 0 ≡ get_or bytes.old j 0 }
     {
         let at = at as usize;
@@ -256,10 +260,12 @@ impl Block {
         requires kind { self.old.kind ≡ Int16 }
         requires len { length bytes.now ≡ record_len head.now }
         requires points { length self.old.samples ≡ head.now.points }
-        ensures samples { self.new ≡ block_view Int16 (map (elevation_in head.now bytes.now) (range_with_len 0 head.now.points)) }
+        ensures samples { self.new ≡ block_view Int16 (map (elevation_in head.now bytes.now)
+            (range_with_len 0 head.now.points)) }
         ensures count { length self.new.samples ≡ head.now.points }
         // bytes that stand in a file at a line's place are that column of the file
-        ensures file { (file : List ℕ) (x : ℕ) → StandsAt file bytes.now (record_of head.now x) → self.new.samples ≡ column_of head.now file x }
+        ensures file { (file : List ℕ) (x : ℕ) → StandsAt file bytes.now (record_of head.now x) →
+            self.new.samples ≡ column_of head.now file x }
     {
         match &mut self.cells {
             Cells::Ints16(packed) => return packed.decode_record(head, bytes),
@@ -274,7 +280,8 @@ impl Block {
         ensures samples { self.new ≡ block_view Int16 (row_of bytes.now (length self.old.samples)) }
         ensures count { length self.new.samples ≡ length self.old.samples }
         // bytes that stand in a file are the samples of their line from there on
-        ensures file { (file : List ℕ) (side x y : ℕ) → StandsAt file bytes.now (2 * (y * side + x)) → self.new.samples ≡ line_of side file x y (length self.old.samples) }
+        ensures file { (file : List ℕ) (side x y : ℕ) → StandsAt file bytes.now (2 * (y * side + x)) →
+            self.new.samples ≡ line_of side file x y (length self.old.samples) }
     {
         match &mut self.cells {
             Cells::Ints16(packed) => return packed.decode_items(bytes),

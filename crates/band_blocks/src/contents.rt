@@ -37,13 +37,15 @@ pub(crate) fn read_block<F: Folder>(
 ) -> Result<Block, LoadFault>
     requires part { IsPart driver.now band rect }
     requires long { IsLongEnough driver.now (F.file_len file.old) }
-    ensures told { (b : List ℕ) → F.file_bytes file.old ≡ Some b → IsHeadOf driver.now b → IfOk result (λ block. block.samples ≡ row_by_row (sample_in driver.now b band) rect) }
+    ensures told { (b : List ℕ) → F.file_bytes file.old ≡ Some b → IsHeadOf driver.now b →
+        IfOk result (λ block. block.samples ≡ row_by_row (sample_in driver.now b band) rect) }
     ensures covers { IfOk result (Covers rect (kind_of driver.now)) }
     ensures unchanged { IfErr result IsUnchanged }
     ensures bytes { F.file_bytes file.new ≡ F.file_bytes file.old }
     ensures len { F.file_len file.new ≡ F.file_len file.old }
     ensures names { F.names folder.new ≡ F.names folder.old }
-    ensures reads { F.read_calls folder.new ≤ F.read_calls folder.old + calls_in driver.now (F.file_len file.old) rect.y }
+    ensures reads { F.read_calls folder.new ≤ F.read_calls folder.old + calls_in driver.now (F.file_len file.old)
+        rect.y }
     ensures write_calls { F.write_calls folder.new ≡ F.write_calls folder.old }
     ensures cause { HasCause LoadFault.FolderFault (F.faults folder.old) (F.faults folder.new) result }
 {
@@ -106,7 +108,8 @@ fn place_of(driver: &DriverHead, pixel: PixelKey) -> u64
 fn sample_of(driver: &DriverHead, bytes: &[u8]) -> Sample
     requires width { length bytes.now ≡ width_of driver.now }
     requires places { HasPlaces driver.now }
-    ensures file { (file : List ℕ) (band x y : ℕ) → StandsAt file bytes.now (place_of driver.now band x y) → result ≡ sample_in driver.now file band x y }
+    ensures file { (file : List ℕ) (band x y : ℕ) → StandsAt file bytes.now (place_of driver.now band x y) →
+        result ≡ sample_in driver.now file band x y }
     ensures range { is_in (kind_of driver.now) result ≡ true }
 {
     match driver {
@@ -127,7 +130,8 @@ pub(crate) fn read_sample<F: Folder>(
     requires sample { HasSample driver.now pixel.band pixel.x pixel.y }
     requires places { HasPlaces driver.now }
     requires long { IsLongEnough driver.now (F.file_len file.old) }
-    ensures told { (b : List ℕ) → F.file_bytes file.old ≡ Some b → IfOk result (λ v. v ≡ sample_in driver.now b pixel.band pixel.x pixel.y) }
+    ensures told { (b : List ℕ) → F.file_bytes file.old ≡ Some b →
+        IfOk result (λ v. v ≡ sample_in driver.now b pixel.band pixel.x pixel.y) }
     ensures range { IfOk result (λ v. is_in (kind_of driver.now) v ≡ true) }
     ensures bytes { F.file_bytes file.new ≡ F.file_bytes file.old }
     ensures len { F.file_len file.new ≡ F.file_len file.old }

@@ -1,19 +1,17 @@
-// The elevations of records and the samples of tiles, read straight into cells of 16 bits and written from them.
+// The elevations of records and the samples of tiles, read straight into cells of 16 bits, and samples written from them.
 ghost use Rattle.std.specs.Prelude.{◌≡◌, ◌<◌, ◌≤◌, ◌+◌, ◌*◌, ℕ, List, length, map, true};
-ghost use Rattle.std.specs.List.{range_with_len, All};
-ghost use Rattle.byteorder.specs.Endian.{big_bytes};
+ghost use Rattle.std.specs.List.{range_with_len};
 ghost use Rattle.geotransform.specs.Types.{is_in};
 ghost use Rattle.geotransform.specs.declared.types.PixelType.TheVariants.{Int16};
 ghost use Rattle.dted_records.specs.Head as dted;
 ghost use Rattle.dted_records.specs.Places.{record_len, record_of};
 ghost use Rattle.dted_records.specs.Records.{dted_at, elevation, elevation_in, point_of, two_at};
-ghost use Rattle.dted_records.specs.Written.{IsElevation, bits_of, elevation_bytes, front_bytes, points_bytes, record_bytes, summed_bytes};
 ghost use Rattle.hgt_tiles.specs.Samples.{hgt_at, item_of, row_bytes, row_of, sample_bytes};
 ghost use Rattle.lists_and_answers.specs.Places.{StandsAt};
 ghost use Rattle.band_blocks.specs.Blocks.{AreIn};
 
 use byteorder::{BigEndian, ByteOrder};
-use dted_records::{DtedHead, record_sum};
+use dted_records::DtedHead;
 
 // The elevation that 16 bits give by sign and magnitude.
 fn elevation(bits: u16) -> i16
@@ -49,7 +47,8 @@ fn elevation_at(head: &DtedHead, bytes: &[u8], y: usize) -> i16
 // The elevation that two bytes give, which is that of a column and a line where they stand at its place.
 pub(crate) fn single_elevation(bytes: &[u8]) -> i16
     requires two { length bytes.now ≡ 2 }
-    ensures file { (h : dted.Head) (file : List ℕ) (x y : ℕ) → StandsAt file bytes.now (record_of h x + point_of h y) → result ≡ dted_at h file x y }
+    ensures file { (h : dted.Head) (file : List ℕ) (x y : ℕ) → StandsAt file bytes.now (record_of h x + point_of h y) →
+        result ≡ dted_at h file x y }
     ensures range { is_in Int16 result ≡ true }
 {
     elevation(two_at(bytes, 0))
@@ -80,7 +79,8 @@ fn item_at(bytes: &[u8], i: usize) -> i16
 // The sample that two bytes give, which is that of a column and a line where they stand at its place.
 pub(crate) fn single_item(bytes: &[u8]) -> i16
     requires two { length bytes.now ≡ 2 }
-    ensures file { (side : ℕ) (file : List ℕ) (x y : ℕ) → StandsAt file bytes.now (2 * (y * side + x)) → result ≡ hgt_at side file x y }
+    ensures file { (side : ℕ) (file : List ℕ) (x y : ℕ) → StandsAt file bytes.now (2 * (y * side + x)) →
+        result ≡ hgt_at side file x y }
     ensures range { is_in Int16 result ≡ true }
 {
     item_at(bytes, 0)
@@ -114,80 +114,4 @@ pub(crate) fn encode_items(cells: &[i16], out: &mut [u8])
         let at = i * 2;
         write_item(cells[i], &mut out[at..at + 2]);
     }
-}
-
-// The 16 bits that write an elevation by sign and magnitude.
-fn bits_of(v: i16) -> u16
-    requires { IsElevation v }
-    ensures { result ≡ bits_of v }
-{
-    if v >= 0 {
-        v as u16
-    } else {
-        32_768 + v.unsigned_abs()
-    }
-}
-
-// Writes an elevation over two bytes.
-fn write_elevation(v: i16, bytes: &mut [u8])
-    requires range { IsElevation v }
-    requires len { length bytes.old ≡ 2 }
-    ensures { bytes.new ≡ elevation_bytes v }
-{
-    BigEndian::write_u16(bytes, bits_of(v));
-}
-
-// Writes elevations, which run from north to south, as points, which run from south to north.
-fn encode_points(cells: &[i16], out: &mut [u8])
-    requires len { length out.old ≡ 2 * length cells.now }
-    requires range { All IsElevation cells.now }
-    ensures { out.new ≡ points_bytes cells.now }
-{
-    for i in 0..cells.len() {
-        let at = i * 2;
-        write_elevation(cells[cells.len() - 1 - i], &mut out[at..at + 2]);
-    }
-}
-
-// What stands before the points of a line.
-fn front_bytes(line: u32) -> [u8; 8]
-    requires { line < 9999 }
-    ensures { result ≡ front_bytes line }
-{
-    let high = (line / 256 % 256) as u8;
-    let low = (line % 256) as u8;
-    [170, (line / 65_536 % 256) as u8, high, low, high, low, 0, 0]
-}
-
-// Writes all of a record but its sum.
-fn write_summed(line: u32, cells: &[i16], out: &mut [u8])
-    requires line { line < 9999 }
-    requires len { length out.old ≡ 8 + 2 * length cells.now }
-    requires range { All IsElevation cells.now }
-    ensures { out.new ≡ summed_bytes line cells.now }
-{
-    let (front, points) = out.split_at_mut(8);
-    front.copy_from_slice(&front_bytes(line));
-    encode_points(cells, points);
-}
-
-// Writes the sum of some bytes over four bytes.
-fn write_sum(total: u32, bytes: &mut [u8])
-    requires { length bytes.old ≡ 4 }
-    ensures { bytes.new ≡ big_bytes 4 total }
-{
-    BigEndian::write_u32(bytes, total);
-}
-
-// Writes the record of a line whose elevations run from north to south.
-pub(crate) fn encode_elevations(line: u32, cells: &[i16], out: &mut [u8])
-    requires line { line < 9999 }
-    requires few { length cells.now ≤ 9999 }
-    requires len { length out.old ≡ 12 + 2 * length cells.now }
-    requires range { All IsElevation cells.now }
-    ensures bytes { out.new ≡ record_bytes line cells.now }
-{
-    let (front, last) = out.split_at_mut(8 + 2 * cells.len());
-    write_summed(line, cells, front);
-    write_sum(record_sum(front), last);
 }

@@ -1,5 +1,6 @@
 // Samples of one type, packed in its cells.
-ghost use Rattle.std.specs.Prelude.{◌≡◌, ◌≤◌, ◌<◌, ◌+◌, ◌*◌, ◌^◌, ℕ, List, IfOk, length, replicate, map, pos, true, get_or, slice_index_or, slice_set};
+ghost use Rattle.std.specs.Prelude.{◌≡◌, ◌≤◌, ◌<◌, ◌+◌, ◌*◌, ◌^◌, ℕ, List, IfOk, length, replicate, map, pos, true};
+ghost use Rattle.std.specs.Prelude.{get_or, slice_index_or, slice_set};
 ghost use Rattle.std.specs.List.{range_with_len, All};
 ghost use Rattle.geotransform.specs.Types.{is_in, clamp};
 ghost use Rattle.interleaved_raw.specs.Raw.{run_of as sample_of, bytes_at, sample_bytes, Holds, IsBetween};
@@ -15,8 +16,8 @@ use crate::cell::{
     Cell, clamp_cells, copy_cells, decode_cells, encode_cells, scatter_cells, set_cell,
     spread_cells, write_cells,
 };
-use crate::int16::{decode_elevations, decode_items, encode_elevations, encode_items};
-use dted_records::DtedHead;
+use crate::int16::{decode_elevations, decode_items, encode_items};
+use dted_records::{DtedHead, encode_record};
 use esri_hdr::RawHead;
 use geotransform::{PixelType, Sample};
 use std::alloc::{AllocError, Global};
@@ -164,7 +165,8 @@ impl<T: Cell> Packed<T> {
         requires kind { T.kind ≡ head.now.kind }
         requires holds { Holds head.now bytes.old count }
         requires within { at + count ≤ length self.now }
-        ensures bytes { (i : ℕ) → i < count → bytes_at head.now bytes.new i ≡ sample_bytes head.now (get_or (run_of at count self.now) i (pos 0)) }
+        ensures bytes { (i : ℕ) → i < count → bytes_at head.now bytes.new i ≡ sample_bytes head.now
+            (get_or (run_of at count self.now) i (pos 0)) }
         ensures samples { map (sample_of head.now bytes.new) (range_with_len 0 count) ≡ run_of at count self.now }
         ensures others { (j : ℕ) → IsBetween head.now count j → get_or bytes.new j 0 ≡ get_or bytes.old j 0 }
     {
@@ -181,7 +183,8 @@ impl Packed<i16> {
         requires points { length self.old ≡ head.now.points }
         ensures samples { self.new ≡ map (elevation_in head.now bytes.now) (range_with_len 0 head.now.points) }
         ensures count { length self.new ≡ head.now.points }
-        ensures file { (file : List ℕ) (x : ℕ) → StandsAt file bytes.now (record_of head.now x) → self.new ≡ column_of head.now file x }
+        ensures file { (file : List ℕ) (x : ℕ) → StandsAt file bytes.now (record_of head.now x) →
+            self.new ≡ column_of head.now file x }
     {
         decode_elevations(head, bytes, &mut self.cells);
     }
@@ -191,7 +194,8 @@ impl Packed<i16> {
         requires two { length bytes.now ≡ 2 * length self.old }
         ensures samples { self.new ≡ row_of bytes.now (length self.old) }
         ensures count { length self.new ≡ length self.old }
-        ensures file { (file : List ℕ) (side x y : ℕ) → StandsAt file bytes.now (2 * (y * side + x)) → self.new ≡ line_of side file x y (length self.old) }
+        ensures file { (file : List ℕ) (side x y : ℕ) → StandsAt file bytes.now (2 * (y * side + x)) →
+            self.new ≡ line_of side file x y (length self.old) }
     {
         decode_items(bytes, &mut self.cells);
     }
@@ -212,6 +216,6 @@ impl Packed<i16> {
         requires range { All IsElevation self.now }
         ensures bytes { bytes.new ≡ record_bytes line self.now }
     {
-        encode_elevations(line, &self.cells, bytes);
+        encode_record(line, &self.cells, bytes);
     }
 }

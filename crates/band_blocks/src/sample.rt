@@ -60,7 +60,8 @@ pub fn load_sample<F: Folder, L: Ledger>(
     requires pixel { IsPixelKey cat.now pixel }
     requires direct { (d : Dataset) → slice_get cat.now pixel.dataset ≡ Some d → IsDirect d.content }
     requires good { AreGood F.file_bytes F.file_len (F.names folder.old) cat.now files.old }
-    ensures told { (m : Files) → F.names folder.old ≡ Some m → IsWalked m cat.now → IfOk result (λ v. v ≡ pixel_of m cat.now pixel.dataset pixel.band pixel.x pixel.y) }
+    ensures told { (m : Files) → F.names folder.old ≡ Some m → IsWalked m cat.now →
+        IfOk result (λ v. v ≡ pixel_of m cat.now pixel.dataset pixel.band pixel.x pixel.y) }
     ensures typed { (d : Dataset) → slice_get cat.now pixel.dataset ≡ Some d → IfOk result (IsOfType d pixel.band) }
     ensures changed { (d : Dataset) → slice_get cat.now pixel.dataset ≡ Some d → IfErr result (TellsChange d) }
     ensures never { WhereTold F.Folder folder.old (λ m. IsWalked m cat.now → IfErr result IsUnchanged) }

@@ -1,5 +1,6 @@
 -- What a contract sees of a pool: its entries, the most recently used first, and how many there may be.
-use Rattle.std.specs.Prelude.{ℕ, ℤ, ◌-◌, ◌≤◌, ◌<◌, List, [], ◌∷◌, length, take, Bool, true, Option, Some, None, slice_get, cond, option_map, is_some}
+use Rattle.std.specs.Prelude.{ℕ, ℤ, ◌-◌, ◌≤◌, ◌<◌, List, [], ◌∷◌, length, take, Bool, true, Option, Some, None}
+use Rattle.std.specs.Prelude.{slice_get, cond, option_map, is_some}
 use Rattle.std.specs.List.{IsDistinct}
 use Rattle.std.specs.Map.{lookup, lookup_entry, remove_entry, keys_of, set_value}
 use Rattle.std.specs.Option.{option_map_or, option_or}
@@ -32,11 +33,14 @@ held_at key entries = lookup (same_key key) entries
 
 -- the entry of the key, if it is held, goes to the front
 abbrev pub moved_to_front : BlockKey → List (BlockKey × Entry) → List (BlockKey × Entry)
-moved_to_front key entries = option_map_or (λ e. e ∷ remove_entry (same_key key) entries) (lookup_entry (same_key key) entries) entries
+moved_to_front key entries =
+    option_map_or (λ e. e ∷ remove_entry (same_key key) entries) (lookup_entry (same_key key) entries) entries
 
--- a held key gets the entry and goes to the front; a new key goes to the front, and into a full pool it drops the last entry
+-- a held key gets the entry and goes to the front; a new key goes to the front, and into a full pool it drops the last
+-- entry
 abbrev pub admitted : ℕ → BlockKey → Entry → List (BlockKey × Entry) → List (BlockKey × Entry)
-admitted capacity key entry entries = option_map_or (λ e. (e.0, entry) ∷ remove_entry (same_key key) entries) (lookup_entry (same_key key) entries) ((key, entry) ∷ take (capacity - 1) entries)
+admitted capacity key entry entries = option_map_or (λ e. (e.0, entry) ∷ remove_entry (same_key key) entries)
+    (lookup_entry (same_key key) entries) ((key, entry) ∷ take (capacity - 1) entries)
 
 -- the entry that a key drops: none where the key is held, else the last of a full pool
 abbrev pub dropped : ℕ → BlockKey → List (BlockKey × Entry) → Option (BlockKey × Entry)
@@ -63,7 +67,15 @@ pub record Taken : Type 0 where
 -- the last dirty entry
 abbrev pub last_dirty : List (BlockKey × Entry) → Option Taken
 last_dirty [] = None
-last_dirty (e ∷ es) = option_or (option_map (λ t. record { before = e ∷ t.before; key = t.key; block = t.block }) (last_dirty es)) (cond e.1.dirty (Some (record { before = []; key = e.0; block = e.1.block })) None)
+last_dirty (e ∷ es) = option_or (option_map (λ t. record {
+  before = e ∷ t.before;
+  key = t.key;
+  block = t.block;
+}) (last_dirty es)) (cond e.1.dirty (Some (record {
+  before = [];
+  key = e.0;
+  block = e.1.block;
+})) None)
 
 -- what stays once it was taken out, with the clean entries behind it: nothing where no entry is dirty
 abbrev pub left_by : Option Taken → List (BlockKey × Entry)

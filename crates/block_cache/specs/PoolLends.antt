@@ -9,4 +9,5 @@ use Rattle.block_cache.specs.contracts.pool.Pool.{the_row}
 
 -- it has these entries, and the capacity that it had
 abbrev pub ends_as : MutBor PoolView → List (BlockKey × Entry) → Fml
-ends_as pool entries = follows_so the_row the_row pool.ghost_name none (λ _ _. ⊤) (λ n. n ≡ pool_view entries pool.now.capacity)
+ends_as pool entries =
+    follows_so the_row the_row pool.ghost_name none (λ _ _. ⊤) (λ n. n ≡ pool_view entries pool.now.capacity)

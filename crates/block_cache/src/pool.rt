@@ -1,8 +1,10 @@
-ghost use Rattle.std.specs.Prelude.{◌≡◌, ◌≤◌, ◌<◌, ◌-◌, ◌+◌, ◌*◌, ℕ, [], length, Some, None, true, IfOk, OnOk, OnErr, IfErr, IfSome, IsSome, IsOk, is_some, option_map, slice_get};
+ghost use Rattle.std.specs.Prelude.{◌≡◌, ◌≤◌, ◌<◌, ◌-◌, ◌+◌, ◌*◌, ℕ, [], length, Some, None, true, IfOk, OnOk, OnErr};
+ghost use Rattle.std.specs.Prelude.{IfErr, IfSome, IsSome, IsOk, is_some, option_map, slice_get};
 ghost use Rattle.std.specs.Borrow.{sem};
 ghost use Rattle.std.specs.Option.{option_copied};
 ghost use Rattle.band_blocks.specs.Blocks.{AreIn};
-ghost use Rattle.block_cache.specs.Entries.{pool_view, entry_of, entry_dropped, patched_block, held_at, moved_to_front, admitted, dropped, patched, IsPool, last_dirty, left_by};
+ghost use Rattle.block_cache.specs.Entries.{pool_view, entry_of, entry_dropped, patched_block, held_at, moved_to_front};
+ghost use Rattle.block_cache.specs.Entries.{admitted, dropped, patched, IsPool, last_dirty, left_by};
 ghost use Rattle.block_cache.specs.PoolLends.{ends_as};
 ghost use Rattle.block_cache.specs.Spreads.{IsSpreadInto};
 
@@ -103,8 +105,10 @@ impl Pool {
         block: Block,
         dirty: bool,
     ) -> Result<Option<Evicted>, (Block, AllocError)>
-        ensures entries { OnOk result (self.new ≡ pool_view (admitted self.old.capacity key (entry_of block dirty) self.old.entries) self.old.capacity) }
-        ensures dropped { IfOk result (λ evicted. option_map entry_dropped evicted ≡ dropped self.old.capacity key self.old.entries) }
+        ensures entries { OnOk result (self.new ≡ pool_view (admitted self.old.capacity key (entry_of block dirty)
+            self.old.entries) self.old.capacity) }
+        ensures dropped { IfOk result (λ evicted. option_map entry_dropped evicted ≡ dropped self.old.capacity key
+            self.old.entries) }
         ensures held { IsSome (held_at key self.old.entries) → IsOk result }
         ensures refused { OnErr result (self.new ≡ self.old) }
         ensures handed_back { IfErr result (λ e. e.0 ≡ block) }
@@ -119,6 +123,7 @@ impl Pool {
             }
         };
         if held {
+            drop(replaced);
             return Ok(None);
         }
         match replaced {
@@ -134,11 +139,14 @@ impl Pool {
     /// from `at` on. The entry becomes dirty and the most recently used. `false` exactly where the
     /// key isn't held, and nothing changes then.
     pub fn patch(&mut self, key: &BlockKey, at: u32, samples: &[Sample]) -> bool
-        requires within { IfSome (held_at key.now self.old.entries) (λ e. at + length samples.now ≤ length e.block.samples) }
+        requires within { IfSome (held_at key.now self.old.entries) (λ e. at + length samples.now
+            ≤ length e.block.samples) }
         requires range { IfSome (held_at key.now self.old.entries) (λ e. AreIn e.block.kind samples.now) }
         ensures held { result ≡ is_some (held_at key.now self.old.entries) }
         ensures absent { held_at key.now self.old.entries ≡ None → self.new ≡ self.old }
-        ensures patched { IfSome (held_at key.now self.old.entries) (λ e. self.new ≡ pool_view (patched key.now (patched_block at samples.now e.block) self.old.entries) self.old.capacity) }
+        ensures patched { IfSome (held_at key.now self.old.entries) (λ e.
+            self.new ≡ pool_view (patched key.now (patched_block at samples.now e.block) self.old.entries)
+            self.old.capacity) }
         ensures valid { IsPool self.new }
     {
         match self.cache.get_mut(key) {
@@ -156,11 +164,13 @@ impl Pool {
     /// exactly where the key isn't held, and nothing changes then.
     pub fn patch_spread(&mut self, key: &BlockKey, at: u32, stride: u32, samples: &[Sample]) -> bool
         requires some { 0 < stride }
-        requires within { IfSome (held_at key.now self.old.entries) (λ e. (i : ℕ) → i < length samples.now → at + i * stride < length e.block.samples) }
+        requires within { IfSome (held_at key.now self.old.entries) (λ e. (i : ℕ) → i < length samples.now →
+            at + i * stride < length e.block.samples) }
         requires range { IfSome (held_at key.now self.old.entries) (λ e. AreIn e.block.kind samples.now) }
         ensures held { result ≡ is_some (held_at key.now self.old.entries) }
         ensures absent { held_at key.now self.old.entries ≡ None → self.new ≡ self.old }
-        ensures patched { IfSome (held_at key.now self.old.entries) (λ e. IsSpreadInto key.now at stride samples.now e self.old self.new) }
+        ensures patched { IfSome (held_at key.now self.old.entries) (λ e.
+            IsSpreadInto key.now at stride samples.now e self.old self.new) }
         ensures valid { IsPool self.new }
     {
         let Some(entry) = self.cache.get_mut(key) else {

@@ -10,75 +10,61 @@ use geotransform::{Ticks, read_decimal};
 use lists_and_answers::Items;
 use outside::Name;
 use std::alloc::{AllocError, Global};
-use std::test::*;
 
-/// The size of the pixels, where none is given.
-#[derive(Clone, Copy)]
-pub enum Grain {
-    Highest,
-    Lowest,
-    Average,
+// What may be asked for behind the name of the document, and how many words it takes: the numbers of the bands, of one
+// digit each; the size of the pixels, or their width and height; the least and the greatest places; the NODATA of the
+// sources and that of the bands, or `none`; a band for each input; and that no input is skipped.
+const OPTIONS: [(&str, usize); 9] = [
+    (" bands ", 2),
+    (" highest", 1),
+    (" lowest", 1),
+    (" steps ", 3),
+    (" extent ", 5),
+    (" source ", 2),
+    (" band ", 2),
+    (" separate", 1),
+    (" strictly", 1),
+];
+
+fn behind<'a>(text: &'a str, option: &str) -> Option<&'a str> {
+    match text.split_once(option) {
+        Some((_, rest)) => Some(rest),
+        None => None,
+    }
 }
 
-/// What is asked for as NODATA.
-#[derive(Clone, Copy)]
-pub enum Word {
-    Nothing,
-    Remove,
-    Number(i64),
+fn first_word(text: &str) -> Option<&str> {
+    let mut words = text.split_ascii_whitespace();
+    words.next()
 }
 
-/// What is asked of a mosaic.
-#[derive(Clone, Copy)]
-pub struct Ask {
-    /// The name of the document.
-    pub out: &'static str,
-    pub bands: &'static [u8],
-    pub grain: Grain,
-    /// The width and the height of the pixels that are given, or nothing.
-    pub steps: &'static str,
-    /// The least and the greatest places that are given, or nothing.
-    pub extent: &'static str,
-    /// The NODATA of the sources.
-    pub source: Word,
-    /// The NODATA of the bands.
-    pub band: Word,
-    pub separate: bool,
-    pub strict: bool,
+fn word_behind<'a>(text: &'a str, option: &str) -> Option<&'a str> {
+    first_word(behind(text, option)?)
 }
 
-/// Nothing is asked for but a document.
-pub const PLAIN: Ask = Ask {
-    out: "m.vrt",
-    bands: &[],
-    grain: Grain::Average,
-    steps: "",
-    extent: "",
-    source: Word::Nothing,
-    band: Word::Nothing,
-    separate: false,
-    strict: false,
-};
+// The name and the words of these options that are there.
+fn known_words(text: &str, options: &[(&str, usize)]) -> usize {
+    let mut count = 1usize;
+    for (option, words) in options {
+        if behind(text, option).is_some() {
+            count = count.saturating_add(*words);
+        }
+    }
+    count
+}
 
-/// A band for each input.
-pub const SEPARATE: Ask = Ask {
-    separate: true,
-    ..PLAIN
-};
+// Whether a text has no other words.
+fn is_known(text: &str) -> bool {
+    text.split_ascii_whitespace().count() == known_words(text, &OPTIONS)
+}
 
-/// No input is skipped.
-pub const STRICT: Ask = Ask {
-    strict: true,
-    ..PLAIN
-};
-
-fn word_of(word: Word) -> NodataWord
-    ensures { IsWord result }
+fn word_of(word: Option<&str>) -> Option<NodataWord>
+    ensures { IfSome result IsWord }
 {
     match word {
-        Word::Nothing => NodataWord::Absent,
-        Word::Remove => NodataWord::Remove,
-        Word::Number(n) => NodataWord::Number(n as i128),
+        None => Some(NodataWord::Absent),
+        Some("none") => Some(NodataWord::Remove),
+        Some(word) => Some(NodataWord::Number(word.parse::<i64>().ok()? as i128)),
     }
 }
 
@@ -88,13 +74,15 @@ fn step_of(text: Option<&str>) -> Option<Ticks>
     read_decimal(text?.as_bytes())
 }
 
-fn grain_of(grain: Grain) -> Resolution
+fn grain_of(ask: &str) -> Resolution
     ensures { IsResolution result }
 {
-    match grain {
-        Grain::Highest => Resolution::Highest,
-        Grain::Lowest => Resolution::Lowest,
-        Grain::Average => Resolution::Average,
+    if behind(ask, " highest").is_some() {
+        Resolution::Highest
+    } else if behind(ask, " lowest").is_some() {
+        Resolution::Lowest
+    } else {
+        Resolution::Average
     }
 }
 
@@ -109,17 +97,23 @@ fn given(dx: Ticks, dy: Ticks) -> Option<Resolution>
     }
 }
 
-/// The size of the pixels: the given one, where there is one.
-fn resolution_of(grain: Grain, text: &str) -> Option<Resolution>
+fn pixels_in(text: &str) -> Option<Resolution>
     ensures { IfSome result IsResolution }
 {
-    if text.is_empty() {
-        return Some(grain_of(grain));
-    }
     let mut words = text.split_ascii_whitespace();
     let dx = step_of(words.next())?;
     let dy = step_of(words.next())?;
     given(dx, dy)
+}
+
+/// The size of the pixels: the given one, where there is one.
+fn resolution_of(ask: &str) -> Option<Resolution>
+    ensures { IfSome result IsResolution }
+{
+    match behind(ask, " steps ") {
+        Some(steps) => pixels_in(steps),
+        None => Some(grain_of(ask)),
+    }
 }
 
 fn spanned(xmin: Ticks, ymin: Ticks, xmax: Ticks, ymax: Ticks) -> Option<Extent>
@@ -150,13 +144,13 @@ fn extent_in(text: &str) -> Option<Extent>
 }
 
 /// The extent, where one is given.
-fn extent_of(text: &str) -> Option<Option<Extent>>
+fn extent_of(ask: &str) -> Option<Option<Extent>>
     ensures { IfSome result (λ e. IfSome e IsExtent) }
 {
-    if text.is_empty() {
-        return Some(None);
+    match behind(ask, " extent ") {
+        Some(places) => Some(Some(extent_in(places)?)),
+        None => Some(None),
     }
-    Some(Some(extent_in(text)?))
 }
 
 fn add_number(numbers: &mut Numbers, band: u8) -> Result<(), AllocError>
@@ -171,25 +165,57 @@ fn numbers_of(alloc: Global, bands: &[u8]) -> Result<Numbers, AllocError>
 {
     let mut numbers = Items::new(alloc);
     for band in bands {
-        add_number(&mut numbers, *band)?;
+        if *band != b',' {
+            add_number(&mut numbers, band.saturating_sub(b'0'))?;
+        }
     }
     Ok(numbers)
 }
 
-/// The options of what is asked for.
-pub fn options(alloc: Global, ask: Ask) -> Result<BuildOptions, Fail> {
-    let resolution = resolution_of(ask.grain, ask.steps).ok_or("they are sizes of pixels")?;
-    let extent = extent_of(ask.extent).ok_or("it is an extent")?;
-    let out = Name::read(alloc, ask.out)?;
-    let bands = numbers_of(alloc, ask.bands)?;
-    Ok(BuildOptions {
-        out,
-        bands,
+// What is asked for beside the name and the bands.
+#[derive(Clone, Copy)]
+struct Settings {
+    resolution: Resolution,
+    extent: Option<Extent>,
+    source: NodataWord,
+    band: NodataWord,
+}
+
+fn settings_of(ask: &str) -> Option<Settings>
+    ensures resolution { IfSome result (λ s. IsResolution s.resolution) }
+    ensures extent { IfSome result (λ s. IfSome s.extent IsExtent) }
+    ensures source { IfSome result (λ s. IsWord s.source) }
+    ensures band { IfSome result (λ s. IsWord s.band) }
+{
+    let resolution = resolution_of(ask)?;
+    let extent = extent_of(ask)?;
+    let source = word_of(word_behind(ask, " source "))?;
+    let band = word_of(word_behind(ask, " band "))?;
+    if !is_known(ask) {
+        return None;
+    }
+    Some(Settings {
         resolution,
         extent,
-        src_nodata: word_of(ask.source),
-        vrt_nodata: word_of(ask.band),
-        separate: ask.separate,
-        strict: ask.strict,
+        source,
+        band,
+    })
+}
+
+/// The options of the words that ask for them, where they do.
+pub fn options(alloc: Global, ask: &str) -> Option<BuildOptions> {
+    let settings = settings_of(ask)?;
+    let bands = word_behind(ask, " bands ").unwrap_or("");
+    let out = Name::read(alloc, first_word(ask).unwrap_or("")).ok()?;
+    let bands = numbers_of(alloc, bands.as_bytes()).ok()?;
+    Some(BuildOptions {
+        out,
+        bands,
+        resolution: settings.resolution,
+        extent: settings.extent,
+        src_nodata: settings.source,
+        vrt_nodata: settings.band,
+        separate: behind(ask, " separate").is_some(),
+        strict: behind(ask, " strictly").is_some(),
     })
 }

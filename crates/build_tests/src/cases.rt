@@ -1,38 +1,39 @@
 // Mosaics of inputs, as texts: a line for each skipped input, and then the document or lines of it; or the refusal.
-use crate::asking::{Ask, options};
+use crate::asking::options;
+use crate::inputs::folder;
 use buildvrt::{BuildFault, BuildOptions, Reason, Skipped, mosaic};
 use catalog::{Head, head_of};
 use lists_and_answers::{Items, push_all};
 use outside::{MemFolder, Name};
 use std::alloc::{AllocError, Global};
+use std::process::Abort;
 use std::test::*;
 use vrt_profile::Document;
 use vrt_writing::write;
 
 /// What a row shows, the names of the inputs, what is asked for, and what comes.
-#[derive(Clone, Copy)]
-pub struct Case {
-    pub what: &'static str,
-    pub inputs: &'static str,
-    pub ask: Ask,
-    pub wanted: &'static str,
+pub type Case = (&'static str, &'static str, &'static str, &'static str);
+
+fn head_in(alloc: Global, folder: &mut MemFolder, name: &str) -> Option<Head> {
+    let name = Name::read(alloc, name).ok()?;
+    head_of(alloc, folder, &name, false).ok()
 }
 
-fn head_in(alloc: Global, folder: &mut MemFolder, name: &str) -> Result<Head, Fail> {
-    let name = Name::read(alloc, name)?;
-    Ok(
-        head_of(alloc, folder, &name, false)
-            .ok()
-            .ok_or("it is a dataset")?,
-    )
+fn add_head(alloc: Global, folder: &mut MemFolder, name: &str, heads: &mut Items<Head>) -> bool {
+    match head_in(alloc, folder, name) {
+        Some(head) => heads.push(head).is_ok(),
+        None => false,
+    }
 }
 
-fn heads_in(alloc: Global, folder: &mut MemFolder, inputs: &str) -> Result<Items<Head>, Fail> {
+fn heads_in(alloc: Global, folder: &mut MemFolder, inputs: &str) -> Option<Items<Head>> {
     let mut heads = Items::new(alloc);
     for name in inputs.split_ascii_whitespace() {
-        heads.push(head_in(alloc, folder, name)?)?;
+        if !add_head(alloc, folder, name, &mut heads) {
+            return None;
+        }
     }
-    Ok(heads)
+    Some(heads)
 }
 
 fn reason_word(reason: Reason) -> &'static str {
@@ -134,27 +135,56 @@ fn push_mosaic(
     }
 }
 
-// Whether a case comes as it is to be.
-fn holds(alloc: Global, folder: &mut MemFolder, case: Case, fronts: &[&str]) -> Result<bool, Fail> {
-    let options = options(alloc, case.ask)?;
-    let heads = heads_in(alloc, folder, case.inputs)?;
+// Whether this comes of these inputs.
+fn comes(
+    alloc: Global,
+    heads: &[Head],
+    options: &BuildOptions,
+    fronts: &[&str],
+    wanted: &str,
+) -> bool {
     let mut out = Vec::new(alloc);
-    push_mosaic(alloc, heads.as_slice(), &options, fronts, &mut out)?;
-    Ok(out.as_slice() == case.wanted.as_bytes())
+    push_mosaic(alloc, heads, options, fronts, &mut out).is_ok()
+        && out.as_slice() == wanted.as_bytes()
 }
 
-/// The first case over these datasets that comes otherwise. Of a document only the lines count that begin with one of
-/// these, or all where there are none of these.
-pub fn wrong_case(
+// Whether a case comes as it is to be.
+fn holds(
+    alloc: Global,
+    folder: &mut MemFolder,
+    (_, inputs, ask, wanted): Case,
+    fronts: &[&str],
+) -> Option<bool> {
+    let options = options(alloc, ask)?;
+    let heads = heads_in(alloc, folder, inputs)?;
+    Some(comes(alloc, heads.as_slice(), &options, fronts, wanted))
+}
+
+/// The first case over the datasets of a folder that comes otherwise. Of a document only the lines count that begin
+/// with one of these, or all where there are none of these.
+pub fn wrong_in(
     alloc: Global,
     folder: &mut MemFolder,
     cases: &[Case],
     fronts: &[&str],
-) -> Result<Option<&'static str>, Fail> {
+) -> Option<&'static str> {
     for at in 0..cases.len() {
-        if !holds(alloc, folder, cases[at], fronts)? {
-            return Ok(Some(cases[at].what));
+        if holds(alloc, folder, cases[at], fronts) != Some(true) {
+            return Some(cases[at].0);
         }
     }
-    Ok(None)
+    None
+}
+
+/// The same over the datasets that mosaics are made of.
+pub fn wrong_case(alloc: Global, cases: &[Case], fronts: &[&str]) -> Option<&'static str> {
+    match folder(alloc) {
+        Some(mut folder) => wrong_in(alloc, &mut folder, cases, fronts),
+        None => Some("the datasets are put"),
+    }
+}
+
+/// Asserts that no case is wrong.
+pub fn none_wrong(rt: &impl Abort, wrong: Option<&str>) {
+    assert_eq!(*rt; wrong, None);
 }

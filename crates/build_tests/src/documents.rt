@@ -1,21 +1,17 @@
 // The documents of mosaics, byte for byte.
-use crate::asking::{Ask, PLAIN, SEPARATE, STRICT};
-use crate::cases::{Case, wrong_case};
-use crate::inputs::folder;
-use outside::{MemFolder, Name};
-use std::alloc::Global;
+use crate::cases::{Case, none_wrong, wrong_case, wrong_in};
+use crate::inputs::put;
+use lists_and_answers::Items;
+use outside::{Listed, MemFolder};
+use std::alloc::{AllocError, Global};
 use std::test::*;
 
 static DOCUMENTS: [Case; 4] = [
-    Case {
-        what: "separate inputs, the first of which is left out",
-        inputs: "one.vrt fine.vrt",
-        ask: Ask {
-            steps: "1 1",
-            extent: "4 0 6 2",
-            ..SEPARATE
-        },
-        wanted: "<VRTDataset rasterXSize=\"2\" rasterYSize=\"2\">
+    (
+        "separate inputs, the first of which is left out",
+        "one.vrt fine.vrt",
+        "m.vrt steps 1 1 extent 4 0 6 2 separate",
+        "<VRTDataset rasterXSize=\"2\" rasterYSize=\"2\">
   <GeoTransform>4, 1, 0, 2, 0, -1</GeoTransform>
   <VRTRasterBand dataType=\"Byte\" band=\"1\">
   </VRTRasterBand>
@@ -29,15 +25,12 @@ static DOCUMENTS: [Case; 4] = [
   </VRTRasterBand>
 </VRTDataset>
 ",
-    },
-    Case {
-        what: "a coordinate system, and two chosen bands of one input",
-        inputs: "x_pair.vrt",
-        ask: Ask {
-            bands: &[2, 1, 2],
-            ..PLAIN
-        },
-        wanted: "<VRTDataset rasterXSize=\"2\" rasterYSize=\"1\">
+    ),
+    (
+        "a coordinate system, and two chosen bands of one input",
+        "x_pair.vrt",
+        "m.vrt bands 2,1,2",
+        "<VRTDataset rasterXSize=\"2\" rasterYSize=\"1\">
   <SRS>X&lt;1&gt;</SRS>
   <GeoTransform>2, 1, 0, 1, 0, -1</GeoTransform>
   <VRTRasterBand dataType=\"Byte\" band=\"1\">
@@ -66,15 +59,12 @@ static DOCUMENTS: [Case; 4] = [
   </VRTRasterBand>
 </VRTDataset>
 ",
-    },
-    Case {
-        what: "inputs beside the document and in other folders",
-        inputs: "d/c.vrt seven.vrt",
-        ask: Ask {
-            out: "d/m.vrt",
-            ..STRICT
-        },
-        wanted: "<VRTDataset rasterXSize=\"4\" rasterYSize=\"1\">
+    ),
+    (
+        "inputs beside the document and in other folders",
+        "d/c.vrt seven.vrt",
+        "d/m.vrt strictly",
+        "<VRTDataset rasterXSize=\"4\" rasterYSize=\"1\">
   <GeoTransform>2, 1, 0, 1, 0, -1</GeoTransform>
   <VRTRasterBand dataType=\"Byte\" band=\"1\">
     <SimpleSource>
@@ -93,15 +83,12 @@ static DOCUMENTS: [Case; 4] = [
   </VRTRasterBand>
 </VRTDataset>
 ",
-    },
-    Case {
-        what: "a document whose name begins at the root",
-        inputs: "empty.vrt empty.vrt",
-        ask: Ask {
-            out: "/d/m.vrt",
-            ..PLAIN
-        },
-        wanted: "<VRTDataset rasterXSize=\"2\" rasterYSize=\"1\">
+    ),
+    (
+        "a document whose name begins at the root",
+        "empty.vrt empty.vrt",
+        "/d/m.vrt",
+        "<VRTDataset rasterXSize=\"2\" rasterYSize=\"1\">
   <SRS></SRS>
   <GeoTransform>0, 1, 0, 1, 0, -1</GeoTransform>
   <VRTRasterBand dataType=\"Byte\" band=\"1\">
@@ -120,29 +107,21 @@ static DOCUMENTS: [Case; 4] = [
   </VRTRasterBand>
 </VRTDataset>
 ",
-    },
+    ),
 ];
 
-fn wrong(alloc: Global) -> Result<Option<&'static str>, Fail> {
-    wrong_case(alloc, &mut folder(alloc)?, &DOCUMENTS, &[])
-}
-
 #[test]
-fn documents(rt: HostRuntime) -> Result<(), Fail> {
-    assert_eq!(rt; wrong(rt.alloc())?, None);
-    Ok(())
+fn documents(rt: HostRuntime) {
+    none_wrong(&rt, wrong_case(rt.alloc(), &DOCUMENTS, &[]));
 }
 
 // Two tiles that lie side by side, and a raster of two bands.
 static TILES: [Case; 2] = [
-    Case {
-        what: "two tiles, and a raster that is skipped",
-        inputs: "N00E000.hgt N00E001.hgt two.bil",
-        ask: Ask {
-            out: "out.vrt",
-            ..PLAIN
-        },
-        wanted: "two.bil bands
+    (
+        "two tiles, and a raster that is skipped",
+        "N00E000.hgt N00E001.hgt two.bil",
+        "out.vrt",
+        "two.bil bands
 <VRTDataset rasterXSize=\"2401\" rasterYSize=\"1201\">
   <GeoTransform>-0.0004166666666667, 0.0008333333333333, 0, 1.0004166666666667, 0, -0.0008333333333333</GeoTransform>
   <VRTRasterBand dataType=\"Int16\" band=\"1\">
@@ -164,41 +143,39 @@ static TILES: [Case; 2] = [
   </VRTRasterBand>
 </VRTDataset>
 ",
-    },
-    Case {
-        what: "strictly",
-        inputs: "N00E000.hgt N00E001.hgt two.bil",
-        ask: STRICT,
-        wanted: "strictly two.bil bands\n",
-    },
+    ),
+    (
+        "strictly",
+        "N00E000.hgt N00E001.hgt two.bil",
+        "m.vrt strictly",
+        "strictly two.bil bands\n",
+    ),
 ];
 
-fn put_tiles(alloc: Global, folder: &mut MemFolder) -> Result<(), Fail> {
+fn put_tiles(alloc: Global, folder: &mut MemFolder) -> Result<bool, AllocError> {
     let bytes = vec![in alloc; 0u8; 2_884_802]?;
-    folder.put(&Name::read(alloc, "N00E000.hgt")?, &bytes)?;
-    folder.put(&Name::read(alloc, "N00E001.hgt")?, &bytes)?;
-    Ok(())
+    Ok(put(alloc, folder, "N00E000.hgt", &bytes) && put(alloc, folder, "N00E001.hgt", &bytes))
 }
 
 // The raster has a place: its header says so.
-fn put_raster(alloc: Global, folder: &mut MemFolder) -> Result<(), Fail> {
-    folder.put(&Name::read(alloc, "two.bil")?, b"12")?;
-    folder.put(
-        &Name::read(alloc, "two.hdr")?,
-        b"NROWS 1\nNCOLS 1\nNBANDS 2\nULXMAP 0\nULYMAP 0\n",
-    )?;
-    Ok(())
+fn put_raster(alloc: Global, folder: &mut MemFolder) -> bool {
+    let header = "NROWS 1\nNCOLS 1\nNBANDS 2\nULXMAP 0\nULYMAP 0\n";
+    put(alloc, folder, "two.bil", b"12") && put(alloc, folder, "two.hdr", header.as_bytes())
 }
 
-fn wrong_tile(alloc: Global) -> Result<Option<&'static str>, Fail> {
-    let mut folder = folder(alloc)?;
-    put_tiles(alloc, &mut folder)?;
-    put_raster(alloc, &mut folder)?;
-    wrong_case(alloc, &mut folder, &TILES, &[])
+fn put_rasters(alloc: Global, folder: &mut MemFolder) -> bool {
+    matches!(put_tiles(alloc, folder), Ok(true)) && put_raster(alloc, folder)
+}
+
+fn wrong_tile(alloc: Global) -> Option<&'static str> {
+    let mut folder = MemFolder::new(alloc, Listed::new(Items::new(alloc)));
+    if !put_rasters(alloc, &mut folder) {
+        return Some("the rasters are put");
+    }
+    wrong_in(alloc, &mut folder, &TILES, &[])
 }
 
 #[test]
-fn two_tiles(rt: HostRuntime) -> Result<(), Fail> {
-    assert_eq!(rt; wrong_tile(rt.alloc())?, None);
-    Ok(())
+fn two_tiles(rt: HostRuntime) {
+    none_wrong(&rt, wrong_tile(rt.alloc()));
 }

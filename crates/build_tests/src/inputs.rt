@@ -2,7 +2,6 @@
 use lists_and_answers::Items;
 use outside::{Listed, MemFolder, Name};
 use std::alloc::Global;
-use std::test::*;
 
 /// A name, and the text of its file.
 type FileOf = (&'static str, &'static str);
@@ -229,20 +228,37 @@ static FAR: [FileOf; 8] = [
     ),
 ];
 
-fn put_all(alloc: Global, folder: &mut MemFolder, files: &[FileOf]) -> Result<(), Fail> {
-    for (name, text) in files {
-        folder.put(&Name::read(alloc, name)?, text.as_bytes())?;
+/// Puts a file, and tells whether it was put.
+pub fn put(alloc: Global, folder: &mut MemFolder, name: &str, bytes: &[u8]) -> bool {
+    match Name::read(alloc, name) {
+        Ok(name) => folder.put(&name, bytes).is_ok(),
+        Err(_) => false,
     }
-    Ok(())
 }
 
-/// A folder with these datasets.
-pub fn folder(alloc: Global) -> Result<MemFolder, Fail> {
+fn put_all(alloc: Global, folder: &mut MemFolder, files: &[FileOf]) -> bool {
+    for (name, text) in files {
+        if !put(alloc, folder, name, text.as_bytes()) {
+            return false;
+        }
+    }
+    true
+}
+
+fn put_each(alloc: Global, folder: &mut MemFolder) -> bool {
+    put_all(alloc, folder, &PLAIN)
+        && put_all(alloc, folder, &NAMED)
+        && put_all(alloc, folder, &MARKED)
+        && put_all(alloc, folder, &PLACED)
+        && put_all(alloc, folder, &FAR)
+}
+
+/// A folder with these datasets, where they are put.
+pub fn folder(alloc: Global) -> Option<MemFolder> {
     let mut folder = MemFolder::new(alloc, Listed::new(Items::new(alloc)));
-    put_all(alloc, &mut folder, &PLAIN)?;
-    put_all(alloc, &mut folder, &NAMED)?;
-    put_all(alloc, &mut folder, &MARKED)?;
-    put_all(alloc, &mut folder, &PLACED)?;
-    put_all(alloc, &mut folder, &FAR)?;
-    Ok(folder)
+    if put_each(alloc, &mut folder) {
+        Some(folder)
+    } else {
+        None
+    }
 }

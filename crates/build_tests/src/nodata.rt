@@ -1,202 +1,153 @@
 // The NODATA of bands and of their sources.
-use crate::asking::{Ask, PLAIN, SEPARATE, Word};
-use crate::cases::{Case, wrong_case};
-use crate::inputs::folder;
-use std::alloc::Global;
+use crate::cases::{Case, none_wrong, wrong_case};
 use std::test::*;
 
-const SOURCES_3: Ask = Ask {
-    source: Word::Number(3),
-    ..PLAIN
-};
-
-const SOURCES_300: Ask = Ask {
-    source: Word::Number(300),
-    ..PLAIN
-};
-
-const SOURCES_NONE: Ask = Ask {
-    source: Word::Remove,
-    ..PLAIN
-};
-
-const BANDS_4: Ask = Ask {
-    band: Word::Number(4),
-    ..PLAIN
-};
-
-const BANDS_NONE: Ask = Ask {
-    band: Word::Remove,
-    ..PLAIN
-};
-
 static MARKS: [Case; 24] = [
-    Case {
-        what: "no band has one",
-        inputs: "a.vrt b.vrt",
-        ask: PLAIN,
-        wanted: "<SimpleSource>\n<SimpleSource>\n",
-    },
-    Case {
-        what: "each source has that of its input, the band that of the first",
-        inputs: "nine.vrt seven.vrt",
-        ask: PLAIN,
-        wanted: "<NoDataValue>9</NoDataValue>
+    (
+        "no band has one",
+        "a.vrt b.vrt",
+        "m.vrt",
+        "<SimpleSource>\n<SimpleSource>\n",
+    ),
+    (
+        "each source has that of its input, the band that of the first",
+        "nine.vrt seven.vrt",
+        "m.vrt",
+        "<NoDataValue>9</NoDataValue>
 <ComplexSource>
 <NODATA>9</NODATA>
 <ComplexSource>
 <NODATA>7</NODATA>
 ",
-    },
-    Case {
-        what: "the first has none",
-        inputs: "a.vrt seven.vrt",
-        ask: PLAIN,
-        wanted: "<SimpleSource>\n<ComplexSource>\n<NODATA>7</NODATA>\n",
-    },
-    Case {
-        what: "the second has none",
-        inputs: "nine.vrt b.vrt",
-        ask: PLAIN,
-        wanted: "<NoDataValue>9</NoDataValue>\n<ComplexSource>\n<NODATA>9</NODATA>\n<SimpleSource>\n",
-    },
-    Case {
-        what: "a number below 0",
-        inputs: "below.vrt",
-        ask: PLAIN,
-        wanted: "<NoDataValue>-5</NoDataValue>\n<ComplexSource>\n<NODATA>-5</NODATA>\n",
-    },
-    Case {
-        what: "the number of a skipped input",
-        inputs: "below.vrt nine.vrt below.vrt",
-        ask: BANDS_NONE,
-        wanted: "nine.vrt type
+    ),
+    (
+        "the first has none",
+        "a.vrt seven.vrt",
+        "m.vrt",
+        "<SimpleSource>\n<ComplexSource>\n<NODATA>7</NODATA>\n",
+    ),
+    (
+        "the second has none",
+        "nine.vrt b.vrt",
+        "m.vrt",
+        "<NoDataValue>9</NoDataValue>\n<ComplexSource>\n<NODATA>9</NODATA>\n<SimpleSource>\n",
+    ),
+    (
+        "a number below 0",
+        "below.vrt",
+        "m.vrt",
+        "<NoDataValue>-5</NoDataValue>\n<ComplexSource>\n<NODATA>-5</NODATA>\n",
+    ),
+    (
+        "the number of a skipped input",
+        "below.vrt nine.vrt below.vrt",
+        "m.vrt band none",
+        "nine.vrt type
 <ComplexSource>
 <NODATA>-5</NODATA>
 <ComplexSource>
 <NODATA>-5</NODATA>
 ",
-    },
-    Case {
-        what: "a number for the sources",
-        inputs: "nine.vrt b.vrt",
-        ask: SOURCES_3,
-        wanted: "<NoDataValue>3</NoDataValue>
+    ),
+    (
+        "a number for the sources",
+        "nine.vrt b.vrt",
+        "m.vrt source 3",
+        "<NoDataValue>3</NoDataValue>
 <ComplexSource>
 <NODATA>3</NODATA>
 <ComplexSource>
 <NODATA>3</NODATA>
 ",
-    },
-    Case {
-        what: "a number for sources that have none",
-        inputs: "a.vrt b.vrt",
-        ask: SOURCES_3,
-        wanted: "<NoDataValue>3</NoDataValue>
+    ),
+    (
+        "a number for sources that have none",
+        "a.vrt b.vrt",
+        "m.vrt source 3",
+        "<NoDataValue>3</NoDataValue>
 <ComplexSource>
 <NODATA>3</NODATA>
 <ComplexSource>
 <NODATA>3</NODATA>
 ",
-    },
-    Case {
-        what: "no NODATA for the sources",
-        inputs: "nine.vrt seven.vrt",
-        ask: SOURCES_NONE,
-        wanted: "<NoDataValue>9</NoDataValue>\n<SimpleSource>\n<SimpleSource>\n",
-    },
-    Case {
-        what: "a number for the bands",
-        inputs: "nine.vrt b.vrt",
-        ask: BANDS_4,
-        wanted: "<NoDataValue>4</NoDataValue>\n<ComplexSource>\n<NODATA>9</NODATA>\n<SimpleSource>\n",
-    },
-    Case {
-        what: "a number for bands that have none",
-        inputs: "a.vrt",
-        ask: BANDS_4,
-        wanted: "<NoDataValue>4</NoDataValue>\n<SimpleSource>\n",
-    },
-    Case {
-        what: "no NODATA for the bands",
-        inputs: "nine.vrt seven.vrt",
-        ask: BANDS_NONE,
-        wanted: "<ComplexSource>\n<NODATA>9</NODATA>\n<ComplexSource>\n<NODATA>7</NODATA>\n",
-    },
-    Case {
-        what: "no NODATA for the bands, a number for the sources",
-        inputs: "nine.vrt",
-        ask: Ask {
-            source: Word::Number(3),
-            ..BANDS_NONE
-        },
-        wanted: "<ComplexSource>\n<NODATA>3</NODATA>\n",
-    },
-    Case {
-        what: "a number for each",
-        inputs: "nine.vrt",
-        ask: Ask {
-            source: Word::Number(3),
-            ..BANDS_4
-        },
-        wanted: "<NoDataValue>4</NoDataValue>\n<ComplexSource>\n<NODATA>3</NODATA>\n",
-    },
-    Case {
-        what: "a number for the bands, none for the sources",
-        inputs: "nine.vrt",
-        ask: Ask {
-            source: Word::Remove,
-            ..BANDS_4
-        },
-        wanted: "<NoDataValue>4</NoDataValue>\n<SimpleSource>\n",
-    },
-    Case {
-        what: "none for either",
-        inputs: "nine.vrt seven.vrt",
-        ask: Ask {
-            source: Word::Remove,
-            ..BANDS_NONE
-        },
-        wanted: "<SimpleSource>\n<SimpleSource>\n",
-    },
-    Case {
-        what: "a number for the sources past the type",
-        inputs: "nine.vrt",
-        ask: SOURCES_300,
-        wanted: "<ComplexSource>\n<NODATA>300</NODATA>\n",
-    },
-    Case {
-        what: "the greatest number of the type",
-        inputs: "nine.vrt",
-        ask: Ask {
-            band: Word::Number(255),
-            ..PLAIN
-        },
-        wanted: "<NoDataValue>255</NoDataValue>\n<ComplexSource>\n<NODATA>9</NODATA>\n",
-    },
-    Case {
-        what: "a number for the bands past the type",
-        inputs: "nine.vrt",
-        ask: Ask {
-            band: Word::Number(256),
-            ..PLAIN
-        },
-        wanted: "<ComplexSource>\n<NODATA>9</NODATA>\n",
-    },
-    Case {
-        what: "a number for the bands past the type, beside one for the sources within it",
-        inputs: "nine.vrt",
-        ask: Ask {
-            band: Word::Number(-1),
-            ..SOURCES_3
-        },
-        wanted: "<ComplexSource>\n<NODATA>3</NODATA>\n",
-    },
-    Case {
-        what: "separate bands have that of their input",
-        inputs: "nine.vrt b.vrt below.vrt nine_none.vrt",
-        ask: SEPARATE,
-        wanted: "<NoDataValue>9</NoDataValue>
+    ),
+    (
+        "no NODATA for the sources",
+        "nine.vrt seven.vrt",
+        "m.vrt source none",
+        "<NoDataValue>9</NoDataValue>\n<SimpleSource>\n<SimpleSource>\n",
+    ),
+    (
+        "a number for the bands",
+        "nine.vrt b.vrt",
+        "m.vrt band 4",
+        "<NoDataValue>4</NoDataValue>\n<ComplexSource>\n<NODATA>9</NODATA>\n<SimpleSource>\n",
+    ),
+    (
+        "a number for bands that have none",
+        "a.vrt",
+        "m.vrt band 4",
+        "<NoDataValue>4</NoDataValue>\n<SimpleSource>\n",
+    ),
+    (
+        "no NODATA for the bands",
+        "nine.vrt seven.vrt",
+        "m.vrt band none",
+        "<ComplexSource>\n<NODATA>9</NODATA>\n<ComplexSource>\n<NODATA>7</NODATA>\n",
+    ),
+    (
+        "no NODATA for the bands, a number for the sources",
+        "nine.vrt",
+        "m.vrt source 3 band none",
+        "<ComplexSource>\n<NODATA>3</NODATA>\n",
+    ),
+    (
+        "a number for each",
+        "nine.vrt",
+        "m.vrt source 3 band 4",
+        "<NoDataValue>4</NoDataValue>\n<ComplexSource>\n<NODATA>3</NODATA>\n",
+    ),
+    (
+        "a number for the bands, none for the sources",
+        "nine.vrt",
+        "m.vrt source none band 4",
+        "<NoDataValue>4</NoDataValue>\n<SimpleSource>\n",
+    ),
+    (
+        "none for either",
+        "nine.vrt seven.vrt",
+        "m.vrt source none band none",
+        "<SimpleSource>\n<SimpleSource>\n",
+    ),
+    (
+        "a number for the sources past the type",
+        "nine.vrt",
+        "m.vrt source 300",
+        "<ComplexSource>\n<NODATA>300</NODATA>\n",
+    ),
+    (
+        "the greatest number of the type",
+        "nine.vrt",
+        "m.vrt band 255",
+        "<NoDataValue>255</NoDataValue>\n<ComplexSource>\n<NODATA>9</NODATA>\n",
+    ),
+    (
+        "a number for the bands past the type",
+        "nine.vrt",
+        "m.vrt band 256",
+        "<ComplexSource>\n<NODATA>9</NODATA>\n",
+    ),
+    (
+        "a number for the bands past the type, beside one for the sources within it",
+        "nine.vrt",
+        "m.vrt source 3 band -1",
+        "<ComplexSource>\n<NODATA>3</NODATA>\n",
+    ),
+    (
+        "separate bands have that of their input",
+        "nine.vrt b.vrt below.vrt nine_none.vrt",
+        "m.vrt separate",
+        "<NoDataValue>9</NoDataValue>
 <ComplexSource>
 <NODATA>9</NODATA>
 <SimpleSource>
@@ -207,63 +158,50 @@ static MARKS: [Case; 24] = [
 <ComplexSource>
 <NODATA>9</NODATA>
 ",
-    },
-    Case {
-        what: "separate bands, a number for the sources within one of the types",
-        inputs: "nine.vrt below.vrt",
-        ask: Ask {
-            separate: true,
-            ..SOURCES_300
-        },
-        wanted: "<ComplexSource>
+    ),
+    (
+        "separate bands, a number for the sources within one of the types",
+        "nine.vrt below.vrt",
+        "m.vrt source 300 separate",
+        "<ComplexSource>
 <NODATA>300</NODATA>
 <NoDataValue>300</NoDataValue>
 <ComplexSource>
 <NODATA>300</NODATA>
 ",
-    },
-    Case {
-        what: "separate bands, no NODATA for the sources",
-        inputs: "nine.vrt below.vrt",
-        ask: Ask {
-            separate: true,
-            ..SOURCES_NONE
-        },
-        wanted: "<NoDataValue>9</NoDataValue>\n<SimpleSource>\n<NoDataValue>-5</NoDataValue>\n<SimpleSource>\n",
-    },
-    Case {
-        what: "separate bands, a number for the bands within one of the types",
-        inputs: "below.vrt b.vrt",
-        ask: Ask {
-            separate: true,
-            band: Word::Number(-7),
-            ..PLAIN
-        },
-        wanted: "<NoDataValue>-7</NoDataValue>\n<ComplexSource>\n<NODATA>-5</NODATA>\n<SimpleSource>\n",
-    },
+    ),
+    (
+        "separate bands, no NODATA for the sources",
+        "nine.vrt below.vrt",
+        "m.vrt source none separate",
+        "<NoDataValue>9</NoDataValue>\n<SimpleSource>\n<NoDataValue>-5</NoDataValue>\n<SimpleSource>\n",
+    ),
+    (
+        "separate bands, a number for the bands within one of the types",
+        "below.vrt b.vrt",
+        "m.vrt band -7 separate",
+        "<NoDataValue>-7</NoDataValue>\n<ComplexSource>\n<NODATA>-5</NODATA>\n<SimpleSource>\n",
+    ),
 ];
 
 static PAIRS: [Case; 2] = [
-    Case {
-        what: "two bands, of which one has it",
-        inputs: "nine_none.vrt",
-        ask: PLAIN,
-        wanted: "<NoDataValue>9</NoDataValue>
+    (
+        "two bands, of which one has it",
+        "nine_none.vrt",
+        "m.vrt",
+        "<NoDataValue>9</NoDataValue>
 <ComplexSource>
 <SourceBand>1</SourceBand>
 <NODATA>9</NODATA>
 <SimpleSource>
 <SourceBand>2</SourceBand>
 ",
-    },
-    Case {
-        what: "the same turned",
-        inputs: "nine_none.vrt nine_none.vrt",
-        ask: Ask {
-            bands: &[2, 1],
-            ..PLAIN
-        },
-        wanted: "<SimpleSource>
+    ),
+    (
+        "the same turned",
+        "nine_none.vrt nine_none.vrt",
+        "m.vrt bands 2,1",
+        "<SimpleSource>
 <SourceBand>2</SourceBand>
 <SimpleSource>
 <SourceBand>2</SourceBand>
@@ -275,7 +213,7 @@ static PAIRS: [Case; 2] = [
 <SourceBand>1</SourceBand>
 <NODATA>9</NODATA>
 ",
-    },
+    ),
 ];
 
 static ONE_BAND: [&str; 4] = ["<NoDataValue", "<ComplexSource", "<SimpleSource", "<NODATA"];
@@ -288,22 +226,12 @@ static MORE_BANDS: [&str; 5] = [
     "<NODATA",
 ];
 
-fn wrong(alloc: Global) -> Result<Option<&'static str>, Fail> {
-    wrong_case(alloc, &mut folder(alloc)?, &MARKS, &ONE_BAND)
-}
-
-fn wrong_pair(alloc: Global) -> Result<Option<&'static str>, Fail> {
-    wrong_case(alloc, &mut folder(alloc)?, &PAIRS, &MORE_BANDS)
+#[test]
+fn nodata_of_bands_and_sources(rt: HostRuntime) {
+    none_wrong(&rt, wrong_case(rt.alloc(), &MARKS, &ONE_BAND));
 }
 
 #[test]
-fn nodata_of_bands_and_sources(rt: HostRuntime) -> Result<(), Fail> {
-    assert_eq!(rt; wrong(rt.alloc())?, None);
-    Ok(())
-}
-
-#[test]
-fn nodata_of_more_bands(rt: HostRuntime) -> Result<(), Fail> {
-    assert_eq!(rt; wrong_pair(rt.alloc())?, None);
-    Ok(())
+fn nodata_of_more_bands(rt: HostRuntime) {
+    none_wrong(&rt, wrong_case(rt.alloc(), &PAIRS, &MORE_BANDS));
 }

@@ -1,5 +1,6 @@
 -- The bands of a mosaic and their sources.
-use Rattle.std.specs.Prelude.{ℕ, ℤ, ◌<◌, ◌≤◌, Bool, ◌&&◌, nat_le, List, [], ◌∷◌, length, Option, None, Some, option_map, Result, Ok, Err, if◌then◌else◌}
+use Rattle.std.specs.Prelude.{ℕ, ℤ, ◌<◌, ◌≤◌, Bool, ◌&&◌, nat_le, List, [], ◌∷◌, length, Option, None, Some, option_map}
+use Rattle.std.specs.Prelude.{Result, Ok, Err, if◌then◌else◌}
 use Rattle.std.specs.List.{filter_map}
 use Rattle.geotransform.specs.Types.{is_in}
 use Rattle.geotransform.specs.declared.types.PixelType.{PixelType}
@@ -23,8 +24,8 @@ source_nodata (Number n) own = Some n
 source_nodata Remove own = None
 source_nodata Absent own = own
 
--- The NODATA that a band is to have, by the option for the mosaic, then by that for the sources, then from the band that
--- it is taken from. It has it where it is a number of its type.
+-- The NODATA that a band is to have, by the option for the mosaic, then by that for the sources, then from the band
+-- that it is taken from. It has it where it is a number of its type.
 abbrev pub wanted_by_source : NodataWord → Option ℤ → Option ℤ
 wanted_by_source (Number n) own = Some n
 wanted_by_source Remove own = own
@@ -46,7 +47,8 @@ own_nodata (Some band) = band.nodata
 
 -- the source that shows the whole of an input's band in a rectangle
 abbrev pub source_of : Options → DatasetHead → ℕ → Rectangle → SourceValue
-source_of o h number shown = plain_source (related o.out h.name) number (whole h.size) shown (source_nodata o.src_nodata (own_nodata (band_of h number)))
+source_of o h number shown = plain_source (related o.out h.name) number (whole h.size) shown
+    (source_nodata o.src_nodata (own_nodata (band_of h number)))
 
 -- the source of an input that isn't left out
 abbrev pub source_in : Options → ℕ → PatchValue → Option SourceValue

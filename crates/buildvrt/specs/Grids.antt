@@ -1,5 +1,6 @@
 -- The grid of a mosaic: the size of its pixels, its extent, its columns and lines.
-use Rattle.std.specs.Prelude.{ℕ, ℤ, pos, neg_ℤ, ◌+ℤ◌, ◌-ℤ◌, ◌<◌, ◌^◌, ◌<ℤ◌, int_lt, List, [], ◌∷◌, length, Option, None, Some, if◌then◌else◌, unsigned_abs}
+use Rattle.std.specs.Prelude.{ℕ, ℤ, pos, neg_ℤ, ◌+ℤ◌, ◌-ℤ◌, ◌<◌, ◌^◌, ◌<ℤ◌, int_lt, List, [], ◌∷◌, length, Option, None}
+use Rattle.std.specs.Prelude.{Some, if◌then◌else◌, unsigned_abs}
 use Rattle.lists_and_answers.specs.Options.{◌>>=◌}
 use Rattle.geotransform.specs.Geo.{Transform, transform_of, along, IsRaster, IsNear}
 use Rattle.geotransform.specs.Places.{half, rounded_up, sixteen_places}
@@ -66,7 +67,12 @@ steps_of o tiles = steps_by o.resolution tiles
 
 -- the given extent, or the union of the inputs
 abbrev pub union_of : List TileValue → Extent
-union_of tiles = record { xmin = least Left tiles; ymin = least Bottom tiles; xmax = greatest Right tiles; ymax = greatest Top tiles }
+union_of tiles = record {
+  xmin = least Left tiles;
+  ymin = least Bottom tiles;
+  xmax = greatest Right tiles;
+  ymax = greatest Top tiles;
+}
 
 abbrev pub extent_by : Option Extent → List TileValue → Extent
 extent_by None tiles = union_of tiles
@@ -98,7 +104,8 @@ pub record GridValue : Type 0 where
 
 -- the geotransform of these numbers rounded to 16 places, where it is one
 abbrev pub rounded_transform : ℤ → ℤ → ℤ → ℤ → Option Transform
-rounded_transform left top dx dy = transform_of (sixteen_places left) (sixteen_places top) (sixteen_places dx) (sixteen_places (neg_ℤ dy))
+rounded_transform left top dx dy =
+    transform_of (sixteen_places left) (sixteen_places top) (sixteen_places dx) (sixteen_places (neg_ℤ dy))
 
 -- the grid of an extent, where it is within the limits
 unfoldable pub grid_by : Extent → ℤ × ℤ → Option GridValue

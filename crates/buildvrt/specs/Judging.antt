@@ -1,5 +1,6 @@
 -- Which inputs are skipped, and why.
-use Rattle.std.specs.Prelude.{ℕ, suc, ◌+◌, ◌*◌, ◌-◌, ◌<◌, Bool, true, false, ◌&&◌, ◌||◌, ◌==◌, not, List, [], ◌∷◌, ◌++◌, length, nat_le, slice_get, Option, None, Some, Result, Ok, Err, ok_or, if◌then◌else◌}
+use Rattle.std.specs.Prelude.{ℕ, suc, ◌+◌, ◌*◌, ◌-◌, ◌<◌, Bool, true, false, ◌&&◌, ◌||◌, ◌==◌, not, List, [], ◌∷◌, ◌++◌}
+use Rattle.std.specs.Prelude.{length, nat_le, slice_get, Option, None, Some, Result, Ok, Err, ok_or, if◌then◌else◌}
 use Rattle.std.specs.List.{list_all, range_with_len}
 use Rattle.std.specs.Option.{option_and_then}
 use Rattle.lists_and_answers.specs.Answers.{◌>>=◌}
@@ -72,7 +73,8 @@ no_choice [] = true
 no_choice (n ∷ ns) = false
 
 abbrev pub same_count : Options → DatasetHead → DatasetHead → Bool
-same_count o reference h = if no_choice o.bands && not o.separate then length h.bands == length reference.bands else true
+same_count o reference h = if no_choice o.bands && not o.separate then length h.bands == length reference.bands
+    else true
 
 -- An input before there is a reference: what it is in the mosaic, or the first reason to skip it.
 unfoldable pub judged_alone : Options → DatasetHead → Result TileValue Reason
@@ -110,7 +112,8 @@ one_judged number (Err reason) = record { tiles = []; skipped = record { input =
 -- the inputs behind the reference, the first of which has this number
 abbrev pub judged_behind : Options → DatasetHead → ℕ → List DatasetHead → JudgedValue
 judged_behind o reference number [] = none_judged
-judged_behind o reference number (h ∷ hs) = joined (one_judged number (judged_beside o reference h)) (judged_behind o reference (suc number) hs)
+judged_behind o reference number (h ∷ hs) =
+    joined (one_judged number (judged_beside o reference h)) (judged_behind o reference (suc number) hs)
 
 -- The inputs from one on, before there is a reference: it is the first that isn't skipped.
 abbrev pub first_judged : ℕ → Result TileValue Reason → JudgedValue → JudgedValue → JudgedValue
@@ -119,7 +122,8 @@ first_judged number (Err reason) behind later = joined (one_judged number (Err r
 
 abbrev pub judged_from : Options → ℕ → List DatasetHead → JudgedValue
 judged_from o number [] = none_judged
-judged_from o number (h ∷ hs) = first_judged number (judged_alone o h) (judged_behind o h (suc number) hs) (judged_from o (suc number) hs)
+judged_from o number (h ∷ hs) =
+    first_judged number (judged_alone o h) (judged_behind o h (suc number) hs) (judged_from o (suc number) hs)
 
 abbrev pub judged_of : Options → List DatasetHead → JudgedValue
 judged_of o heads = judged_from o 0 heads

@@ -1,5 +1,6 @@
 -- Where the inputs lie in the mosaic.
-use Rattle.std.specs.Prelude.{ℕ, ℤ, pos, ◌+ℤ◌, ◌-ℤ◌, ◌*ℤ◌, ◌<◌, ◌*◌, ◌^◌, ◌<ℤ◌, Bool, ◌&&◌, int_lt, nat_le, IfSome, unsigned_abs, List, [], ◌∷◌, ◌++◌, Option, None, Some, Result, Ok, Err, if◌then◌else◌}
+use Rattle.std.specs.Prelude.{ℕ, ℤ, pos, ◌+ℤ◌, ◌-ℤ◌, ◌*ℤ◌, ◌<◌, ◌*◌, ◌^◌, ◌<ℤ◌, Bool, ◌&&◌, int_lt, nat_le, IfSome}
+use Rattle.std.specs.Prelude.{unsigned_abs, List, [], ◌∷◌, ◌++◌, Option, None, Some, Result, Ok, Err, if◌then◌else◌}
 use Rattle.lists_and_answers.specs.Answers.{◌>>=◌}
 use Rattle.geotransform.specs.Places.{rounded_up}
 use Rattle.geotransform.specs.declared.types.Size.{Size}

@@ -1,5 +1,6 @@
 // The bands of a mosaic and their sources.
-ghost use Rattle.std.specs.Prelude.{◌≡◌, ℕ, ℤ, pos, ◌<◌, ◌≤◌, ◌*◌, ◌^◌, ◌++◌, ◌∷◌, [], true, length, Some, IfOk, IfSome, OnOk, unsigned_abs};
+ghost use Rattle.std.specs.Prelude.{◌≡◌, ℕ, ℤ, pos, ◌<◌, ◌≤◌, ◌*◌, ◌^◌, ◌++◌, ◌∷◌, [], true, length, Some, IfOk};
+ghost use Rattle.std.specs.Prelude.{IfSome, OnOk, unsigned_abs};
 ghost use Rattle.std.specs.List.{All, filter_map};
 ghost use Rattle.geotransform.specs.Types.{is_in};
 ghost use Rattle.lists_and_answers.specs.Answers.{Gives};
@@ -7,7 +8,9 @@ ghost use Rattle.buildvrt.specs.Options.{IsBandNumber, IsWord};
 ghost use Rattle.buildvrt.specs.Judging.{has_bands, band_of, taken_bands};
 ghost use Rattle.buildvrt.specs.Rectangles.{PatchValue, IsPatch};
 ghost use Rattle.buildvrt.specs.Mosaic.{IsMemory};
-ghost use Rattle.buildvrt.specs.Bands.{source_nodata, wanted_nodata, wanted_by_source, in_type, own_nodata, source_of, source_in, band_from, band_with, common_bands, own_band, separate_bands, all_bands, bands_within, shown_count, is_few, FitsDocument};
+ghost use Rattle.buildvrt.specs.Bands.{source_nodata, wanted_nodata, wanted_by_source, in_type, own_nodata, source_of};
+ghost use Rattle.buildvrt.specs.Bands.{source_in, band_from, band_with, common_bands, own_band, separate_bands};
+ghost use Rattle.buildvrt.specs.Bands.{all_bands, bands_within, shown_count, is_few, FitsDocument};
 
 use crate::faults::BuildFault;
 use crate::judging::{band_of, head_rules, taken_bands};
@@ -103,7 +106,8 @@ fn add_source(
     sources: &mut SourceList,
 ) -> Result<(), AllocError>
     requires number { IsBandNumber number }
-    ensures added { OnOk result (sources.new ≡ sources.old ++ filter_map (source_in options.now number) (patch.now ∷ [])) }
+    ensures added { OnOk result (sources.new ≡ sources.old ++ filter_map (source_in options.now number)
+        (patch.now ∷ [])) }
 {
     let head = patch.head;
     match patch.shown {
@@ -156,7 +160,8 @@ fn add_band(
     bands: &mut BandList,
 ) -> Result<(), AllocError>
     requires number { IsBandNumber number }
-    ensures added { OnOk result (bands.new ≡ bands.old ++ filter_map (band_with options.now head.now patches.now) (number ∷ [])) }
+    ensures added { OnOk result (bands.new ≡ bands.old ++ filter_map (band_with options.now head.now patches.now)
+        (number ∷ [])) }
 {
     match band_of(head, number) {
         None => Ok(()),
@@ -275,7 +280,8 @@ fn common_within(
     requires has { has_bands reference.now taken.now ≡ true }
     requires some { 0 < length taken.now }
     requires few { length patches.now ≤ 65536 }
-    ensures bands { Gives IsMemory (λ l. l) result (bands_within (filter_map (band_with options.now reference.now patches.now) taken.now)) }
+    ensures bands { Gives IsMemory (λ l. l) result
+        (bands_within (filter_map (band_with options.now reference.now patches.now) taken.now)) }
     ensures rules { IfOk result FitsDocument }
 {
     head_rules(reference);

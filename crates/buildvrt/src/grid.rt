@@ -1,10 +1,14 @@
 // The grid of a mosaic: the sides of its pixels, its extent, its columns and lines.
-ghost use Rattle.std.specs.Prelude.{◌≡◌, ℕ, ℤ, pos, neg_ℤ, ◌+ℤ◌, ◌-ℤ◌, ◌*ℤ◌, ◌<ℤ◌, ◌≤ℤ◌, ◌<◌, ◌≤◌, ◌+◌, ◌*◌, ◌^◌, length, IfOk, IfSome, unsigned_abs};
+ghost use Rattle.std.specs.Prelude.{◌≡◌, ℕ, ℤ, pos, neg_ℤ, ◌+ℤ◌, ◌-ℤ◌, ◌*ℤ◌, ◌<ℤ◌, ◌≤ℤ◌, ◌<◌, ◌≤◌, ◌+◌, ◌*◌, ◌^◌};
+ghost use Rattle.std.specs.Prelude.{length, IfOk, IfSome, unsigned_abs};
 ghost use Rattle.vrt_profile.specs.Values.{IsDecimal};
 ghost use Rattle.geotransform.specs.Print.{unit};
 ghost use Rattle.geotransform.specs.Geo.{IsNear};
 ghost use Rattle.geotransform.specs.Places.{rounded_up};
-ghost use Rattle.buildvrt.specs.Grids.{measure, IsMeasure, IsSide, less_of, greater_of, least_from, greatest_from, least, greatest, mean, sum_from, IsStep, IsSteps, IsReach, IsGrid, steps_of, union_of, extent_of, some_pixels, side_within, side_of, rounded_transform, grid_by, grid_of};
+ghost use Rattle.buildvrt.specs.Grids.{measure, IsMeasure, IsSide, less_of, greater_of, least_from, greatest_from};
+ghost use Rattle.buildvrt.specs.Grids.{least, greatest, mean, sum_from, IsStep, IsSteps, IsReach, IsGrid, steps_of};
+ghost use Rattle.buildvrt.specs.Grids.{union_of, extent_of, some_pixels, side_within, side_of, rounded_transform};
+ghost use Rattle.buildvrt.specs.Grids.{grid_by, grid_of};
 
 use crate::options::{BuildOptions, Extent, Resolution};
 use crate::tile::Tile;
@@ -45,7 +49,14 @@ impl Model for Grid {
 
     ghost view = { λ g. record { left = g.left; top = g.top; dx = g.dx; dy = g.dy; size = g.size; geo = g.geo } };
 
-    ghost invariant = { λ g. IsGrid (record { left = g.left; top = g.top; dx = g.dx; dy = g.dy; size = g.size; geo = g.geo }) };
+    ghost invariant = { λ g. IsGrid (record {
+      left = g.left;
+      top = g.top;
+      dx = g.dx;
+      dy = g.dy;
+      size = g.size;
+      geo = g.geo;
+    }) };
 }
 
 // The place `count` steps from `start`.

@@ -1,5 +1,6 @@
 // Which inputs are skipped, and why.
-ghost use Rattle.std.specs.Prelude.{◌≡◌, ℕ, ℤ, pos, suc, ◌<ℤ◌, ◌<◌, ◌≤◌, ◌+◌, ◌*◌, ◌^◌, ◌-◌, List, [], ◌∷◌, length, IfOk, OnOk, IfSome, Option, Some, None, false, true, ◌==◌, IsTrue};
+ghost use Rattle.std.specs.Prelude.{◌≡◌, ℕ, ℤ, pos, suc, ◌<ℤ◌, ◌<◌, ◌≤◌, ◌+◌, ◌*◌, ◌^◌, ◌-◌, List, [], ◌∷◌, length};
+ghost use Rattle.std.specs.Prelude.{IfOk, OnOk, IfSome, Option, Some, None, false, true, ◌==◌, IsTrue};
 ghost use Rattle.geotransform.specs.Geo.{IsTransform};
 ghost use Rattle.geotransform.specs.Types.{is_same, is_in};
 ghost use Rattle.catalog.specs.Dataset.{DatasetHead, IsDatasetHead};
@@ -7,7 +8,10 @@ ghost use Rattle.std.specs.List.{All, range_with_len};
 ghost use Rattle.lists_and_answers.specs.Answers.{Gives};
 ghost use Rattle.buildvrt.specs.Mosaic.{IsMemory};
 ghost use Rattle.buildvrt.specs.Options.{IsBandNumber};
-ghost use Rattle.buildvrt.specs.Judging.{north_up, north_up_of, same_text, has_bands, band_of, taken_bands, numbers_or_all, type_number, band_type, same_type, same_types, same_count, judged_alone, judged_beside, joined, one_judged, none_judged, judged_behind, judged_from, judged_of, IsOneOf, first_refused, strictly};
+ghost use Rattle.buildvrt.specs.Judging.{north_up, north_up_of, same_text, has_bands, band_of, taken_bands};
+ghost use Rattle.buildvrt.specs.Judging.{numbers_or_all, type_number, band_type, same_type, same_types, same_count};
+ghost use Rattle.buildvrt.specs.Judging.{judged_alone, judged_beside, joined, one_judged, none_judged, judged_behind};
+ghost use Rattle.buildvrt.specs.Judging.{judged_from, judged_of, IsOneOf, first_refused, strictly};
 
 use crate::faults::{BuildFault, Reason, SkipList, Skipped};
 use crate::options::BuildOptions;
@@ -275,7 +279,8 @@ fn judge_behind<'a>(
     requires taken { taken.now ≡ taken_bands options.now reference.now }
     requires numbers { All IsBandNumber taken.now }
     requires few { first + length heads.now ≤ 65536 }
-    ensures judged { OnOk result (judged.new ≡ joined judged.old (judged_behind options.now reference.now first heads.now)) }
+    ensures judged { OnOk result (judged.new ≡ joined judged.old (judged_behind options.now reference.now first
+        heads.now)) }
 {
     let mut number = first;
     for input in heads {
@@ -296,7 +301,8 @@ fn judge_beyond<'a>(
     judged: &mut Judged<'a>,
 ) -> Result<(), AllocError>
     requires few { first + length heads.now ≤ 65536 }
-    ensures judged { OnOk result (judged.new ≡ joined judged.old (judged_behind options.now reference.now first heads.now)) }
+    ensures judged { OnOk result (judged.new ≡ joined judged.old (judged_behind options.now reference.now first
+        heads.now)) }
 {
     let taken = taken_bands(alloc, options, reference)?;
     judge_behind(options, reference, &taken, first, heads, judged)

@@ -10,7 +10,7 @@ pub type Numbers = Items<u32>;
 
 /// The size of the mosaic's pixels: the least or the greatest of the inputs along each axis, their
 /// mean, or the given one.
-#[derive(Clone, Copy, PartialEq, Eq, Debug)]
+#[derive(Clone, Copy, PartialEq, Eq)]
 pub enum Resolution {
     Highest,
     Lowest,
@@ -20,7 +20,7 @@ pub enum Resolution {
 }
 
 /// The extent of a mosaic: not empty, and each place below 10^12 units in magnitude.
-#[derive(Clone, Copy, PartialEq, Eq, Debug)]
+#[derive(Clone, Copy, PartialEq, Eq)]
 pub struct Extent {
     pub xmin: Ticks,
     pub ymin: Ticks,
@@ -51,9 +51,27 @@ impl Model for BuildOptions {
 
     ghost Value = { Options };
 
-    ghost view = { λ o. record { out = o.out; bands = o.bands; resolution = o.resolution; extent = o.extent; src_nodata = o.src_nodata; vrt_nodata = o.vrt_nodata; separate = o.separate; strict = o.strict } };
+    ghost view = { λ o. record {
+      out = o.out;
+      bands = o.bands;
+      resolution = o.resolution;
+      extent = o.extent;
+      src_nodata = o.src_nodata;
+      vrt_nodata = o.vrt_nodata;
+      separate = o.separate;
+      strict = o.strict;
+    } };
 
-    ghost invariant = { λ o. IsOptions (record { out = o.out; bands = o.bands; resolution = o.resolution; extent = o.extent; src_nodata = o.src_nodata; vrt_nodata = o.vrt_nodata; separate = o.separate; strict = o.strict }) };
+    ghost invariant = { λ o. IsOptions (record {
+      out = o.out;
+      bands = o.bands;
+      resolution = o.resolution;
+      extent = o.extent;
+      src_nodata = o.src_nodata;
+      vrt_nodata = o.vrt_nodata;
+      separate = o.separate;
+      strict = o.strict;
+    }) };
 }
 
 impl BuildOptions {

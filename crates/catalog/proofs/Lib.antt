@@ -5,6 +5,7 @@ pub mod Closings
 pub mod Datasets
 mod Examples
 pub mod Found
+pub mod Gatherings
 pub mod Headers
 pub mod Heights
 pub mod Indexed

@@ -60,7 +60,7 @@ listed_text own names old new t x added same e files seen listed =
 
 -- the sources of a band, and the bands, one by one
 
-next_item : {X : Type 0} (xs : List X) (i : ℕ) (x : X) → i < length xs → x ≡ get_or xs i x → take (i + 1) xs ≡ take i xs ++ x ∷ []
+pub next_item : {X : Type 0} (xs : List X) (i : ℕ) (x : X) → i < length xs → x ≡ get_or xs i x → take (i + 1) xs ≡ take i xs ++ x ∷ []
 next_item xs i x below is = take_more xs i x below ∙ ap (λ y. take i xs ++ y ∷ []) (sym is)
 
 named_behind : (base : List ℕ) (ss : List SourceValue) (i : ℕ) (s : SourceValue) → i < length ss → s ≡ get_or ss i s → filter_map (source_name base) (take i ss) ++ filter_map (source_name base) (s ∷ []) ≡ filter_map (source_name base) (take (i + 1) ss)

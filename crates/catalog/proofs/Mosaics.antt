@@ -35,6 +35,15 @@ among_others : (n x : List ℕ) (ds : List (List ℕ)) → bytes_eq n x ≡ fals
 among_others n x [] other = refl
 among_others n x (d ∷ ds) other = among_step n d x ds (bytes_eq n d) refl other (among_others n x ds other)
 
+-- a name is among the distinct ones of some names where it is among these
+distinct_step : (n x : List ℕ) (ns : List (List ℕ)) (same : Bool) → bytes_eq n x ≡ same → is_among (distinct ns) x ≡ is_among ns x → (same || is_among (without n (distinct ns)) x) ≡ (same || is_among ns x)
+distinct_step n x ns true e rest = refl
+distinct_step n x ns false e rest = among_others n x (distinct ns) e ∙ rest
+
+pub among_distinct : (ns : List (List ℕ)) (x : List ℕ) → is_among (distinct ns) x ≡ is_among ns x
+among_distinct [] x = refl
+among_distinct (n ∷ ns) x = distinct_step n x ns (bytes_eq n x) refl (among_distinct ns x)
+
 -- n and the others of some names, and of these names with one more
 first_with : (n x : List ℕ) (ds : List (List ℕ)) (same among : Bool) → bytes_eq n x ≡ same → is_among ds x ≡ among
     → n ∷ without n (cond among ds (ds ++ x ∷ [])) ≡ cond (same || is_among (without n ds) x) (n ∷ without n ds) ((n ∷ without n ds) ++ x ∷ [])

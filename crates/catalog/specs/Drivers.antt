@@ -1,5 +1,6 @@
 -- What the head of a file says of its dataset.
-use Rattle.std.specs.Prelude.{ℕ, ℤ, ◌≡◌, ◌≤◌, ◌^◌, List, [], ◌∷◌, replicate, true, Option, Some, None, option_map, negsuc}
+use Rattle.std.specs.Prelude.{ℕ, ℤ, ◌≡◌, ◌≤◌, ◌^◌, List, [], ◌∷◌, replicate, true, Option, Some, None, option_map}
+use Rattle.std.specs.Prelude.{negsuc}
 use Rattle.geotransform.specs.declared.types.Size.{Size}
 use Rattle.geotransform.specs.Geo.{Transform}
 use Rattle.geotransform.specs.declared.types.PixelType.TheVariants.{Int16, Int32}
@@ -29,7 +30,16 @@ raw_band h = record { kind = h.kind; nodata = h.nodata; block = block_of kinds.R
 
 -- what the head of raw data under a name says of the dataset
 abbrev pub raw_head : List ℕ → Head → DatasetHead
-raw_head name h = record { name = name; kind = kinds.Raw; size = h.size; geo = geotransform_of h; srs = None; bands = replicate h.bands (raw_band h); files = name ∷ header_of name ∷ [] }
+raw_head name h = record {
+  name = name;
+  kind = kinds.Raw;
+  size = h.size;
+  geo = geotransform_of h;
+  srs = None;
+  bands = replicate h.bands
+      (raw_band h);
+  files = name ∷ header_of name ∷ [];
+}
 
 -- the columns and lines of a cell: its lines of longitude and their points
 abbrev pub cell_size : dted.Head → Size
@@ -45,7 +55,16 @@ dted_band h = record { kind = Int16; nodata = Some null_elevation; block = block
 
 -- what the head of a cell under a name says of the dataset
 abbrev pub dted_head : List ℕ → dted.Head → DatasetHead
-dted_head name h = record { name = name; kind = kinds.Dted; size = cell_size h; geo = Some (dted_places.placed h); srs = None; bands = dted_band h ∷ []; files = name ∷ [] }
+dted_head name h = record {
+  name = name;
+  kind = kinds.Dted;
+  size = cell_size h;
+  geo = Some (dted_places.placed h);
+  srs = None;
+  bands = dted_band
+      h ∷ [];
+  files = name ∷ [];
+}
 
 -- the columns and lines of a tile
 abbrev pub tile_size : ℕ → Size
@@ -65,7 +84,16 @@ tile_place name side = option_map (λ p. hgt_places.tile_transform p side) (hgt_
 
 -- what the name and the side of a tile say of the dataset
 abbrev pub hgt_head : List ℕ → ℕ → DatasetHead
-hgt_head name side = record { name = name; kind = kinds.Hgt; size = tile_size side; geo = tile_place name side; srs = None; bands = hgt_band side ∷ []; files = name ∷ [] }
+hgt_head name side = record {
+  name = name;
+  kind = kinds.Hgt;
+  size = tile_size side;
+  geo = tile_place name side;
+  srs = None;
+  bands = hgt_band side
+      ∷ [];
+  files = name ∷ [];
+}
 
 -- the band of a grid
 abbrev pub ascii_band : ascii.Head → BandHead
@@ -73,7 +101,15 @@ ascii_band h = record { kind = Int32; nodata = h.nodata; block = block_of kinds.
 
 -- what the head of a grid under a name says of the dataset
 abbrev pub ascii_head : List ℕ → ascii.Head → DatasetHead
-ascii_head name h = record { name = name; kind = kinds.Ascii; size = h.size; geo = Some h.geo; srs = None; bands = ascii_band h ∷ []; files = name ∷ [] }
+ascii_head name h = record {
+  name = name;
+  kind = kinds.Ascii;
+  size = h.size;
+  geo = Some h.geo;
+  srs = None;
+  bands = ascii_band h ∷ [];
+  files = name ∷ [];
+}
 
 -- what the head of the file under a name says of the dataset
 abbrev pub head_told : List ℕ → DriverHead → DatasetHead
@@ -113,7 +149,8 @@ document_of (Mosaic d) = Some d
 abbrev pub IsOfKind : List ℕ → DriverHead → Type 0
 IsOfKind name (Raw h) = IsHead h × (is_raw (extension_of name) ≡ true)
 IsOfKind name (Dted h) = dted.IsHead h
-IsOfKind name (Hgt side) = ((p : hgt_names.Place) × (hgt_names.corner_of (last_part name) ≡ Some p)) × hgt_places.IsSide side
+IsOfKind name (Hgt side) = ((p : hgt_names.Place) × (hgt_names.corner_of (last_part name) ≡ Some p)) ×
+    hgt_places.IsSide side
 IsOfKind name (Ascii h) = ascii.IsHead h
 
 -- the same of a content; a document keeps its rules
@@ -151,4 +188,8 @@ pub record Dataset : Type 0 where
 
 -- the dataset of a name by what was found in its files
 abbrev pub dataset_of : List ℕ → Found → Dataset
-dataset_of name found = record { head = content_head name found.content; content = found.content; length = found.length }
+dataset_of name found = record {
+  head = content_head name found.content;
+  content = found.content;
+  length = found.length;
+}

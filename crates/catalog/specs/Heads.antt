@@ -1,5 +1,6 @@
 -- What the files of a folder say of a dataset, or its first refusal.
-use Rattle.std.specs.Prelude.{ℕ, ◌≡◌, ◌⊎◌, Bool, not, List, [], ◌∷◌, length, ◌^◌, nat_lt, Option, Some, None, Result, Ok, Err, ok_or, option_and_then, if◌then◌else◌}
+use Rattle.std.specs.Prelude.{ℕ, ◌≡◌, ◌⊎◌, Bool, not, List, [], ◌∷◌, length, ◌^◌, nat_lt, Option, Some, None, Result}
+use Rattle.std.specs.Prelude.{Ok, Err, ok_or, option_and_then, if◌then◌else◌}
 use Rattle.std.specs.List.{range_with_len}
 use Rattle.std.specs.FinMap.{get}
 use Rattle.lists_and_answers.specs.Answers.{◌>>=◌}
@@ -35,7 +36,8 @@ use Rattle.catalog.specs.declared.faults.LimitKind.TheVariants as limits
 use Rattle.catalog.specs.declared.faults.Bad.{Bad}
 use Rattle.catalog.specs.declared.faults.Bad.TheVariants as bad
 use Rattle.catalog.specs.declared.faults.WalkFault.{WalkFault}
-use Rattle.catalog.specs.declared.faults.WalkFault.TheVariants.{Absent, NotRecognized, Malformed, Short, Cycle, TooDeep, Limit, SourceBand, FolderFault, Memory}
+use Rattle.catalog.specs.declared.faults.WalkFault.TheVariants.{Absent, NotRecognized, Malformed, Short, Cycle, TooDeep}
+use Rattle.catalog.specs.declared.faults.WalkFault.TheVariants.{Limit, SourceBand, FolderFault, Memory}
 
 -- the bytes under a name
 abbrev pub file_in : Files → List ℕ → Result (List ℕ) WalkFault
@@ -135,7 +137,8 @@ ascii_in m name = do
 
 -- the document of the mosaic whose bytes stand under a name, which are at most 67,108,864
 abbrev pub document_in : List ℕ → List ℕ → Result DocumentValue WalkFault
-document_in bytes name = if nat_lt (2 ^ 26) (length bytes) then Err (Malformed name (bad.Vrt vrt.Limit)) else named (λ f. Malformed name (bad.Vrt f)) (document_of bytes)
+document_in bytes name = if nat_lt (2 ^ 26) (length bytes) then Err (Malformed name (bad.Vrt vrt.Limit))
+    else named (λ f. Malformed name (bad.Vrt f)) (document_of bytes)
 
 -- what is found of the mosaic under a name
 unfoldable pub vrt_in : Files → List ℕ → Result Found WalkFault

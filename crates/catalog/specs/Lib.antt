@@ -11,6 +11,7 @@ pub mod Walk
 pub mod Readings
 pub mod Outcomes
 -- What private clauses, views and proofs speak of.
+pub mod Gathered
 pub mod Linked
 pub mod Listed
 pub mod Scanned

@@ -1,6 +1,8 @@
 -- What a walk keeps of what it has met: a mosaic is open while the walk is below it, and every dataset that was met
 -- whole has a link.
-use Rattle.std.specs.Prelude.{◌≡◌, ◌<◌, ◌≤◌, ◌+◌, ◌-◌, ℕ, suc, max, Bool, true, false, ◌||◌, List, [], ◌∷◌, length, All, slice_get, ◌++◌, take, set, Option, Some, None, option_and_then, Err, nat_lt, if◌then◌else◌}
+use Rattle.std.specs.Prelude.{◌≡◌, ◌<◌, ◌≤◌, ◌+◌, ◌-◌, ℕ, suc, max, Bool, true, false, ◌||◌, List, [], ◌∷◌, length, All}
+use Rattle.std.specs.Prelude.{slice_get, ◌++◌, take, set, Option, Some, None, option_and_then, Err, nat_lt}
+use Rattle.std.specs.Prelude.{if◌then◌else◌}
 use Rattle.lists_and_answers.specs.Lists.{flattened}
 use Rattle.vrt_profile.specs.Value.{is_plain}
 use Rattle.vrt_profile.specs.Values.{DocumentValue, BandValue, SourceValue}
@@ -98,7 +100,8 @@ pub record IsLinked (st : State) : Type 0 where
   pub few : length st.datasets ≤ 65536
   pub sources : st.sources ≤ 262144
   pub apart : IsApart st.datasets
-  pub whole : (id : ℕ) (d : Dataset) (l : Link) → slice_get st.datasets id ≡ Some d → slice_get st.links id ≡ Some (Some l) → IsLink st d l
+  pub whole : (id : ℕ) (d : Dataset) (l : Link) → slice_get st.datasets id ≡ Some d →
+      slice_get st.links id ≡ Some (Some l) → IsLink st d l
 
 -- one dataset more, with its link if it has one
 abbrev pub pushed : State → Dataset → Option Link → State
@@ -160,11 +163,13 @@ pub record IsHigh (st : State) (id room : ℕ) : Type 0 where
 
 -- no dataset that was met whole and is at most this high stands on a path
 abbrev pub IsOff : State → List (List ℕ) → ℕ → Type 0
-IsOff st path height = (id : ℕ) (d : Dataset) (l : Link) → slice_get st.datasets id ≡ Some d → slice_get st.links id ≡ Some (Some l) → l.height ≤ height → is_among path d.head.name ≡ false
+IsOff st path height = (id : ℕ) (d : Dataset) (l : Link) → slice_get st.datasets id ≡ Some d →
+    slice_get st.links id ≡ Some (Some l) → l.height ≤ height → is_among path d.head.name ≡ false
 
 -- with this much room the checks of a dataset end with the mosaic of this name
 pub record IsDeep (st : State) (room : ℕ) (id : ℕ) (name : List ℕ) : Type 0 where
-  pub deep : (path : List (List ℕ)) (d : Dataset) (l : Link) → IsMet st id d l → IsOff st path l.height → again room st.datasets path d.head.name ≡ Err (TooDeep name)
+  pub deep : (path : List (List ℕ)) (d : Dataset) (l : Link) → IsMet st id d l → IsOff st path l.height →
+      again room st.datasets path d.head.name ≡ Err (TooDeep name)
 
 -- what was met stays, and so does each link
 pub record Grows (old new : State) : Type 0 where

@@ -24,7 +24,8 @@ member_at cat d band source = source_at d band source >>= λ s. member_of cat d.
 -- the greatest of what a function gives for the datasets that sources name, or 0
 abbrev pub greatest : (Dataset → ℕ) → List Dataset → List ℕ → List SourceValue → ℕ
 greatest f cat base [] = 0
-greatest f cat base (s ∷ ss) = max (unwrap_or (option_map f (source_name base s >>= λ name. dataset_named cat name)) 0) (greatest f cat base ss)
+greatest f cat base (s ∷ ss) = max (unwrap_or (option_map f (source_name base s >>= λ name. dataset_named cat name)) 0)
+    (greatest f cat base ss)
 
 abbrev pub height_step : (Dataset → ℕ) → List Dataset → List ℕ → Content → ℕ
 height_step below cat name (File h) = 0

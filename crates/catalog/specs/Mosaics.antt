@@ -1,5 +1,6 @@
 -- What the document of a mosaic says of its dataset.
-use Rattle.std.specs.Prelude.{ℕ, Bool, false, not, ◌||◌, List, [], ◌∷◌, length, map, flat_map, nat_lt, bytes_eq, Option, Some, None, if◌then◌else◌}
+use Rattle.std.specs.Prelude.{ℕ, Bool, false, not, ◌||◌, List, [], ◌∷◌, length, map, flat_map, nat_lt, bytes_eq, Option}
+use Rattle.std.specs.Prelude.{Some, None, if◌then◌else◌}
 use Rattle.std.specs.List.{filter, filter_map}
 use Rattle.geotransform.specs.declared.types.Size.{Size}
 use Rattle.outside.specs.Paths.{normal}
@@ -41,4 +42,12 @@ mosaic_band size b = record { kind = b.kind; nodata = b.nodata; block = block_of
 
 -- what a document under a name says of the dataset: its files are its own and those of its sources
 abbrev pub mosaic_head : List ℕ → DocumentValue → DatasetHead
-mosaic_head name d = record { name = name; kind = kinds.Vrt; size = d.size; geo = d.geo; srs = d.srs; bands = map (mosaic_band d.size) d.bands; files = name ∷ source_names name d }
+mosaic_head name d = record {
+  name = name;
+  kind = kinds.Vrt;
+  size = d.size;
+  geo = d.geo;
+  srs = d.srs;
+  bands = map (mosaic_band d.size) d.bands;
+  files = name ∷ source_names name d;
+}

@@ -1,7 +1,8 @@
 -- The answers that no definition gives.
 use Rattle.std.specs.Prelude.{◌≡◌}
 use Rattle.catalog.specs.declared.faults.WalkFault.{WalkFault}
-use Rattle.catalog.specs.declared.faults.WalkFault.TheVariants.{Absent, NotRecognized, Malformed, Short, Cycle, TooDeep, Limit, SourceBand, FolderFault, Memory}
+use Rattle.catalog.specs.declared.faults.WalkFault.TheVariants.{Absent, NotRecognized, Malformed, Short, Cycle, TooDeep}
+use Rattle.catalog.specs.declared.faults.WalkFault.TheVariants.{Limit, SourceBand, FolderFault, Memory}
 
 -- a call of the folder failed, or memory was refused
 abbrev pub IsOutside : WalkFault → Type 0

@@ -1,5 +1,6 @@
 -- The pixels of datasets, one at a time.
-use Rattle.std.specs.Prelude.{◌≡◌, ◌≤◌, ℕ, ℤ, pos, zero, suc, ◌-◌, false, true, ◌||◌, List, [], slice_get, Option, Some, None, option_map, Result, Ok, Err}
+use Rattle.std.specs.Prelude.{◌≡◌, ◌≤◌, ℕ, ℤ, pos, zero, suc, ◌-◌, false, true, ◌||◌, List, [], slice_get, Option, Some}
+use Rattle.std.specs.Prelude.{None, option_map, Result, Ok, Err}
 use Rattle.std.specs.Option.{unwrap_or}
 use Rattle.std.specs.FinMap.{get}
 use Rattle.lists_and_answers.specs.Options.{◌>>=◌}
@@ -61,7 +62,8 @@ name_of_source base s = unwrap_or (source_name base s) []
 -- What a source shows at a pixel of its mosaic, which has the name `base` and this size, by the datasets that are found
 -- and their pixels.
 abbrev pub shown : Lookup → Images → List ℕ → Size → SourceValue → ℕ → ℕ → Option ℤ
-shown look images base size s x y = given_of s size (size_of (look (name_of_source base s))) (images (name_of_source base s) (s.band - 1)) x y
+shown look images base size s x y =
+    given_of s size (size_of (look (name_of_source base s))) (images (name_of_source base s) (s.band - 1)) x y
 
 -- the pixel of a band of the mosaic with the name `base`, by the pixels of the datasets that its sources name
 abbrev pub band_pixel : Lookup → Images → List ℕ → Size → Option BandValue → ℕ → ℕ → ℤ
@@ -90,14 +92,15 @@ told (Err e) = None
 abbrev pub found_in_folder : Files → Lookup
 found_in_folder m name = told (dataset_in m false name)
 
--- The pixel of the dataset of a name, by the files of a folder alone. A walk accepts at most 16 mosaics on a path, below
--- which a file stands.
+-- The pixel of the dataset of a name, by the files of a folder alone. A walk accepts at most 16 mosaics on a path,
+-- below which a file stands.
 unfoldable pub pixel_of_name : Files → Images
 pixel_of_name m name band x y = pixel_within (found_in_folder m) m 17 name band x y
 
 -- The pixel of the dataset of a number in a catalog.
 unfoldable pub pixel_of : Files → List Dataset → ℕ → ℕ → ℕ → ℕ → ℤ
-pixel_of m cat id band x y = pixel_step (dataset_named cat) (pixel_within (dataset_named cat) m 16) m (slice_get cat id) band x y
+pixel_of m cat id band x y =
+    pixel_step (dataset_named cat) (pixel_within (dataset_named cat) m 16) m (slice_get cat id) band x y
 
 -- The size of the dataset of a catalog that a source of a dataset names.
 abbrev pub member_size : List Dataset → Dataset → SourceValue → Size
@@ -105,7 +108,8 @@ member_size cat d s = size_of (member_of cat d.head.name s >>= λ t. slice_get c
 
 -- The pixel of the dataset that a source names, in the band that the source takes.
 abbrev pub member_pixel : Files → List Dataset → Dataset → SourceValue → ℕ → ℕ → ℤ
-member_pixel m cat d s x y = unwrap_or (option_map (λ t. pixel_of m cat t (s.band - 1) x y) (member_of cat d.head.name s)) (pos 0)
+member_pixel m cat d s x y =
+    unwrap_or (option_map (λ t. pixel_of m cat t (s.band - 1) x y) (member_of cat d.head.name s)) (pos 0)
 
 -- what a source of a band names: a dataset of the catalog that has the source's band, with samples that it takes
 pub record IsTaken (cat : List Dataset) (d : Dataset) (band source : ℕ) (s : SourceValue) : Type 0 where
@@ -118,5 +122,6 @@ pub record IsTaken (cat : List Dataset) (d : Dataset) (band source : ℕ) (s : S
 
 -- for each source of a band, this is the size of the dataset that it names, and these are the pixels of its band
 abbrev pub AreOfMembers : Files → List Dataset → Dataset → ℕ → (SourceValue → Size) → (SourceValue → ℕ → ℕ → ℤ) → Type 0
-AreOfMembers m cat d band sizes pixels = (source t : ℕ) (s : SourceValue) (e : Dataset) → source_at d band source ≡ Some s → member_of cat d.head.name s ≡ Some t → slice_get cat t ≡ Some e
+AreOfMembers m cat d band sizes pixels = (source t : ℕ) (s : SourceValue) (e : Dataset) →
+    source_at d band source ≡ Some s → member_of cat d.head.name s ≡ Some t → slice_get cat t ≡ Some e
     → (sizes s ≡ e.head.size) × ((x y : ℕ) → pixels s x y ≡ pixel_of m cat t (s.band - 1) x y)

@@ -8,9 +8,9 @@ use Rattle.catalog.specs.declared.driver.Content.{Content}
 use Rattle.catalog.specs.declared.driver.Content.TheVariants.{File, Mosaic}
 use Rattle.catalog.specs.Drivers.{Dataset}
 
--- The most reads in which the head of a file's data is found. Raw data have a header, which is read at once. Of a cell the
--- front is read, and then, where `verify` asks for the sums, the record of each line. A tile's name and length tell all. A
--- grid is read whole, in pieces of 65,536 bytes.
+-- The most reads in which the head of a file's data is found. Raw data have a header, which is read at once. Of a cell
+-- the front is read, and then, where `verify` asks for the sums, the record of each line. A tile's name and length tell
+-- all. A grid is read whole, in pieces of 65,536 bytes.
 abbrev pub calls_to_find_head : Bool → DriverHead → ℕ → ℕ
 calls_to_find_head verify (Raw h) len = 1
 calls_to_find_head verify (Dted h) len = 1 + (if verify then h.lines else 0)

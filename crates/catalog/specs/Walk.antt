@@ -1,5 +1,7 @@
 -- The walk from a name to the datasets that it reaches, and what a catalog keeps of them.
-use Rattle.std.specs.Prelude.{◌≡◌, ◌⊎◌, ◌≤◌, ◌+◌, ◌-◌, ℕ, zero, suc, Bool, false, true, ◌||◌, nat_le, List, [], ◌∷◌, ◌++◌, length, All, bytes_eq, slice_get, Option, Some, None, option_and_then, Result, Ok, Err, nat_lt, if◌then◌else◌}
+use Rattle.std.specs.Prelude.{◌≡◌, ◌⊎◌, ◌≤◌, ◌+◌, ◌-◌, ℕ, zero, suc, Bool, false, true, ◌||◌, nat_le, List, [], ◌∷◌}
+use Rattle.std.specs.Prelude.{◌++◌, length, All, bytes_eq, slice_get, Option, Some, None, option_and_then, Result, Ok}
+use Rattle.std.specs.Prelude.{Err, nat_lt, if◌then◌else◌}
 use Rattle.std.specs.List.{sum_by}
 use Rattle.lists_and_answers.specs.Answers.{◌>>=◌}
 use Rattle.outside.specs.Outside.{Files}
@@ -19,7 +21,8 @@ use Rattle.catalog.specs.Heads.{kind_in, dataset_by, dataset_in, resolved}
 use Rattle.catalog.specs.declared.faults.Bad.TheVariants as bad
 use Rattle.catalog.specs.declared.faults.LimitKind.TheVariants as limits
 use Rattle.catalog.specs.declared.faults.WalkFault.{WalkFault}
-use Rattle.catalog.specs.declared.faults.WalkFault.TheVariants.{NotRecognized, Malformed, Cycle, TooDeep, Limit, SourceBand, Memory}
+use Rattle.catalog.specs.declared.faults.WalkFault.TheVariants.{NotRecognized, Malformed, Cycle, TooDeep, Limit}
+use Rattle.catalog.specs.declared.faults.WalkFault.TheVariants.{SourceBand, Memory}
 
 -- the number of the first dataset of a name, counted from `at`
 abbrev pub number_from : ℕ → List Dataset → List ℕ → Option ℕ
@@ -91,7 +94,8 @@ band_named (Some d) band = band_at d.head (band - 1)
 -- Samples that are given as they are may have any width; others have at most 32 bits, or the mosaic with the name
 -- `base`, whose source scales them or has a table for them, isn't one that is read.
 abbrev pub unless_wide : List Dataset → List ℕ → List ℕ → ℕ → Bool → Result (Unit {0}) WalkFault
-unless_wide cat base name band plain = if plain || is_narrow_band (band_named (dataset_named cat name) band) then Ok tt else Err (Malformed base (bad.Vrt vrt.Unsupported))
+unless_wide cat base name band plain = if plain || is_narrow_band (band_named (dataset_named cat name) band) then Ok tt
+    else Err (Malformed base (bad.Vrt vrt.Unsupported))
 
 -- the dataset of a name has a band, counted from 1, whose samples a source of the mosaic with the name `base` takes
 abbrev pub has_samples : List Dataset → List ℕ → List ℕ → ℕ → Bool → Result (Unit {0}) WalkFault
@@ -99,15 +103,18 @@ has_samples cat base name band plain = has_band cat name band >>= λ there. unle
 
 -- What is checked of a name that was met whole earlier, on another path: itself, and then what its sources name, in
 -- order. `below` checks a name with one mosaic more on the path.
-abbrev pub again_sources : (List ℕ → Result (Unit {0}) WalkFault) → List ℕ → List SourceValue → Result (Unit {0}) WalkFault
+abbrev pub again_sources : (List ℕ → Result (Unit {0}) WalkFault) → List ℕ → List SourceValue →
+    Result (Unit {0}) WalkFault
 again_sources below base [] = Ok tt
 again_sources below base (s ∷ ss) = resolved base s >>= λ name. below name >>= λ checked. again_sources below base ss
 
-abbrev pub again_below : (List (List ℕ) → List ℕ → Result (Unit {0}) WalkFault) → List (List ℕ) → Option Dataset → Result (Unit {0}) WalkFault
+abbrev pub again_below : (List (List ℕ) → List ℕ → Result (Unit {0}) WalkFault) → List (List ℕ) → Option Dataset →
+    Result (Unit {0}) WalkFault
 again_below below path None = Ok tt
 again_below below path (Some d) = again_sources (below (d.head.name ∷ path)) d.head.name (sources_in d.content)
 
-unfoldable pub again_step : (List (List ℕ) → List ℕ → Result (Unit {0}) WalkFault) → ℕ → List Dataset → List (List ℕ) → List ℕ → Result (Unit {0}) WalkFault
+unfoldable pub again_step : (List (List ℕ) → List ℕ → Result (Unit {0}) WalkFault) → ℕ → List Dataset → List (List ℕ) →
+    List ℕ → Result (Unit {0}) WalkFault
 again_step below room cat path name = do
   kind ← kind_in name
   free ← unless_on path name
@@ -129,26 +136,33 @@ visit_source visit base met s = do
   there ← has_samples after.datasets base name s.band (is_plain s)
   Ok after
 
-abbrev pub visit_sources : (Met → List ℕ → Result Met WalkFault) → List ℕ → Met → List SourceValue → Result Met WalkFault
+abbrev pub visit_sources : (Met → List ℕ → Result Met WalkFault) → List ℕ → Met → List SourceValue →
+    Result Met WalkFault
 visit_sources visit base met [] = Ok met
 visit_sources visit base met (s ∷ ss) = visit_source visit base met s >>= λ after. visit_sources visit base after ss
 
 -- a name that is met for the first time: its own files are read, then the walk goes through its sources
-unfoldable pub first_met : (List (List ℕ) → Met → List ℕ → Result Met WalkFault) → Files → Bool → Kind → List (List ℕ) → Met → List ℕ → Result Met WalkFault
+unfoldable pub first_met : (List (List ℕ) → Met → List ℕ → Result Met WalkFault) → Files → Bool → Kind → List (List ℕ) →
+    Met → List ℕ → Result Met WalkFault
 first_met below m verify kind path met name = do
   room ← one_more_in met.datasets
   d ← dataset_by kind m verify name
-  visit_sources (below (name ∷ path)) name (record { datasets = met.datasets ++ d ∷ []; sources = met.sources }) (sources_in d.content)
+  visit_sources (below (name ∷ path)) name (record {
+    datasets = met.datasets ++ d ∷ [];
+    sources = met.sources;
+  }) (sources_in d.content)
 
 -- a name that was met whole isn't read again
 abbrev pub met_again : ℕ → List (List ℕ) → Met → List ℕ → Result Met WalkFault
 met_again room path met name = again room met.datasets path name >>= λ checked. Ok met
 
-abbrev pub met_or_first : (List (List ℕ) → Met → List ℕ → Result Met WalkFault) → Files → Bool → ℕ → Kind → List (List ℕ) → Met → List ℕ → Option ℕ → Result Met WalkFault
+abbrev pub met_or_first : (List (List ℕ) → Met → List ℕ → Result Met WalkFault) → Files → Bool → ℕ → Kind →
+    List (List ℕ) → Met → List ℕ → Option ℕ → Result Met WalkFault
 met_or_first below m verify room kind path met name (Some id) = met_again room path met name
 met_or_first below m verify room kind path met name None = first_met below m verify kind path met name
 
-unfoldable pub visit_step : (List (List ℕ) → Met → List ℕ → Result Met WalkFault) → Files → Bool → ℕ → List (List ℕ) → Met → List ℕ → Result Met WalkFault
+unfoldable pub visit_step : (List (List ℕ) → Met → List ℕ → Result Met WalkFault) → Files → Bool → ℕ → List (List ℕ) →
+    Met → List ℕ → Result Met WalkFault
 visit_step below m verify room path met name = do
   kind ← kind_in name
   free ← unless_on path name
@@ -159,7 +173,8 @@ visit_step below m verify room path met name = do
 -- come onto it: the first refusal, or what was met then. It takes every path.
 abbrev pub visit : Files → Bool → ℕ → List (List ℕ) → Met → List ℕ → Result Met WalkFault
 visit m verify zero path met name = visit_step (λ p a n. Ok a) m verify zero path met name
-visit m verify (suc room) path met name = visit_step (λ p a n. visit m verify room p a n) m verify (suc room) path met name
+visit m verify (suc room) path met name =
+    visit_step (λ p a n. visit m verify room p a n) m verify (suc room) path met name
 
 -- what a walk has met before it starts
 abbrev pub met_in : List Dataset → Met
@@ -218,8 +233,8 @@ IsWalked m cat = All (λ d. dataset_in m false d.head.name ≡ Ok d) cat
 abbrev pub TellsKinds : {T : Type 0} → Result T WalkFault → Type 0
 TellsKinds result = (n : List ℕ) → result ≡ Err (NotRecognized n) → kind_in n ≡ Err (NotRecognized n)
 
--- A walk from a name that tells no kind is refused so or for want of memory; what is refused so tells no kind; and a walk
--- from the name of a file isn't refused so.
+-- A walk from a name that tells no kind is refused so or for want of memory; what is refused so tells no kind; and a
+-- walk from the name of a file isn't refused so.
 pub record WalksUnknown {T : Type 0} (name : List ℕ) (result : Result T WalkFault) : Type 0 where
   pub always : (fault : WalkFault) → kind_in name ≡ Err fault → (result ≡ Err fault) ⊎ (result ≡ Err Memory)
   pub only : TellsKinds result

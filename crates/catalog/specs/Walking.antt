@@ -1,5 +1,6 @@
 -- What each call of a walk ensures.
-use Rattle.std.specs.Prelude.{◌≡◌, ◌<◌, ◌≤◌, ◌+◌, ◌-◌, ℕ, Bool, List, ◌∷◌, length, Option, Some, None, is_some, IsTrue, Result, Ok, Err, IfOk, OnOk, IfErr}
+use Rattle.std.specs.Prelude.{◌≡◌, ◌<◌, ◌≤◌, ◌+◌, ◌-◌, ℕ, Bool, List, ◌∷◌, length, Option, Some, None, is_some, IsTrue}
+use Rattle.std.specs.Prelude.{Result, Ok, Err, IfOk, OnOk, IfErr}
 use Rattle.lists_and_answers.specs.Answers.{Gives, ◌>>=◌}
 use Rattle.lists_and_answers.specs.Lists.{flattened}
 use Rattle.outside.specs.Outside.{Files}
@@ -9,7 +10,8 @@ use Rattle.vrt_profile.specs.Values.{DocumentValue, BandValue, SourceValue}
 use Rattle.catalog.specs.declared.kind.Kind.TheVariants as kinds
 use Rattle.catalog.specs.declared.driver.Content.TheVariants.{Mosaic}
 use Rattle.catalog.specs.declared.faults.WalkFault.{WalkFault}
-use Rattle.catalog.specs.declared.faults.WalkFault.TheVariants.{Absent, NotRecognized, Malformed, Short, Cycle, TooDeep, Limit, SourceBand, FolderFault, Memory}
+use Rattle.catalog.specs.declared.faults.WalkFault.TheVariants.{Absent, NotRecognized, Malformed, Short, Cycle, TooDeep}
+use Rattle.catalog.specs.declared.faults.WalkFault.TheVariants.{Limit, SourceBand, FolderFault, Memory}
 use Rattle.catalog.specs.declared.walk.Wanted.{Wanted}
 use Rattle.catalog.specs.declared.walk.Meeting.{Meeting}
 use Rattle.catalog.specs.declared.walk.Meeting.TheVariants.{Whole, Open}
@@ -19,7 +21,8 @@ use Rattle.catalog.specs.Outcomes.{IsOutside, IsMemory}
 use Rattle.catalog.specs.Heads.{kind_in, resolved, IsOwnFault, OwnsFaults}
 use Rattle.catalog.specs.Walk.{number_of, one_more_source, visit, visit_sources, IsWalked, TellsKinds, WalksUnknown}
 use Rattle.catalog.specs.Readings.{calls_to_open_all}
-use Rattle.catalog.specs.Linked.{State, met_of, most, IsLinked, IsMember, Each, AreRows, IsPath, IsLow, Grows, Goes, pushed, one_counted}
+use Rattle.catalog.specs.Linked.{State, met_of, most, IsLinked, IsMember, Each, AreRows, IsPath, IsLow, Grows, Goes}
+use Rattle.catalog.specs.Linked.{pushed, one_counted}
 
 -- what a folder tells, and how often it was written, was read and has failed
 pub record Seen : Type 0 where
@@ -46,20 +49,22 @@ IsPlain Memory = Unit {0}
 
 -- What was met stays, after an answer the walk went on through so many sources, and the folder is as it was but for its
 -- counts.
-pub record WalksOn {T : Type 0} (n : ℕ) (before after : Seen) (old new : State) (result : Result T WalkFault) : Type 0 where
-  pub grows : Grows old new
-  pub goes : OnOk result (Goes n old new)
-  pub read : (m : Files) → before.names ≡ Some m → IsWalked m old.datasets → OnOk result (IsWalked m new.datasets)
-  pub known : TellsKinds result
-  pub own : OwnsFaults result
-  pub names : after.names ≡ before.names
-  pub writes : after.writes ≡ before.writes
-  pub cause : HasCause FolderFault before.faults after.faults result
+pub record WalksOn {T : Type 0} (n : ℕ) (before after : Seen) (old new : State) (result : Result T WalkFault) : Type 0
+  where
+    pub grows : Grows old new
+    pub goes : OnOk result (Goes n old new)
+    pub read : (m : Files) → before.names ≡ Some m → IsWalked m old.datasets → OnOk result (IsWalked m new.datasets)
+    pub known : TellsKinds result
+    pub own : OwnsFaults result
+    pub names : after.names ≡ before.names
+    pub writes : after.writes ≡ before.writes
+    pub cause : HasCause FolderFault before.faults after.faults result
 
--- there were at most as many reads as the datasets take that were met meanwhile: each was read once, and none that was met
--- before was read again
+-- there were at most as many reads as the datasets take that were met meanwhile: each was read once, and none that was
+-- met before was read again
 abbrev pub ReadsOnce : Bool → Seen → Seen → State → State → Type 0
-ReadsOnce verify before after old new = after.reads + calls_to_open_all verify old.datasets ≤ before.reads + calls_to_open_all verify new.datasets
+ReadsOnce verify before after old new =
+    after.reads + calls_to_open_all verify old.datasets ≤ before.reads + calls_to_open_all verify new.datasets
 
 -- a name that was met costs no call of the folder
 pub record IsFree (before after : Seen) : Type 0 where
@@ -67,9 +72,11 @@ pub record IsFree (before after : Seen) : Type 0 where
   pub faults : after.faults ≡ before.faults
 
 -- a visit of a name, with room for so many mosaics more on the path that leads to it
-pub record Visits (verify : Bool) (room : ℕ) (name : List ℕ) (before after : Seen) (old new : State) (result : Result ℕ WalkFault) : Type 0 where
+pub record Visits (verify : Bool) (room : ℕ) (name : List ℕ) (before after : Seen) (old new : State)
+    (result : Result ℕ WalkFault) : Type 0 where
   pub walks : WalksOn 0 before after old new result
-  pub told : (m : Files) → before.names ≡ Some m → (path : List (List ℕ)) → IsPath old path → Gives IsOutside (λ id. met_of new) result (visit m verify room path (met_of old) name)
+  pub told : (m : Files) → before.names ≡ Some m → (path : List (List ℕ)) → IsPath old path →
+      Gives IsOutside (λ id. met_of new) result (visit m verify room path (met_of old) name)
   pub reads : OnOk result (ReadsOnce verify before after old new)
   pub number : IfOk result (λ id. number_of new.datasets name ≡ Some id)
   pub low : IfOk result (λ id. IsLow new id room)
@@ -78,24 +85,27 @@ pub record Visits (verify : Bool) (room : ℕ) (name : List ℕ) (before after :
 
 -- A mosaic was met for the first time, and stands open at the end of what was met: the visit of its name is the walk
 -- through its sources.
-pub record IsOpened (verify : Bool) (room : ℕ) (name : List ℕ) (before after : Seen) (old new : State) (id : ℕ) : Type 0 where
-  pub dataset : Dataset
-  pub document : DocumentValue
-  pub content : dataset.content ≡ Mosaic document
-  pub named : dataset.head.name ≡ name
-  pub kind : kind_in name ≡ Ok kinds.Vrt
-  pub some : 0 < room
-  pub first : IsLinked old
-  pub linked : IsLinked new
-  pub fresh : number_of old.datasets name ≡ None
-  pub is_pushed : new ≡ pushed old dataset None
-  pub number : id ≡ length old.datasets
-  pub read : (m : Files) → before.names ≡ Some m → IsWalked m old.datasets → IsWalked m new.datasets
-  pub told : (m : Files) → before.names ≡ Some m → (path : List (List ℕ)) → IsPath old path → visit m verify room path (met_of old) name ≡ visit_sources (λ a n. visit m verify (room - 1) (name ∷ path) a n) name (met_of new) (sources_of document)
-  pub names : after.names ≡ before.names
-  pub writes : after.writes ≡ before.writes
-  pub later : before.faults ≤ after.faults
-  pub reads : ReadsOnce verify before after old new
+pub record IsOpened (verify : Bool) (room : ℕ) (name : List ℕ) (before after : Seen) (old new : State) (id : ℕ) : Type 0
+  where
+    pub dataset : Dataset
+    pub document : DocumentValue
+    pub content : dataset.content ≡ Mosaic document
+    pub named : dataset.head.name ≡ name
+    pub kind : kind_in name ≡ Ok kinds.Vrt
+    pub some : 0 < room
+    pub first : IsLinked old
+    pub linked : IsLinked new
+    pub fresh : number_of old.datasets name ≡ None
+    pub is_pushed : new ≡ pushed old dataset None
+    pub number : id ≡ length old.datasets
+    pub read : (m : Files) → before.names ≡ Some m → IsWalked m old.datasets → IsWalked m new.datasets
+    pub told : (m : Files) → before.names ≡ Some m → (path : List (List ℕ)) → IsPath old path →
+        visit m verify room path (met_of old) name ≡ visit_sources (λ a n. visit m verify (room - 1) (name ∷ path) a n)
+        name (met_of new) (sources_of document)
+    pub names : after.names ≡ before.names
+    pub writes : after.writes ≡ before.writes
+    pub later : before.faults ≤ after.faults
+    pub reads : ReadsOnce verify before after old new
 
 -- how a visit of a name begins
 abbrev pub Meets : Bool → ℕ → List ℕ → Seen → Seen → State → State → Result Meeting WalkFault → Type 0
@@ -109,14 +119,18 @@ pub record Reaches (st : State) (room : ℕ) (base : List ℕ) (ss : List Source
   pub low : most st.links row ≤ room
 
 -- and so are those that the sources of all bands name
-pub record ReachesRows (st : State) (room : ℕ) (base : List ℕ) (bands : List BandValue) (rows : List (List ℕ)) : Type 0 where
-  pub members : AreRows st base bands rows
-  pub low : most st.links (flattened rows) ≤ room
+pub record ReachesRows (st : State) (room : ℕ) (base : List ℕ) (bands : List BandValue) (rows : List (List ℕ)) : Type 0
+  where
+    pub members : AreRows st base bands rows
+    pub low : most st.links (flattened rows) ≤ room
 
 -- a walk through sources of the mosaic with the name `base`, in order
-pub record Passes {T : Type 0} (verify : Bool) (room : ℕ) (base : List ℕ) (ss : List SourceValue) (before after : Seen) (old new : State) (IsReached : T → Type 0) (result : Result T WalkFault) : Type 0 where
+pub record Passes {T : Type 0} (verify : Bool) (room : ℕ) (base : List ℕ) (ss : List SourceValue) (before after : Seen)
+    (old new : State) (IsReached : T → Type 0) (result : Result T WalkFault) : Type 0 where
   pub walks : WalksOn (length ss) before after old new result
-  pub told : (m : Files) → before.names ≡ Some m → (path : List (List ℕ)) → IsPath old path → Gives IsOutside (λ t. met_of new) result (visit_sources (λ a n. visit m verify room path a n) base (met_of old) ss)
+  pub told : (m : Files) → before.names ≡ Some m → (path : List (List ℕ)) → IsPath old path →
+      Gives IsOutside (λ t. met_of new) result (visit_sources (λ a n. visit m verify room path a n) base (met_of old)
+      ss)
   pub reads : OnOk result (ReadsOnce verify before after old new)
   pub reached : IfOk result IsReached
 

@@ -1,5 +1,6 @@
 // Catalogs of datasets, and the walk that finds them.
-ghost use Rattle.std.specs.Prelude.{◌≡◌, ◌<◌, ◌≤◌, ◌+◌, ◌++◌, List, [], length, slice_get, Some, Err, option_map, option_and_then, IfOk, OnOk, OnErr, IsTrue, is_some};
+ghost use Rattle.std.specs.Prelude.{◌≡◌, ◌<◌, ◌≤◌, ◌+◌, ◌++◌, List, [], length, slice_get, Some, Err, option_map};
+ghost use Rattle.std.specs.Prelude.{option_and_then, IfOk, OnOk, OnErr, IsTrue, is_some};
 ghost use Rattle.lists_and_answers.specs.Answers.{Gives};
 ghost use Rattle.outside.specs.Outside.{Files};
 ghost use Rattle.outside.specs.Causes.{HasCause};
@@ -73,7 +74,8 @@ impl Catalog {
     /// The head of a dataset's data, as the walk read it; None exactly where the dataset is a mosaic.
     pub fn driver(&self, id: u32) -> Option<&DriverHead>
         requires known { id < length self.now }
-        ensures driver { option_and_then (λ d. driver_of d.content) (slice_get self.now id) ≡ option_map (λ r. r.now) result }
+        ensures driver { option_and_then (λ d. driver_of d.content) (slice_get self.now id) ≡ option_map (λ r. r.now)
+            result }
     {
         match &self.met.dataset(id).content {
             Content::File(driver) => Some(driver),
@@ -83,7 +85,8 @@ impl Catalog {
 
     /// The document of a mosaic; None exactly where there is no mosaic of this number.
     pub fn document(&self, id: u32) -> Option<&Document>
-        ensures document { option_and_then (λ d. document_of d.content) (slice_get self.now id) ≡ option_map (λ r. r.now) result }
+        ensures document { option_and_then (λ d. document_of d.content) (slice_get self.now id)
+            ≡ option_map (λ r. r.now) result }
         ensures valid { IsCatalog self.now }
     {
         if id >= self.met.count() {
@@ -109,7 +112,8 @@ impl Catalog {
         requires there { IsTrue (is_some (option_and_then (λ d. source_at d band source) (slice_get self.now id))) }
         ensures member { option_and_then (λ d. member_at self.now d band source) (slice_get self.now id) ≡ Some result }
         ensures known { result < length self.now }
-        ensures below { (d t : Known) → slice_get self.now id ≡ Some d → slice_get self.now result ≡ Some t → height_of self.now t < height_of self.now d }
+        ensures below { (d t : Known) → slice_get self.now id ≡ Some d → slice_get self.now result ≡ Some t →
+            height_of self.now t < height_of self.now d }
     {
         let Some(link) = self.met.link(id) else {
             unreachable!();
@@ -150,14 +154,17 @@ pub fn open_all<F: Folder>(
     name: &Name,
     verify: bool,
 ) -> Result<u32, WalkFault>
-    ensures told { (m : Files) → F.names folder.old ≡ Some m → Gives IsOutside (λ id. cat.new) result (walked m verify cat.old name.now) }
+    ensures told { (m : Files) → F.names folder.old ≡ Some m → Gives IsOutside (λ id. cat.new) result
+        (walked m verify cat.old name.now) }
     ensures number { IfOk result (λ id. number_of cat.new name.now ≡ Some id) }
     ensures refused { OnErr result (cat.new ≡ cat.old) }
     ensures kept { (more : List Known) × (cat.new ≡ cat.old ++ more) }
     ensures valid { IsCatalog cat.new }
     ensures walked { (m : Files) → F.names folder.old ≡ Some m → IsWalked m cat.old → IsWalked m cat.new }
-    ensures again { IsTrue (is_some (number_of cat.old name.now)) → (F.read_calls folder.new ≡ F.read_calls folder.old) × (F.faults folder.new ≡ F.faults folder.old) }
-    ensures reads { OnOk result ((more : List Known) → cat.new ≡ cat.old ++ more → F.read_calls folder.new ≤ F.read_calls folder.old + calls_to_open_all verify more) }
+    ensures again { IsTrue (is_some (number_of cat.old name.now)) →
+        (F.read_calls folder.new ≡ F.read_calls folder.old) × (F.faults folder.new ≡ F.faults folder.old) }
+    ensures reads { OnOk result ((more : List Known) → cat.new ≡ cat.old ++ more →
+        F.read_calls folder.new ≤ F.read_calls folder.old + calls_to_open_all verify more) }
     ensures unknown { WalksUnknown name.now result }
     ensures names { F.names folder.new ≡ F.names folder.old }
     ensures write_calls { F.write_calls folder.new ≡ F.write_calls folder.old }

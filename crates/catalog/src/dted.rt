@@ -29,7 +29,8 @@ fn broken_line<F: Folder>(
 ) -> Result<Option<u32>, Failed>
     requires long { needed_of head.now ≤ F.file_len file.old }
     requires buffer { length buffer.old ≡ record_len head.now }
-    ensures told { IfOk result (λ line. (b : List ℕ) → F.file_bytes file.old ≡ Some b → broken_in head.now b (range_with_len 0 head.now.lines) ≡ line) }
+    ensures told { IfOk result (λ line. (b : List ℕ) → F.file_bytes file.old ≡ Some b →
+        broken_in head.now b (range_with_len 0 head.now.lines) ≡ line) }
     ensures names { F.names folder.new ≡ F.names folder.old }
     ensures reads { F.read_calls folder.new ≤ F.read_calls folder.old + head.now.lines }
     ensures write_calls { F.write_calls folder.new ≡ F.write_calls folder.old }
@@ -54,7 +55,8 @@ fn check_records<F: Folder>(
     name: &Name,
 ) -> Result<(), WalkFault>
     requires long { needed_of head.now ≤ F.file_len file.old }
-    ensures told { (b : List ℕ) → F.file_bytes file.old ≡ Some b → Gives IsOutside (λ u. u) result (records_whole head.now b name.now) }
+    ensures told { (b : List ℕ) → F.file_bytes file.old ≡ Some b → Gives IsOutside (λ u. u) result
+        (records_whole head.now b name.now) }
     ensures names { F.names folder.new ≡ F.names folder.old }
     ensures reads { F.read_calls folder.new ≤ F.read_calls folder.old + head.now.lines }
     ensures write_calls { F.write_calls folder.new ≡ F.write_calls folder.old }
@@ -81,7 +83,8 @@ fn read_cell<F: Folder>(
     name: &Name,
 ) -> Result<DtedHead, WalkFault>
     requires len { IsLong (F.file_bytes file.old) (F.file_len file.old) }
-    ensures told { (b : List ℕ) → F.file_bytes file.old ≡ Some b → Gives IsOutside (λ h. h) result (cell_in b name.now) }
+    ensures told { (b : List ℕ) → F.file_bytes file.old ≡ Some b → Gives IsOutside (λ h. h) result
+        (cell_in b name.now) }
     ensures long { IfOk result (λ h. needed_of h ≤ F.file_len file.old) }
     ensures bytes { F.file_bytes file.new ≡ F.file_bytes file.old }
     ensures len { F.file_len file.new ≡ F.file_len file.old }
@@ -122,11 +125,13 @@ pub fn find_cell<F: Folder>(
     name: &Name,
     verify: bool,
 ) -> Result<Found, WalkFault>
-    ensures told { (m : Files) → F.names folder.old ≡ Some m → Gives IsOutside (λ found. found) result (dted_in m verify name.now) }
+    ensures told { (m : Files) → F.names folder.old ≡ Some m → Gives IsOutside (λ found. found) result
+        (dted_in m verify name.now) }
     ensures kind { IfOk result (λ found. content_kind found.content ≡ Kind.Dted) }
     ensures fits { IfOk result (λ found. Fits name.now found.content found.length) }
     ensures names { F.names folder.new ≡ F.names folder.old }
-    ensures reads { IfOk result (λ found. F.read_calls folder.new ≤ F.read_calls folder.old + calls_to_find verify found.content found.length) }
+    ensures reads { IfOk result (λ found. F.read_calls folder.new ≤ F.read_calls folder.old + calls_to_find verify
+        found.content found.length) }
     ensures write_calls { F.write_calls folder.new ≡ F.write_calls folder.old }
     ensures cause { HasCause WalkFault.FolderFault (F.faults folder.old) (F.faults folder.new) result }
     ensures of_file { IfErr result IsOfFile }

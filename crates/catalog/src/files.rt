@@ -13,7 +13,8 @@ use std::alloc::Global;
 pub fn open_file<F: Folder>(folder: &mut F, name: &Name) -> Result<F::File, WalkFault>
     ensures ok { IfOk result (λ file. IsFile (F.names folder.old) name.now (F.file_bytes file)) }
     ensures len { IfOk result (λ file. IsLong (F.file_bytes file) (F.file_len file)) }
-    ensures err { IfErr result (λ f. (m : Files) → F.names folder.old ≡ Some m → IsOutside f ⊎ (file_in m name.now ≡ Err f)) }
+    ensures err { IfErr result (λ f. (m : Files) → F.names folder.old ≡ Some m →
+        IsOutside f ⊎ (file_in m name.now ≡ Err f)) }
     ensures names { F.names folder.new ≡ F.names folder.old }
     ensures read_calls { F.read_calls folder.new ≡ F.read_calls folder.old }
     ensures write_calls { F.write_calls folder.new ≡ F.write_calls folder.old }

@@ -1,5 +1,6 @@
 // ASCII grids, scanned whole in pieces.
-ghost use Rattle.std.specs.Prelude.{◌≡◌, ◌⊎◌, ◌≤◌, ◌<◌, ◌+◌, ℕ, List, length, Option, Some, Ok, Err, ◌^◌, IfOk, IfErr, OnOk};
+ghost use Rattle.std.specs.Prelude.{◌≡◌, ◌⊎◌, ◌≤◌, ◌<◌, ◌+◌, ℕ, List, length, Option, Some, Ok, Err, ◌^◌, IfOk, IfErr};
+ghost use Rattle.std.specs.Prelude.{OnOk};
 ghost use Rattle.std.specs.Int.{div_ceil};
 ghost use Rattle.lists_and_answers.specs.Answers.{Gives};
 ghost use Rattle.outside.specs.Outside.{Files, IsLong};
@@ -46,8 +47,10 @@ fn scan_piece<F: Folder>(
     scanner: &mut Scanner,
 ) -> Result<(), ScanFault>
     requires within { at + length piece.old ≤ F.file_len file.old }
-    ensures fed { OnOk result (HasFed scanner.old (F.file_bytes file.old) at → HasFed scanner.new (F.file_bytes file.old) (at + length piece.old)) }
-    ensures err { IfErr result (λ f. (b : List ℕ) → F.file_bytes file.old ≡ Some b → HasFed scanner.old (F.file_bytes file.old) at → IsScanFault b f) }
+    ensures fed { OnOk result (HasFed scanner.old (F.file_bytes file.old) at →
+        HasFed scanner.new (F.file_bytes file.old) (at + length piece.old)) }
+    ensures err { IfErr result (λ f. (b : List ℕ) → F.file_bytes file.old ≡ Some b →
+        HasFed scanner.old (F.file_bytes file.old) at → IsScanFault b f) }
     ensures bytes { F.file_bytes file.new ≡ F.file_bytes file.old }
     ensures len { F.file_len file.new ≡ F.file_len file.old }
     ensures names { F.names folder.new ≡ F.names folder.old }
@@ -97,10 +100,13 @@ fn scan_pieces<F: Folder>(
 
 // What the scanner says of the bytes that it was fed.
 fn finish(scanner: Scanner) -> Result<GridHead, ScanFault>
-    ensures told { IfOk result (λ h. (bytes : Option (List ℕ)) (len : ℕ) (b : List ℕ) → HasFed scanner bytes len → bytes ≡ Some b → len ≡ length b → grid_head b ≡ Ok h) }
-    ensures err { IfErr result (λ f. (bytes : Option (List ℕ)) (len : ℕ) (b : List ℕ) → HasFed scanner bytes len → bytes ≡ Some b → len ≡ length b → IsScanFault b f) }
+    ensures told { IfOk result (λ h. (bytes : Option (List ℕ)) (len : ℕ) (b : List ℕ) → HasFed scanner bytes len →
+        bytes ≡ Some b → len ≡ length b → grid_head b ≡ Ok h) }
+    ensures err { IfErr result (λ f. (bytes : Option (List ℕ)) (len : ℕ) (b : List ℕ) → HasFed scanner bytes len →
+        bytes ≡ Some b → len ≡ length b → IsScanFault b f) }
     ensures kept { IfOk result IsHead }
-    ensures rows { IfOk result (λ h. (bytes : Option (List ℕ)) (len : ℕ) → HasFed scanner bytes len → len < 2 ^ 64 → AreRising 0 len h.rows) }
+    ensures rows { IfOk result (λ h. (bytes : Option (List ℕ)) (len : ℕ) → HasFed scanner bytes len → len < 2 ^ 64 →
+        AreRising 0 len h.rows) }
     ensures inside { result ≡ Err ScanFault.Failed → ⊥ }
 {
     match scanner.finish() {
@@ -124,7 +130,8 @@ fn scan_file<F: Folder>(
     ensures kept { IfOk result IsHead }
     ensures rows { IfOk result (λ h. AreRising 0 (F.file_len file.old) h.rows) }
     ensures names { F.names folder.new ≡ F.names folder.old }
-    ensures reads { F.read_calls folder.new ≤ F.read_calls folder.old + div_ceil (F.file_len file.old) (length buffer.old) }
+    ensures reads { F.read_calls folder.new ≤ F.read_calls folder.old + div_ceil (F.file_len file.old)
+        (length buffer.old) }
     ensures write_calls { F.write_calls folder.new ≡ F.write_calls folder.old }
     ensures cause { HasCause ScanFault.Failed (F.faults folder.old) (F.faults folder.new) result }
 {
@@ -175,11 +182,13 @@ fn refused(name: &Name, fault: ScanFault) -> WalkFault
 // Finds the grid of a name: opens it and scans it whole.
 #[tactic(auto, using(crate::proofs::Headers::outside_fails), unfolding(crate::specs::Heads::ascii_in))]
 pub fn find_grid<F: Folder>(alloc: Global, folder: &mut F, name: &Name) -> Result<Found, WalkFault>
-    ensures told { (m : Files) → F.names folder.old ≡ Some m → Gives IsOutside (λ found. found) result (ascii_in m name.now) }
+    ensures told { (m : Files) → F.names folder.old ≡ Some m → Gives IsOutside (λ found. found) result
+        (ascii_in m name.now) }
     ensures kind { IfOk result (λ found. content_kind found.content ≡ Kind.Ascii) }
     ensures fits { IfOk result (λ found. Fits name.now found.content found.length) }
     ensures names { F.names folder.new ≡ F.names folder.old }
-    ensures reads { IfOk result (λ found. F.read_calls folder.new ≤ F.read_calls folder.old + div_ceil found.length 65536) }
+    ensures reads { IfOk result (λ found. F.read_calls folder.new ≤ F.read_calls folder.old + div_ceil found.length
+        65536) }
     ensures write_calls { F.write_calls folder.new ≡ F.write_calls folder.old }
     ensures cause { HasCause WalkFault.FolderFault (F.faults folder.old) (F.faults folder.new) result }
     ensures of_file { IfErr result IsOfFile }

@@ -25,7 +25,23 @@ impl Model for Head {
 
     ghost Value = { DatasetHead };
 
-    ghost view = { λ h. record { name = h.name; kind = h.kind; size = h.size; geo = h.geo; srs = h.srs; bands = h.bands; files = h.files } };
+    ghost view = { λ h. record {
+      name = h.name;
+      kind = h.kind;
+      size = h.size;
+      geo = h.geo;
+      srs = h.srs;
+      bands = h.bands;
+      files = h.files;
+    } };
 
-    ghost invariant = { λ h. IsDatasetHead (record { name = h.name; kind = h.kind; size = h.size; geo = h.geo; srs = h.srs; bands = h.bands; files = h.files }) };
+    ghost invariant = { λ h. IsDatasetHead (record {
+      name = h.name;
+      kind = h.kind;
+      size = h.size;
+      geo = h.geo;
+      srs = h.srs;
+      bands = h.bands;
+      files = h.files;
+    }) };
 }

@@ -4,7 +4,8 @@ ghost use Rattle.outside.specs.Names.{extension_of, is_raw, header_of};
 ghost use Rattle.catalog.specs.Outcomes.{IsMemory};
 ghost use Rattle.catalog.specs.Dataset.{IsDatasetHead};
 ghost use Rattle.hgt_tiles.specs.Places.{IsSide};
-ghost use Rattle.catalog.specs.Drivers.{raw_band, raw_head, dted_band, dted_head, hgt_band, hgt_head, tile_place, ascii_band, ascii_head, head_told, content_head, IsOfKind, IsOfContent};
+ghost use Rattle.catalog.specs.Drivers.{raw_band, raw_head, dted_band, dted_head, hgt_band, hgt_head, tile_place};
+ghost use Rattle.catalog.specs.Drivers.{ascii_band, ascii_head, head_told, content_head, IsOfKind, IsOfContent};
 
 use crate::driver::Content;
 use crate::mosaic_head::mosaic_head;

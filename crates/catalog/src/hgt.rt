@@ -25,7 +25,8 @@ fn is_tile_name(name: &Name) -> bool
 // Finds the tile of a name: reads the name, opens the file, and compares its length.
 #[tactic(auto, using(crate::proofs::Headers::outside_fails), unfolding(crate::specs::Heads::hgt_in))]
 pub fn find_tile<F: Folder>(folder: &mut F, name: &Name) -> Result<Found, WalkFault>
-    ensures told { (m : Files) → F.names folder.old ≡ Some m → Gives IsOutside (λ found. found) result (hgt_in m name.now) }
+    ensures told { (m : Files) → F.names folder.old ≡ Some m → Gives IsOutside (λ found. found) result
+        (hgt_in m name.now) }
     ensures kind { IfOk result (λ found. content_kind found.content ≡ Kind.Hgt) }
     ensures fits { IfOk result (λ found. Fits name.now found.content found.length) }
     ensures names { F.names folder.new ≡ F.names folder.old }

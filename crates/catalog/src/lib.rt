@@ -7,6 +7,7 @@ mod driver;
 mod dted;
 mod faults;
 mod files;
+mod gathered;
 mod grid;
 mod head;
 mod heads;

@@ -1,5 +1,6 @@
 // What a walk keeps of what it has met.
-ghost use Rattle.std.specs.Prelude.{◌≡◌, ◌<◌, ◌≤◌, ◌+◌, ◌-◌, ℕ, suc, List, [], length, All, slice_get, bytes_eq, Option, Some, None, option_map, if◌then◌else◌, IfOk, IfErr, OnOk, OnErr, max};
+ghost use Rattle.std.specs.Prelude.{◌≡◌, ◌<◌, ◌≤◌, ◌+◌, ◌-◌, ℕ, suc, List, [], length, All, slice_get, bytes_eq};
+ghost use Rattle.std.specs.Prelude.{Option, Some, None, option_map, if◌then◌else◌, IfOk, IfErr, OnOk, OnErr, max};
 ghost use Rattle.std.specs.Option.{option_or};
 ghost use Rattle.std.specs.BTreeMap.{get_by_text};
 ghost use Rattle.vrt_profile.specs.Values.{BandValue};
@@ -10,7 +11,8 @@ ghost use Rattle.catalog.specs.Drivers.{Dataset as Known};
 ghost use Rattle.catalog.specs.Walking.{IsPlain};
 ghost use Rattle.catalog.specs.Dataset.{band_at};
 ghost use Rattle.catalog.specs.Walk.{is_narrow_band, number_of, one_more_source};
-ghost use Rattle.catalog.specs.Linked.{State, IsLinked, IsHigh, IsDeep, Grows, HasBand, IsMosaicAt, pushed, closed, one_counted, cut_to, height_at, most, first_above};
+ghost use Rattle.catalog.specs.Linked.{State, IsLinked, IsHigh, IsDeep, Grows, HasBand, IsMosaicAt, pushed, closed};
+ghost use Rattle.catalog.specs.Linked.{one_counted, cut_to, height_at, most, first_above};
 
 use crate::dataset::Dataset;
 use crate::driver::Content;
@@ -81,7 +83,8 @@ fn keep_number(
     dataset: &Dataset,
     number: u32,
 ) -> Result<(), AllocError>
-    ensures ok { OnOk result ((name : List ℕ) → get_by_text numbers.new name ≡ option_or (get_by_text numbers.old name) (if bytes_eq dataset.now.head.name name then Some number else None)) }
+    ensures ok { OnOk result ((name : List ℕ) → get_by_text numbers.new name ≡ option_or (get_by_text numbers.old name)
+        (if bytes_eq dataset.now.head.name name then Some number else None)) }
     ensures err { OnErr result (numbers.new.entries ≡ numbers.old.entries) }
 {
     let key = String::from_str(alloc, dataset.head.name.as_str())?;
@@ -152,7 +155,8 @@ impl Met {
     /// Whether the samples of a band of a dataset, counted from 1, have at most 32 bits.
     pub fn is_narrow(&self, id: u32, band: u32) -> bool
         requires known { id < length self.now.datasets }
-        ensures narrow { (d : Known) → slice_get self.now.datasets id ≡ Some d → result ≡ is_narrow_band (band_at d.head (band - 1)) }
+        ensures narrow { (d : Known) → slice_get self.now.datasets id ≡ Some d →
+            result ≡ is_narrow_band (band_at d.head (band - 1)) }
     {
         let at = (band as usize).saturating_sub(1);
         match self.dataset(id).head.bands.as_slice().get(at) {
@@ -202,7 +206,8 @@ impl Met {
         requires known { id < length self.old.links }
         requires rows { All (λ row. All (λ id. id < length self.old.links) row) members }
         requires low { most self.old.links (flattened members) < 16 }
-        ensures closed { self.new ≡ closed self.old id (record { height = suc (most self.old.links (flattened members)); members = members }) }
+        ensures closed { self.new ≡ closed self.old id
+            (record { height = suc (most self.old.links (flattened members)); members = members }) }
     {
         let height = self.highest(members.as_slice()) + 1;
         self.links[id as usize] = Some(Link { height, members });

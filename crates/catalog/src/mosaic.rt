@@ -30,7 +30,8 @@ fn document_bytes<F: Folder>(
 ) -> Result<Vec<u8>, WalkFault>
     ensures ok { IfOk result (λ v. (m : Files) → F.names folder.old ≡ Some m → file_in m name.now ≡ Ok v.items) }
     ensures few { IfOk result (λ v. length v.items ≤ 2 ^ 26) }
-    ensures err { IfErr result (λ f. (m : Files) → F.names folder.old ≡ Some m → IsOutside f ⊎ (vrt_in m name.now ≡ Err f)) }
+    ensures err { IfErr result (λ f. (m : Files) → F.names folder.old ≡ Some m →
+        IsOutside f ⊎ (vrt_in m name.now ≡ Err f)) }
     ensures names { F.names folder.new ≡ F.names folder.old }
     ensures reads { F.read_calls folder.new ≤ F.read_calls folder.old + 1 }
     ensures write_calls { F.write_calls folder.new ≡ F.write_calls folder.old }
@@ -50,7 +51,8 @@ fn document_bytes<F: Folder>(
 
 // What the bytes of the document of a name say.
 fn read_document(alloc: Global, name: &Name, bytes: &[u8]) -> Result<Document, WalkFault>
-    ensures told { Gives IsMemory (λ d. d) result (named (λ f. WalkFault.Malformed name.now (Bad.Vrt f)) (document_of bytes.now)) }
+    ensures told { Gives IsMemory (λ d. d) result (named (λ f. WalkFault.Malformed name.now (Bad.Vrt f))
+        (document_of bytes.now)) }
     ensures rules { IfOk result IsDocument }
     ensures of_file { IfErr result IsOfFile }
 {
@@ -74,7 +76,8 @@ pub fn find_mosaic<F: Folder>(
     folder: &mut F,
     name: &Name,
 ) -> Result<Found, WalkFault>
-    ensures told { (m : Files) → F.names folder.old ≡ Some m → Gives IsOutside (λ found. found) result (vrt_in m name.now) }
+    ensures told { (m : Files) → F.names folder.old ≡ Some m → Gives IsOutside (λ found. found) result
+        (vrt_in m name.now) }
     ensures kind { IfOk result (λ found. content_kind found.content ≡ Kind.Vrt) }
     ensures fits { IfOk result (λ found. Fits name.now found.content found.length) }
     ensures names { F.names folder.new ≡ F.names folder.old }

@@ -3,11 +3,13 @@ ghost use Rattle.std.specs.Prelude.{◌≡◌, ◌++◌, ◌∷◌, [], List, �
 ghost use Rattle.std.specs.List.{filter_map};
 ghost use Rattle.catalog.specs.Outcomes.{IsMemory};
 ghost use Rattle.catalog.specs.Dataset.{IsDatasetHead};
-ghost use Rattle.catalog.specs.Mosaics.{source_name, source_names, mosaic_band, mosaic_head};
+ghost use Rattle.catalog.specs.Mosaics.{distinct, source_name, source_names, mosaic_band, mosaic_head};
+ghost use Rattle.catalog.specs.Gathered.{HasGathered};
 ghost use Rattle.catalog.specs.Listed.{HasListed};
 ghost use Rattle.catalog.specs.Heads.{all_resolved, names_within};
 
 use crate::driver::Content;
+use crate::gathered::{Gathered, behind_first, differ};
 use crate::{BandHead, Bands, Head, Kind, LimitKind, WalkFault};
 use geotransform::Size;
 use lists_and_answers::Items;
@@ -42,15 +44,41 @@ impl Listing {
         })
     }
 
-    // Adds the name of a source, unless it is listed.
-    fn add(&mut self, alloc: Global, name: Name) -> Result<(), AllocError>
-        ensures listed { OnOk result ((own : List ℕ) (names : List (List ℕ)) → HasListed own names self.old → HasListed own (names ++ name ∷ []) self.new) }
+    // Adds a name, unless it is listed.
+    fn add(&mut self, alloc: Global, name: &Name) -> Result<(), AllocError>
+        ensures listed { OnOk result ((own : List ℕ) (names : List (List ℕ)) → HasListed own names self.old →
+            HasListed own (names ++ name.now ∷ []) self.new) }
     {
         if self.seen.insert(String::from_str(alloc, name.as_str())?)? {
-            self.files.push(name)?;
+            self.files.push(name.try_clone()?)?;
         }
         Ok(())
     }
+}
+
+// The own name and some others, each once. Each name is looked up in a set of those before it, since a
+// document may have 262,144 sources.
+fn distinct_files(alloc: Global, own: &Name, names: &[Name]) -> Result<Names, AllocError>
+    ensures listed { IfOk result (λ files. files ≡ own.now ∷ distinct names.now) }
+{
+    let mut listing = Listing::new(alloc, own)?;
+    for name in names {
+        listing.add(alloc, name)?;
+    }
+    Ok(listing.files)
+}
+
+// The files that were gathered, each once. Where all numbers differ, no name stands twice.
+#[tactic(auto, using(crate::proofs::Gatherings::listed_apart, crate::proofs::Gatherings::listed_once))]
+fn listed(alloc: Global, own: &Name, gathered: Gathered) -> Result<Names, AllocError>
+    ensures listed { IfOk result (λ files. (names : List (List ℕ)) → HasGathered own.now names gathered →
+        files ≡ own.now ∷ distinct names) }
+{
+    let Gathered { files, numbers } = gathered;
+    if differ(numbers) {
+        return Ok(files);
+    }
+    distinct_files(alloc, own, behind_first(files.as_slice()))
 }
 
 // The name of a source, if it is within the limit.
@@ -70,30 +98,30 @@ fn add_sources(
     alloc: Global,
     base: &Name,
     sources: &[Source],
-    listing: &mut Listing,
+    gathered: &mut Gathered,
 ) -> Result<(), WalkFault>
-    ensures listed { OnOk result ((own : List ℕ) (names : List (List ℕ)) → HasListed own names listing.old → HasListed own (names ++ filter_map (source_name base.now) sources.now) listing.new) }
+    ensures gathered { OnOk result ((own : List ℕ) (names : List (List ℕ)) → HasGathered own names gathered.old →
+        HasGathered own (names ++ filter_map (source_name base.now) sources.now) gathered.new) }
     ensures err { IfErr result IsMemory }
 {
     for source in sources {
         if let Some(name) = source_name(alloc, base, source)? {
-            listing.add(alloc, name)?;
+            gathered.add(name)?;
         }
     }
     Ok(())
 }
 
-// The files of a mosaic. Each name is looked up in a set of those before it, since a document may have
-// 262,144 sources.
+// The files of a mosaic.
 fn mosaic_files(alloc: Global, name: &Name, document: &Document) -> Result<Names, WalkFault>
     ensures ok { IfOk result (λ files. files ≡ name.now ∷ source_names name.now document.now) }
     ensures err { IfErr result IsMemory }
 {
-    let mut listing = Listing::new(alloc, name)?;
+    let mut gathered = Gathered::new(alloc, name)?;
     for band in document.bands.as_slice() {
-        add_sources(alloc, name, band.sources.as_slice(), &mut listing)?;
+        add_sources(alloc, name, band.sources.as_slice(), &mut gathered)?;
     }
-    Ok(listing.files)
+    Ok(listed(alloc, name, gathered)?)
 }
 
 // A band of a mosaic of this size.

@@ -8,7 +8,8 @@ ghost use Rattle.catalog.specs.Dataset.{IsDatasetHead};
 ghost use Rattle.catalog.specs.Drivers.{content_kind, Fits};
 ghost use Rattle.catalog.specs.Drivers.{Dataset as Known};
 ghost use Rattle.catalog.specs.Readings.{calls_to_find, calls_to_open};
-ghost use Rattle.catalog.specs.Heads.{kind_in, found_in, dataset_by, dataset_in, head_in, IsOfFile, IsOfHead, RefusesUnknown, OwnsFaults};
+ghost use Rattle.catalog.specs.Heads.{kind_in, found_in, dataset_by, dataset_in, head_in, IsOfFile, IsOfHead};
+ghost use Rattle.catalog.specs.Heads.{RefusesUnknown, OwnsFaults};
 ghost use Rattle.catalog.specs.Walk.{IsDataset};
 
 use crate::dataset::Dataset;
@@ -35,11 +36,13 @@ fn find<F: Folder>(
     verify: bool,
 ) -> Result<Found, WalkFault>
     requires kind { kind_in name.now ≡ Ok kind }
-    ensures told { (m : Files) → F.names folder.old ≡ Some m → Gives IsOutside (λ found. found) result (found_in kind m verify name.now) }
+    ensures told { (m : Files) → F.names folder.old ≡ Some m → Gives IsOutside (λ found. found) result
+        (found_in kind m verify name.now) }
     ensures kind { IfOk result (λ found. content_kind found.content ≡ kind) }
     ensures fits { IfOk result (λ found. Fits name.now found.content found.length) }
     ensures names { F.names folder.new ≡ F.names folder.old }
-    ensures reads { IfOk result (λ found. F.read_calls folder.new ≤ F.read_calls folder.old + calls_to_find verify found.content found.length) }
+    ensures reads { IfOk result (λ found. F.read_calls folder.new ≤ F.read_calls folder.old + calls_to_find verify
+        found.content found.length) }
     ensures write_calls { F.write_calls folder.new ≡ F.write_calls folder.old }
     ensures cause { HasCause WalkFault.FolderFault (F.faults folder.old) (F.faults folder.new) result }
     ensures of_file { IfErr result IsOfFile }
@@ -63,7 +66,8 @@ pub fn read_dataset<F: Folder>(
     verify: bool,
 ) -> Result<Dataset, WalkFault>
     requires kind { kind_in name.now ≡ Ok kind }
-    ensures told { (m : Files) → F.names folder.old ≡ Some m → Gives IsOutside (λ d. d) result (dataset_by kind m verify name.now) }
+    ensures told { (m : Files) → F.names folder.old ≡ Some m → Gives IsOutside (λ d. d) result
+        (dataset_by kind m verify name.now) }
     ensures valid { IfOk result IsDataset }
     ensures name { IfOk result (λ d. d.head.name ≡ name.now) }
     ensures names { F.names folder.new ≡ F.names folder.old }
@@ -106,11 +110,14 @@ pub fn head_of<F: Folder>(
     name: &Name,
     verify: bool,
 ) -> Result<Head, WalkFault>
-    ensures told { (m : Files) → F.names folder.old ≡ Some m → Gives IsOutside (λ h. h) result (head_in m verify name.now) }
+    ensures told { (m : Files) → F.names folder.old ≡ Some m → Gives IsOutside (λ h. h) result
+        (head_in m verify name.now) }
     ensures valid { IfOk result IsDatasetHead }
     ensures unknown { RefusesUnknown name.now result }
     ensures names { F.names folder.new ≡ F.names folder.old }
-    ensures reads { OnOk result ((m : Files) (d : Known) → F.names folder.old ≡ Some m → dataset_in m verify name.now ≡ Ok d → F.read_calls folder.new ≤ F.read_calls folder.old + calls_to_open verify d) }
+    ensures reads { OnOk result ((m : Files) (d : Known) → F.names folder.old ≡ Some m →
+        dataset_in m verify name.now ≡ Ok d → F.read_calls folder.new ≤ F.read_calls folder.old + calls_to_open verify
+        d) }
     ensures write_calls { F.write_calls folder.new ≡ F.write_calls folder.old }
     ensures cause { HasCause WalkFault.FolderFault (F.faults folder.old) (F.faults folder.new) result }
     ensures of_head { IfErr result IsOfHead }

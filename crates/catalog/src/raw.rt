@@ -1,5 +1,6 @@
 // Raw data beside its header.
-ghost use Rattle.std.specs.Prelude.{◌≡◌, ◌⊎◌, ◌≤◌, ◌+◌, ℕ, List, length, nat_lt, if◌then◌else◌, Some, Ok, Err, IfOk, IfErr, IsTrue};
+ghost use Rattle.std.specs.Prelude.{◌≡◌, ◌⊎◌, ◌≤◌, ◌+◌, ℕ, List, length, nat_lt, if◌then◌else◌, Some, Ok, Err, IfOk};
+ghost use Rattle.std.specs.Prelude.{IfErr, IsTrue};
 ghost use Rattle.lists_and_answers.specs.Answers.{Gives};
 ghost use Rattle.outside.specs.Outside.{Files};
 ghost use Rattle.outside.specs.Causes.{HasCause};
@@ -59,8 +60,10 @@ pub fn header_name(alloc: Global, name: &Name) -> Result<Name, WalkFault>
 
 // The length in bytes of the file of a name.
 fn data_len<F: Folder>(folder: &mut F, name: &Name) -> Result<u64, WalkFault>
-    ensures ok { IfOk result (λ n. (m : Files) → F.names folder.old ≡ Some m → (b : List ℕ) × (file_in m name.now ≡ Ok b) × (n ≡ length b)) }
-    ensures err { IfErr result (λ f. (m : Files) → F.names folder.old ≡ Some m → IsOutside f ⊎ (file_in m name.now ≡ Err f)) }
+    ensures ok { IfOk result (λ n. (m : Files) → F.names folder.old ≡ Some m → (b : List ℕ) ×
+        (file_in m name.now ≡ Ok b) × (n ≡ length b)) }
+    ensures err { IfErr result (λ f. (m : Files) → F.names folder.old ≡ Some m →
+        IsOutside f ⊎ (file_in m name.now ≡ Err f)) }
     ensures names { F.names folder.new ≡ F.names folder.old }
     ensures read_calls { F.read_calls folder.new ≡ F.read_calls folder.old }
     ensures write_calls { F.write_calls folder.new ≡ F.write_calls folder.old }
@@ -78,7 +81,8 @@ fn header_beside<F: Folder>(
     name: &Name,
 ) -> Result<RawHead, WalkFault>
     requires raw { IsTrue (is_raw (extension_of name.now)) }
-    ensures told { (m : Files) → F.names folder.old ≡ Some m → Gives IsOutside (λ h. h) result (header_in m (header_of name.now)) }
+    ensures told { (m : Files) → F.names folder.old ≡ Some m → Gives IsOutside (λ h. h) result
+        (header_in m (header_of name.now)) }
     ensures names { F.names folder.new ≡ F.names folder.old }
     ensures reads { F.read_calls folder.new ≤ F.read_calls folder.old + 1 }
     ensures write_calls { F.write_calls folder.new ≡ F.write_calls folder.old }
@@ -92,7 +96,9 @@ fn header_beside<F: Folder>(
 // What is found of raw data that have this header and so many bytes.
 fn found(name: &Name, head: RawHead, has: u64) -> Result<Found, WalkFault>
     requires raw { IsTrue (is_raw (extension_of name.now)) }
-    ensures told { Gives IsMemory (λ found. found) result (if nat_lt has (needed_of head) then Err (WalkFault.Short name.now (needed_of head) has) else Ok (record { content = Content.File (DriverHead.Raw head); length = has })) }
+    ensures told { Gives IsMemory (λ found. found) result (if nat_lt has (needed_of head) then Err
+        (WalkFault.Short name.now (needed_of head) has) else Ok (record
+        { content = Content.File (DriverHead.Raw head); length = has })) }
     ensures fits { IfOk result (λ found. Fits name.now found.content found.length) }
 {
     let needed = needed_len(&head);
@@ -113,7 +119,8 @@ fn found(name: &Name, head: RawHead, has: u64) -> Result<Found, WalkFault>
 #[tactic(auto, using(crate::proofs::Headers::outside_fails), unfolding(crate::specs::Heads::raw_in))]
 pub fn find_raw<F: Folder>(alloc: Global, folder: &mut F, name: &Name) -> Result<Found, WalkFault>
     requires raw { IsTrue (is_raw (extension_of name.now)) }
-    ensures told { (m : Files) → F.names folder.old ≡ Some m → Gives IsOutside (λ found. found) result (raw_in m name.now) }
+    ensures told { (m : Files) → F.names folder.old ≡ Some m → Gives IsOutside (λ found. found) result
+        (raw_in m name.now) }
     ensures kind { IfOk result (λ found. content_kind found.content ≡ Kind.Raw) }
     ensures fits { IfOk result (λ found. Fits name.now found.content found.length) }
     ensures names { F.names folder.new ≡ F.names folder.old }

@@ -1,12 +1,14 @@
 // The walk from a name to all that it reaches.
-ghost use Rattle.std.specs.Prelude.{◌≡◌, ◌<◌, ◌≤◌, ◌∷◌, ◌||◌, [], ℕ, List, Bool, Some, None, length, slice_get, Ok, IfOk, IfErr, OnOk};
+ghost use Rattle.std.specs.Prelude.{◌≡◌, ◌<◌, ◌≤◌, ◌∷◌, ◌||◌, [], ℕ, List, Bool, Some, None, length, slice_get, Ok};
+ghost use Rattle.std.specs.Prelude.{IfOk, IfErr, OnOk};
 ghost use Rattle.lists_and_answers.specs.Answers.{Gives};
 ghost use Rattle.outside.specs.Outside.{Files};
 ghost use Rattle.catalog.specs.Outcomes.{IsMemory};
 ghost use Rattle.catalog.specs.Mosaics.{sources_of};
 ghost use Rattle.catalog.specs.Heads.{kind_in, resolved};
 ghost use Rattle.catalog.specs.Drivers.{Dataset as Known};
-ghost use Rattle.catalog.specs.Walk.{number_of, dataset_named, band_named, is_narrow_band, room_for, has_band, has_samples, unless_wide, visit};
+ghost use Rattle.catalog.specs.Walk.{number_of, dataset_named, band_named, is_narrow_band, room_for, has_band};
+ghost use Rattle.catalog.specs.Walk.{has_samples, unless_wide, visit};
 ghost use Rattle.vrt_profile.specs.Value.{is_plain};
 ghost use Rattle.catalog.specs.Linked.{IsLinked, IsPath, IsLow, IsMosaicAt, HasBand, HasSource, met_of};
 ghost use Rattle.catalog.specs.Walking.{IsPlain, Meets, Visits, Passes, Names, Reaches, ReachesRows, seen};
@@ -51,7 +53,8 @@ struct Wanted {
 // bytes.
 fn resolve_source(alloc: Global, met: &Met, at: SourceAt) -> Result<Wanted, WalkFault>
     requires there { HasSource met.now at.id at.band at.source }
-    ensures told { (w : HasSource met.now at.id at.band at.source) → Gives IsMemory (λ r. r.name) result (resolved w.of.mosaic.dataset.head.name w.value) }
+    ensures told { (w : HasSource met.now at.id at.band at.source) → Gives IsMemory (λ r. r.name) result
+        (resolved w.of.mosaic.dataset.head.name w.value) }
     ensures band { (w : HasSource met.now at.id at.band at.source) → IfOk result (λ r. r.band ≡ w.value.band) }
     ensures kept { (w : HasSource met.now at.id at.band at.source) → IfOk result (λ r. r.plain ≡ is_plain w.value) }
     ensures plain { IfErr result IsPlain }
@@ -91,7 +94,8 @@ fn check_band(met: &Met, member: u32, wanted: &Wanted) -> Result<(), WalkFault>
 // Whether the samples of the band that a source names have at most 32 bits.
 fn names_narrow(met: &Met, member: u32, wanted: &Wanted) -> bool
     requires number { number_of met.now.datasets wanted.now.name ≡ Some member }
-    ensures narrow { result ≡ is_narrow_band (band_named (dataset_named met.now.datasets wanted.now.name) wanted.now.band) }
+    ensures narrow { result ≡ is_narrow_band (band_named (dataset_named met.now.datasets wanted.now.name)
+        wanted.now.band) }
 {
     met.is_narrow(member, wanted.band)
 }
@@ -100,7 +104,8 @@ fn names_narrow(met: &Met, member: u32, wanted: &Wanted) -> bool
 // most 32 bits.
 fn takes_samples(met: &Met, member: u32, wanted: &Wanted) -> bool
     requires number { number_of met.now.datasets wanted.now.name ≡ Some member }
-    ensures takes { result ≡ (wanted.now.plain || is_narrow_band (band_named (dataset_named met.now.datasets wanted.now.name) wanted.now.band)) }
+    ensures takes { result ≡ (wanted.now.plain || is_narrow_band (band_named
+        (dataset_named met.now.datasets wanted.now.name) wanted.now.band)) }
 {
     wanted.plain || names_narrow(met, member, wanted)
 }
@@ -109,7 +114,9 @@ fn takes_samples(met: &Met, member: u32, wanted: &Wanted) -> bool
 fn check_width(met: &Met, id: u32, member: u32, wanted: &Wanted) -> Result<(), WalkFault>
     requires known { id < length met.now.datasets }
     requires number { number_of met.now.datasets wanted.now.name ≡ Some member }
-    ensures told { (d : Known) → slice_get met.now.datasets id ≡ Some d → Gives IsMemory (λ _. tt) result (unless_wide met.now.datasets d.head.name wanted.now.name wanted.now.band wanted.now.plain) }
+    ensures told { (d : Known) → slice_get met.now.datasets id ≡ Some d →
+        Gives IsMemory (λ _. tt) result (unless_wide met.now.datasets d.head.name wanted.now.name wanted.now.band
+        wanted.now.plain) }
     ensures plain { IfErr result IsPlain }
 {
     if takes_samples(met, member, wanted) {
@@ -125,7 +132,9 @@ fn check_width(met: &Met, id: u32, member: u32, wanted: &Wanted) -> Result<(), W
 fn check_samples(met: &Met, id: u32, member: u32, wanted: &Wanted) -> Result<(), WalkFault>
     requires known { id < length met.now.datasets }
     requires number { number_of met.now.datasets wanted.now.name ≡ Some member }
-    ensures told { (d : Known) → slice_get met.now.datasets id ≡ Some d → Gives IsMemory (λ _. tt) result (has_samples met.now.datasets d.head.name wanted.now.name wanted.now.band wanted.now.plain) }
+    ensures told { (d : Known) → slice_get met.now.datasets id ≡ Some d →
+        Gives IsMemory (λ _. tt) result (has_samples met.now.datasets d.head.name wanted.now.name wanted.now.band
+        wanted.now.plain) }
     ensures plain { IfErr result IsPlain }
 {
     check_band(met, member, wanted)?;
@@ -136,7 +145,8 @@ fn check_samples(met: &Met, id: u32, member: u32, wanted: &Wanted) -> Result<(),
 fn check_again(met: &Met, id: u32, room: u32, name: &Name) -> Result<(), WalkFault>
     requires linked { IsLinked met.now }
     requires number { number_of met.now.datasets name.now ≡ Some id }
-    ensures told { (m : Files) (verify : Bool) (path : List (List ℕ)) → IsPath met.now path → Gives IsMemory (λ _. met_of met.now) result (visit m verify room path (met_of met.now) name.now) }
+    ensures told { (m : Files) (verify : Bool) (path : List (List ℕ)) → IsPath met.now path →
+        Gives IsMemory (λ _. met_of met.now) result (visit m verify room path (met_of met.now) name.now) }
     ensures low { OnOk result (IsLow met.now id room) }
     ensures plain { IfErr result IsPlain }
 {
@@ -157,7 +167,8 @@ fn check_again(met: &Met, id: u32, room: u32, name: &Name) -> Result<(), WalkFau
 // Counts a source of a mosaic, and resolves what it names.
 fn count_and_resolve(alloc: Global, met: &mut Met, at: SourceAt) -> Result<Wanted, WalkFault>
     requires there { HasSource met.old at.id at.band at.source }
-    ensures names { (w : HasSource met.old at.id at.band at.source) → Names w.of.mosaic.dataset.head.name w.value met.old met.new result }
+    ensures names { (w : HasSource met.old at.id at.band at.source) → Names w.of.mosaic.dataset.head.name w.value
+        met.old met.new result }
 {
     met.count_source()?;
     resolve_source(alloc, met, at)
@@ -178,7 +189,9 @@ fn meet_first<F: Folder>(
     requires kind { kind_in name.now ≡ Ok kind }
     requires shallow { room_for room kind name.now ≡ Ok tt }
     requires fresh { number_of met.old.datasets name.now ≡ None }
-    ensures meets { Meets verify room name.now (seen (F.names folder.old) (F.write_calls folder.old) (F.read_calls folder.old) (F.faults folder.old)) (seen (F.names folder.new) (F.write_calls folder.new) (F.read_calls folder.new) (F.faults folder.new)) met.old met.new result }
+    ensures meets { Meets verify room name.now (seen (F.names folder.old) (F.write_calls folder.old)
+        (F.read_calls folder.old) (F.faults folder.old)) (seen (F.names folder.new) (F.write_calls folder.new)
+        (F.read_calls folder.new) (F.faults folder.new)) met.old met.new result }
 {
     if met.count() >= MOST_DATASETS {
         return Err(WalkFault::Limit {
@@ -206,7 +219,9 @@ fn meet<F: Folder>(
 ) -> Result<Meeting, WalkFault>
     requires linked { IsLinked met.old }
     requires room { room ≤ 16 }
-    ensures meets { Meets verify room name.now (seen (F.names folder.old) (F.write_calls folder.old) (F.read_calls folder.old) (F.faults folder.old)) (seen (F.names folder.new) (F.write_calls folder.new) (F.read_calls folder.new) (F.faults folder.new)) met.old met.new result }
+    ensures meets { Meets verify room name.now (seen (F.names folder.old) (F.write_calls folder.old)
+        (F.read_calls folder.old) (F.faults folder.old)) (seen (F.names folder.new) (F.write_calls folder.new)
+        (F.read_calls folder.new) (F.faults folder.new)) met.old met.new result }
 {
     let kind = kind_of(name)?;
     if let Some(id) = met.number(name) {
@@ -235,7 +250,11 @@ fn visit_source<F: Folder>(
     requires linked { IsLinked met.old }
     requires room { room < 16 }
     requires there { HasSource met.old at.id at.band at.source }
-    ensures passes { (w : HasSource met.old at.id at.band at.source) → Passes verify room w.of.mosaic.dataset.head.name (w.value ∷ []) (seen (F.names folder.old) (F.write_calls folder.old) (F.read_calls folder.old) (F.faults folder.old)) (seen (F.names folder.new) (F.write_calls folder.new) (F.read_calls folder.new) (F.faults folder.new)) met.old met.new (λ t. Reaches met.new room w.of.mosaic.dataset.head.name (w.value ∷ []) (t ∷ [])) result }
+    ensures passes { (w : HasSource met.old at.id at.band at.source) → Passes verify room w.of.mosaic.dataset.head.name
+        (w.value ∷ []) (seen (F.names folder.old) (F.write_calls folder.old) (F.read_calls folder.old)
+        (F.faults folder.old)) (seen (F.names folder.new) (F.write_calls folder.new) (F.read_calls folder.new)
+        (F.faults folder.new)) met.old met.new (λ t. Reaches met.new room w.of.mosaic.dataset.head.name (w.value ∷ [])
+        (t ∷ [])) result }
 {
     let wanted = count_and_resolve(alloc, met, at)?;
     let member = visit(alloc, met, folder, verify, room, &wanted.name)?;
@@ -257,7 +276,10 @@ fn visit_band<F: Folder>(
     requires linked { IsLinked met.old }
     requires room { room < 16 }
     requires there { HasBand met.old id band }
-    ensures passes { (w : HasBand met.old id band) → Passes verify room w.mosaic.dataset.head.name w.value.sources (seen (F.names folder.old) (F.write_calls folder.old) (F.read_calls folder.old) (F.faults folder.old)) (seen (F.names folder.new) (F.write_calls folder.new) (F.read_calls folder.new) (F.faults folder.new)) met.old met.new (λ row. Reaches met.new room w.mosaic.dataset.head.name w.value.sources row) result }
+    ensures passes { (w : HasBand met.old id band) → Passes verify room w.mosaic.dataset.head.name w.value.sources
+        (seen (F.names folder.old) (F.write_calls folder.old) (F.read_calls folder.old) (F.faults folder.old))
+        (seen (F.names folder.new) (F.write_calls folder.new) (F.read_calls folder.new) (F.faults folder.new)) met.old
+        met.new (λ row. Reaches met.new room w.mosaic.dataset.head.name w.value.sources row) result }
 {
     let mut row = Items::new(alloc);
     let count = met.band(id, band).sources.len();
@@ -282,7 +304,10 @@ fn visit_bands<F: Folder>(
     requires linked { IsLinked met.old }
     requires room { room < 16 }
     requires there { IsMosaicAt met.old id }
-    ensures passes { (w : IsMosaicAt met.old id) → Passes verify room w.dataset.head.name (sources_of w.document) (seen (F.names folder.old) (F.write_calls folder.old) (F.read_calls folder.old) (F.faults folder.old)) (seen (F.names folder.new) (F.write_calls folder.new) (F.read_calls folder.new) (F.faults folder.new)) met.old met.new (λ rows. ReachesRows met.new room w.dataset.head.name w.document.bands rows) result }
+    ensures passes { (w : IsMosaicAt met.old id) → Passes verify room w.dataset.head.name (sources_of w.document)
+        (seen (F.names folder.old) (F.write_calls folder.old) (F.read_calls folder.old) (F.faults folder.old))
+        (seen (F.names folder.new) (F.write_calls folder.new) (F.read_calls folder.new) (F.faults folder.new)) met.old
+        met.new (λ rows. ReachesRows met.new room w.dataset.head.name w.document.bands rows) result }
 {
     let mut rows = Items::new(alloc);
     let count = met.document(id).bands.len();
@@ -306,7 +331,9 @@ pub fn visit<F: Folder>(
 ) -> Result<u32, WalkFault>
     requires linked { IsLinked met.old }
     requires room { room ≤ 16 }
-    ensures visits { Visits verify room name.now (seen (F.names folder.old) (F.write_calls folder.old) (F.read_calls folder.old) (F.faults folder.old)) (seen (F.names folder.new) (F.write_calls folder.new) (F.read_calls folder.new) (F.faults folder.new)) met.old met.new result }
+    ensures visits { Visits verify room name.now (seen (F.names folder.old) (F.write_calls folder.old)
+        (F.read_calls folder.old) (F.faults folder.old)) (seen (F.names folder.new) (F.write_calls folder.new)
+        (F.read_calls folder.new) (F.faults folder.new)) met.old met.new result }
 {
     let meeting = meet(alloc, met, folder, verify, room, name)?;
     match meeting {

@@ -2,3 +2,4 @@ pub mod Examples
 mod Listed
 mod Short
 mod Told
+mod Tables

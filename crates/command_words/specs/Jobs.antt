@@ -1,5 +1,6 @@
 -- The work that words ask for: what is missing, and what doesn't go together.
-use Rattle.std.specs.Prelude.{ℕ, ℤ, max, Bool, true, false, List, [], ◌∷◌, Option, Some, None, option_and_then, option_map, Result, Ok, Err, ok_or, if◌then◌else◌}
+use Rattle.std.specs.Prelude.{ℕ, ℤ, max, Bool, true, false, List, [], ◌∷◌, Option, Some, None, option_and_then}
+use Rattle.std.specs.Prelude.{option_map, Result, Ok, Err, ok_or, if◌then◌else◌}
 use Rattle.lists_and_answers.specs.Answers.{◌>>=◌}
 use Rattle.outside.specs.Names.{extension_of}
 use Rattle.outside.specs.declared.name.Ext.{Ext}
@@ -63,7 +64,11 @@ layout_for other = Bil
 
 -- how an extension is written: the format, its driver, and the layout of raw data
 abbrev pub written_as : Ext → Written
-written_as extension = record { format = format_for (driver_for extension); driver = driver_for extension; layout = layout_for extension }
+written_as extension = record {
+  format = format_for (driver_for extension);
+  driver = driver_for extension;
+  layout = layout_for extension;
+}
 
 abbrev pub is_same_format : OutFormat → OutFormat → Bool
 is_same_format EHdr EHdr = true
@@ -141,7 +146,8 @@ inputs_of count [] None = Err (Usage count)
 inputs_of count [] (Some list) = Ok []
 inputs_of count (name ∷ names) list = Ok (name ∷ names)
 
--- whether each input gives a band of its own; chosen bands don't go together with that, and what stands later is refused
+-- whether each input gives a band of its own; chosen bands don't go together with that, and what stands later is
+-- refused
 abbrev pub separate_of : Option ℕ → Option ℕ → Result Bool WordFault
 separate_of None band = Ok false
 separate_of (Some separate) None = Ok true
@@ -154,7 +160,8 @@ named_resolution count word.Lowest = Ok Lowest
 named_resolution count word.Average = Ok Average
 named_resolution count word.User = Err (Usage count)
 
--- a given size beside a word; only that of the user goes together with it, and of the others what stands later is refused
+-- a given size beside a word; only that of the user goes together with it, and of the others what stands later is
+-- refused
 abbrev pub given_resolution : ℕ × ResolutionWord → ℕ × Resolution → Result Resolution WordFault
 given_resolution (at, word.User) given = Ok given.1
 given_resolution (at, other) given = Err (Usage (max at given.0))

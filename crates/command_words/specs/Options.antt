@@ -1,5 +1,6 @@
 -- The commands and their options.
 use Rattle.std.specs.Prelude.{ℕ, List, [], ◌∷◌, codes, bytes_eq, Option, Some, None, if◌then◌else◌}
+use denote.Ref.{Bor}
 use Rattle.command_words.specs.declared.options.Tool.{Tool}
 use Rattle.command_words.specs.declared.options.Tool.TheVariants.{Info, Locate, Translate, Build, Synth}
 use Rattle.command_words.specs.declared.options.OptionWord.{OptionWord}
@@ -7,7 +8,10 @@ use Rattle.command_words.specs.declared.options.OptionWord.TheVariants as option
 
 -- the command that a word names
 abbrev pub tool_of : List ℕ → Option Tool
-tool_of word = if bytes_eq word (codes "gdalinfo") then Some Info else if bytes_eq word (codes "gdallocationinfo") then Some Locate else if bytes_eq word (codes "gdal_translate") then Some Translate else if bytes_eq word (codes "gdalbuildvrt") then Some Build else if bytes_eq word (codes "synth") then Some Synth else None
+tool_of word = if bytes_eq word (codes "gdalinfo") then Some Info else if bytes_eq word (codes "gdallocationinfo")
+    then Some Locate else if bytes_eq word (codes "gdal_translate") then Some Translate
+    else if bytes_eq word (codes "gdalbuildvrt") then Some Build else if bytes_eq word (codes "synth") then Some Synth
+    else None
 
 -- the options of all commands
 abbrev pub shared_options : List (List ℕ × OptionWord)
@@ -53,6 +57,10 @@ build_options = (codes "-b", option.Band)
     ∷ (codes "-overwrite", option.Overwrite)
     ∷ (codes "-input_file_list", option.InputList)
     ∷ []
+
+-- a row of a table as the code has it
+abbrev pub named : Bor (List ℕ) × OptionWord → List ℕ × OptionWord
+named o = (o.0.now, o.1)
 
 -- the option that a table has for a word
 abbrev pub option_in : List (List ℕ × OptionWord) → List ℕ → Option OptionWord

@@ -1,5 +1,6 @@
 -- What options say by their values.
-use Rattle.std.specs.Prelude.{ℕ, pos, ◌+◌, not, true, List, codes, bytes_eq, slice_get, Option, Some, Result, Ok, ok_or, if◌then◌else◌}
+use Rattle.std.specs.Prelude.{ℕ, pos, ◌+◌, not, true, List, codes, bytes_eq, slice_get, Option, Some, Result, Ok, ok_or}
+use Rattle.std.specs.Prelude.{if◌then◌else◌}
 use Rattle.lists_and_answers.specs.Answers.{◌>>=◌}
 use Rattle.geotransform.specs.Decimal.{ticks_of}
 use Rattle.geotransform.specs.Types.{type_named}
@@ -13,9 +14,11 @@ use Rattle.command_words.specs.declared.spoken.Said.TheVariants as said
 use Rattle.command_words.specs.declared.spoken.Spot.{Spot}
 use Rattle.command_words.specs.declared.spoken.WordFault.{WordFault}
 use Rattle.command_words.specs.declared.spoken.WordFault.TheVariants.{Usage}
-use Rattle.command_words.specs.Values.{band_of, blocks_of, integer_of, side_of, name_of, is_no, format_of, layout_of, nodata_of, resolution_named, beyond, workers_of}
+use Rattle.command_words.specs.Values.{band_of, blocks_of, integer_of, side_of, name_of, is_no, format_of, layout_of}
+use Rattle.command_words.specs.Values.{nodata_of, resolution_named, beyond, workers_of}
 
--- a value, counted from 0, by how it is read; one that is refused is named, and where the values end early the number of all words is
+-- a value, counted from 0, by how it is read; one that is refused is named, and where the values end early the number
+-- of all words is
 abbrev pub value_said : {T : Type 0} → (List ℕ → Option T) → Spot → List (List ℕ) → ℕ → Result T WordFault
 value_said read spot values i = do
   word ← ok_or (slice_get values i) (Usage spot.count)
@@ -27,7 +30,8 @@ any_text word = Some word
 
 -- what a setting says: only that of DTED_VERIFY_CHECKSUM has an effect
 abbrev pub setting_said : List ℕ → List ℕ → Said
-setting_said key value = if bytes_eq key (codes "DTED_VERIFY_CHECKSUM") then said.Verification (not (is_no value)) else said.Setting
+setting_said key value = if bytes_eq key (codes "DTED_VERIFY_CHECKSUM") then said.Verification (not (is_no value))
+    else said.Setting
 
 unfoldable pub config_said : Spot → List (List ℕ) → Result Said WordFault
 config_said spot values = do

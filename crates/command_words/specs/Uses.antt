@@ -1,5 +1,6 @@
 -- The uses of options and positional words, and what they say.
-use Rattle.std.specs.Prelude.{ℕ, ℤ, ◌+◌, ◌++◌, ◌==◌, not, ◌||◌, Bool, true, false, List, [], ◌∷◌, take, Option, Some, None, is_some, option_map, Result, Ok, Err, ok_or, zero, suc, if◌then◌else◌}
+use Rattle.std.specs.Prelude.{ℕ, ℤ, ◌+◌, ◌++◌, ◌==◌, not, ◌||◌, Bool, true, false, List, [], ◌∷◌, take, Option, Some}
+use Rattle.std.specs.Prelude.{None, is_some, option_map, Result, Ok, Err, ok_or, zero, suc, if◌then◌else◌}
 use Rattle.std.specs.Option.{unwrap_or}
 use Rattle.lists_and_answers.specs.Answers.{◌>>=◌}
 use Rattle.geotransform.specs.Decimal.{is_decimal, ticks_of}
@@ -29,7 +30,8 @@ use Rattle.command_words.specs.Options.{option_of, value_count}
 use Rattle.command_words.specs.Said.{option_said}
 use Rattle.command_words.specs.Values.{begins_with_dash, name_of, tile_side_of}
 
--- a word that isn't the value of an option: its number, the option that it is, if it is one, and its values, which may end early
+-- a word that isn't the value of an option: its number, the option that it is, if it is one, and its values, which may
+-- end early
 pub record Use : Type 0 where
   pub at : ℕ
   pub word : List ℕ
@@ -44,7 +46,13 @@ taken_by (Some option) = value_count option
 -- the uses among words from this number on, where so many first ones are values of the option before
 abbrev pub cut : Tool → ℕ → ℕ → List (List ℕ) → List Use
 cut tool at taken [] = []
-cut tool at zero (word ∷ words) = record { at = at; word = word; option = option_of tool word; values = take (taken_by (option_of tool word)) words } ∷ cut tool (at + 1) (taken_by (option_of tool word)) words
+cut tool at zero (word ∷ words) = record {
+  at = at;
+  word = word;
+  option = option_of tool word;
+  values = take (taken_by (option_of tool word)) words;
+} ∷ cut
+    tool (at + 1) (taken_by (option_of tool word)) words
 cut tool at (suc taken) (word ∷ words) = cut tool (at + 1) taken words
 
 -- whether a word that begins with a dash may stand without an option
@@ -59,7 +67,8 @@ may_be_negative Synth word = false
 abbrev pub is_positional : Tool → List ℕ → Bool
 is_positional tool word = not (begins_with_dash word) || may_be_negative tool word
 
--- a positional word as the name of a dataset, as that of an output, as one of many inputs, as a number of a point, and as the side of a tile
+-- a positional word as the name of a dataset, as that of an output, as one of many inputs, as a number of a point, and
+-- as the side of a tile
 abbrev pub source_said : List ℕ → Option Said
 source_said word = option_map (λ name. said.Source name) (name_of word)
 
@@ -81,14 +90,16 @@ tile_said word = option_map (λ n. said.Tile n) (tile_side_of word)
 -- a positional word behind so many others, where there is a place for it and it is of the form
 abbrev pub placed : Tool → ℕ → List ℕ → Option Said
 placed Info before word = if before == 0 then source_said word else None
-placed Locate before word = if before == 0 then source_said word else if before == 1 then x_said word else if before == 2 then y_said word else None
+placed Locate before word = if before == 0 then source_said word else if before == 1 then x_said word
+    else if before == 2 then y_said word else None
 placed Translate before word = if before == 0 then source_said word else if before == 1 then output_said word else None
 placed Build before word = if before == 0 then output_said word else input_said word
 placed Synth before word = if before == 0 then tile_said word else None
 
 -- what a positional word behind so many others says
 unfoldable pub placed_said : Tool → ℕ → ℕ → List ℕ → Result Said WordFault
-placed_said tool before at word = if is_positional tool word then ok_or (placed tool before word) (Usage at) else Err (Usage at)
+placed_said tool before at word = if is_positional tool word then ok_or (placed tool before word) (Usage at)
+    else Err (Usage at)
 
 -- what a use says, of all words so many, behind so many positional words
 abbrev pub said_by : Option OptionWord → Tool → ℕ → ℕ → Use → Result Said WordFault
@@ -100,10 +111,12 @@ abbrev pub behind_use : ℕ → Option OptionWord → ℕ
 behind_use before None = before + 1
 behind_use before (Some option) = before
 
--- what uses say, behind what others said, judged from left to right; the latest stands first, each with the number of its word
+-- what uses say, behind what others said, judged from left to right; the latest stands first, each with the number of
+-- its word
 abbrev pub judged : Tool → ℕ → ℕ → List (ℕ × Said) → List Use → Result (List (ℕ × Said)) WordFault
 judged tool count before uses [] = Ok uses
-judged tool count before uses (u ∷ us) = said_by u.option tool count before u >>= (λ s. judged tool count (behind_use before u.option) ((u.at, s) ∷ uses) us)
+judged tool count before uses (u ∷ us) = said_by u.option tool count before u
+    >>= (λ s. judged tool count (behind_use before u.option) ((u.at, s) ∷ uses) us)
 
 -- the last thing of a sort that uses say, of which the latest stands first
 abbrev pub later : {T : Type 0} → Option T → Option T → Option T

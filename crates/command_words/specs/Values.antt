@@ -1,5 +1,7 @@
 -- The values of options.
-use Rattle.std.specs.Prelude.{ℕ, ℤ, pos, neg_ℤ, ◌-◌, ◌==◌, ◌&&◌, ◌||◌, ◌^◌, Bool, false, nat_le, List, [], ◌∷◌, length, take, drop, codes, bytes_eq, Option, Some, None, option_map, option_and_then, if◌then◌else◌, int_le, int_lt}
+use Rattle.std.specs.Prelude.{ℕ, ℤ, pos, neg_ℤ, ◌-◌, ◌==◌, ◌&&◌, ◌||◌, ◌^◌, Bool, false, nat_le, List, [], ◌∷◌, length}
+use Rattle.std.specs.Prelude.{take, drop, codes, bytes_eq, Option, Some, None, option_map, option_and_then}
+use Rattle.std.specs.Prelude.{if◌then◌else◌, int_le, int_lt}
 use Rattle.lists_and_answers.specs.Texts.{same_letters}
 use Rattle.geotransform.specs.Decimal.{number_of, whole_of, ticks_of}
 use Rattle.outside.specs.Paths.{normal}
@@ -43,7 +45,8 @@ tile_side_of word = number_within 4096 (short_of word)
 -- one to nine digits, with a minus or without
 abbrev pub integer_of : List ℕ → Option ℤ
 integer_of [] = None
-integer_of (b ∷ bs) = if b == 45 then option_map (λ n. neg_ℤ (pos n)) (short_of bs) else option_map (λ n. pos n) (short_of (b ∷ bs))
+integer_of (b ∷ bs) = if b == 45 then option_map (λ n. neg_ℤ (pos n)) (short_of bs)
+    else option_map (λ n. pos n) (short_of (b ∷ bs))
 
 -- what stands before the last byte of a text, and that byte, if there is one
 abbrev pub before_last : List ℕ → List ℕ × List ℕ
@@ -53,7 +56,8 @@ before_last word = (take (length word - 1) word, drop (length word - 1) word)
 abbrev pub side_of : List ℕ → Option OutSize
 side_of word =
     let cut = before_last word in
-    if bytes_eq cut.1 (codes "%") then option_map (λ n. sizes.Percent n) (short_of cut.0) else option_map (λ n. sizes.Count n) (short_of word)
+    if bytes_eq cut.1 (codes "%") then option_map (λ n. sizes.Percent n) (short_of cut.0)
+    else option_map (λ n. sizes.Count n) (short_of word)
 
 -- the normal form of a word of 1 to 4,096 bytes
 abbrev pub name_of : List ℕ → Option (List ℕ)
@@ -61,15 +65,21 @@ name_of word = if nat_le 1 (length word) && nat_le (length word) 4096 then Some 
 
 -- the settings that mean no
 abbrev pub is_no : List ℕ → Bool
-is_no word = same_letters word (codes "NO") || (same_letters word (codes "FALSE") || (same_letters word (codes "OFF") || same_letters word (codes "0")))
+is_no word = same_letters word (codes "NO") || (same_letters word (codes "FALSE") ||
+    (same_letters word (codes "OFF") || same_letters word (codes "0")))
 
 -- the format that -of names
 unfoldable pub format_of : List ℕ → Option OutFormat
-format_of word = if same_letters word (codes "EHdr") then Some EHdr else if same_letters word (codes "DTED") then Some Dted else if same_letters word (codes "SRTMHGT") then Some SrtmHgt else if same_letters word (codes "AAIGrid") then Some AaiGrid else if same_letters word (codes "VRT") then Some Vrt else None
+format_of word = if same_letters word (codes "EHdr") then Some EHdr else if same_letters word (codes "DTED")
+    then Some Dted else if same_letters word (codes "SRTMHGT") then Some SrtmHgt
+    else if same_letters word (codes "AAIGrid") then Some AaiGrid else if same_letters word (codes "VRT") then Some Vrt
+    else None
 
 -- the layout that -co asks for
 unfoldable pub layout_of : List ℕ → Option Layout
-layout_of word = if same_letters word (codes "INTERLEAVE=BIL") then Some Bil else if same_letters word (codes "INTERLEAVE=BIP") then Some Bip else if same_letters word (codes "INTERLEAVE=BSQ") then Some Bsq else None
+layout_of word = if same_letters word (codes "INTERLEAVE=BIL") then Some Bil
+    else if same_letters word (codes "INTERLEAVE=BIP") then Some Bip else if same_letters word (codes "INTERLEAVE=BSQ")
+    then Some Bsq else None
 
 -- a number of a type of 64 bits, with or without a sign
 abbrev pub is_wide : ℤ → Bool
@@ -80,11 +90,14 @@ wide_number n = if is_wide n then Some (nodata.Number n) else None
 
 -- no NODATA, or a whole number
 unfoldable pub nodata_of : List ℕ → Option NodataWord
-nodata_of word = if same_letters word (codes "none") then Some nodata.Remove else option_and_then wide_number (whole_of word)
+nodata_of word = if same_letters word (codes "none") then Some nodata.Remove
+    else option_and_then wide_number (whole_of word)
 
 -- the resolution that -resolution names, with case
 unfoldable pub resolution_named : List ℕ → Option ResolutionWord
-resolution_named word = if bytes_eq word (codes "highest") then Some Highest else if bytes_eq word (codes "lowest") then Some Lowest else if bytes_eq word (codes "average") then Some Average else if bytes_eq word (codes "user") then Some User else None
+resolution_named word = if bytes_eq word (codes "highest") then Some Highest else if bytes_eq word (codes "lowest")
+    then Some Lowest else if bytes_eq word (codes "average") then Some Average else if bytes_eq word (codes "user")
+    then Some User else None
 
 -- a number above another, and the ticks of a decimal text where they are above so many
 abbrev pub above : ℤ → ℤ → Option ℤ

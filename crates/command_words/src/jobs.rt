@@ -3,7 +3,10 @@ ghost use Rattle.std.specs.Prelude.{◌≡◌, ◌<◌, ◌≤◌, All, IfSome, 
 ghost use Rattle.lists_and_answers.specs.Answers.{Gives};
 ghost use Rattle.translate_plan.specs.Options.{IsDriver, IsView, IsOutSize};
 ghost use Rattle.buildvrt.specs.Options.{IsResolution, IsExtent, IsWord};
-ghost use Rattle.command_words.specs.Jobs.{point_of, form_of, format_for, layout_for, written_as, is_same_format, of_format, written_of, view_of, layout_in, asked_of, info_job, locate_job, translate_job, inputs_of, separate_of, named_resolution, given_resolution, resolution_of, asked_mosaic, build_job, synth_job, job_of};
+ghost use Rattle.command_words.specs.Jobs.{point_of, form_of, format_for, layout_for, written_as, is_same_format};
+ghost use Rattle.command_words.specs.Jobs.{of_format, written_of, view_of, layout_in, asked_of, info_job, locate_job};
+ghost use Rattle.command_words.specs.Jobs.{translate_job, inputs_of, separate_of, named_resolution, given_resolution};
+ghost use Rattle.command_words.specs.Jobs.{resolution_of, asked_mosaic, build_job, synth_job, job_of};
 ghost use Rattle.command_words.specs.Words.{IsMemory};
 
 use crate::command::Job;
@@ -53,10 +56,11 @@ fn form_of(values_only: Option<u64>, files_only: Option<u64>) -> Result<Form, Wo
 }
 
 #[tactic(auto, unfolding(crate::specs::Jobs::info_job))]
-fn info_job(count: u64, said: Spoken) -> Result<Job, WordFault>
+fn info_job(count: u64, mut said: Spoken) -> Result<Job, WordFault>
     ensures { result ≡ info_job count said }
 {
-    let Spoken { source, .. } = said;
+    let source = said.source.take();
+    drop(said);
     match source {
         Some(name) => Ok(Job::Info { name }),
         None => Err(WordFault::Usage { word: count }),
@@ -72,11 +76,15 @@ fn locate_job(count: u64, said: Spoken) -> Result<Job, WordFault>
         files_only,
         geoloc,
         bands,
+        list,
+        inputs,
         source,
+        output,
         x,
         y,
         ..
     } = said;
+    drop((list, inputs, output));
     let Some(name) = source else {
         return Err(WordFault::Usage { word: count });
     };
@@ -258,11 +266,17 @@ fn translate_job(alloc: Global, count: u64, said: Spoken) -> Result<Job, WordFau
         bands,
         quiet,
         wanted,
+        list,
+        inputs,
         source,
         output,
         ..
     } = said;
-    let (Some(src), Some((at, out))) = (source, output) else {
+    drop((list, inputs));
+    let Some(src) = source else {
+        return Err(WordFault::Usage { word: count });
+    };
+    let Some((at, out)) = output else {
         return Err(WordFault::Usage { word: count });
     };
     let asked = asked_of(wanted, at, &out)?;
@@ -414,9 +428,11 @@ fn build_job(alloc: Global, count: u64, said: Spoken) -> Result<Job, WordFault>
         mosaic,
         list,
         inputs,
+        source,
         output,
         ..
     } = said;
+    drop(source);
     let Some((at, out)) = output else {
         return Err(WordFault::Usage { word: count });
     };
@@ -444,7 +460,8 @@ fn build_job(alloc: Global, count: u64, said: Spoken) -> Result<Job, WordFault>
 fn synth_job(count: u64, said: Spoken) -> Result<Job, WordFault>
     ensures { result ≡ synth_job count said }
 {
-    let Spoken { tile, .. } = said;
+    let tile = said.tile;
+    drop(said);
     match tile {
         Some(side) => Ok(Job::Synth { side }),
         None => Err(WordFault::Usage { word: count }),

@@ -1,9 +1,10 @@
 // The commands and their options.
-ghost use Rattle.std.specs.Prelude.{◌≡◌, ◌≤◌};
-ghost use Rattle.command_words.specs.Options.{tool_of, shared_option_of, own_option_of, option_of, option_in, locate_options, translate_options, build_options, value_count};
+ghost use Rattle.std.specs.Prelude.{◌≡◌, ◌≤◌, map};
+ghost use Rattle.command_words.specs.Options.{tool_of, named, shared_option_of, own_option_of, option_of, option_in};
+ghost use Rattle.command_words.specs.Options.{value_count};
 
 /// The command that the first word names.
-#[derive(Clone, Copy, Debug, PartialEq, Eq)]
+#[derive(Clone, Copy, PartialEq, Eq)]
 pub enum Tool {
     Info,
     Locate,
@@ -13,7 +14,7 @@ pub enum Tool {
 }
 
 /// An option's name.
-#[derive(Clone, Copy, Debug, PartialEq, Eq)]
+#[derive(Clone, Copy, PartialEq, Eq)]
 pub enum OptionWord {
     Config,
     Blocks,
@@ -69,66 +70,68 @@ pub fn tool_of(word: &str) -> Option<Tool>
     }
 }
 
+/// The options of all commands.
+const SHARED: [(&str, OptionWord); 3] = [
+    ("--config", OptionWord::Config),
+    ("--blocks", OptionWord::Blocks),
+    ("--workers", OptionWord::Workers),
+];
+
+/// Those of gdallocationinfo alone.
+const LOCATE: [(&str, OptionWord); 4] = [
+    ("-b", OptionWord::Band),
+    ("-valonly", OptionWord::ValuesOnly),
+    ("-lifonly", OptionWord::FilesOnly),
+    ("-geoloc", OptionWord::Geoloc),
+];
+
+/// Those of gdal_translate alone.
+const TRANSLATE: [(&str, OptionWord); 11] = [
+    ("-of", OptionWord::Format),
+    ("-b", OptionWord::Band),
+    ("-srcwin", OptionWord::Window),
+    ("-projwin", OptionWord::Places),
+    ("-outsize", OptionWord::OutSize),
+    ("-a_nodata", OptionWord::Nodata),
+    ("-ot", OptionWord::Kind),
+    ("-co", OptionWord::Creation),
+    ("-q", OptionWord::Quiet),
+    ("-epo", OptionWord::Inside),
+    ("-eco", OptionWord::Touching),
+];
+
+/// Those of gdalbuildvrt alone.
+const BUILD: [(&str, OptionWord); 11] = [
+    ("-b", OptionWord::Band),
+    ("-q", OptionWord::Quiet),
+    ("-resolution", OptionWord::Resolution),
+    ("-tr", OptionWord::PixelSize),
+    ("-te", OptionWord::Extent),
+    ("-srcnodata", OptionWord::SourceNodata),
+    ("-vrtnodata", OptionWord::MosaicNodata),
+    ("-separate", OptionWord::Separate),
+    ("-strict", OptionWord::Strict),
+    ("-overwrite", OptionWord::Overwrite),
+    ("-input_file_list", OptionWord::InputList),
+];
+
+// The option that a table has for a word.
+fn option_in(table: &[(&str, OptionWord)], word: &str) -> Option<OptionWord>
+    ensures { result ≡ option_in (map named table.now) word.now }
+{
+    for (name, option) in table {
+        if word == *name {
+            return Some(*option);
+        }
+    }
+    None
+}
+
 #[tactic(auto, unfolding(crate::specs::Options::shared_option_of))]
 fn shared_option_of(word: &str) -> Option<OptionWord>
     ensures { result ≡ shared_option_of word.now }
 {
-    match word {
-        _ if word == "--config" => Some(OptionWord::Config),
-        _ if word == "--blocks" => Some(OptionWord::Blocks),
-        _ if word == "--workers" => Some(OptionWord::Workers),
-        _ => None,
-    }
-}
-
-fn locate_option_of(word: &str) -> Option<OptionWord>
-    ensures { result ≡ option_in locate_options word.now }
-{
-    match word {
-        _ if word == "-b" => Some(OptionWord::Band),
-        _ if word == "-valonly" => Some(OptionWord::ValuesOnly),
-        _ if word == "-lifonly" => Some(OptionWord::FilesOnly),
-        _ if word == "-geoloc" => Some(OptionWord::Geoloc),
-        _ => None,
-    }
-}
-
-fn translate_option_of(word: &str) -> Option<OptionWord>
-    ensures { result ≡ option_in translate_options word.now }
-{
-    match word {
-        _ if word == "-of" => Some(OptionWord::Format),
-        _ if word == "-b" => Some(OptionWord::Band),
-        _ if word == "-srcwin" => Some(OptionWord::Window),
-        _ if word == "-projwin" => Some(OptionWord::Places),
-        _ if word == "-outsize" => Some(OptionWord::OutSize),
-        _ if word == "-a_nodata" => Some(OptionWord::Nodata),
-        _ if word == "-ot" => Some(OptionWord::Kind),
-        _ if word == "-co" => Some(OptionWord::Creation),
-        _ if word == "-q" => Some(OptionWord::Quiet),
-        _ if word == "-epo" => Some(OptionWord::Inside),
-        _ if word == "-eco" => Some(OptionWord::Touching),
-        _ => None,
-    }
-}
-
-fn build_option_of(word: &str) -> Option<OptionWord>
-    ensures { result ≡ option_in build_options word.now }
-{
-    match word {
-        _ if word == "-b" => Some(OptionWord::Band),
-        _ if word == "-q" => Some(OptionWord::Quiet),
-        _ if word == "-resolution" => Some(OptionWord::Resolution),
-        _ if word == "-tr" => Some(OptionWord::PixelSize),
-        _ if word == "-te" => Some(OptionWord::Extent),
-        _ if word == "-srcnodata" => Some(OptionWord::SourceNodata),
-        _ if word == "-vrtnodata" => Some(OptionWord::MosaicNodata),
-        _ if word == "-separate" => Some(OptionWord::Separate),
-        _ if word == "-strict" => Some(OptionWord::Strict),
-        _ if word == "-overwrite" => Some(OptionWord::Overwrite),
-        _ if word == "-input_file_list" => Some(OptionWord::InputList),
-        _ => None,
-    }
+    option_in(&SHARED, word)
 }
 
 #[tactic(auto, unfolding(crate::specs::Options::own_option_of))]
@@ -137,9 +140,9 @@ fn own_option_of(tool: Tool, word: &str) -> Option<OptionWord>
 {
     match tool {
         Tool::Info | Tool::Synth => None,
-        Tool::Locate => locate_option_of(word),
-        Tool::Translate => translate_option_of(word),
-        Tool::Build => build_option_of(word),
+        Tool::Locate => option_in(&LOCATE, word),
+        Tool::Translate => option_in(&TRANSLATE, word),
+        Tool::Build => option_in(&BUILD, word),
     }
 }
 

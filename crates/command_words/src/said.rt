@@ -1,10 +1,14 @@
 // What options say by their values.
-ghost use Rattle.std.specs.Prelude.{◌≡◌, ◌+◌, ◌<◌, ◌<ℤ◌, ◌≤◌, pos, length, map, slice_get, string_bytes, option_map, IfSome, IfOk};
+ghost use Rattle.std.specs.Prelude.{◌≡◌, ◌+◌, ◌<◌, ◌<ℤ◌, ◌≤◌, pos, length, map, slice_get, string_bytes, option_map};
+ghost use Rattle.std.specs.Prelude.{IfSome, IfOk};
 ghost use Rattle.translate_plan.specs.Options.{IsWhole};
 ghost use Rattle.lists_and_answers.specs.Answers.{Gives};
 ghost use Rattle.geotransform.specs.Decimal.{ticks_of};
 ghost use Rattle.command_words.specs.Values.{integer_of, side_of, nodata_of, beyond};
-ghost use Rattle.command_words.specs.Said.{value_said, config_said, setting_said, window_said, places_said, outsize_said, band_said, blocks_said, workers_said, format_said, nodata_said, kind_said, creation_said, resolution_said, pixel_size_said, extent_said, source_nodata_said, mosaic_nodata_said, list_said, option_said};
+ghost use Rattle.command_words.specs.Said.{value_said, config_said, setting_said, window_said, places_said};
+ghost use Rattle.command_words.specs.Said.{outsize_said, band_said, blocks_said, workers_said, format_said};
+ghost use Rattle.command_words.specs.Said.{nodata_said, kind_said, creation_said, resolution_said, pixel_size_said};
+ghost use Rattle.command_words.specs.Said.{extent_said, source_nodata_said, mosaic_nodata_said, list_said, option_said};
 ghost use Rattle.command_words.specs.Words.{IsMemory};
 
 use crate::numbers::{AskedExtent, AskedNodata, AskedResolution, AskedView, Side};

@@ -13,7 +13,7 @@ use std::alloc::AllocError;
 use synthetic_rasters::TileSide;
 
 /// A format that an output may be asked to have.
-#[derive(Clone, Copy, Debug, PartialEq, Eq)]
+#[derive(Clone, Copy, PartialEq, Eq)]
 pub enum OutFormat {
     EHdr,
     Dted,
@@ -23,7 +23,7 @@ pub enum OutFormat {
 }
 
 /// What `-resolution` names.
-#[derive(Clone, Copy, Debug, PartialEq, Eq)]
+#[derive(Clone, Copy, PartialEq, Eq)]
 pub enum ResolutionWord {
     Highest,
     Lowest,
@@ -33,7 +33,7 @@ pub enum ResolutionWord {
 }
 
 /// Where a word stands: its number, and how many words there are.
-#[derive(Clone, Copy, Debug, PartialEq, Eq)]
+#[derive(Clone, Copy, PartialEq, Eq)]
 pub struct Spot {
     pub at: u64,
     pub count: u64,

@@ -1,9 +1,14 @@
 // The uses of options and positional words, and what they say.
-ghost use Rattle.std.specs.Prelude.{◌≡◌, ◌+◌, ◌-◌, ◌<◌, ◌≤◌, ◌^◌, [], length, map, take, drop, string_bytes, ok_or, Ok};
+ghost use Rattle.std.specs.Prelude.{◌≡◌, ◌+◌, ◌-◌, ◌<◌, ◌≤◌, ◌^◌, ℕ, [], length, map, take, drop, string_bytes, ok_or};
+ghost use Rattle.std.specs.Prelude.{Ok};
 ghost use Rattle.lists_and_answers.specs.Answers.{Gives};
 ghost use Rattle.command_words.specs.Options.{option_of};
-ghost use Rattle.command_words.specs.Uses.{may_be_negative, is_positional, source_said, output_said, input_said, x_said, y_said, tile_said, placed, placed_said, said_by, taken_by, behind_use, with_mosaic, with_said, wanted_of, mosaic_of, spoken_of, spoken_in};
+ghost use Rattle.command_words.specs.Uses.{may_be_negative, is_positional, source_said, output_said, input_said};
+ghost use Rattle.command_words.specs.Uses.{x_said, y_said, tile_said, placed, placed_said, said_by, taken_by};
+ghost use Rattle.command_words.specs.Uses.{behind_use, with_mosaic, with_said, wanted_of, mosaic_of, spoken_of};
+ghost use Rattle.command_words.specs.Uses.{spoken_in};
 ghost use Rattle.command_words.specs.Words.{IsMemory};
+ghost use Rattle.command_words.specs.declared.spoken.Said.TheVariants as said;
 
 use crate::command::BandNumbers;
 use crate::numbers::{AskedNodata, BlockCount};
@@ -12,10 +17,10 @@ use crate::said::option_said;
 use crate::spoken::{MosaicSaid, MosaicWanted, Said, Spoken, Spot, Wanted, WordFault};
 use crate::values::{begins_with_dash, read_name, tile_side_of};
 use catalog::NodataWord;
-use geotransform::is_decimal;
+use geotransform::{BandNumber, is_decimal};
 use input_points::Position;
 use lane_teams::WorkerCount;
-use outside::Names;
+use outside::{Name, Names};
 use std::alloc::Global;
 
 fn may_be_negative(tool: Tool, word: &[u8]) -> bool
@@ -138,6 +143,35 @@ fn with_mosaic(at: u64, said: MosaicSaid, mut wanted: MosaicWanted) -> MosaicWan
     wanted
 }
 
+// What is said in all with one more band.
+fn with_band(at: u64, band: BandNumber, mut all: Spoken) -> Result<Spoken, WordFault>
+    ensures { Gives IsMemory (λ s. s) result (Ok (with_said at (said.Band band) all)) }
+{
+    match all.bands.push(band) {
+        Ok(()) => {
+            all.band_at = Some(at);
+            Ok(all)
+        }
+        Err(_) => {
+            drop(all);
+            Err(WordFault::Memory)
+        }
+    }
+}
+
+// What is said in all with one more input.
+fn with_input(name: Name, mut all: Spoken) -> Result<Spoken, WordFault>
+    ensures { (at : ℕ) → Gives IsMemory (λ s. s) result (Ok (with_said at (said.Input name) all)) }
+{
+    match all.inputs.push(name) {
+        Ok(()) => Ok(all),
+        Err(_) => {
+            drop(all);
+            Err(WordFault::Memory)
+        }
+    }
+}
+
 // What is said in all with one use more.
 fn with_said(at: u64, said: Said, mut all: Spoken) -> Result<Spoken, WordFault>
     ensures { Gives IsMemory (λ s. s) result (Ok (with_said at said all)) }
@@ -147,10 +181,7 @@ fn with_said(at: u64, said: Said, mut all: Spoken) -> Result<Spoken, WordFault>
         Said::Verification(on) => all.verify = on,
         Said::Blocks(blocks) => all.blocks = blocks,
         Said::Workers(workers) => all.workers = workers,
-        Said::Band(band) => {
-            all.bands.push(band)?;
-            all.band_at = Some(at);
-        }
+        Said::Band(band) => return with_band(at, band, all),
         Said::ValuesOnly => all.values_only = Some(at),
         Said::FilesOnly => all.files_only = Some(at),
         Said::Geoloc => all.geoloc = true,
@@ -168,7 +199,7 @@ fn with_said(at: u64, said: Said, mut all: Spoken) -> Result<Spoken, WordFault>
         Said::List(name) => all.list = Some(name),
         Said::Source(name) => all.source = Some(name),
         Said::Output(name) => all.output = Some((at, name)),
-        Said::Input(name) => all.inputs.push(name)?,
+        Said::Input(name) => return with_input(name, all),
         Said::X(x) => all.x = Some(x),
         Said::Y(y) => all.y = Some(y),
         Said::Tile(n) => all.tile = Some(n),
@@ -273,7 +304,14 @@ fn use_said(
     behind: &[String],
 ) -> Result<Said, WordFault>
     requires within { spot.at + length behind.now < spot.count }
-    ensures { Gives IsMemory (λ s. s) result (said_by (option_of tool word.now) tool spot.count before (record { at = spot.at; word = word.now; option = option_of tool word.now; values = take (taken_by (option_of tool word.now)) (map string_bytes behind.now) })) }
+    ensures { Gives IsMemory (λ s. s) result (said_by (option_of tool word.now) tool spot.count before
+        (record {
+          at = spot.at;
+          word = word.now;
+          option = option_of tool word.now;
+          values = take
+              (taken_by (option_of tool word.now)) (map string_bytes behind.now);
+        })) }
 {
     match option_of(tool, word) {
         Some(option) => option_said(alloc, option, spot, front(behind, value_count(option))),

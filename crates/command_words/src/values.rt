@@ -4,7 +4,9 @@ ghost use Rattle.lists_and_answers.specs.Answers.{Gives};
 ghost use Rattle.lists_and_answers.specs.Texts.{same_letters};
 ghost use Rattle.geotransform.specs.Decimal.{IsRead};
 ghost use Rattle.translate_plan.specs.Options.{IsWhole};
-ghost use Rattle.command_words.specs.Values.{begins_with_dash, short_of, band_of, blocks_of, integer_of, side_of, name_of, is_no, format_of, layout_of, nodata_of, wide_number, is_wide, tile_side_of, resolution_named, beyond, workers_of};
+ghost use Rattle.command_words.specs.Values.{begins_with_dash, short_of, band_of, blocks_of, integer_of, side_of};
+ghost use Rattle.command_words.specs.Values.{name_of, is_no, format_of, layout_of, nodata_of, wide_number, is_wide};
+ghost use Rattle.command_words.specs.Values.{tile_side_of, resolution_named, beyond, workers_of};
 ghost use Rattle.command_words.specs.Words.{IsMemory};
 
 use crate::numbers::{AskedNodata, BlockCount, Side};

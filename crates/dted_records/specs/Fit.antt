@@ -1,8 +1,10 @@
 -- The cells that rasters are.
-use Rattle.std.specs.Prelude.{◌≡◌, ◌⊎◌, ◌<ℤ◌, ◌≤ℤ◌, ◌≤◌, ℕ, ℤ, pos, negsuc, ◌+ℤ◌, ◌*ℤ◌, ◌+◌, ◌-◌, ◌*◌, ◌/◌, ◌%◌, Bool, Option, Some, None, Result, Ok, Err, nat_lt, ◌==◌, if◌then◌else◌, unsigned_abs}
+use Rattle.std.specs.Prelude.{◌≡◌, ◌⊎◌, ◌<ℤ◌, ◌≤ℤ◌, ◌≤◌, ℕ, ℤ, pos, negsuc, ◌+ℤ◌, ◌*ℤ◌, ◌+◌, ◌-◌, ◌*◌, ◌/◌, ◌%◌, Bool}
+use Rattle.std.specs.Prelude.{Option, Some, None, Result, Ok, Err, nat_lt, ◌==◌, if◌then◌else◌, unsigned_abs}
 use Rattle.lists_and_answers.specs.Options.{◌>>=◌}
 use Rattle.geotransform.specs.Geo.{Transform, is_north_up}
-use Rattle.geotransform.specs.Degrees.{degree_near, twice_west, twice_east, twice_south, twice_north, lon_of, lat_of, IsAt}
+use Rattle.geotransform.specs.Degrees.{degree_near, twice_west, twice_east, twice_south, twice_north, lon_of, lat_of}
+use Rattle.geotransform.specs.Degrees.{IsAt}
 use Rattle.geotransform.specs.declared.types.Size.{Size}
 use Rattle.geotransform.specs.declared.faults.Unfit.{Unfit}
 use Rattle.dted_records.specs.Head.{Head}
@@ -23,7 +25,8 @@ edge_of (negsuc n) = n
 
 -- how many latitude steps a longitude step has, so many degrees from the equator
 abbrev pub factor_at : ℕ → Option ℕ
-factor_at e = if nat_lt e 50 then Some 1 else (if nat_lt e 70 then Some 2 else (if nat_lt e 75 then Some 3 else (if nat_lt e 80 then Some 4 else (if nat_lt e 90 then Some 6 else None))))
+factor_at e = if nat_lt e 50 then Some 1 else (if nat_lt e 70 then Some 2
+    else (if nat_lt e 75 then Some 3 else (if nat_lt e 80 then Some 4 else (if nat_lt e 90 then Some 6 else None))))
 
 -- the lines of longitude of a cell of a level, both ends of a degree included
 abbrev pub lines_of : ℕ → ℕ → ℕ
@@ -35,7 +38,15 @@ holds b = if b then Some tt else None
 
 -- the head of a cell whose lower left post is at whole degrees
 abbrev pub cell_head : ℕ → ℕ → ℤ → ℤ → Head
-cell_head level factor lat lon = record { skip = 0; lon = lon *ℤ pos 3600; lat = lat *ℤ pos 3600; lon_step = step_of level * factor; lat_step = step_of level; lines = lines_of level factor; points = points_of level }
+cell_head level factor lat lon = record {
+  skip = 0;
+  lon = lon *ℤ pos 3600;
+  lat = lat *ℤ pos 3600;
+  lon_step = step_of level * factor;
+  lat_step = step_of level;
+  lines = lines_of level factor;
+  points = points_of level;
+}
 
 -- the head of the cell of a level that a raster is, whose pixels have the posts as their centres
 unfoldable pub cell_of : ℕ → Size → Transform → Option Head
@@ -64,7 +75,8 @@ pub record IsPlain (h : Head) : Type 0 where
   pub lat : unsigned_abs h.lat % 3600 ≡ 0
   pub points : IsLevelled h.points
 
--- a raster is the cell of a level at whole degrees: from north to south, with the posts of the level, the outer ones at whole degrees one apart
+-- a raster is the cell of a level at whole degrees: from north to south, with the posts of the level, the outer ones at
+-- whole degrees one apart
 pub record IsCell (level : ℕ) (size : Size) (g : Transform) (factor : ℕ) (lat lon : ℤ) : Type 0 where
   pub eastward : pos 0 <ℤ g.dx
   pub southward : g.dy <ℤ pos 0

@@ -15,7 +15,10 @@ use Rattle.info_report.specs.declared.report.ReportFault.TheVariants as report
 use Rattle.write_back.specs.declared.fault.TargetFault.{TargetFault}
 use Rattle.write_back.specs.declared.fault.TargetFault.TheVariants as target
 use Rattle.error_lines.specs.declared.faults.Fault.{Fault}
-use Rattle.error_lines.specs.declared.faults.Fault.TheVariants.{Usage, Absent, NotRecognized, Malformed, Short, Cycle, TooDeep, Limit, SourceBand, Plan, Build, SameName, BadPoint, Changed, FolderFault, InputFault, OutFault, Memory}
+use Rattle.error_lines.specs.declared.faults.Fault.TheVariants.{Usage, Absent, NotRecognized, Malformed, Short, Cycle}
+use Rattle.error_lines.specs.declared.faults.Fault.TheVariants.{TooDeep, Limit, SourceBand, Plan, Build, SameName}
+use Rattle.error_lines.specs.declared.faults.Fault.TheVariants.{BadPoint, Changed, FolderFault, InputFault, OutFault}
+use Rattle.error_lines.specs.declared.faults.Fault.TheVariants.{Memory}
 
 -- a fault of a walk, of a mosaic, of a block, of a report and of an output as the run's
 abbrev pub fault_of : WalkFault → Fault
@@ -80,7 +83,8 @@ IsOutside InputFault = Unit {0}
 IsOutside OutFault = Unit {0}
 IsOutside Memory = Unit {0}
 
--- a fault behind the walk: what a dataset lacks, a line of the input, one of the outside, or a file that isn't as the walk found it
+-- a fault behind the walk: what a dataset lacks, a line of the input, one of the outside, or a file that isn't as the
+-- walk found it
 abbrev pub IsLate : Fault → Type 0
 IsLate (Usage n) = ⊥
 IsLate (Absent name) = ⊥
@@ -147,7 +151,8 @@ abbrev pub status_of : Option Fault → ℕ
 status_of None = 0
 status_of (Some fault) = fault_status fault
 
--- a file that is malformed is so by a fault of its own, and what is made of inputs is refused by one, not for want of memory
+-- a file that is malformed is so by a fault of its own, and what is made of inputs is refused by one, not for want of
+-- memory
 pub record OwnsFault (fault : Option Fault) : Type 0 where
   pub malformed : (name : List ℕ) (b : Bad) → fault ≡ Some (Malformed name b) → IsOwnFault b
   pub build : fault ≡ Some (Build build.Memory) → ⊥

@@ -1,5 +1,6 @@
 -- What a run does, a step at a time, and how far it goes.
-use Rattle.std.specs.Prelude.{ℕ, ◌≡◌, ◌≤◌, ◌⊎◌, Bool, true, false, List, [], ◌∷◌, ◌++◌, take, drop, Option, Some, None, Result, Ok, Err}
+use Rattle.std.specs.Prelude.{ℕ, ◌≡◌, ◌≤◌, ◌⊎◌, Bool, true, false, List, [], ◌∷◌, ◌++◌, take, drop, Option, Some, None}
+use Rattle.std.specs.Prelude.{Result, Ok, Err}
 use Rattle.std.specs.FinMap.{insert}
 use Rattle.outside.specs.Outside.{Files}
 use Rattle.outside.specs.Causes.{Rose}
@@ -72,9 +73,10 @@ applied [] m = m
 applied (file ∷ files) m = applied files (insert m file.0 file.1)
 
 -- these steps were done over the files of this map: their texts were put, and their files stand under their names
-pub record AreDone (steps : List Step) (m : Files) (names : Option Files) (before after : Option (List ℕ)) : Type 0 where
-  pub printed : Gets (printed steps) before after
-  pub published : names ≡ Some (applied (published steps) m)
+pub record AreDone (steps : List Step) (m : Files) (names : Option Files) (before after : Option (List ℕ)) : Type 0
+  where
+    pub printed : Gets (printed steps) before after
+    pub published : names ≡ Some (applied (published steps) m)
 
 -- the steps that give these files to their names
 abbrev pub publishes : List (List ℕ × List ℕ) → List Step
@@ -84,17 +86,22 @@ publishes (file ∷ files) = Publishes file.0 file.1 ∷ publishes files
 -- how far a run went over the files of a map: to its end, or to a fault of the outside within its steps
 abbrev pub Goes : Done → Files → Result (Unit {0}) Fault → Option Files → Option (List ℕ) → Option (List ℕ) → Type 0
 Goes r m (Ok done) names before after = (r.fault ≡ None) × AreDone r.steps m names before after
-Goes r m (Err fault) names before after = ((r.fault ≡ Some fault) × AreDone r.steps m names before after) ⊎ (IsOutside fault × ((part : List Step) × IsFirstPart part r.steps × AreDone part m names before after))
+Goes r m (Err fault) names before after = ((r.fault ≡ Some fault) × AreDone r.steps m names before after)
+    ⊎ (IsOutside fault × ((part : List Step) × IsFirstPart part r.steps × AreDone part m names before after))
 
 -- The warnings among these steps were put on the error stream: whole where it hasn't failed, and else a first part of
 -- them, where its count of faults rose. The count doesn't fall.
-pub record AreWarned (steps : List Step) (failed : Bool) (faults faults_now : ℕ) (before after : Option (List ℕ)) : Type 0 where
+pub record AreWarned (steps : List Step) (failed : Bool) (faults faults_now : ℕ) (before after : Option (List ℕ)) : Type
+    0 where
   pub whole : failed ≡ false → Gets (warned steps) before after
   pub part : GetsPart (warned steps) before after
   pub rose : failed ≡ true → Rose faults faults_now
   pub later : faults ≤ faults_now
 
 -- how far a run went, where what it did is such besides
-abbrev pub GoesWarning : Done → Files → Result (Unit {0}) Fault → Option Files → Option (List ℕ) → Option (List ℕ) → (List Step → Type 0) → Type 0
+abbrev pub GoesWarning : Done → Files → Result (Unit {0}) Fault → Option Files → Option (List ℕ) → Option (List ℕ) →
+    (List Step → Type 0) → Type 0
 GoesWarning r m (Ok done) names before after W = (r.fault ≡ None) × AreDone r.steps m names before after × W r.steps
-GoesWarning r m (Err fault) names before after W = ((r.fault ≡ Some fault) × AreDone r.steps m names before after × W r.steps) ⊎ (IsOutside fault × ((part : List Step) × IsFirstPart part r.steps × AreDone part m names before after × W part))
+GoesWarning r m (Err fault) names before after W = ((r.fault ≡ Some fault) × AreDone r.steps m names before after ×
+    W r.steps) ⊎ (IsOutside fault × ((part : List Step) × IsFirstPart part r.steps × AreDone part m names before after ×
+    W part))

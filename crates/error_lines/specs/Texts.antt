@@ -20,7 +20,10 @@ use Rattle.buildvrt.specs.declared.faults.BuildFault.{BuildFault}
 use Rattle.buildvrt.specs.declared.faults.BuildFault.TheVariants as build
 use Rattle.lists_and_answers.specs.Texts.{text}
 use Rattle.error_lines.specs.declared.faults.Fault.{Fault}
-use Rattle.error_lines.specs.declared.faults.Fault.TheVariants.{Usage, Absent, NotRecognized, Malformed, Short, Cycle, TooDeep, Limit, SourceBand, Plan, Build, SameName, BadPoint, Changed, FolderFault, InputFault, OutFault, Memory}
+use Rattle.error_lines.specs.declared.faults.Fault.TheVariants.{Usage, Absent, NotRecognized, Malformed, Short, Cycle}
+use Rattle.error_lines.specs.declared.faults.Fault.TheVariants.{TooDeep, Limit, SourceBand, Plan, Build, SameName}
+use Rattle.error_lines.specs.declared.faults.Fault.TheVariants.{BadPoint, Changed, FolderFault, InputFault, OutFault}
+use Rattle.error_lines.specs.declared.faults.Fault.TheVariants.{Memory}
 
 -- the place of a fault, where it has one
 abbrev pub place_text : Option ℕ → List ℕ
@@ -29,7 +32,8 @@ place_text (Some place) = codes " at " ++ decimal place
 
 -- the line of a file that isn't of its form
 abbrev pub form_line : List ℕ → List ℕ → ℕ → Option ℕ → List ℕ
-form_line name form number place = text (codes "ERROR 4: " ∷ name ∷ codes ": malformed " ∷ form ∷ codes " (" ∷ decimal number ∷ codes ")" ∷ place_text place ∷ codes "\n" ∷ [])
+form_line name form number place = text (codes "ERROR 4: " ∷ name ∷ codes ": malformed " ∷ form ∷ codes
+    " (" ∷ decimal number ∷ codes ")" ∷ place_text place ∷ codes "\n" ∷ [])
 
 -- the line of a cell, from the west, that a fault speaks of
 abbrev pub cell_line_of : DtedFault → Option ℕ
@@ -95,18 +99,23 @@ build_line build.Memory = codes "ERROR 2: out of memory\n"
 abbrev pub error_line : Fault → List ℕ
 error_line (Usage word) = text (codes "ERROR 1: word " ∷ decimal word ∷ codes " doesn't fit\n" ∷ [])
 error_line (Absent name) = text (codes "ERROR 4: " ∷ name ∷ codes ": no such file\n" ∷ [])
-error_line (NotRecognized name) = text (codes "ERROR 4: " ∷ name ∷ codes ": not recognized as a supported format\n" ∷ [])
+error_line (NotRecognized name) =
+    text (codes "ERROR 4: " ∷ name ∷ codes ": not recognized as a supported format\n" ∷ [])
 error_line (Malformed name bad) = bad_line name bad
-error_line (Short name needed has) = text (codes "ERROR 4: " ∷ name ∷ codes ": needs " ∷ decimal needed ∷ codes " bytes, has " ∷ decimal has ∷ codes "\n" ∷ [])
+error_line (Short name needed has) = text (codes "ERROR 4: " ∷ name ∷ codes ": needs " ∷ decimal needed ∷ codes
+    " bytes, has " ∷ decimal has ∷ codes "\n" ∷ [])
 error_line (Cycle name) = text (codes "ERROR 1: " ∷ name ∷ codes ": mosaic contains itself\n" ∷ [])
 error_line (TooDeep name) = text (codes "ERROR 1: " ∷ name ∷ codes ": nested too deep\n" ∷ [])
-error_line (Limit what value) = text (codes "ERROR 6: limit of " ∷ limit_word what ∷ codes " passed (" ∷ decimal value ∷ codes ")\n" ∷ [])
-error_line (SourceBand name band) = text (codes "ERROR 5: " ∷ name ∷ codes ": no band " ∷ decimal band ∷ codes "\n" ∷ [])
+error_line (Limit what value) =
+    text (codes "ERROR 6: limit of " ∷ limit_word what ∷ codes " passed (" ∷ decimal value ∷ codes ")\n" ∷ [])
+error_line (SourceBand name band) =
+    text (codes "ERROR 5: " ∷ name ∷ codes ": no band " ∷ decimal band ∷ codes "\n" ∷ [])
 error_line (Plan fault) = plan_line fault
 error_line (Build fault) = build_line fault
 error_line (SameName name) = text (codes "ERROR 1: " ∷ name ∷ codes ": output is an input\n" ∷ [])
 error_line (BadPoint line) = text (codes "ERROR 5: input line " ∷ decimal line ∷ codes " is no point\n" ∷ [])
-error_line (Changed name was now) = text (codes "ERROR 3: " ∷ name ∷ codes ": length changed from " ∷ decimal was ∷ codes " to " ∷ length_text now ∷ codes "\n" ∷ [])
+error_line (Changed name was now) = text (codes "ERROR 3: " ∷ name ∷ codes ": length changed from " ∷ decimal was
+    ∷ codes " to " ∷ length_text now ∷ codes "\n" ∷ [])
 error_line FolderFault = codes "ERROR 3: a file call failed\n"
 error_line InputFault = codes "ERROR 3: reading the input failed\n"
 error_line OutFault = codes "ERROR 3: writing the output failed\n"

@@ -36,7 +36,8 @@ fn status(fault: &Option<Fault>) -> u8
 
 // The line of the fault, where there is one. A failing stream changes nothing else.
 fn say<E: Sink>(err: &mut E, fault: &Option<Fault>)
-    ensures whole { (Rose (E.faults err.old) (E.faults err.new) → ⊥) → Gets (line_of fault.now) (E.got err.old) (E.got err.new) }
+    ensures whole { (Rose (E.faults err.old) (E.faults err.new) → ⊥) →
+        Gets (line_of fault.now) (E.got err.old) (E.got err.new) }
     ensures part { GetsPart (line_of fault.now) (E.got err.old) (E.got err.new) }
     ensures later { E.faults err.old ≤ E.faults err.new }
 {
@@ -50,7 +51,8 @@ fn say<E: Sink>(err: &mut E, fault: &Option<Fault>)
 pub fn tell<E: Sink>(err: &mut E, failed: bool, fault: Option<Fault>) -> Outcome
     ensures fault { result.fault ≡ fault }
     ensures status { result.status ≡ status_of fault }
-    ensures whole { failed ≡ false → (Rose (E.faults err.old) (E.faults err.new) → ⊥) → Gets (line_of fault) (E.got err.old) (E.got err.new) }
+    ensures whole { failed ≡ false → (Rose (E.faults err.old) (E.faults err.new) → ⊥) →
+        Gets (line_of fault) (E.got err.old) (E.got err.new) }
     ensures part { failed ≡ false → GetsPart (line_of fault) (E.got err.old) (E.got err.new) }
     ensures untouched { failed ≡ true → err.new ≡ err.old }
     ensures later { E.faults err.old ≤ E.faults err.new }

@@ -4,7 +4,8 @@ ghost use Rattle.outside.specs.Streams.{Gets, GetsPart};
 ghost use Rattle.outside.specs.Causes.{FailsWith};
 ghost use Rattle.lists_and_answers.specs.Texts.{text};
 ghost use Rattle.buildvrt.specs.declared.faults.BuildFault.TheVariants as build;
-ghost use Rattle.error_lines.specs.Texts.{form_line, cell_line_of, bad_line, limit_word, plan_line, reason_word, build_line, error_line};
+ghost use Rattle.error_lines.specs.Texts.{form_line, cell_line_of, bad_line, limit_word, plan_line, reason_word};
+ghost use Rattle.error_lines.specs.Texts.{build_line, error_line};
 
 use crate::Fault;
 use ascii_grid::GridFault;
@@ -18,8 +19,10 @@ use vrt_profile::VrtFault;
 
 // A number between two texts.
 fn put_number<S: Sink>(sink: &mut S, before: &[u8], number: u64, after: &[u8]) -> Result<(), Failed>
-    ensures ok { OnOk result (Gets (text (before.now ∷ decimal number ∷ after.now ∷ [])) (S.got sink.old) (S.got sink.new)) }
-    ensures err { OnErr result (GetsPart (text (before.now ∷ decimal number ∷ after.now ∷ [])) (S.got sink.old) (S.got sink.new)) }
+    ensures ok { OnOk result (Gets (text (before.now ∷ decimal number ∷ after.now ∷ [])) (S.got sink.old)
+        (S.got sink.new)) }
+    ensures err { OnErr result (GetsPart (text (before.now ∷ decimal number ∷ after.now ∷ [])) (S.got sink.old)
+        (S.got sink.new)) }
     ensures cause { FailsWith (S.faults sink.old) (S.faults sink.new) result }
 {
     let mut buffer = Buffer::new();
@@ -30,7 +33,8 @@ fn put_number<S: Sink>(sink: &mut S, before: &[u8], number: u64, after: &[u8]) -
 // A name in a line that tells of a file.
 fn put_name<S: Sink>(sink: &mut S, before: &[u8], name: &Name, after: &[u8]) -> Result<(), Failed>
     ensures ok { OnOk result (Gets (text (before.now ∷ name.now ∷ after.now ∷ [])) (S.got sink.old) (S.got sink.new)) }
-    ensures err { OnErr result (GetsPart (text (before.now ∷ name.now ∷ after.now ∷ [])) (S.got sink.old) (S.got sink.new)) }
+    ensures err { OnErr result (GetsPart (text (before.now ∷ name.now ∷ after.now ∷ [])) (S.got sink.old)
+        (S.got sink.new)) }
     ensures cause { FailsWith (S.faults sink.old) (S.faults sink.new) result }
 {
     put_all(sink, &[before, name.as_str().as_bytes(), after])
@@ -38,7 +42,8 @@ fn put_name<S: Sink>(sink: &mut S, before: &[u8], name: &Name, after: &[u8]) -> 
 
 fn put_short<S: Sink>(sink: &mut S, name: &Name, needed: u64, has: u64) -> Result<(), Failed>
     ensures ok { OnOk result (Gets (error_line (Fault.Short name.now needed has)) (S.got sink.old) (S.got sink.new)) }
-    ensures err { OnErr result (GetsPart (error_line (Fault.Short name.now needed has)) (S.got sink.old) (S.got sink.new)) }
+    ensures err { OnErr result (GetsPart (error_line (Fault.Short name.now needed has)) (S.got sink.old)
+        (S.got sink.new)) }
     ensures cause { FailsWith (S.faults sink.old) (S.faults sink.new) result }
 {
     let mut first = Buffer::new();
@@ -91,8 +96,10 @@ fn put_form_at<S: Sink>(
     number: u64,
     place: u64,
 ) -> Result<(), Failed>
-    ensures ok { OnOk result (Gets (form_line name.now form.now number (Some place)) (S.got sink.old) (S.got sink.new)) }
-    ensures err { OnErr result (GetsPart (form_line name.now form.now number (Some place)) (S.got sink.old) (S.got sink.new)) }
+    ensures ok { OnOk result (Gets (form_line name.now form.now number (Some place)) (S.got sink.old)
+        (S.got sink.new)) }
+    ensures err { OnErr result (GetsPart (form_line name.now form.now number (Some place)) (S.got sink.old)
+        (S.got sink.new)) }
     ensures cause { FailsWith (S.faults sink.old) (S.faults sink.new) result }
 {
     let mut first = Buffer::new();
@@ -214,7 +221,8 @@ fn put_limit<S: Sink>(sink: &mut S, what: LimitKind, value: u64) -> Result<(), F
 // The line of a dataset that lacks the band of a source.
 fn put_lacking<S: Sink>(sink: &mut S, name: &Name, band: u32) -> Result<(), Failed>
     ensures ok { OnOk result (Gets (error_line (Fault.SourceBand name.now band)) (S.got sink.old) (S.got sink.new)) }
-    ensures err { OnErr result (GetsPart (error_line (Fault.SourceBand name.now band)) (S.got sink.old) (S.got sink.new)) }
+    ensures err { OnErr result (GetsPart (error_line (Fault.SourceBand name.now band)) (S.got sink.old)
+        (S.got sink.new)) }
     ensures cause { FailsWith (S.faults sink.old) (S.faults sink.new) result }
 {
     let mut buffer = Buffer::new();
@@ -225,8 +233,10 @@ fn put_lacking<S: Sink>(sink: &mut S, name: &Name, band: u32) -> Result<(), Fail
 
 // The line of a file whose length changed, from the text of the new length.
 fn put_change<S: Sink>(sink: &mut S, name: &Name, was: u64, now: &[u8]) -> Result<(), Failed>
-    ensures ok { OnOk result (Gets (text (codes "ERROR 3: " ∷ name.now ∷ codes ": length changed from " ∷ decimal was ∷ codes " to " ∷ now.now ∷ codes "\n" ∷ [])) (S.got sink.old) (S.got sink.new)) }
-    ensures err { OnErr result (GetsPart (text (codes "ERROR 3: " ∷ name.now ∷ codes ": length changed from " ∷ decimal was ∷ codes " to " ∷ now.now ∷ codes "\n" ∷ [])) (S.got sink.old) (S.got sink.new)) }
+    ensures ok { OnOk result (Gets (text (codes "ERROR 3: " ∷ name.now ∷ codes ": length changed from " ∷ decimal was
+        ∷ codes " to " ∷ now.now ∷ codes "\n" ∷ [])) (S.got sink.old) (S.got sink.new)) }
+    ensures err { OnErr result (GetsPart (text (codes "ERROR 3: " ∷ name.now ∷ codes ": length changed from "
+        ∷ decimal was ∷ codes " to " ∷ now.now ∷ codes "\n" ∷ [])) (S.got sink.old) (S.got sink.new)) }
     ensures cause { FailsWith (S.faults sink.old) (S.faults sink.new) result }
 {
     let mut buffer = Buffer::new();
@@ -248,7 +258,8 @@ fn put_change<S: Sink>(sink: &mut S, name: &Name, was: u64, now: &[u8]) -> Resul
 
 fn put_changed<S: Sink>(sink: &mut S, name: &Name, was: u64, now: Option<u64>) -> Result<(), Failed>
     ensures ok { OnOk result (Gets (error_line (Fault.Changed name.now was now)) (S.got sink.old) (S.got sink.new)) }
-    ensures err { OnErr result (GetsPart (error_line (Fault.Changed name.now was now)) (S.got sink.old) (S.got sink.new)) }
+    ensures err { OnErr result (GetsPart (error_line (Fault.Changed name.now was now)) (S.got sink.old)
+        (S.got sink.new)) }
     ensures cause { FailsWith (S.faults sink.old) (S.faults sink.new) result }
 {
     match now {
@@ -296,8 +307,10 @@ pub fn put_skipped<S: Sink>(
     name: &Name,
     word: &[u8],
 ) -> Result<(), Failed>
-    ensures ok { OnOk result (Gets (text (head.now ∷ name.now ∷ codes ": skipped (" ∷ word.now ∷ codes ")\n" ∷ [])) (S.got sink.old) (S.got sink.new)) }
-    ensures err { OnErr result (GetsPart (text (head.now ∷ name.now ∷ codes ": skipped (" ∷ word.now ∷ codes ")\n" ∷ [])) (S.got sink.old) (S.got sink.new)) }
+    ensures ok { OnOk result (Gets (text (head.now ∷ name.now ∷ codes ": skipped (" ∷ word.now ∷ codes ")\n" ∷ []))
+        (S.got sink.old) (S.got sink.new)) }
+    ensures err { OnErr result (GetsPart (text (head.now ∷ name.now ∷ codes ": skipped (" ∷ word.now ∷ codes ")\n"
+        ∷ [])) (S.got sink.old) (S.got sink.new)) }
     ensures cause { FailsWith (S.faults sink.old) (S.faults sink.new) result }
 {
     let before: &[u8] = b": skipped (";

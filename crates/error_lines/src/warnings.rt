@@ -19,7 +19,10 @@ pub fn put_warning<E: Sink>(err: &mut E, failed: &mut bool, name: &Name, reason:
     ensures rose { failed.old ≡ false → failed.new ≡ true → Rose (E.faults err.old) (E.faults err.new) }
     ensures later { E.faults err.old ≤ E.faults err.new }
     // Behind other warnings it is one more.
-    ensures warned { (steps : List Step) (first : ℕ) (start : Option (List ℕ)) → AreWarned steps failed.old first (E.faults err.old) start (E.got err.old) → AreWarned (steps ++ Warns (warning_line name.now reason) ∷ []) failed.new first (E.faults err.new) start (E.got err.new) }
+    ensures warned { (steps : List Step) (first : ℕ) (start : Option (List ℕ)) →
+        AreWarned steps failed.old first (E.faults err.old) start (E.got err.old) →
+        AreWarned (steps ++ Warns (warning_line name.now reason) ∷ []) failed.new first (E.faults err.new) start
+        (E.got err.new) }
 {
     if !*failed {
         *failed = put_skipped(err, b"Warning 1: ", name, reason_word(reason)).is_err();

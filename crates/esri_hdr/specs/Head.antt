@@ -1,5 +1,7 @@
 -- The head that a header's text gives, or its first fault.
-use Rattle.std.specs.Prelude.{◌≡◌, ◌<◌, ◌≤◌, ◌⊎◌, IfSome, ℕ, ℤ, pos, neg_ℤ, ◌+ℤ◌, ◌-ℤ◌, ◌*ℤ◌, ◌*◌, ◌/◌, ◌^◌, Bool, true, false, ◌&&◌, List, length, Option, Some, None, Result, Ok, Err, nat_lt, if◌then◌else◌, unsigned_abs, int_lt}
+use Rattle.std.specs.Prelude.{◌≡◌, ◌<◌, ◌≤◌, ◌⊎◌, IfSome, ℕ, ℤ, pos, neg_ℤ, ◌+ℤ◌, ◌-ℤ◌, ◌*ℤ◌, ◌*◌, ◌/◌, ◌^◌, Bool, true}
+use Rattle.std.specs.Prelude.{false, ◌&&◌, List, length, Option, Some, None, Result, Ok, Err, nat_lt, if◌then◌else◌}
+use Rattle.std.specs.Prelude.{unsigned_abs, int_lt}
 use Rattle.std.specs.Option.{option_map}
 use Rattle.lists_and_answers.specs.Answers.{◌>>=◌}
 use Rattle.geotransform.specs.Decimal.{ticks_of, whole_of, IsRead}
@@ -17,7 +19,8 @@ use Rattle.esri_hdr.specs.declared.header_parts.RawGeo.{RawGeo}
 use Rattle.esri_hdr.specs.declared.header_parts.Shape.{Shape}
 use Rattle.esri_hdr.specs.declared.header_parts.Rows.{Rows}
 use Rattle.esri_hdr.specs.Lines.{Values, last_of}
-use Rattle.esri_hdr.specs.Values.{or_fault, side_in, bands_in, bits_in, big_in, layout_in, skip_in, signed_in, kind_of, band_row_in, total_row_in, gap_in, BandRowFits, TotalRowFits, GapFits}
+use Rattle.esri_hdr.specs.Values.{or_fault, side_in, bands_in, bits_in, big_in, layout_in, skip_in, signed_in, kind_of}
+use Rattle.esri_hdr.specs.Values.{band_row_in, total_row_in, gap_in, BandRowFits, TotalRowFits, GapFits}
 use Rattle.esri_hdr.specs.Keys as keys
 
 -- ULXMAP, ULYMAP
@@ -38,11 +41,13 @@ step_in (Some text) = do
 abbrev pub is_half_near : ℤ → Bool
 is_half_near twice = nat_lt (unsigned_abs twice) (2 * (10 ^ 12 * unit))
 
--- the centre and the sizes of the first pixel, where both its coordinates stand; its outer corner stays below 10^12 units
+-- the centre and the sizes of the first pixel, where both its coordinates stand; its outer corner stays below 10^12
+-- units
 unfoldable pub geo_in : Option ℤ → Option ℤ → ℤ → ℤ → Result (Option RawGeo) HdrFault
 geo_in None uly xdim ydim = Ok None
 geo_in (Some ulx) None xdim ydim = Ok None
-geo_in (Some ulx) (Some uly) xdim ydim = if is_half_near (ulx +ℤ ulx -ℤ xdim) && is_half_near (uly +ℤ uly +ℤ ydim) then Ok (Some (record { ulx = ulx; uly = uly; xdim = xdim; ydim = ydim })) else Err BadValue
+geo_in (Some ulx) (Some uly) xdim ydim = if is_half_near (ulx +ℤ ulx -ℤ xdim) && is_half_near (uly +ℤ uly +ℤ ydim)
+    then Ok (Some (record { ulx = ulx; uly = uly; xdim = xdim; ydim = ydim })) else Err BadValue
 
 -- a number, where there is one and the type has it
 abbrev pub when_in : PixelType → Option ℤ → Option ℤ
@@ -106,7 +111,22 @@ pub record Head : Type 0 where
 
 -- the head of what the keys say
 abbrev pub head_from : Shape → Rows → Option RawGeo → Option (List ℕ) → Head
-head_from s r geo nodata = record { size = record { w = s.w; h = s.h }; bands = s.bands; kind = kind_of s.bits s.signed; big = s.big; layout = s.layout; skip = s.skip; band_row = r.band_row; total_row = r.total_row; gap = r.gap; nodata = nodata_in (kind_of s.bits s.signed) nodata; geo = geo }
+head_from s r geo nodata = record {
+  size = record {
+    w = s.w;
+    h = s.h;
+  };
+  bands = s.bands;
+  kind = kind_of s.bits s.signed;
+  big = s.big;
+  layout = s.layout;
+  skip = s.skip;
+  band_row = r.band_row;
+  total_row = r.total_row;
+  gap = r.gap;
+  nodata = nodata_in (kind_of s.bits s.signed) nodata;
+  geo = geo;
+}
 
 -- the head that the values of the keys give, or the first fault
 unfoldable pub head_of : Values → Result Head HdrFault
@@ -126,7 +146,8 @@ sample_len kind = bytes_of kind
 
 -- the rules of the row lengths and the gap, by the layout, the number of bands and the bytes of a band's row
 abbrev pub RowsFit : Layout → ℕ → ℕ → Rows → Type 0
-RowsFit layout bands row r = BandRowFits layout row r.band_row × TotalRowFits layout bands row r.band_row r.total_row × GapFits layout r.gap
+RowsFit layout bands row r = BandRowFits layout row r.band_row × TotalRowFits layout bands row r.band_row r.total_row ×
+    GapFits layout r.gap
 
 -- the rules of the centre and the sizes of a pixel
 pub record GeoFits (g : RawGeo) : Type 0 where
@@ -149,7 +170,11 @@ pub record IsHead (h : Head) : Type 0 where
   pub height : IsSide h.size.h
   pub bands : (0 < h.bands) × (h.bands ≤ 256)
   pub skip : h.skip ≤ 2 ^ 40
-  pub rows : RowsFit h.layout h.bands (h.size.w * sample_len h.kind) (record { band_row = h.band_row; total_row = h.total_row; gap = h.gap })
+  pub rows : RowsFit h.layout h.bands (h.size.w * sample_len h.kind) (record {
+    band_row = h.band_row;
+    total_row = h.total_row;
+    gap = h.gap;
+  })
   pub nodata : IfSome h.nodata (λ n. is_in h.kind n ≡ true)
   pub geo : IfSome h.geo GeoFits
 
@@ -173,15 +198,23 @@ placed g = record { ox = g.ulx -ℤ half_of g.xdim; oy = g.uly +ℤ half_of g.yd
 abbrev pub geotransform_of : Head → Option Transform
 geotransform_of h = option_map placed h.geo
 
--- the centre of the first pixel and the sizes of a pixel of a geotransform, each rounded to 16 places; the half of a tick is rounded with the rest
+-- the centre of the first pixel and the sizes of a pixel of a geotransform, each rounded to 16 places; the half of a
+-- tick is rounded with the rest
 abbrev pub raw_geo : Transform → RawGeo
-raw_geo g = record { ulx = pos 18 *ℤ half (pos 2 *ℤ g.ox +ℤ g.dx) 36; uly = pos 18 *ℤ half (pos 2 *ℤ g.oy +ℤ g.dy) 36; xdim = sixteen_places g.dx; ydim = sixteen_places (neg_ℤ g.dy) }
+raw_geo g = record {
+  ulx = pos 18 *ℤ half (pos 2 *ℤ g.ox +ℤ g.dx) 36;
+  uly = pos 18 *ℤ half (pos 2 *ℤ g.oy +ℤ g.dy) 36;
+  xdim = sixteen_places g.dx;
+  ydim = sixteen_places (neg_ℤ g.dy);
+}
 
 -- a header can hold the centre, and the outer corner that is computed from it
 abbrev pub is_origin : RawGeo → Bool
-is_origin r = (is_near r.ulx && is_near r.uly) && (is_half_near (r.ulx +ℤ r.ulx -ℤ r.xdim) && is_half_near (r.uly +ℤ r.uly +ℤ r.ydim))
+is_origin r = (is_near r.ulx && is_near r.uly) && (is_half_near (r.ulx +ℤ r.ulx -ℤ r.xdim) &&
+    is_half_near (r.uly +ℤ r.uly +ℤ r.ydim))
 
--- a header can hold a geotransform: it runs from west to east and from north to south, and its sizes and its origin can be held
+-- a header can hold a geotransform: it runs from west to east and from north to south, and its sizes and its origin can
+-- be held
 abbrev pub holds_transform : Transform → Bool
 holds_transform g = is_north_up g && (sizes_held g && is_origin (raw_geo g))
 
@@ -197,4 +230,17 @@ plain_row Bsq bands row = row
 
 -- the head of a raster whose file has its samples alone, with the byte that counts least in front
 abbrev pub plain_head : Size → ℕ → PixelType → Layout → Option ℤ → Option RawGeo → Head
-plain_head size bands kind layout nodata geo = record { size = size; bands = bands; kind = kind; big = false; layout = layout; skip = 0; band_row = size.w * sample_len kind; total_row = plain_row layout bands (size.w * sample_len kind); gap = 0; nodata = nodata; geo = geo }
+plain_head size bands kind layout nodata geo = record {
+  size = size;
+  bands = bands;
+  kind = kind;
+  big = false;
+  layout = layout;
+  skip = 0;
+  band_row = size.w * sample_len
+      kind;
+  total_row = plain_row layout bands (size.w * sample_len kind);
+  gap = 0;
+  nodata = nodata;
+  geo = geo;
+}

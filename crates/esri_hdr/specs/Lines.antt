@@ -1,12 +1,14 @@
 -- The lines of a header, their keys and values.
-use Rattle.std.specs.Prelude.{ℕ, Bool, ◌||◌, List, [], ◌∷◌, length, Option, Some, None, ◌==◌, if◌then◌else◌, slice_index_or}
+use Rattle.std.specs.Prelude.{ℕ, Bool, ◌||◌, List, [], ◌∷◌, length, Option, Some, None, ◌==◌, if◌then◌else◌}
+use Rattle.std.specs.Prelude.{slice_index_or}
 use Rattle.std.specs.Option.{option_map}
 use denote.Bor.{Bor}
 use Rattle.std.specs.List.{slice_split, position}
 use Rattle.lists_and_answers.specs.Texts.{same_letters, token_at}
 use Rattle.esri_hdr.specs.Keys.{names}
 
--- a line ends with a line feed, a carriage return, or both: between both there is one empty line more, which has no token
+-- a line ends with a line feed, a carriage return, or both: between both there is one empty line more, which has no
+-- token
 abbrev pub is_line_end : ℕ → Bool
 is_line_end c = (c == 10) || (c == 13)
 

@@ -1,5 +1,6 @@
 -- The text of a header that is written.
-use Rattle.std.specs.Prelude.{◌≡◌, ℕ, ℤ, ◌-◌, ◌*◌, Bool, List, [], ◌∷◌, ◌++◌, length, Option, Some, None, if◌then◌else◌, codes, get_or, replicate}
+use Rattle.std.specs.Prelude.{◌≡◌, ℕ, ℤ, ◌-◌, ◌*◌, Bool, List, [], ◌∷◌, ◌++◌, length, Option, Some, None, if◌then◌else◌}
+use Rattle.std.specs.Prelude.{codes, get_or, replicate}
 use Rattle.std.specs.Fmt.{decimal, signed_decimal}
 use Rattle.geotransform.specs.Print.{short_text}
 use Rattle.geotransform.specs.declared.types.PixelType.{PixelType}
@@ -46,23 +47,28 @@ nodata_fields (Some n) = (keys.nodata, signed_decimal n) ∷ []
 -- the centre and the sizes of the first pixel, where there are any
 abbrev pub geo_fields : Option RawGeo → List (ℕ × List ℕ)
 geo_fields None = []
-geo_fields (Some g) = (keys.ulxmap, short_text g.ulx) ∷ (keys.ulymap, short_text g.uly) ∷ (keys.xdim, short_text g.xdim) ∷ (keys.ydim, short_text g.ydim) ∷ []
+geo_fields (Some g) = (keys.ulxmap, short_text g.ulx) ∷ (keys.ulymap, short_text g.uly) ∷ (keys.xdim, short_text g.xdim)
+    ∷ (keys.ydim, short_text g.ydim) ∷ []
 
 -- the first four lines
 abbrev pub layout_fields : Head → List (ℕ × List ℕ)
-layout_fields h = (keys.byteorder, order_text h.big) ∷ (keys.layout, layout_text h.layout) ∷ (keys.nrows, decimal h.size.h) ∷ (keys.ncols, decimal h.size.w) ∷ []
+layout_fields h = (keys.byteorder, order_text h.big) ∷ (keys.layout, layout_text h.layout)
+    ∷ (keys.nrows, decimal h.size.h) ∷ (keys.ncols, decimal h.size.w) ∷ []
 
 -- the next three
 abbrev pub sample_fields : Head → List (ℕ × List ℕ)
-sample_fields h = (keys.nbands, decimal h.bands) ∷ (keys.nbits, decimal (8 * sample_len h.kind)) ∷ (keys.skipbytes, decimal h.skip) ∷ []
+sample_fields h = (keys.nbands, decimal h.bands) ∷ (keys.nbits, decimal (8 * sample_len h.kind))
+    ∷ (keys.skipbytes, decimal h.skip) ∷ []
 
 -- the last four that always stand
 abbrev pub row_fields : Head → List (ℕ × List ℕ)
-row_fields h = (keys.bandrowbytes, decimal h.band_row) ∷ (keys.totalrowbytes, decimal h.total_row) ∷ (keys.bandgapbytes, decimal h.gap) ∷ (keys.pixeltype, sign_text h.kind) ∷ []
+row_fields h = (keys.bandrowbytes, decimal h.band_row) ∷ (keys.totalrowbytes, decimal h.total_row)
+    ∷ (keys.bandgapbytes, decimal h.gap) ∷ (keys.pixeltype, sign_text h.kind) ∷ []
 
 -- the lines of a head with this NODATA and this centre
 abbrev pub fields_from : Head → Option ℤ → Option RawGeo → List (ℕ × List ℕ)
-fields_from h nodata geo = layout_fields h ++ (sample_fields h ++ (row_fields h ++ (nodata_fields nodata ++ geo_fields geo)))
+fields_from h nodata geo =
+    layout_fields h ++ (sample_fields h ++ (row_fields h ++ (nodata_fields nodata ++ geo_fields geo)))
 
 -- the lines of a head
 abbrev pub fields_of : Head → List (ℕ × List ℕ)

@@ -1,11 +1,13 @@
 -- What the value of a key means, key by key. A key without a value has its default.
-use Rattle.std.specs.Prelude.{◌≡◌, ◌≤◌, ℕ, ◌*◌, ◌^◌, Bool, true, false, ◌&&◌, ◌||◌, List, Option, Some, None, Result, Ok, Err, nat_lt, ◌==◌, if◌then◌else◌, codes, slice_index}
+use Rattle.std.specs.Prelude.{◌≡◌, ◌≤◌, ℕ, ◌*◌, ◌^◌, Bool, true, false, ◌&&◌, ◌||◌, List, Option, Some, None, Result}
+use Rattle.std.specs.Prelude.{Ok, Err, nat_lt, ◌==◌, if◌then◌else◌, codes, slice_index}
 use Rattle.std.specs.Char.{to_ascii_lowercase}
 use Rattle.lists_and_answers.specs.Answers.{◌>>=◌}
 use Rattle.lists_and_answers.specs.Texts.{same_letters}
 use Rattle.geotransform.specs.Decimal.{number_of, is_negative_decimal}
 use Rattle.geotransform.specs.declared.types.PixelType.{PixelType}
-use Rattle.geotransform.specs.declared.types.PixelType.TheVariants.{Byte, Int8, UInt16, Int16, UInt32, Int32, UInt64, Int64}
+use Rattle.geotransform.specs.declared.types.PixelType.TheVariants.{Byte, Int8, UInt16, Int16, UInt32, Int32, UInt64}
+use Rattle.geotransform.specs.declared.types.PixelType.TheVariants.{Int64}
 use Rattle.esri_hdr.specs.declared.header_parts.HdrFault.{HdrFault}
 use Rattle.esri_hdr.specs.declared.header_parts.HdrFault.TheVariants.{BadValue, Unsupported, Limit}
 use Rattle.esri_hdr.specs.declared.header_parts.Layout.{Layout}
@@ -62,7 +64,9 @@ big_in (Some text) = order_of (to_ascii_lowercase (slice_index text 0))
 -- LAYOUT
 unfoldable pub layout_in : Option (List ℕ) → Result Layout HdrFault
 layout_in None = Ok Bil
-layout_in (Some text) = if same_letters text (codes "BIL") then Ok Bil else (if same_letters text (codes "BIP") then Ok Bip else (if same_letters text (codes "BSQ") then Ok Bsq else Err BadValue))
+layout_in (Some text) = if same_letters text (codes "BIL") then Ok Bil
+    else (if same_letters text (codes "BIP") then Ok Bip else (if same_letters text (codes "BSQ") then Ok Bsq
+    else Err BadValue))
 
 -- SKIPBYTES, and BANDGAPBYTES where it counts
 unfoldable pub skip_in : Option (List ℕ) → Result ℕ HdrFault
@@ -78,11 +82,15 @@ is_negative (Some text) = is_negative_decimal text
 -- PIXELTYPE: whether the samples are signed. Without it they are where more than 8 bits have a negative NODATA
 unfoldable pub signed_in : ℕ → Option (List ℕ) → Option (List ℕ) → Result Bool HdrFault
 signed_in bits None nodata = Ok (nat_lt 8 bits && is_negative nodata)
-signed_in bits (Some text) nodata = if same_letters text (codes "SIGNEDINT") then Ok true else (if same_letters text (codes "UNSIGNEDINT") then Ok false else (if same_letters text (codes "FLOAT") then Err Unsupported else Err BadValue))
+signed_in bits (Some text) nodata = if same_letters text (codes "SIGNEDINT") then Ok true
+    else (if same_letters text (codes "UNSIGNEDINT") then Ok false
+    else (if same_letters text (codes "FLOAT") then Err Unsupported else Err BadValue))
 
 -- the type of samples of so many bits
 unfoldable pub kind_of : ℕ → Bool → PixelType
-kind_of bits signed = if bits == 8 then (if signed then Int8 else Byte) else (if bits == 16 then (if signed then Int16 else UInt16) else (if bits == 32 then (if signed then Int32 else UInt32) else (if signed then Int64 else UInt64)))
+kind_of bits signed = if bits == 8 then (if signed then Int8 else Byte)
+    else (if bits == 16 then (if signed then Int16 else UInt16)
+    else (if bits == 32 then (if signed then Int32 else UInt32) else (if signed then Int64 else UInt64)))
 
 -- a length that is at least what the samples take, which is its default
 unfoldable pub row_in : ℕ → Option (List ℕ) → Result ℕ HdrFault

@@ -9,7 +9,7 @@ use std::marker::Model;
 
 /// The head of a raw raster. It keeps each rule of a header: the sides are from 1 to 4,194,304, the
 /// bands from 1 to 256, and the rows are as long as the layout and the samples want.
-#[derive(Clone, Copy, Debug)]
+#[derive(Clone, Copy)]
 pub struct RawHead {
     /// Columns and lines.
     pub size: Size,
@@ -44,11 +44,47 @@ impl Model for RawHead {
 
     ghost Value = { Head };
 
-    ghost view = { λ h. record { size = h.size; bands = h.bands; kind = h.kind; big = h.big; layout = h.layout; skip = h.skip; band_row = h.band_row; total_row = h.total_row; gap = h.gap; nodata = h.nodata; geo = h.geo } };
+    ghost view = { λ h. record {
+      size = h.size;
+      bands = h.bands;
+      kind = h.kind;
+      big = h.big;
+      layout = h.layout;
+      skip = h.skip;
+      band_row = h.band_row;
+      total_row = h.total_row;
+      gap = h.gap;
+      nodata = h.nodata;
+      geo = h.geo;
+    } };
 
-    ghost invariant = { λ h. IsHead (record { size = h.size; bands = h.bands; kind = h.kind; big = h.big; layout = h.layout; skip = h.skip; band_row = h.band_row; total_row = h.total_row; gap = h.gap; nodata = h.nodata; geo = h.geo }) };
+    ghost invariant = { λ h. IsHead (record {
+      size = h.size;
+      bands = h.bands;
+      kind = h.kind;
+      big = h.big;
+      layout = h.layout;
+      skip = h.skip;
+      band_row = h.band_row;
+      total_row = h.total_row;
+      gap = h.gap;
+      nodata = h.nodata;
+      geo = h.geo;
+    }) };
 
-    ghost inverse = { λ h. record { size = h.size; bands = h.bands; kind = h.kind; big = h.big; layout = h.layout; skip = h.skip; band_row = h.band_row; total_row = h.total_row; gap = h.gap; nodata = h.nodata; geo = h.geo } };
+    ghost inverse = { λ h. record {
+      size = h.size;
+      bands = h.bands;
+      kind = h.kind;
+      big = h.big;
+      layout = h.layout;
+      skip = h.skip;
+      band_row = h.band_row;
+      total_row = h.total_row;
+      gap = h.gap;
+      nodata = h.nodata;
+      geo = h.geo;
+    } };
 }
 
 /// Half of a size of a pixel, which is even.

@@ -6,7 +6,7 @@ use geotransform::Ticks;
 
 /// How the bands of a raster lie in its file: line by line, sample by sample, or one behind the
 /// other.
-#[derive(Clone, Copy, PartialEq, Eq, Debug)]
+#[derive(Clone, Copy, PartialEq, Eq)]
 pub enum Layout {
     Bil,
     Bip,
@@ -39,7 +39,7 @@ impl HdrFault {
 
 /// The centre of the upper left pixel and the sizes of a pixel, all multiples of 18 ticks, the sizes
 /// above 0.
-#[derive(Clone, Copy, PartialEq, Eq, Debug)]
+#[derive(Clone, Copy, PartialEq, Eq)]
 pub struct RawGeo {
     pub ulx: Ticks,
     pub uly: Ticks,

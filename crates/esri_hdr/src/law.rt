@@ -27,5 +27,7 @@ pub fn held_places_fit()
 
 /// The head of a file that has its samples alone keeps the rules of a head.
 pub fn plain_heads_are_heads()
-    ensures rules { (size : Size) (bands : ℕ) (kind : PixelType) (layout : Layout) (nodata : Option ℤ) (geo : Option RawGeo) → IsRaster size → 0 < bands → bands ≤ 256 → IfSome nodata (λ n. is_in kind n ≡ true) → IfSome geo GeoFits → IsHead (plain_head size bands kind layout nodata geo) }
+    ensures rules { (size : Size) (bands : ℕ) (kind : PixelType) (layout : Layout) (nodata : Option ℤ)
+        (geo : Option RawGeo) → IsRaster size → 0 < bands → bands ≤ 256 → IfSome nodata (λ n. is_in kind n ≡ true) →
+        IfSome geo GeoFits → IsHead (plain_head size bands kind layout nodata geo) }
 {}

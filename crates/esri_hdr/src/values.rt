@@ -2,7 +2,9 @@
 ghost use Rattle.std.specs.Prelude.{◌⊎◌, ◌≡◌, ℕ, ◌<◌, ◌≤◌, ◌+◌, ◌*◌, ◌/◌, ◌^◌, length, IfOk, List, Option};
 ghost use Rattle.std.specs.Option.{option_map};
 ghost use Rattle.geotransform.specs.Decimal.{number_of};
-ghost use Rattle.esri_hdr.specs.Values.{number_in, number_or, at_most, counted, side_in, bands_in, bits_in, order_of, big_in, layout_in, skip_in, is_negative, signed_in, kind_of, row_in, band_row_in, total_row_in, gap_in, BandRowFits, TotalRowFits, GapFits};
+ghost use Rattle.esri_hdr.specs.Values.{number_in, number_or, at_most, counted, side_in, bands_in, bits_in, order_of};
+ghost use Rattle.esri_hdr.specs.Values.{big_in, layout_in, skip_in, is_negative, signed_in, kind_of, row_in};
+ghost use Rattle.esri_hdr.specs.Values.{band_row_in, total_row_in, gap_in, BandRowFits, TotalRowFits, GapFits};
 
 use crate::header_parts::{HdrFault, Layout};
 use geotransform::{MOST_BANDS, MOST_SIDE, PixelType, is_negative_decimal, read_number};

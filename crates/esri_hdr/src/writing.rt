@@ -1,9 +1,11 @@
 // Writing a header.
-ghost use Rattle.std.specs.Prelude.{◌≡◌, ℕ, ◌<◌, ◌≤◌, ◌+◌, ◌-◌, ◌*◌, ◌++◌, [], ◌∷◌, length, List, Option, OnOk, OnErr, replicate};
+ghost use Rattle.std.specs.Prelude.{◌≡◌, ℕ, ◌<◌, ◌≤◌, ◌+◌, ◌-◌, ◌*◌, ◌++◌, [], ◌∷◌, length, List, Option, OnOk, OnErr};
+ghost use Rattle.std.specs.Prelude.{replicate};
 ghost use Rattle.std.specs.Fmt.{decimal, signed_decimal};
 ghost use Rattle.lists_and_answers.specs.Growth.{KeepsFront};
 ghost use Rattle.geotransform.specs.Print.{short_text};
-ghost use Rattle.esri_hdr.specs.Text.{AppendsLines, order_text, layout_text, sign_text, nodata_fields, geo_fields, layout_fields, sample_fields, row_fields, fields_of, hdr_text};
+ghost use Rattle.esri_hdr.specs.Text.{AppendsLines, order_text, layout_text, sign_text, nodata_fields, geo_fields};
+ghost use Rattle.esri_hdr.specs.Text.{layout_fields, sample_fields, row_fields, fields_of, hdr_text};
 
 use crate::head::{RawHead, sample_len};
 use crate::header_parts::{Layout, RawGeo};
@@ -84,7 +86,6 @@ fn push_layout(head: &RawHead, out: &mut Vec<u8>) -> Result<(), AllocError>
     Ok(())
 }
 
-#[tactic(auto, using(crate::proofs::Writes::keeps_after))]
 fn push_samples(head: &RawHead, out: &mut Vec<u8>) -> Result<(), AllocError>
     ensures ok { OnOk result (AppendsLines out.old.items out.new.items (sample_fields head.now)) }
     ensures err { OnErr result (KeepsFront out.old.items out.new.items) }
@@ -117,7 +118,6 @@ fn push_nodata(nodata: Option<Sample>, out: &mut Vec<u8>) -> Result<(), AllocErr
     push_text(NODATA, buffer.format(n).as_bytes(), out)
 }
 
-#[tactic(auto, using(crate::proofs::Writes::four_lines, crate::proofs::Writes::keeps_after))]
 fn push_four(geo: &RawGeo, out: &mut Vec<u8>) -> Result<(), AllocError>
     ensures ok { OnOk result (AppendsLines out.old.items out.new.items (geo_fields (Some geo.now))) }
     ensures err { OnErr result (KeepsFront out.old.items out.new.items) }

@@ -1,7 +1,9 @@
+use crate::tables::{all_hold, count, none_wrong};
 use dted_records::head::{DtedFault, DtedHead};
 use dted_records::reading::read_head;
 use dted_records::records::{check_record, decode_record};
 use geotransform::Sample;
+use std::alloc::Global;
 use std::test::*;
 
 /// One line of four points at 10 degrees east, 45 degrees north, with steps of three arc seconds.
@@ -21,7 +23,7 @@ fn put(out: &mut [u8], at: usize, text: &[u8]) {
 }
 
 /// Makes the bytes, behind `skip` of them, the head of that file.
-fn put_head(out: &mut [u8], skip: u16) {
+fn put_head(out: &mut [u8], skip: u32) {
     let skip = skip as usize;
     put(out, skip, LABEL);
     put(out, skip + 80, b"DSI");
@@ -36,45 +38,44 @@ fn fault_of(bytes: &[u8]) -> u8 {
     }
 }
 
-// What is written at a place of the head of that file, how many bytes there are, and the fault's number.
-const HEADS: [(usize, &[u8], usize, u8); 36] = [
-    (0, b"U", 3428, 0),
-    (0, b"U", 3427, 3),
-    (0, b"U", 80, 3),
-    (0, b"U", 79, 3),
-    (0, b"U", 0, 3),
-    (0, b"X", 79, 3),
-    (0, b"UHL2", 80, 1),
-    (0, b"uhl1", 3428, 1),
-    (0, b"UHL20100000X", 3428, 1),
-    (4, b"1800000E", 3428, 0),
-    (4, b"1795959W", 3428, 0),
-    (4, b"1800001E", 3428, 2),
-    (4, b"1800100W", 3428, 2),
-    (4, b"1810000E", 3428, 2),
-    (4, b"0106000E", 3428, 2),
-    (4, b"0100060E", 3428, 2),
-    (4, b"0100060E", 80, 2),
-    (4, b"0100000N", 3428, 2),
-    (4, b"0100000e", 3428, 2),
-    (4, b" 100000E", 3428, 2),
-    (4, b"010+100E", 3428, 2),
-    (12, b"0900000S", 3428, 0),
-    (12, b"0900001N", 3428, 2),
-    (12, b"0450000E", 3428, 2),
-    (20, b"0000", 3428, 2),
-    (20, b"9999", 3428, 0),
-    (24, b"0000", 3428, 2),
-    (24, b" 030", 3428, 2),
-    (47, b"0000", 3428, 2),
-    (47, b"0001000x", 3428, 2),
-    (51, b"0000", 80, 2),
-    (80, b"DSJ", 3428, 1),
-    (80, b"DSJ", 3427, 3),
-    (80, b"DSIX", 3428, 0),
-    (728, b"ACD", 3428, 1),
-    (728, b"ACCX", 3428, 0),
-];
+// A fault's number, how many bytes there are, a place of the head of that file, and what is written there.
+const HEADS: &str = "\
+    0 3428 0 U|\
+    3 3427 0 U|\
+    3 80 0 U|\
+    3 79 0 U|\
+    3 0 0 U|\
+    3 79 0 X|\
+    1 80 0 UHL2|\
+    1 3428 0 uhl1|\
+    1 3428 0 UHL20100000X|\
+    0 3428 4 1800000E|\
+    0 3428 4 1795959W|\
+    2 3428 4 1800001E|\
+    2 3428 4 1800100W|\
+    2 3428 4 1810000E|\
+    2 3428 4 0106000E|\
+    2 3428 4 0100060E|\
+    2 80 4 0100060E|\
+    2 3428 4 0100000N|\
+    2 3428 4 0100000e|\
+    2 3428 4  100000E|\
+    2 3428 4 010+100E|\
+    0 3428 12 0900000S|\
+    2 3428 12 0900001N|\
+    2 3428 12 0450000E|\
+    2 3428 20 0000|\
+    0 3428 20 9999|\
+    2 3428 24 0000|\
+    2 3428 24  030|\
+    2 3428 47 0000|\
+    2 3428 47 0001000x|\
+    2 80 51 0000|\
+    1 3428 80 DSJ|\
+    3 3427 80 DSJ|\
+    0 3428 80 DSIX|\
+    1 3428 728 ACD|\
+    0 3428 728 ACCX";
 
 // The number of the fault of so many bytes of the head of that file, where this is written at a place of it.
 fn head_fault(at: usize, text: &[u8], len: usize) -> u8 {
@@ -85,62 +86,54 @@ fn head_fault(at: usize, text: &[u8], len: usize) -> u8 {
     fault_of(front)
 }
 
-// The first of these heads that has another fault, or how many heads there are.
-fn first_misjudged() -> usize {
-    for (at, (at_byte, text, len, wanted)) in HEADS.iter().enumerate() {
-        if head_fault(*at_byte, text, *len) != *wanted {
-            return at;
-        }
-    }
-    HEADS.len()
+fn is_judged(_: Global, row: &str) -> Option<bool> {
+    let (fault, rest) = count(row)?;
+    let (len, rest) = count(rest)?;
+    let (at, text) = count(rest)?;
+    Some(head_fault(at as usize, text.as_bytes(), len as usize) as u32 == fault)
 }
 
 #[test]
 fn refuses_by_the_first_rule(rt: HostRuntime) {
-    let record = DtedFault::BadRecord(7).number();
-    assert_eq!(rt; (first_misjudged(), record), (HEADS.len(), 4));
+    all_hold(&rt, rt.alloc(), HEADS, is_judged);
+    assert!(rt; DtedFault::BadRecord(7).number() == 4);
 }
 
-// How many leading records there are, what they begin with, and the fault's number.
-const LEADING: [(u16, &[u8], u8); 5] = [
-    (1, b"VOL", 0),
-    (8, b"HDR", 0),
-    (9, b"VOL", 1),
-    (1, b"vol", 1),
-    (1, b"UHL", 1),
-];
+// The fault's number, how many leading records there are, and what they begin with.
+const LEADING: &str = "\
+    0 1 VOL|\
+    0 8 HDR|\
+    1 9 VOL|\
+    1 1 vol|\
+    1 1 UHL";
 
-fn put_leading(out: &mut [u8], count: u16, word: &[u8]) {
+fn put_leading(out: &mut [u8], count: u32, word: &[u8]) {
     for record in 0..count {
         put(out, 80 * record as usize, word);
     }
 }
 
 // Whether a head behind so many records is read from there, or has this fault.
-fn skips(count: u16, word: &[u8], wanted: u8) -> bool {
+fn skips(fault: u32, count: u32, word: &[u8]) -> bool {
     let mut bytes = [b' '; 4148];
     let skip = 80 * count.min(10);
     put_leading(&mut bytes, count, word);
     put_head(&mut bytes, skip);
     match read_head(&bytes) {
-        Ok(head) => wanted == 0 && head.skip == skip as u64,
-        Err(fault) => fault.number() == wanted,
+        Ok(head) => fault == 0 && head.skip == skip as u64,
+        Err(found) => found.number() as u32 == fault,
     }
 }
 
-// The first of these that is skipped otherwise, or how many there are.
-fn first_unskipped() -> usize {
-    for (at, (count, word, wanted)) in LEADING.iter().enumerate() {
-        if !skips(*count, word, *wanted) {
-            return at;
-        }
-    }
-    LEADING.len()
+fn is_skipped(_: Global, row: &str) -> Option<bool> {
+    let (fault, rest) = count(row)?;
+    let (leading, word) = count(rest)?;
+    Some(skips(fault, leading, word.as_bytes()))
 }
 
 #[test]
 fn skips_up_to_eight_records(rt: HostRuntime) {
-    assert_eq!(rt; first_unskipped(), LEADING.len());
+    all_hold(&rt, rt.alloc(), LEADING, is_skipped);
 }
 
 /// Checks and reads a record where it has the head's length and `out` its points.
@@ -175,14 +168,15 @@ fn is_read(head: &DtedHead, first: u8, last: u8, good: bool) -> bool {
     values(head, &record, &mut out) == Some(good) && out == [0, -32767, -5, 5]
 }
 
-// The first of these records that is read otherwise, or how many records there are.
-fn first_misread(head: &DtedHead) -> usize {
-    for (at, (first, last, good)) in SUMS.iter().enumerate() {
-        if !is_read(head, *first, *last, *good) {
-            return at;
+// The first of these records that is read otherwise.
+fn first_misread(head: &DtedHead, sums: &[(u8, u8, bool)]) -> Option<usize> {
+    for at in 0..sums.len() {
+        let (first, last, good) = sums[at];
+        if !is_read(head, first, last, good) {
+            return Some(at);
         }
     }
-    SUMS.len()
+    None
 }
 
 fn line() -> Option<DtedHead> {
@@ -191,14 +185,17 @@ fn line() -> Option<DtedHead> {
     read_head(&bytes).ok()
 }
 
+// The first record of the line that is read otherwise, where its head is read.
+fn first_misread_of_line() -> Option<usize> {
+    match line() {
+        Some(head) if is_of_line(&head) => first_misread(&head, &SUMS),
+        _ => Some(SUMS.len()),
+    }
+}
+
 #[test]
-fn reads_from_north_to_south(rt: HostRuntime) -> Result<(), Fail> {
-    let head = line().ok_or("it is a head")?;
-    assert_eq!(rt;
-        (is_of_line(&head), first_misread(&head)),
-        (true, SUMS.len())
-    );
-    Ok(())
+fn reads_from_north_to_south(rt: HostRuntime) {
+    none_wrong(&rt, first_misread_of_line());
 }
 
 // A head of as many lines and points as can be told.
@@ -210,10 +207,16 @@ fn large() -> Option<DtedHead> {
     read_head(&bytes).ok()
 }
 
+fn needs_all() -> bool {
+    match large() {
+        Some(head) => {
+            head.lon == -253815 && head.lat == -122159 && head.needed_len() == 200_083_418
+        }
+        None => false,
+    }
+}
+
 #[test]
-fn needs_the_bytes_of_all_records(rt: HostRuntime) -> Result<(), Fail> {
-    let head = large().ok_or("it is a head")?;
-    let corner = (head.lon, head.lat) == (-253815, -122159);
-    assert!(rt; corner && head.needed_len() == 200_083_418);
-    Ok(())
+fn needs_the_bytes_of_all_records(rt: HostRuntime) {
+    assert!(rt; needs_all());
 }

@@ -23,6 +23,8 @@ mod rows;
 #[cfg(test)]
 mod sources;
 #[cfg(test)]
+mod tables;
+#[cfg(test)]
 mod tiles;
 #[cfg(test)]
 mod writing_documents;

@@ -1,364 +1,263 @@
 ghost use Rattle.std.specs.Prelude.{◌<◌, ◌≤◌, ◌^◌, unsigned_abs};
-ghost use Rattle.geotransform.specs.Geo.{IsRaster};
+ghost use Rattle.geotransform.specs.Geo.{IsNear, IsRaster};
 
+use crate::tables::{all_hold, choice, count, joined, none_wrong, number};
 use geotransform::decimal::{
     is_decimal, is_negative_decimal, read_decimal, read_number, read_whole,
 };
 use geotransform::print::{print_decimal, print_short};
 use geotransform::types::{PixelType, Sample, Size, clamp, holds};
 use geotransform::{GeoTransform, Ticks, round16};
-use std::alloc::{AllocError, Global};
+use std::alloc::Global;
 use std::test::*;
 
 // The values of the four tables were computed outside this program, with the exact fractions of
 // Python's standard library: a regular expression of the form, the digits over a power of ten, and
 // half away from zero on the fraction. The texts that are refused stand between them.
 
-const DECIMALS: [(&str, Option<i128>); 78] = [
-    ("1e-16", Some(18)),
-    ("5e-17", Some(18)),
-    ("4e-17", Some(0)),
-    ("-5e-17", Some(-18)),
-    ("-4e-17", Some(0)),
-    ("4.9999999999999999999999999e-17", Some(0)),
-    (".5", Some(90_000_000_000_000_000)),
-    ("-.25", Some(-45_000_000_000_000_000)),
-    ("+.125", Some(22_500_000_000_000_000)),
-    ("8.3333333333333339e-04", Some(149_999_999_999_994)),
-    ("-99.99583333333334", Some(-17_999_250_000_000_001_200)),
-    ("0.00833333333333", Some(1_499_999_999_999_400)),
-    ("0", Some(0)),
-    ("-0", Some(0)),
-    ("+0.0", Some(0)),
-    ("00012", Some(2_160_000_000_000_000_000)),
-    ("+12.50", Some(2_250_000_000_000_000_000)),
-    ("1E2", Some(18_000_000_000_000_000_000)),
-    ("1e+2", Some(18_000_000_000_000_000_000)),
-    ("1e-2", Some(1_800_000_000_000_000)),
-    ("1e002", Some(18_000_000_000_000_000_000)),
-    ("-1.5E-005", Some(-2_700_000_000_000)),
-    ("0.00000000000000005", Some(18)),
-    ("-0.00000000000000005", Some(-18)),
-    ("0.00000000000000015", Some(36)),
-    ("-0.00000000000000015", Some(-36)),
-    ("2.5e-16", Some(54)),
-    ("-2.5e-16", Some(-54)),
-    ("2.4999999999999999e-16", Some(36)),
-    ("-1.00000000000000025", Some(-180_000_000_000_000_054)),
-    ("0e999", Some(0)),
-    ("-0.0e-999", Some(0)),
-    ("1e-999", Some(0)),
-    ("-9.9e-999", Some(0)),
-    ("1e999", None),
-    ("-9e999", None),
-    ("1e11", Some(18_000_000_000_000_000_000_000_000_000)),
-    ("1e12", None),
-    ("-1e12", None),
-    (
-        "999999999999.9999999999999999",
-        Some(179_999_999_999_999_999_999_999_999_982),
-    ),
-    (
-        "-999999999999.9999999999999999",
-        Some(-179_999_999_999_999_999_999_999_999_982),
-    ),
-    (
-        "999999999999.99999999999999994",
-        Some(179_999_999_999_999_999_999_999_999_982),
-    ),
-    ("999999999999.99999999999999995", None),
-    ("-999999999999.99999999999999995", None),
-    (
-        "0.11111111111111111111111111111111111111111111111111111111111111",
-        Some(19_999_999_999_999_998),
-    ),
-    (
-        "0.111111111111111111111111111111111111111111111111111111111111111",
-        None,
-    ),
-    (
-        "100000000000000000000000000000000000000000000000000000000000e-59",
-        Some(180_000_000_000_000_000),
-    ),
-    (
-        "-77777777777777777777777777777777777777777777777777777777777e-59",
-        Some(-140_000_000_000_000_004),
-    ),
-    (
-        ".00000000000000000000000000000000000000000000000000000000001e70",
-        Some(18_000_000_000_000_000_000_000_000_000),
-    ),
-    (
-        ".00000000000000000000000000000000000000000000000000000000001e71",
-        None,
-    ),
-    (
-        "999999999999999999999999999999999999999999999999999999999999e-49",
-        Some(18_000_000_000_000_000_000_000_000_000),
-    ),
-    (
-        "999999999999999999999999999999999999999999999999999999999999e-48",
-        None,
-    ),
-    (
-        "0000000000000000000000000000000000000000000000000000000000000000",
-        Some(0),
-    ),
-    (
-        "00000000000000000000000000000000000000000000000000000000000000000",
-        None,
-    ),
-    (
-        "44444444444444444444444444444444444444444444444445e-66",
-        Some(0),
-    ),
-    (
-        "-44444444444444444444444444444444444444444444444445e-66",
-        Some(0),
-    ),
-    (
-        "555555555555555555555555555555555555555555555555555555555555e-77",
-        Some(0),
-    ),
-    ("", None),
-    (".", None),
-    ("-", None),
-    ("+", None),
-    ("5.", None),
-    ("-.", None),
-    ("e5", None),
-    (".e5", None),
-    ("1e", None),
-    ("1e+", None),
-    ("1e0002", None),
-    ("1e1234", None),
-    ("1x", None),
-    (" 1", None),
-    ("1 ", None),
-    ("--1", None),
-    ("1.2.3", None),
-    ("1e1.5", None),
-    ("0x10", None),
-    ("1,5", None),
-    ("nan", None),
-];
+// The ticks of a text.
+const DECIMALS: &str = "\
+    18 1e-16|\
+    18 5e-17|\
+    0 4e-17|\
+    -18 -5e-17|\
+    0 -4e-17|\
+    0 4.9999999999999999999999999e-17|\
+    90000000000000000 .5|\
+    -45000000000000000 -.25|\
+    22500000000000000 +.125|\
+    149999999999994 8.3333333333333339e-04|\
+    -17999250000000001200 -99.99583333333334|\
+    1499999999999400 0.00833333333333|\
+    0 0|\
+    0 -0|\
+    0 +0.0|\
+    2160000000000000000 00012|\
+    2250000000000000000 +12.50|\
+    18000000000000000000 1E2|\
+    18000000000000000000 1e+2|\
+    1800000000000000 1e-2|\
+    18000000000000000000 1e002|\
+    -2700000000000 -1.5E-005|\
+    18 0.00000000000000005|\
+    -18 -0.00000000000000005|\
+    36 0.00000000000000015|\
+    -36 -0.00000000000000015|\
+    54 2.5e-16|\
+    -54 -2.5e-16|\
+    36 2.4999999999999999e-16|\
+    -180000000000000054 -1.00000000000000025|\
+    0 0e999|\
+    0 -0.0e-999|\
+    0 1e-999|\
+    0 -9.9e-999|\
+    - 1e999|\
+    - -9e999|\
+    18000000000000000000000000000 1e11|\
+    - 1e12|\
+    - -1e12|\
+    179999999999999999999999999982 999999999999.9999999999999999|\
+    -179999999999999999999999999982 -999999999999.9999999999999999|\
+    179999999999999999999999999982 999999999999.99999999999999994|\
+    - 999999999999.99999999999999995|\
+    - -999999999999.99999999999999995|\
+    19999999999999998 0.11111111111111111111111111111111111111111111111111111111111111|\
+    - 0.111111111111111111111111111111111111111111111111111111111111111|\
+    180000000000000000 100000000000000000000000000000000000000000000000000000000000e-59|\
+    -140000000000000004 -77777777777777777777777777777777777777777777777777777777777e-59|\
+    18000000000000000000000000000 .00000000000000000000000000000000000000000000000000000000001e70|\
+    - .00000000000000000000000000000000000000000000000000000000001e71|\
+    18000000000000000000000000000 999999999999999999999999999999999999999999999999999999999999e-49|\
+    - 999999999999999999999999999999999999999999999999999999999999e-48|\
+    0 0000000000000000000000000000000000000000000000000000000000000000|\
+    - 00000000000000000000000000000000000000000000000000000000000000000|\
+    0 44444444444444444444444444444444444444444444444445e-66|\
+    0 -44444444444444444444444444444444444444444444444445e-66|\
+    0 555555555555555555555555555555555555555555555555555555555555e-77|\
+    - |\
+    - .|\
+    - -|\
+    - +|\
+    - 5.|\
+    - -.|\
+    - e5|\
+    - .e5|\
+    - 1e|\
+    - 1e+|\
+    - 1e0002|\
+    - 1e1234|\
+    - 1x|\
+    -  1|\
+    - 1 |\
+    - --1|\
+    - 1.2.3|\
+    - 1e1.5|\
+    - 0x10|\
+    - 1,5|\
+    - nan";
 
-const WHOLES: [(&str, Option<i128>); 32] = [
-    ("0", Some(0)),
-    ("-0", Some(0)),
-    ("7", Some(7)),
-    ("+7", Some(7)),
-    ("-9999.000", Some(-9_999)),
-    ("1200e-2", Some(12)),
-    ("1201e-2", None),
-    ("-12e2", Some(-1_200)),
-    ("0.5", None),
-    ("5e-1", None),
-    ("50e-1", Some(5)),
-    ("99999999999999999999", Some(99_999_999_999_999_999_999)),
-    ("-99999999999999999999", Some(-99_999_999_999_999_999_999)),
-    ("100000000000000000000", None),
-    ("1e20", None),
-    ("1e19", Some(10_000_000_000_000_000_000)),
-    ("-1e19", Some(-10_000_000_000_000_000_000)),
-    ("99999999999999999999.0", Some(99_999_999_999_999_999_999)),
-    ("0.0000000000000000001e19", Some(1)),
-    ("12345678901234567890e-1", Some(1_234_567_890_123_456_789)),
-    ("0e999", Some(0)),
-    ("0e-999", Some(0)),
-    ("1e-999", None),
-    ("1e999", None),
-    (
-        "100000000000000000000000000000000000000000000000000000000000e-59",
-        Some(1),
-    ),
-    (
-        "0000000000000000000000000000000000000000000099999999999999999999",
-        Some(99_999_999_999_999_999_999),
-    ),
-    (
-        "00000000000000000000000000000000000000000000099999999999999999999",
-        None,
-    ),
-    ("", None),
-    ("-", None),
-    ("5.", None),
-    ("1e0002", None),
-    ("12a", None),
-];
+// The whole number of a text.
+const WHOLES: &str = "\
+    0 0|\
+    0 -0|\
+    7 7|\
+    7 +7|\
+    -9999 -9999.000|\
+    12 1200e-2|\
+    - 1201e-2|\
+    -1200 -12e2|\
+    - 0.5|\
+    - 5e-1|\
+    5 50e-1|\
+    99999999999999999999 99999999999999999999|\
+    -99999999999999999999 -99999999999999999999|\
+    - 100000000000000000000|\
+    - 1e20|\
+    10000000000000000000 1e19|\
+    -10000000000000000000 -1e19|\
+    99999999999999999999 99999999999999999999.0|\
+    1 0.0000000000000000001e19|\
+    1234567890123456789 12345678901234567890e-1|\
+    0 0e999|\
+    0 0e-999|\
+    - 1e-999|\
+    - 1e999|\
+    1 100000000000000000000000000000000000000000000000000000000000e-59|\
+    99999999999999999999 0000000000000000000000000000000000000000000099999999999999999999|\
+    - 00000000000000000000000000000000000000000000099999999999999999999|\
+    - |\
+    - -|\
+    - 5.|\
+    - 1e0002|\
+    - 12a";
 
-const FIXED: [(i128, u32, &str); 31] = [
-    (-1, 3, "0.000"),
-    (1, 0, "0"),
-    (0, 0, "0"),
-    (0, 16, "0.0000000000000000"),
-    (-90_000_000_000_000_000, 0, "-1"),
-    (90_000_000_000_000_000, 0, "1"),
-    (89_999_999_999_999_999, 0, "0"),
-    (-89_999_999_999_999_999, 0, "0"),
-    (180_000_000_000_000_000, 0, "1"),
-    (180_000_000_000_000_000, 1, "1.0"),
-    (-180_000_000_000_000_000, 16, "-1.0000000000000000"),
-    (89_999_999_999_999, 3, "0.000"),
-    (90_000_000_000_000, 3, "0.001"),
-    (-90_000_000_000_000, 3, "-0.001"),
-    (-89_999_999_999_999, 3, "0.000"),
-    (9, 16, "0.0000000000000001"),
-    (8, 16, "0.0000000000000000"),
-    (-9, 16, "-0.0000000000000001"),
-    (-8, 16, "0.0000000000000000"),
-    (27, 16, "0.0000000000000002"),
-    (-27, 16, "-0.0000000000000002"),
-    (26, 16, "0.0000000000000001"),
-    (-17_999_250_000_000_001_200, 9, "-99.995833333"),
-    (-17_999_250_000_000_001_200, 15, "-99.995833333333340"),
-    (-1_800_000_000_000_000_000, 2, "-10.00"),
-    (149_999_999_999_994, 15, "0.000833333333333"),
-    (
-        9_999_999_999_999_999_999_999_999_999_999_999_999,
-        16,
-        "55555555555555555555.5555555555555556",
-    ),
-    (
-        -9_999_999_999_999_999_999_999_999_999_999_999_999,
-        16,
-        "-55555555555555555555.5555555555555556",
-    ),
-    (
-        9_999_999_999_999_999_999_999_999_999_999_999_999,
-        0,
-        "55555555555555555556",
-    ),
-    (179_999_999_999_910_000_000_000_000_000, 0, "1000000000000"),
-    (-18_000_000_000_000_000_900, 15, "-100.000000000000005"),
-];
+// Ticks, a number of places, and what is printed with so many behind the `=` that stands.
+const FIXED: &str = "\
+    -1 3 =0.000|\
+    1 0 =0|\
+    0 0 =0|\
+    0 16 =0.0000000000000000|\
+    -90000000000000000 0 =-1|\
+    90000000000000000 0 =1|\
+    89999999999999999 0 =0|\
+    -89999999999999999 0 =0|\
+    180000000000000000 0 =1|\
+    180000000000000000 1 =1.0|\
+    -180000000000000000 16 =-1.0000000000000000|\
+    89999999999999 3 =0.000|\
+    90000000000000 3 =0.001|\
+    -90000000000000 3 =-0.001|\
+    -89999999999999 3 =0.000|\
+    9 16 =0.0000000000000001|\
+    8 16 =0.0000000000000000|\
+    -9 16 =-0.0000000000000001|\
+    -8 16 =0.0000000000000000|\
+    27 16 =0.0000000000000002|\
+    -27 16 =-0.0000000000000002|\
+    26 16 =0.0000000000000001|\
+    -17999250000000001200 9 =-99.995833333|\
+    -17999250000000001200 15 =-99.995833333333340|\
+    -1800000000000000000 2 =-10.00|\
+    149999999999994 15 =0.000833333333333|\
+    9999999999999999999999999999999999999 16 =55555555555555555555.5555555555555556|\
+    -9999999999999999999999999999999999999 16 =-55555555555555555555.5555555555555556|\
+    9999999999999999999999999999999999999 0 =55555555555555555556|\
+    179999999999910000000000000000 0 =1000000000000|\
+    -18000000000000000900 15 =-100.000000000000005";
 
-const SHORT: [(i128, &str); 20] = [
-    (0, "0"),
-    (1, "0"),
-    (8, "0"),
-    (9, "0.0000000000000001"),
-    (-9, "-0.0000000000000001"),
-    (-8, "0"),
-    (18, "0.0000000000000001"),
-    (-18, "-0.0000000000000001"),
-    (180_000_000_000_000_000, "1"),
-    (-180_000_000_000_000_000, "-1"),
-    (90_000_000_000_000_000, "0.5"),
-    (-45_000_000_000_000_000, "-0.25"),
-    (1_800_000_000_000_000_000, "10"),
-    (-17_999_250_000_000_001_200, "-99.99583333333334"),
-    (1_499_999_999_999_400, "0.00833333333333"),
-    (149_999_999_999_994, "0.0008333333333333"),
-    (
-        9_999_999_999_999_999_999_999_999_999_999_999_999,
-        "55555555555555555555.5555555555555556",
-    ),
-    (
-        -9_999_999_999_999_999_999_999_999_999_999_999_999,
-        "-55555555555555555555.5555555555555556",
-    ),
-    (
-        179_999_999_999_999_999_999_999_999_982,
-        "999999999999.9999999999999999",
-    ),
-    (
-        -179_999_999_999_999_999_999_999_999_982,
-        "-999999999999.9999999999999999",
-    ),
-];
+// Ticks, and what is printed with as few places as serve.
+const SHORT: &str = "\
+    0 0|\
+    1 0|\
+    8 0|\
+    9 0.0000000000000001|\
+    -9 -0.0000000000000001|\
+    -8 0|\
+    18 0.0000000000000001|\
+    -18 -0.0000000000000001|\
+    180000000000000000 1|\
+    -180000000000000000 -1|\
+    90000000000000000 0.5|\
+    -45000000000000000 -0.25|\
+    1800000000000000000 10|\
+    -17999250000000001200 -99.99583333333334|\
+    1499999999999400 0.00833333333333|\
+    149999999999994 0.0008333333333333|\
+    9999999999999999999999999999999999999 55555555555555555555.5555555555555556|\
+    -9999999999999999999999999999999999999 -55555555555555555555.5555555555555556|\
+    179999999999999999999999999982 999999999999.9999999999999999|\
+    -179999999999999999999999999982 -999999999999.9999999999999999";
 
-// The first of these texts that is another decimal, or how many texts there are.
-fn first_misread() -> usize {
-    for (at, (text, ticks)) in DECIMALS.iter().enumerate() {
-        if read_decimal(text.as_bytes()).map(|value| value.get()) != *ticks {
-            return at;
-        }
-    }
-    DECIMALS.len()
+fn ticks_of(text: &str) -> Option<i128> {
+    Some(read_decimal(text.as_bytes())?.get())
 }
 
-// The first of these texts that is another whole number, or how many texts there are.
-fn first_not_whole() -> usize {
-    for (at, (text, whole)) in WHOLES.iter().enumerate() {
-        if read_whole(text.as_bytes()) != *whole {
-            return at;
-        }
-    }
-    WHOLES.len()
+fn is_read(_: Global, row: &str) -> Option<bool> {
+    let (ticks, text) = choice(row)?;
+    Some(ticks_of(text) == ticks)
+}
+
+fn is_whole(_: Global, row: &str) -> Option<bool> {
+    let (whole, text) = choice(row)?;
+    Some(read_whole(text.as_bytes()) == whole)
 }
 
 #[test]
 fn reads_decimals(rt: HostRuntime) {
-    let first = (first_misread(), first_not_whole());
-    assert_eq!(rt; first, (DECIMALS.len(), WHOLES.len()));
+    all_hold(&rt, rt.alloc(), DECIMALS, is_read);
+    all_hold(&rt, rt.alloc(), WHOLES, is_whole);
+}
+
+fn are_told() -> bool {
+    is_decimal(b"1e999")
+        && !is_decimal(b"5.")
+        && is_negative_decimal(b"-1e-999")
+        && !is_negative_decimal(b"-0.0e5")
 }
 
 #[test]
 fn tells_decimals(rt: HostRuntime) {
-    let told = (is_decimal(b"1e999"), is_decimal(b"5."));
-    let below = (
-        is_negative_decimal(b"-1e-999"),
-        is_negative_decimal(b"-0.0e5"),
-    );
-    assert_eq!(rt; (told, below), ((true, false), (true, false)));
+    assert!(rt; are_told());
+}
+
+// Whether the longest number is read, and a longer one isn't.
+fn reads_longest() -> bool {
+    read_number(b"000000000000000012") == Some(12) && read_number(b"0000000000000000012").is_none()
 }
 
 #[test]
 fn reads_numbers(rt: HostRuntime) {
-    let longest = read_number(b"000000000000000012");
-    let longer = read_number(b"0000000000000000012");
-    assert_eq!(rt; (longest, longer), (Some(12), None));
+    assert!(rt; reads_longest());
 }
 
 // Whether a value is printed so behind what stands, with so many places.
-fn is_printed(alloc: Global, value: i128, places: u32, text: &str) -> Result<bool, AllocError> {
+fn is_printed(alloc: Global, row: &str) -> Option<bool> {
+    let (value, rest) = number(row)?;
+    let (places, wanted) = count(rest)?;
     if places > 16 {
-        return Ok(false);
+        return None;
     }
-    let mut out = Vec::new(alloc);
-    out.push(b'=')?;
-    print_decimal(ticks(value), places, &mut out)?;
-    Ok(out.first() == Some(&b'=') && out.get(1..) == Some(text.as_bytes()))
-}
-
-// The first of these values that is printed otherwise, or how many values there are.
-fn first_misprinted(alloc: Global) -> Result<usize, AllocError> {
-    for (at, (value, places, text)) in FIXED.iter().enumerate() {
-        if !is_printed(alloc, *value, *places, text)? {
-            return Ok(at);
-        }
-    }
-    Ok(FIXED.len())
+    let mut out = joined(alloc, &[b"="]).ok()?;
+    let done = print_decimal(ticks(value), places, &mut out);
+    Some(done.is_ok() && out.as_slice() == wanted.as_bytes())
 }
 
 #[test]
-fn prints_decimals(rt: HostRuntime) -> Result<(), Fail> {
-    assert_eq!(rt; first_misprinted(rt.alloc())?, FIXED.len());
-    Ok(())
+fn prints_decimals(rt: HostRuntime) {
+    all_hold(&rt, rt.alloc(), FIXED, is_printed);
 }
 
 // Whether a value is printed so with as few places as serve.
-fn is_short(alloc: Global, value: i128, text: &str) -> Result<bool, AllocError> {
+fn is_short(alloc: Global, row: &str) -> Option<bool> {
+    let (value, wanted) = number(row)?;
     let mut out = Vec::new(alloc);
-    print_short(ticks(value), &mut out)?;
-    Ok(out.as_slice() == text.as_bytes())
-}
-
-// The first of these values that is printed otherwise, or how many values there are.
-fn first_not_short(alloc: Global) -> Result<usize, AllocError> {
-    for (at, (value, text)) in SHORT.iter().enumerate() {
-        if !is_short(alloc, *value, text)? {
-            return Ok(at);
-        }
-    }
-    Ok(SHORT.len())
+    let done = print_short(ticks(value), &mut out);
+    Some(done.is_ok() && out.as_slice() == wanted.as_bytes())
 }
 
 #[test]
-fn prints_short_decimals(rt: HostRuntime) -> Result<(), Fail> {
-    assert_eq!(rt; first_not_short(rt.alloc())?, SHORT.len());
-    Ok(())
+fn prints_short_decimals(rt: HostRuntime) {
+    all_hold(&rt, rt.alloc(), SHORT, is_short);
 }
 
 /// So many ticks, or one unit, which no table expects in their place.
@@ -367,7 +266,9 @@ fn ticks(n: i128) -> Ticks {
 }
 
 // A type, its name, its name in another case, and the least and the greatest number of it.
-const KINDS: [(PixelType, &str, &str, Sample, Sample); 8] = [
+type Kind = (PixelType, &'static str, &'static str, Sample, Sample);
+
+const KINDS: [Kind; 8] = [
     (PixelType::Byte, "Byte", "bYTE", 0, 255),
     (PixelType::Int8, "Int8", "iNT8", -128, 127),
     (PixelType::UInt16, "UInt16", "uint16", 0, 65_535),
@@ -415,44 +316,36 @@ fn has_range(kind: PixelType, least: Sample, greatest: Sample) -> bool {
         && !holds(kind, greatest.saturating_add(1))
 }
 
-// The first of these types that has another name, or how many types there are.
-fn first_of_other_name() -> usize {
-    for (at, (kind, name, other_case, _, _)) in KINDS.iter().enumerate() {
-        if !has_name(*kind, name, other_case) {
-            return at;
+// The first of these types that has another name or another range.
+fn wrong_kind(kinds: &[Kind]) -> Option<usize> {
+    for at in 0..kinds.len() {
+        let (kind, name, other_case, least, greatest) = kinds[at];
+        if !has_name(kind, name, other_case) || !has_range(kind, least, greatest) {
+            return Some(at);
         }
     }
-    KINDS.len()
+    None
 }
 
-// The first of these types that has another range, or how many types there are.
-fn first_of_other_range() -> usize {
-    for (at, (kind, _, _, least, greatest)) in KINDS.iter().enumerate() {
-        if !has_range(*kind, *least, *greatest) {
-            return at;
-        }
-    }
-    KINDS.len()
-}
+// What is no type's name.
+const NO_NAMES: &str = "\
+    |\
+    byte |\
+    Float32|\
+    UInt1|\
+    UInt166|\
+    UInt8|\
+    Int 8|\
+    Int644";
 
-const NO_NAMES: [&str; 8] = [
-    "", "byte ", "Float32", "UInt1", "UInt166", "UInt8", "Int 8", "Int644",
-];
-
-// The first of these texts that is the name of a type, or how many texts there are.
-fn first_named() -> usize {
-    for (at, text) in NO_NAMES.iter().enumerate() {
-        if PixelType::read_name(text.as_bytes(), true).is_some() {
-            return at;
-        }
-    }
-    NO_NAMES.len()
+fn is_no_name(_: Global, text: &str) -> Option<bool> {
+    Some(PixelType::read_name(text.as_bytes(), true).is_none())
 }
 
 #[test]
 fn keeps_types(rt: HostRuntime) {
-    let first = (first_of_other_name(), first_of_other_range(), first_named());
-    assert_eq!(rt; first, (KINDS.len(), KINDS.len(), NO_NAMES.len()));
+    none_wrong(&rt, wrong_kind(&KINDS));
+    all_hold(&rt, rt.alloc(), NO_NAMES, is_no_name);
 }
 
 fn geo(ox: i128, oy: i128, dx: i128, dy: i128) -> Option<GeoTransform> {
@@ -461,50 +354,70 @@ fn geo(ox: i128, oy: i128, dx: i128, dy: i128) -> Option<GeoTransform> {
 
 const FAR: i128 = 180_000_000_000_000_000_000_000_000_000;
 
-// Whether geotransforms end where they can't be told.
-fn are_bounded() -> bool {
-    geo(1 - FAR, FAR - 1, FAR - 1, 1 - FAR).is_some()
-        && geo(0, FAR, 1, -1).is_none()
-        && geo(0, 0, 0, -1).is_none()
-        && geo(0, 0, 1, 0).is_none()
-        && geo(0, 0, -FAR, -1).is_none()
+fn is_told(ox: i128, oy: i128, dx: i128, dy: i128) -> bool {
+    geo(ox, oy, dx, dy).is_some()
 }
 
-fn corner_of(geo: &GeoTransform, x: i64, y: i64) -> (i128, i128)
+// Whether geotransforms end where they can't be told.
+fn are_bounded() -> bool {
+    is_told(1 - FAR, FAR - 1, FAR - 1, 1 - FAR)
+        && !is_told(0, FAR, 1, -1)
+        && !is_told(0, 0, 0, -1)
+        && !is_told(0, 0, 1, 0)
+        && !is_told(0, 0, -FAR, -1)
+}
+
+// Whether the corner of a pixel lies there.
+fn has_corner(geo: &GeoTransform, x: i64, y: i64, place: (i128, i128)) -> bool
     requires x { unsigned_abs x ≤ 16777216 }
     requires y { unsigned_abs y ≤ 16777216 }
 {
     let (px, py) = geo.corner(x, y);
-    (px.get(), py.get())
+    px.get() == place.0 && py.get() == place.1
 }
 
 // Whether the corners of pixels lie there.
 fn has_corners(geo: &GeoTransform) -> bool {
-    corner_of(geo, 4800, 6000) == (-10_800_000_000_002_880_000, 7_200_000_000_003_600_000)
-        && corner_of(geo, -16_777_216, -16_777_216)
-            == (
-                -25_183_823_999_989_933_670_400,
-                25_182_023_999_989_933_670_400,
-            )
+    let far = (
+        -25_183_823_999_989_933_670_400,
+        25_182_023_999_989_933_670_400,
+    );
+    let near = (-10_800_000_000_002_880_000, 7_200_000_000_003_600_000);
+    has_corner(geo, 4800, 6000, near) && has_corner(geo, -16_777_216, -16_777_216, far)
+}
+
+// Whether a place lies in this pixel.
+fn lies_in(geo: &GeoTransform, x: Ticks, y: Ticks, pixel: (i128, i128)) -> bool
+    requires x { IsNear x }
+    requires y { IsNear y }
+{
+    let (column, line) = geo.locate(x, y);
+    column == pixel.0 && line == pixel.1
 }
 
 // Whether places lie in these pixels.
 fn locates(geo: &GeoTransform) -> bool {
-    geo.locate(geo.ox, geo.oy) == (0, 0)
-        && geo.locate(
+    let far = (120_000_000_012_048, 120_000_000_010_848);
+    lies_in(geo, geo.ox, geo.oy, (0, 0))
+        && lies_in(
+            geo,
             Ticks::of(-18_000_000_000_000_000_001),
             Ticks::of(16_200_000_000_000_000_001),
-        ) == (-1, -1)
-        && geo.locate(
+            (-1, -1),
+        )
+        && lies_in(
+            geo,
             Ticks::of(-17_998_500_000_000_000_601),
             Ticks::of(16_198_500_000_000_000_601),
-        ) == (0, 0)
-        && geo.locate(
+            (0, 0),
+        )
+        && lies_in(
+            geo,
             Ticks::of(-17_998_500_000_000_000_600),
             Ticks::of(16_198_500_000_000_000_600),
-        ) == (1, 1)
-        && geo.locate(Ticks::of(FAR - 1), Ticks::of(1 - FAR))
-            == (120_000_000_012_048, 120_000_000_010_848)
+            (1, 1),
+        )
+        && lies_in(geo, Ticks::of(FAR - 1), Ticks::of(1 - FAR), far)
 }
 
 #[test]
@@ -512,17 +425,22 @@ fn bounds_places(rt: HostRuntime) {
     assert!(rt; are_bounded());
 }
 
-#[test]
-fn finds_places(rt: HostRuntime) -> Result<(), Fail> {
-    let geo = geo(
+// Whether the places of a raster's pixels are found.
+fn are_found() -> bool {
+    match geo(
         -18_000_000_000_000_000_000,
         16_200_000_000_000_000_000,
         1_499_999_999_999_400,
         -1_499_999_999_999_400,
-    )
-    .ok_or("it is near")?;
-    assert!(rt; has_corners(&geo) && locates(&geo));
-    Ok(())
+    ) {
+        Some(geo) => has_corners(&geo) && locates(&geo),
+        None => false,
+    }
+}
+
+#[test]
+fn finds_places(rt: HostRuntime) {
+    assert!(rt; are_found());
 }
 
 // Whether ticks are rounded to the nearest that have sixteen places, half away from zero.
@@ -594,5 +512,5 @@ fn are_cut() -> bool {
 
 #[test]
 fn cuts_windows(rt: HostRuntime) {
-    assert_eq!(rt; (are_windows(), are_cut()), (true, true));
+    assert!(rt; are_windows() && are_cut());
 }

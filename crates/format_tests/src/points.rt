@@ -1,183 +1,167 @@
+use crate::tables::all_hold;
 use input_points::{Entry, LineKind, PointLines, Position, entries_of};
 use itoa::Buffer;
-use std::alloc::Global;
+use lists_and_answers::push_all;
+use std::alloc::{AllocError, Global};
 use std::test::*;
 
-fn number(n: i128) -> Result<Position, Fail> {
+fn number(n: i128) -> Option<Position> {
     let mut digits = Buffer::new();
-    let number = Position::read(digits.format(n).as_bytes()).ok_or("it is small")?;
-    Ok(number)
+    Position::read(digits.format(n).as_bytes())
 }
 
-fn at(x: i128, y: i128) -> Result<LineKind, Fail> {
-    Ok(LineKind::Point(number(x)?, number(y)?))
+// A point, or a blank line, which no input has in its place, where a number is none of a point.
+fn at(x: i128, y: i128) -> LineKind {
+    match (number(x), number(y)) {
+        (Some(x), Some(y)) => LineKind::Point(x, y),
+        _ => LineKind::Blank,
+    }
 }
 
-// Adds what the lines of a piece say, up to one that ends the reading. They are numbered from 1.
-fn read_piece(reader: &mut PointLines, piece: &[u8], out: &mut Vec<LineKind>) -> Result<(), Fail> {
+// Adds what a line says, and tells whether it has the next number. They are numbered from 1.
+fn add(out: &mut Vec<LineKind>, line: u32, kind: LineKind) -> bool {
+    out.push(kind).is_ok() && line as usize == out.len()
+}
+
+// Adds what the lines of a piece say, up to one that ends the reading.
+fn read_piece(reader: &mut PointLines, piece: &[u8], out: &mut Vec<LineKind>) -> bool {
     let mut left = piece;
     for _ in 0..=piece.len() {
         let (entry, used) = reader.next(left);
         let Some(Entry { line, kind }) = entry else {
-            return Ok(());
+            return true;
         };
-        out.push(kind)?;
-        if line as usize != out.len() {
-            return Err("another number")?;
+        if !add(out, line, kind) {
+            return false;
         }
         left = &left[used..];
     }
-    Ok(())
+    true
 }
 
-// What the lines of an input say that comes in two pieces, the first of so many bytes.
-fn read_cut(alloc: Global, input: &[u8], first: usize) -> Result<Vec<LineKind>, Fail> {
-    let (front, back) = input.split_at(first.min(input.len()));
-    let mut reader = PointLines::new(alloc)?;
-    let mut kinds = Vec::new(alloc);
-    read_piece(&mut reader, front, &mut kinds)?;
-    read_piece(&mut reader, back, &mut kinds)?;
-    if let Some(Entry { line, kind }) = reader.finish() {
-        kinds.push(kind)?;
-        if line as usize != kinds.len() {
-            return Err("another number")?;
-        }
+fn read_end(reader: PointLines, out: &mut Vec<LineKind>) -> bool {
+    match reader.finish() {
+        Some(Entry { line, kind }) => add(out, line, kind),
+        None => true,
     }
-    Ok(kinds)
+}
+
+// What the lines of an input say that comes in two pieces.
+fn read_pieces(mut reader: PointLines, front: &[u8], back: &[u8], out: &mut Vec<LineKind>) -> bool {
+    read_piece(&mut reader, front, out)
+        && read_piece(&mut reader, back, out)
+        && read_end(reader, out)
+}
+
+// Whether the input has these lines, where the first of its two pieces has so many bytes.
+fn is_read(alloc: Global, input: &[u8], first: usize, want: &[LineKind]) -> bool {
+    let Ok(reader) = PointLines::new(alloc) else {
+        return false;
+    };
+    let (front, back) = input.split_at(first.min(input.len()));
+    let mut kinds = Vec::new(alloc);
+    read_pieces(reader, front, back, &mut kinds) && kinds.as_slice() == want
 }
 
 // Whether the input has these lines, wherever it is cut.
-fn has_lines(alloc: Global, input: &[u8], want: &[LineKind]) -> Result<bool, Fail> {
+fn has_lines(alloc: Global, input: &str, want: &[LineKind]) -> bool {
     for first in 0..=input.len() {
-        let kinds = read_cut(alloc, input, first)?;
-        if kinds.as_slice() != want {
-            return Ok(false);
+        if !is_read(alloc, input.as_bytes(), first, want) {
+            return false;
         }
     }
-    Ok(true)
+    true
 }
 
 // Whether three points are read, with a line that is none and one that is not reached.
-fn reads_three(alloc: Global) -> Result<bool, Fail> {
-    let [a, b, c] = [at(0, 0)?, at(9, 9)?, at(2, 1)?];
-    Ok(
-        has_lines(alloc, b"0 0\n9 9\n2 1", &[a, b, c])?
-            && has_lines(alloc, b"0 0\r\n\t9 \t 9.0\r\n 2 1e0 \n", &[a, b, c])?
-            && has_lines(alloc, b"0 0\n9 9\n2 1\nx\n1 1\n", &[a, b, c, LineKind::Bad])?,
-    )
+fn reads_three(alloc: Global) -> bool {
+    let lines = [at(0, 0), at(9, 9), at(2, 1), LineKind::Bad];
+    let three = &lines[..3];
+    has_lines(alloc, "0 0\n9 9\n2 1", three)
+        && has_lines(alloc, "0 0\r\n\t9 \t 9.0\r\n 2 1e0 \n", three)
+        && has_lines(alloc, "0 0\n9 9\n2 1\nx\n1 1\n", &lines)
 }
 
 // Whether lines that are blank are.
-fn reads_blanks(alloc: Global) -> Result<bool, Fail> {
-    let blank = LineKind::Blank;
-    let lines = [blank, blank, at(-1, 2)?, blank];
-    Ok(has_lines(alloc, b"\n \t\r\n-1 +2\n\n", &lines)? && has_lines(alloc, b"", &[])?)
+fn reads_blanks(alloc: Global) -> bool {
+    let lines = [LineKind::Blank, LineKind::Blank, at(-1, 2), LineKind::Blank];
+    has_lines(alloc, "\n \t\r\n-1 +2\n\n", &lines) && has_lines(alloc, "", &[])
 }
 
 #[test]
-fn points(rt: HostRuntime) -> Result<(), Fail> {
-    assert!(rt; reads_three(rt.alloc())? && reads_blanks(rt.alloc())?);
-    Ok(())
+fn points(rt: HostRuntime) {
+    assert!(rt; reads_three(rt.alloc()) && reads_blanks(rt.alloc()));
 }
 
-const BAD: [&[u8]; 7] = [
-    b"x",
-    b"1",
-    b"1 2 3",
-    b"1e12 0",
-    b"1 2\r",
-    b"1 2\r\r\n",
-    b"1,2\n",
-];
+// Inputs of one bad line.
+const BAD: &str = "x|1|1 2 3|1e12 0|1 2\r|1 2\r\r\n|1,2\n";
 
-// The first of these inputs that isn't one bad line, or how many inputs there are.
-fn first_unrefused(alloc: Global) -> Result<usize, Fail> {
-    for (at, input) in BAD.iter().enumerate() {
-        if !has_lines(alloc, input, &[LineKind::Bad])? {
-            return Ok(at);
-        }
-    }
-    Ok(BAD.len())
+fn is_bad(alloc: Global, input: &str) -> Option<bool> {
+    Some(has_lines(alloc, input, &[LineKind::Bad]))
 }
 
 #[test]
-fn bad_lines(rt: HostRuntime) -> Result<(), Fail> {
-    assert_eq!(rt; first_unrefused(rt.alloc())?, BAD.len());
-    Ok(())
+fn bad_lines(rt: HostRuntime) {
+    all_hold(&rt, rt.alloc(), BAD, is_bad);
 }
 
 // A point behind so many blanks, with this end.
-fn wide(alloc: Global, blanks: usize, end: &[u8]) -> Result<Vec<u8>, Fail> {
-    let mut input = Vec::new(alloc);
-    for _ in 0..blanks {
-        input.push(b' ')?;
-    }
-    input.extend_from_slice(b"1 2")?;
-    input.extend_from_slice(end)?;
+fn wide(alloc: Global, blanks: usize, end: &str) -> Result<Vec<u8>, AllocError> {
+    let mut input = vec![in alloc; b' '; blanks]?;
+    push_all(&[b"1 2", end.as_bytes()], &mut input)?;
     Ok(input)
 }
 
 const CUTS: [usize; 7] = [0, 1, 4095, 4096, 4097, 4098, 5000];
 
 // Whether an input is this one line, cut at each of the places.
-fn is_line(alloc: Global, input: &[u8], want: LineKind) -> Result<bool, Fail> {
-    for first in CUTS {
-        if read_cut(alloc, input, first)?.as_slice() != [want].as_slice() {
-            return Ok(false);
+fn is_line(alloc: Global, input: &[u8], cuts: &[usize], want: &[LineKind]) -> bool {
+    for first in cuts {
+        if !is_read(alloc, input, *first, want) {
+            return false;
         }
     }
-    Ok(true)
+    true
 }
 
 // Whether a point behind so many blanks is this line.
-fn is_wide(alloc: Global, blanks: usize, end: &[u8], want: LineKind) -> Result<bool, Fail> {
-    let input = wide(alloc, blanks, end)?;
-    is_line(alloc, &input, want)
+fn is_wide(alloc: Global, blanks: usize, end: &str, want: &[LineKind]) -> bool {
+    match wide(alloc, blanks, end) {
+        Ok(input) => is_line(alloc, &input, &CUTS, want),
+        Err(_) => false,
+    }
 }
 
-const ENDS: [&[u8]; 3] = [b"", b"\n", b"\r\n"];
+// Ends of lines.
+const ENDS: &str = "|\n|\r\n";
 
-// The first of the ends with which the longest line isn't read, or a longer one is, or how many ends there are.
-fn first_unbounded(alloc: Global) -> Result<usize, Fail> {
-    let point = at(1, 2)?;
-    for (number, end) in ENDS.iter().enumerate() {
-        if !is_wide(alloc, 4093, end, point)? || !is_wide(alloc, 4094, end, LineKind::Bad)? {
-            return Ok(number);
-        }
-    }
-    Ok(ENDS.len())
+// Whether the longest line is read with this end, and a longer one isn't.
+fn is_bounded(alloc: Global, end: &str) -> Option<bool> {
+    let longest = is_wide(alloc, 4093, end, &[at(1, 2)]);
+    Some(longest && is_wide(alloc, 4094, end, &[LineKind::Bad]))
 }
 
 #[test]
-fn long_lines(rt: HostRuntime) -> Result<(), Fail> {
-    assert_eq!(rt; first_unbounded(rt.alloc())?, ENDS.len());
-    Ok(())
+fn long_lines(rt: HostRuntime) {
+    all_hold(&rt, rt.alloc(), ENDS, is_bounded);
 }
 
 const PIECES: [&[u8]; 4] = [b"0 0\n9", b"", b" 9\r", b"\n2 1"];
 
-fn three_entries() -> Result<[Entry; 3], Fail> {
-    Ok([
-        Entry {
-            line: 1,
-            kind: at(0, 0)?,
-        },
-        Entry {
-            line: 2,
-            kind: at(9, 9)?,
-        },
-        Entry {
-            line: 3,
-            kind: at(2, 1)?,
-        },
-    ])
+fn entry(line: u32, kind: LineKind) -> Entry {
+    Entry { line, kind }
 }
 
-// Four pieces, one of them empty.
+// Whether four pieces, one of them empty, have these three lines.
+fn has_entries(alloc: Global) -> Result<bool, AllocError> {
+    let want = [entry(1, at(0, 0)), entry(2, at(9, 9)), entry(3, at(2, 1))];
+    let entries = entries_of(alloc, &PIECES)?;
+    Ok(entries.as_slice() == want.as_slice())
+}
+
 #[test]
 fn in_pieces(rt: HostRuntime) -> Result<(), Fail> {
-    let want = three_entries()?;
-    assert!(rt; entries_of(rt.alloc(), &PIECES)?.as_slice() == want.as_slice());
+    assert!(rt; has_entries(rt.alloc())?);
     Ok(())
 }
 

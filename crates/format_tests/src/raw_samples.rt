@@ -1,3 +1,4 @@
+use crate::tables::{all_hold, joined, number};
 use esri_hdr::{RawHead, read, sample_len};
 use geotransform::holds;
 use interleaved_raw::sample_places::{needed_len, position, stride};
@@ -19,16 +20,15 @@ fn sample_of(head: &RawHead, file: &[u8], band: u32, x: u32, y: u32) -> Option<i
 
 const TWO_BANDS: [u8; 12] = [1, 2, 3, 4, 5, 6, 7, 8, 9, 10, 11, 12];
 
-// A header of two bands of 3 x 2 bytes, and the last samples of the bands.
-const LAYOUTS: [(&[u8], i128, i128); 3] = [
-    (b"NROWS 2\nNCOLS 3\nNBANDS 2\nLAYOUT BIL\n", 9, 12),
-    (b"NROWS 2\nNCOLS 3\nNBANDS 2\nLAYOUT BIP\n", 11, 12),
-    (b"NROWS 2\nNCOLS 3\nNBANDS 2\nLAYOUT BSQ\n", 6, 12),
-];
+// The last samples of two bands of 3 x 2 bytes, and their header.
+const LAYOUTS: &str = "\
+    9 12 NROWS 2\nNCOLS 3\nNBANDS 2\nLAYOUT BIL\n|\
+    11 12 NROWS 2\nNCOLS 3\nNBANDS 2\nLAYOUT BIP\n|\
+    6 12 NROWS 2\nNCOLS 3\nNBANDS 2\nLAYOUT BSQ\n";
 
 // Whether the bands of a header end with these samples.
-fn ends_with(text: &[u8], first: i128, second: i128) -> bool {
-    let Ok(head) = read(text) else {
+fn ends_with(text: &str, first: i128, second: i128) -> bool {
+    let Ok(head) = read(text.as_bytes()) else {
         return false;
     };
     needed_len(&head) == 12
@@ -36,78 +36,44 @@ fn ends_with(text: &[u8], first: i128, second: i128) -> bool {
         && sample_of(&head, &TWO_BANDS, 1, 2, 1) == Some(second)
 }
 
-// The first of these headers whose bands end otherwise, or how many headers there are.
-fn first_of_other_layout() -> usize {
-    for (at, (text, first, second)) in LAYOUTS.iter().enumerate() {
-        if !ends_with(text, *first, *second) {
-            return at;
-        }
-    }
-    LAYOUTS.len()
+fn is_found(_: Global, row: &str) -> Option<bool> {
+    let (first, rest) = number(row)?;
+    let (second, header) = number(rest)?;
+    Some(ends_with(header, first, second))
 }
 
 #[test]
 fn finds_samples_by_layout(rt: HostRuntime) {
-    assert_eq!(rt; first_of_other_layout(), LAYOUTS.len());
+    all_hold(&rt, rt.alloc(), LAYOUTS, is_found);
 }
 
-// A header of one pixel, and its sample in the bytes FF FE 80 01 00 7F 10 80.
-const KINDS: [(&[u8], i128); 13] = [
-    (b"NROWS 1\nNCOLS 1\nNBITS 16\nBYTEORDER M\n", 65534),
-    (
-        b"NROWS 1\nNCOLS 1\nNBITS 16\nBYTEORDER M\nPIXELTYPE SIGNEDINT\n",
-        -2,
-    ),
-    (b"NROWS 1\nNCOLS 1\nNBITS 16\nBYTEORDER I\n", 65279),
-    (b"NROWS 1\nNCOLS 1\nNBITS 16\nPIXELTYPE SIGNEDINT\n", -257),
-    (b"NROWS 1\nNCOLS 1\nNBITS 32\nBYTEORDER M\n", 4294868993),
-    (
-        b"NROWS 1\nNCOLS 1\nNBITS 32\nBYTEORDER M\nPIXELTYPE SIGNEDINT\n",
-        -98303,
-    ),
-    (b"NROWS 1\nNCOLS 1\nNBITS 32\n", 25231103),
-    (b"NROWS 1\nNCOLS 1\nNBITS 8\n", 255),
-    (b"NROWS 1\nNCOLS 1\nPIXELTYPE SIGNEDINT\n", -1),
-    (
-        b"NROWS 1\nNCOLS 1\nNBITS 64\nBYTEORDER M\n",
-        18_446_321_865_547_780_224,
-    ),
-    (
-        b"NROWS 1\nNCOLS 1\nNBITS 64\nBYTEORDER M\nPIXELTYPE SIGNEDINT\n",
-        -422_208_161_771_392,
-    ),
-    (b"NROWS 1\nNCOLS 1\nNBITS 64\n", 9_228_015_274_484_104_959),
-    (
-        b"NROWS 1\nNCOLS 1\nNBITS 64\nPIXELTYPE SIGNEDINT\n",
-        -9_218_728_799_225_446_657,
-    ),
-];
+// The sample of one pixel in the bytes FF FE 80 01 00 7F 10 80, and its header.
+const KINDS: &str = "\
+    65534 NROWS 1\nNCOLS 1\nNBITS 16\nBYTEORDER M\n|\
+    -2 NROWS 1\nNCOLS 1\nNBITS 16\nBYTEORDER M\nPIXELTYPE SIGNEDINT\n|\
+    65279 NROWS 1\nNCOLS 1\nNBITS 16\nBYTEORDER I\n|\
+    -257 NROWS 1\nNCOLS 1\nNBITS 16\nPIXELTYPE SIGNEDINT\n|\
+    4294868993 NROWS 1\nNCOLS 1\nNBITS 32\nBYTEORDER M\n|\
+    -98303 NROWS 1\nNCOLS 1\nNBITS 32\nBYTEORDER M\nPIXELTYPE SIGNEDINT\n|\
+    25231103 NROWS 1\nNCOLS 1\nNBITS 32\n|\
+    255 NROWS 1\nNCOLS 1\nNBITS 8\n|\
+    -1 NROWS 1\nNCOLS 1\nPIXELTYPE SIGNEDINT\n|\
+    18446321865547780224 NROWS 1\nNCOLS 1\nNBITS 64\nBYTEORDER M\n|\
+    -422208161771392 NROWS 1\nNCOLS 1\nNBITS 64\nBYTEORDER M\nPIXELTYPE SIGNEDINT\n|\
+    9228015274484104959 NROWS 1\nNCOLS 1\nNBITS 64\n|\
+    -9218728799225446657 NROWS 1\nNCOLS 1\nNBITS 64\nPIXELTYPE SIGNEDINT\n";
 
-// The one sample of a header.
-fn pixel_of(text: &[u8]) -> Option<i128> {
-    let head = read(text).ok()?;
-    sample_of(
-        &head,
-        &[0xFF, 0xFE, 0x80, 0x01, 0x00, 0x7F, 0x10, 0x80],
-        0,
-        0,
-        0,
-    )
-}
+const PIXEL: [u8; 8] = [0xFF, 0xFE, 0x80, 0x01, 0x00, 0x7F, 0x10, 0x80];
 
-// The first of these headers that has another sample, or how many headers there are.
-fn first_of_other_kind() -> usize {
-    for (at, (text, wanted)) in KINDS.iter().enumerate() {
-        if pixel_of(text) != Some(*wanted) {
-            return at;
-        }
-    }
-    KINDS.len()
+fn is_pixel(_: Global, row: &str) -> Option<bool> {
+    let (wanted, header) = number(row)?;
+    let head = read(header.as_bytes()).ok()?;
+    Some(sample_of(&head, &PIXEL, 0, 0, 0) == Some(wanted))
 }
 
 #[test]
 fn reads_by_order_and_type(rt: HostRuntime) {
-    assert_eq!(rt; first_of_other_kind(), KINDS.len());
+    all_hold(&rt, rt.alloc(), KINDS, is_pixel);
 }
 
 /// Writes a run where its samples are of the head's type and the bytes hold it.
@@ -126,12 +92,12 @@ fn write_run(head: &RawHead, samples: &[i128], bytes: &mut [u8]) -> bool {
     true
 }
 
-const BETWEEN: &[u8] =
-    b"NROWS 1\nNCOLS 3\nNBANDS 2\nNBITS 16\nLAYOUT BIP\nBYTEORDER M\nPIXELTYPE SIGNEDINT";
+const BETWEEN: &str =
+    "NROWS 1\nNCOLS 3\nNBANDS 2\nNBITS 16\nLAYOUT BIP\nBYTEORDER M\nPIXELTYPE SIGNEDINT";
 
 // What is written between bytes that are 7.
-fn written(text: &[u8], samples: &[i128]) -> Option<[u8; 11]> {
-    let head = read(text).ok()?;
+fn written(text: &str, samples: &[i128]) -> Option<[u8; 11]> {
+    let head = read(text.as_bytes()).ok()?;
     let mut bytes = [7; 11];
     if write_run(&head, samples, &mut bytes) {
         return Some(bytes);
@@ -139,10 +105,14 @@ fn written(text: &[u8], samples: &[i128]) -> Option<[u8; 11]> {
     None
 }
 
+fn keeps_between() -> bool {
+    let wanted = [0xFF, 0xFE, 7, 7, 1, 0, 7, 7, 0x7F, 0xFF, 7];
+    written(BETWEEN, &[-2, 256, 32767]) == Some(wanted)
+}
+
 #[test]
 fn writes_between_what_stays(rt: HostRuntime) {
-    let wanted = [0xFF, 0xFE, 7, 7, 1, 0, 7, 7, 0x7F, 0xFF, 7];
-    assert!(rt; written(BETWEEN, &[-2, 256, 32767]) == Some(wanted));
+    assert!(rt; keeps_between());
 }
 
 /// Reads a run where the bytes hold it.
@@ -158,8 +128,8 @@ fn read_run(head: &RawHead, bytes: &[u8], out: &mut [i128]) -> bool {
 }
 
 // A line of a band that begins at a place of the bytes.
-fn line_from(text: &[u8], place: usize) -> Option<[i128; 3]> {
-    let head = read(text).ok()?;
+fn line_from(text: &str, place: usize) -> Option<[i128; 3]> {
+    let head = read(text.as_bytes()).ok()?;
     let mut out = [0; 3];
     if read_run(&head, TWO_BANDS.get(place..)?, &mut out) {
         return Some(out);
@@ -167,29 +137,25 @@ fn line_from(text: &[u8], place: usize) -> Option<[i128; 3]> {
     None
 }
 
-#[test]
-fn reads_a_run_of_a_band(rt: HostRuntime) {
-    let line = line_from(b"NROWS 2\nNCOLS 3\nNBANDS 2\nLAYOUT BIP", 7);
-    assert!(rt; line == Some([8, 10, 12]));
+fn reads_line() -> bool {
+    line_from("NROWS 2\nNCOLS 3\nNBANDS 2\nLAYOUT BIP", 7) == Some([8, 10, 12])
 }
 
-// A header without its layout and its order, and the least and the greatest number of its type.
-const ENDS: [(&str, [i128; 2]); 8] = [
-    ("NBITS 8\n", [0, 255]),
-    ("NBITS 8\nPIXELTYPE SIGNEDINT\n", [-128, 127]),
-    ("NBITS 16\n", [0, 65_535]),
-    ("NBITS 16\nPIXELTYPE SIGNEDINT\n", [-32_768, 32_767]),
-    ("NBITS 32\n", [0, 4_294_967_295]),
-    (
-        "NBITS 32\nPIXELTYPE SIGNEDINT\n",
-        [-2_147_483_648, 2_147_483_647],
-    ),
-    ("NBITS 64\n", [0, 18_446_744_073_709_551_615]),
-    (
-        "NBITS 64\nPIXELTYPE SIGNEDINT\n",
-        [-9_223_372_036_854_775_808, 9_223_372_036_854_775_807],
-    ),
-];
+#[test]
+fn reads_a_run_of_a_band(rt: HostRuntime) {
+    assert!(rt; reads_line());
+}
+
+// The least and the greatest number of a type, and a header of it without its layout and its order.
+const ENDS: &str = "\
+    0 255 NBITS 8\n|\
+    -128 127 NBITS 8\nPIXELTYPE SIGNEDINT\n|\
+    0 65535 NBITS 16\n|\
+    -32768 32767 NBITS 16\nPIXELTYPE SIGNEDINT\n|\
+    0 4294967295 NBITS 32\n|\
+    -2147483648 2147483647 NBITS 32\nPIXELTYPE SIGNEDINT\n|\
+    0 18446744073709551615 NBITS 64\n|\
+    -9223372036854775808 9223372036854775807 NBITS 64\nPIXELTYPE SIGNEDINT\n";
 
 const FORMS: [&str; 6] = [
     "NROWS 1\nNCOLS 2\nNBANDS 2\nLAYOUT BIL\nBYTEORDER I\n",
@@ -201,40 +167,40 @@ const FORMS: [&str; 6] = [
 ];
 
 // Whether what is written of two samples is read as they are.
-fn reads_again(alloc: Global, form: &str, kind: &str, ends: [i128; 2]) -> Result<bool, Fail> {
-    let mut text: Vec<u8> = Vec::new(alloc);
-    text.extend_from_slice(form.as_bytes())?;
-    text.extend_from_slice(kind.as_bytes())?;
-    let Ok(head) = read(&text) else {
-        return Ok(false);
-    };
+fn reads_again(head: &RawHead, ends: [i128; 2]) -> bool {
     let mut bytes = [7; 24];
     let mut out = [0; 2];
-    Ok(write_run(&head, &ends, &mut bytes) && read_run(&head, &bytes, &mut out) && out == ends)
+    write_run(head, &ends, &mut bytes) && read_run(head, &bytes, &mut out) && out == ends
 }
 
-// Whether the ends of a type are read as they were written in each layout and order.
-fn keeps_ends(alloc: Global, kind: &str, ends: [i128; 2]) -> Result<bool, Fail> {
-    for form in FORMS {
-        if !reads_again(alloc, form, kind, ends)? {
-            return Ok(false);
-        }
+// The same with a header in two parts.
+fn keeps(alloc: Global, form: &str, kind: &str, ends: [i128; 2]) -> bool {
+    match joined(alloc, &[form.as_bytes(), kind.as_bytes()]) {
+        Ok(text) => match read(&text) {
+            Ok(head) => reads_again(&head, ends),
+            Err(_) => false,
+        },
+        Err(_) => false,
     }
-    Ok(true)
 }
 
-// The first type whose ends are lost, or how many types there are.
-fn first_lost(alloc: Global) -> Result<usize, Fail> {
-    for (at, (kind, ends)) in ENDS.iter().enumerate() {
-        if !keeps_ends(alloc, kind, *ends)? {
-            return Ok(at);
+// Whether the ends of a type are read as they were written in each of these layouts and orders.
+fn keeps_in(alloc: Global, forms: &[&str], kind: &str, ends: [i128; 2]) -> bool {
+    for form in forms {
+        if !keeps(alloc, form, kind, ends) {
+            return false;
         }
     }
-    Ok(ENDS.len())
+    true
+}
+
+fn keeps_ends(alloc: Global, row: &str) -> Option<bool> {
+    let (least, rest) = number(row)?;
+    let (greatest, kind) = number(rest)?;
+    Some(keeps_in(alloc, &FORMS, kind, [least, greatest]))
 }
 
 #[test]
-fn keeps_the_ends_of_types(rt: HostRuntime) -> Result<(), Fail> {
-    assert_eq!(rt; first_lost(rt.alloc())?, ENDS.len());
-    Ok(())
+fn keeps_the_ends_of_types(rt: HostRuntime) {
+    all_hold(&rt, rt.alloc(), ENDS, keeps_ends);
 }

@@ -2,44 +2,44 @@
 ghost use Rattle.std.specs.Prelude.{◌≡◌, IfOk, IfSome};
 
 use crate::sources::document;
+use crate::tables::none_wrong;
 use geotransform::Size;
 use itoa::Buffer;
+use lists_and_answers::push_all;
 use mosaic_sources::RowIndex;
-use std::alloc::Global;
+use std::alloc::{AllocError, Global};
 use std::test::*;
-use vrt_profile::{Document, Sources};
+use vrt_profile::{Document, Sources, VrtBand};
 
 // The index of sources over a mosaic of this height; `None` where there is none.
-fn index_of(alloc: Global, sources: &Sources, height: u32) -> Result<Option<RowIndex>, Fail>
+fn index_of(alloc: Global, sources: &Sources, height: u32) -> Result<Option<RowIndex>, AllocError>
     ensures height { IfOk result (λ o. IfSome o (λ r. r.height ≡ height)) }
 {
     if sources.len() > 262_144 {
         return Ok(None);
     }
-    Ok(RowIndex::new(alloc, sources, Size { w: 3, h: height })?)
+    RowIndex::new(alloc, sources, Size { w: 3, h: height })
+}
+
+fn sources_in(document: &Document) -> Option<&Sources> {
+    let band: &VrtBand = document.bands.as_slice().first()?;
+    Some(&band.sources)
 }
 
 // The index of the sources of a document's first band.
-fn index_in(
-    alloc: Global,
-    document: Option<Document>,
-    height: u32,
-) -> Result<Option<RowIndex>, Fail>
-    ensures height { IfOk result (λ o. IfSome o (λ r. r.height ≡ height)) }
+fn index_in(alloc: Global, sources: &[u8], height: u32) -> Option<RowIndex>
+    ensures height { IfSome result (λ r. r.height ≡ height) }
 {
-    let Some(document) = document else {
-        return Ok(None);
-    };
-    match document.bands.as_slice().first() {
-        Some(band) => index_of(alloc, &band.sources, height),
-        None => Ok(None),
-    }
+    let document = document(alloc, sources)?;
+    index_of(alloc, sources_in(&document)?, height).ok()?
 }
 
 // Sources with the height of the mosaic and the number of stretches, and a line with the numbers of those that cover
 // it.
-const LINES: [(&[u8], u32, u32, u32, &[u32]); 12] = [
-    (b"", 3, 1, 2, &[]),
+type Line = (&'static str, u32, u32, u32, &'static [u32]);
+
+const LINES: [Line; 12] = [
+    ("", 3, 1, 2, &[]),
     (HALVES, 2, 2, 0, &[0]),
     (HALVES, 2, 2, 1, &[1]),
     (WHOLE, 4_194_304, 1, 0, &[0, 1]),
@@ -54,92 +54,87 @@ const LINES: [(&[u8], u32, u32, u32, &[u32]); 12] = [
 ];
 
 // From the centre of line 0 up to that of line 1, and line 1.
-const HALVES: &[u8] =
-    b"<SimpleSource><SourceFilename>a</SourceFilename><DstRect xOff='0' yOff='0.5' xSize='1' ySize='1'/></SimpleSource>\
+const HALVES: &str =
+    "<SimpleSource><SourceFilename>a</SourceFilename><DstRect xOff='0' yOff='0.5' xSize='1' ySize='1'/></SimpleSource>\
     <SimpleSource><SourceFilename>b</SourceFilename><DstRect xOff='0' yOff='1' xSize='1' ySize='1'/></SimpleSource>";
 
 // Twice all lines.
-const WHOLE: &[u8] =
-    b"<SimpleSource><SourceFilename>a</SourceFilename></SimpleSource><SimpleSource><SourceFilename>b</SourceFilename>\
+const WHOLE: &str =
+    "<SimpleSource><SourceFilename>a</SourceFilename></SimpleSource><SimpleSource><SourceFilename>b</SourceFilename>\
     </SimpleSource>";
 
 // Line 1, and less than the centre of line 2.
-const GAP: &[u8] =
-    b"<SimpleSource><SourceFilename>a</SourceFilename><DstRect xOff='0' yOff='1' xSize='1' ySize='1'/></SimpleSource>\
+const GAP: &str =
+    "<SimpleSource><SourceFilename>a</SourceFilename><DstRect xOff='0' yOff='1' xSize='1' ySize='1'/></SimpleSource>\
     <SimpleSource><SourceFilename>b</SourceFilename><DstRect xOff='0' yOff='2.000001' xSize='1' ySize='0.499999'/>\
     </SimpleSource>";
 
 // Lines 0 to 2, line 1 and all lines from 1 on.
-const LAYERS: &[u8] =
-    b"<SimpleSource><SourceFilename>a</SourceFilename><DstRect xOff='0' yOff='0' xSize='1' ySize='3'/></SimpleSource>\
+const LAYERS: &str =
+    "<SimpleSource><SourceFilename>a</SourceFilename><DstRect xOff='0' yOff='0' xSize='1' ySize='3'/></SimpleSource>\
     <SimpleSource><SourceFilename>b</SourceFilename><DstRect xOff='0' yOff='1' xSize='1' ySize='1'/></SimpleSource>\
     <SimpleSource><SourceFilename>c</SourceFilename><DstRect xOff='0' yOff='1' xSize='1' ySize='9'/></SimpleSource>";
 
-// The number of stretches, and whether the list of a line is this one.
-fn looked_up(index: &RowIndex, height: u32, y: u32, want: &[u32]) -> (u32, bool)
+// Whether the list of a line is this one.
+fn is_list(index: &RowIndex, height: u32, y: u32, want: &[u32]) -> bool
     requires height { index.now.height ≡ height }
 {
-    (index.stretches(), y < height && index.at(y) == want)
+    y < height && index.at(y) == want
 }
 
-fn is_listed(
-    alloc: Global,
-    sources: &[u8],
-    (height, stretches): (u32, u32),
-    y: u32,
-    want: &[u32],
-) -> Result<bool, Fail> {
-    match index_in(alloc, document(alloc, sources)?, height)? {
-        Some(index) => Ok(looked_up(&index, height, y, want) == (stretches, true)),
-        None => Ok(false),
+fn is_listed(alloc: Global, (sources, height, stretches, y, want): Line) -> bool {
+    match index_in(alloc, sources.as_bytes(), height) {
+        Some(index) => index.stretches() == stretches && is_list(&index, height, y, want),
+        None => false,
     }
 }
 
-// The first of these lines that has another list, or how many lines there are.
-fn first_mislisted(alloc: Global) -> Result<usize, Fail> {
-    for (at, (sources, height, stretches, y, want)) in LINES.iter().enumerate() {
-        if !is_listed(alloc, sources, (*height, *stretches), *y, want)? {
-            return Ok(at);
+// The first of these lines that has another list.
+fn first_mislisted(alloc: Global, lines: &[Line]) -> Option<usize> {
+    for at in 0..lines.len() {
+        if !is_listed(alloc, lines[at]) {
+            return Some(at);
         }
     }
-    Ok(LINES.len())
+    None
 }
 
 #[test]
-fn lines(rt: HostRuntime) -> Result<(), Fail> {
-    assert_eq!(rt; first_mislisted(rt.alloc())?, LINES.len());
-    Ok(())
+fn lines(rt: HostRuntime) {
+    none_wrong(&rt, first_mislisted(rt.alloc(), &LINES));
+}
+
+fn push_stair(at: u32, text: &mut Vec<u8>) -> Result<(), AllocError> {
+    let front = "<SimpleSource><SourceFilename>a</SourceFilename><DstRect xOff='0' yOff='";
+    let mut digits = Buffer::new();
+    let number = digits.format(at);
+    let end = "' xSize='1' ySize='9999'/></SimpleSource>";
+    push_all(&[front.as_bytes(), number.as_bytes(), end.as_bytes()], text)
 }
 
 // So many sources over each other, each a line lower than the one before, down to the last line.
-fn stairs(alloc: Global, count: u32) -> Result<Vec<u8>, Fail> {
+fn stairs(alloc: Global, count: u32) -> Result<Vec<u8>, AllocError> {
     let mut text: Vec<u8> = Vec::new(alloc);
     for at in 0..count {
-        text.extend_from_slice(
-            b"<SimpleSource><SourceFilename>a</SourceFilename><DstRect xOff='0' yOff='",
-        )?;
-        text.extend_from_slice(Buffer::new().format(at).as_bytes())?;
-        text.extend_from_slice(b"' xSize='1' ySize='9999'/></SimpleSource>")?;
+        push_stair(at, &mut text)?;
     }
     Ok(text)
 }
 
-// How many stretches the index of so many stairs has over 5,000 lines, if there is one.
-fn stretches_of(alloc: Global, count: u32) -> Result<Option<u32>, Fail> {
-    let text = stairs(alloc, count)?;
-    match index_in(alloc, document(alloc, &text)?, 5_000)? {
-        Some(index) => Ok(Some(index.stretches())),
-        None => Ok(None),
+// How many stretches the index of so many stairs has over 5,000 lines, 0 where there is no index. There is none where
+// its lists would be too long, and not for want of stairs.
+fn stretches_of(alloc: Global, count: u32) -> Option<u32> {
+    let text = stairs(alloc, count).ok()?;
+    let document = document(alloc, &text)?;
+    match index_of(alloc, sources_in(&document)?, 5_000).ok()? {
+        Some(index) => Some(index.stretches()),
+        None => Some(0),
     }
 }
 
 // With 2,895 stairs the lists have 4,191,960 numbers, with one more 4,194,856.
 #[test]
-fn long_lists(rt: HostRuntime) -> Result<(), Fail> {
-    let found = (
-        stretches_of(rt.alloc(), 2_895)?,
-        stretches_of(rt.alloc(), 2_896)?,
-    );
-    assert!(rt; found == (Some(2_895), None));
-    Ok(())
+fn long_lists(rt: HostRuntime) {
+    assert!(rt; stretches_of(rt.alloc(), 2_895) == Some(2_895));
+    assert!(rt; stretches_of(rt.alloc(), 2_896) == Some(0));
 }

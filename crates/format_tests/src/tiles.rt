@@ -1,135 +1,121 @@
+use crate::tables::{all_hold, choice, count, number};
 use geotransform::{GeoTransform, Sample, Size, Ticks, print_decimal};
 use hgt_tiles::corner::{Corner, name_of, read_name};
 use hgt_tiles::samples::{decode_row, encode_row};
 use hgt_tiles::tile_places::{fit, side, transform};
-use std::alloc::{AllocError, Global};
+use std::alloc::Global;
 use std::test::*;
 
-const NAMES: [(&str, Option<(i32, i32)>); 16] = [
-    ("N00E000", Some((0, 0))),
-    ("S00W000", Some((0, 0))),
-    ("N90E180", Some((90, 180))),
-    ("S90W180", Some((-90, -180))),
-    ("n37w122", Some((37, -122))),
-    ("s01E007", Some((-1, 7))),
-    ("N47E011.SRTMGL1", Some((47, 11))),
-    ("N47E0115", Some((47, 11))),
-    ("N91E000", None),
-    ("N00E181", None),
-    ("N47E01", None),
-    ("", None),
-    ("E011N47", None),
-    ("N7E0110", None),
-    ("N+7E011", None),
-    ("N47-011", None),
-];
+// The degrees that a name tells, and the name.
+const NAMES: &str = "\
+    0 0 N00E000|\
+    0 0 S00W000|\
+    90 180 N90E180|\
+    -90 -180 S90W180|\
+    37 -122 n37w122|\
+    -1 7 s01E007|\
+    47 11 N47E011.SRTMGL1|\
+    47 11 N47E0115|\
+    - - N91E000|\
+    - - N00E181|\
+    - - N47E01|\
+    - - |\
+    - - E011N47|\
+    - - N7E0110|\
+    - - N+7E011|\
+    - - N47-011";
 
-// The corner that a name tells.
-fn corner_of(name: &str) -> Option<(i32, i32)> {
-    let corner = read_name(name)?;
-    Some((corner.lat, corner.lon))
+// The degrees of the corner that a name tells, where it tells one.
+fn corner_of(name: &str) -> (Option<i128>, Option<i128>) {
+    match read_name(name) {
+        Some(corner) => (Some(corner.lat as i128), Some(corner.lon as i128)),
+        None => (None, None),
+    }
 }
 
-// The first of these names that tells another corner, or how many names there are.
-fn first_misread() -> usize {
-    for (at, (name, wanted)) in NAMES.iter().enumerate() {
-        if corner_of(name) != *wanted {
-            return at;
-        }
-    }
-    NAMES.len()
+fn is_read(_: Global, row: &str) -> Option<bool> {
+    let (lat, rest) = choice(row)?;
+    let (lon, name) = choice(rest)?;
+    let corner = corner_of(name);
+    Some(corner.0 == lat && corner.1 == lon)
 }
 
 #[test]
 fn reads_names(rt: HostRuntime) {
-    assert_eq!(rt; first_misread(), NAMES.len());
+    all_hold(&rt, rt.alloc(), NAMES, is_read);
 }
 
 // The degrees of a corner, and its name.
-const CORNERS: [(i32, i32, &[u8; 7]); 4] = [
-    (0, 0, b"N00E000"),
-    (-1, -180, b"S01W180"),
-    (90, 7, b"N90E007"),
-    (-56, 179, b"S56E179"),
-];
+const CORNERS: &str = "\
+    0 0 N00E000|\
+    -1 -180 S01W180|\
+    90 7 N90E007|\
+    -56 179 S56E179";
 
-fn is_named(lat: i32, lon: i32, wanted: &[u8; 7]) -> bool {
-    match corner_at(lat, lon) {
-        Some(corner) => name_of(corner) == *wanted,
-        None => false,
+fn corner_at(lat: i128, lon: i128) -> Option<Corner> {
+    if lat < -90 || lat > 90 || lon < -180 || lon > 180 {
+        return None;
     }
+    Some(Corner {
+        lat: lat as i32,
+        lon: lon as i32,
+    })
 }
 
-// The first of these corners that has another name, or how many corners there are.
-fn first_misnamed() -> usize {
-    for (at, (lat, lon, wanted)) in CORNERS.iter().enumerate() {
-        if !is_named(*lat, *lon, wanted) {
-            return at;
-        }
-    }
-    CORNERS.len()
+fn is_named(_: Global, row: &str) -> Option<bool> {
+    let (lat, rest) = number(row)?;
+    let (lon, wanted) = number(rest)?;
+    let name = name_of(corner_at(lat, lon)?);
+    Some(name.as_slice() == wanted.as_bytes())
 }
 
 #[test]
 fn writes_names(rt: HostRuntime) {
-    assert_eq!(rt; first_misnamed(), CORNERS.len());
+    all_hold(&rt, rt.alloc(), CORNERS, is_named);
 }
 
-fn corner_at(lat: i32, lon: i32) -> Option<Corner> {
-    if lat < -90 || lat > 90 || lon < -180 || lon > 180 {
-        return None;
-    }
-    Some(Corner { lat, lon })
+// The columns of a tile, and the length of its file.
+const LENGTHS: &str = "\
+    1201 2884802|\
+    3601 25934402|\
+    - 2884801|\
+    - 0";
+
+fn columns_of(len: u64) -> Option<i128> {
+    Some(side(len)? as i128)
 }
 
-// The length of a file, and the columns of its tile.
-const LENGTHS: [(u64, Option<u32>); 4] = [
-    (2_884_802, Some(1201)),
-    (25_934_402, Some(3601)),
-    (2_884_801, None),
-    (0, None),
-];
-
-// The first of these lengths that is another tile's, or how many lengths there are.
-fn first_missized() -> usize {
-    for (at, (len, wanted)) in LENGTHS.iter().enumerate() {
-        if side(*len) != *wanted {
-            return at;
-        }
-    }
-    LENGTHS.len()
+fn is_sized(_: Global, row: &str) -> Option<bool> {
+    let (columns, len) = choice(row)?;
+    Some(columns_of(len.parse::<u64>().ok()?) == columns)
 }
 
 #[test]
 fn knows_lengths(rt: HostRuntime) {
-    assert_eq!(rt; first_missized(), LENGTHS.len());
+    all_hold(&rt, rt.alloc(), LENGTHS, is_sized);
 }
 
 // Whether a value is printed so with 15 digits behind the point.
-fn is_printed(alloc: Global, value: Ticks, wanted: &[u8]) -> Result<bool, AllocError> {
+fn is_printed(alloc: Global, value: Ticks, wanted: &str) -> bool {
     let mut text = Vec::new(alloc);
-    print_decimal(value, 15, &mut text)?;
-    Ok(text.as_slice() == wanted)
+    print_decimal(value, 15, &mut text).is_ok() && text.as_slice() == wanted.as_bytes()
 }
 
 // Whether a tile at 1 degree south, 180 degrees west has this place.
-fn is_placed(alloc: Global) -> Result<bool, AllocError> {
+fn is_placed(alloc: Global) -> bool {
     let Some(corner) = read_name("S01W180") else {
-        return Ok(false);
+        return false;
     };
     let geo = transform(corner, 1201);
-    Ok(
-        is_printed(alloc, geo.ox, b"-180.000416666666667")?
-            && is_printed(alloc, geo.oy, b"0.000416666666667")?
-            && is_printed(alloc, geo.dx, b"0.000833333333333")?
-            && is_printed(alloc, geo.dy, b"-0.000833333333333")?,
-    )
+    is_printed(alloc, geo.ox, "-180.000416666666667")
+        && is_printed(alloc, geo.oy, "0.000416666666667")
+        && is_printed(alloc, geo.dx, "0.000833333333333")
+        && is_printed(alloc, geo.dy, "-0.000833333333333")
 }
 
 #[test]
-fn places_a_tile(rt: HostRuntime) -> Result<(), Fail> {
-    assert!(rt; is_placed(rt.alloc())?);
-    Ok(())
+fn places_a_tile(rt: HostRuntime) {
+    assert!(rt; is_placed(rt.alloc()));
 }
 
 /// The transform moved by so many ticks to the east.
@@ -140,15 +126,14 @@ fn moved(geo: GeoTransform, ticks: i128) -> Option<GeoTransform> {
 
 // A thousandth of 1/3600 degree is 50,000,000,000 ticks. So many ticks to the east, so many columns, and whether that
 // fits.
-const MOVES: [(i128, u32, bool); 7] = [
-    (0, 3601, true),
-    (50_000_000_000, 3601, true),
-    (-50_000_000_000, 3601, true),
-    (50_000_000_001, 3601, false),
-    (-50_000_000_001, 3601, false),
-    (0, 3600, false),
-    (0, 1201, false),
-];
+const MOVES: &str = "\
+    0 3601 fits|\
+    50000000000 3601 fits|\
+    -50000000000 3601 fits|\
+    50000000001 3601 not|\
+    -50000000001 3601 not|\
+    0 3600 not|\
+    0 1201 not";
 
 // The tile that a raster of 3601 lines is, whose place is that of the tile at 47 degrees north, 11 degrees east, moved
 // so far.
@@ -157,14 +142,13 @@ fn fitting(ticks: i128, w: u32) -> Option<Corner> {
     fit(Size { w, h: 3601 }, &geo).ok()
 }
 
-// The first of these moves that fits otherwise, or how many moves there are.
-fn first_misfit() -> usize {
-    for (at, (ticks, w, fits)) in MOVES.iter().enumerate() {
-        if fitting(*ticks, *w) != if *fits { read_name("N47E011") } else { None } {
-            return at;
-        }
+fn fits_so(_: Global, row: &str) -> Option<bool> {
+    let (ticks, rest) = number(row)?;
+    let (w, wanted) = count(rest)?;
+    match fitting(ticks, w) {
+        Some(corner) => Some(wanted == "fits" && read_name("N47E011") == Some(corner)),
+        None => Some(wanted == "not"),
     }
-    MOVES.len()
 }
 
 // Whether the tile that would lie beyond the pole doesn't fit.
@@ -177,18 +161,27 @@ fn ends_at_the_pole() -> bool {
 
 #[test]
 fn fits_within_a_thousandth(rt: HostRuntime) {
-    assert_eq!(rt; (first_misfit(), ends_at_the_pole()), (MOVES.len(), true));
+    all_hold(&rt, rt.alloc(), MOVES, fits_so);
+    assert!(rt; ends_at_the_pole());
 }
 
 const BYTES: [u8; 8] = [0xFF, 0xFF, 0x80, 0x00, 0x7F, 0xFF, 0x01, 0x02];
 
 const SAMPLES: [Sample; 4] = [-1, -32_768, 32_767, 258];
 
-#[test]
-fn reads_and_writes_rows(rt: HostRuntime) {
+fn are_read() -> bool {
     let mut read = [0; 4];
     decode_row(&BYTES, &mut read);
+    read == SAMPLES
+}
+
+fn are_written() -> bool {
     let mut written = [0; 8];
     encode_row(&SAMPLES, &mut written);
-    assert!(rt; read == SAMPLES && written == BYTES);
+    written == BYTES
+}
+
+#[test]
+fn reads_and_writes_rows(rt: HostRuntime) {
+    assert!(rt; are_read() && are_written());
 }

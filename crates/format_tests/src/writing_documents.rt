@@ -1,4 +1,5 @@
 // Documents that are written, and names of sources.
+use crate::tables::{all_hold, count, joined, none_wrong, word};
 use outside::{Name, NameFault};
 use outside_fakes::TWO_TILES;
 use std::alloc::{AllocError, Global};
@@ -7,7 +8,7 @@ use vrt_profile::{Document, Source, VrtBand, read, relate, resolve, resolved_len
 use vrt_writing::write;
 
 /// Two tiles side by side, in another layout than the written one.
-const LOOSE: &[u8] = b"\xef\xbb\xbf<?xml version='1.0'?><!-- two tiles -->
+const LOOSE: &str = "\u{feff}<?xml version='1.0'?><!-- two tiles -->
 <VRTDataset rasterYSize = '1201' rasterXSize = '2401'>
 <VRTRasterBand dataType='Int16'><ComplexSource><SrcRect xOff='0.0' yOff='0' xSize='1201' ySize='1201'/>
 <DstRect xOff='0' yOff='0' xSize='1201' ySize='1201'/><NODATA>-32768.0</NODATA><ScaleOffset>0</ScaleOffset>
@@ -19,7 +20,7 @@ const LOOSE: &[u8] = b"\xef\xbb\xbf<?xml version='1.0'?><!-- two tiles -->
 </VRTDataset>";
 
 /// Every part of a document, and a band without parts.
-const WHOLE: &[u8] = b"<VRTDataset rasterXSize=\"2\" rasterYSize=\"1\">
+const WHOLE: &str = "<VRTDataset rasterXSize=\"2\" rasterYSize=\"1\">
   <SRS>a &lt;&apos;b&apos; &amp; &quot;c&quot;&gt;</SRS>
   <VRTRasterBand dataType=\"Byte\" band=\"1\">
     <SimpleSource>
@@ -41,12 +42,12 @@ const WHOLE: &[u8] = b"<VRTDataset rasterXSize=\"2\" rasterYSize=\"1\">
 ";
 
 /// What is absent or can't be held.
-const SPARSE: &[u8] =
-    b"<VRTDataset rasterXSize='1' rasterYSize='1'><VRTRasterBand><NoDataValue>256</NoDataValue>
+const SPARSE: &str =
+    "<VRTDataset rasterXSize='1' rasterYSize='1'><VRTRasterBand><NoDataValue>256</NoDataValue>
 <ComplexSource><SourceFilename> a b.bil </SourceFilename><NODATA>x</NODATA><ScaleOffset>0.0000000000005</ScaleOffset>
 <LUT> 0 : 0 , 0.0000015 : 5 </LUT></ComplexSource></VRTRasterBand></VRTDataset>";
 
-const FILLED: &[u8] = b"<VRTDataset rasterXSize=\"1\" rasterYSize=\"1\">
+const FILLED: &str = "<VRTDataset rasterXSize=\"1\" rasterYSize=\"1\">
   <VRTRasterBand dataType=\"Byte\" band=\"1\">
     <ComplexSource>
       <SourceFilename relativeToVRT=\"0\"> a b.bil </SourceFilename>
@@ -59,37 +60,37 @@ const FILLED: &[u8] = b"<VRTDataset rasterXSize=\"1\" rasterYSize=\"1\">
 ";
 
 // Documents, each with the text that is written of it.
-const LAYOUTS: [(&[u8], &[u8]); 4] = [
-    (LOOSE, TWO_TILES),
-    (TWO_TILES, TWO_TILES),
-    (WHOLE, WHOLE),
-    (SPARSE, FILLED),
-];
+const LAYOUTS: [(&str, &str); 2] = [(WHOLE, WHOLE), (SPARSE, FILLED)];
 
 // Whether this is written of a document.
-fn is_written(alloc: Global, text: &[u8], wanted: &[u8]) -> Result<bool, AllocError> {
+fn is_written(alloc: Global, text: &[u8], wanted: &[u8]) -> bool {
     let Ok(document) = read(alloc, text) else {
-        return Ok(false);
+        return false;
     };
     let mut out = Vec::new(alloc);
-    write(&document, &mut out)?;
-    Ok(out.as_slice() == wanted)
+    write(&document, &mut out).is_ok() && out.as_slice() == wanted
 }
 
-// The first of these documents of which something else is written, or how many documents there are.
-fn first_miswritten(alloc: Global) -> Result<usize, AllocError> {
-    for (at, (text, wanted)) in LAYOUTS.iter().enumerate() {
-        if !is_written(alloc, text, wanted)? {
-            return Ok(at);
+// The first of these documents of which something else is written.
+fn first_miswritten(alloc: Global, documents: &[(&str, &str)]) -> Option<usize> {
+    for at in 0..documents.len() {
+        let (text, wanted) = documents[at];
+        if !is_written(alloc, text.as_bytes(), wanted.as_bytes()) {
+            return Some(at);
         }
     }
-    Ok(LAYOUTS.len())
+    None
+}
+
+// Whether this is written of the loose tiles, and of itself.
+fn are_tiles(alloc: Global, tiles: &[u8]) -> bool {
+    is_written(alloc, LOOSE.as_bytes(), tiles) && is_written(alloc, tiles, tiles)
 }
 
 #[test]
-fn documents_are_written(rt: HostRuntime) -> Result<(), Fail> {
-    assert_eq!(rt; first_miswritten(rt.alloc())?, LAYOUTS.len());
-    Ok(())
+fn documents_are_written(rt: HostRuntime) {
+    assert!(rt; are_tiles(rt.alloc(), TWO_TILES));
+    none_wrong(&rt, first_miswritten(rt.alloc(), &LAYOUTS));
 }
 
 /// The first source of the first band.
@@ -98,25 +99,22 @@ fn first_source(document: &Document) -> Option<&Source> {
     band.sources.as_slice().first()
 }
 
-// A document's name, a source of it, the length of the text that is normalised, and the source's name.
-const RESOLVED: [(&str, &[u8], u64, &str); 6] = [
-    ("d/m.vrt", b" relativeToVRT='1'>a.bil", 7, "d/a.bil"),
-    ("d/m.vrt", b">a.bil", 5, "a.bil"),
-    ("d/e/m.vrt", b" relativeToVRT='1'>../a.bil", 12, "d/a.bil"),
-    ("m.vrt", b" relativeToVRT='1'>../a.bil", 8, "../a.bil"),
-    ("/m.vrt", b" relativeToVRT='1'>a.bil", 6, "/a.bil"),
-    ("d/m.vrt", b" relativeToVRT='1'>/a.bil", 6, "/a.bil"),
-];
+// The length of the text that is normalised, a document's name, a source's name, and the source as it stands in the
+// document, with `;` between them.
+const RESOLVED: &str = "\
+    7 d/m.vrt;d/a.bil; relativeToVRT='1'>a.bil|\
+    5 d/m.vrt;a.bil;>a.bil|\
+    12 d/e/m.vrt;d/a.bil; relativeToVRT='1'>../a.bil|\
+    8 m.vrt;../a.bil; relativeToVRT='1'>../a.bil|\
+    6 /m.vrt;/a.bil; relativeToVRT='1'>a.bil|\
+    6 d/m.vrt;/a.bil; relativeToVRT='1'>/a.bil";
 
-/// A document with one source.
-fn with_source(alloc: Global, file: &[u8]) -> Result<Vec<u8>, Fail> {
-    let mut text: Vec<u8> = Vec::new(alloc);
-    text.extend_from_slice(
-        b"<VRTDataset rasterXSize='1' rasterYSize='1'><VRTRasterBand><SimpleSource><SourceFilename",
-    )?;
-    text.extend_from_slice(file)?;
-    text.extend_from_slice(b"</SourceFilename></SimpleSource></VRTRasterBand></VRTDataset>")?;
-    Ok(text)
+/// The text of a document with one source.
+fn with_source(alloc: Global, file: &str) -> Result<Vec<u8>, AllocError> {
+    let front =
+        "<VRTDataset rasterXSize='1' rasterYSize='1'><VRTRasterBand><SimpleSource><SourceFilename";
+    let end = "</SourceFilename></SimpleSource></VRTRasterBand></VRTDataset>";
+    joined(alloc, &[front.as_bytes(), file.as_bytes(), end.as_bytes()])
 }
 
 // Whether a source has this name in a document of that name.
@@ -128,74 +126,69 @@ fn resolves(alloc: Global, base: &Name, source: &Source, length: u64, wanted: &s
     resolved_len(base, source) == length && resolved
 }
 
-// The same of the first source of the text of a document.
-fn resolves_first(alloc: Global, base: &str, text: &[u8], length: u64, wanted: &str) -> bool {
-    let Ok(base) = Name::read(alloc, base) else {
-        return false;
-    };
-    match read(alloc, text) {
-        Ok(document) => match first_source(&document) {
-            Some(source) => resolves(alloc, &base, source, length, wanted),
-            None => false,
-        },
+// The same of the first source of a document, where that is read.
+fn resolves_first(
+    alloc: Global,
+    base: &Name,
+    document: &Document,
+    length: u64,
+    wanted: &str,
+) -> bool {
+    match first_source(document) {
+        Some(source) => resolves(alloc, base, source, length, wanted),
+        None => false,
+    }
+}
+
+// A document with one source.
+fn document_of(alloc: Global, file: &str) -> Option<Document> {
+    let text = with_source(alloc, file).ok()?;
+    read(alloc, &text).ok()
+}
+
+fn is_resolved(alloc: Global, row: &str) -> Option<bool> {
+    let (length, rest) = count(row)?;
+    let (base, rest) = rest.split_once(';')?;
+    let (wanted, file) = rest.split_once(';')?;
+    let base = Name::read(alloc, base).ok()?;
+    let document = document_of(alloc, file)?;
+    Some(resolves_first(alloc, &base, &document, length as u64, wanted))
+}
+
+#[test]
+fn names_are_resolved(rt: HostRuntime) {
+    all_hold(&rt, rt.alloc(), RESOLVED, is_resolved);
+}
+
+// A document's name, a name, whether it is told beside the document, and how the document names it.
+const RELATED: &str = "\
+    d/m.vrt d/a.bil beside a.bil|\
+    d/m.vrt d/e/a.bil beside e/a.bil|\
+    d/m.vrt de/a.bil apart de/a.bil|\
+    d/m.vrt d apart d|\
+    m.vrt d/a.bil beside d/a.bil|\
+    m.vrt /a.bil apart /a.bil|\
+    /m.vrt /a.bil beside a.bil";
+
+// Whether a document names a name so.
+fn relates(alloc: Global, base: &Name, name: &Name, place: &str, wanted: &str) -> bool {
+    match relate(alloc, base, name) {
+        Ok((true, text)) => place == "beside" && text.as_str() == wanted,
+        Ok((false, text)) => place == "apart" && text.as_str() == wanted,
         Err(_) => false,
     }
 }
 
-// The first of these sources that has another name, or how many sources there are.
-fn first_unresolved(alloc: Global) -> Result<usize, Fail> {
-    for (at, (base, file, length, wanted)) in RESOLVED.iter().enumerate() {
-        let text = with_source(alloc, file)?;
-        if !resolves_first(alloc, base, &text, *length, wanted) {
-            return Ok(at);
-        }
-    }
-    Ok(RESOLVED.len())
+fn is_related(alloc: Global, row: &str) -> Option<bool> {
+    let (base, rest) = word(row)?;
+    let (name, rest) = word(rest)?;
+    let (place, wanted) = word(rest)?;
+    let base = Name::read(alloc, base).ok()?;
+    let name = Name::read(alloc, name).ok()?;
+    Some(relates(alloc, &base, &name, place, wanted))
 }
 
 #[test]
-fn names_are_resolved(rt: HostRuntime) -> Result<(), Fail> {
-    assert_eq!(rt; first_unresolved(rt.alloc())?, RESOLVED.len());
-    Ok(())
-}
-
-// A document's name, a name, and how the document names it.
-const RELATED: [(&str, &str, bool, &str); 7] = [
-    ("d/m.vrt", "d/a.bil", true, "a.bil"),
-    ("d/m.vrt", "d/e/a.bil", true, "e/a.bil"),
-    ("d/m.vrt", "de/a.bil", false, "de/a.bil"),
-    ("d/m.vrt", "d", false, "d"),
-    ("m.vrt", "d/a.bil", true, "d/a.bil"),
-    ("m.vrt", "/a.bil", false, "/a.bil"),
-    ("/m.vrt", "/a.bil", true, "a.bil"),
-];
-
-// Whether a document names a name so.
-fn relates(
-    alloc: Global,
-    base: &str,
-    name: &str,
-    relative: bool,
-    wanted: &str,
-) -> Result<bool, Fail> {
-    let base = Name::read(alloc, base)?;
-    let name = Name::read(alloc, name)?;
-    let (is_relative, text) = relate(alloc, &base, &name)?;
-    Ok(is_relative == relative && text.as_str() == wanted)
-}
-
-// The first of these names that is named otherwise, or how many names there are.
-fn first_unrelated(alloc: Global) -> Result<usize, Fail> {
-    for (at, (base, name, relative, wanted)) in RELATED.iter().enumerate() {
-        if !relates(alloc, base, name, *relative, wanted)? {
-            return Ok(at);
-        }
-    }
-    Ok(RELATED.len())
-}
-
-#[test]
-fn names_are_related(rt: HostRuntime) -> Result<(), Fail> {
-    assert_eq!(rt; first_unrelated(rt.alloc())?, RELATED.len());
-    Ok(())
+fn names_are_related(rt: HostRuntime) {
+    all_hold(&rt, rt.alloc(), RELATED, is_related);
 }

@@ -4,7 +4,10 @@ use Rattle.catalog.specs.declared.faults.LimitKind.TheVariants.{Points}
 use Rattle.command_words.specs.declared.spoken.WordFault.{WordFault}
 use Rattle.command_words.specs.declared.spoken.WordFault.TheVariants as word
 use Rattle.error_lines.specs.declared.faults.Fault.{Fault}
-use Rattle.error_lines.specs.declared.faults.Fault.TheVariants.{Usage, Absent, NotRecognized, Malformed, Short, Cycle, TooDeep, Limit, SourceBand, Plan, Build, SameName, BadPoint, Changed, FolderFault, InputFault, OutFault, Memory}
+use Rattle.error_lines.specs.declared.faults.Fault.TheVariants.{Usage, Absent, NotRecognized, Malformed, Short, Cycle}
+use Rattle.error_lines.specs.declared.faults.Fault.TheVariants.{TooDeep, Limit, SourceBand, Plan, Build, SameName}
+use Rattle.error_lines.specs.declared.faults.Fault.TheVariants.{BadPoint, Changed, FolderFault, InputFault, OutFault}
+use Rattle.error_lines.specs.declared.faults.Fault.TheVariants.{Memory}
 
 abbrev pub word_fault_of : WordFault → Fault
 word_fault_of (word.Usage n) = Usage n

@@ -1,5 +1,6 @@
 -- How the lines of an input are answered while it is read.
-use Rattle.std.specs.Prelude.{◌≡◌, ◌⊎◌, ◌≤◌, false, ℕ, ℤ, ◌*◌, ◌-◌, List, [], ◌++◌, length, drop, Option, Some, None, Result, Ok, Err}
+use Rattle.std.specs.Prelude.{◌≡◌, ◌⊎◌, ◌≤◌, false, ℕ, ℤ, ◌*◌, ◌-◌, List, [], ◌++◌, length, drop, Option, Some, None}
+use Rattle.std.specs.Prelude.{Result, Ok, Err}
 use Rattle.std.specs.Str.Lines.{lines}
 use Rattle.outside.specs.Streams.{Gets, GetsPart}
 use Rattle.input_points.specs.declared.entry.Entry.{Entry}
@@ -28,7 +29,8 @@ pub record Passed (old : Reading) (text : List ℕ) (new : Reading) (rest : List
   pub good : lines_fault given ≡ None
 
 -- the same, and the answers to the lines were put
-pub record Answered (tell : ℤ → ℤ → List ℕ) (old : Reading) (text : List ℕ) (new : Reading) (rest : List ℕ) (before after : Option (List ℕ)) : Type 0 where
+pub record Answered (tell : ℤ → ℤ → List ℕ) (old : Reading) (text : List ℕ) (new : Reading) (rest : List ℕ)
+    (before after : Option (List ℕ)) : Type 0 where
   pub given : List Entry
   pub passed : Passed old text new rest given
   pub put : Gets (lines_text tell given) before after
@@ -36,26 +38,35 @@ pub record Answered (tell : ℤ → ℤ → List ℕ) (old : Reading) (text : Li
 -- the answers to these lines were put, the last of which ends the reading; or the outside failed behind a first part
 abbrev pub EndsLines : (ℤ → ℤ → List ℕ) → List Entry → Fault → Option (List ℕ) → Option (List ℕ) → Type 0
 EndsLines tell coming_lines fault before after =
-    ((lines_fault coming_lines ≡ Some fault) × Gets (lines_text tell coming_lines) before after) ⊎ (IsOutside fault × GetsPart (lines_text tell coming_lines) before after)
+    ((lines_fault coming_lines ≡ Some fault) × Gets (lines_text tell coming_lines) before after) ⊎ (IsOutside fault ×
+    GetsPart (lines_text tell coming_lines) before after)
 
 -- a call that answers the next line which ends in a piece, and reads so many bytes of it
-abbrev pub AnswersNext : (ℤ → ℤ → List ℕ) → Reading → List ℕ → Reading → Result ℕ Fault → Option (List ℕ) → Option (List ℕ) → Type 0
+abbrev pub AnswersNext : (ℤ → ℤ → List ℕ) → Reading → List ℕ → Reading → Result ℕ Fault → Option (List ℕ) →
+    Option (List ℕ) → Type 0
 AnswersNext tell old piece new (Ok used) before after = Answered tell old piece new (drop used piece) before after
-AnswersNext tell old piece new (Err fault) before after = (more : List ℕ) → EndsLines tell (coming lines old (piece ++ more)) fault before after
+AnswersNext tell old piece new (Err fault) before after = (more : List ℕ) →
+    EndsLines tell (coming lines old (piece ++ more)) fault before after
 
 -- a call that answers the lines which end in a piece
-abbrev pub AnswersPiece : (ℤ → ℤ → List ℕ) → Reading → List ℕ → Reading → Result (Unit {0}) Fault → Option (List ℕ) → Option (List ℕ) → Type 0
+abbrev pub AnswersPiece : (ℤ → ℤ → List ℕ) → Reading → List ℕ → Reading → Result (Unit {0}) Fault → Option (List ℕ) →
+    Option (List ℕ) → Type 0
 AnswersPiece tell old piece new (Ok done) before after = Answered tell old piece new [] before after
-AnswersPiece tell old piece new (Err fault) before after = (more : List ℕ) → EndsLines tell (coming lines old (piece ++ more)) fault before after
+AnswersPiece tell old piece new (Err fault) before after = (more : List ℕ) →
+    EndsLines tell (coming lines old (piece ++ more)) fault before after
 
 -- a call that answers the lines which end in an input, from the start of a reading, and takes it to its end
-abbrev pub AnswersPieces : (ℤ → ℤ → List ℕ) → List ℕ → Option (List ℕ) → Reading → Result (Unit {0}) Fault → Option (List ℕ) → Option (List ℕ) → Type 0
-AnswersPieces tell input left new (Ok done) before after = Answered tell start input new [] before after × (left ≡ Some [])
+abbrev pub AnswersPieces : (ℤ → ℤ → List ℕ) → List ℕ → Option (List ℕ) → Reading → Result (Unit {0}) Fault →
+    Option (List ℕ) → Option (List ℕ) → Type 0
+AnswersPieces tell input left new (Ok done) before after = Answered tell start input new [] before after ×
+    (left ≡ Some [])
 AnswersPieces tell input left new (Err fault) before after = EndsLines tell (entries input) fault before after
 
 -- a call that answers all lines of an input, which it reads to the end
-abbrev pub AnswersInput : (ℤ → ℤ → List ℕ) → List ℕ → Option (List ℕ) → Result (Unit {0}) Fault → Option (List ℕ) → Option (List ℕ) → Type 0
-AnswersInput tell input left (Ok done) before after = (lines_fault (entries input) ≡ None) × Gets (lines_text tell (entries input)) before after × (left ≡ Some [])
+abbrev pub AnswersInput : (ℤ → ℤ → List ℕ) → List ℕ → Option (List ℕ) → Result (Unit {0}) Fault → Option (List ℕ) →
+    Option (List ℕ) → Type 0
+AnswersInput tell input left (Ok done) before after = (lines_fault (entries input) ≡ None) ×
+    Gets (lines_text tell (entries input)) before after × (left ≡ Some [])
 AnswersInput tell input left (Err fault) before after = EndsLines tell (entries input) fault before after
 
 -- The input gave a first part of its bytes. The run over the whole lines among them, which `ran` gives, isn't refused,

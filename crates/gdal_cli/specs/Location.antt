@@ -1,5 +1,6 @@
 -- What gdallocationinfo prints of points.
-use Rattle.std.specs.Prelude.{ℕ, ℤ, pos, negsuc, ◌-◌, Bool, true, false, List, [], ◌∷◌, length, map, flat_map, nat_lt, Option, Some, None, Result, Ok, Err, if◌then◌else◌}
+use Rattle.std.specs.Prelude.{ℕ, ℤ, pos, negsuc, ◌-◌, Bool, true, false, List, [], ◌∷◌, length, map, flat_map, nat_lt}
+use Rattle.std.specs.Prelude.{Option, Some, None, Result, Ok, Err, if◌then◌else◌}
 use Rattle.std.specs.List.{range_with_len, find}
 use Rattle.lists_and_answers.specs.Answers.{◌>>=◌}
 use Rattle.geotransform.specs.Geo.{Transform, located}
@@ -77,7 +78,8 @@ abbrev pub told_text : Files → List Dataset → Dataset → Asked → ℤ × �
 told_text m cat d asked place =
     let x = within d.head.size.w place.0 in
     let y = within d.head.size.h place.1 in
-    location_text asked.form place.0 place.1 (values_at (pixel_of_name m d.head.name) asked.bands x y) asked.bands (files_at cat d asked.bands x y)
+    location_text asked.form place.0 place.1 (values_at (pixel_of_name m d.head.name) asked.bands x y) asked.bands
+    (files_at cat d asked.bands x y)
 
 -- what is told of a point
 unfoldable pub point_text : Files → List Dataset → Dataset → Asked → ℤ → ℤ → List ℕ
@@ -112,7 +114,10 @@ lines_fault (e ∷ es) = first_fault (line_fault e.line e.kind) (lines_fault es)
 -- the answer to a point, or where there is none to the lines of an input, each by a step of its own
 abbrev pub answers : (ℤ → ℤ → List ℕ) → Option (ℤ × ℤ) → List Entry → Done
 answers tell (Some point) lines = all_done (prints (tell point.0 point.1 ∷ []))
-answers tell None lines = record { steps = prints (map (λ (e : Entry). line_text tell e.kind) lines); fault = lines_fault lines }
+answers tell None lines = record {
+  steps = prints (map (λ (e : Entry). line_text tell e.kind) lines);
+  fault = lines_fault lines;
+}
 
 -- a call puts a whole text, or a first part of it behind which the outside failed
 abbrev pub PutsText : List ℕ → Result (Unit {0}) Fault → Option (List ℕ) → Option (List ℕ) → Type 0

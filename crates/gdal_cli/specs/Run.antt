@@ -1,5 +1,6 @@
 -- What is promised of a run of the program.
-use Rattle.std.specs.Prelude.{ℕ, ◌≡◌, ◌⊎◌, Bool, true, false, List, [], ◌∷◌, ◌++◌, Contains, Option, Some, None, Result, Ok, Err}
+use Rattle.std.specs.Prelude.{ℕ, ◌≡◌, ◌⊎◌, Bool, true, false, List, [], ◌∷◌, ◌++◌, Contains, Option, Some, None, Result}
+use Rattle.std.specs.Prelude.{Ok, Err}
 use Rattle.outside.specs.Outside.{Files}
 use Rattle.outside.specs.Causes.{Rose}
 use Rattle.outside.specs.Streams.{Gets, GetsPart}
@@ -17,7 +18,9 @@ use Rattle.command_words.specs.declared.spoken.WordFault.TheVariants as word
 use Rattle.mosaic_builds.specs.Steps.{warns}
 use Rattle.error_lines.specs.declared.faults.Fault.{Fault}
 use Rattle.error_lines.specs.declared.faults.Fault.TheVariants as fault
-use Rattle.error_lines.specs.declared.faults.Fault.TheVariants.{Usage, Absent, NotRecognized, Malformed, Short, Cycle, TooDeep, Limit, SourceBand, Plan, SameName, BadPoint, Changed, FolderFault, InputFault, OutFault, Memory}
+use Rattle.error_lines.specs.declared.faults.Fault.TheVariants.{Usage, Absent, NotRecognized, Malformed, Short, Cycle}
+use Rattle.error_lines.specs.declared.faults.Fault.TheVariants.{TooDeep, Limit, SourceBand, Plan, SameName, BadPoint}
+use Rattle.error_lines.specs.declared.faults.Fault.TheVariants.{Changed, FolderFault, InputFault, OutFault, Memory}
 use Rattle.error_lines.specs.Faults.{fault_of, IsOutside, status_of}
 use Rattle.error_lines.specs.Texts.{line_of}
 use Rattle.error_lines.specs.Steps.{Step, Done, printed, warned, AreDone, AreWarned}
@@ -161,29 +164,38 @@ pub record RefusesWords (words : Result Command WordFault) (fault : Option Fault
 -- A command whose dataset's name tells no kind is refused with it, or for want of memory. No name that tells a kind is
 -- refused so, and another name than the dataset's only where a walk goes from it, a mosaic, through its sources.
 pub record RefusesDataset (words : Result Command WordFault) (fault : Option Fault) : Type 0 where
-  pub always : (c : Command) (name n : List ℕ) → words ≡ Ok c → name_read c.job ≡ Some name → kind_in name ≡ Err (walk.NotRecognized n) → (fault ≡ Some (NotRecognized n)) ⊎ (fault ≡ Some Memory)
-  pub only : (n : List ℕ) → fault ≡ Some (NotRecognized n) → (c : Command) × (words ≡ Ok c) × (kind_in n ≡ Err (walk.NotRecognized n))
-  pub own : (c : Command) (name n : List ℕ) → words ≡ Ok c → name_read c.job ≡ Some name → reads_sources c.job ≡ false → fault ≡ Some (NotRecognized n) → kind_in name ≡ Err (walk.NotRecognized n)
-  pub file : (c : Command) (name : List ℕ) (k : Kind) (n : List ℕ) → words ≡ Ok c → name_read c.job ≡ Some name → kind_in name ≡ Ok k → (k ≡ kinds.Vrt → ⊥) → fault ≡ Some (NotRecognized n) → ⊥
+  pub always : (c : Command) (name n : List ℕ) → words ≡ Ok c → name_read c.job ≡ Some name →
+      kind_in name ≡ Err (walk.NotRecognized n) → (fault ≡ Some (NotRecognized n)) ⊎ (fault ≡ Some Memory)
+  pub only : (n : List ℕ) → fault ≡ Some (NotRecognized n) → (c : Command) × (words ≡ Ok c) ×
+      (kind_in n ≡ Err (walk.NotRecognized n))
+  pub own : (c : Command) (name n : List ℕ) → words ≡ Ok c → name_read c.job ≡ Some name → reads_sources c.job ≡ false →
+      fault ≡ Some (NotRecognized n) → kind_in name ≡ Err (walk.NotRecognized n)
+  pub file : (c : Command) (name : List ℕ) (k : Kind) (n : List ℕ) → words ≡ Ok c → name_read c.job ≡ Some name →
+      kind_in name ≡ Ok k → (k ≡ kinds.Vrt → ⊥) → fault ≡ Some (NotRecognized n) → ⊥
 
 -- how far the texts of a run were put: all of them, or a first part before a fault of the outside
 abbrev pub Ends : Done → Result (Unit {0}) Fault → Option (List ℕ) → Option (List ℕ) → Type 0
 Ends r (Ok done) before after = (r.fault ≡ None) × Gets (printed r.steps) before after
-Ends r (Err fault) before after = ((r.fault ≡ Some fault) × Gets (printed r.steps) before after) ⊎ (IsOutside fault × GetsPart (printed r.steps) before after)
+Ends r (Err fault) before after = ((r.fault ≡ Some fault) × Gets (printed r.steps) before after) ⊎ (IsOutside fault ×
+    GetsPart (printed r.steps) before after)
 
 -- the answer, and all the steps
-pub record Answers (r : Done) (m : Files) (fault : Option Fault) (names : Option Files) (before after : Option (List ℕ)) : Type 0 where
+pub record Answers (r : Done) (m : Files) (fault : Option Fault) (names : Option Files) (before after : Option (List ℕ))
+    : Type 0 where
   pub fault_is : fault ≡ r.fault
   pub done : AreDone r.steps m names before after
 
--- the error stream gets the warnings among these steps and the line of the fault, or where it fails a first part of them
-pub record AreTold (steps : List Step) (fault : Option Fault) (faults faults_after : ℕ) (before after : Option (List ℕ)) : Type 0 where
+-- the error stream gets the warnings among these steps and the line of the fault, or where it fails a first part of
+-- them
+pub record AreTold (steps : List Step) (fault : Option Fault) (faults faults_after : ℕ) (before after : Option (List ℕ))
+    : Type 0 where
   pub whole : (Rose faults faults_after → ⊥) → Gets (warned steps ++ line_of fault) before after
   pub part : GetsPart (warned steps ++ line_of fault) before after
 
 -- Over every folder, the error stream gets warnings and the line of the fault, or where it fails a first part of them.
 -- Only words that ask for a mosaic of inputs may warn, and a run that is refused never does.
-pub record TellsFault (may : Bool) (fault : Option Fault) (faults faults_after : ℕ) (before after : Option (List ℕ)) : Type 0 where
+pub record TellsFault (may : Bool) (fault : Option Fault) (faults faults_after : ℕ) (before after : Option (List ℕ))
+    : Type 0 where
   pub warnings : List (List ℕ)
   pub whole : (Rose faults faults_after → ⊥) → Gets (warned (warns warnings) ++ line_of fault) before after
   pub part : GetsPart (warned (warns warnings) ++ line_of fault) before after
@@ -191,7 +203,8 @@ pub record TellsFault (may : Bool) (fault : Option Fault) (faults faults_after :
   pub refused : IsRefusal fault → warnings ≡ []
 
 -- the warnings that a job put on the error stream, which may have failed meanwhile
-pub record MayWarn (may : Bool) (fault : Option Fault) (failed : Bool) (faults faults_now : ℕ) (before after : Option (List ℕ)) : Type 0 where
+pub record MayWarn (may : Bool) (fault : Option Fault) (failed : Bool) (faults faults_now : ℕ)
+    (before after : Option (List ℕ)) : Type 0 where
   pub warnings : List (List ℕ)
   pub told : AreWarned (warns warnings) failed faults faults_now before after
   pub none : may ≡ false → warnings ≡ []

@@ -58,7 +58,8 @@ translate_judged m verify name options quiet = do
   Ok (Translates t.dataset t.plan options.out quiet)
 
 -- the inputs are walked, and the mosaic is made of their heads
-unfoldable pub build_judged : Files → Bool → List (List ℕ) → Option (List ℕ) → buildvrt.Options → Bool → Result Work Fault
+unfoldable pub build_judged : Files → Bool → List (List ℕ) → Option (List ℕ) → buildvrt.Options → Bool →
+    Result Work Fault
 build_judged m verify inputs list options quiet = do
   built ← built_in m verify inputs list options
   Ok (Builds built options.out quiet)

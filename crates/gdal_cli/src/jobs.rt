@@ -146,8 +146,16 @@ fn put_answers<F: Folder, I: Input, O: Sink, L: Ledger, S: Scene>(
     let shared = made.as_ref();
     let mut points: PointReader<F, L, S> = PointReader::new(alloc, blocks, bands, shared, blank)?;
     match point {
-        Some((x, y)) => put_point(question, &mut points, folder, out, x, y),
-        None => answer_input(question, &mut points, folder, input, out),
+        Some((x, y)) => {
+            let put = put_point(question, &mut points, folder, out, x, y);
+            drop(points);
+            put
+        }
+        None => {
+            let answered = answer_input(question, &mut points, folder, input, out);
+            drop(points);
+            answered
+        }
     }
 }
 

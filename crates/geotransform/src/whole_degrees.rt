@@ -1,7 +1,10 @@
 // Rasters whose outer pixels have their centres at whole degrees one apart.
-ghost use Rattle.std.specs.Prelude.{◌≡◌, ◌<◌, ◌≤◌, ◌^◌, ◌*◌, ℤ, pos, ◌+ℤ◌, ◌-ℤ◌, ◌*ℤ◌, ◌<ℤ◌, ◌≤ℤ◌, IfSome, unsigned_abs};
+ghost use Rattle.std.specs.Prelude.{◌≡◌, ◌<◌, ◌≤◌, ◌^◌, ◌*◌, ℤ, pos, ◌+ℤ◌, ◌-ℤ◌, ◌*ℤ◌, ◌<ℤ◌, ◌≤ℤ◌, IfSome};
+ghost use Rattle.std.specs.Prelude.{unsigned_abs};
 ghost use Rattle.geotransform.specs.Geo.{IsNear};
-ghost use Rattle.geotransform.specs.Degrees.{degrees, twice_centre, degree_near, is_at, in_range, are_at, degree_between, twice_west, twice_east, twice_south, twice_north, lon_of, lat_of};
+ghost use Rattle.geotransform.specs.Degrees.{degrees, twice_centre, degree_near, is_at, in_range, are_at};
+ghost use Rattle.geotransform.specs.Degrees.{degree_between, twice_west, twice_east, twice_south, twice_north, lon_of};
+ghost use Rattle.geotransform.specs.Degrees.{lat_of};
 
 use crate::geo::GeoTransform;
 use crate::rounding::{along, floor_of};

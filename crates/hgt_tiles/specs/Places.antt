@@ -1,5 +1,7 @@
 -- Where the pixels of a tile lie, and which rasters are tiles.
-use Rattle.std.specs.Prelude.{◌≡◌, ◌⊎◌, ◌<ℤ◌, ◌≤ℤ◌, ◌≤◌, ℕ, ℤ, pos, negsuc, neg_ℤ, ◌+ℤ◌, ◌-ℤ◌, ◌*ℤ◌, ◌-◌, ◌*◌, ◌/◌, Bool, ◌&&◌, ◌||◌, Option, Some, None, Result, Ok, Err, nat_le, int_lt, int_le, ◌==◌, if◌then◌else◌, unsigned_abs}
+use Rattle.std.specs.Prelude.{◌≡◌, ◌⊎◌, ◌<ℤ◌, ◌≤ℤ◌, ◌≤◌, ℕ, ℤ, pos, negsuc, neg_ℤ, ◌+ℤ◌, ◌-ℤ◌, ◌*ℤ◌, ◌-◌, ◌*◌, ◌/◌}
+use Rattle.std.specs.Prelude.{Bool, ◌&&◌, ◌||◌, Option, Some, None, Result, Ok, Err, nat_le, int_lt, int_le, ◌==◌}
+use Rattle.std.specs.Prelude.{if◌then◌else◌, unsigned_abs}
 use Rattle.lists_and_answers.specs.Options.{◌>>=◌}
 use Rattle.geotransform.specs.Print.{unit}
 use Rattle.geotransform.specs.Geo.{Transform, is_north_up}
@@ -46,7 +48,8 @@ abbrev pub or_unfit : Option Place → Result Place Unfit
 or_unfit None = Err (record {})
 or_unfit (Some p) = Ok p
 
--- a raster is the tile of a corner: as many columns and lines as a tile, from north to south, the centres of the outer pixels at whole degrees one apart
+-- a raster is the tile of a corner: as many columns and lines as a tile, from north to south, the centres of the outer
+-- pixels at whole degrees one apart
 pub record IsTile (size : Size) (g : Transform) (p : Place) : Type 0 where
   pub square : size.w ≡ size.h
   pub side : IsSide size.w

@@ -67,7 +67,8 @@ nodata_text (Some value) = text (codes "  NoData Value=" ∷ signed_decimal valu
 
 -- the lines of a band
 unfoldable pub band_text : ℕ → BandHead → List ℕ
-band_text number band = text (codes "Band " ∷ decimal number ∷ codes " Block=" ∷ decimal band.block.w ∷ codes "x" ∷ decimal band.block.h ∷ codes " Type=" ∷ name_of band.kind ∷ codes "\n" ∷ nodata_text band.nodata ∷ [])
+band_text number band = text (codes "Band " ∷ decimal number ∷ codes " Block=" ∷ decimal band.block.w ∷ codes "x"
+    ∷ decimal band.block.h ∷ codes " Type=" ∷ name_of band.kind ∷ codes "\n" ∷ nodata_text band.nodata ∷ [])
 
 -- the lines of these bands, numbered from here on
 abbrev pub bands_text : ℕ → List BandHead → List ℕ

@@ -21,7 +21,8 @@ entry_of number line = record { line = number; kind = if nat_lt 16777216 number 
 -- these lines, numbered from here on, up to the first that ends the reading
 abbrev pub entries_from : ℕ → List (List ℕ) → List Entry
 entries_from number [] = []
-entries_from number (line ∷ more) = entry_of number line ∷ (if ends (entry_of number line).kind then [] else entries_from (number + 1) more)
+entries_from number (line ∷ more) =
+    entry_of number line ∷ (if ends (entry_of number line).kind then [] else entries_from (number + 1) more)
 
 -- all lines of an input
 unfoldable pub entries : List ℕ → List Entry

@@ -1,4 +1,5 @@
--- The lines of an input. All of them are std's `lines`: they end with a line feed or with a carriage return and a line feed, and a last one without an end counts where it isn't empty.
+-- The lines of an input. All of them are std's `lines`: they end with a line feed or with a carriage return and a line
+-- feed, and a last one without an end counts where it isn't empty.
 use Rattle.std.specs.Prelude.{◌≡◌, ℕ, ◌+◌, ◌<◌, Bool, true, not, List, [], ◌∷◌, ◌++◌, length, drop, ◌==◌}
 use Rattle.std.specs.List.{slice_split, list_all}
 use Rattle.std.specs.Str.Lines.{strip_carriage_return}

@@ -11,10 +11,12 @@ point_of None y = Bad
 point_of (Some x) None = Bad
 point_of (Some x) (Some y) = Point x y
 
--- what a line of at most 4,096 bytes says: nothing where it has no token, and a point where it has two tokens, both of them decimal texts
+-- what a line of at most 4,096 bytes says: nothing where it has no token, and a point where it has two tokens, both of
+-- them decimal texts
 unfoldable pub kind_of : List ℕ → LineKind
 kind_of line =
     let first = token_at line in
     let second = token_at first.1 in
     let third = token_at second.1 in
-    if nat_lt 4096 (length line) then Bad else (if length first.0 == 0 then Blank else (if length third.0 == 0 then point_of (ticks_of first.0) (ticks_of second.0) else Bad))
+    if nat_lt 4096 (length line) then Bad else (if length first.0 == 0 then Blank
+    else (if length third.0 == 0 then point_of (ticks_of first.0) (ticks_of second.0) else Bad))

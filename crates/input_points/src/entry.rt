@@ -6,7 +6,7 @@ use crate::position::Position;
 
 /// What a line says. A line of blanks says nothing; a point is two numbers, the column or x first; a line past
 /// 4,096 bytes is bad, and so is one that holds anything else. Line 16,777,217 is one too many.
-#[derive(Clone, Copy, Debug, PartialEq, Eq)]
+#[derive(Clone, Copy, PartialEq, Eq)]
 pub enum LineKind {
     Blank,
     Point(Position, Position),
@@ -27,7 +27,7 @@ impl LineKind {
 }
 
 /// A line: its number, counted from 1, and what it says.
-#[derive(Clone, Copy, Debug, PartialEq, Eq)]
+#[derive(Clone, Copy, PartialEq, Eq)]
 pub struct Entry {
     pub line: u32,
     pub kind: LineKind,

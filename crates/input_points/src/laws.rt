@@ -15,7 +15,8 @@ pub type Entries = Items<Entry>;
 
 // Adds the lines that come in a piece.
 fn read_piece(reader: &mut PointLines, piece: &[u8], out: &mut Entries) -> Result<(), AllocError>
-    ensures { OnOk result ((more : List ℕ) → out.new ++ coming lines reader.new more ≡ out.old ++ coming lines reader.old (piece.now ++ more)) }
+    ensures { OnOk result ((more : List ℕ) → out.new ++ coming lines reader.new more ≡ out.old
+        ++ coming lines reader.old (piece.now ++ more)) }
 {
     let mut at = 0;
     while at < piece.len() {
@@ -34,7 +35,8 @@ fn read_pieces(
     pieces: &[&[u8]],
     out: &mut Entries,
 ) -> Result<(), AllocError>
-    ensures { OnOk result ((more : List ℕ) → out.new ++ coming lines reader.new more ≡ out.old ++ coming lines reader.old (joined pieces.now ++ more)) }
+    ensures { OnOk result ((more : List ℕ) → out.new ++ coming lines reader.new more ≡ out.old
+        ++ coming lines reader.old (joined pieces.now ++ more)) }
 {
     for piece in pieces {
         read_piece(reader, piece, out)?;

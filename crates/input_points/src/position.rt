@@ -6,7 +6,7 @@ use geotransform::{Ticks, read_decimal};
 use std::marker::Model;
 
 /// A number as a decimal text gives it: a multiple of 18 ticks, below 10^12 units in magnitude.
-#[derive(Clone, Copy, Debug, PartialEq, Eq)]
+#[derive(Clone, Copy, PartialEq, Eq)]
 pub struct Position {
     ticks: Ticks,
 }

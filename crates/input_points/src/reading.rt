@@ -1,5 +1,6 @@
 // The reader of an input in pieces.
-ghost use Rattle.std.specs.Prelude.{◌≡◌, ◌≤◌, ◌<◌, ◌+◌, ◌++◌, List, ℕ, [], true, false, length, drop, nat_le, IfOk, IfSome, None, if◌then◌else◌};
+ghost use Rattle.std.specs.Prelude.{◌≡◌, ◌≤◌, ◌<◌, ◌+◌, ◌++◌, List, ℕ, [], true, false, length, drop, nat_le, IfOk};
+ghost use Rattle.std.specs.Prelude.{IfSome, None, if◌then◌else◌};
 ghost use Rattle.std.specs.List.{list_all};
 ghost use Rattle.std.specs.Option.{option_to_list};
 ghost use Rattle.std.specs.Str.Lines.{lines, strip_carriage_return};
@@ -109,8 +110,11 @@ impl PointLines {
         requires going { self.old.over ≡ false }
         requires few { self.old.line ≤ 16777216 }
         requires some { 0 < length piece.now }
-        ensures all { (more : List ℕ) → coming lines self.old (piece.now ++ more) ≡ option_to_list result.0 ++ coming lines self.new (drop result.1 piece.now ++ more) }
-        ensures ended { IfSome result.0 (λ e. ends e.kind ≡ false) → (more : List ℕ) → coming ended_lines self.old (piece.now ++ more) ≡ option_to_list result.0 ++ coming ended_lines self.new (drop result.1 piece.now ++ more) }
+        ensures all { (more : List ℕ) → coming lines self.old (piece.now ++ more) ≡ option_to_list result.0
+            ++ coming lines self.new (drop result.1 piece.now ++ more) }
+        ensures ended { IfSome result.0 (λ e. ends e.kind ≡ false) → (more : List ℕ) →
+            coming ended_lines self.old (piece.now ++ more) ≡ option_to_list result.0 ++ coming ended_lines self.new
+            (drop result.1 piece.now ++ more) }
         ensures last { IfSome result.0 (λ e. self.new.over ≡ ends e.kind) }
         ensures behind { IfSome result.0 (λ e. self.new ≡ behind self.old.line e.kind) }
         ensures inside { list_all is_inside self.new.held ≡ true }
@@ -135,9 +139,12 @@ impl PointLines {
     /// Behind a line that is bad or one too many nothing comes any more.
     pub fn next(&mut self, piece: &[u8]) -> (Option<Entry>, usize)
         // what was still to come is the entry and what is still to come
-        ensures all { (more : List ℕ) → coming lines self.old (piece.now ++ more) ≡ option_to_list result.0 ++ coming lines self.new (drop result.1 piece.now ++ more) }
+        ensures all { (more : List ℕ) → coming lines self.old (piece.now ++ more) ≡ option_to_list result.0
+            ++ coming lines self.new (drop result.1 piece.now ++ more) }
         // the same of the lines that have an end, where the reading goes on
-        ensures ended { IfSome result.0 (λ e. ends e.kind ≡ false) → (more : List ℕ) → coming ended_lines self.old (piece.now ++ more) ≡ option_to_list result.0 ++ coming ended_lines self.new (drop result.1 piece.now ++ more) }
+        ensures ended { IfSome result.0 (λ e. ends e.kind ≡ false) → (more : List ℕ) →
+            coming ended_lines self.old (piece.now ++ more) ≡ option_to_list result.0 ++ coming ended_lines self.new
+            (drop result.1 piece.now ++ more) }
         // behind the last entry nothing comes
         ensures last { IfSome result.0 (λ e. ends e.kind ≡ true → (more : List ℕ) → coming lines self.new more ≡ []) }
         // the next line has the next number, up to one too many

@@ -1,10 +1,12 @@
 -- Where the samples of a raw file lie, and what their bytes mean.
-use Rattle.std.specs.Prelude.{◌≡◌, ◌<◌, ◌≤◌, ◌⊎◌, ℕ, ℤ, pos, ◌+◌, ◌-◌, ◌*◌, ◌/◌, ◌%◌, Bool, List, length, map, take, drop, if◌then◌else◌, unsigned_abs}
+use Rattle.std.specs.Prelude.{◌≡◌, ◌<◌, ◌≤◌, ◌⊎◌, ℕ, ℤ, pos, ◌+◌, ◌-◌, ◌*◌, ◌/◌, ◌%◌, Bool, List, length, map, take}
+use Rattle.std.specs.Prelude.{drop, if◌then◌else◌, unsigned_abs}
 use Rattle.std.specs.List.{range_with_len}
 use Rattle.std.specs.Int.{w8, w16, w32, w64, cast_signed, cast_unsigned}
 use Rattle.byteorder.specs.Endian.{big_number, little_number, big_bytes, little_bytes}
 use Rattle.geotransform.specs.declared.types.PixelType.{PixelType}
-use Rattle.geotransform.specs.declared.types.PixelType.TheVariants.{Byte, Int8, UInt16, Int16, UInt32, Int32, UInt64, Int64}
+use Rattle.geotransform.specs.declared.types.PixelType.TheVariants.{Byte, Int8, UInt16, Int16, UInt32, Int32, UInt64}
+use Rattle.geotransform.specs.declared.types.PixelType.TheVariants.{Int64}
 use Rattle.esri_hdr.specs.declared.header_parts.Layout.{Layout}
 use Rattle.esri_hdr.specs.declared.header_parts.Layout.TheVariants.{Bil, Bip, Bsq}
 use Rattle.esri_hdr.specs.Head.{Head, sample_len}
@@ -13,7 +15,8 @@ use Rattle.esri_hdr.specs.Head.{Head, sample_len}
 abbrev pub position_by : Layout → Head → ℕ → ℕ → ℕ → ℕ
 position_by Bil h band x y = h.skip + y * h.total_row + band * h.band_row + x * sample_len h.kind
 position_by Bip h band x y = h.skip + y * h.total_row + (x * h.bands + band) * sample_len h.kind
-position_by Bsq h band x y = h.skip + band * (h.size.h * h.size.w * sample_len h.kind + h.gap) + (y * h.size.w + x) * sample_len h.kind
+position_by Bsq h band x y =
+    h.skip + band * (h.size.h * h.size.w * sample_len h.kind + h.gap) + (y * h.size.w + x) * sample_len h.kind
 
 -- the place of the sample of a band, a column and a line
 abbrev pub position_of : Head → ℕ → ℕ → ℕ → ℕ

@@ -1,11 +1,13 @@
 // Samples and their bytes.
-ghost use Rattle.std.specs.Prelude.{◌≡◌, ◌<◌, ◌≤◌, ◌⊎◌, ℕ, ◌+◌, ◌-◌, ◌*◌, ◌/◌, ◌%◌, ◌^◌, List, length, take, drop, map, true, pos, get_or};
+ghost use Rattle.std.specs.Prelude.{◌≡◌, ◌<◌, ◌≤◌, ◌⊎◌, ℕ, ◌+◌, ◌-◌, ◌*◌, ◌/◌, ◌%◌, ◌^◌, List, length, take, drop, map};
+ghost use Rattle.std.specs.Prelude.{true, pos, get_or};
 ghost use Rattle.std.specs.List.{range_with_len, All};
 ghost use Rattle.std.specs.Int.{w16, w32, cast_signed, cast_unsigned};
 ghost use Rattle.geotransform.specs.Types.{is_in};
 ghost use Rattle.esri_hdr.specs.Head.{Head, sample_len};
 ghost use Rattle.lists_and_answers.specs.Places.{StandsAt};
-ghost use Rattle.interleaved_raw.specs.Raw.{position_of, stride_of, value_of, bits_of, number_in, sample_at, raw_at, row_of, Holds, run_of, bytes_at, sample_bytes, IsBetween};
+ghost use Rattle.interleaved_raw.specs.Raw.{position_of, stride_of, value_of, bits_of, number_in, sample_at, raw_at};
+ghost use Rattle.interleaved_raw.specs.Raw.{row_of, Holds, run_of, bytes_at, sample_bytes, IsBetween};
 
 use crate::sample_places::stride;
 use byteorder::{BigEndian, ByteOrder, LittleEndian};
@@ -58,7 +60,8 @@ pub fn decode_sample(head: &RawHead, bytes: &[u8]) -> Sample
     ensures value { result ≡ sample_at head.now bytes.now }
     ensures range { is_in head.now.kind result ≡ true }
     // bytes that stand in a file at a sample's place are that sample
-    ensures file { (file : List ℕ) (band x y : ℕ) → StandsAt file bytes.now (position_of head.now band x y) → result ≡ raw_at head.now file band x y }
+    ensures file { (file : List ℕ) (band x y : ℕ) → StandsAt file bytes.now (position_of head.now band x y) →
+        result ≡ raw_at head.now file band x y }
 {
     let bits = bits_in(head, &bytes[..sample_len(head.kind)]);
     value_of(head.kind, bits)
@@ -71,7 +74,8 @@ pub fn decode_run(head: &RawHead, bytes: &[u8], out: &mut [Sample])
     ensures samples { out.new ≡ map (run_of head.now bytes.now) (range_with_len 0 (length out.old)) }
     ensures range { All (λ n. is_in head.now.kind n ≡ true) out.new }
     // bytes that stand in a file at a sample's place are the samples of its band and line from there on
-    ensures file { (file : List ℕ) (band x y : ℕ) → StandsAt file bytes.now (position_of head.now band x y) → out.new ≡ row_of head.now file band x y (length out.old) }
+    ensures file { (file : List ℕ) (band x y : ℕ) → StandsAt file bytes.now (position_of head.now band x y) →
+        out.new ≡ row_of head.now file band x y (length out.old) }
 {
     let stride = stride(head) as usize;
     for i in 0..out.len() {
@@ -126,7 +130,8 @@ fn write_sample(head: &RawHead, n: Sample, bytes: &mut [u8])
 pub fn encode_run(head: &RawHead, samples: &[Sample], bytes: &mut [u8])
     requires holds { Holds head.now bytes.old (length samples.now) }
     requires range { All (λ n. is_in head.now.kind n ≡ true) samples.now }
-    ensures bytes { (i : ℕ) → i < length samples.now → bytes_at head.now bytes.new i ≡ sample_bytes head.now (get_or samples.now i (pos 0)) }
+    ensures bytes { (i : ℕ) → i < length samples.now → bytes_at head.now bytes.new i ≡ sample_bytes head.now
+        (get_or samples.now i (pos 0)) }
     ensures samples { map (run_of head.now bytes.new) (range_with_len 0 (length samples.now)) ≡ samples.now }
     ensures others { (j : ℕ) → IsBetween head.now (length samples.now) j → get_or bytes.new j 0 ≡ get_or bytes.old j 0 }
 {

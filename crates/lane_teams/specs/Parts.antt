@@ -14,14 +14,23 @@ lines_before lines n k = k * lines / n
 
 -- the lines of a rectangle that the lanes from a up to b, of n, read
 abbrev pub lines_of : Rect → ℕ → ℕ → ℕ → Rect
-lines_of rect n a b = record { x = rect.x; y = rect.y + lines_before rect.h n a; w = rect.w; h = lines_before rect.h n b - lines_before rect.h n a }
+lines_of rect n a b = record {
+  x = rect.x;
+  y = rect.y + lines_before rect.h n a;
+  w = rect.w;
+  h = lines_before rect.h n b - lines_before rect.h n
+      a;
+}
 
 -- the part of a window that these lanes read
 abbrev pub part_of : Window → ℕ → ℕ → ℕ → Window
 part_of window n a b = record { dataset = window.dataset; band = window.band; rect = lines_of window.rect n a b }
 
--- the samples are the pixels of a window, row by row, as far as the folder tells its files, and each is in the band's type
+-- the samples are the pixels of a window, row by row, as far as the folder tells its files, and each is in the band's
+-- type
 pub record AreOfWindow (told : Option Files) (cat : List Dataset) (window : Window) (samples : List ℤ) : Type 0 where
-  pub pixels : (m : Files) → told ≡ Some m → samples ≡ row_by_row (pixel_of m cat window.dataset window.band) window.rect
-  pub named : (m : Files) (d : Dataset) → told ≡ Some m → slice_get cat window.dataset ≡ Some d → samples ≡ row_by_row (pixel_of_name m d.head.name window.band) window.rect
+  pub pixels : (m : Files) → told ≡ Some m →
+      samples ≡ row_by_row (pixel_of m cat window.dataset window.band) window.rect
+  pub named : (m : Files) (d : Dataset) → told ≡ Some m → slice_get cat window.dataset ≡ Some d →
+      samples ≡ row_by_row (pixel_of_name m d.head.name window.band) window.rect
   pub typed : All (IsInBand cat window.dataset window.band) samples

@@ -1,5 +1,6 @@
 -- Lanes that read beside each other, each through a view of the folder.
-use Rattle.std.specs.Prelude.{◌≡◌, ℕ, ℤ, ◌+◌, ◌*◌, ◌<◌, ◌≤◌, List, [], ◌∷◌, length, Option, Some, Result, Ok, Err, IfErr}
+use Rattle.std.specs.Prelude.{◌≡◌, ℕ, ℤ, ◌+◌, ◌*◌, ◌<◌, ◌≤◌, List, [], ◌∷◌, length, Option, Some, Result, Ok, Err}
+use Rattle.std.specs.Prelude.{IfErr}
 use Rattle.std.specs.List.{All}
 use Rattle.outside.specs.Outside.{Files}
 use Rattle.outside.specs.declared.folder.Folder.{Ghosts}
@@ -15,8 +16,8 @@ use Rattle.lane_teams.specs.declared.cutting.Job.{Job}
 use Rattle.lane_teams.specs.declared.turns.Turn.{Turn}
 use Rattle.lane_teams.specs.Parts.{part_of, AreOfWindow}
 
--- only reads were made, some of them through views: the files are as before, no write was counted, and the count of faults
--- isn't lower
+-- only reads were made, some of them through views: the files are as before, no write was counted, and the count of
+-- faults isn't lower
 pub record OnlyReadByViews {F File Draft : Type 0} (calls : Ghosts F File Draft) (before after : F) : Type 0 where
   pub names : calls.names after ≡ calls.names before
   pub writes : calls.write_calls after ≤ calls.write_calls before
@@ -34,7 +35,8 @@ first_refusal (answer ∷ rest) = first_of answer (first_refusal rest)
 
 -- What a view of a folder is, and what its lane has answered: the view has the folder's files, and wrote nothing. A
 -- refusal has its cause in the view's count of faults.
-pub record IsTurn (told : Option Files) (cat : List Dataset) (names : Option Files) (faults writes : ℕ) (answer : Result (Unit {0}) LoadFault) : Type 0 where
+pub record IsTurn (told : Option Files) (cat : List Dataset) (names : Option Files) (faults writes : ℕ)
+    (answer : Result (Unit {0}) LoadFault) : Type 0 where
   pub same : names ≡ told
   pub unwritten : writes ≡ 0
   pub failed : answer ≡ Err FolderFault → 1 ≤ faults
@@ -50,7 +52,8 @@ module _ {F File Draft : Type 0} (calls : Ghosts F File Draft) (told : Option Fi
   IsTurnOf t = IsTurn told cat (calls.names t.view) (calls.faults t.view) (calls.write_calls t.view) t.answer
 
   -- lanes from one on may read their lines into `out`, each with a view of its own
-  pub record AreReady (job : Job) (first : ℕ) (lanes : List (LaneView File)) (turns : List (Turn F File Draft)) (out : List ℤ) : Type 0 where
+  pub record AreReady (job : Job) (first : ℕ) (lanes : List (LaneView File)) (turns : List (Turn F File Draft))
+      (out : List ℤ) : Type 0 where
     pub some : 0 < length lanes
     pub pairs : length turns ≡ length lanes
     pub few : first + length lanes ≤ job.count
@@ -61,7 +64,8 @@ module _ {F File Draft : Type 0} (calls : Ghosts F File Draft) (told : Option Fi
     pub turns_are : All IsTurnOf turns
 
   -- n lanes from one on have read, and are right; where none refused, `out` has the samples of their lines
-  pub record HaveRead (job : Job) (first n : ℕ) (lanes : List (LaneView File)) (turns : List (Turn F File Draft)) (out : List ℤ) : Type 0 where
+  pub record HaveRead (job : Job) (first n : ℕ) (lanes : List (LaneView File)) (turns : List (Turn F File Draft))
+      (out : List ℤ) : Type 0 where
     pub lanes_count : length lanes ≡ n
     pub turns_count : length turns ≡ n
     pub right : All (IsRightLane calls told cat) lanes

@@ -47,11 +47,13 @@ fn read_half<R: Threads + Sync, F: Folder, S: Scene>(
     half: &mut Half<F>,
 )
     requires scene { S.cat ≡ supply.now.cat.now }
-    requires ready { AreReady F.Folder S.told supply.now.cat.now job.now first half.old.lanes.now half.old.turns.now half.old.out.now }
+    requires ready { AreReady F.Folder S.told supply.now.cat.now job.now first half.old.lanes.now half.old.turns.now
+        half.old.out.now }
     ensures lanes { half.new.lanes.ghost_name ≡ half.old.lanes.ghost_name }
     ensures turns { half.new.turns.ghost_name ≡ half.old.turns.ghost_name }
     ensures out { half.new.out.ghost_name ≡ half.old.out.ghost_name }
-    ensures read { HaveRead F.Folder S.told supply.now.cat.now job.now first (length half.old.lanes.now) half.new.lanes.now half.new.turns.now half.new.out.now }
+    ensures read { HaveRead F.Folder S.told supply.now.cat.now job.now first (length half.old.lanes.now)
+        half.new.lanes.now half.new.turns.now half.new.out.now }
 {
     let lanes = &mut *half.lanes;
     let turns = &mut *half.turns;
@@ -70,23 +72,33 @@ fn read_both<'a, R: Threads + Sync, F: Folder, S: Scene>(
     back: &mut Half<'a, F>,
 )
     requires scene { S.cat ≡ supply.now.cat.now }
-    requires front { AreReady F.Folder S.told supply.now.cat.now job.now halves.first front.old.lanes.now front.old.turns.now front.old.out.now }
+    requires front { AreReady F.Folder S.told supply.now.cat.now job.now halves.first front.old.lanes.now
+        front.old.turns.now front.old.out.now }
     requires front_few { length front.old.lanes.now ≤ halves.most }
-    requires back { AreReady F.Folder S.told supply.now.cat.now job.now halves.middle back.old.lanes.now back.old.turns.now back.old.out.now }
+    requires back { AreReady F.Folder S.told supply.now.cat.now job.now halves.middle back.old.lanes.now
+        back.old.turns.now back.old.out.now }
     requires back_few { length back.old.lanes.now ≤ halves.most }
     ensures front_lanes { front.new.lanes.ghost_name ≡ front.old.lanes.ghost_name }
     ensures front_turns { front.new.turns.ghost_name ≡ front.old.turns.ghost_name }
     ensures front_out { front.new.out.ghost_name ≡ front.old.out.ghost_name }
-    ensures front_read { HaveRead F.Folder S.told supply.now.cat.now job.now halves.first (length front.old.lanes.now) front.new.lanes.now front.new.turns.now front.new.out.now }
+    ensures front_read { HaveRead F.Folder S.told supply.now.cat.now job.now halves.first (length front.old.lanes.now)
+        front.new.lanes.now front.new.turns.now front.new.out.now }
     ensures back_lanes { back.new.lanes.ghost_name ≡ back.old.lanes.ghost_name }
     ensures back_turns { back.new.turns.ghost_name ≡ back.old.turns.ghost_name }
     ensures back_out { back.new.out.ghost_name ≡ back.old.out.ghost_name }
-    ensures back_read { HaveRead F.Folder S.told supply.now.cat.now job.now halves.middle (length back.old.lanes.now) back.new.lanes.now back.new.turns.now back.new.out.now }
+    ensures back_read { HaveRead F.Folder S.told supply.now.cat.now job.now halves.middle (length back.old.lanes.now)
+        back.new.lanes.now back.new.turns.now back.new.out.now }
 {
     let most = halves.most;
     let read = |at: usize, half: &mut Half<F>|
-        requires { IsSync R.row × IsSend S.row × IsSync S.row × (S.cat ≡ supply.now.cat.now) × IsSend F.row × IsSend F.File.row × IsSend F.Draft.row × (length half.old.lanes.now ≤ most) × AreReady F.Folder S.told supply.now.cat.now job.now at half.old.lanes.now half.old.turns.now half.old.out.now }
-        ensures { (half.new.lanes.ghost_name ≡ half.old.lanes.ghost_name) × (half.new.turns.ghost_name ≡ half.old.turns.ghost_name) × (half.new.out.ghost_name ≡ half.old.out.ghost_name) × HaveRead F.Folder S.told supply.entry.now.cat.now job.entry.now at (length half.old.lanes.now) half.new.lanes.now half.new.turns.now half.new.out.now }
+        requires { IsSync R.row × IsSend S.row × IsSync S.row × (S.cat ≡ supply.now.cat.now) × IsSend F.row ×
+            IsSend F.File.row × IsSend F.Draft.row × (length half.old.lanes.now ≤ most) ×
+            AreReady F.Folder S.told supply.now.cat.now job.now at half.old.lanes.now half.old.turns.now
+            half.old.out.now }
+        ensures { (half.new.lanes.ghost_name ≡ half.old.lanes.ghost_name) ×
+            (half.new.turns.ghost_name ≡ half.old.turns.ghost_name) ×
+            (half.new.out.ghost_name ≡ half.old.out.ghost_name) × HaveRead F.Folder S.told supply.entry.now.cat.now
+            job.entry.now at (length half.old.lanes.now) half.new.lanes.now half.new.turns.now half.new.out.now }
     {
         // The clauses name it.
         let _most = most;
@@ -107,12 +119,16 @@ fn read_pair<'x, R: Threads + Sync, F: Folder, S: Scene>(
     out: (&'x mut [Sample], &'x mut [Sample]),
 )
     requires scene { S.cat ≡ supply.now.cat.now }
-    requires front { AreReady F.Folder S.told supply.now.cat.now job.now halves.first lanes.0.now turns.0.now out.0.now }
+    requires front { AreReady F.Folder S.told supply.now.cat.now job.now halves.first lanes.0.now turns.0.now
+        out.0.now }
     requires front_few { length lanes.0.now ≤ halves.most }
-    requires back { AreReady F.Folder S.told supply.now.cat.now job.now halves.middle lanes.1.now turns.1.now out.1.now }
+    requires back { AreReady F.Folder S.told supply.now.cat.now job.now halves.middle lanes.1.now turns.1.now
+        out.1.now }
     requires back_few { length lanes.1.now ≤ halves.most }
-    ensures front { HaveRead F.Folder S.told supply.now.cat.now job.now halves.first (length lanes.entry.0.now) lanes.exit.0.now turns.exit.0.now out.exit.0.now }
-    ensures back { HaveRead F.Folder S.told supply.now.cat.now job.now halves.middle (length lanes.entry.1.now) lanes.exit.1.0.now turns.exit.1.0.now out.exit.1.0.now }
+    ensures front { HaveRead F.Folder S.told supply.now.cat.now job.now halves.first (length lanes.entry.0.now)
+        lanes.exit.0.now turns.exit.0.now out.exit.0.now }
+    ensures back { HaveRead F.Folder S.told supply.now.cat.now job.now halves.middle (length lanes.entry.1.now)
+        lanes.exit.1.0.now turns.exit.1.0.now out.exit.1.0.now }
 {
     let (first_lanes, other_lanes) = lanes;
     let (first_turns, other_turns) = turns;
@@ -143,7 +159,8 @@ fn read_all<'x, R: Threads + Sync, F: Folder, S: Scene>(
 )
     requires scene { S.cat ≡ supply.now.cat.now }
     requires ready { AreReady F.Folder S.told supply.now.cat.now job.now first lanes.old turns.old out.old }
-    ensures read { HaveRead F.Folder S.told supply.now.cat.now job.now first (length lanes.old) lanes.new turns.new out.new }
+    ensures read { HaveRead F.Folder S.told supply.now.cat.now job.now first (length lanes.old) lanes.new turns.new
+        out.new }
 {
     let count = lanes.len();
     if count == 1 {
@@ -179,7 +196,8 @@ fn read_views<R: Threads + Sync, F: Folder, S: Scene>(
     requires told { S.told ≡ F.names folder.now }
     requires scene { S.cat ≡ supply.now.cat.now }
     requires ready { AreReady F.Folder (F.names folder.now) supply.now.cat.now job.now 0 lanes.old turns.old out.old }
-    ensures read { HaveRead F.Folder (F.names folder.now) supply.now.cat.now job.now 0 (length lanes.old) lanes.new turns.new out.new }
+    ensures read { HaveRead F.Folder (F.names folder.now) supply.now.cat.now job.now 0 (length lanes.old) lanes.new
+        turns.new out.new }
 {
     let _ = folder;
     read_all::<R, F, S>(rt, supply, job, 0, lanes, turns, out);

@@ -95,16 +95,21 @@ impl<F: Folder, L: Ledger> Team<F, L> {
         requires ready { All (IsReady F.Folder folder.old cat.now) self.old.lanes.items }
         requires window { IsWindow cat.now window }
         requires size { length out.old ≡ window.rect.w * window.rect.h }
-        ensures pixels { WhereTold F.Folder folder.old (λ m. OnOk result (out.new ≡ row_by_row (pixel_of m cat.now window.dataset window.band) window.rect)) }
+        ensures pixels { WhereTold F.Folder folder.old
+            (λ m. OnOk result (out.new ≡ row_by_row (pixel_of m cat.now window.dataset window.band) window.rect)) }
         // the pixels that the dataset's name has by itself
-        ensures named { WhereTold F.Folder folder.old (λ m. (d : Dataset) → slice_get cat.now window.dataset ≡ Some d → OnOk result (out.new ≡ row_by_row (pixel_of_name m d.head.name window.band) window.rect)) }
+        ensures named { WhereTold F.Folder folder.old (λ m. (d : Dataset) → slice_get cat.now window.dataset ≡ Some d →
+            OnOk result (out.new ≡ row_by_row (pixel_of_name m d.head.name window.band) window.rect)) }
         // each sample is in the band's type, whatever the folder tells
         ensures typed { OnOk result (All (IsInBand cat.now window.dataset window.band) out.new) }
         ensures ready { All (IsReady F.Folder folder.new cat.now) self.new.lanes.items }
         ensures count { length self.new.lanes.items ≡ length self.old.lanes.items }
         // of one lane with room for all blocks, each load makes one more block held, but for the last of a refused call
-        ensures loads { (old : _) (new : _) → self.old.lanes.items ≡ old ∷ [] → self.new.lanes.items ≡ new ∷ [] → all_blocks cat.now ≤ room_of old → self.new.loads ≤ self.old.loads + (held_in new - held_in old) + slack_of result }
-        ensures reads { length self.old.lanes.items ≡ 1 → F.read_calls folder.new ≤ F.read_calls folder.old + most_calls cat.now * (self.new.loads - self.old.loads) }
+        ensures loads { (old : _) (new : _) → self.old.lanes.items ≡ old ∷ [] → self.new.lanes.items ≡ new ∷ [] →
+            all_blocks cat.now ≤ room_of old → self.new.loads ≤ self.old.loads + (held_in new - held_in old) + slack_of
+            result }
+        ensures reads { length self.old.lanes.items ≡ 1 → F.read_calls folder.new ≤ F.read_calls folder.old + most_calls
+            cat.now * (self.new.loads - self.old.loads) }
         ensures counted { self.old.loads ≤ self.new.loads }
         ensures only_read { OnlyReadByViews F.Folder folder.old folder.new }
         ensures cause { HasCause LoadFault.FolderFault (F.faults folder.old) (F.faults folder.new) result }
@@ -130,16 +135,21 @@ impl<F: Folder, L: Ledger> Team<F, L> {
         requires ready { All (IsReady F.Folder folder.old cat.now) self.old.lanes.items }
         requires window { IsWindow cat.now window }
         requires size { length out.old ≡ window.rect.w * window.rect.h }
-        ensures pixels { WhereTold F.Folder folder.old (λ m. OnOk result (out.new ≡ row_by_row (pixel_of m cat.now window.dataset window.band) window.rect)) }
+        ensures pixels { WhereTold F.Folder folder.old
+            (λ m. OnOk result (out.new ≡ row_by_row (pixel_of m cat.now window.dataset window.band) window.rect)) }
         // the pixels that the dataset's name has by itself
-        ensures named { WhereTold F.Folder folder.old (λ m. (d : Dataset) → slice_get cat.now window.dataset ≡ Some d → OnOk result (out.new ≡ row_by_row (pixel_of_name m d.head.name window.band) window.rect)) }
+        ensures named { WhereTold F.Folder folder.old (λ m. (d : Dataset) → slice_get cat.now window.dataset ≡ Some d →
+            OnOk result (out.new ≡ row_by_row (pixel_of_name m d.head.name window.band) window.rect)) }
         // each sample is in the band's type, whatever the folder tells
         ensures typed { OnOk result (All (IsInBand cat.now window.dataset window.band) out.new) }
         ensures ready { All (IsReady F.Folder folder.new cat.now) self.new.lanes.items }
         ensures count { length self.new.lanes.items ≡ length self.old.lanes.items }
         // of one lane with room for all blocks, each load makes one more block held, but for the last of a refused call
-        ensures loads { (old : _) (new : _) → self.old.lanes.items ≡ old ∷ [] → self.new.lanes.items ≡ new ∷ [] → all_blocks cat.now ≤ room_of old → self.new.loads ≤ self.old.loads + (held_in new - held_in old) + slack_of result }
-        ensures reads { length self.old.lanes.items ≡ 1 → F.read_calls folder.new ≤ F.read_calls folder.old + most_calls cat.now * (self.new.loads - self.old.loads) }
+        ensures loads { (old : _) (new : _) → self.old.lanes.items ≡ old ∷ [] → self.new.lanes.items ≡ new ∷ [] →
+            all_blocks cat.now ≤ room_of old → self.new.loads ≤ self.old.loads + (held_in new - held_in old) + slack_of
+            result }
+        ensures reads { length self.old.lanes.items ≡ 1 → F.read_calls folder.new ≤ F.read_calls folder.old + most_calls
+            cat.now * (self.new.loads - self.old.loads) }
         ensures counted { self.old.loads ≤ self.new.loads }
         ensures only_read { OnlyReadByViews F.Folder folder.old folder.new }
         ensures cause { HasCause LoadFault.FolderFault (F.faults folder.old) (F.faults folder.new) result }
@@ -174,16 +184,23 @@ impl<F: Folder, L: Ledger> Team<F, L> {
         requires ready { All (IsReady F.Folder folder.old supply.now.cat.now) self.old.lanes.items }
         requires window { IsWindow supply.now.cat.now window }
         requires size { length out.old ≡ window.rect.w * window.rect.h }
-        ensures pixels { WhereTold F.Folder folder.old (λ m. OnOk result (out.new ≡ row_by_row (pixel_of m supply.now.cat.now window.dataset window.band) window.rect)) }
+        ensures pixels { WhereTold F.Folder folder.old
+            (λ m. OnOk result (out.new ≡ row_by_row (pixel_of m supply.now.cat.now window.dataset window.band)
+            window.rect)) }
         // the pixels that the dataset's name has by itself
-        ensures named { WhereTold F.Folder folder.old (λ m. (d : Dataset) → slice_get supply.now.cat.now window.dataset ≡ Some d → OnOk result (out.new ≡ row_by_row (pixel_of_name m d.head.name window.band) window.rect)) }
+        ensures named { WhereTold F.Folder folder.old (λ m. (d : Dataset) →
+            slice_get supply.now.cat.now window.dataset ≡ Some d →
+            OnOk result (out.new ≡ row_by_row (pixel_of_name m d.head.name window.band) window.rect)) }
         // each sample is in the band's type, whatever the folder tells
         ensures typed { OnOk result (All (IsInBand supply.now.cat.now window.dataset window.band) out.new) }
         ensures ready { All (IsReady F.Folder folder.new supply.now.cat.now) self.new.lanes.items }
         ensures count { length self.new.lanes.items ≡ length self.old.lanes.items }
         // of one lane with room for all blocks, each load makes one more block held, but for the last of a refused call
-        ensures loads { (old : _) (new : _) → self.old.lanes.items ≡ old ∷ [] → self.new.lanes.items ≡ new ∷ [] → all_blocks supply.now.cat.now ≤ room_of old → self.new.loads ≤ self.old.loads + (held_in new - held_in old) + slack_of result }
-        ensures reads { length self.old.lanes.items ≡ 1 → F.read_calls folder.new ≤ F.read_calls folder.old + most_calls supply.now.cat.now * (self.new.loads - self.old.loads) }
+        ensures loads { (old : _) (new : _) → self.old.lanes.items ≡ old ∷ [] → self.new.lanes.items ≡ new ∷ [] →
+            all_blocks supply.now.cat.now ≤ room_of old → self.new.loads ≤ self.old.loads + (held_in new - held_in old)
+            + slack_of result }
+        ensures reads { length self.old.lanes.items ≡ 1 → F.read_calls folder.new ≤ F.read_calls folder.old + most_calls
+            supply.now.cat.now * (self.new.loads - self.old.loads) }
         ensures counted { self.old.loads ≤ self.new.loads }
         ensures only_read { OnlyReadByViews F.Folder folder.old folder.new }
         ensures cause { HasCause LoadFault.FolderFault (F.faults folder.old) (F.faults folder.new) result }

@@ -31,4 +31,8 @@ is_in_token byte = not (is_blank byte)
 
 -- the first token of a line, which is empty where there is none, and what stands behind it
 abbrev pub token_at : List ℕ → List ℕ × List ℕ
-token_at line = (take_while is_in_token (without_blanks line), drop (prefix_len is_in_token (without_blanks line)) (without_blanks line))
+token_at line = (
+  take_while is_in_token (without_blanks line),
+  drop (prefix_len is_in_token (without_blanks line))
+      (without_blanks line),
+)

@@ -1,5 +1,6 @@
 -- The names of the files that a mosaic's pixel is covered by.
-use Rattle.std.specs.Prelude.{ℕ, ◌-◌, List, [], ◌∷◌, ◌++◌, bytes_eq, fold, slice_get, unwrap_or, Option, Some, None, option_map, option_and_then, if◌then◌else◌}
+use Rattle.std.specs.Prelude.{ℕ, ◌-◌, List, [], ◌∷◌, ◌++◌, bytes_eq, fold, slice_get, unwrap_or, Option, Some, None}
+use Rattle.std.specs.Prelude.{option_map, option_and_then, if◌then◌else◌}
 use Rattle.std.specs.List.{list_any}
 use Rattle.lists_and_answers.specs.Options.{◌>>=◌}
 use Rattle.geotransform.specs.declared.types.Size.{Size}
@@ -23,13 +24,16 @@ covering_name s mosaic name size x y = option_map (λ place. name) (cover_of s m
 
 -- the sources of a band of a dataset, counted from 0; a file has none
 abbrev pub sources_at : Dataset → ℕ → List SourceValue
-sources_at d band = unwrap_or (option_map (λ (b : BandValue). b.sources) (document_of d.content >>= λ doc. slice_get doc.bands band)) []
+sources_at d band = unwrap_or (option_map (λ (b : BandValue). b.sources)
+    (document_of d.content >>= λ doc. slice_get doc.bands band)) []
 
 -- the name of the dataset of a catalog that a source of a mosaic names, where the source covers the pixel
 abbrev pub covered_by : List Dataset → Dataset → ℕ → ℕ → SourceValue → Option (List ℕ)
-covered_by cat d x y s = option_and_then (slice_get cat) (member_of cat d.head.name s) >>= λ t. covering_name s d.head.size t.head.name t.head.size x y
+covered_by cat d x y s = option_and_then (slice_get cat) (member_of cat d.head.name s) >>= λ t.
+    covering_name s d.head.size t.head.name t.head.size x y
 
--- these names, and behind them those of the datasets that cover a pixel of a band by its sources, each that isn't among them yet
+-- these names, and behind them those of the datasets that cover a pixel of a band by its sources, each that isn't among
+-- them yet
 unfoldable pub with_covering : List Dataset → Dataset → ℕ → ℕ → ℕ → List (List ℕ) → List (List ℕ)
 with_covering cat d band x y names = fold (λ ns s. with_found ns (covered_by cat d x y s)) names (sources_at d band)
 

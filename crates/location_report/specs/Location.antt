@@ -14,7 +14,8 @@ values_text values = flat_map value_text values
 
 -- the lines of a band, which has this number
 unfoldable pub band_text : ℕ → ℤ → List ℕ
-band_text number value = text (codes "  Band " ∷ decimal number ∷ codes ":\n    Value: " ∷ signed_decimal value ∷ codes "\n" ∷ [])
+band_text number value =
+    text (codes "  Band " ∷ decimal number ∷ codes ":\n    Value: " ∷ signed_decimal value ∷ codes "\n" ∷ [])
 
 -- the lines of the bands with these numbers and these values
 abbrev pub bands_text : List ℕ → List ℤ → List ℕ
@@ -28,11 +29,13 @@ files_text names = flat_map (λ name. text (name ∷ codes "\n" ∷ [])) names
 
 -- the column and the line
 unfoldable pub place_text : ℤ → ℤ → List ℕ
-place_text x y = text (codes "Report:\n  Location: (" ∷ signed_decimal x ∷ codes "P," ∷ signed_decimal y ∷ codes "L)\n" ∷ [])
+place_text x y =
+    text (codes "Report:\n  Location: (" ∷ signed_decimal x ∷ codes "P," ∷ signed_decimal y ∷ codes "L)\n" ∷ [])
 
 -- the report on a place, which has no values off the raster
 unfoldable pub report_text : ℤ → ℤ → Option (List ℤ) → List ℕ → List ℕ
-report_text x y None bands = text (place_text x y ∷ codes "  Location is off this file! No further details to report.\n" ∷ [])
+report_text x y None bands =
+    text (place_text x y ∷ codes "  Location is off this file! No further details to report.\n" ∷ [])
 report_text x y (Some values) bands = text (place_text x y ∷ bands_text bands values ∷ [])
 
 -- the values alone, and an empty line off the raster

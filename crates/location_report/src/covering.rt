@@ -83,8 +83,10 @@ fn push_member(
     out: &mut Names,
 ) -> Result<(), AllocError>
     requires known { at.id < length cat.now }
-    requires source { (d : Dataset) → slice_get cat.now at.id ≡ Some d → source_at d at.band at.number ≡ Some source.now }
-    ensures ok { (d : Dataset) → slice_get cat.now at.id ≡ Some d → OnOk result (out.new ≡ with_found out.old (covered_by cat.now d x y source.now)) }
+    requires source { (d : Dataset) → slice_get cat.now at.id ≡ Some d →
+        source_at d at.band at.number ≡ Some source.now }
+    ensures ok { (d : Dataset) → slice_get cat.now at.id ≡ Some d →
+        OnOk result (out.new ≡ with_found out.old (covered_by cat.now d x y source.now)) }
     ensures err { OnErr result (out.new ≡ out.old) }
     ensures kept { take (length out.old) out.new ≡ out.old }
 {
@@ -109,7 +111,8 @@ pub fn files_at(
 ) -> Result<(), AllocError>
     requires known { id < length cat.now }
     requires band { (d : Dataset) → slice_get cat.now id ≡ Some d → band < band_count d.head }
-    ensures ok { (d : Dataset) → slice_get cat.now id ≡ Some d → OnOk result (out.new ≡ with_covering cat.now d band x y out.old) }
+    ensures ok { (d : Dataset) → slice_get cat.now id ≡ Some d →
+        OnOk result (out.new ≡ with_covering cat.now d band x y out.old) }
     ensures kept { take (length out.old) out.new ≡ out.old }
 {
     let Some(document) = cat.document(id) else {

@@ -16,7 +16,7 @@ use outside::{Failed, Names, Sink};
 use std::alloc::{AllocError, Global};
 
 /// What is told of a place: a report, the values alone, or the names of the files alone.
-#[derive(Clone, Copy, Debug, PartialEq, Eq)]
+#[derive(Clone, Copy, PartialEq, Eq)]
 pub enum Form {
     Report,
     ValuesOnly,
@@ -24,7 +24,7 @@ pub enum Form {
 }
 
 /// What is asked: a form, and a place by its column and its line, which may lie off the raster.
-#[derive(Clone, Copy, Debug, PartialEq, Eq)]
+#[derive(Clone, Copy, PartialEq, Eq)]
 pub struct Question {
     pub form: Form,
     pub x: i128,
@@ -83,7 +83,8 @@ fn push_report(
     out: &mut Vec<u8>,
 ) -> Result<(), AllocError>
     requires { IfSome values (λ v. length v.now ≡ length bands.now) }
-    ensures ok { OnOk result (out.new.items ≡ out.old.items ++ report_text x y (option_map (λ v. v.now) values.entry) bands.now) }
+    ensures ok { OnOk result (out.new.items ≡ out.old.items ++ report_text x y (option_map (λ v. v.now) values.entry)
+        bands.now) }
     ensures err { OnErr result (KeepsFront out.old.items out.new.items) }
 {
     match values {
@@ -119,7 +120,8 @@ pub fn push_location(
     out: &mut Vec<u8>,
 ) -> Result<(), AllocError>
     requires { IfSome values (λ v. length v.now ≡ length bands.now) }
-    ensures ok { OnOk result (out.new.items ≡ out.old.items ++ location_text form x y (option_map (λ v. v.now) values.entry) bands.now files.now) }
+    ensures ok { OnOk result (out.new.items ≡ out.old.items ++ location_text form x y
+        (option_map (λ v. v.now) values.entry) bands.now files.now) }
     ensures err { OnErr result (KeepsFront out.old.items out.new.items) }
 {
     match form {
@@ -143,8 +145,10 @@ pub fn write_location<S: Sink>(
     sink: &mut S,
 ) -> Result<(), ReportFault>
     requires { IfSome values (λ v. length v.now ≡ length bands.now) }
-    ensures ok { OnOk result (Gets (location_text question.form question.x question.y (option_map (λ v. v.now) values.entry) bands.now files.now) (S.got sink.old) (S.got sink.new)) }
-    ensures err { OnErr result (GetsPart (location_text question.form question.x question.y (option_map (λ v. v.now) values.entry) bands.now files.now) (S.got sink.old) (S.got sink.new)) }
+    ensures ok { OnOk result (Gets (location_text question.form question.x question.y
+        (option_map (λ v. v.now) values.entry) bands.now files.now) (S.got sink.old) (S.got sink.new)) }
+    ensures err { OnErr result (GetsPart (location_text question.form question.x question.y
+        (option_map (λ v. v.now) values.entry) bands.now files.now) (S.got sink.old) (S.got sink.new)) }
     ensures memory { result ≡ Err ReportFault.Memory → sink.new ≡ sink.old }
     ensures cause { HasCause ReportFault.OutFault (S.faults sink.old) (S.faults sink.new) result }
 {

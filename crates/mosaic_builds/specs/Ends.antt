@@ -4,11 +4,14 @@ use Rattle.catalog.specs.Heads.{kind_in, IsOwnFault}
 use Rattle.catalog.specs.declared.faults.WalkFault.TheVariants as walk
 use Rattle.buildvrt.specs.declared.faults.BuildFault.TheVariants as build
 use Rattle.error_lines.specs.declared.faults.Fault.{Fault}
-use Rattle.error_lines.specs.declared.faults.Fault.TheVariants.{Usage, Absent, NotRecognized, Malformed, Short, Cycle, TooDeep, Limit, SourceBand, Plan, Build, SameName, BadPoint, Changed, FolderFault, InputFault, OutFault, Memory}
+use Rattle.error_lines.specs.declared.faults.Fault.TheVariants.{Usage, Absent, NotRecognized, Malformed, Short, Cycle}
+use Rattle.error_lines.specs.declared.faults.Fault.TheVariants.{TooDeep, Limit, SourceBand, Plan, Build, SameName}
+use Rattle.error_lines.specs.declared.faults.Fault.TheVariants.{BadPoint, Changed, FolderFault, InputFault, OutFault}
+use Rattle.error_lines.specs.declared.faults.Fault.TheVariants.{Memory}
 
--- The faults that the making of a mosaic of this name may end with, before it is published. A name that isn't recognized
--- tells no kind, want of memory is never told as what is wrong with a file or with the inputs, and SameName has the
--- mosaic's name.
+-- The faults that the making of a mosaic of this name may end with, before it is published. A name that isn't
+-- recognized tells no kind, want of memory is never told as what is wrong with a file or with the inputs, and SameName
+-- has the mosaic's name.
 abbrev pub IsOfMaking : List ℕ → Fault → Type 0
 IsOfMaking out (Usage n) = ⊥
 IsOfMaking out (Absent name) = Unit {0}

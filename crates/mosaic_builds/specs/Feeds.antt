@@ -4,4 +4,5 @@ use Rattle.std.specs.Prelude.{ℕ, List, [], ◌∷◌, Bool, true, ◌==◌, �
 -- The bytes without each line feed at the beginning of a line. Where `begins` holds, a line begins before the first.
 abbrev pub without_empty : Bool → List ℕ → List ℕ
 without_empty begins [] = []
-without_empty begins (byte ∷ bytes) = if byte == 10 && begins then without_empty true bytes else byte ∷ without_empty (byte == 10) bytes
+without_empty begins (byte ∷ bytes) = if byte == 10 && begins then without_empty true bytes
+    else byte ∷ without_empty (byte == 10) bytes

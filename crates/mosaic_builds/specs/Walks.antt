@@ -1,5 +1,6 @@
 -- The walks from the inputs, in order, with one catalog for all.
-use Rattle.std.specs.Prelude.{ℕ, ◌≡◌, ◌<◌, Bool, List, [], ◌∷◌, length, map, slice_get, Option, Some, option_map, Result, Ok}
+use Rattle.std.specs.Prelude.{ℕ, ◌≡◌, ◌<◌, Bool, List, [], ◌∷◌, length, map, slice_get, Option, Some, option_map}
+use Rattle.std.specs.Prelude.{Result, Ok}
 use Rattle.std.specs.List.{All, filter_map}
 use Rattle.lists_and_answers.specs.Answers.{◌>>=◌}
 use Rattle.outside.specs.Outside.{Files}

@@ -10,7 +10,8 @@ ghost use Rattle.mosaic_builds.specs.Inputs.{filled};
 #[tactic(auto, using(crate::proofs::Feeds::passed_over, crate::proofs::Feeds::kept_behind))]
 fn keep_byte(bytes: &mut [u8], kept: usize, begins: bool, byte: u8) -> usize
     requires room { kept < length bytes.old }
-    ensures front { (rest : List ℕ) → take result bytes.new ++ without_empty (byte == 10) rest ≡ take kept bytes.old ++ without_empty begins (byte ∷ rest) }
+    ensures front { (rest : List ℕ) → take result bytes.new ++ without_empty (byte == 10) rest ≡ take kept bytes.old
+        ++ without_empty begins (byte ∷ rest) }
     ensures later { (n : ℕ) → kept < n → drop n bytes.new ≡ drop n bytes.old }
     ensures few { result ≤ kept + 1 }
     ensures size { length bytes.new ≡ length bytes.old }

@@ -27,7 +27,8 @@ const MOST_INPUTS: usize = 65_536;
 fn open_list<F: Folder>(folder: &mut F, name: &Name) -> Result<F::File, Fault>
     ensures ok { IfOk result (λ file. Opened (F.names folder.old) name.now (F.file_bytes file)) }
     ensures len { IfOk result (λ file. IsLong (F.file_bytes file) (F.file_len file)) }
-    ensures err { IfErr result (λ f. (m : Files) → F.names folder.old ≡ Some m → IsOutside f ⊎ (lines_in m name.now ≡ Err f)) }
+    ensures err { IfErr result (λ f. (m : Files) → F.names folder.old ≡ Some m →
+        IsOutside f ⊎ (lines_in m name.now ≡ Err f)) }
     ensures names { F.names folder.new ≡ F.names folder.old }
     ensures cause { HasCause Fault.FolderFault (F.faults folder.old) (F.faults folder.new) result }
     ensures faults { (out : List ℕ) → IfErr result (IsOfMaking out) }
@@ -68,7 +69,8 @@ fn read_whole<F: Folder>(
 fn read_list<F: Folder>(alloc: Global, folder: &mut F, name: &Name) -> Result<Vec<u8>, Fault>
     ensures ok { IfOk result (λ v. (m : Files) → F.names folder.old ≡ Some m → get m name.now ≡ Some v.items) }
     ensures few { IfOk result (λ v. (m : Files) → F.names folder.old ≡ Some m → length v.items ≤ 2 ^ 26) }
-    ensures err { IfErr result (λ f. (m : Files) → F.names folder.old ≡ Some m → IsOutside f ⊎ (lines_in m name.now ≡ Err f)) }
+    ensures err { IfErr result (λ f. (m : Files) → F.names folder.old ≡ Some m →
+        IsOutside f ⊎ (lines_in m name.now ≡ Err f)) }
     ensures names { F.names folder.new ≡ F.names folder.old }
     ensures cause { HasCause Fault.FolderFault (F.faults folder.old) (F.faults folder.new) result }
     ensures faults { (out : List ℕ) → IfErr result (IsOfMaking out) }
@@ -108,8 +110,10 @@ fn line_name(alloc: Global, line: &str) -> Result<Name, Fault>
 fn add_name(alloc: Global, line: &str, names: &mut Names) -> Result<(), Fault>
     requires some { 0 < length line.now }
     requires few { length names.old ≤ 65536 }
-    ensures ok { OnOk result ((more : List (List ℕ)) → with_lines names.old (line.now ∷ more) ≡ with_lines names.new more) }
-    ensures err { IfErr result (λ f. (f ≡ Fault.Memory) ⊎ ((more : List (List ℕ)) → with_lines names.old (line.now ∷ more) ≡ Err f)) }
+    ensures ok { OnOk result ((more : List (List ℕ)) → with_lines names.old (line.now ∷ more)
+        ≡ with_lines names.new more) }
+    ensures err { IfErr result (λ f. (f ≡ Fault.Memory) ⊎ ((more : List (List ℕ)) →
+        with_lines names.old (line.now ∷ more) ≡ Err f)) }
     ensures few { OnOk result (length names.new ≤ 65536) }
     ensures faults { IfErr result IsOfNames }
 {
@@ -132,8 +136,10 @@ fn add_name(alloc: Global, line: &str, names: &mut Names) -> Result<(), Fault>
 // Adds the name of a line, where it isn't empty.
 fn add_line(alloc: Global, line: &str, names: &mut Names) -> Result<(), Fault>
     requires few { length names.old ≤ 65536 }
-    ensures ok { OnOk result ((more : List (List ℕ)) → with_lines names.old (filled (line.now ∷ more)) ≡ with_lines names.new (filled more)) }
-    ensures err { IfErr result (λ f. (f ≡ Fault.Memory) ⊎ ((more : List (List ℕ)) → with_lines names.old (filled (line.now ∷ more)) ≡ Err f)) }
+    ensures ok { OnOk result ((more : List (List ℕ)) → with_lines names.old (filled (line.now ∷ more))
+        ≡ with_lines names.new (filled more)) }
+    ensures err { IfErr result (λ f. (f ≡ Fault.Memory) ⊎ ((more : List (List ℕ)) →
+        with_lines names.old (filled (line.now ∷ more)) ≡ Err f)) }
     ensures few { OnOk result (length names.new ≤ 65536) }
     ensures faults { IfErr result IsOfNames }
 {
@@ -147,7 +153,8 @@ fn add_line(alloc: Global, line: &str, names: &mut Names) -> Result<(), Fault>
 // Adds the names of the lines of a text.
 fn add_lines(alloc: Global, text: &str, names: &mut Names) -> Result<(), Fault>
     requires few { length names.old ≤ 65536 }
-    ensures told { Gives (λ f. f ≡ Fault.Memory) (λ done. names.new) result (with_lines names.old (filled (lines text.now))) }
+    ensures told { Gives (λ f. f ≡ Fault.Memory) (λ done. names.new) result
+        (with_lines names.old (filled (lines text.now))) }
     ensures few { OnOk result (length names.new ≤ 65536) }
     ensures faults { IfErr result IsOfNames }
 {
@@ -185,7 +192,8 @@ fn with_list<F: Folder>(
     names: Names,
     list: &Name,
 ) -> Result<Names, Fault>
-    ensures told { (m : Files) → F.names folder.old ≡ Some m → Gives IsOutside (λ all. all) result (names_in m names (Some list.now)) }
+    ensures told { (m : Files) → F.names folder.old ≡ Some m → Gives IsOutside (λ all. all) result
+        (names_in m names (Some list.now)) }
     ensures few { IfOk result (λ all. length all ≤ 65536) }
     ensures names { F.names folder.new ≡ F.names folder.old }
     ensures cause { HasCause Fault.FolderFault (F.faults folder.old) (F.faults folder.new) result }
@@ -218,7 +226,8 @@ pub fn list_names<F: Folder>(
     inputs: Names,
     list: &Option<Name>,
 ) -> Result<Names, Fault>
-    ensures told { (m : Files) → F.names folder.old ≡ Some m → Gives IsOutside (λ all. all) result (names_in m inputs list.now) }
+    ensures told { (m : Files) → F.names folder.old ≡ Some m → Gives IsOutside (λ all. all) result
+        (names_in m inputs list.now) }
     ensures few { IfOk result (λ all. length all ≤ 65536) }
     ensures names { F.names folder.new ≡ F.names folder.old }
     ensures cause { HasCause Fault.FolderFault (F.faults folder.old) (F.faults folder.new) result }

@@ -73,7 +73,8 @@ pub fn make<F: Folder>(
     inputs: Names,
     building: Building,
 ) -> Result<Made, Fault>
-    ensures told { (m : Files) → F.names folder.old ≡ Some m → Gives IsOutside built_by result (built_in m building.entry.verify inputs building.entry.list.now building.entry.options.now) }
+    ensures told { (m : Files) → F.names folder.old ≡ Some m → Gives IsOutside built_by result
+        (built_in m building.entry.verify inputs building.entry.list.now building.entry.options.now) }
     ensures made { IfOk result IsMade }
     ensures names { F.names folder.new ≡ F.names folder.old }
     ensures cause { HasCause Fault.FolderFault (F.faults folder.old) (F.faults folder.new) result }

@@ -44,7 +44,8 @@ pub fn mosaic_of_walked(
 ) -> Result<(Document, SkipList), Fault>
     requires known { AreKnown cat.now ids.now }
     requires few { length ids.now ≤ 65536 }
-    ensures mosaic { Gives (λ f. f ≡ Fault.Memory) (λ made. made) result (by_build (mosaic_of options.now (heads_at cat.now ids.now))) }
+    ensures mosaic { Gives (λ f. f ≡ Fault.Memory) (λ made. made) result
+        (by_build (mosaic_of options.now (heads_at cat.now ids.now))) }
     ensures within { IfOk result (λ made. All (IsOneOf (length ids.now)) made.1) }
     ensures faults { (out : List ℕ) → IfErr result (IsOfBuilding out) }
 {

@@ -1,5 +1,6 @@
 // A mosaic that is made and published.
-ghost use Rattle.std.specs.Prelude.{◌≡◌, ◌≤◌, ◌<◌, ◌++◌, ℕ, true, false, List, [], ◌∷◌, length, Option, Some, Err, IfErr, OnErr};
+ghost use Rattle.std.specs.Prelude.{◌≡◌, ◌≤◌, ◌<◌, ◌++◌, ℕ, true, false, List, [], ◌∷◌, length, Option, Some, Err};
+ghost use Rattle.std.specs.Prelude.{IfErr, OnErr};
 ghost use Rattle.outside.specs.Outside.{Files};
 ghost use Rattle.outside.specs.Causes.{HasCause};
 ghost use Rattle.buildvrt.specs.Judging.{IsOneOf};
@@ -22,7 +23,10 @@ use vrt_profile::Document;
 fn warn<E: Sink>(err: &mut E, failed: &mut bool, made: &Made, skipped: Skipped)
     requires made { IsMade made.now }
     requires within { IsOneOf (length made.now.ids) skipped }
-    ensures warned { (steps : List Step) (first : ℕ) (start : Option (List ℕ)) → AreWarned steps failed.old first (E.faults err.old) start (E.got err.old) → AreWarned (steps ++ Warns (warning_of (heads_at made.now.cat made.now.ids) skipped) ∷ []) failed.new first (E.faults err.new) start (E.got err.new) }
+    ensures warned { (steps : List Step) (first : ℕ) (start : Option (List ℕ)) →
+        AreWarned steps failed.old first (E.faults err.old) start (E.got err.old) →
+        AreWarned (steps ++ Warns (warning_of (heads_at made.now.cat made.now.ids) skipped) ∷ []) failed.new first
+        (E.faults err.new) start (E.got err.new) }
 {
     let id = *made.ids.get(skipped.input as usize);
     let head = made.cat.head(id);
@@ -32,7 +36,8 @@ fn warn<E: Sink>(err: &mut E, failed: &mut bool, made: &Made, skipped: Skipped)
 // Puts the warnings of the skipped inputs.
 fn warn_all<E: Sink>(err: &mut E, failed: &mut bool, made: &Made)
     requires made { IsMade made.now }
-    ensures warned { failed.old ≡ false → AreWarned (warns (built_by made.now).warnings) failed.new (E.faults err.old) (E.faults err.new) (E.got err.old) (E.got err.new) }
+    ensures warned { failed.old ≡ false → AreWarned (warns (built_by made.now).warnings) failed.new (E.faults err.old)
+        (E.faults err.new) (E.got err.old) (E.got err.new) }
 {
     for skipped in made.skipped.as_slice() {
         warn(err, failed, made, *skipped);
@@ -41,7 +46,8 @@ fn warn_all<E: Sink>(err: &mut E, failed: &mut bool, made: &Made)
 
 // Tells that all is done, unless nothing may be told.
 fn put_progress<O: Sink>(out: &mut O, quiet: bool) -> Result<(), Fault>
-    ensures told { (m : Files) (names : Option Files) → names ≡ Some m → Goes (all_done (progress_steps quiet)) m result names (O.got out.old) (O.got out.new) }
+    ensures told { (m : Files) (names : Option Files) → names ≡ Some m →
+        Goes (all_done (progress_steps quiet)) m result names (O.got out.old) (O.got out.new) }
     ensures faults { IfErr result (λ f. f ≡ Fault.OutFault) }
     ensures cause { HasCause Fault.OutFault (O.faults out.old) (O.faults out.new) result }
 {
@@ -63,7 +69,9 @@ fn put_document<F: Folder, O: Sink>(
     document: &Document,
     quiet: bool,
 ) -> Result<(), Fault>
-    ensures told { (m : Files) → F.names folder.old ≡ Some m → Goes (all_done (publishing_steps quiet name.now document.now)) m result (F.names folder.new) (O.got out.old) (O.got out.new) }
+    ensures told { (m : Files) → F.names folder.old ≡ Some m →
+        Goes (all_done (publishing_steps quiet name.now document.now)) m result (F.names folder.new) (O.got out.old)
+        (O.got out.new) }
     ensures faults { IfErr result IsOfWriting }
     ensures cause { HasCauses (F.faults folder.old) (F.faults folder.new) (O.faults out.old) (O.faults out.new) result }
 {
@@ -84,8 +92,12 @@ fn put_made<F: Folder, O: Sink, E: Sink>(
     building: Building,
 ) -> Result<(), Fault>
     requires made { IsMade made.now }
-    ensures told { failed.old ≡ false → (m : Files) → F.names folder.old ≡ Some m → GoesWarning (all_done (mosaic_steps building.entry.quiet building.entry.options.now.out (built_by made.now))) m result (F.names folder.new) (O.got out.old) (O.got out.new) (λ steps. AreWarned steps failed.new (E.faults err.old) (E.faults err.new) (E.got err.old) (E.got err.new)) }
-    ensures warned { failed.old ≡ false → AreWarned (warns (built_by made.now).warnings) failed.new (E.faults err.old) (E.faults err.new) (E.got err.old) (E.got err.new) }
+    ensures told { failed.old ≡ false → (m : Files) → F.names folder.old ≡ Some m →
+        GoesWarning (all_done (mosaic_steps building.entry.quiet building.entry.options.now.out (built_by made.now))) m
+        result (F.names folder.new) (O.got out.old) (O.got out.new)
+        (λ steps. AreWarned steps failed.new (E.faults err.old) (E.faults err.new) (E.got err.old) (E.got err.new)) }
+    ensures warned { failed.old ≡ false → AreWarned (warns (built_by made.now).warnings) failed.new (E.faults err.old)
+        (E.faults err.new) (E.got err.old) (E.got err.new) }
     ensures faults { IfErr result IsOfWriting }
     ensures cause { HasCauses (F.faults folder.old) (F.faults folder.new) (O.faults out.old) (O.faults out.new) result }
 {
@@ -112,11 +124,18 @@ pub fn put_mosaic<F: Folder, O: Sink, E: Sink>(
     building: Building,
 ) -> Result<(), Fault>
     // over a folder that tells its files: all the steps are done, or where the outside failed the first of them
-    ensures told { failed.old ≡ false → (m : Files) → F.names folder.old ≡ Some m → GoesWarning (mosaic_done building.entry.quiet building.entry.options.now.out (built_in m building.entry.verify inputs building.entry.list.now building.entry.options.now)) m result (F.names folder.new) (O.got out.old) (O.got out.new) (λ steps. AreWarned steps failed.new (E.faults err.old) (E.faults err.new) (E.got err.old) (E.got err.new)) }
+    ensures told { failed.old ≡ false → (m : Files) → F.names folder.old ≡ Some m →
+        GoesWarning (mosaic_done building.entry.quiet building.entry.options.now.out
+        (built_in m building.entry.verify inputs building.entry.list.now building.entry.options.now)) m result
+        (F.names folder.new) (O.got out.old) (O.got out.new) (λ steps.
+        AreWarned steps failed.new (E.faults err.old) (E.faults err.new) (E.got err.old) (E.got err.new)) }
     // over every folder: some warnings were put, none where the mosaic is refused
-    ensures warned { failed.old ≡ false → (lines : List (List ℕ)) × AreWarned (warns lines) failed.new (E.faults err.old) (E.faults err.new) (E.got err.old) (E.got err.new) × IfErr result (λ f. fault_status f ≡ 1 → lines ≡ []) }
+    ensures warned { failed.old ≡ false → (lines : List (List ℕ)) × AreWarned (warns lines) failed.new
+        (E.faults err.old) (E.faults err.new) (E.got err.old) (E.got err.new) ×
+        IfErr result (λ f. fault_status f ≡ 1 → lines ≡ []) }
     // a refused mosaic has done nothing
-    ensures refused { IfErr result (λ f. fault_status f ≡ 1 → (out.new ≡ out.old) × (err.new ≡ err.old) × (failed.new ≡ failed.old) × (F.names folder.new ≡ F.names folder.old)) }
+    ensures refused { IfErr result (λ f. fault_status f ≡ 1 → (out.new ≡ out.old) × (err.new ≡ err.old) ×
+        (failed.new ≡ failed.old) × (F.names folder.new ≡ F.names folder.old)) }
     ensures may_end { IfErr result (MayEnd building.entry.options.now.out) }
     ensures cause { HasCauses (F.faults folder.old) (F.faults folder.new) (O.faults out.old) (O.faults out.new) result }
 {

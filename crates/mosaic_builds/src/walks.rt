@@ -26,7 +26,8 @@ fn walk<F: Folder>(
     name: &Name,
     verify: bool,
 ) -> Result<u32, Fault>
-    ensures told { (m : Files) → F.names folder.old ≡ Some m → Gives IsOutside (λ id. cat.new) result (by_walk (walked m verify cat.old name.now)) }
+    ensures told { (m : Files) → F.names folder.old ≡ Some m → Gives IsOutside (λ id. cat.new) result
+        (by_walk (walked m verify cat.old name.now)) }
     ensures number { IfOk result (λ id. number_of cat.new name.now ≡ Some id) }
     ensures kept { (more : List Dataset) × (cat.new ≡ cat.old ++ more) }
     ensures walked { (m : Files) → F.names folder.old ≡ Some m → IsWalked m cat.old → IsWalked m cat.new }
@@ -50,8 +51,10 @@ fn walk_next<F: Folder>(
     verify: bool,
     ids: &mut Numbers,
 ) -> Result<(), Fault>
-    ensures told { (m : Files) → F.names folder.old ≡ Some m → Gives IsOutside (λ done. cat.new) result (by_walk (walked m verify cat.old name.now)) }
-    ensures numbers { OnOk result ((names : List (List ℕ)) → AreNumbers cat.old names ids.old → AreNumbers cat.new (names ++ name.now ∷ []) ids.new) }
+    ensures told { (m : Files) → F.names folder.old ≡ Some m → Gives IsOutside (λ done. cat.new) result
+        (by_walk (walked m verify cat.old name.now)) }
+    ensures numbers { OnOk result ((names : List (List ℕ)) → AreNumbers cat.old names ids.old →
+        AreNumbers cat.new (names ++ name.now ∷ []) ids.new) }
     ensures kept { (more : List Dataset) × (cat.new ≡ cat.old ++ more) }
     ensures walked { (m : Files) → F.names folder.old ≡ Some m → IsWalked m cat.old → IsWalked m cat.new }
     ensures names { F.names folder.new ≡ F.names folder.old }
@@ -81,7 +84,8 @@ pub fn walk_all<F: Folder>(
     names: &[Name],
     verify: bool,
 ) -> Result<Numbers, Fault>
-    ensures told { (m : Files) → F.names folder.old ≡ Some m → Gives IsOutside (λ ids. cat.new) result (walked_all m verify cat.old names.now) }
+    ensures told { (m : Files) → F.names folder.old ≡ Some m → Gives IsOutside (λ ids. cat.new) result
+        (walked_all m verify cat.old names.now) }
     ensures numbers { IfOk result (λ ids. AreNumbers cat.new names.now ids) }
     ensures count { IfOk result (λ ids. length ids ≡ length names.now) }
     ensures known { IfOk result (λ ids. AreKnown cat.new ids) }

@@ -1,4 +1,5 @@
 pub mod Numbers
+pub mod Fits
 pub mod Tables
 pub mod Runs
 mod Examples

@@ -1,5 +1,6 @@
 -- Which sources cover a line of a mosaic, and what an index of them by lines is.
-use Rattle.std.specs.Prelude.{ℕ, Bool, ◌&&◌, suc, List, [], ◌∷◌, ◌≡◌, ◌≢◌, ◌⊎◌, ◌<◌, ◌≤◌, ◌+◌, ◌-◌, ◌*◌, ◌^◌, length, nat_le, nat_lt, count_by, slice_index_or, if◌then◌else◌}
+use Rattle.std.specs.Prelude.{ℕ, Bool, ◌&&◌, suc, List, [], ◌∷◌, ◌≡◌, ◌≢◌, ◌⊎◌, ◌<◌, ◌≤◌, ◌+◌, ◌-◌, ◌*◌, ◌^◌, length}
+use Rattle.std.specs.Prelude.{nat_le, nat_lt, count_by, slice_index_or, if◌then◌else◌}
 use Rattle.std.specs.List.{All, Any, Contains, sum_by}
 use Rattle.std.specs.List.Sorted.{IsStrictlyIncreasing}
 use Rattle.geotransform.specs.declared.types.Size.{Size}
@@ -14,7 +15,8 @@ covers_line s size y = is_covered (lines_of s size size) (centre y)
 -- the numbers of the items that pass a test, in order, where the first of them has this number
 abbrev pub passing_from : {A : Type 0} → (A → Bool) → List A → ℕ → List ℕ
 passing_from passes [] number = []
-passing_from passes (x ∷ xs) number = if passes x then number ∷ passing_from passes xs (suc number) else passing_from passes xs (suc number)
+passing_from passes (x ∷ xs) number = if passes x then number ∷ passing_from passes xs (suc number)
+    else passing_from passes xs (suc number)
 
 -- the numbers of the sources that cover a line, in order
 abbrev pub covering_lines : List SourceValue → Size → ℕ → List ℕ
@@ -69,7 +71,8 @@ pub record IsIndexOf (sources : List SourceValue) (size : Size) (r : Rows) : Typ
   pub rising : IsStrictlyIncreasing r.cuts
   pub inner : All (IsInner size.h) r.cuts
   pub changes : (y : ℕ) → Contains r.cuts y → covering_lines sources size (y - 1) ≢ covering_lines sources size y
-  pub same : (y : ℕ) → 0 < y → y < size.h → ¬ Contains r.cuts y → covering_lines sources size (y - 1) ≡ covering_lines sources size y
+  pub same : (y : ℕ) → 0 < y → y < size.h → ¬ Contains r.cuts y →
+      covering_lines sources size (y - 1) ≡ covering_lines sources size y
   pub count : length r.lists ≡ length r.cuts + 1
   pub stretches : length r.lists ≤ 2 * length sources + 1
   pub none : size.h ≡ 0 → listed r ≡ 0

@@ -1,5 +1,6 @@
 // Which pixel of its dataset a source takes.
-ghost use Rattle.std.specs.Prelude.{◌≡◌, ℕ, ℤ, pos, ◌+◌, ◌+ℤ◌, ◌≤ℤ◌, ◌<ℤ◌, ◌<◌, ◌≤◌, ◌*◌, ◌^◌, ◌&&◌, None, IsTrue, false, int_le, int_lt, unsigned_abs};
+ghost use Rattle.std.specs.Prelude.{◌≡◌, ℕ, ℤ, pos, ◌+◌, ◌+ℤ◌, ◌≤ℤ◌, ◌<ℤ◌, ◌<◌, ◌≤◌, ◌*◌, ◌^◌, ◌&&◌, None, IsTrue};
+ghost use Rattle.std.specs.Prelude.{false, int_le, int_lt, unsigned_abs};
 ghost use Rattle.geotransform.specs.declared.types.Size.{Size};
 ghost use Rattle.vrt_profile.specs.Values.{million};
 ghost use Rattle.vrt_profile.specs.Cover.{centre, part_of, columns_of, lines_of, cover_of};
@@ -12,7 +13,7 @@ use geotransform::{Rect, Size};
 use vrt_profile::{MicroRect, Source};
 
 /// A part of an axis, in millionths of a pixel.
-#[derive(Clone, Copy, PartialEq, Eq, Debug)]
+#[derive(Clone, Copy, PartialEq, Eq)]
 struct Part {
     start: i64,
     length: i64,
@@ -118,7 +119,8 @@ pub fn line_span(source: &Source, size: Size) -> Span
 fn is_beside(start: i64, length: i64, first: u32, count: u32) -> bool
     requires start { unsigned_abs start < 2 ^ 52 }
     requires length { unsigned_abs length < 2 ^ 52 }
-    ensures beside { IsTrue result → (x : ℕ) → first ≤ x → x < first + count → (int_le start (centre x) && int_lt (centre x) (start +ℤ length)) ≡ false }
+    ensures beside { IsTrue result → (x : ℕ) → first ≤ x → x < first + count →
+        (int_le start (centre x) && int_lt (centre x) (start +ℤ length)) ≡ false }
 {
     let low = first as i64 * 1_000_000 + 500_000;
     let high = (first as i64 + count as i64) * 1_000_000 - 500_000;
@@ -135,7 +137,8 @@ fn is_beside(start: i64, length: i64, first: u32, count: u32) -> bool
 /// Whether the part of the mosaic that a source is made for lies beside a rectangle of the mosaic: then it
 /// covers no pixel there. This takes no division.
 pub fn misses(source: &Source, rect: Rect) -> bool
-    ensures missed { IsTrue result → (mosaic : Size) → (size : Size) → (x : ℕ) → (y : ℕ) → rect.x ≤ x → x < rect.x + rect.w → rect.y ≤ y → y < rect.y + rect.h → cover_of source.now mosaic size x y ≡ None }
+    ensures missed { IsTrue result → (mosaic : Size) → (size : Size) → (x : ℕ) → (y : ℕ) → rect.x ≤ x →
+        x < rect.x + rect.w → rect.y ≤ y → y < rect.y + rect.h → cover_of source.now mosaic size x y ≡ None }
 {
     match source.dst {
         None => return false,

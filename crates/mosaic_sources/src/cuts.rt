@@ -15,7 +15,8 @@ use vrt_profile::Source;
 pub fn spans_of(alloc: Global, sources: &[Source], size: Size) -> Result<Vec<Span>, AllocError>
     ensures count { IfOk result (λ v. length v.items ≡ length sources.now) }
     ensures within { IfOk result (λ v. All (λ s. s.end ≤ size.h) v.items) }
-    ensures lists { IfOk result (λ v. (y : ℕ) → y < size.h → holding_lines v.items y ≡ covering_lines sources.now size y) }
+    ensures lists { IfOk result (λ v. (y : ℕ) → y < size.h → holding_lines v.items y ≡ covering_lines sources.now size
+        y) }
 {
     let mut spans = Vec::with_capacity(alloc, sources.len())?;
     for source in sources {
@@ -77,7 +78,8 @@ pub fn cuts_of(alloc: Global, spans: &[Span], height: u32) -> Result<Vec<u32>, A
     ensures count { IfOk result (λ v. length v.items ≤ 2 * length spans.now) }
     ensures inner { IfOk result (λ v. All (IsInner height) v.items) }
     ensures edges { IfOk result (λ v. All (HasEdges v.items height) spans.now) }
-    ensures changes { IfOk result (λ v. (y : ℕ) → Contains v.items y → holding_lines spans.now (y - 1) ≢ holding_lines spans.now y) }
+    ensures changes { IfOk result (λ v. (y : ℕ) → Contains v.items y → holding_lines spans.now (y - 1)
+        ≢ holding_lines spans.now y) }
 {
     let mut edges = edges_of(alloc, spans, height)?;
     edges.sort_unstable();

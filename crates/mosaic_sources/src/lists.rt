@@ -1,5 +1,6 @@
 // Lists of numbers, one for each stretch of lines.
-ghost use Rattle.std.specs.Prelude.{◌≡◌, ℕ, ◌<◌, ◌≤◌, ◌+◌, ◌++◌, [], ◌∷◌, ◌&&◌, ◌*◌, IfOk, IfSome, None, OnOk, List, length, nat_le, nat_lt, slice_index_or, slice_set, if◌then◌else◌};
+ghost use Rattle.std.specs.Prelude.{◌≡◌, ℕ, ◌<◌, ◌≤◌, ◌+◌, ◌++◌, [], ◌∷◌, ◌&&◌, ◌*◌, IfOk, IfSome, None, OnOk, List};
+ghost use Rattle.std.specs.Prelude.{length, nat_le, nat_lt, slice_index_or, slice_set, if◌then◌else◌};
 ghost use Rattle.std.specs.List.{All, sum_by};
 ghost use Rattle.std.specs.List.Sorted.{IsStrictlyIncreasing};
 ghost use Rattle.mosaic_sources.specs.Rows.{most_listed};
@@ -47,7 +48,8 @@ fn empty_lists(alloc: Global, rooms: &[u32]) -> Result<Vec<RowList>, AllocError>
 // Adds a number to one of the lists.
 fn add_at(lists: &mut Vec<RowList>, at: usize, number: u32) -> Result<(), AllocError>
     requires there { at < length lists.old.items }
-    ensures added { OnOk result (lists.new.items ≡ slice_set lists.old.items at (slice_index_or lists.old.items at [] ++ number ∷ [])) }
+    ensures added { OnOk result (lists.new.items ≡ slice_set lists.old.items at
+        (slice_index_or lists.old.items at [] ++ number ∷ [])) }
 {
     lists[at].push(number)
 }
@@ -56,7 +58,9 @@ fn add_at(lists: &mut Vec<RowList>, at: usize, number: u32) -> Result<(), AllocE
 fn add_between(lists: &mut Vec<RowList>, span: Span, number: u32) -> Result<(), AllocError>
     requires within { IsWithinCount (length lists.old.items) span }
     ensures count { OnOk result (length lists.new.items ≡ length lists.old.items) }
-    ensures lists { OnOk result ((k : ℕ) → k < length lists.old.items → slice_index_or lists.new.items k [] ≡ (if nat_le span.first k && nat_lt k span.end then slice_index_or lists.old.items k [] ++ number ∷ [] else slice_index_or lists.old.items k [])) }
+    ensures lists { OnOk result ((k : ℕ) → k < length lists.old.items →
+        slice_index_or lists.new.items k [] ≡ (if nat_le span.first k && nat_lt k span.end then slice_index_or
+        lists.old.items k [] ++ number ∷ [] else slice_index_or lists.old.items k [])) }
 {
     for at in span.first as usize..span.end as usize {
         add_at(lists, at, number)?;
@@ -69,7 +73,8 @@ fn lists_of(alloc: Global, stretches: &[Span], count: usize) -> Result<Vec<RowLi
     requires few { length stretches.now ≤ 262144 }
     requires within { All (IsWithinCount count) stretches.now }
     ensures count { IfOk result (λ v. length v.items ≡ count) }
-    ensures lists { IfOk result (λ v. (k : ℕ) → k < count → slice_index_or v.items k [] ≡ holding_lines stretches.now k) }
+    ensures lists { IfOk result (λ v. (k : ℕ) → k < count → slice_index_or v.items k [] ≡ holding_lines stretches.now
+        k) }
 {
     let counts = counts_of(alloc, stretches, count)?;
     let mut lists = empty_lists(alloc, counts.as_slice())?;
@@ -94,7 +99,8 @@ pub fn lists_within(
     requires ends { All (λ s. s.end ≤ height) spans.now }
     ensures lists { IfOk result (λ o. IfSome o (λ v. AreListsOf cuts.now height spans.now v.items)) }
     ensures short { IfOk result (λ o. IfSome o (λ v. sum_by length v.items ≤ most_listed)) }
-    ensures long { IfOk result (λ o. o ≡ None → (lists : List (List ℕ)) × (AreListsOf cuts.now height spans.now lists × (most_listed < sum_by length lists))) }
+    ensures long { IfOk result (λ o. o ≡ None → (lists : List (List ℕ)) ×
+        (AreListsOf cuts.now height spans.now lists × (most_listed < sum_by length lists))) }
 {
     let stretches = all_stretches(alloc, spans, cuts, height)?;
     let count = cuts.len() + 1;

@@ -39,7 +39,8 @@ impl RowIndex {
         requires few { length sources.now ≤ 262144 }
         ensures index { IfOk result (λ o. IfSome o (IsIndexOf sources.now size)) }
         ensures short { IfOk result (λ o. IfSome o (λ r. listed r ≤ most_listed)) }
-        ensures long { IfOk result (λ o. o ≡ None → (r : Rows) × (IsIndexOf sources.now size r × (most_listed < listed r))) }
+        ensures long { IfOk result (λ o. o ≡ None → (r : Rows) × (IsIndexOf sources.now size r ×
+            (most_listed < listed r))) }
     {
         let spans = spans_of(alloc, sources.as_slice(), size)?;
         let cuts = cuts_of(alloc, spans.as_slice(), size.h)?;

@@ -85,7 +85,8 @@ pub fn all_stretches(
     requires ends { All (λ s. s.end ≤ height) spans.now }
     ensures count { IfOk result (λ v. length v.items ≡ length spans.now) }
     ensures within { IfOk result (λ v. All (IsWithinCount (length cuts.now + 1)) v.items) }
-    ensures held { IfOk result (λ v. (y : ℕ) → y < height → holding_lines v.items (rows.stretch_of cuts.now y) ≡ holding_lines spans.now y) }
+    ensures held { IfOk result (λ v. (y : ℕ) → y < height → holding_lines v.items (rows.stretch_of cuts.now y)
+        ≡ holding_lines spans.now y) }
     ensures none { IfOk result (λ v. height ≡ 0 → All (λ s. s.end ≡ 0) v.items) }
 {
     let mut stretches = Vec::with_capacity(alloc, spans.len())?;

@@ -1,5 +1,7 @@
 -- Samples that are filled from the last source of a band to the first.
-use Rattle.std.specs.Prelude.{◌≡◌, ◌⊎◌, ℕ, ℤ, pos, ◌+◌, ◌-◌, ◌*◌, ◌^◌, ◌<◌, ◌≤◌, List, [], length, map, drop, Option, Some, None, true, is_some, option_map, unwrap_or, slice_get, slice_index_or, if◌then◌else◌}
+use Rattle.std.specs.Prelude.{◌≡◌, ◌⊎◌, ℕ, ℤ, pos, ◌+◌, ◌-◌, ◌*◌, ◌^◌, ◌<◌, ◌≤◌, List, [], length, map, drop, Option}
+use Rattle.std.specs.Prelude.{Some, None, true, is_some, option_map, unwrap_or, slice_get, slice_index_or}
+use Rattle.std.specs.Prelude.{if◌then◌else◌}
 use Rattle.std.specs.Option.{option_or}
 use Rattle.std.specs.Ordering.{int_eq}
 use Rattle.geotransform.specs.Types.{clamp}
@@ -58,7 +60,9 @@ pub record IsInside (rect part : Rect) : Type 0 where
 -- what is made of pixels from `base` on stands where the samples were open
 pub record IsUnder (taking : Taking) (kind : PixelType) (pixels : List ℤ) (base : ℕ) (old new : List ℤ) : Type 0 where
   pub size : length new ≡ length old
-  pub each : (k : ℕ) → k < length old → IsSame kind (filled_with (slice_index_or new k (pos 0))) (option_or (filled_with (slice_index_or old k (pos 0))) (taken_by taking (slice_index_or pixels (base + k) (pos 0))))
+  pub each : (k : ℕ) → k < length old →
+      IsSame kind (filled_with (slice_index_or new k (pos 0))) (option_or (filled_with (slice_index_or old k (pos 0)))
+      (taken_by taking (slice_index_or pixels (base + k) (pos 0))))
 
 -- the column and the line lie in the first so many rows of a place
 pub record IsAt (place : Place) (rows x y : ℕ) : Type 0 where
@@ -68,11 +72,16 @@ pub record IsAt (place : Place) (rows x y : ℕ) : Type 0 where
   pub bottom : y < place.top + rows
 
 -- what is made of the pixels of the first so many rows of a place stands where the samples were open
-pub record IsMerged (taking : Taking) (kind : PixelType) (pixels : List ℤ) (place : Place) (rows : ℕ) (old new : List ℤ) : Type 0 where
+pub record IsMerged (taking : Taking) (kind : PixelType) (pixels : List ℤ) (place : Place) (rows : ℕ) (old new : List ℤ)
+    : Type 0 where
   pub size : length new ≡ length old
   pub inside : (x y : ℕ) → IsAt place rows x y
-      → IsSame kind (filled_with (slice_index_or new (y * place.stride + x) (pos 0))) (option_or (filled_with (slice_index_or old (y * place.stride + x) (pos 0))) (taken_by taking (slice_index_or pixels ((y - place.top) * place.columns + (x - place.to)) (pos 0))))
-  pub outside : (x y : ℕ) → x < place.stride → y * place.stride + x < length old → (IsAt place rows x y → ⊥) → slice_index_or new (y * place.stride + x) (pos 0) ≡ slice_index_or old (y * place.stride + x) (pos 0)
+      →
+      IsSame kind (filled_with (slice_index_or new (y * place.stride + x) (pos 0)))
+      (option_or (filled_with (slice_index_or old (y * place.stride + x) (pos 0)))
+      (taken_by taking (slice_index_or pixels ((y - place.top) * place.columns + (x - place.to)) (pos 0))))
+  pub outside : (x y : ℕ) → x < place.stride → y * place.stride + x < length old → (IsAt place rows x y → ⊥) →
+      slice_index_or new (y * place.stride + x) (pos 0) ≡ slice_index_or old (y * place.stride + x) (pos 0)
 
 -- the column and the line of a mosaic lie in a rectangle
 pub record IsIn (rect : Rect) (x y : ℕ) : Type 0 where
@@ -89,22 +98,26 @@ stands_at c x y = stands c.samples.items ((y - c.rect.y) * c.rect.w + (x - c.rec
 pub record IsTaken (taking : Taking) (pixels : List ℤ) (part : Rect) (old new : Canvas) : Type 0 where
   pub rect : new.rect ≡ old.rect
   pub kind : new.kind ≡ old.kind
-  pub inside : (x y : ℕ) → IsIn part x y → IsSame old.kind (stands_at new x y) (option_or (stands_at old x y) (taken_by taking (slice_index_or pixels ((y - part.y) * part.w + (x - part.x)) (pos 0))))
+  pub inside : (x y : ℕ) → IsIn part x y →
+      IsSame old.kind (stands_at new x y) (option_or (stands_at old x y)
+      (taken_by taking (slice_index_or pixels ((y - part.y) * part.w + (x - part.x)) (pos 0))))
   pub outside : (x y : ℕ) → IsIn old.rect x y → (IsIn part x y → ⊥) → stands_at new x y ≡ stands_at old x y
 
 -- the block has the canvas's samples, with a value for those that are open
 pub record IsPackedOf (c : Canvas) (value : ℤ) (block : BlockView) : Type 0 where
   pub samples : List ℤ
   pub size : length samples ≡ c.rect.w * c.rect.h
-  pub each : (k : ℕ) → k < c.rect.w * c.rect.h → slice_index_or samples k (pos 0) ≡ unwrap_or (stands c.samples.items k) value
+  pub each : (k : ℕ) → k < c.rect.w * c.rect.h →
+      slice_index_or samples k (pos 0) ≡ unwrap_or (stands c.samples.items k) value
   pub packed : block ≡ block_view c.kind (map (clamp c.kind) samples)
 
 -- at each pixel of a canvas something stands, or a source covers nothing
 abbrev pub IsUnasked : SourceValue → Size → Size → Canvas → Type 0
-IsUnasked s mosaic size c = (x y : ℕ) → IsIn c.rect x y → (is_some (stands_at c x y) ≡ true) ⊎ (cover_of s mosaic size x y ≡ None)
+IsUnasked s mosaic size c =
+    (x y : ℕ) → IsIn c.rect x y → (is_some (stands_at c x y) ≡ true) ⊎ (cover_of s mosaic size x y ≡ None)
 
--- pixels of the dataset that a source of the mosaic that a key is of names: those of a part of a canvas, all of which the
--- source covers; beside the part something stands, or the source covers nothing
+-- pixels of the dataset that a source of the mosaic that a key is of names: those of a part of a canvas, all of which
+-- the source covers; beside the part something stands, or the source covers nothing
 pub record IsAsked (cat : List Dataset) (key : BlockKey) (s : SourceValue) (c : Canvas) (a : Asked) : Type 0 where
   pub picture : IsPictureOf cat a.picture
   pub falls : height_at cat a.picture.dataset < height_at cat key.dataset
@@ -116,21 +129,31 @@ pub record IsAsked (cat : List Dataset) (key : BlockKey) (s : SourceValue) (c : 
   pub taking : a.picture.taking ≡ All
   pub takes : TakesBand cat s a.picture
   pub size : length a.pixels.items ≡ a.part.w * a.part.h
-  pub pixels : (m : Files) (d : Dataset) → slice_get cat key.dataset ≡ Some d → (x y : ℕ) → member_pixel m cat d s x y ≡ pixel_of m cat a.picture.dataset a.picture.band x y
-  pub across : (d : Dataset) → slice_get cat key.dataset ≡ Some d → (k : ℕ) → k < a.part.w → axis_at (columns_of s d.head.size (member_size cat d s)) (member_size cat d s).w (a.part.x + k) ≡ Some (place_at a.picture.columns k)
-  pub down : (d : Dataset) → slice_get cat key.dataset ≡ Some d → (k : ℕ) → k < a.part.h → axis_at (lines_of s d.head.size (member_size cat d s)) (member_size cat d s).h (a.part.y + k) ≡ Some (place_at a.picture.lines k)
-  pub outside : (d : Dataset) → slice_get cat key.dataset ≡ Some d → (x y : ℕ) → IsIn c.rect x y → (IsIn a.part x y → ⊥) → (is_some (stands_at c x y) ≡ true) ⊎ (cover_of s d.head.size (member_size cat d s) x y ≡ None)
+  pub pixels : (m : Files) (d : Dataset) → slice_get cat key.dataset ≡ Some d → (x y : ℕ) →
+      member_pixel m cat d s x y ≡ pixel_of m cat a.picture.dataset a.picture.band x y
+  pub across : (d : Dataset) → slice_get cat key.dataset ≡ Some d → (k : ℕ) → k < a.part.w →
+      axis_at (columns_of s d.head.size (member_size cat d s)) (member_size cat d s).w (a.part.x + k) ≡ Some
+      (place_at a.picture.columns k)
+  pub down : (d : Dataset) → slice_get cat key.dataset ≡ Some d → (k : ℕ) → k < a.part.h →
+      axis_at (lines_of s d.head.size (member_size cat d s)) (member_size cat d s).h (a.part.y + k) ≡ Some
+      (place_at a.picture.lines k)
+  pub outside : (d : Dataset) → slice_get cat key.dataset ≡ Some d → (x y : ℕ) → IsIn c.rect x y →
+      (IsIn a.part x y → ⊥) → (is_some (stands_at c x y) ≡ true)
+      ⊎ (cover_of s d.head.size (member_size cat d s) x y ≡ None)
 
 -- what a source of a dataset gives at a pixel, of the dataset of the catalog that it names
 abbrev pub source_given : Files → List Dataset → Dataset → SourceValue → ℕ → ℕ → Option ℤ
 source_given m cat d s x y = given_of s d.head.size (member_size cat d s) (member_pixel m cat d s) x y
 
 -- what a source of a dataset gives stands where the canvas was open
-pub record IsSourceTaken (told : Option Files) (cat : List Dataset) (d : Dataset) (s : SourceValue) (old new : Canvas) : Type 0 where
+pub record IsSourceTaken (told : Option Files) (cat : List Dataset) (d : Dataset) (s : SourceValue) (old new : Canvas)
+    : Type 0 where
   pub rect : new.rect ≡ old.rect
   pub kind : new.kind ≡ old.kind
-  pub given : (m : Files) → told ≡ Some m → (x y : ℕ) → IsIn old.rect x y → IsSame old.kind (stands_at new x y) (option_or (stands_at old x y) (source_given m cat d s x y))
+  pub given : (m : Files) → told ≡ Some m → (x y : ℕ) → IsIn old.rect x y →
+      IsSame old.kind (stands_at new x y) (option_or (stands_at old x y) (source_given m cat d s x y))
 
 -- on a canvas stands what the sources of a band of a dataset give from this number on
 abbrev pub AreTaken : Option Files → List Dataset → Dataset → ℕ → List SourceValue → Canvas → Type 0
-AreTaken told cat d number sources c = (m : Files) → told ≡ Some m → (x y : ℕ) → IsIn c.rect x y → IsSame c.kind (stands_at c x y) (last_given (λ s. source_given m cat d s x y) (drop number sources))
+AreTaken told cat d number sources c = (m : Files) → told ≡ Some m → (x y : ℕ) → IsIn c.rect x y →
+    IsSame c.kind (stands_at c x y) (last_given (λ s. source_given m cat d s x y) (drop number sources))

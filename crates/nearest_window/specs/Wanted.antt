@@ -30,7 +30,8 @@ pub record IsListedIn (r : Rows) (rect : Rect) (number : ℕ) : Type 0 where
 pub record IsWanted (sources : List SourceValue) (size : Size) (rect : Rect) (numbers : List ℕ) : Type 0 where
   pub rising : IsStrictlyIncreasing numbers
   pub below : list.All (λ number. number < length sources) numbers
-  pub listed : (y : ℕ) → IsLineOf rect y → (number : ℕ) → Contains (covering_lines sources size y) number → Contains numbers number
+  pub listed : (y : ℕ) → IsLineOf rect y → (number : ℕ) → Contains (covering_lines sources size y) number →
+      Contains numbers number
 
 -- the number at a place; behind the last, the number of sources
 abbrev pub bound : List ℕ → ℕ → List SourceValue → ℕ

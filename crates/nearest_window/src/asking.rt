@@ -54,9 +54,11 @@ pub fn asked_of<'a>(
     canvas: &Canvas,
 ) -> Result<Option<Asked<'a>>, AllocError>
     requires source { IsSourceOf cat.now source.key source.number source.source.now }
-    requires within { (d : Dataset) → slice_get cat.now source.key.dataset ≡ Some d → IsWithin canvas.now.rect d.head.size }
+    requires within { (d : Dataset) → slice_get cat.now source.key.dataset ≡ Some d →
+        IsWithin canvas.now.rect d.head.size }
     requires canvas { IsCanvas canvas.now }
-    ensures none { IfOk result (λ o. o ≡ None → (d : Dataset) → slice_get cat.now source.entry.key.dataset ≡ Some d → IsUnasked source.entry.source.now d.head.size (member_size cat.now d source.entry.source.now) canvas.now) }
+    ensures none { IfOk result (λ o. o ≡ None → (d : Dataset) → slice_get cat.now source.entry.key.dataset ≡ Some d →
+        IsUnasked source.entry.source.now d.head.size (member_size cat.now d source.entry.source.now) canvas.now) }
     ensures asked { IfOk result (λ o. IfSome o (IsAsked cat.now source.entry.key source.entry.source.now canvas.now)) }
 {
     // This call is made for the proof: it says what holds of every catalog.

@@ -1,5 +1,6 @@
 // Samples of a rectangle of a mosaic, which are filled from the last source to the first.
-ghost use Rattle.std.specs.Prelude.{◌≡◌, ◌⊎◌, ℕ, ◌+◌, ◌*◌, ◌<◌, ◌≤◌, ◌^◌, List, [], None, true, is_some, length, pos, slice_index_or, All, IfOk, OnOk, IsTrue};
+ghost use Rattle.std.specs.Prelude.{◌≡◌, ◌⊎◌, ℕ, ◌+◌, ◌*◌, ◌<◌, ◌≤◌, ◌^◌, List, [], None, true, is_some, length, pos};
+ghost use Rattle.std.specs.Prelude.{slice_index_or, All, IfOk, OnOk, IsTrue};
 ghost use Rattle.nearest_window.specs.Canvases.{IsCanvas, IsInside, IsPackedOf, IsTaken, filled_with, stands};
 ghost use Rattle.nearest_window.specs.Taken.{TakesPixel, is_plain, taken_by};
 
@@ -50,7 +51,8 @@ impl Canvas {
     /// Whether nothing is open.
     pub fn is_filled(&self) -> bool
         requires canvas { IsCanvas self.now }
-        ensures filled { IsTrue result → (k : ℕ) → k < self.now.rect.w * self.now.rect.h → is_some (stands self.now.samples.items k) ≡ true }
+        ensures filled { IsTrue result → (k : ℕ) → k < self.now.rect.w * self.now.rect.h →
+            is_some (stands self.now.samples.items k) ≡ true }
     {
         self.filled == count_of(self.rect)
     }
@@ -62,7 +64,8 @@ impl Canvas {
         ensures kind { self.new.kind ≡ self.old.kind }
         ensures filled { self.new.filled ≡ self.old.filled }
         ensures size { OnOk result (length self.new.samples.items ≡ self.old.rect.w * self.old.rect.h) }
-        ensures stands { OnOk result ((k : ℕ) → k < self.old.rect.w * self.old.rect.h → stands self.new.samples.items k ≡ stands self.old.samples.items k) }
+        ensures stands { OnOk result ((k : ℕ) → k < self.old.rect.w * self.old.rect.h →
+            stands self.new.samples.items k ≡ stands self.old.samples.items k) }
     {
         if self.samples.is_empty() {
             self.samples = vec![in alloc; BLANK; count_of(self.rect)]?;
@@ -129,9 +132,12 @@ impl Canvas {
         ensures rect { self.new.rect ≡ self.old.rect }
         ensures kind { self.new.kind ≡ self.old.kind }
         ensures size { length self.new.samples.items ≡ length pixels.items }
-        ensures samples { (k : ℕ) → k < length pixels.items → filled_with (slice_index_or self.new.samples.items k (pos 0)) ≡ taken_by taking.now (slice_index_or pixels.items k (pos 0)) }
+        ensures samples { (k : ℕ) → k < length pixels.items →
+            filled_with (slice_index_or self.new.samples.items k (pos 0)) ≡ taken_by taking.now
+            (slice_index_or pixels.items k (pos 0)) }
         ensures within { self.new.filled ≤ length self.new.samples.items }
-        ensures filled { (k : ℕ) → k < self.new.filled → is_some (filled_with (slice_index_or self.new.samples.items k (pos 0))) ≡ true }
+        ensures filled { (k : ℕ) → k < self.new.filled →
+            is_some (filled_with (slice_index_or self.new.samples.items k (pos 0))) ≡ true }
     {
         self.filled = make_samples(taking, pixels.as_mut_slice());
         self.samples = pixels;
@@ -176,7 +182,8 @@ impl Canvas {
 pub fn is_wanted(left: usize, canvas: &Canvas) -> bool
     requires canvas { IsCanvas canvas.now }
     ensures some { IsTrue result → 0 < left }
-    ensures done { IsTrue result ⊎ ((left ≡ 0) ⊎ ((k : ℕ) → k < canvas.now.rect.w * canvas.now.rect.h → is_some (stands canvas.now.samples.items k) ≡ true)) }
+    ensures done { IsTrue result ⊎ ((left ≡ 0) ⊎ ((k : ℕ) → k < canvas.now.rect.w * canvas.now.rect.h →
+        is_some (stands canvas.now.samples.items k) ≡ true)) }
 {
     if left == 0 {
         return false;

@@ -78,7 +78,8 @@ fn found_in(
     requires listed { All (IsIndexIn cat.now) indexes.now }
     requires key { IsMosaicKey cat.now key band.now }
     requires within { (d : Dataset) → slice_get cat.now key.dataset ≡ Some d → IsWithin rect d.head.size }
-    ensures wanted { (d : Dataset) → slice_get cat.now key.dataset ≡ Some d → IfOk result (λ w. IsWanted band.now.sources d.head.size rect (numbers_of w)) }
+    ensures wanted { (d : Dataset) → slice_get cat.now key.dataset ≡ Some d →
+        IfOk result (λ w. IsWanted band.now.sources d.head.size rect (numbers_of w)) }
 {
     let Some(kept) = indexes.find(key.dataset, key.band) else {
         return Ok(all_of(&band.sources));
@@ -100,7 +101,8 @@ pub fn wanted_in(
     requires key { IsMosaicKey cat.now key band.now }
     requires within { (d : Dataset) → slice_get cat.now key.dataset ≡ Some d → IsWithin rect d.head.size }
     ensures listed { All (IsIndexIn cat.now) indexes.new }
-    ensures wanted { (d : Dataset) → slice_get cat.now key.dataset ≡ Some d → IfOk result (λ w. IsWanted band.now.sources d.head.size rect (numbers_of w)) }
+    ensures wanted { (d : Dataset) → slice_get cat.now key.dataset ≡ Some d →
+        IfOk result (λ w. IsWanted band.now.sources d.head.size rect (numbers_of w)) }
 {
     if !is_indexed(&band.sources) {
         return Ok(all_of(&band.sources));

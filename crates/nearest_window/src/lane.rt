@@ -1,5 +1,6 @@
 // A lane: a pool of blocks and open files, through which windows of pixels are read.
-ghost use Rattle.std.specs.Prelude.{◌≡◌, ⊤, ℕ, Option, ◌+◌, ◌*◌, ◌<◌, ◌≤◌, List, [], Some, None, length, IfErr, IfOk, OnOk, OnErr, IfSome, is_some, false, true, slice_get};
+ghost use Rattle.std.specs.Prelude.{◌≡◌, ⊤, ℕ, Option, ◌+◌, ◌*◌, ◌<◌, ◌≤◌, List, [], Some, None, length, IfErr, IfOk};
+ghost use Rattle.std.specs.Prelude.{OnOk, OnErr, IfSome, is_some, false, true, slice_get};
 ghost use Rattle.std.specs.Option.{IsSomeAnd};
 ghost use Rattle.std.specs.List.{All};
 ghost use Rattle.outside.specs.Causes.{HasCause};
@@ -12,10 +13,12 @@ ghost use Rattle.band_blocks.specs.Open.{IsUnchanged};
 ghost use Rattle.band_blocks.specs.Samples.{IsDirect};
 ghost use Rattle.block_cache.specs.Entries.{pool_view, entry_of, held_at, moved_to_front, admitted, IsPool};
 ghost use Rattle.nearest_window.specs.Canvases.{IsCanvas, IsSourceTaken};
-ghost use Rattle.nearest_window.specs.Lanes.{IsHeldWith, IsKept, IsUsed, LaneView, lane_view, held_in, pixel_at, room_of};
+ghost use Rattle.nearest_window.specs.Lanes.{IsHeldWith, IsKept, IsUsed, LaneView, lane_view, held_in, pixel_at};
+ghost use Rattle.nearest_window.specs.Lanes.{room_of};
 ghost use Rattle.nearest_window.specs.Painted.{IsPainted, in_columns};
 ghost use Rattle.nearest_window.specs.Pictures.{IsPicture, from_block};
-ghost use Rattle.nearest_window.specs.Right.{AreRecalled, IsFresh, IsIndexIn, IsPartBlock, IsReady, IsRightLane, IsFileKey, IsMosaicKey, Served, Serves, state_of, TellsChangeIn};
+ghost use Rattle.nearest_window.specs.Right.{AreRecalled, IsFresh, IsIndexIn, IsPartBlock, IsReady, IsRightLane};
+ghost use Rattle.nearest_window.specs.Right.{IsFileKey, IsMosaicKey, Served, Serves, state_of, TellsChangeIn};
 ghost use Rattle.nearest_window.specs.Shown.{IsAreaOf, IsPictureOf, IsPartOf, IsLonePart};
 ghost use Rattle.nearest_window.specs.Taken.{place_at};
 ghost use Rattle.nearest_window.specs.Wanted.{IsWanted, numbers_of};
@@ -82,15 +85,22 @@ pub struct Lane<F: Folder> {
 
 // Paints a piece of a picture over the rows of `out`, from the block of a pool that has its pixels.
 fn paint_from(pool: &mut Pool, picture: &Picture, piece: Piece, out: &mut [Sample])
-    requires held { IsSomeAnd (held_at piece.key pool.old.entries) (λ e. length e.block.samples ≡ piece.rect.w * piece.rect.h) }
+    requires held { IsSomeAnd (held_at piece.key pool.old.entries) (λ e. length e.block.samples
+        ≡ piece.rect.w * piece.rect.h) }
     requires picture { IsPicture picture.now }
     requires area { IsAreaOf picture.now piece.area }
     requires rows { length out.old ≡ piece.area.lines * picture.now.stride }
-    requires across { (k : ℕ) → piece.area.column ≤ k → k < piece.area.column + piece.area.columns → (piece.rect.x ≤ place_at picture.now.columns k) × (place_at picture.now.columns k < piece.rect.x + piece.rect.w) }
-    requires down { (k : ℕ) → piece.area.line ≤ k → k < piece.area.line + piece.area.lines → (piece.rect.y ≤ place_at picture.now.lines k) × (place_at picture.now.lines k < piece.rect.y + piece.rect.h) }
+    requires across { (k : ℕ) → piece.area.column ≤ k → k < piece.area.column + piece.area.columns →
+        (piece.rect.x ≤ place_at picture.now.columns k) ×
+        (place_at picture.now.columns k < piece.rect.x + piece.rect.w) }
+    requires down { (k : ℕ) → piece.area.line ≤ k → k < piece.area.line + piece.area.lines →
+        (piece.rect.y ≤ place_at picture.now.lines k) × (place_at picture.now.lines k < piece.rect.y + piece.rect.h) }
     ensures entries { pool.new ≡ pool_view (moved_to_front piece.key pool.old.entries) pool.old.capacity }
     ensures valid { IsPool pool.new }
-    ensures painted { IsSomeAnd (held_at piece.key pool.old.entries) (λ e. IsPainted (in_columns picture.now.stride (picture.now.to + piece.area.column) (picture.now.to + piece.area.column + piece.area.columns) (from_block e.block piece.rect picture.now piece.area.column piece.area.line)) out.old out.new) }
+    ensures painted { IsSomeAnd (held_at piece.key pool.old.entries) (λ e.
+        IsPainted (in_columns picture.now.stride (picture.now.to + piece.area.column)
+        (picture.now.to + piece.area.column + piece.area.columns)
+        (from_block e.block piece.rect picture.now piece.area.column piece.area.line)) out.old out.new) }
 {
     let Some(block) = pool.find(&piece.key) else {
         unreachable!();
@@ -196,27 +206,43 @@ impl<F: Folder> Lane<F> {
 
     // Keeps a block in the pool.
     fn keep(&mut self, key: BlockKey, block: Block) -> Result<(), LoadFault>
-        ensures kept { OnOk result (self.new ≡ lane_view (pool_view (admitted (room_of self.old) key (entry_of block false) self.old.pool.entries) (room_of self.old)) self.old.files self.old.made self.old.indexes self.old.recalled) }
+        ensures kept { OnOk result (self.new ≡ lane_view
+            (pool_view (admitted (room_of self.old) key (entry_of block false) self.old.pool.entries)
+            (room_of self.old)) self.old.files self.old.made self.old.indexes self.old.recalled) }
         ensures refused { OnErr result (self.new ≡ self.old) }
         ensures memory { IfErr result (λ e. e ≡ LoadFault.Memory) }
         ensures valid { IsPool self.new.pool }
     {
         match self.pool.admit(key, block, false) {
-            Ok(_) => return Ok(()),
-            Err(_) => return Err(LoadFault::Memory),
+            Ok(last) => {
+                drop(last);
+                return Ok(());
+            }
+            Err(refused) => {
+                drop(refused);
+                return Err(LoadFault::Memory);
+            }
         }
     }
 
     // Keeps a block of a mosaic beside the pool.
     fn remember(&mut self, key: BlockKey, block: Block) -> Result<(), LoadFault>
-        ensures kept { OnOk result (self.new ≡ lane_view self.old.pool self.old.files (pool_view (admitted self.old.made.capacity key (entry_of block false) self.old.made.entries) self.old.made.capacity) self.old.indexes self.old.recalled) }
+        ensures kept { OnOk result (self.new ≡ lane_view self.old.pool self.old.files
+            (pool_view (admitted self.old.made.capacity key (entry_of block false) self.old.made.entries)
+            self.old.made.capacity) self.old.indexes self.old.recalled) }
         ensures refused { OnErr result (self.new ≡ self.old) }
         ensures memory { IfErr result (λ e. e ≡ LoadFault.Memory) }
         ensures valid { IsPool self.new.made }
     {
         match self.made.admit(key, block, false) {
-            Ok(_) => return Ok(()),
-            Err(_) => return Err(LoadFault::Memory),
+            Ok(last) => {
+                drop(last);
+                return Ok(());
+            }
+            Err(refused) => {
+                drop(refused);
+                return Err(LoadFault::Memory);
+            }
         }
     }
 
@@ -243,9 +269,16 @@ impl<F: Folder> Lane<F> {
         requires picture { IsPicture picture.now }
         requires area { IsAreaOf picture.now piece.area }
         requires rows { length out.old ≡ piece.area.lines * picture.now.stride }
-        requires across { (k : ℕ) → piece.area.column ≤ k → k < piece.area.column + piece.area.columns → (piece.rect.x ≤ place_at picture.now.columns k) × (place_at picture.now.columns k < piece.rect.x + piece.rect.w) }
-        requires down { (k : ℕ) → piece.area.line ≤ k → k < piece.area.line + piece.area.lines → (piece.rect.y ≤ place_at picture.now.lines k) × (place_at picture.now.lines k < piece.rect.y + piece.rect.h) }
-        ensures used { IsUsed piece.key (λ e. IsPainted (in_columns picture.now.stride (picture.now.to + piece.area.column) (picture.now.to + piece.area.column + piece.area.columns) (from_block e.block piece.rect picture.now piece.area.column piece.area.line)) out.old out.new) self.old self.new }
+        requires across { (k : ℕ) → piece.area.column ≤ k → k < piece.area.column + piece.area.columns →
+            (piece.rect.x ≤ place_at picture.now.columns k) ×
+            (place_at picture.now.columns k < piece.rect.x + piece.rect.w) }
+        requires down { (k : ℕ) → piece.area.line ≤ k → k < piece.area.line + piece.area.lines →
+            (piece.rect.y ≤ place_at picture.now.lines k) ×
+            (place_at picture.now.lines k < piece.rect.y + piece.rect.h) }
+        ensures used { IsUsed piece.key (λ e. IsPainted (in_columns picture.now.stride
+            (picture.now.to + piece.area.column) (picture.now.to + piece.area.column + piece.area.columns)
+            (from_block e.block piece.rect picture.now piece.area.column piece.area.line)) out.old out.new) self.old
+            self.new }
         ensures valid { IsPool self.new.pool }
         ensures made_valid { IsPool self.new.made }
     {
@@ -280,7 +313,8 @@ impl<F: Folder> Lane<F> {
         requires told { S.told ≡ F.names folder.now }
         requires scene { S.cat ≡ supply.now.cat.now }
         requires key { IsKey supply.now.cat.now key }
-        ensures serves { (loads : ℕ) → Serves F.file_bytes F.file_len supply.now.cat.now 0 (state_of F.Folder folder.now self.old loads) (state_of F.Folder folder.now self.new loads) }
+        ensures serves { (loads : ℕ) → Serves F.file_bytes F.file_len supply.now.cat.now 0
+            (state_of F.Folder folder.now self.old loads) (state_of F.Folder folder.now self.new loads) }
         ensures held { result ≡ true → IsHeldWith key self.new (λ _. ⊤) }
         ensures same { result ≡ false → self.new ≡ self.old }
     {
@@ -300,7 +334,8 @@ impl<F: Folder> Lane<F> {
         requires told { S.told ≡ F.names folder.now }
         requires scene { S.cat ≡ supply.now.cat.now }
         requires key { IsKey supply.now.cat.now key }
-        ensures serves { (loads : ℕ) → Serves F.file_bytes F.file_len supply.now.cat.now 0 (state_of F.Folder folder.now self.old loads) (state_of F.Folder folder.now self.new loads) }
+        ensures serves { (loads : ℕ) → Serves F.file_bytes F.file_len supply.now.cat.now 0
+            (state_of F.Folder folder.now self.old loads) (state_of F.Folder folder.now self.new loads) }
         ensures ready { IsReady F.Folder folder.now supply.now.cat.now self.new }
         ensures held { result ≡ true → IsHeldWith key self.new (λ _. ⊤) }
         ensures absent { result ≡ false → held_at key self.new.pool.entries ≡ None }
@@ -324,7 +359,8 @@ impl<F: Folder> Lane<F> {
         requires scene { S.cat ≡ supply.now.cat.now }
         requires key { IsFileKey supply.now.cat.now key }
         requires absent { held_at key self.old.pool.entries ≡ None }
-        ensures serves { Served F.Folder supply.now.cat.now result folder.old self.old loads.old folder.new self.new loads.new }
+        ensures serves { Served F.Folder supply.now.cat.now result folder.old self.old loads.old folder.new self.new
+            loads.new }
         ensures cause { HasCause LoadFault.FolderFault (F.faults folder.old) (F.faults folder.new) result }
         ensures changed { IfErr result (TellsChangeIn supply.now.cat.now) }
         ensures never { WhereTold F.Folder folder.old (λ _. IfErr result IsUnchanged) }
@@ -342,14 +378,13 @@ impl<F: Folder> Lane<F> {
         self.keep(key, block)
     }
 
-    // Whether a piece of a picture is read by itself: the picture is one pixel of a file whose block isn't held
-    // and wasn't missed before, and the pool is full.
-    pub(crate) fn is_jump(&mut self, cat: &Catalog, picture: &Picture, piece: Piece) -> bool
+    // Whether a picture is one pixel of a file whose block isn't held, and the pool is full.
+    fn may_jump(&self, cat: &Catalog, picture: &Picture, piece: Piece) -> bool
         requires known { piece.key.dataset < length cat.now }
-        ensures same { self.new ≡ self.old }
-        ensures absent { result ≡ true → held_at piece.key self.old.pool.entries ≡ None }
-        ensures full { result ≡ true → room_of self.old ≤ held_in self.old }
-        ensures direct { result ≡ true → (d : Dataset) → slice_get cat.now piece.key.dataset ≡ Some d → IsDirect d.content }
+        ensures absent { result ≡ true → held_at piece.key self.now.pool.entries ≡ None }
+        ensures full { result ≡ true → room_of self.now ≤ held_in self.now }
+        ensures direct { result ≡ true → (d : Dataset) → slice_get cat.now piece.key.dataset ≡ Some d →
+            IsDirect d.content }
         ensures narrow { result ≡ true → picture.now.width ≡ 1 }
         ensures low { result ≡ true → picture.now.height ≡ 1 }
     {
@@ -365,7 +400,21 @@ impl<F: Folder> Lane<F> {
         if self.holds(&piece.key) {
             return false;
         }
-        if !has_places(cat, piece.key.dataset) {
+        has_places(cat, piece.key.dataset)
+    }
+
+    // Whether a piece of a picture is read by itself: it may be, and its block wasn't missed before.
+    pub(crate) fn is_jump(&mut self, cat: &Catalog, picture: &Picture, piece: Piece) -> bool
+        requires known { piece.key.dataset < length cat.now }
+        ensures same { self.new ≡ self.old }
+        ensures absent { result ≡ true → held_at piece.key self.old.pool.entries ≡ None }
+        ensures full { result ≡ true → room_of self.old ≤ held_in self.old }
+        ensures direct { result ≡ true → (d : Dataset) → slice_get cat.now piece.key.dataset ≡ Some d →
+            IsDirect d.content }
+        ensures narrow { result ≡ true → picture.now.width ≡ 1 }
+        ensures low { result ≡ true → picture.now.height ≡ 1 }
+    {
+        if !self.may_jump(cat, picture, piece) {
             return false;
         }
         self.missed.is_new(piece.key)
@@ -427,7 +476,8 @@ impl<F: Folder> Lane<F> {
     ) -> Option<Block>
         requires key { IsKey cat.now key }
         requires recalled { (told : Option Files) × AreRecalled told cat.now self.now.recalled }
-        ensures block { IfSome result (λ b. (told : Option Files) → AreRecalled told cat.now self.now.recalled → IsPartBlock told cat.now key rect b) }
+        ensures block { IfSome result (λ b. (told : Option Files) → AreRecalled told cat.now self.now.recalled →
+            IsPartBlock told cat.now key rect b) }
     {
         if !self.remembers(rect) {
             return None;
@@ -442,8 +492,10 @@ impl<F: Folder> Lane<F> {
     // Remembers the sample of a rectangle of one pixel, where memory isn't refused.
     pub(crate) fn note(&mut self, key: BlockKey, rect: Rect, block: &Block)
         requires count { length block.now.samples ≡ rect.w * rect.h }
-        ensures same { self.new ≡ lane_view self.old.pool self.old.files self.old.made self.old.indexes self.new.recalled }
-        ensures pixels { (told : Option Files) → (cat : List Dataset) → IsPartBlock told cat key rect block.now → AreRecalled told cat self.old.recalled → AreRecalled told cat self.new.recalled }
+        ensures same { self.new ≡ lane_view self.old.pool self.old.files self.old.made self.old.indexes
+            self.new.recalled }
+        ensures pixels { (told : Option Files) → (cat : List Dataset) → IsPartBlock told cat key rect block.now →
+            AreRecalled told cat self.old.recalled → AreRecalled told cat self.new.recalled }
     {
         if !self.remembers(rect) {
             return;
@@ -463,9 +515,11 @@ impl<F: Folder> Lane<F> {
         requires listed { All (IsIndexIn cat.now) self.old.indexes }
         requires key { IsMosaicKey cat.now key band.now }
         requires within { (d : Dataset) → slice_get cat.now key.dataset ≡ Some d → IsWithin rect d.head.size }
-        ensures same { self.new ≡ lane_view self.old.pool self.old.files self.old.made self.new.indexes self.old.recalled }
+        ensures same { self.new ≡ lane_view self.old.pool self.old.files self.old.made self.new.indexes
+            self.old.recalled }
         ensures listed { All (IsIndexIn cat.now) self.new.indexes }
-        ensures wanted { (d : Dataset) → slice_get cat.now key.dataset ≡ Some d → IfOk result (λ w. IsWanted band.now.sources d.head.size rect (numbers_of w)) }
+        ensures wanted { (d : Dataset) → slice_get cat.now key.dataset ≡ Some d →
+            IfOk result (λ w. IsWanted band.now.sources d.head.size rect (numbers_of w)) }
     {
         wanted_in(&mut self.indexes, alloc, cat, key, band, rect)
     }

@@ -10,7 +10,8 @@ ghost use Rattle.band_blocks.specs.Open.{IsUnchanged};
 ghost use Rattle.nearest_window.specs.Canvases.{IsCanvas, IsSourceTaken};
 ghost use Rattle.nearest_window.specs.Lanes.{IsHeldWith};
 ghost use Rattle.nearest_window.specs.Right.{IsPartBlock, IsReady, IsMosaicKey, Served, TellsChangeIn};
-ghost use Rattle.nearest_window.specs.Shown.{AreTyped, IsAreaOf, IsPictureOf, IsShown, IsTyped, IsBandOf, IsPartOf, IsSourceOf};
+ghost use Rattle.nearest_window.specs.Shown.{AreTyped, IsAreaOf, IsPictureOf, IsShown, IsTyped, IsBandOf, IsPartOf};
+ghost use Rattle.nearest_window.specs.Shown.{IsSourceOf};
 
 use crate::asking::{Asked, asked_of};
 use crate::block_parts::{Part, Rows, pixel_rect};
@@ -43,7 +44,8 @@ impl<F: Folder> Lane<F> {
         requires told { S.told ≡ F.names folder.old }
         requires scene { S.cat ≡ supply.now.cat.now }
         requires key { IsKey supply.now.cat.now key }
-        ensures serves { Served F.Folder supply.now.cat.now result folder.old self.old loads.old folder.new self.new loads.new }
+        ensures serves { Served F.Folder supply.now.cat.now result folder.old self.old loads.old folder.new self.new
+            loads.new }
         ensures cause { HasCause LoadFault.FolderFault (F.faults folder.old) (F.faults folder.new) result }
         ensures changed { IfErr result (TellsChangeIn supply.now.cat.now) }
         ensures never { WhereTold F.Folder folder.old (λ _. IfErr result IsUnchanged) }
@@ -78,9 +80,11 @@ impl<F: Folder> Lane<F> {
         requires scene { S.cat ≡ supply.now.cat.now }
         requires key { IsMosaicKey supply.now.cat.now key part.band.now }
         requires sources { length part.band.now.sources < 2 ^ 32 }
-        requires within { (d : Dataset) → slice_get supply.now.cat.now key.dataset ≡ Some d → IsWithin part.rect d.head.size }
+        requires within { (d : Dataset) → slice_get supply.now.cat.now key.dataset ≡ Some d →
+            IsWithin part.rect d.head.size }
         requires few { part.rect.w * part.rect.h < 2 ^ 32 }
-        ensures serves { Served F.Folder supply.now.cat.now result folder.old self.old loads.old folder.new self.new loads.new }
+        ensures serves { Served F.Folder supply.now.cat.now result folder.old self.old loads.old folder.new self.new
+            loads.new }
         ensures cause { HasCause LoadFault.FolderFault (F.faults folder.old) (F.faults folder.new) result }
         ensures changed { IfErr result (TellsChangeIn supply.now.cat.now) }
         ensures never { WhereTold F.Folder folder.old (λ _. IfErr result IsUnchanged) }
@@ -111,9 +115,11 @@ impl<F: Folder> Lane<F> {
         requires scene { S.cat ≡ supply.now.cat.now }
         requires key { IsMosaicKey supply.now.cat.now key band.now }
         requires sources { length band.now.sources < 2 ^ 32 }
-        requires within { (d : Dataset) → slice_get supply.now.cat.now key.dataset ≡ Some d → IsWithin rect d.head.size }
+        requires within { (d : Dataset) → slice_get supply.now.cat.now key.dataset ≡ Some d →
+            IsWithin rect d.head.size }
         requires few { rect.w * rect.h < 2 ^ 32 }
-        ensures serves { Served F.Folder supply.now.cat.now result folder.old self.old loads.old folder.new self.new loads.new }
+        ensures serves { Served F.Folder supply.now.cat.now result folder.old self.old loads.old folder.new self.new
+            loads.new }
         ensures cause { HasCause LoadFault.FolderFault (F.faults folder.old) (F.faults folder.new) result }
         ensures changed { IfErr result (TellsChangeIn supply.now.cat.now) }
         ensures never { WhereTold F.Folder folder.old (λ _. IfErr result IsUnchanged) }
@@ -157,14 +163,18 @@ impl<F: Folder> Lane<F> {
         requires told { S.told ≡ F.names folder.old }
         requires scene { S.cat ≡ supply.now.cat.now }
         requires source { IsSourceOf supply.now.cat.now source.key source.number source.source.now }
-        requires within { (d : Dataset) → slice_get supply.now.cat.now source.key.dataset ≡ Some d → IsWithin canvas.old.rect d.head.size }
+        requires within { (d : Dataset) → slice_get supply.now.cat.now source.key.dataset ≡ Some d →
+            IsWithin canvas.old.rect d.head.size }
         requires canvas { IsCanvas canvas.old }
-        ensures serves { Served F.Folder supply.now.cat.now result folder.old self.old loads.old folder.new self.new loads.new }
+        ensures serves { Served F.Folder supply.now.cat.now result folder.old self.old loads.old folder.new self.new
+            loads.new }
         ensures cause { HasCause LoadFault.FolderFault (F.faults folder.old) (F.faults folder.new) result }
         ensures changed { IfErr result (TellsChangeIn supply.now.cat.now) }
         ensures never { WhereTold F.Folder folder.old (λ _. IfErr result IsUnchanged) }
         ensures canvas { OnOk result (IsCanvas canvas.new) }
-        ensures taken { (d : Dataset) → slice_get supply.now.cat.now source.entry.key.dataset ≡ Some d → OnOk result (IsSourceTaken (F.names folder.new) supply.now.cat.now d source.entry.source.now canvas.old canvas.new) }
+        ensures taken { (d : Dataset) → slice_get supply.now.cat.now source.entry.key.dataset ≡ Some d →
+            OnOk result (IsSourceTaken (F.names folder.new) supply.now.cat.now d source.entry.source.now canvas.old
+            canvas.new) }
     {
         let Some(asked) = asked_of(supply.alloc, supply.cat, source, canvas)? else {
             return Ok(());
@@ -175,6 +185,7 @@ impl<F: Folder> Lane<F> {
             mut pixels,
         } = asked;
         self.paint_picture(supply, folder, &picture, pixels.as_mut_slice(), loads)?;
+        drop(picture);
         let taking = taking_of(source.source);
         canvas.take(supply.alloc, &taking, part, pixels)?;
         Ok(())
@@ -195,12 +206,15 @@ impl<F: Folder> Lane<F> {
         requires scene { S.cat ≡ supply.now.cat.now }
         requires picture { IsPictureOf supply.now.cat.now picture.now }
         requires rows { length out.old ≡ picture.now.height * picture.now.stride }
-        ensures serves { Served F.Folder supply.now.cat.now result folder.old self.old loads.old folder.new self.new loads.new }
+        ensures serves { Served F.Folder supply.now.cat.now result folder.old self.old loads.old folder.new self.new
+            loads.new }
         ensures cause { HasCause LoadFault.FolderFault (F.faults folder.old) (F.faults folder.new) result }
         ensures changed { IfErr result (TellsChangeIn supply.now.cat.now) }
         ensures never { WhereTold F.Folder folder.old (λ _. IfErr result IsUnchanged) }
-        ensures painted { OnOk result (IsShown (F.names folder.new) supply.now.cat.now picture.now 0 picture.now.width 0 out.old out.new) }
-        ensures typed { OnOk result (AreTyped supply.now.cat.now picture.now (picture.now.height * picture.now.stride) out.new) }
+        ensures painted { OnOk result (IsShown (F.names folder.new) supply.now.cat.now picture.now 0 picture.now.width 0
+            out.old out.new) }
+        ensures typed { OnOk result (AreTyped supply.now.cat.now picture.now (picture.now.height * picture.now.stride)
+            out.new) }
     {
         let mut line = 0;
         while line < picture.height {
@@ -240,11 +254,13 @@ impl<F: Folder> Lane<F> {
         requires some { 0 < lines.count }
         requires band { IsBandOf supply.now.cat.now picture.now lines.first lines.count }
         requires rows { length out.old ≡ lines.count * picture.now.stride }
-        ensures serves { Served F.Folder supply.now.cat.now result folder.old self.old loads.old folder.new self.new loads.new }
+        ensures serves { Served F.Folder supply.now.cat.now result folder.old self.old loads.old folder.new self.new
+            loads.new }
         ensures cause { HasCause LoadFault.FolderFault (F.faults folder.old) (F.faults folder.new) result }
         ensures changed { IfErr result (TellsChangeIn supply.now.cat.now) }
         ensures never { WhereTold F.Folder folder.old (λ _. IfErr result IsUnchanged) }
-        ensures painted { OnOk result (IsShown (F.names folder.new) supply.now.cat.now picture.now 0 picture.now.width lines.first out.old out.new) }
+        ensures painted { OnOk result (IsShown (F.names folder.new) supply.now.cat.now picture.now 0 picture.now.width
+            lines.first out.old out.new) }
         ensures typed { OnOk result (IsTyped supply.now.cat.now picture.now 0 picture.now.width out.old out.new) }
     {
         if let Some(rows) = self.wide_rows(supply.cat, picture, lines) {
@@ -252,6 +268,7 @@ impl<F: Folder> Lane<F> {
             let Piece { key, rect, area } = piece;
             let block = self.fill(supply, folder, key, band, rect, loads)?;
             paint_rows(&block, rect, picture, area, out);
+            drop(block);
             return Ok(());
         }
         self.paint_pieces(supply, folder, picture, lines, out, loads)
@@ -276,11 +293,13 @@ impl<F: Folder> Lane<F> {
         requires some { 0 < lines.count }
         requires band { IsBandOf supply.now.cat.now picture.now lines.first lines.count }
         requires rows { length out.old ≡ lines.count * picture.now.stride }
-        ensures serves { Served F.Folder supply.now.cat.now result folder.old self.old loads.old folder.new self.new loads.new }
+        ensures serves { Served F.Folder supply.now.cat.now result folder.old self.old loads.old folder.new self.new
+            loads.new }
         ensures cause { HasCause LoadFault.FolderFault (F.faults folder.old) (F.faults folder.new) result }
         ensures changed { IfErr result (TellsChangeIn supply.now.cat.now) }
         ensures never { WhereTold F.Folder folder.old (λ _. IfErr result IsUnchanged) }
-        ensures painted { OnOk result (IsShown (F.names folder.new) supply.now.cat.now picture.now 0 picture.now.width lines.first out.old out.new) }
+        ensures painted { OnOk result (IsShown (F.names folder.new) supply.now.cat.now picture.now 0 picture.now.width
+            lines.first out.old out.new) }
         ensures typed { OnOk result (IsTyped supply.now.cat.now picture.now 0 picture.now.width out.old out.new) }
     {
         let mut column = 0;
@@ -320,22 +339,27 @@ impl<F: Folder> Lane<F> {
         requires piece { IsPartOf supply.now.cat.now picture.now piece }
         requires area { IsAreaOf picture.now piece.area }
         requires rows { length out.old ≡ piece.area.lines * picture.now.stride }
-        ensures serves { Served F.Folder supply.now.cat.now result folder.old self.old loads.old folder.new self.new loads.new }
+        ensures serves { Served F.Folder supply.now.cat.now result folder.old self.old loads.old folder.new self.new
+            loads.new }
         ensures cause { HasCause LoadFault.FolderFault (F.faults folder.old) (F.faults folder.new) result }
         ensures changed { IfErr result (TellsChangeIn supply.now.cat.now) }
         ensures never { WhereTold F.Folder folder.old (λ _. IfErr result IsUnchanged) }
-        ensures painted { OnOk result (IsShown (F.names folder.new) supply.now.cat.now picture.now piece.area.column piece.area.columns piece.area.line out.old out.new) }
-        ensures typed { OnOk result (IsTyped supply.now.cat.now picture.now piece.area.column piece.area.columns out.old out.new) }
+        ensures painted { OnOk result (IsShown (F.names folder.new) supply.now.cat.now picture.now piece.area.column
+            piece.area.columns piece.area.line out.old out.new) }
+        ensures typed { OnOk result (IsTyped supply.now.cat.now picture.now piece.area.column piece.area.columns out.old
+            out.new) }
     {
         if let Some(part) = self.lone_part(supply.cat, picture, piece) {
             let block = self.part_block(supply, folder, piece.key, part, loads)?;
             paint_rows(&block, part.rect, picture, piece.area, out);
+            drop(block);
             return Ok(());
         }
         if self.is_jump(supply.cat, picture, piece) {
             let rect = pixel_rect(picture, piece.area);
             let block = self.load_alone(supply.alloc, supply.cat, folder, piece.key, rect, loads)?;
             paint_rows(&block, rect, picture, piece.area, out);
+            drop(block);
             return Ok(());
         }
         self.hold(supply, folder, piece.key, loads)?;
@@ -357,12 +381,15 @@ impl<F: Folder> Lane<F> {
         requires scene { S.cat ≡ supply.now.cat.now }
         requires picture { IsPictureOf supply.now.cat.now picture.now }
         requires rows { length out.old ≡ picture.now.height * picture.now.stride }
-        ensures serves { Served F.Folder supply.now.cat.now result folder.old self.old loads.old folder.new self.new loads.new }
+        ensures serves { Served F.Folder supply.now.cat.now result folder.old self.old loads.old folder.new self.new
+            loads.new }
         ensures cause { HasCause LoadFault.FolderFault (F.faults folder.old) (F.faults folder.new) result }
         ensures changed { IfErr result (TellsChangeIn supply.now.cat.now) }
         ensures never { WhereTold F.Folder folder.old (λ _. IfErr result IsUnchanged) }
-        ensures painted { OnOk result (IsShown (F.names folder.new) supply.now.cat.now picture.now 0 picture.now.width 0 out.old out.new) }
-        ensures typed { OnOk result (AreTyped supply.now.cat.now picture.now (picture.now.height * picture.now.stride) out.new) }
+        ensures painted { OnOk result (IsShown (F.names folder.new) supply.now.cat.now picture.now 0 picture.now.width 0
+            out.old out.new) }
+        ensures typed { OnOk result (AreTyped supply.now.cat.now picture.now (picture.now.height * picture.now.stride)
+            out.new) }
     {
         self.begin(supply.cat, out.len());
         self.paint_picture(supply, folder, picture, out, loads)

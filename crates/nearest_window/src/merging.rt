@@ -1,5 +1,6 @@
 // Taking pixels where samples are open.
-ghost use Rattle.std.specs.Prelude.{◌≡◌, ℕ, ◌+◌, ◌*◌, ◌<◌, ◌≤◌, ◌^◌, length, All, true, is_some, unwrap_or, pos, slice_index_or, if◌then◌else◌};
+ghost use Rattle.std.specs.Prelude.{◌≡◌, ℕ, ◌+◌, ◌*◌, ◌<◌, ◌≤◌, ◌^◌, length, All, true, is_some, unwrap_or, pos};
+ghost use Rattle.std.specs.Prelude.{slice_index_or, if◌then◌else◌};
 ghost use Rattle.std.specs.Ordering.{int_eq};
 ghost use Rattle.nearest_window.specs.Canvases.{IsMerged, IsUnder, blank, filled_with};
 ghost use Rattle.nearest_window.specs.Taken.{TakesPixel, is_plain, taken_by};
@@ -56,7 +57,8 @@ pub fn filled_from(samples: &[Sample], known: usize) -> usize
     requires known { known ≤ length samples.now }
     ensures more { known ≤ result }
     ensures within { result ≤ length samples.now }
-    ensures filled { (k : ℕ) → known ≤ k → k < result → is_some (filled_with (slice_index_or samples.now k (pos 0))) ≡ true }
+    ensures filled { (k : ℕ) → known ≤ k → k < result → is_some (filled_with (slice_index_or samples.now k (pos 0)))
+        ≡ true }
 {
     let mut filled = known;
     while filled < samples.len() {
@@ -71,7 +73,9 @@ pub fn filled_from(samples: &[Sample], known: usize) -> usize
 // Marks the samples that have this value as open.
 fn open_each(nodata: Sample, samples: &mut [Sample])
     ensures size { length samples.new ≡ length samples.old }
-    ensures opened { (k : ℕ) → k < length samples.old → slice_index_or samples.new k (pos 0) ≡ (if int_eq nodata (slice_index_or samples.old k (pos 0)) then blank else slice_index_or samples.old k (pos 0)) }
+    ensures opened { (k : ℕ) → k < length samples.old → slice_index_or samples.new k (pos 0)
+        ≡ (if int_eq nodata (slice_index_or samples.old k (pos 0)) then blank else slice_index_or samples.old k
+        (pos 0)) }
 {
     for at in 0..samples.len() {
         if nodata == samples[at] {
@@ -86,7 +90,8 @@ pub fn make_samples(taking: &Taking, pixels: &mut [Sample]) -> usize
     requires plain { is_plain taking.now ≡ true }
     requires near { All (TakesPixel taking.now) pixels.old }
     ensures size { length pixels.new ≡ length pixels.old }
-    ensures made { (k : ℕ) → k < length pixels.old → filled_with (slice_index_or pixels.new k (pos 0)) ≡ taken_by taking.now (slice_index_or pixels.old k (pos 0)) }
+    ensures made { (k : ℕ) → k < length pixels.old → filled_with (slice_index_or pixels.new k (pos 0))
+        ≡ taken_by taking.now (slice_index_or pixels.old k (pos 0)) }
     ensures within { result ≤ length pixels.new }
     ensures filled { (k : ℕ) → k < result → is_some (filled_with (slice_index_or pixels.new k (pos 0))) ≡ true }
 {
@@ -103,7 +108,8 @@ pub fn make_samples(taking: &Taking, pixels: &mut [Sample]) -> usize
 /// Puts a value where samples are open.
 pub fn close(value: Sample, samples: &mut [Sample])
     ensures size { length samples.new ≡ length samples.old }
-    ensures closed { (k : ℕ) → k < length samples.old → slice_index_or samples.new k (pos 0) ≡ unwrap_or (filled_with (slice_index_or samples.old k (pos 0))) value }
+    ensures closed { (k : ℕ) → k < length samples.old → slice_index_or samples.new k (pos 0)
+        ≡ unwrap_or (filled_with (slice_index_or samples.old k (pos 0))) value }
 {
     for at in 0..samples.len() {
         if samples[at] == BLANK {

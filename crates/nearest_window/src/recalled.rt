@@ -49,7 +49,8 @@ impl Recalled {
 
     /// Remembers the sample of a pixel. It is refused where memory is.
     pub fn put(&mut self, key: PixelKey, sample: Sample) -> Result<(), AllocError>
-        ensures kept { (k : PixelKey) → (v : ℤ) → Contains self.new (k, v) → Contains self.old (k, v) ⊎ ((k ≡ key) × (v ≡ sample)) }
+        ensures kept { (k : PixelKey) → (v : ℤ) → Contains self.new (k, v) →
+            Contains self.old (k, v) ⊎ ((k ≡ key) × (v ≡ sample)) }
         ensures refused { OnErr result (self.new ≡ self.old) }
     {
         self.cache.put(key, sample)?;

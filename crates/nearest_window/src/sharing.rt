@@ -30,6 +30,7 @@ pub fn shown_in<S: Scene>(supply: &Supply<S>, key: BlockKey) -> Option<Block>
         return None;
     };
     if !lines.look(&key, &mut block) {
+        drop(block);
         return None;
     }
     Some(block)

@@ -90,15 +90,19 @@ impl<F: Folder> Lane<F> {
         requires ready { IsReady F.Folder folder.old cat.now self.old }
         requires window { IsWindow cat.now window }
         requires size { length out.old ≡ window.rect.w * window.rect.h }
-        ensures pixels { WhereTold F.Folder folder.old (λ m. OnOk result (out.new ≡ row_by_row (pixel_of m cat.now window.dataset window.band) window.rect)) }
+        ensures pixels { WhereTold F.Folder folder.old
+            (λ m. OnOk result (out.new ≡ row_by_row (pixel_of m cat.now window.dataset window.band) window.rect)) }
         // the pixels that the dataset's name has by itself
-        ensures named { WhereTold F.Folder folder.old (λ m. (d : Dataset) → slice_get cat.now window.dataset ≡ Some d → OnOk result (out.new ≡ row_by_row (pixel_of_name m d.head.name window.band) window.rect)) }
+        ensures named { WhereTold F.Folder folder.old (λ m. (d : Dataset) → slice_get cat.now window.dataset ≡ Some d →
+            OnOk result (out.new ≡ row_by_row (pixel_of_name m d.head.name window.band) window.rect)) }
         // each sample is in the band's type, whatever the folder tells
         ensures typed { OnOk result (All (IsInBand cat.now window.dataset window.band) out.new) }
         ensures ready { IsReady F.Folder folder.new cat.now self.new }
         // with room for all blocks, each load makes one more block held, but for the last one of a refused call
-        ensures loads { all_blocks cat.now ≤ room_of self.old → loads.new ≤ loads.old + (held_in self.new - held_in self.old) + slack_of result }
-        ensures reads { F.read_calls folder.new ≤ F.read_calls folder.old + most_calls cat.now * (loads.new - loads.old) }
+        ensures loads { all_blocks cat.now ≤ room_of self.old →
+            loads.new ≤ loads.old + (held_in self.new - held_in self.old) + slack_of result }
+        ensures reads { F.read_calls folder.new ≤ F.read_calls folder.old + most_calls cat.now
+            * (loads.new - loads.old) }
         ensures counted { loads.old ≤ loads.new }
         ensures kept { held_in self.old ≤ held_in self.new }
         ensures capacity { room_of self.new ≡ room_of self.old }
@@ -125,15 +129,19 @@ impl<F: Folder> Lane<F> {
         requires scene { S.cat ≡ cat.now }
         requires window { IsWindow cat.now window }
         requires size { length out.old ≡ window.rect.w * window.rect.h }
-        ensures pixels { WhereTold F.Folder folder.old (λ m. OnOk result (out.new ≡ row_by_row (pixel_of m cat.now window.dataset window.band) window.rect)) }
+        ensures pixels { WhereTold F.Folder folder.old
+            (λ m. OnOk result (out.new ≡ row_by_row (pixel_of m cat.now window.dataset window.band) window.rect)) }
         // the pixels that the dataset's name has by itself
-        ensures named { WhereTold F.Folder folder.old (λ m. (d : Dataset) → slice_get cat.now window.dataset ≡ Some d → OnOk result (out.new ≡ row_by_row (pixel_of_name m d.head.name window.band) window.rect)) }
+        ensures named { WhereTold F.Folder folder.old (λ m. (d : Dataset) → slice_get cat.now window.dataset ≡ Some d →
+            OnOk result (out.new ≡ row_by_row (pixel_of_name m d.head.name window.band) window.rect)) }
         // each sample is in the band's type, whatever the folder tells
         ensures typed { OnOk result (All (IsInBand cat.now window.dataset window.band) out.new) }
         ensures ready { IsReady F.Folder folder.new cat.now self.new }
         // with room for all blocks, each load makes one more block held, but for the last one of a refused call
-        ensures loads { all_blocks cat.now ≤ room_of self.old → loads.new ≤ loads.old + (held_in self.new - held_in self.old) + slack_of result }
-        ensures reads { F.read_calls folder.new ≤ F.read_calls folder.old + most_calls cat.now * (loads.new - loads.old) }
+        ensures loads { all_blocks cat.now ≤ room_of self.old →
+            loads.new ≤ loads.old + (held_in self.new - held_in self.old) + slack_of result }
+        ensures reads { F.read_calls folder.new ≤ F.read_calls folder.old + most_calls cat.now
+            * (loads.new - loads.old) }
         ensures counted { loads.old ≤ loads.new }
         ensures kept { held_in self.old ≤ held_in self.new }
         ensures capacity { room_of self.new ≡ room_of self.old }
@@ -169,15 +177,21 @@ impl<F: Folder> Lane<F> {
         requires scene { S.cat ≡ supply.now.cat.now }
         requires window { IsWindow supply.now.cat.now window }
         requires size { length out.old ≡ window.rect.w * window.rect.h }
-        ensures pixels { WhereTold F.Folder folder.old (λ m. OnOk result (out.new ≡ row_by_row (pixel_of m supply.now.cat.now window.dataset window.band) window.rect)) }
+        ensures pixels { WhereTold F.Folder folder.old
+            (λ m. OnOk result (out.new ≡ row_by_row (pixel_of m supply.now.cat.now window.dataset window.band)
+            window.rect)) }
         // the pixels that the dataset's name has by itself
-        ensures named { WhereTold F.Folder folder.old (λ m. (d : Dataset) → slice_get supply.now.cat.now window.dataset ≡ Some d → OnOk result (out.new ≡ row_by_row (pixel_of_name m d.head.name window.band) window.rect)) }
+        ensures named { WhereTold F.Folder folder.old (λ m. (d : Dataset) →
+            slice_get supply.now.cat.now window.dataset ≡ Some d →
+            OnOk result (out.new ≡ row_by_row (pixel_of_name m d.head.name window.band) window.rect)) }
         // each sample is in the band's type, whatever the folder tells
         ensures typed { OnOk result (All (IsInBand supply.now.cat.now window.dataset window.band) out.new) }
         ensures ready { IsReady F.Folder folder.new supply.now.cat.now self.new }
         // with room for all blocks, each load makes one more block held, but for the last one of a refused call
-        ensures loads { all_blocks supply.now.cat.now ≤ room_of self.old → loads.new ≤ loads.old + (held_in self.new - held_in self.old) + slack_of result }
-        ensures reads { F.read_calls folder.new ≤ F.read_calls folder.old + most_calls supply.now.cat.now * (loads.new - loads.old) }
+        ensures loads { all_blocks supply.now.cat.now ≤ room_of self.old →
+            loads.new ≤ loads.old + (held_in self.new - held_in self.old) + slack_of result }
+        ensures reads { F.read_calls folder.new ≤ F.read_calls folder.old + most_calls supply.now.cat.now
+            * (loads.new - loads.old) }
         ensures counted { loads.old ≤ loads.new }
         ensures kept { held_in self.old ≤ held_in self.new }
         ensures capacity { room_of self.new ≡ room_of self.old }

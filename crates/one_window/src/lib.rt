@@ -28,7 +28,8 @@ fn read_counted<F: Folder, L: Ledger>(
     requires parts { blank.parts ≡ L.parts }
     requires some { 0 < blank.parts }
     requires size { length out.old ≡ rect.w * rect.h }
-    ensures pixels { WhereTold F.Folder folder.old (λ m. result ≡ true → out.new ≡ row_by_row (pixel_of_name m name.now 0) rect) }
+    ensures pixels { WhereTold F.Folder folder.old (λ m. result ≡ true →
+        out.new ≡ row_by_row (pixel_of_name m name.now 0) rect) }
 {
     let mut cat = Catalog::new(alloc);
     let Ok(dataset) = open_all(alloc, &mut cat, folder, name, false) else {
@@ -61,7 +62,8 @@ pub fn read_window<F: Folder>(
     out: &mut [Sample],
 ) -> bool
     requires size { length out.old ≡ rect.w * rect.h }
-    ensures pixels { WhereTold F.Folder folder.old (λ m. result ≡ true → out.new ≡ row_by_row (pixel_of_name m name.now 0) rect) }
+    ensures pixels { WhereTold F.Folder folder.old (λ m. result ≡ true →
+        out.new ≡ row_by_row (pixel_of_name m name.now 0) rect) }
 {
     read_counted::<F, Brand>(alloc, folder, name, rect, out, Blank::new(1))
 }

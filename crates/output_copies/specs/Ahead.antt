@@ -14,9 +14,11 @@ use Rattle.error_lines.specs.declared.faults.Fault.{Fault}
 use Rattle.output_copies.specs.Copying.{IsFilled, MayEnd}
 use Rattle.output_copies.specs.Parts.{ArePart, BeginsWith}
 
-module _ {F File Draft : Type 0} (calls : Ghosts F File Draft) (cat : List Dataset) (id : ℕ) (p : Planned) (lines : Lines) where
+module _ {F File Draft : Type 0} (calls : Ghosts F File Draft) (cat : List Dataset) (id : ℕ) (p : Planned)
+    (lines : Lines) where
   -- lines may be read into a room through a view, by lanes that are ready
-  pub record MayBeRead (told : Option Files) (scene : List Dataset) (view : F) (lanes : List (LaneView File)) (columns : Columns) (strip room : List ℤ) : Type 0 where
+  pub record MayBeRead (told : Option Files) (scene : List Dataset) (view : F) (lanes : List (LaneView File))
+      (columns : Columns) (strip room : List ℤ) : Type 0 where
     pub translation : IsTranslation cat id p
     pub part : ArePart p lines
     pub ready : AreLanesReady calls told scene view cat lanes
@@ -24,7 +26,8 @@ module _ {F File Draft : Type 0} (calls : Ghosts F File Draft) (cat : List Datas
     pub long : p.size.w * (lines.end - lines.first) ≤ length room
 
   -- they were read, or reading was refused: the lanes are ready, and the room is as long as it was
-  pub record WereRead (told : Option Files) (scene : List Dataset) (before view : F) (lanes : List (LaneView File)) (columns : Columns) (strip : List ℤ) (size : ℕ) (room : List ℤ) (answer : Result (Unit {0}) Fault) : Type 0 where
+  pub record WereRead (told : Option Files) (scene : List Dataset) (before view : F) (lanes : List (LaneView File))
+      (columns : Columns) (strip : List ℤ) (size : ℕ) (room : List ℤ) (answer : Result (Unit {0}) Fault) : Type 0 where
     pub ready : AreLanesReady calls told scene view cat lanes
     pub room_for : IsRoomFor cat id p columns strip
     pub names : calls.names view ≡ calls.names before

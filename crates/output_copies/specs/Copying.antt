@@ -1,5 +1,6 @@
 -- What stands in an output while its lines are copied, what is told meanwhile, and how that may end.
-use Rattle.std.specs.Prelude.{ℕ, ℤ, ◌≡◌, ◌<◌, Bool, true, false, List, [], take, Option, Some, None, Result, Ok, Err, IfErr, slice_get}
+use Rattle.std.specs.Prelude.{ℕ, ℤ, ◌≡◌, ◌<◌, Bool, true, false, List, [], take, Option, Some, None, Result, Ok, Err}
+use Rattle.std.specs.Prelude.{IfErr, slice_get}
 use Rattle.outside.specs.Outside.{Files}
 use Rattle.outside.specs.Streams.{Gets, GetsPart}
 use Rattle.catalog.specs.Drivers.{Dataset}
@@ -24,7 +25,8 @@ Tells quiet (Err fault) before after = GetsPart (spoken quiet progress) before a
 
 -- How a part of a translation may end: the counts of the folder and of the output rose where their faults are answered,
 -- and where the folder tells its files, what is answered is a fault of the outside.
-pub record MayEnd {T : Type 0} (told : Option Files) (folder folder_now out out_now : ℕ) (result : Result T Fault) : Type 0 where
+pub record MayEnd {T : Type 0} (told : Option Files) (folder folder_now out out_now : ℕ) (result : Result T Fault)
+    : Type 0 where
   pub cause : HasCauses folder folder_now out out_now result
   pub reading : IfErr result IsOfReading
   pub differs : Differs result
@@ -48,10 +50,12 @@ pub record IsCopied (samples : ℕ → ℕ → ℕ → ℤ) (t : TargetView) (fi
 
 -- An output of a plan, in which these lines were written, and no window was refused. Over a folder that tells its files
 -- they are those of the plan's raster.
-pub record IsFilled (told : Option Files) (cat : List Dataset) (id : ℕ) (p : Planned) (t : TargetView) (first end k : ℕ) : Type 0 where
+pub record IsFilled (told : Option Files) (cat : List Dataset) (id : ℕ) (p : Planned) (t : TargetView) (first end k : ℕ)
+    : Type 0 where
   pub target : IsTarget told t
   pub output : output_of p ≡ Some t.output
   pub fault : t.fault ≡ None
   pub at : k ≡ 0 → IsAtLine t.output t.lines first
   pub behind : 0 < k → IsAtLine t.output t.lines end
-  pub copied : (m : Files) (d : Dataset) → told ≡ Some m → slice_get cat id ≡ Some d → IsCopied (raster_of m d p) t first end k
+  pub copied : (m : Files) (d : Dataset) → told ≡ Some m → slice_get cat id ≡ Some d →
+      IsCopied (raster_of m d p) t first end k

@@ -10,12 +10,14 @@ use Rattle.strip_copies.specs.Copies.{lines_rect}
 use Rattle.strip_copies.specs.Rows.{IsHeldIn}
 use Rattle.output_copies.specs.Steps.{raster_of}
 
--- Samples of lines of a band that were read, row by row: the output can hold each, and over a folder that tells its files
--- they are those of the plan's raster.
-pub record AreRead (told : Option Files) (cat : List Dataset) (id : ℕ) (p : Planned) (lines : Lines) (samples : List ℤ) : Type 0 where
+-- Samples of lines of a band that were read, row by row: the output can hold each, and over a folder that tells its
+-- files they are those of the plan's raster.
+pub record AreRead (told : Option Files) (cat : List Dataset) (id : ℕ) (p : Planned) (lines : Lines) (samples : List ℤ)
+    : Type 0 where
   pub long : length samples ≡ p.size.w * (lines.end - lines.first)
   pub held : All (IsHeldIn p lines.band) samples
-  pub pixels : (m : Files) (d : Dataset) → told ≡ Some m → slice_get cat id ≡ Some d → samples ≡ row_by_row (raster_of m d p lines.band) (lines_rect p.size lines.first lines.end)
+  pub pixels : (m : Files) (d : Dataset) → told ≡ Some m → slice_get cat id ≡ Some d →
+      samples ≡ row_by_row (raster_of m d p lines.band) (lines_rect p.size lines.first lines.end)
 
 -- lines of a band of a plan
 pub record ArePart (p : Planned) (lines : Lines) : Type 0 where

@@ -46,4 +46,5 @@ written m d p name = written_by p.driver m d p name
 -- the steps of a translation of a dataset by a plan into files under a name
 unfoldable pub translation_steps : Bool → Files → Dataset → Planned → List ℕ → List Step
 translation_steps quiet m d p name =
-    unless_quiet quiet (size_line d.head.size) ++ (unless_quiet quiet progress ++ (publishes (written m d p name) ++ unless_quiet quiet progress_end))
+    unless_quiet quiet (size_line d.head.size) ++ (unless_quiet quiet progress ++
+    (publishes (written m d p name) ++ unless_quiet quiet progress_end))

@@ -1,5 +1,6 @@
 // Lines that are read while those before them are written.
-ghost use Rattle.std.specs.Prelude.{◌≡◌, ◌<◌, ◌≤◌, ◌+◌, ◌-◌, ◌*◌, ℕ, IfOk, IfSome, List, None, Ok, Option, OnOk, OnErr, length, take, true};
+ghost use Rattle.std.specs.Prelude.{◌≡◌, ◌<◌, ◌≤◌, ◌+◌, ◌-◌, ◌*◌, ℕ, IfOk, IfSome, List, None, Ok, Option, OnOk, OnErr};
+ghost use Rattle.std.specs.Prelude.{length, take, true};
 ghost use Rattle.outside.specs.Outside.{Files};
 ghost use Rattle.std.specs.Thread.{IsSend, IsSync};
 ghost use Rattle.outside.specs.Streams.{Gets, GetsPart};
@@ -75,10 +76,13 @@ fn read_front<R: Threads + Sync, F: Folder, L: Ledger, S: Scene>(
     lines: Lines,
     room: &mut [Sample],
 ) -> Result<(), Fault>
-    requires may { MayBeRead F.Folder translation.now.cat translation.now.id translation.now.plan lines S.told S.cat view.old reader.old.team.lanes.items reader.old.columns reader.old.samples.items room.old }
-    ensures read { OnOk result (BeginsWith (F.names view.old) translation.now.cat translation.now.id translation.now.plan lines room.new) }
+    requires may { MayBeRead F.Folder translation.now.cat translation.now.id translation.now.plan lines S.told S.cat
+        view.old reader.old.team.lanes.items reader.old.columns reader.old.samples.items room.old }
+    ensures read { OnOk result (BeginsWith (F.names view.old) translation.now.cat translation.now.id
+        translation.now.plan lines room.new) }
     ensures ready { AreLanesReady F.Folder S.told S.cat view.new translation.now.cat reader.new.team.lanes.items }
-    ensures room { IsRoomFor translation.now.cat translation.now.id translation.now.plan reader.new.columns reader.new.samples.items }
+    ensures room { IsRoomFor translation.now.cat translation.now.id translation.now.plan reader.new.columns
+        reader.new.samples.items }
     ensures names { F.names view.new ≡ F.names view.old }
     ensures ends { MayEnd (F.names view.old) (F.faults view.old) (F.faults view.new) 0 0 result }
 {
@@ -97,8 +101,11 @@ fn read_room<R: Threads + Sync, F: Folder, L: Ledger, S: Scene>(
     lines: Lines,
     room: &mut Vec<Sample>,
 ) -> Result<(), Fault>
-    requires may { MayBeRead F.Folder translation.now.cat translation.now.id translation.now.plan lines S.told S.cat view.old reader.old.team.lanes.items reader.old.columns reader.old.samples.items room.old.items }
-    ensures were { WereRead F.Folder translation.now.cat translation.now.id translation.now.plan lines S.told S.cat view.old view.new reader.new.team.lanes.items reader.new.columns reader.new.samples.items (length room.old.items) room.new.items result }
+    requires may { MayBeRead F.Folder translation.now.cat translation.now.id translation.now.plan lines S.told S.cat
+        view.old reader.old.team.lanes.items reader.old.columns reader.old.samples.items room.old.items }
+    ensures were { WereRead F.Folder translation.now.cat translation.now.id translation.now.plan lines S.told S.cat
+        view.old view.new reader.new.team.lanes.items reader.new.columns reader.new.samples.items
+        (length room.old.items) room.new.items result }
 {
     let front = room.as_mut_slice();
     read_front(rt, translation, reader, view, shared, lines, front)
@@ -113,8 +120,10 @@ fn write_front<F: Folder, W: Ledger>(
     samples: &[Sample],
     writes: &mut Counter<W>,
 ) -> Result<(), Fault>
-    requires may { MayBeWritten F.Folder translation.now.cat translation.now.id translation.now.plan lines folder.old target.old samples.now }
-    ensures were { WereWritten F.Folder translation.now.cat translation.now.id translation.now.plan lines folder.old folder.new target.old target.new result }
+    requires may { MayBeWritten F.Folder translation.now.cat translation.now.id translation.now.plan lines folder.old
+        target.old samples.now }
+    ensures were { WereWritten F.Folder translation.now.cat translation.now.id translation.now.plan lines folder.old
+        folder.new target.old target.new result }
 {
     let count = area(translation.plan.size.w, lines.end - lines.first);
     let part = &samples[..count];
@@ -128,12 +137,18 @@ fn read_next<R: Threads + Sync, F: Folder, L: Ledger, S: Scene>(
     shared: Option<&shared_lines::Lines<S>>,
     reading: &mut Reading<F, L>,
 )
-    requires may { MayBeRead F.Folder task.now.translation.now.cat task.now.translation.now.id task.now.translation.now.plan task.now.next S.told S.cat reading.old.view.now reading.old.reader.now.team.lanes.items reading.old.reader.now.columns reading.old.reader.now.samples.items reading.old.room.now.items }
+    requires may { MayBeRead F.Folder task.now.translation.now.cat task.now.translation.now.id
+        task.now.translation.now.plan task.now.next S.told S.cat reading.old.view.now
+        reading.old.reader.now.team.lanes.items reading.old.reader.now.columns reading.old.reader.now.samples.items
+        reading.old.room.now.items }
     ensures reader { reading.new.reader.ghost_name ≡ reading.old.reader.ghost_name }
     ensures view { reading.new.view.ghost_name ≡ reading.old.view.ghost_name }
     ensures room { reading.new.room.ghost_name ≡ reading.old.room.ghost_name }
     ensures answer { reading.new.answer.ghost_name ≡ reading.old.answer.ghost_name }
-    ensures were { WereRead F.Folder task.now.translation.now.cat task.now.translation.now.id task.now.translation.now.plan task.now.next S.told S.cat reading.old.view.now reading.new.view.now reading.new.reader.now.team.lanes.items reading.new.reader.now.columns reading.new.reader.now.samples.items (length reading.old.room.now.items) reading.new.room.now.items reading.new.answer.now }
+    ensures were { WereRead F.Folder task.now.translation.now.cat task.now.translation.now.id
+        task.now.translation.now.plan task.now.next S.told S.cat reading.old.view.now reading.new.view.now
+        reading.new.reader.now.team.lanes.items reading.new.reader.now.columns reading.new.reader.now.samples.items
+        (length reading.old.room.now.items) reading.new.room.now.items reading.new.answer.now }
 {
     let reader = &mut *reading.reader;
     let view = &mut *reading.view;
@@ -144,12 +159,15 @@ fn read_next<R: Threads + Sync, F: Folder, L: Ledger, S: Scene>(
 
 // Who writes does so.
 fn write_last<F: Folder, W: Ledger>(task: &Task, writing: &mut Writing<F, W>)
-    requires may { MayBeWritten F.Folder task.now.translation.now.cat task.now.translation.now.id task.now.translation.now.plan task.now.last writing.old.folder.now writing.old.target.now task.now.samples.now }
+    requires may { MayBeWritten F.Folder task.now.translation.now.cat task.now.translation.now.id
+        task.now.translation.now.plan task.now.last writing.old.folder.now writing.old.target.now task.now.samples.now }
     ensures folder { writing.new.folder.ghost_name ≡ writing.old.folder.ghost_name }
     ensures target { writing.new.target.ghost_name ≡ writing.old.target.ghost_name }
     ensures writes { writing.new.writes.ghost_name ≡ writing.old.writes.ghost_name }
     ensures answer { writing.new.answer.ghost_name ≡ writing.old.answer.ghost_name }
-    ensures were { WereWritten F.Folder task.now.translation.now.cat task.now.translation.now.id task.now.translation.now.plan task.now.last writing.old.folder.now writing.new.folder.now writing.old.target.now writing.new.target.now writing.new.answer.now }
+    ensures were { WereWritten F.Folder task.now.translation.now.cat task.now.translation.now.id
+        task.now.translation.now.plan task.now.last writing.old.folder.now writing.new.folder.now writing.old.target.now
+        writing.new.target.now writing.new.answer.now }
 {
     let folder = &mut *writing.folder;
     let target = &mut *writing.target;
@@ -166,8 +184,12 @@ fn do_both<'a, 'b, R: Threads + Sync, F: Folder, L: Ledger + Send, W: Ledger, S:
     reading: &mut Reading<'a, F, L>,
     writing: &mut Writing<'b, F, W>,
 )
-    requires may_read { MayBeRead F.Folder task.now.translation.now.cat task.now.translation.now.id task.now.translation.now.plan task.now.next S.told S.cat reading.old.view.now reading.old.reader.now.team.lanes.items reading.old.reader.now.columns reading.old.reader.now.samples.items reading.old.room.now.items }
-    requires may_write { MayBeWritten F.Folder task.now.translation.now.cat task.now.translation.now.id task.now.translation.now.plan task.now.last writing.old.folder.now writing.old.target.now task.now.samples.now }
+    requires may_read { MayBeRead F.Folder task.now.translation.now.cat task.now.translation.now.id
+        task.now.translation.now.plan task.now.next S.told S.cat reading.old.view.now
+        reading.old.reader.now.team.lanes.items reading.old.reader.now.columns reading.old.reader.now.samples.items
+        reading.old.room.now.items }
+    requires may_write { MayBeWritten F.Folder task.now.translation.now.cat task.now.translation.now.id
+        task.now.translation.now.plan task.now.last writing.old.folder.now writing.old.target.now task.now.samples.now }
     ensures reader { reading.new.reader.ghost_name ≡ reading.old.reader.ghost_name }
     ensures view { reading.new.view.ghost_name ≡ reading.old.view.ghost_name }
     ensures room { reading.new.room.ghost_name ≡ reading.old.room.ghost_name }
@@ -176,18 +198,41 @@ fn do_both<'a, 'b, R: Threads + Sync, F: Folder, L: Ledger + Send, W: Ledger, S:
     ensures target { writing.new.target.ghost_name ≡ writing.old.target.ghost_name }
     ensures writes { writing.new.writes.ghost_name ≡ writing.old.writes.ghost_name }
     ensures written { writing.new.answer.ghost_name ≡ writing.old.answer.ghost_name }
-    ensures were_read { WereRead F.Folder task.now.translation.now.cat task.now.translation.now.id task.now.translation.now.plan task.now.next S.told S.cat reading.old.view.now reading.new.view.now reading.new.reader.now.team.lanes.items reading.new.reader.now.columns reading.new.reader.now.samples.items (length reading.old.room.now.items) reading.new.room.now.items reading.new.answer.now }
-    ensures were_written { WereWritten F.Folder task.now.translation.now.cat task.now.translation.now.id task.now.translation.now.plan task.now.last writing.old.folder.now writing.new.folder.now writing.old.target.now writing.new.target.now writing.new.answer.now }
+    ensures were_read { WereRead F.Folder task.now.translation.now.cat task.now.translation.now.id
+        task.now.translation.now.plan task.now.next S.told S.cat reading.old.view.now reading.new.view.now
+        reading.new.reader.now.team.lanes.items reading.new.reader.now.columns reading.new.reader.now.samples.items
+        (length reading.old.room.now.items) reading.new.room.now.items reading.new.answer.now }
+    ensures were_written { WereWritten F.Folder task.now.translation.now.cat task.now.translation.now.id
+        task.now.translation.now.plan task.now.last writing.old.folder.now writing.new.folder.now writing.old.target.now
+        writing.new.target.now writing.new.answer.now }
 {
     let read = |half: &mut Reading<F, L>|
-        requires { IsSync R.row × IsSend S.row × IsSync S.row × IsSend F.row × IsSend F.File.row × IsSend F.Draft.row × IsSend L.row × MayBeRead F.Folder task.now.translation.now.cat task.now.translation.now.id task.now.translation.now.plan task.now.next S.told S.cat half.old.view.now half.old.reader.now.team.lanes.items half.old.reader.now.columns half.old.reader.now.samples.items half.old.room.now.items }
-        ensures { (half.new.reader.ghost_name ≡ half.old.reader.ghost_name) × (half.new.view.ghost_name ≡ half.old.view.ghost_name) × (half.new.room.ghost_name ≡ half.old.room.ghost_name) × (half.new.answer.ghost_name ≡ half.old.answer.ghost_name) × WereRead F.Folder task.entry.now.translation.now.cat task.entry.now.translation.now.id task.entry.now.translation.now.plan task.entry.now.next S.told S.cat half.old.view.now half.new.view.now half.new.reader.now.team.lanes.items half.new.reader.now.columns half.new.reader.now.samples.items (length half.old.room.now.items) half.new.room.now.items half.new.answer.now }
+        requires { IsSync R.row × IsSend S.row × IsSync S.row × IsSend F.row × IsSend F.File.row × IsSend F.Draft.row ×
+            IsSend L.row × MayBeRead F.Folder task.now.translation.now.cat task.now.translation.now.id
+            task.now.translation.now.plan task.now.next S.told S.cat half.old.view.now
+            half.old.reader.now.team.lanes.items half.old.reader.now.columns half.old.reader.now.samples.items
+            half.old.room.now.items }
+        ensures { (half.new.reader.ghost_name ≡ half.old.reader.ghost_name) ×
+            (half.new.view.ghost_name ≡ half.old.view.ghost_name) ×
+            (half.new.room.ghost_name ≡ half.old.room.ghost_name) ×
+            (half.new.answer.ghost_name ≡ half.old.answer.ghost_name) ×
+            WereRead F.Folder task.entry.now.translation.now.cat task.entry.now.translation.now.id
+            task.entry.now.translation.now.plan task.entry.now.next S.told S.cat half.old.view.now half.new.view.now
+            half.new.reader.now.team.lanes.items half.new.reader.now.columns half.new.reader.now.samples.items
+            (length half.old.room.now.items) half.new.room.now.items half.new.answer.now }
     {
         read_next::<R, F, L, S>(rt, task, shared, half);
     };
     let write = |half: &mut Writing<F, W>|
-        requires { MayBeWritten F.Folder task.now.translation.now.cat task.now.translation.now.id task.now.translation.now.plan task.now.last half.old.folder.now half.old.target.now task.now.samples.now }
-        ensures { (half.new.folder.ghost_name ≡ half.old.folder.ghost_name) × (half.new.target.ghost_name ≡ half.old.target.ghost_name) × (half.new.writes.ghost_name ≡ half.old.writes.ghost_name) × (half.new.answer.ghost_name ≡ half.old.answer.ghost_name) × WereWritten F.Folder task.entry.now.translation.now.cat task.entry.now.translation.now.id task.entry.now.translation.now.plan task.entry.now.last half.old.folder.now half.new.folder.now half.old.target.now half.new.target.now half.new.answer.now }
+        requires { MayBeWritten F.Folder task.now.translation.now.cat task.now.translation.now.id
+            task.now.translation.now.plan task.now.last half.old.folder.now half.old.target.now task.now.samples.now }
+        ensures { (half.new.folder.ghost_name ≡ half.old.folder.ghost_name) ×
+            (half.new.target.ghost_name ≡ half.old.target.ghost_name) ×
+            (half.new.writes.ghost_name ≡ half.old.writes.ghost_name) ×
+            (half.new.answer.ghost_name ≡ half.old.answer.ghost_name) ×
+            WereWritten F.Folder task.entry.now.translation.now.cat task.entry.now.translation.now.id
+            task.entry.now.translation.now.plan task.entry.now.last half.old.folder.now half.new.folder.now
+            half.old.target.now half.new.target.now half.new.answer.now }
     {
         write_last::<F, W>(task, half);
     };
@@ -251,21 +296,30 @@ fn write_and_read<R: Threads + Sync, F: Folder, L: Ledger + Send, W: Ledger, S: 
     rooms: &mut Rooms,
 ) -> Result<Result<(), Fault>, Fault>
     requires translation { IsTranslation translation.now.cat translation.now.id translation.now.plan }
-    requires ready { AreLanesReady F.Folder S.told S.cat folder.old translation.now.cat copier.old.reader.team.lanes.items }
-    requires room { IsRoomFor translation.now.cat translation.now.id translation.now.plan copier.old.reader.columns copier.old.reader.samples.items }
+    requires ready { AreLanesReady F.Folder S.told S.cat folder.old translation.now.cat
+        copier.old.reader.team.lanes.items }
+    requires room { IsRoomFor translation.now.cat translation.now.id translation.now.plan copier.old.reader.columns
+        copier.old.reader.samples.items }
     requires last { ArePart translation.now.plan pair.last }
     requires next { ArePart translation.now.plan pair.next }
     requires long { translation.now.plan.size.w * (pair.next.end - pair.next.first) ≤ length rooms.old.next.items }
-    requires filled { IsFilled (F.names folder.old) translation.now.cat translation.now.id translation.now.plan target.old pair.last.first pair.last.end pair.last.band }
-    requires read { BeginsWith (F.names folder.old) translation.now.cat translation.now.id translation.now.plan pair.last rooms.old.ready.items }
-    ensures filled { OnOk result (IsFilled (F.names folder.new) translation.now.cat translation.now.id translation.now.plan target.new pair.last.first pair.last.end (pair.last.band + 1)) }
-    ensures read { IfOk result (λ read. OnOk read (BeginsWith (F.names folder.new) translation.now.cat translation.now.id translation.now.plan pair.next rooms.new.next.items)) }
-    ensures read_ends { IfOk result (λ read. MayEnd (F.names folder.old) (F.faults folder.old) (F.faults folder.new) 0 0 read) }
+    requires filled { IsFilled (F.names folder.old) translation.now.cat translation.now.id translation.now.plan
+        target.old pair.last.first pair.last.end pair.last.band }
+    requires read { BeginsWith (F.names folder.old) translation.now.cat translation.now.id translation.now.plan
+        pair.last rooms.old.ready.items }
+    ensures filled { OnOk result (IsFilled (F.names folder.new) translation.now.cat translation.now.id
+        translation.now.plan target.new pair.last.first pair.last.end (pair.last.band + 1)) }
+    ensures read { IfOk result (λ read. OnOk read (BeginsWith (F.names folder.new) translation.now.cat
+        translation.now.id translation.now.plan pair.next rooms.new.next.items)) }
+    ensures read_ends { IfOk result (λ read. MayEnd (F.names folder.old) (F.faults folder.old) (F.faults folder.new) 0 0
+        read) }
     ensures kept { length rooms.new.ready.items ≡ length rooms.old.ready.items }
     ensures size { length rooms.new.next.items ≡ length rooms.old.next.items }
     ensures name { target.new.name ≡ target.old.name }
-    ensures ready { AreLanesReady F.Folder S.told S.cat folder.new translation.now.cat copier.new.reader.team.lanes.items }
-    ensures room { IsRoomFor translation.now.cat translation.now.id translation.now.plan copier.new.reader.columns copier.new.reader.samples.items }
+    ensures ready { AreLanesReady F.Folder S.told S.cat folder.new translation.now.cat
+        copier.new.reader.team.lanes.items }
+    ensures room { IsRoomFor translation.now.cat translation.now.id translation.now.plan copier.new.reader.columns
+        copier.new.reader.samples.items }
     ensures names { F.names folder.new ≡ F.names folder.old }
     ensures ends { MayEnd (F.names folder.old) (F.faults folder.old) (F.faults folder.new) 0 0 result }
 {
@@ -351,10 +405,12 @@ fn tell_behind<O: Sink>(
 ) -> Result<usize, Fault>
     requires told { told ≤ 49 }
     requires last { ArePart plan.now last }
-    ensures told { (before : Option (List ℕ)) → Gets (spoken quiet (take told progress)) before (O.got out.old) → Tells quiet result before (O.got out.new) }
+    ensures told { (before : Option (List ℕ)) → Gets (spoken quiet (take told progress)) before (O.got out.old) →
+        Tells quiet result before (O.got out.new) }
     ensures within { IfOk result (λ next. next ≤ 49) }
     ensures quiet { quiet ≡ true → out.new ≡ out.old }
-    ensures ends { (names : Option Files) (faults : ℕ) → MayEnd names faults faults (O.faults out.old) (O.faults out.new) result }
+    ensures ends { (names : Option Files) (faults : ℕ) → MayEnd names faults faults (O.faults out.old)
+        (O.faults out.new) result }
 {
     let bands = plan.count();
     let height = plan.size.h;
@@ -376,11 +432,13 @@ fn tell_and_answer<O: Sink>(
 ) -> Result<usize, Fault>
     requires told { told ≤ 49 }
     requires last { ArePart plan.now last }
-    ensures told { (before : Option (List ℕ)) → Gets (spoken quiet (take told progress)) before (O.got out.old) → Tells quiet result before (O.got out.new) }
+    ensures told { (before : Option (List ℕ)) → Gets (spoken quiet (take told progress)) before (O.got out.old) →
+        Tells quiet result before (O.got out.new) }
     ensures within { IfOk result (λ next. next ≤ 49) }
     ensures read { IfOk result (λ next. read ≡ Ok tt) }
     ensures quiet { quiet ≡ true → out.new ≡ out.old }
-    ensures ends { (names : Option Files) (before now : ℕ) → MayEnd names before now 0 0 read → MayEnd names before now (O.faults out.old) (O.faults out.new) result }
+    ensures ends { (names : Option Files) (before now : ℕ) → MayEnd names before now 0 0 read →
+        MayEnd names before now (O.faults out.old) (O.faults out.new) result }
 {
     match tell_behind(out, quiet, told, plan, last) {
         Ok(next) => {
@@ -413,19 +471,24 @@ pub fn copy_ahead<R: Threads + Sync, F: Folder, O: Sink, L: Ledger + Send, W: Le
     rooms: &mut Rooms,
 ) -> Result<(), Fault>
     requires translation { IsTranslation translation.now.cat translation.now.id translation.now.plan }
-    requires ready { AreLanesReady F.Folder S.told S.cat folder.old translation.now.cat copier.old.reader.team.lanes.items }
-    requires room { IsRoomFor translation.now.cat translation.now.id translation.now.plan copier.old.reader.columns copier.old.reader.samples.items }
+    requires ready { AreLanesReady F.Folder S.told S.cat folder.old translation.now.cat
+        copier.old.reader.team.lanes.items }
+    requires room { IsRoomFor translation.now.cat translation.now.id translation.now.plan copier.old.reader.columns
+        copier.old.reader.samples.items }
     requires rows { 1 ≤ copier.old.rows }
     requires long { translation.now.plan.size.w * copier.old.rows ≤ length rooms.old.ready.items }
     requires long_next { translation.now.plan.size.w * copier.old.rows ≤ length rooms.old.next.items }
-    requires filled { IsFilled (F.names folder.old) translation.now.cat translation.now.id translation.now.plan target.old 0 0 0 }
-    ensures filled { OnOk result (IsFilled (F.names folder.new) translation.now.cat translation.now.id translation.now.plan target.new translation.now.plan.size.h translation.now.plan.size.h 0) }
+    requires filled { IsFilled (F.names folder.old) translation.now.cat translation.now.id translation.now.plan
+        target.old 0 0 0 }
+    ensures filled { OnOk result (IsFilled (F.names folder.new) translation.now.cat translation.now.id
+        translation.now.plan target.new translation.now.plan.size.h translation.now.plan.size.h 0) }
     ensures name { target.new.name ≡ target.old.name }
     ensures names { F.names folder.new ≡ F.names folder.old }
     ensures ok { OnOk result (Gets (spoken copier.old.quiet progress) (O.got out.old) (O.got out.new)) }
     ensures err { OnErr result (GetsPart (spoken copier.old.quiet progress) (O.got out.old) (O.got out.new)) }
     ensures quiet { copier.old.quiet ≡ true → out.new ≡ out.old }
-    ensures ends { MayEnd (F.names folder.old) (F.faults folder.old) (F.faults folder.new) (O.faults out.old) (O.faults out.new) result }
+    ensures ends { MayEnd (F.names folder.old) (F.faults folder.old) (F.faults folder.new) (O.faults out.old)
+        (O.faults out.new) result }
 {
     let plan = &translation.plan;
     plan.rules();

@@ -1,5 +1,6 @@
 // Lines of a translation's output, copied into a target.
-ghost use Rattle.std.specs.Prelude.{◌≡◌, ◌<◌, ◌≤◌, ◌+◌, ◌-◌, ◌*◌, ℕ, Option, Some, OnOk, OnErr, length, slice_get, true};
+ghost use Rattle.std.specs.Prelude.{◌≡◌, ◌<◌, ◌≤◌, ◌+◌, ◌-◌, ◌*◌, ℕ, Option, Some, OnOk, OnErr, length, slice_get};
+ghost use Rattle.std.specs.Prelude.{true};
 ghost use Rattle.outside.specs.Outside.{Files};
 ghost use Rattle.outside.specs.Streams.{Gets, GetsPart};
 ghost use Rattle.lane_teams.specs.Ready.{AreLanesReady};
@@ -50,15 +51,21 @@ fn copy_band<R: Threads + Sync, F: Folder, L: Ledger, W: Ledger, S: Scene>(
     samples: &mut [Sample],
 ) -> Result<(), Fault>
     requires translation { IsTranslation translation.now.cat translation.now.id translation.now.plan }
-    requires ready { AreLanesReady F.Folder S.told S.cat folder.old translation.now.cat copier.old.reader.team.lanes.items }
-    requires room { IsRoomFor translation.now.cat translation.now.id translation.now.plan copier.old.reader.columns copier.old.reader.samples.items }
+    requires ready { AreLanesReady F.Folder S.told S.cat folder.old translation.now.cat
+        copier.old.reader.team.lanes.items }
+    requires room { IsRoomFor translation.now.cat translation.now.id translation.now.plan copier.old.reader.columns
+        copier.old.reader.samples.items }
     requires long { translation.now.plan.size.w * (lines.end - lines.first) ≤ length samples.old }
     requires lines { ArePart translation.now.plan lines }
-    requires filled { IsFilled (F.names folder.old) translation.now.cat translation.now.id translation.now.plan target.old lines.first lines.end lines.band }
-    ensures filled { OnOk result (IsFilled (F.names folder.new) translation.now.cat translation.now.id translation.now.plan target.new lines.first lines.end (lines.band + 1)) }
+    requires filled { IsFilled (F.names folder.old) translation.now.cat translation.now.id translation.now.plan
+        target.old lines.first lines.end lines.band }
+    ensures filled { OnOk result (IsFilled (F.names folder.new) translation.now.cat translation.now.id
+        translation.now.plan target.new lines.first lines.end (lines.band + 1)) }
     ensures name { target.new.name ≡ target.old.name }
-    ensures ready { AreLanesReady F.Folder S.told S.cat folder.new translation.now.cat copier.new.reader.team.lanes.items }
-    ensures room { IsRoomFor translation.now.cat translation.now.id translation.now.plan copier.new.reader.columns copier.new.reader.samples.items }
+    ensures ready { AreLanesReady F.Folder S.told S.cat folder.new translation.now.cat
+        copier.new.reader.team.lanes.items }
+    ensures room { IsRoomFor translation.now.cat translation.now.id translation.now.plan copier.new.reader.columns
+        copier.new.reader.samples.items }
     ensures names { F.names folder.new ≡ F.names folder.old }
     ensures ends { MayEnd (F.names folder.old) (F.faults folder.old) (F.faults folder.new) 0 0 result }
 {
@@ -82,16 +89,22 @@ fn copy_strip<R: Threads + Sync, F: Folder, L: Ledger, W: Ledger, S: Scene>(
     samples: &mut [Sample],
 ) -> Result<(), Fault>
     requires translation { IsTranslation translation.now.cat translation.now.id translation.now.plan }
-    requires ready { AreLanesReady F.Folder S.told S.cat folder.old translation.now.cat copier.old.reader.team.lanes.items }
-    requires room { IsRoomFor translation.now.cat translation.now.id translation.now.plan copier.old.reader.columns copier.old.reader.samples.items }
+    requires ready { AreLanesReady F.Folder S.told S.cat folder.old translation.now.cat
+        copier.old.reader.team.lanes.items }
+    requires room { IsRoomFor translation.now.cat translation.now.id translation.now.plan copier.old.reader.columns
+        copier.old.reader.samples.items }
     requires long { translation.now.plan.size.w * (strip.end - strip.first) ≤ length samples.old }
     requires order { strip.first < strip.end }
     requires end { strip.end ≤ translation.now.plan.size.h }
-    requires filled { IsFilled (F.names folder.old) translation.now.cat translation.now.id translation.now.plan target.old strip.first strip.first 0 }
-    ensures filled { OnOk result (IsFilled (F.names folder.new) translation.now.cat translation.now.id translation.now.plan target.new strip.end strip.end 0) }
+    requires filled { IsFilled (F.names folder.old) translation.now.cat translation.now.id translation.now.plan
+        target.old strip.first strip.first 0 }
+    ensures filled { OnOk result (IsFilled (F.names folder.new) translation.now.cat translation.now.id
+        translation.now.plan target.new strip.end strip.end 0) }
     ensures name { target.new.name ≡ target.old.name }
-    ensures ready { AreLanesReady F.Folder S.told S.cat folder.new translation.now.cat copier.new.reader.team.lanes.items }
-    ensures room { IsRoomFor translation.now.cat translation.now.id translation.now.plan copier.new.reader.columns copier.new.reader.samples.items }
+    ensures ready { AreLanesReady F.Folder S.told S.cat folder.new translation.now.cat
+        copier.new.reader.team.lanes.items }
+    ensures room { IsRoomFor translation.now.cat translation.now.id translation.now.plan copier.new.reader.columns
+        copier.new.reader.samples.items }
     ensures names { F.names folder.new ≡ F.names folder.old }
     ensures ends { MayEnd (F.names folder.old) (F.faults folder.old) (F.faults folder.new) 0 0 result }
 {
@@ -120,18 +133,23 @@ pub fn copy_all<R: Threads + Sync, F: Folder, O: Sink, L: Ledger, W: Ledger, S: 
     samples: &mut [Sample],
 ) -> Result<(), Fault>
     requires translation { IsTranslation translation.now.cat translation.now.id translation.now.plan }
-    requires ready { AreLanesReady F.Folder S.told S.cat folder.old translation.now.cat copier.old.reader.team.lanes.items }
-    requires room { IsRoomFor translation.now.cat translation.now.id translation.now.plan copier.old.reader.columns copier.old.reader.samples.items }
+    requires ready { AreLanesReady F.Folder S.told S.cat folder.old translation.now.cat
+        copier.old.reader.team.lanes.items }
+    requires room { IsRoomFor translation.now.cat translation.now.id translation.now.plan copier.old.reader.columns
+        copier.old.reader.samples.items }
     requires rows { 1 ≤ copier.old.rows }
     requires long { translation.now.plan.size.w * copier.old.rows ≤ length samples.old }
-    requires filled { IsFilled (F.names folder.old) translation.now.cat translation.now.id translation.now.plan target.old 0 0 0 }
-    ensures filled { OnOk result (IsFilled (F.names folder.new) translation.now.cat translation.now.id translation.now.plan target.new translation.now.plan.size.h translation.now.plan.size.h 0) }
+    requires filled { IsFilled (F.names folder.old) translation.now.cat translation.now.id translation.now.plan
+        target.old 0 0 0 }
+    ensures filled { OnOk result (IsFilled (F.names folder.new) translation.now.cat translation.now.id
+        translation.now.plan target.new translation.now.plan.size.h translation.now.plan.size.h 0) }
     ensures name { target.new.name ≡ target.old.name }
     ensures names { F.names folder.new ≡ F.names folder.old }
     ensures ok { OnOk result (Gets (spoken copier.old.quiet progress) (O.got out.old) (O.got out.new)) }
     ensures err { OnErr result (GetsPart (spoken copier.old.quiet progress) (O.got out.old) (O.got out.new)) }
     ensures quiet { copier.old.quiet ≡ true → out.new ≡ out.old }
-    ensures ends { MayEnd (F.names folder.old) (F.faults folder.old) (F.faults folder.new) (O.faults out.old) (O.faults out.new) result }
+    ensures ends { MayEnd (F.names folder.old) (F.faults folder.old) (F.faults folder.new) (O.faults out.old)
+        (O.faults out.new) result }
 {
     let plan = &translation.plan;
     plan.rules();

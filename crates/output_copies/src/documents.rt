@@ -24,7 +24,8 @@ use vrt_profile::Document;
 fn document_for(translation: &Translation, name: &Name) -> Result<Document, Fault>
     requires translation { IsTranslation translation.now.cat translation.now.id translation.now.plan }
     requires mosaic { translation.now.plan.driver ≡ Vrt }
-    ensures document { IfOk result (λ document. (d : Dataset) → slice_get translation.now.cat translation.now.id ≡ Some d → document ≡ document_by translation.now.plan name.now d.head) }
+    ensures document { IfOk result (λ document. (d : Dataset) → slice_get translation.now.cat translation.now.id
+        ≡ Some d → document ≡ document_by translation.now.plan name.now d.head) }
     ensures memory { IfErr result (λ f. f ≡ Fault.Memory) }
 {
     let head = translation.cat.head(translation.id);
@@ -41,9 +42,14 @@ pub fn write_document<F: Folder, O: Sink>(
 ) -> Result<(), Fault>
     requires translation { IsTranslation translation.now.cat translation.now.id translation.now.plan }
     requires mosaic { translation.now.plan.driver ≡ Vrt }
-    ensures goes { (m : Files) (d : Dataset) → F.names folder.old ≡ Some m → slice_get translation.now.cat translation.now.id ≡ Some d → Goes (all_done (unless_quiet writing.now.quiet progress ++ Publishes writing.now.name.now (spelled (document_by translation.now.plan writing.now.name.now d.head)) ∷ [])) m result (F.names folder.new) (O.got out.old) (O.got out.new) }
+    ensures goes { (m : Files) (d : Dataset) → F.names folder.old ≡ Some m →
+        slice_get translation.now.cat translation.now.id ≡ Some d →
+        Goes (all_done (unless_quiet writing.now.quiet progress ++ Publishes writing.now.name.now
+        (spelled (document_by translation.now.plan writing.now.name.now d.head)) ∷ [])) m result (F.names folder.new)
+        (O.got out.old) (O.got out.new) }
     ensures quiet { writing.now.quiet ≡ true → out.new ≡ out.old }
-    ensures ends { MayEnd (F.names folder.old) (F.faults folder.old) (F.faults folder.new) (O.faults out.old) (O.faults out.new) result }
+    ensures ends { MayEnd (F.names folder.old) (F.faults folder.old) (F.faults folder.new) (O.faults out.old)
+        (O.faults out.new) result }
 {
     let document = document_for(translation, writing.name)?;
     put_progress(out, writing.quiet)?;

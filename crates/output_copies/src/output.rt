@@ -1,5 +1,6 @@
 // A translation, from its first text to its last.
-ghost use Rattle.std.specs.Prelude.{◌≡◌, ◌≢◌, ◌≤◌, ◌<◌, ◌*◌, ◌++◌, ℕ, List, Option, IfErr, IfOk, IfSome, OnErr, OnOk, Some, length, slice_get, true};
+ghost use Rattle.std.specs.Prelude.{◌≡◌, ◌≢◌, ◌≤◌, ◌<◌, ◌*◌, ◌++◌, ℕ, List, Option, IfErr, IfOk, IfSome, OnErr, OnOk};
+ghost use Rattle.std.specs.Prelude.{Some, length, slice_get, true};
 ghost use Rattle.outside.specs.Outside.{Files};
 ghost use Rattle.outside.specs.Reading.{WhereTold};
 ghost use Rattle.outside.specs.Streams.{Gets, GetsPart};
@@ -51,7 +52,8 @@ fn copier_for<'a, F: Folder, L: Ledger, W: Ledger, S: Scene>(
     requires writes_parts { writes.parts ≡ W.parts }
     requires writes_shares { 0 < writes.parts }
     ensures fresh { IfOk result (λ copier. AreLanesFresh F.Folder copier.reader.team.lanes.items) }
-    ensures room { IfOk result (λ copier. IsRoomFor translation.now.cat translation.now.id translation.now.plan copier.reader.columns copier.reader.samples.items) }
+    ensures room { IfOk result (λ copier. IsRoomFor translation.now.cat translation.now.id translation.now.plan
+        copier.reader.columns copier.reader.samples.items) }
     ensures rows { IfOk result (λ copier. 1 ≤ copier.rows) }
     ensures quiet { IfOk result (λ copier. copier.quiet ≡ writing.now.quiet) }
     ensures memory { IfErr result (λ f. f ≡ Fault.Memory) }
@@ -82,8 +84,8 @@ fn room_for(translation: &Translation, rows: u32) -> Result<Vec<Sample>, Fault>
     Ok(samples)
 }
 
-// The fewest samples of a strip that is read while another one is written. Fewer are read and written in so short a time
-// that the threads of one more step cost more than it brings.
+// The fewest samples of a strip that is read while another one is written. Fewer are read and written in so short a
+// time that the threads of one more step cost more than it brings.
 const FEWEST_AHEAD: usize = 500_000;
 
 // A second room, for lines that are read while others are written: where that is wanted, there are any others, each
@@ -111,18 +113,23 @@ fn copy_lines<R: Threads + Sync, F: Folder, O: Sink, L: Ledger + Send, W: Ledger
     mut ready: Vec<Sample>,
 ) -> Result<(), Fault>
     requires translation { IsTranslation translation.now.cat translation.now.id translation.now.plan }
-    requires ready { AreLanesReady F.Folder S.told S.cat folder.old translation.now.cat copier.old.reader.team.lanes.items }
-    requires room { IsRoomFor translation.now.cat translation.now.id translation.now.plan copier.old.reader.columns copier.old.reader.samples.items }
+    requires ready { AreLanesReady F.Folder S.told S.cat folder.old translation.now.cat
+        copier.old.reader.team.lanes.items }
+    requires room { IsRoomFor translation.now.cat translation.now.id translation.now.plan copier.old.reader.columns
+        copier.old.reader.samples.items }
     requires rows { 1 ≤ copier.old.rows }
     requires long { translation.now.plan.size.w * copier.old.rows ≤ length ready.items }
-    requires filled { IsFilled (F.names folder.old) translation.now.cat translation.now.id translation.now.plan target.old 0 0 0 }
-    ensures filled { OnOk result (IsFilled (F.names folder.new) translation.now.cat translation.now.id translation.now.plan target.new translation.now.plan.size.h translation.now.plan.size.h 0) }
+    requires filled { IsFilled (F.names folder.old) translation.now.cat translation.now.id translation.now.plan
+        target.old 0 0 0 }
+    ensures filled { OnOk result (IsFilled (F.names folder.new) translation.now.cat translation.now.id
+        translation.now.plan target.new translation.now.plan.size.h translation.now.plan.size.h 0) }
     ensures name { target.new.name ≡ target.old.name }
     ensures names { F.names folder.new ≡ F.names folder.old }
     ensures ok { OnOk result (Gets (spoken copier.old.quiet progress) (O.got out.old) (O.got out.new)) }
     ensures err { OnErr result (GetsPart (spoken copier.old.quiet progress) (O.got out.old) (O.got out.new)) }
     ensures quiet { copier.old.quiet ≡ true → out.new ≡ out.old }
-    ensures ends { MayEnd (F.names folder.old) (F.faults folder.old) (F.faults folder.new) (O.faults out.old) (O.faults out.new) result }
+    ensures ends { MayEnd (F.names folder.old) (F.faults folder.old) (F.faults folder.new) (O.faults out.old)
+        (O.faults out.new) result }
 {
     match second_room(translation, copier.ahead, copier.rows) {
         Some(next) => {
@@ -140,8 +147,12 @@ fn publish<F: Folder, W: Ledger>(
     target: Target<F>,
     writes: &mut Counter<W>,
 ) -> Result<(), Fault>
-    requires filled { IsFilled (F.names folder.old) translation.now.cat translation.now.id translation.now.plan target translation.now.plan.size.h translation.now.plan.size.h 0 }
-    ensures goes { (m : Files) (d : Dataset) → F.names folder.old ≡ Some m → slice_get translation.now.cat translation.now.id ≡ Some d → (text : Option (List ℕ)) → Goes (all_done (publishes (files_by (output_of translation.now.plan) target.name (raster_of m d translation.now.plan)))) m result (F.names folder.new) text text }
+    requires filled { IsFilled (F.names folder.old) translation.now.cat translation.now.id translation.now.plan target
+        translation.now.plan.size.h translation.now.plan.size.h 0 }
+    ensures goes { (m : Files) (d : Dataset) → F.names folder.old ≡ Some m →
+        slice_get translation.now.cat translation.now.id ≡ Some d → (text : Option (List ℕ)) →
+        Goes (all_done (publishes (files_by (output_of translation.now.plan) target.name
+        (raster_of m d translation.now.plan)))) m result (F.names folder.new) text text }
     ensures ends { MayEnd (F.names folder.old) (F.faults folder.old) (F.faults folder.new) 0 0 result }
 {
     translation.plan.rules();
@@ -200,9 +211,14 @@ fn write_files<R: Threads + Sync, F: Folder, O: Sink, L: Ledger + Send, W: Ledge
     requires writes_name { writes.name ≡ W.name }
     requires writes_parts { writes.parts ≡ W.parts }
     requires writes_shares { 0 < writes.parts }
-    ensures goes { (m : Files) (d : Dataset) → F.names folder.old ≡ Some m → slice_get translation.now.cat translation.now.id ≡ Some d → Goes (all_done (unless_quiet writing.now.quiet progress ++ publishes (files_by (output_of translation.now.plan) writing.now.name.now (raster_of m d translation.now.plan)))) m result (F.names folder.new) (O.got out.old) (O.got out.new) }
+    ensures goes { (m : Files) (d : Dataset) → F.names folder.old ≡ Some m →
+        slice_get translation.now.cat translation.now.id ≡ Some d →
+        Goes (all_done (unless_quiet writing.now.quiet progress ++ publishes
+        (files_by (output_of translation.now.plan) writing.now.name.now (raster_of m d translation.now.plan)))) m result
+        (F.names folder.new) (O.got out.old) (O.got out.new) }
     ensures quiet { writing.now.quiet ≡ true → out.new ≡ out.old }
-    ensures ends { MayEnd (F.names folder.old) (F.faults folder.old) (F.faults folder.new) (O.faults out.old) (O.faults out.new) result }
+    ensures ends { MayEnd (F.names folder.old) (F.faults folder.old) (F.faults folder.new) (O.faults out.old)
+        (O.faults out.new) result }
 {
     let alloc = translation.alloc;
     let plan = &translation.plan;
@@ -242,9 +258,14 @@ fn write_planned<R: Threads + Sync, F: Folder, O: Sink>(
     requires some { 1 ≤ writing.now.blocks }
     requires few { writing.now.blocks ≤ 65536 }
     requires extension { IsNamedFor translation.now.plan writing.now.name.now }
-    ensures goes { (m : Files) (d : Dataset) → F.names folder.old ≡ Some m → slice_get translation.now.cat translation.now.id ≡ Some d → Goes (all_done (unless_quiet writing.now.quiet progress ++ publishes (written m d translation.now.plan writing.now.name.now))) m result (F.names folder.new) (O.got out.old) (O.got out.new) }
+    ensures goes { (m : Files) (d : Dataset) → F.names folder.old ≡ Some m →
+        slice_get translation.now.cat translation.now.id ≡ Some d →
+        Goes (all_done (unless_quiet writing.now.quiet progress ++ publishes
+        (written m d translation.now.plan writing.now.name.now))) m result (F.names folder.new) (O.got out.old)
+        (O.got out.new) }
     ensures quiet { writing.now.quiet ≡ true → out.new ≡ out.old }
-    ensures ends { MayEnd (F.names folder.old) (F.faults folder.old) (F.faults folder.new) (O.faults out.old) (O.faults out.new) result }
+    ensures ends { MayEnd (F.names folder.old) (F.faults folder.old) (F.faults folder.new) (O.faults out.old)
+        (O.faults out.new) result }
 {
     translation.plan.rules();
     if let Driver::Vrt = translation.plan.driver {
@@ -283,7 +304,10 @@ pub fn write_output<R: Threads + Sync, F: Folder, O: Sink>(
     requires few { writing.now.blocks ≤ 65536 }
     requires extension { IsNamedFor translation.now.plan writing.now.name.now }
     // over a folder that tells its files: all the steps are done, or where the outside failed the first of them
-    ensures told { WhereTold F.Folder folder.old (λ m. (d : Dataset) → slice_get translation.now.cat translation.now.id ≡ Some d → Goes (all_done (translation_steps writing.now.quiet m d translation.now.plan writing.now.name.now)) m result (F.names folder.new) (O.got out.old) (O.got out.new)) }
+    ensures told { WhereTold F.Folder folder.old (λ m. (d : Dataset) →
+        slice_get translation.now.cat translation.now.id ≡ Some d →
+        Goes (all_done (translation_steps writing.now.quiet m d translation.now.plan writing.now.name.now)) m result
+        (F.names folder.new) (O.got out.old) (O.got out.new)) }
     // over every folder and for every answer: a quiet copy leaves the sink as it was
     ensures quiet { writing.now.quiet ≡ true → out.new ≡ out.old }
     ensures faults { IfErr result IsOfReading }

@@ -33,12 +33,15 @@ pub fn read_part<R: Threads + Sync, F: Folder, L: Ledger, S: Scene>(
 ) -> Result<(), Fault>
     requires translation { IsTranslation translation.now.cat translation.now.id translation.now.plan }
     requires ready { AreLanesReady F.Folder S.told S.cat folder.old translation.now.cat reader.old.team.lanes.items }
-    requires room { IsRoomFor translation.now.cat translation.now.id translation.now.plan reader.old.columns reader.old.samples.items }
+    requires room { IsRoomFor translation.now.cat translation.now.id translation.now.plan reader.old.columns
+        reader.old.samples.items }
     requires lines { ArePart translation.now.plan lines }
     requires long { length samples.old ≡ translation.now.plan.size.w * (lines.end - lines.first) }
-    ensures read { OnOk result (AreRead (F.names folder.old) translation.now.cat translation.now.id translation.now.plan lines samples.new) }
+    ensures read { OnOk result (AreRead (F.names folder.old) translation.now.cat translation.now.id translation.now.plan
+        lines samples.new) }
     ensures ready { AreLanesReady F.Folder S.told S.cat folder.new translation.now.cat reader.new.team.lanes.items }
-    ensures room { IsRoomFor translation.now.cat translation.now.id translation.now.plan reader.new.columns reader.new.samples.items }
+    ensures room { IsRoomFor translation.now.cat translation.now.id translation.now.plan reader.new.columns
+        reader.new.samples.items }
     ensures names { F.names folder.new ≡ F.names folder.old }
     ensures ends { MayEnd (F.names folder.old) (F.faults folder.old) (F.faults folder.new) 0 0 result }
 {
@@ -56,9 +59,12 @@ pub fn write_part<F: Folder, W: Ledger>(
     writes: &mut Counter<W>,
 ) -> Result<(), Fault>
     requires lines { ArePart translation.now.plan lines }
-    requires filled { IsFilled (F.names folder.old) translation.now.cat translation.now.id translation.now.plan target.old lines.first lines.end lines.band }
-    requires read { AreRead (F.names folder.old) translation.now.cat translation.now.id translation.now.plan lines samples.now }
-    ensures filled { OnOk result (IsFilled (F.names folder.new) translation.now.cat translation.now.id translation.now.plan target.new lines.first lines.end (lines.band + 1)) }
+    requires filled { IsFilled (F.names folder.old) translation.now.cat translation.now.id translation.now.plan
+        target.old lines.first lines.end lines.band }
+    requires read { AreRead (F.names folder.old) translation.now.cat translation.now.id translation.now.plan lines
+        samples.now }
+    ensures filled { OnOk result (IsFilled (F.names folder.new) translation.now.cat translation.now.id
+        translation.now.plan target.new lines.first lines.end (lines.band + 1)) }
     ensures name { target.new.name ≡ target.old.name }
     ensures names { F.names folder.new ≡ F.names folder.old }
     ensures ends { MayEnd (F.names folder.old) (F.faults folder.old) (F.faults folder.new) 0 0 result }

@@ -32,11 +32,13 @@ pub fn tell<O: Sink>(out: &mut O, quiet: bool, told: usize, share: Share) -> Res
     requires told { told ≤ 49 }
     requires some { 0 < share.height }
     requires within { share.done ≤ share.height }
-    ensures told { (before : Option (List ℕ)) → Gets (spoken quiet (take told progress)) before (O.got out.old) → Tells quiet result before (O.got out.new) }
+    ensures told { (before : Option (List ℕ)) → Gets (spoken quiet (take told progress)) before (O.got out.old) →
+        Tells quiet result before (O.got out.new) }
     ensures within { IfOk result (λ next. next ≤ 49) }
     ensures whole { share.done ≡ share.height → IfOk result (λ next. next ≡ 49) }
     ensures quiet { quiet ≡ true → out.new ≡ out.old }
-    ensures ends { (names : Option Files) (faults : ℕ) → MayEnd names faults faults (O.faults out.old) (O.faults out.new) result }
+    ensures ends { (names : Option Files) (faults : ℕ) → MayEnd names faults faults (O.faults out.old)
+        (O.faults out.new) result }
 {
     let next = reached(share).max(told);
     let text = progress_text();
@@ -50,7 +52,8 @@ pub fn put_progress<O: Sink>(out: &mut O, quiet: bool) -> Result<(), Fault>
     ensures ok { OnOk result (Gets (spoken quiet progress) (O.got out.old) (O.got out.new)) }
     ensures err { OnErr result (GetsPart (spoken quiet progress) (O.got out.old) (O.got out.new)) }
     ensures quiet { quiet ≡ true → out.new ≡ out.old }
-    ensures ends { (names : Option Files) (faults : ℕ) → MayEnd names faults faults (O.faults out.old) (O.faults out.new) result }
+    ensures ends { (names : Option Files) (faults : ℕ) → MayEnd names faults faults (O.faults out.old)
+        (O.faults out.new) result }
 {
     put_text(out, quiet, &[progress_text()])
 }

@@ -20,7 +20,8 @@ pub fn put_text<O: Sink>(out: &mut O, quiet: bool, parts: &[&[u8]]) -> Result<()
     ensures ok { OnOk result (Gets (spoken quiet (joined parts.now)) (O.got out.old) (O.got out.new)) }
     ensures err { OnErr result (GetsPart (spoken quiet (joined parts.now)) (O.got out.old) (O.got out.new)) }
     ensures quiet { quiet ≡ true → out.new ≡ out.old }
-    ensures ends { (told : Option Files) (faults : ℕ) → MayEnd told faults faults (O.faults out.old) (O.faults out.new) result }
+    ensures ends { (told : Option Files) (faults : ℕ) → MayEnd told faults faults (O.faults out.old) (O.faults out.new)
+        result }
 {
     if quiet {
         return Ok(());
@@ -45,7 +46,8 @@ fn put_sides<O: Sink>(size: Size, out: &mut O, quiet: bool) -> Result<(), Fault>
     ensures ok { OnOk result (Gets (spoken quiet (size_line size)) (O.got out.old) (O.got out.new)) }
     ensures err { OnErr result (GetsPart (spoken quiet (size_line size)) (O.got out.old) (O.got out.new)) }
     ensures quiet { quiet ≡ true → out.new ≡ out.old }
-    ensures ends { (told : Option Files) (faults : ℕ) → MayEnd told faults faults (O.faults out.old) (O.faults out.new) result }
+    ensures ends { (told : Option Files) (faults : ℕ) → MayEnd told faults faults (O.faults out.old) (O.faults out.new)
+        result }
 {
     let mut columns = Buffer::new();
     let mut lines = Buffer::new();
@@ -61,10 +63,13 @@ fn put_sides<O: Sink>(size: Size, out: &mut O, quiet: bool) -> Result<(), Fault>
 /// Tells the size of the source, but for a quiet translation.
 pub fn put_size<O: Sink>(translation: &Translation, out: &mut O, quiet: bool) -> Result<(), Fault>
     requires translation { IsTranslation translation.now.cat translation.now.id translation.now.plan }
-    ensures ok { (d : Dataset) → slice_get translation.now.cat translation.now.id ≡ Some d → OnOk result (Gets (spoken quiet (size_line d.head.size)) (O.got out.old) (O.got out.new)) }
-    ensures err { (d : Dataset) → slice_get translation.now.cat translation.now.id ≡ Some d → OnErr result (GetsPart (spoken quiet (size_line d.head.size)) (O.got out.old) (O.got out.new)) }
+    ensures ok { (d : Dataset) → slice_get translation.now.cat translation.now.id ≡ Some d →
+        OnOk result (Gets (spoken quiet (size_line d.head.size)) (O.got out.old) (O.got out.new)) }
+    ensures err { (d : Dataset) → slice_get translation.now.cat translation.now.id ≡ Some d →
+        OnErr result (GetsPart (spoken quiet (size_line d.head.size)) (O.got out.old) (O.got out.new)) }
     ensures quiet { quiet ≡ true → out.new ≡ out.old }
-    ensures ends { (told : Option Files) (faults : ℕ) → MayEnd told faults faults (O.faults out.old) (O.faults out.new) result }
+    ensures ends { (told : Option Files) (faults : ℕ) → MayEnd told faults faults (O.faults out.old) (O.faults out.new)
+        result }
 {
     let size = source_size(translation);
     put_sides(size, out, quiet)
@@ -75,7 +80,8 @@ pub fn put_end<O: Sink>(out: &mut O, quiet: bool) -> Result<(), Fault>
     ensures ok { OnOk result (Gets (spoken quiet progress_end) (O.got out.old) (O.got out.new)) }
     ensures err { OnErr result (GetsPart (spoken quiet progress_end) (O.got out.old) (O.got out.new)) }
     ensures quiet { quiet ≡ true → out.new ≡ out.old }
-    ensures ends { (told : Option Files) (faults : ℕ) → MayEnd told faults faults (O.faults out.old) (O.faults out.new) result }
+    ensures ends { (told : Option Files) (faults : ℕ) → MayEnd told faults faults (O.faults out.old) (O.faults out.new)
+        result }
 {
     put_text(out, quiet, &[progress_end_text()])
 }

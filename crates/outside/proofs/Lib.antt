@@ -4,6 +4,7 @@ pub mod Listing
 pub mod Normal
 pub mod Parts
 pub mod PathParts
+pub mod Plain
 pub mod Puts
 pub mod Sinks
 pub mod Walks

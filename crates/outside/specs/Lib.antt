@@ -10,3 +10,4 @@ pub mod Schedules
 pub mod Tallies
 -- What private clauses, views and proofs speak of.
 pub mod Histories
+pub mod Plain

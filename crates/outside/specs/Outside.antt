@@ -1,5 +1,6 @@
 -- What the calls of a folder do to what it holds.
-use Rattle.std.specs.Prelude.{ℕ, ◌+◌, ◌-◌, ◌≡◌, List, [], ◌++◌, length, take, drop, replicate, Option, Some, None, Result, Err}
+use Rattle.std.specs.Prelude.{ℕ, ◌+◌, ◌-◌, ◌≡◌, List, [], ◌++◌, length, take, drop, replicate, Option, Some, None}
+use Rattle.std.specs.Prelude.{Result, Err}
 use Rattle.std.specs.Ordering.{nat_cmp}
 use Rattle.std.specs.Cmp.Lexicographic.{slice_cmp}
 use Rattle.std.specs.FinMap.{FinMap, get, insert}
@@ -27,7 +28,8 @@ abbrev pub Reads : Option (List ℕ) → ℕ → ℕ → List ℕ → Type 0
 Reads bytes pos n out = (b : List ℕ) → bytes ≡ Some b → out ≡ take n (drop pos b)
 
 -- an empty draft that carries the name
-pub record Created (names : Option Files) (name : List ℕ) (draft_name : List ℕ) (bytes : Option (List ℕ)) (len : ℕ) : Type 0 where
+pub record Created (names : Option Files) (name : List ℕ) (draft_name : List ℕ) (bytes : Option (List ℕ)) (len : ℕ)
+    : Type 0 where
   pub name_is : draft_name ≡ name
   pub len_is : len ≡ 0
   pub told : (m : Files) → names ≡ Some m → bytes ≡ Some []

@@ -1,5 +1,6 @@
 -- Paths and their normal forms, by their parts.
-use Rattle.std.specs.Prelude.{ℕ, ◌≡◌, ◌≤◌, ◌==◌, ◌-◌, Bool, false, not, ◌||◌, List, [], ◌∷◌, ◌++◌, length, take, drop, map, flat_map, codes, bytes_eq, slice_get, Option, Some, None, if◌then◌else◌}
+use Rattle.std.specs.Prelude.{ℕ, ◌≡◌, ◌≤◌, ◌==◌, ◌-◌, Bool, false, not, ◌||◌, List, [], ◌∷◌, ◌++◌, length, take, drop}
+use Rattle.std.specs.Prelude.{map, flat_map, codes, bytes_eq, slice_get, Option, Some, None, if◌then◌else◌}
 use Rattle.std.specs.List.{slice_split}
 use denote.Ref.{Bor}
 
@@ -16,7 +17,8 @@ is_other (Some part) = not (bytes_eq part (codes ".."))
 abbrev pub is_kept : List (List ℕ) → Bool
 is_kept parts = is_other (slice_get parts (length parts - 1))
 
--- Empty parts and . are dropped. A part .. removes the part before it, where that isn't ..; at the front of an absolute path it is dropped, at the front of another it stays.
+-- Empty parts and . are dropped. A part .. removes the part before it, where that isn't ..; at the front of an absolute
+-- path it is dropped, at the front of another it stays.
 abbrev pub with_part : Bool → List (List ℕ) → List ℕ → List (List ℕ)
 with_part absolute parts part = if bytes_eq part [] || bytes_eq part (codes ".") then parts
     else if not (bytes_eq part (codes "..")) then parts ++ part ∷ []

@@ -6,7 +6,8 @@ use Rattle.outside.specs.declared.schedule.Failing.TheVariants.{Call, Of}
 use Rattle.outside.specs.declared.schedule.Listed.{Listed}
 use Rattle.outside.specs.declared.schedule.Made.{Made}
 use Rattle.outside.specs.declared.schedule.Method.{Method}
-use Rattle.outside.specs.declared.schedule.Method.TheVariants.{Open, ReadAt, Create, Grow, WriteAt, Append, DraftRead, Publish, Take, Put}
+use Rattle.outside.specs.declared.schedule.Method.TheVariants.{Open, ReadAt, Create, Grow, WriteAt, Append, DraftRead}
+use Rattle.outside.specs.declared.schedule.Method.TheVariants.{Publish, Take, Put}
 
 -- the number of calls of a method
 abbrev pub number_of : Made → Method → ℕ

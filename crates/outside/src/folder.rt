@@ -1,6 +1,7 @@
 // Files by name, as the program sees them.
 ghost use Rattle.std.specs.Prelude.{◌≡◌, ◌+◌, ◌-◌, ◌≤◌, List, [], ℕ, Option, Some, length, OnOk, OnErr, IfOk, IfSome};
-ghost use Rattle.outside.specs.Outside.{Files, Opened, IsLong, NotThere, Reads, Grown, Written, Appended, Created, Published, ChangesOnly, IsView};
+ghost use Rattle.outside.specs.Outside.{Files, Opened, IsLong, NotThere, Reads, Grown, Written, Appended, Created};
+ghost use Rattle.outside.specs.Outside.{Published, ChangesOnly, IsView};
 ghost use Rattle.outside.specs.Causes.{HasCause, FailsWith, Absorbed, one_more, added};
 ghost use Rattle.outside.specs.declared.folder.OpenFault.TheVariants as open_fault;
 ghost use Rattle.outside.specs.declared.folder.WriteFault.TheVariants as write_fault;
@@ -118,7 +119,8 @@ pub trait Folder: Sized + Send {
 
     /// An empty draft for this name.
     fn create(&mut self, name: &Name) -> Result<Self::Draft, WriteFault>
-        ensures ok { IfOk result (λ draft. Created (names self.old) name.now (draft_name draft) (draft_bytes draft) (draft_len draft)) }
+        ensures ok { IfOk result (λ draft. Created (names self.old) name.now (draft_name draft) (draft_bytes draft)
+            (draft_len draft)) }
         ensures names { names self.new ≡ names self.old }
         ensures read_calls { read_calls self.new ≡ read_calls self.old }
         ensures write_calls { write_calls self.new ≡ write_calls self.old }
@@ -196,7 +198,8 @@ pub trait Folder: Sized + Send {
 
     /// A view with the same names and counts of its own from 0, for reading alone.
     fn fork(&self) -> Result<Self, AllocError>
-        ensures view { IfOk result (λ view. IsView (names self.now) (names view) (faults view) (read_calls view) (write_calls view)) };
+        ensures view { IfOk result (λ view. IsView (names self.now) (names view) (faults view) (read_calls view)
+            (write_calls view)) };
 
     /// Ends a view: its calls are added to the folder's, and the count of faults rises where the view's is above 0.
     fn absorb(&mut self, view: Self)

@@ -1,9 +1,13 @@
 // A folder in memory, whose calls fail where a schedule says so.
-ghost use Rattle.std.specs.Prelude.{◌≡◌, ◌≤◌, ◌+◌, ◌-◌, ◌↔◌, [], length, List, ℕ, Some, None, Contains, IfOk, OnOk, OnErr, IsErr, IsErrOf, IsSome, IsTrue, option_map};
+ghost use Rattle.std.specs.Prelude.{◌≡◌, ◌≤◌, ◌+◌, ◌-◌, ◌↔◌, [], length, List, ℕ, Some, None, Contains, IfOk, OnOk};
+ghost use Rattle.std.specs.Prelude.{OnErr, IsErr, IsErrOf, IsSome, IsTrue, option_map};
 ghost use Rattle.std.specs.FinMap as map;
 ghost use Rattle.outside.specs.Causes.{HasCause, FailsWith, Absorbed, CountsWhere, one_more, added};
-ghost use Rattle.outside.specs.Memory.{files_of, newest, AreNames, names_of, reads_of, writes_of, schedule_of, drafts_of, drafts_more, file_bytes_of, file_len_of, draft_name_of, draft_bytes_of, draft_len_of};
-ghost use Rattle.outside.specs.Outside.{Files, WithFile, IsUnder, Opened, IsLong, NotThere, Reads, Created, Grown, Written, Appended, Published, ChangesOnly, IsView};
+ghost use Rattle.outside.specs.Memory.{files_of, newest, AreNames, names_of, reads_of, writes_of, schedule_of};
+ghost use Rattle.outside.specs.Memory.{drafts_of, drafts_more, file_bytes_of, file_len_of, draft_name_of};
+ghost use Rattle.outside.specs.Memory.{draft_bytes_of, draft_len_of};
+ghost use Rattle.outside.specs.Outside.{Files, WithFile, IsUnder, Opened, IsLong, NotThere, Reads, Created, Grown};
+ghost use Rattle.outside.specs.Outside.{Written, Appended, Published, ChangesOnly, IsView};
 ghost use Rattle.outside.specs.declared.folder.OpenFault.TheVariants as open_fault;
 ghost use Rattle.outside.specs.declared.folder.WriteFault.TheVariants as write_fault;
 ghost use Rattle.outside.specs.declared.schedule.Method.TheVariants as method;
@@ -139,8 +143,10 @@ impl<P: Schedule> MemoryFolder<P> {
     /// memory is refused, the folder is as before.
     #[tactic(auto, using(crate::proofs::Puts::puts))]
     pub fn put(&mut self, name: &Name, bytes: &[u8]) -> Result<(), AllocError>
-        ensures ok { OnOk result (WithFile name.now bytes.now (⟦<MemoryFolder<P> as Folder>⟧.names self.old) (⟦<MemoryFolder<P> as Folder>⟧.names self.new)) }
-        ensures err { OnErr result (⟦<MemoryFolder<P> as Folder>⟧.names self.new ≡ ⟦<MemoryFolder<P> as Folder>⟧.names self.old) }
+        ensures ok { OnOk result (WithFile name.now bytes.now (⟦<MemoryFolder<P> as Folder>⟧.names self.old)
+            (⟦<MemoryFolder<P> as Folder>⟧.names self.new)) }
+        ensures err { OnErr result (⟦<MemoryFolder<P> as Folder>⟧.names self.new ≡ ⟦<MemoryFolder<P> as Folder>⟧.names
+            self.old) }
         ensures faults { ⟦<MemoryFolder<P> as Folder>⟧.faults self.new ≡ ⟦<MemoryFolder<P> as Folder>⟧.faults self.old }
         ensures read_calls { ⟦<MemoryFolder<P> as Folder>⟧.read_calls self.new ≡ ⟦<MemoryFolder<P> as Folder>⟧.read_calls self.old }
         ensures write_calls { ⟦<MemoryFolder<P> as Folder>⟧.write_calls self.new ≡ ⟦<MemoryFolder<P> as Folder>⟧.write_calls self.old }
@@ -157,7 +163,8 @@ impl<P: Schedule> MemoryFolder<P> {
 
     /// The bytes that stand under a name; None where there is none. It is no call of the folder.
     pub fn bytes(&self, name: &Name) -> Option<&[u8]>
-        ensures under { IsUnder name.now (⟦<MemoryFolder<P> as Folder>⟧.names self.now) (option_map (λ b. b.now) result) }
+        ensures under { IsUnder name.now (⟦<MemoryFolder<P> as Folder>⟧.names self.now)
+            (option_map (λ b. b.now) result) }
     {
         find(&self.files, name).map(|stored| stored.bytes.as_slice())
     }
@@ -214,9 +221,11 @@ impl<P: Schedule> Folder for MemoryFolder<P> {
         ensures names { names_of self.new ≡ names_of self.old }
         ensures read_calls { reads_of self.new ≡ reads_of self.old }
         ensures write_calls { writes_of self.new ≡ writes_of self.old }
-        ensures cause { HasCause OpenFault.Failed (P.faults (schedule_of self.old)) (P.faults (schedule_of self.new)) result }
+        ensures cause { HasCause OpenFault.Failed (P.faults (schedule_of self.old)) (P.faults (schedule_of self.new))
+            result }
         ensures planned { IsErrOf result OpenFault.Failed ↔ P.plans (schedule_of self.old) method.Open }
-        ensures count { CountsWhere (P.plans (schedule_of self.old) method.Open) (P.faults (schedule_of self.old)) (P.faults (schedule_of self.new)) }
+        ensures count { CountsWhere (P.plans (schedule_of self.old) method.Open) (P.faults (schedule_of self.old))
+            (P.faults (schedule_of self.new)) }
         ensures drafts { drafts_of self.new ≡ drafts_of self.old }
     {
         if self.schedule.fails(Method::Open) {
@@ -245,7 +254,8 @@ impl<P: Schedule> Folder for MemoryFolder<P> {
         ensures write_calls { writes_of self.new ≡ writes_of self.old }
         ensures cause { FailsWith (P.faults (schedule_of self.old)) (P.faults (schedule_of self.new)) result }
         ensures planned { IsErr result ↔ P.plans (schedule_of self.old) method.ReadAt }
-        ensures count { CountsWhere (P.plans (schedule_of self.old) method.ReadAt) (P.faults (schedule_of self.old)) (P.faults (schedule_of self.new)) }
+        ensures count { CountsWhere (P.plans (schedule_of self.old) method.ReadAt) (P.faults (schedule_of self.old))
+            (P.faults (schedule_of self.new)) }
         ensures drafts { drafts_of self.new ≡ drafts_of self.old }
     {
         self.reads = self.reads.saturating_add(1);
@@ -259,13 +269,16 @@ impl<P: Schedule> Folder for MemoryFolder<P> {
     }
 
     fn create(&mut self, name: &Name) -> Result<MemDraft, WriteFault>
-        ensures ok { IfOk result (λ draft. Created (names_of self.old) name.now (draft_name_of draft) (draft_bytes_of draft) (draft_len_of draft)) }
+        ensures ok { IfOk result (λ draft. Created (names_of self.old) name.now (draft_name_of draft)
+            (draft_bytes_of draft) (draft_len_of draft)) }
         ensures names { names_of self.new ≡ names_of self.old }
         ensures read_calls { reads_of self.new ≡ reads_of self.old }
         ensures write_calls { writes_of self.new ≡ writes_of self.old }
-        ensures cause { HasCause WriteFault.Failed (P.faults (schedule_of self.old)) (P.faults (schedule_of self.new)) result }
+        ensures cause { HasCause WriteFault.Failed (P.faults (schedule_of self.old)) (P.faults (schedule_of self.new))
+            result }
         ensures planned { IsErrOf result WriteFault.Failed ↔ P.plans (schedule_of self.old) method.Create }
-        ensures count { CountsWhere (P.plans (schedule_of self.old) method.Create) (P.faults (schedule_of self.old)) (P.faults (schedule_of self.new)) }
+        ensures count { CountsWhere (P.plans (schedule_of self.old) method.Create) (P.faults (schedule_of self.old))
+            (P.faults (schedule_of self.new)) }
         ensures opened { OnOk result (drafts_of self.new ≡ drafts_more (drafts_of self.old) 1) }
         ensures unopened { OnErr result (drafts_of self.new ≡ drafts_of self.old) }
     {
@@ -288,9 +301,11 @@ impl<P: Schedule> Folder for MemoryFolder<P> {
         ensures names { names_of self.new ≡ names_of self.old }
         ensures read_calls { reads_of self.new ≡ reads_of self.old }
         ensures write_calls { writes_of self.new ≡ writes_of self.old }
-        ensures cause { HasCause WriteFault.Failed (P.faults (schedule_of self.old)) (P.faults (schedule_of self.new)) result }
+        ensures cause { HasCause WriteFault.Failed (P.faults (schedule_of self.old)) (P.faults (schedule_of self.new))
+            result }
         ensures planned { IsErrOf result WriteFault.Failed ↔ P.plans (schedule_of self.old) method.Grow }
-        ensures count { CountsWhere (P.plans (schedule_of self.old) method.Grow) (P.faults (schedule_of self.old)) (P.faults (schedule_of self.new)) }
+        ensures count { CountsWhere (P.plans (schedule_of self.old) method.Grow) (P.faults (schedule_of self.old))
+            (P.faults (schedule_of self.new)) }
         ensures drafts { drafts_of self.new ≡ drafts_of self.old }
     {
         if self.schedule.fails(Method::Grow) {
@@ -308,9 +323,11 @@ impl<P: Schedule> Folder for MemoryFolder<P> {
         ensures names { names_of self.new ≡ names_of self.old }
         ensures read_calls { reads_of self.new ≡ reads_of self.old }
         ensures write_calls { writes_of self.new ≡ one_more (writes_of self.old) }
-        ensures cause { HasCause WriteFault.Failed (P.faults (schedule_of self.old)) (P.faults (schedule_of self.new)) result }
+        ensures cause { HasCause WriteFault.Failed (P.faults (schedule_of self.old)) (P.faults (schedule_of self.new))
+            result }
         ensures planned { IsErrOf result WriteFault.Failed ↔ P.plans (schedule_of self.old) method.WriteAt }
-        ensures count { CountsWhere (P.plans (schedule_of self.old) method.WriteAt) (P.faults (schedule_of self.old)) (P.faults (schedule_of self.new)) }
+        ensures count { CountsWhere (P.plans (schedule_of self.old) method.WriteAt) (P.faults (schedule_of self.old))
+            (P.faults (schedule_of self.new)) }
         ensures drafts { drafts_of self.new ≡ drafts_of self.old }
     {
         self.writes = self.writes.saturating_add(1);
@@ -329,9 +346,11 @@ impl<P: Schedule> Folder for MemoryFolder<P> {
         ensures names { names_of self.new ≡ names_of self.old }
         ensures read_calls { reads_of self.new ≡ reads_of self.old }
         ensures write_calls { writes_of self.new ≡ writes_of self.old }
-        ensures cause { HasCause WriteFault.Failed (P.faults (schedule_of self.old)) (P.faults (schedule_of self.new)) result }
+        ensures cause { HasCause WriteFault.Failed (P.faults (schedule_of self.old)) (P.faults (schedule_of self.new))
+            result }
         ensures planned { IsErrOf result WriteFault.Failed ↔ P.plans (schedule_of self.old) method.Append }
-        ensures count { CountsWhere (P.plans (schedule_of self.old) method.Append) (P.faults (schedule_of self.old)) (P.faults (schedule_of self.new)) }
+        ensures count { CountsWhere (P.plans (schedule_of self.old) method.Append) (P.faults (schedule_of self.old))
+            (P.faults (schedule_of self.new)) }
         ensures drafts { drafts_of self.new ≡ drafts_of self.old }
     {
         if self.schedule.fails(Method::Append) {
@@ -352,7 +371,8 @@ impl<P: Schedule> Folder for MemoryFolder<P> {
         ensures write_calls { writes_of self.new ≡ writes_of self.old }
         ensures cause { FailsWith (P.faults (schedule_of self.old)) (P.faults (schedule_of self.new)) result }
         ensures planned { IsErr result ↔ P.plans (schedule_of self.old) method.DraftRead }
-        ensures count { CountsWhere (P.plans (schedule_of self.old) method.DraftRead) (P.faults (schedule_of self.old)) (P.faults (schedule_of self.new)) }
+        ensures count { CountsWhere (P.plans (schedule_of self.old) method.DraftRead) (P.faults (schedule_of self.old))
+            (P.faults (schedule_of self.new)) }
         ensures drafts { drafts_of self.new ≡ drafts_of self.old }
     {
         if self.schedule.fails(Method::DraftRead) {
@@ -366,14 +386,17 @@ impl<P: Schedule> Folder for MemoryFolder<P> {
 
     #[tactic(auto, using(crate::proofs::Puts::puts))]
     fn publish(&mut self, draft: MemDraft) -> Result<(), WriteFault>
-        ensures ok { OnOk result (Published (draft_name_of draft) (draft_bytes_of draft) (names_of self.old) (names_of self.new)) }
+        ensures ok { OnOk result (Published (draft_name_of draft) (draft_bytes_of draft) (names_of self.old)
+            (names_of self.new)) }
         ensures others { OnOk result (ChangesOnly (draft_name_of draft) (names_of self.old) (names_of self.new)) }
         ensures err { OnErr result (names_of self.new ≡ names_of self.old) }
         ensures read_calls { reads_of self.new ≡ reads_of self.old }
         ensures write_calls { writes_of self.new ≡ writes_of self.old }
-        ensures cause { HasCause WriteFault.Failed (P.faults (schedule_of self.old)) (P.faults (schedule_of self.new)) result }
+        ensures cause { HasCause WriteFault.Failed (P.faults (schedule_of self.old)) (P.faults (schedule_of self.new))
+            result }
         ensures planned { IsErrOf result WriteFault.Failed ↔ P.plans (schedule_of self.old) method.Publish }
-        ensures count { CountsWhere (P.plans (schedule_of self.old) method.Publish) (P.faults (schedule_of self.old)) (P.faults (schedule_of self.new)) }
+        ensures count { CountsWhere (P.plans (schedule_of self.old) method.Publish) (P.faults (schedule_of self.old))
+            (P.faults (schedule_of self.new)) }
         ensures drafts { drafts_of self.new ≡ drafts_of self.old - 1 }
     {
         self.drafts = self.drafts.saturating_sub(1);
@@ -398,7 +421,8 @@ impl<P: Schedule> Folder for MemoryFolder<P> {
     }
 
     fn fork(&self) -> Result<Self, AllocError>
-        ensures view { IfOk result (λ view. IsView (names_of self.now) (names_of view) (P.faults (schedule_of view)) (reads_of view) (writes_of view)) }
+        ensures view { IfOk result (λ view. IsView (names_of self.now) (names_of view) (P.faults (schedule_of view))
+            (reads_of view) (writes_of view)) }
         ensures schedule { IfOk result (λ view. P.forked (schedule_of self.now) (schedule_of view)) }
         ensures drafts { IfOk result (λ view. drafts_of view ≡ 0) }
     {
@@ -416,7 +440,8 @@ impl<P: Schedule> Folder for MemoryFolder<P> {
         ensures names { names_of self.new ≡ names_of self.old }
         ensures read_calls { reads_of self.new ≡ added (reads_of self.old) (reads_of view) }
         ensures write_calls { writes_of self.new ≡ added (writes_of self.old) (writes_of view) }
-        ensures faults { Absorbed (P.faults (schedule_of self.old)) (P.faults (schedule_of view)) (P.faults (schedule_of self.new)) }
+        ensures faults { Absorbed (P.faults (schedule_of self.old)) (P.faults (schedule_of view))
+            (P.faults (schedule_of self.new)) }
         ensures schedule { P.moved (schedule_of self.old) (schedule_of view) (schedule_of self.new) }
         ensures drafts { drafts_of self.new ≡ drafts_more (drafts_of self.old) (drafts_of view) }
     {

@@ -56,10 +56,13 @@ impl<P: Schedule> Input for MemoryInput<P> {
     fn take(&mut self, out: &mut [u8]) -> Result<usize, Failed>
         requires { 0 < length out.old }
         ensures bound { IfOk result (λ n. n ≤ length out.new) }
-        ensures told { Takes (⟦<MemoryInput<P> as Input>⟧.left self.old) (⟦<MemoryInput<P> as Input>⟧.left self.new) out.new result }
-        ensures cause { FailsWith (P.faults (input_schedule_of self.old)) (P.faults (input_schedule_of self.new)) result }
+        ensures told { Takes (⟦<MemoryInput<P> as Input>⟧.left self.old) (⟦<MemoryInput<P> as Input>⟧.left self.new)
+            out.new result }
+        ensures cause { FailsWith (P.faults (input_schedule_of self.old)) (P.faults (input_schedule_of self.new))
+            result }
         ensures planned { IsErr result ↔ P.plans (input_schedule_of self.old) method.Take }
-        ensures count { CountsWhere (IsErr result) (P.faults (input_schedule_of self.old)) (P.faults (input_schedule_of self.new)) }
+        ensures count { CountsWhere (IsErr result) (P.faults (input_schedule_of self.old))
+            (P.faults (input_schedule_of self.new)) }
     {
         if self.schedule.fails(Method::Take) {
             return Err(Failed);

@@ -59,13 +59,18 @@ impl Sink for MemSink {
 
     // Want of memory is a failed call too. A planned call for whose bytes there is none takes nothing.
     fn put(&mut self, bytes: &[u8]) -> Result<(), Failed>
-        ensures ok { OnOk result (Gets bytes.now (⟦<MemSink as Sink>⟧.got self.old) (⟦<MemSink as Sink>⟧.got self.new)) }
-        ensures err { OnErr result (GetsPart bytes.now (⟦<MemSink as Sink>⟧.got self.old) (⟦<MemSink as Sink>⟧.got self.new)) }
-        ensures front { OnErr result (GetsFront (front_of self.old) bytes.now (⟦<MemSink as Sink>⟧.got self.old) (⟦<MemSink as Sink>⟧.got self.new)) }
+        ensures ok { OnOk result (Gets bytes.now (⟦<MemSink as Sink>⟧.got self.old)
+            (⟦<MemSink as Sink>⟧.got self.new)) }
+        ensures err { OnErr result (GetsPart bytes.now (⟦<MemSink as Sink>⟧.got self.old)
+            (⟦<MemSink as Sink>⟧.got self.new)) }
+        ensures front { OnErr result (GetsFront (front_of self.old) bytes.now (⟦<MemSink as Sink>⟧.got self.old)
+            (⟦<MemSink as Sink>⟧.got self.new)) }
         ensures kept { front_of self.new ≡ front_of self.old }
-        ensures cause { FailsWith (faults_of (sink_schedule_of self.old)) (faults_of (sink_schedule_of self.new)) result }
+        ensures cause { FailsWith (faults_of (sink_schedule_of self.old)) (faults_of (sink_schedule_of self.new))
+            result }
         ensures planned { Plans (sink_schedule_of self.old) method.Put → IsErr result }
-        ensures count { CountsWhere (IsErr result) (faults_of (sink_schedule_of self.old)) (faults_of (sink_schedule_of self.new)) }
+        ensures count { CountsWhere (IsErr result) (faults_of (sink_schedule_of self.old))
+            (faults_of (sink_schedule_of self.new)) }
     {
         if self.schedule.fails(Method::Put) {
             let count = bytes.len().min(self.front);

@@ -1,6 +1,7 @@
 // Normal forms of paths.
-ghost use Rattle.std.specs.Prelude.{◌≡◌, IfOk, OnOk, string_bytes, []};
+ghost use Rattle.std.specs.Prelude.{◌≡◌, true, IfOk, OnOk, string_bytes, []};
 ghost use Rattle.outside.specs.Paths.{seen, with_part, parts_of, pieces, joined, normal, is_kept};
+ghost use Rattle.outside.specs.Plain.{begins_specially, are_plain, behind_slash};
 
 use std::alloc::{AllocError, Global};
 
@@ -67,9 +68,50 @@ fn join(alloc: Global, parts: &[&str]) -> Result<String, AllocError>
     Ok(text)
 }
 
-/// The normal form of a path.
+// What stands behind a slash in front, or all where there is none.
+fn behind_slash(text: &[u8]) -> &[u8]
+    ensures { result.now ≡ behind_slash text.now }
+{
+    match text {
+        [c, rest @ ..] if *c == b'/' => rest,
+        _ => text,
+    }
+}
+
+// Whether a part that begins here begins with a slash or a point.
+fn begins_specially(first: bool, c: u8) -> bool
+    ensures { result ≡ begins_specially first c }
+{
+    first && (c == b'/' || c == b'.')
+}
+
+// Whether each part between slashes begins with a byte that isn't a point.
+fn are_plain(text: &[u8]) -> bool
+    ensures { result ≡ are_plain true text.now }
+{
+    let mut first = true;
+    let mut rest = text;
+    while let [c, more @ ..] = rest {
+        if begins_specially(first, *c) {
+            return false;
+        }
+        first = *c == b'/';
+        rest = more;
+    }
+    !first
+}
+
+// Whether a path is its own normal form by the first bytes of its parts, as most are.
+#[tactic(auto, using(crate::proofs::Plain::plain_normal))]
+fn is_plain(text: &[u8]) -> bool
+    ensures { result ≡ true → normal text.now ≡ text.now }
+{
+    are_plain(behind_slash(text))
+}
+
+// The normal form of a path, from its parts.
 #[tactic(auto, unfolding(crate::specs::Paths::normal))]
-pub fn normalise(alloc: Global, text: &str) -> Result<String, AllocError>
+fn rebuilt(alloc: Global, text: &str) -> Result<String, AllocError>
     ensures { IfOk result (λ path. string_bytes path ≡ normal text.now) }
 {
     let absolute = text.as_bytes().first() == Some(&b'/');
@@ -83,4 +125,14 @@ pub fn normalise(alloc: Global, text: &str) -> Result<String, AllocError>
     }
     let (_, rest) = slashed.as_str().split_at(1);
     String::from_str(alloc, rest)
+}
+
+/// The normal form of a path.
+pub fn normalise(alloc: Global, text: &str) -> Result<String, AllocError>
+    ensures { IfOk result (λ path. string_bytes path ≡ normal text.now) }
+{
+    if is_plain(text.as_bytes()) {
+        return String::from_str(alloc, text);
+    }
+    rebuilt(alloc, text)
 }

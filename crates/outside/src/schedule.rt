@@ -1,7 +1,8 @@
 // Which calls of a folder, an input or a sink in memory fail.
 ghost use Rattle.std.specs.Prelude.{◌≡◌, ◌≤◌, ℕ, ⊤, IsTrue, IfOk, ◌↔◌};
 ghost use Rattle.outside.specs.Causes.{Rose, Absorbed, CountsWhere, one_more};
-ghost use Rattle.outside.specs.Schedules.{number_of, counted, later_of, no_call, Plans, Forked, Moved, failing_of, made_of, faults_of, IsPlanned};
+ghost use Rattle.outside.specs.Schedules.{number_of, counted, later_of, no_call, Plans, Forked, Moved, failing_of};
+ghost use Rattle.outside.specs.Schedules.{made_of, faults_of, IsPlanned};
 ghost use Rattle.outside.specs.declared.schedule.Method.{Method};
 
 use lists_and_answers::Items;

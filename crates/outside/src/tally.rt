@@ -1,7 +1,8 @@
 // A folder that counts calls of the one that it holds, and tells what that one tells.
 ghost use Rattle.std.specs.Prelude.{◌≡◌, ◌+◌, ◌≤◌, length, IfOk, OnOk, OnErr};
 ghost use Rattle.outside.specs.Causes.{HasCause, FailsWith, Absorbed, one_more, added};
-ghost use Rattle.outside.specs.Outside.{Opened, IsLong, NotThere, Reads, Created, Grown, Written, Appended, Published, ChangesOnly, IsView};
+ghost use Rattle.outside.specs.Outside.{Opened, IsLong, NotThere, Reads, Created, Grown, Written, Appended, Published};
+ghost use Rattle.outside.specs.Outside.{ChangesOnly, IsView};
 ghost use Rattle.outside.specs.Tallies.{opens_of};
 
 use crate::{Failed, Folder, Name, OpenFault, WriteFault};
@@ -127,7 +128,8 @@ impl<F: Folder> Folder for Tally<F> {
     }
 
     fn create(&mut self, name: &Name) -> Result<F::Draft, WriteFault>
-        ensures ok { IfOk result (λ draft. Created (F.names self.old.inner) name.now (F.draft_name draft) (F.draft_bytes draft) (F.draft_len draft)) }
+        ensures ok { IfOk result (λ draft. Created (F.names self.old.inner) name.now (F.draft_name draft)
+            (F.draft_bytes draft) (F.draft_len draft)) }
         ensures names { F.names self.new.inner ≡ F.names self.old.inner }
         ensures read_calls { self.new.reads ≡ self.old.reads }
         ensures write_calls { self.new.writes ≡ self.old.writes }
@@ -195,8 +197,10 @@ impl<F: Folder> Folder for Tally<F> {
     }
 
     fn publish(&mut self, draft: F::Draft) -> Result<(), WriteFault>
-        ensures ok { OnOk result (Published (F.draft_name draft) (F.draft_bytes draft) (F.names self.old.inner) (F.names self.new.inner)) }
-        ensures others { OnOk result (ChangesOnly (F.draft_name draft) (F.names self.old.inner) (F.names self.new.inner)) }
+        ensures ok { OnOk result (Published (F.draft_name draft) (F.draft_bytes draft) (F.names self.old.inner)
+            (F.names self.new.inner)) }
+        ensures others { OnOk result (ChangesOnly (F.draft_name draft) (F.names self.old.inner)
+            (F.names self.new.inner)) }
         ensures err { OnErr result (F.names self.new.inner ≡ F.names self.old.inner) }
         ensures read_calls { self.new.reads ≡ self.old.reads }
         ensures write_calls { self.new.writes ≡ self.old.writes }
@@ -217,7 +221,8 @@ impl<F: Folder> Folder for Tally<F> {
     }
 
     fn fork(&self) -> Result<Self, AllocError>
-        ensures view { IfOk result (λ view. IsView (F.names self.now.inner) (F.names view.inner) (F.faults view.inner) view.reads view.writes) }
+        ensures view { IfOk result (λ view. IsView (F.names self.now.inner) (F.names view.inner) (F.faults view.inner)
+            view.reads view.writes) }
         ensures opens { IfOk result (λ view. opens_of view ≡ 0) }
     {
         Ok(Tally {

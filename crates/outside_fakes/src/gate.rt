@@ -1,7 +1,8 @@
 // A folder whose views wait for one another: for tests that tell lanes beside each other from lanes in turn.
 ghost use Rattle.std.specs.Prelude.{◌≡◌, ◌+◌, ◌≤◌, length, IfOk, OnOk, OnErr};
 ghost use Rattle.outside.specs.Causes.{HasCause, FailsWith, Absorbed, one_more, added};
-ghost use Rattle.outside.specs.Outside.{Opened, IsLong, NotThere, Reads, Created, Grown, Written, Appended, Published, ChangesOnly, IsView};
+ghost use Rattle.outside.specs.Outside.{Opened, IsLong, NotThere, Reads, Created, Grown, Written, Appended, Published};
+ghost use Rattle.outside.specs.Outside.{ChangesOnly, IsView};
 ghost use Rattle.outside_fakes.specs.Gates.{faults_of};
 
 use outside::{Failed, Folder, Name, OpenFault, WriteFault};
@@ -136,7 +137,8 @@ impl<F: Folder> Folder for Gate<F> {
     }
 
     fn create(&mut self, name: &Name) -> Result<F::Draft, WriteFault>
-        ensures ok { IfOk result (λ draft. Created (F.names self.old.inner) name.now (F.draft_name draft) (F.draft_bytes draft) (F.draft_len draft)) }
+        ensures ok { IfOk result (λ draft. Created (F.names self.old.inner) name.now (F.draft_name draft)
+            (F.draft_bytes draft) (F.draft_len draft)) }
         ensures names { F.names self.new.inner ≡ F.names self.old.inner }
         ensures read_calls { F.read_calls self.new.inner ≡ F.read_calls self.old.inner }
         ensures write_calls { F.write_calls self.new.inner ≡ F.write_calls self.old.inner }
@@ -198,8 +200,10 @@ impl<F: Folder> Folder for Gate<F> {
     }
 
     fn publish(&mut self, draft: F::Draft) -> Result<(), WriteFault>
-        ensures ok { OnOk result (Published (F.draft_name draft) (F.draft_bytes draft) (F.names self.old.inner) (F.names self.new.inner)) }
-        ensures others { OnOk result (ChangesOnly (F.draft_name draft) (F.names self.old.inner) (F.names self.new.inner)) }
+        ensures ok { OnOk result (Published (F.draft_name draft) (F.draft_bytes draft) (F.names self.old.inner)
+            (F.names self.new.inner)) }
+        ensures others { OnOk result (ChangesOnly (F.draft_name draft) (F.names self.old.inner)
+            (F.names self.new.inner)) }
         ensures err { OnErr result (F.names self.new.inner ≡ F.names self.old.inner) }
         ensures read_calls { F.read_calls self.new.inner ≡ F.read_calls self.old.inner }
         ensures write_calls { F.write_calls self.new.inner ≡ F.write_calls self.old.inner }
@@ -218,7 +222,8 @@ impl<F: Folder> Folder for Gate<F> {
     }
 
     fn fork(&self) -> Result<Self, AllocError>
-        ensures view { IfOk result (λ view. IsView (F.names self.now.inner) (F.names view.inner) (faults_of F.faults view) (F.read_calls view.inner) (F.write_calls view.inner)) }
+        ensures view { IfOk result (λ view. IsView (F.names self.now.inner) (F.names view.inner)
+            (faults_of F.faults view) (F.read_calls view.inner) (F.write_calls view.inner)) }
     {
         let begun = Arc::try_clone(&self.begun)?;
         Ok(Gate {
@@ -232,9 +237,12 @@ impl<F: Folder> Folder for Gate<F> {
 
     fn absorb(&mut self, view: Self)
         ensures names { F.names self.new.inner ≡ F.names self.old.inner }
-        ensures read_calls { F.read_calls self.new.inner ≡ added (F.read_calls self.old.inner) (F.read_calls view.inner) }
-        ensures write_calls { F.write_calls self.new.inner ≡ added (F.write_calls self.old.inner) (F.write_calls view.inner) }
-        ensures faults { Absorbed (faults_of F.faults self.old) (faults_of F.faults view) (faults_of F.faults self.new) }
+        ensures read_calls { F.read_calls self.new.inner ≡ added (F.read_calls self.old.inner)
+            (F.read_calls view.inner) }
+        ensures write_calls { F.write_calls self.new.inner ≡ added (F.write_calls self.old.inner)
+            (F.write_calls view.inner) }
+        ensures faults { Absorbed (faults_of F.faults self.old) (faults_of F.faults view)
+            (faults_of F.faults self.new) }
     {
         let Gate {
             inner,

@@ -9,38 +9,39 @@ use geotransform::{PixelType, Ticks, read_decimal};
 use lists_and_answers::Items;
 use outside::{Listed, MemFolder, Name};
 use std::alloc::{AllocError, Global};
-use std::test::*;
 use translate_plan::{Driver, Numbers, OutSize, TranslateOptions, View, driver_for};
 
 /// Files by their names, the first of which is that of a dataset.
 pub type Files<'a> = &'a [(&'a str, &'a str)];
 
-fn put(alloc: Global, folder: &mut MemFolder, name: &str, text: &str) -> Result<(), Fail> {
-    let name = Name::read(alloc, name)?;
-    folder.put(&name, text.as_bytes())?;
-    Ok(())
-}
-
-fn put_all(alloc: Global, folder: &mut MemFolder, files: Files<'_>) -> Result<(), Fail> {
-    for (name, text) in files {
-        put(alloc, folder, name, text)?;
+fn put(alloc: Global, folder: &mut MemFolder, name: &str, text: &str) -> bool {
+    match Name::read(alloc, name) {
+        Ok(name) => folder.put(&name, text.as_bytes()).is_ok(),
+        Err(_) => false,
     }
-    Ok(())
 }
 
-fn folder_of(alloc: Global, files: Files<'_>) -> Result<MemFolder, Fail> {
+fn put_all(alloc: Global, folder: &mut MemFolder, files: Files<'_>) -> bool {
+    for (name, text) in files {
+        if !put(alloc, folder, name, text) {
+            return false;
+        }
+    }
+    true
+}
+
+fn folder_of(alloc: Global, files: Files<'_>) -> Option<MemFolder> {
     let mut folder = MemFolder::new(alloc, Listed::new(Items::new(alloc)));
-    put_all(alloc, &mut folder, files)?;
-    Ok(folder)
+    if put_all(alloc, &mut folder, files) {
+        Some(folder)
+    } else {
+        None
+    }
 }
 
-fn head_in(alloc: Global, folder: &mut MemFolder, name: &str) -> Result<Head, Fail> {
-    let name = Name::read(alloc, name)?;
-    Ok(
-        head_of(alloc, folder, &name, false)
-            .ok()
-            .ok_or("it is a dataset")?,
-    )
+fn head_in(alloc: Global, folder: &mut MemFolder, name: &str) -> Option<Head> {
+    let name = Name::read(alloc, name).ok()?;
+    head_of(alloc, folder, &name, false).ok()
 }
 
 fn first_name<'a>(files: Files<'a>) -> &'a str {
@@ -50,8 +51,8 @@ fn first_name<'a>(files: Files<'a>) -> &'a str {
     }
 }
 
-/// The head of the first of some files.
-pub fn head(alloc: Global, files: Files<'_>) -> Result<Head, Fail> {
+/// The head of the first of some files, where they are put and it is a dataset.
+pub fn head(alloc: Global, files: Files<'_>) -> Option<Head> {
     let mut folder = folder_of(alloc, files)?;
     head_in(alloc, &mut folder, first_name(files))
 }
@@ -284,13 +285,13 @@ fn settings_of(ask: &str) -> Option<Settings>
     })
 }
 
-/// The options of the words that ask for them.
-pub fn options(alloc: Global, ask: &str) -> Result<TranslateOptions, Fail> {
-    let settings = settings_of(ask).ok_or("it is asked for")?;
-    let out = Name::read(alloc, first_word(ask).unwrap_or(""))?;
-    let bands = numbers_of(alloc, bands_of(ask))?;
+/// The options of the words that ask for them, where they do.
+pub fn options(alloc: Global, ask: &str) -> Option<TranslateOptions> {
+    let settings = settings_of(ask)?;
+    let out = Name::read(alloc, first_word(ask).unwrap_or("")).ok()?;
+    let bands = numbers_of(alloc, bands_of(ask)).ok()?;
     let driver = driver_of(&out);
-    Ok(TranslateOptions {
+    Some(TranslateOptions {
         driver,
         layout: Layout::Bil,
         out,

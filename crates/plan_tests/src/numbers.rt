@@ -77,6 +77,6 @@ const NUMBERS: [Row<'static>; 30] = [
 ];
 
 #[test]
-fn plans_numbers_that_formats_hold(rt: HostRuntime) -> Result<(), Fail> {
-    all_hold(&rt, rt.alloc(), &NUMBERS)
+fn plans_numbers_that_formats_hold(rt: HostRuntime) {
+    all_hold(&rt, rt.alloc(), &NUMBERS);
 }

@@ -1,6 +1,7 @@
 // What is planned, beside what is to be.
 use crate::asking::{head, options};
 use crate::sources::text_of;
+use catalog::Head;
 use geotransform::{PlanFault, read_whole};
 use std::alloc::Global;
 use std::process::Abort;
@@ -114,34 +115,33 @@ fn agrees(planned: Result<Plan, PlanFault>, wanted: &str) -> bool {
     }
 }
 
-/// What is planned of a source.
-pub fn planned(alloc: Global, source: &str, ask: &str) -> Result<Result<Plan, PlanFault>, Fail> {
-    let options = options(alloc, ask)?;
-    let head = head(alloc, &[("in.vrt", text_of(source))])?;
-    Ok(plan(&options, &head))
+/// The head of the source of this name.
+pub fn source_head(alloc: Global, source: &str) -> Option<Head> {
+    head(alloc, &[("in.vrt", text_of(source))])
 }
 
-fn row_holds(alloc: Global, (source, ask, wanted): Row<'_>) -> Result<bool, Fail> {
-    Ok(agrees(planned(alloc, source, ask)?, wanted))
+fn row_holds(alloc: Global, (source, ask, wanted): Row<'_>) -> Option<bool> {
+    let options = options(alloc, ask)?;
+    let head = source_head(alloc, source)?;
+    Some(agrees(plan(&options, &head), wanted))
 }
 
 /// The first row that doesn't hold.
-fn wrong_row(alloc: Global, rows: &[Row<'_>]) -> Result<Option<usize>, Fail> {
+fn wrong_row(alloc: Global, rows: &[Row<'_>]) -> Option<usize> {
     for at in 0..rows.len() {
-        if !row_holds(alloc, rows[at])? {
-            return Ok(Some(at));
+        if row_holds(alloc, rows[at]) != Some(true) {
+            return Some(at);
         }
     }
-    Ok(None)
+    None
 }
 
 /// Asserts that no row of a table is wrong.
-pub fn none_wrong(rt: &impl Abort, wrong: Result<Option<usize>, Fail>) -> Result<(), Fail> {
-    assert_eq!(*rt; wrong?, None);
-    Ok(())
+pub fn none_wrong(rt: &impl Abort, wrong: Option<usize>) {
+    assert_eq!(*rt; wrong, None);
 }
 
 /// Asserts that these rows hold.
-pub fn all_hold(rt: &impl Abort, alloc: Global, rows: &[Row<'_>]) -> Result<(), Fail> {
-    none_wrong(rt, wrong_row(alloc, rows))
+pub fn all_hold(rt: &impl Abort, alloc: Global, rows: &[Row<'_>]) {
+    none_wrong(rt, wrong_row(alloc, rows));
 }

@@ -56,6 +56,6 @@ const RASTERS: [Row<'static>; 33] = [
 ];
 
 #[test]
-fn plans_rasters_that_formats_hold(rt: HostRuntime) -> Result<(), Fail> {
-    all_hold(&rt, rt.alloc(), &RASTERS)
+fn plans_rasters_that_formats_hold(rt: HostRuntime) {
+    all_hold(&rt, rt.alloc(), &RASTERS);
 }

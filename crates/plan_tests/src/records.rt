@@ -7,7 +7,7 @@ use crate::cells::{Posts, STILL, cell};
 use crate::plans::none_wrong;
 use dted_records::{DtedHead, encode_record, read_head, write_head};
 use geotransform::Size;
-use std::alloc::{AllocError, Global};
+use std::alloc::Global;
 use std::test::*;
 
 /// 0, the null elevation, -5 and 5 from north to south: they stand from south to north, by sign and magnitude.
@@ -61,54 +61,78 @@ fn wrong_record() -> Option<usize> {
 }
 
 #[test]
-fn writes_records(rt: HostRuntime) -> Result<(), Fail> {
-    none_wrong(&rt, Ok(wrong_record()))
+fn writes_records(rt: HostRuntime) {
+    none_wrong(&rt, wrong_record());
 }
 
 /// The level, the size, the posts, the first 80 bytes, and the level's name.
 type Written = (
     u32,
-    (u32, u32),
-    (i16, i16, i16, i16),
-    &'static [u8],
-    &'static [u8],
+    u32,
+    u32,
+    i16,
+    i16,
+    i16,
+    i16,
+    &'static str,
+    &'static str,
 );
 
 const WRITTEN: [Written; 5] = [
     (
         0,
-        (121, 121),
-        (0, 0, 300, 300),
-        b"UHL10000000E0000000N03000300NA  U              012101210                        ",
-        b"DTED0",
+        121,
+        121,
+        0,
+        0,
+        300,
+        300,
+        "UHL10000000E0000000N03000300NA  U              012101210                        ",
+        "DTED0",
     ),
     (
         1,
-        (1201, 1201),
-        (-1, -1, 30, 30),
-        b"UHL10010000W0010000S00300030NA  U              120112010                        ",
-        b"DTED1",
+        1201,
+        1201,
+        -1,
+        -1,
+        30,
+        30,
+        "UHL10010000W0010000S00300030NA  U              120112010                        ",
+        "DTED1",
     ),
     (
         1,
-        (601, 1201),
-        (50, 10, 30, 60),
-        b"UHL10100000E0500000N00600030NA  U              060112010                        ",
-        b"DTED1",
+        601,
+        1201,
+        50,
+        10,
+        30,
+        60,
+        "UHL10100000E0500000N00600030NA  U              060112010                        ",
+        "DTED1",
     ),
     (
         2,
-        (601, 3601),
-        (89, 179, 10, 60),
-        b"UHL11790000E0890000N00600010NA  U              060136010                        ",
-        b"DTED2",
+        601,
+        3601,
+        89,
+        179,
+        10,
+        60,
+        "UHL11790000E0890000N00600010NA  U              060136010                        ",
+        "DTED2",
     ),
     (
         0,
-        (21, 121),
-        (-90, -180, 300, 1800),
-        b"UHL11800000W0900000S18000300NA  U              002101210                        ",
-        b"DTED0",
+        21,
+        121,
+        -90,
+        -180,
+        300,
+        1800,
+        "UHL11800000W0900000S18000300NA  U              002101210                        ",
+        "DTED0",
     ),
 ];
 
@@ -136,22 +160,17 @@ fn is_text(bytes: &[u8], label: &[u8], level: &[u8]) -> bool {
 }
 
 /// Whether the head is written so behind what stands there, and is read again.
-fn is_written(
-    alloc: Global,
-    head: &DtedHead,
-    label: &[u8],
-    level: &[u8],
-) -> Result<bool, AllocError>
+fn is_written(alloc: Global, head: &DtedHead, label: &str, level: &str) -> bool
     requires { IsPlain head.now }
 {
     let mut out = Vec::new(alloc);
-    write_head(head, &mut out)?;
-    let bytes = out.as_slice();
-    Ok(is_text(bytes, label, level) && read_head(bytes) == Ok(*head))
+    write_head(head, &mut out).is_ok()
+        && is_text(&out, label.as_bytes(), level.as_bytes())
+        && read_head(&out) == Ok(*head)
 }
 
-fn written_holds(alloc: Global, row: Written) -> Result<bool, AllocError> {
-    let (level, (w, h), (lat, lon, lat_step, lon_step), label, name) = row;
+fn written_holds(alloc: Global, row: Written) -> bool {
+    let (level, w, h, lat, lon, lat_step, lon_step, label, name) = row;
     let posts = Posts {
         lat,
         lon,
@@ -160,20 +179,20 @@ fn written_holds(alloc: Global, row: Written) -> Result<bool, AllocError> {
     };
     match cell(level, Size { w, h }, posts, STILL) {
         Some(head) => is_written(alloc, &head, label, name),
-        None => Ok(false),
+        None => false,
     }
 }
 
-fn wrong_head(alloc: Global, rows: &[Written]) -> Result<Option<usize>, Fail> {
+fn wrong_head(alloc: Global, rows: &[Written]) -> Option<usize> {
     for at in 0..rows.len() {
-        if !written_holds(alloc, rows[at])? {
-            return Ok(Some(at));
+        if !written_holds(alloc, rows[at]) {
+            return Some(at);
         }
     }
-    Ok(None)
+    None
 }
 
 #[test]
-fn writes_heads(rt: HostRuntime) -> Result<(), Fail> {
-    none_wrong(&rt, wrong_head(rt.alloc(), &WRITTEN))
+fn writes_heads(rt: HostRuntime) {
+    none_wrong(&rt, wrong_head(rt.alloc(), &WRITTEN));
 }

@@ -38,7 +38,8 @@ fn is_own(alloc: Global, dataset: &Name, name: &Name) -> Result<bool, AllocError
 // The same of the dataset of a number.
 fn is_own_at(alloc: Global, cat: &Catalog, id: u32, name: &Name) -> Result<bool, AllocError>
     requires known { id < length cat.now }
-    ensures own { IfOk result (λ own. (d : Dataset) → slice_get cat.now id ≡ Some d → own ≡ is_own d.head.name name.now) }
+    ensures own { IfOk result (λ own. (d : Dataset) → slice_get cat.now id ≡ Some d →
+        own ≡ is_own d.head.name name.now) }
 {
     is_own(alloc, &cat.head(id).name, name)
 }

@@ -34,7 +34,8 @@ fn spelling(alloc: Global, document: &Document) -> Result<Vec<u8>, AllocError>
 
 // A draft of this text.
 fn draft_of<F: Folder>(folder: &mut F, name: &Name, text: &[u8]) -> Result<F::Draft, Fault>
-    ensures text { IfOk result (λ draft. (m : Files) → F.names folder.old ≡ Some m → F.draft_bytes draft ≡ Some text.now) }
+    ensures text { IfOk result (λ draft. (m : Files) → F.names folder.old ≡ Some m →
+        F.draft_bytes draft ≡ Some text.now) }
     ensures name { IfOk result (λ draft. F.draft_name draft ≡ name.now) }
     ensures names { F.names folder.new ≡ F.names folder.old }
     ensures writes { F.write_calls folder.new ≡ F.write_calls folder.old }
@@ -55,7 +56,8 @@ fn draft_of<F: Folder>(folder: &mut F, name: &Name, text: &[u8]) -> Result<F::Dr
 
 // Publishes this text under a name.
 fn publish_text<F: Folder>(folder: &mut F, name: &Name, text: &[u8]) -> Result<(), Fault>
-    ensures told { (m : Files) → F.names folder.old ≡ Some m → (out : Option (List ℕ)) → Goes (all_done (Publishes name.now text.now ∷ [])) m result (F.names folder.new) out out }
+    ensures told { (m : Files) → F.names folder.old ≡ Some m → (out : Option (List ℕ)) →
+        Goes (all_done (Publishes name.now text.now ∷ [])) m result (F.names folder.new) out out }
     ensures names { OnErr result (F.names folder.new ≡ F.names folder.old) }
     ensures writes { F.write_calls folder.new ≡ F.write_calls folder.old }
     ensures faults { IfErr result IsOfFolder }
@@ -79,7 +81,8 @@ pub fn publish_document<F: Folder>(
     document: &Document,
 ) -> Result<(), Fault>
     // over a folder that tells its files: the name has the text, and nothing is put
-    ensures told { (m : Files) → F.names folder.old ≡ Some m → (out : Option (List ℕ)) → Goes (all_done (Publishes name.now (spelled document.now) ∷ [])) m result (F.names folder.new) out out }
+    ensures told { (m : Files) → F.names folder.old ≡ Some m → (out : Option (List ℕ)) →
+        Goes (all_done (Publishes name.now (spelled document.now) ∷ [])) m result (F.names folder.new) out out }
     ensures names { OnErr result (F.names folder.new ≡ F.names folder.old) }
     ensures writes { F.write_calls folder.new ≡ F.write_calls folder.old }
     ensures faults { IfErr result IsOfFolder }

@@ -112,8 +112,8 @@ fn some_workers_over_wide_lines(rt: HostRuntime) {
     assert!(rt; are_alike_wide(&rt, rt.alloc()));
 }
 
-// A tile whose bytes are these again and again, and ones behind them, which is copied to a cell, and the cell to a tile by
-// some workers, each of which reads lines of all columns.
+// A tile whose bytes are these again and again, and ones behind them, which is copied to a cell, and the cell to a tile
+// by some workers, each of which reads lines of all columns.
 const TILE_TIMES: usize = 11_268;
 
 const TILE_REST: usize = 194;
@@ -158,8 +158,8 @@ fn some_workers_over_a_cell(rt: HostRuntime) {
     assert!(rt; are_tiles_again(&rt, rt.alloc()));
 }
 
-// Lines of which a strip of sixty-four has two million samples: two workers read it beside each other, and the last line
-// is read while those before it are written.
+// Lines of which a strip of sixty-four has two million samples: two workers read it beside each other, and the last
+// line is read while those before it are written.
 const LONG: &[u8] = b"NROWS 65\nNCOLS 32768\n";
 
 const LONG_TIMES: usize = 8_320;

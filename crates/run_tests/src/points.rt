@@ -313,8 +313,8 @@ const ANSWERS: &str = "1\n4\n\n9\n12\n";
 
 // The data and their header are opened and the header is read; then the data are opened again, and for two of the
 // points a line of each band is read. Three pieces and the end are taken, and each answer is put.
-// Of a mosaic whose files alone are asked for, the document and each raster with its header are opened, the document and
-// the headers are read, and no pixel.
+// Of a mosaic whose files alone are asked for, the document and each raster with its header are opened, the document
+// and the headers are read, and no pixel.
 static ASKED: [Asking<'static>; 5] = [
     (
         ("gdallocationinfo -lifonly m.vrt 0 0", NOTHING),

@@ -1,5 +1,6 @@
 -- Lines that are shared, one event at a time.
-use Rattle.std.specs.Prelude.{◌≡◌, ℕ, zero, suc, ◌+◌, ◌-◌, ◌*◌, ◌%◌, ◌^◌, ◌<◌, List, [], ◌∷◌, replicate, Option, Some, slice_get, slice_set}
+use Rattle.std.specs.Prelude.{◌≡◌, ℕ, zero, suc, ◌+◌, ◌-◌, ◌*◌, ◌%◌, ◌^◌, ◌<◌, List, [], ◌∷◌, replicate, Option, Some}
+use Rattle.std.specs.Prelude.{slice_get, slice_set}
 use Rattle.std.specs.List.{All}
 use Rattle.outside.specs.Outside.{Files}
 use Rattle.catalog.specs.Drivers.{Dataset}
@@ -13,8 +14,8 @@ pub data Line : Type 0 where
   taken : Line
   held : BlockKey → BlockView → ℕ → Line
 
--- What may happen to a line: one more reader looks, who is shown a key and a block, or a reader leaves; a writer takes the
--- line, and puts a key and a block into it; or one who got no right to it is done.
+-- What may happen to a line: one more reader looks, who is shown a key and a block, or a reader leaves; a writer takes
+-- the line, and puts a key and a block into it; or one who got no right to it is done.
 pub data Kind : Type 0 where
   look : BlockKey → BlockView → Kind
   leave : Kind
@@ -42,7 +43,8 @@ module _ (told : Option Files) (cat : List Dataset) (count : ℕ) where
 
   -- what one event makes of its line
   abbrev pub Changes : ℕ → Line → Kind → Line → Type 0
-  Changes at (held key block readers) (look k b) new = (k ≡ key) × (b ≡ block) × (readers < 2 ^ 30 - 1) × (new ≡ held key block (readers + 1))
+  Changes at (held key block readers) (look k b) new = (k ≡ key) × (b ≡ block) × (readers < 2 ^ 30 - 1) ×
+      (new ≡ held key block (readers + 1))
   Changes at (held key block (suc readers)) leave new = new ≡ held key block readers
   Changes at empty take new = new ≡ taken
   Changes at (held key block zero) take new = new ≡ taken

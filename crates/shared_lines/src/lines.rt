@@ -112,14 +112,16 @@ fn put<S: Scene>(line: &Counted<Option<Held<S>>>, held: Held<S>) -> bool
 {
     let seen = line.load();
     if !may_take(seen) {
+        drop(held);
         return false;
     }
     let (found, claim) = line.turn(seen, TAKEN);
     if found != seen {
         claim.done();
+        drop(held);
         return false;
     }
-    let _old = claim.put(Some(held), PRESENT);
+    drop(claim.put(Some(held), PRESENT));
     true
 }
 

@@ -46,4 +46,5 @@ lines_rect size from to = record { x = 0; y = from; w = size.w; h = to - from }
 
 -- the first n samples of lines of a band of a translation's output from one on, row by row
 abbrev pub AreOf : Option Files → List Dataset → ℕ → Planned → ℕ → ℕ → ℕ → List ℤ → Type 0
-AreOf told cat id p k from n samples = (d : Dataset) → slice_get cat id ≡ Some d → AreSamples told d.head.name p d.head.size k from n samples
+AreOf told cat id p k from n samples = (d : Dataset) → slice_get cat id ≡ Some d →
+    AreSamples told d.head.name p d.head.size k from n samples

@@ -1,5 +1,6 @@
 -- How many lines are copied at a time.
-use Rattle.std.specs.Prelude.{ℕ, ◌*◌, ◌/◌, min, max, nat_lt, nat_le, not, ◌&&◌, ◌||◌, Bool, true, false, List, length, if◌then◌else◌}
+use Rattle.std.specs.Prelude.{ℕ, ◌*◌, ◌/◌, min, max, nat_lt, nat_le, not, ◌&&◌, ◌||◌, Bool, true, false, List, length}
+use Rattle.std.specs.Prelude.{if◌then◌else◌}
 use Rattle.std.specs.List.{list_any}
 use Rattle.esri_hdr.specs.declared.header_parts.Layout.{Layout}
 use Rattle.esri_hdr.specs.declared.header_parts.Layout.TheVariants.{Bil, Bip, Bsq}
@@ -13,7 +14,8 @@ use Rattle.translate_plan.specs.Plan.{Planned}
 use Rattle.strip_copies.specs.declared.height.BlockShape.{BlockShape}
 use Rattle.strip_copies.specs.declared.height.BlockShape.TheVariants.{Columns, Squares, Digits}
 
--- datasets whose blocks are whole columns are cells, those whose blocks are squares are mosaics, and those of digits are grids
+-- datasets whose blocks are whole columns are cells, those whose blocks are squares are mosaics, and those of digits
+-- are grids
 abbrev pub is_cell : Kind → Bool
 is_cell kinds.Raw = false
 is_cell kinds.Dted = true
@@ -52,7 +54,8 @@ is_tall cat SrtmHgt = has_blocks Columns cat
 is_tall cat AaiGrid = has_blocks Columns cat
 is_tall cat Vrt = has_blocks Columns cat
 
--- the lines of a strip that each of several workers reads: those of a square where the source is a mosaic, and 32 where it is a file of lines
+-- the lines of a strip that each of several workers reads: those of a square where the source is a mosaic, and 32 where
+-- it is a file of lines
 abbrev pub lines_each : List Dataset → ℕ
 lines_each cat = if has_blocks Squares cat then 128 else 32
 
@@ -66,7 +69,8 @@ fewest_read cat = if is_made cat then 262144 else 1000000
 
 -- several workers read a strip of a window so wide where each has enough samples for a thread
 abbrev pub is_shared : ℕ → List Dataset → ℕ → Bool
-is_shared workers cat width = nat_lt 1 workers && nat_le (fewest_read cat) (min (lines_each cat * width) (most_side / workers))
+is_shared workers cat width =
+    nat_lt 1 workers && nat_le (fewest_read cat) (min (lines_each cat * width) (most_side / workers))
 
 -- the lines of so many columns that stay in a processor's cache
 abbrev pub lines_near : ℕ → ℕ
@@ -78,7 +82,8 @@ lines_alone cat width = if is_made cat then lines_each cat else lines_near width
 
 -- the most lines of a strip: so many for each of the workers that share it, or as many as it can have
 abbrev pub most_lines : ℕ → List Dataset → Planned → ℕ
-most_lines workers cat p = if is_tall cat p.driver then most_side else (if is_shared workers cat p.window.w then lines_each cat * workers else lines_alone cat p.size.w)
+most_lines workers cat p = if is_tall cat p.driver then most_side
+    else (if is_shared workers cat p.window.w then lines_each cat * workers else lines_alone cat p.size.w)
 
 -- the lines of a strip of so many columns, from 1 to 4,194,304: at most 4,194,304 samples
 abbrev pub strip_height : ℕ → ℕ → ℕ
@@ -90,11 +95,12 @@ is_woven Bil bands = false
 is_woven Bip bands = nat_lt 1 bands
 is_woven Bsq bands = false
 
--- the most lines of which none leaves a pool of so many blocks before all of its bands are written; cells are read in strips as
--- tall as they can be all the same
+-- the most lines of which none leaves a pool of so many blocks before all of its bands are written; cells are read in
+-- strips as tall as they can be all the same
 abbrev pub lines_held : ℕ → List Dataset → Planned → ℕ
 lines_held blocks cat p = if is_woven p.layout (length p.bands) && not (is_tall cat p.driver) then blocks else most_side
 
 -- the lines of an output that so many workers copy at a time, where so many blocks are held of what is written
 abbrev pub lines_copied : ℕ → ℕ → List Dataset → Planned → ℕ
-lines_copied workers blocks cat p = min (min (strip_height (most_lines workers cat p) p.size.w) p.size.h) (lines_held blocks cat p)
+lines_copied workers blocks cat p =
+    min (min (strip_height (most_lines workers cat p) p.size.w) p.size.h) (lines_held blocks cat p)

@@ -1,5 +1,6 @@
 -- Rows of an output's band, made of lines of the source.
-use Rattle.std.specs.Prelude.{◌≡◌, ◌<◌, ◌≤◌, ◌+◌, ◌/◌, ◌%◌, ℕ, ℤ, pos, negsuc, min, List, length, get_or, Option, Some, None, slice_get, int_lt, nat_lt, if◌then◌else◌, true}
+use Rattle.std.specs.Prelude.{◌≡◌, ◌<◌, ◌≤◌, ◌+◌, ◌/◌, ◌%◌, ℕ, ℤ, pos, negsuc, min, List, length, get_or, Option, Some}
+use Rattle.std.specs.Prelude.{None, slice_get, int_lt, nat_lt, if◌then◌else◌, true}
 use Rattle.std.specs.Option.{unwrap_or}
 use Rattle.geotransform.specs.Types.{is_in, lowest}
 use Rattle.geotransform.specs.declared.types.PixelType.{PixelType}
@@ -27,11 +28,13 @@ within side (negsuc n) = None
 abbrev pub column_at : ℕ → ℕ → ℕ → Option ℕ
 column_at first n place = if nat_lt place n then Some (first + place) else None
 
--- the columns of a source of this width that are read for a plan, and the place of each of the output's columns among them
+-- the columns of a source of this width that are read for a plan, and the place of each of the output's columns among
+-- them
 pub record AreColumns (p : Planned) (width : ℕ) (c : Columns) : Type 0 where
   pub inside : c.first + c.count ≤ width
   pub long : length c.places.items ≡ p.size.w
-  pub each : (i : ℕ) → i < p.size.w → within width (shown_column p i) ≡ column_at c.first c.count (get_or c.places.items i 0)
+  pub each : (i : ℕ) → i < p.size.w → within width (shown_column p i) ≡ column_at c.first c.count
+      (get_or c.places.items i 0)
 
 -- the number from `least` to `most` that is nearest to v
 abbrev pub nearest : ℤ → ℤ → ℤ → ℤ
@@ -76,16 +79,18 @@ pub record AreIn (p : Planned) (height first end : ℕ) (s : Span) : Type 0 wher
   pub inside : s.top + s.height ≤ height
   pub each : (j y : ℕ) → first ≤ j → j < end → within height (shown_line p j) ≡ Some y → IsIn s y
 
--- a sample that stands in a column and a line of a band of the output: that of some pixels of the source, and over a folder
--- that tells its files that of the source's pixels
-pub record IsSample (told : Option Files) (name : List ℕ) (p : Planned) (source : Size) (k i j : ℕ) (v : ℤ) : Type 0 where
-  pub pixels : ℕ → ℕ → ℕ → ℤ
-  pub shows : v ≡ out_pixel p source pixels k i j
-  pub named : (m : Files) → told ≡ Some m → v ≡ out_pixel p source (pixel_of_name m name) k i j
+-- a sample that stands in a column and a line of a band of the output: that of some pixels of the source, and over a
+-- folder that tells its files that of the source's pixels
+pub record IsSample (told : Option Files) (name : List ℕ) (p : Planned) (source : Size) (k i j : ℕ) (v : ℤ) : Type 0
+  where
+    pub pixels : ℕ → ℕ → ℕ → ℤ
+    pub shows : v ≡ out_pixel p source pixels k i j
+    pub named : (m : Files) → told ≡ Some m → v ≡ out_pixel p source (pixel_of_name m name) k i j
 
 -- the first n samples of lines of a band of the output from one on, row by row
 abbrev pub AreSamples : Option Files → List ℕ → Planned → Size → ℕ → ℕ → ℕ → List ℤ → Type 0
-AreSamples told name p source k from n samples = (at : ℕ) → at < n → IsSample told name p source k (at % p.size.w) (from + at / p.size.w) (get_or samples at (pos 0))
+AreSamples told name p source k from n samples = (at : ℕ) → at < n →
+    IsSample told name p source k (at % p.size.w) (from + at / p.size.w) (get_or samples at (pos 0))
 
 -- a row of a band of the output
 abbrev pub IsRow : Option Files → List ℕ → Planned → Size → ℕ → ℕ → List ℤ → Type 0
@@ -95,9 +100,11 @@ IsRow told name p source k j row = (i : ℕ) → i < p.size.w → IsSample told 
 abbrev pub strip_rect : Columns → Span → Rect
 strip_rect c s = record { x = c.first; y = s.top; w = c.count; h = s.height }
 
--- the samples of the source's band that a band of the output shows, in a rectangle, as far as the folder tells its files
+-- the samples of the source's band that a band of the output shows, in a rectangle, as far as the folder tells its
+-- files
 abbrev pub IsStrip : Option Files → List ℕ → Planned → ℕ → Rect → List ℤ → Type 0
-IsStrip told name p k rect strip = (m : Files) (b : OutBand) → told ≡ Some m → slice_get p.bands k ≡ Some b → strip ≡ row_by_row (pixel_of_name m name b.source) rect
+IsStrip told name p k rect strip = (m : Files) (b : OutBand) → told ≡ Some m → slice_get p.bands k ≡ Some b →
+    strip ≡ row_by_row (pixel_of_name m name b.source) rect
 
 -- what rows are made with is of one plan, one band and one source
 pub record IsMaking (making : Making) : Type 0 where

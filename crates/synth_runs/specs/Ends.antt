@@ -6,7 +6,10 @@ use Rattle.catalog.specs.Heads.{kind_in, IsOwnFault}
 use Rattle.catalog.specs.declared.faults.WalkFault.TheVariants as walk
 use Rattle.buildvrt.specs.declared.faults.BuildFault.TheVariants as build
 use Rattle.error_lines.specs.declared.faults.Fault.{Fault}
-use Rattle.error_lines.specs.declared.faults.Fault.TheVariants.{Usage, Absent, NotRecognized, Malformed, Short, Cycle, TooDeep, Limit, SourceBand, Plan, Build, SameName, BadPoint, Changed, FolderFault, InputFault, OutFault, Memory}
+use Rattle.error_lines.specs.declared.faults.Fault.TheVariants.{Usage, Absent, NotRecognized, Malformed, Short, Cycle}
+use Rattle.error_lines.specs.declared.faults.Fault.TheVariants.{TooDeep, Limit, SourceBand, Plan, Build, SameName}
+use Rattle.error_lines.specs.declared.faults.Fault.TheVariants.{BadPoint, Changed, FolderFault, InputFault, OutFault}
+use Rattle.error_lines.specs.declared.faults.Fault.TheVariants.{Memory}
 use Rattle.synthetic_rasters.specs.Names.{tile_name, inner_name, outer_name, output_name}
 
 -- the names that are published, in order: a raster's data, then its header
@@ -14,10 +17,11 @@ abbrev pub raster_names : List ℕ → List (List ℕ)
 raster_names name = name ∷ header_of name ∷ []
 
 abbrev pub names_made : List (List ℕ)
-names_made = flat_map (λ t. raster_names (tile_name t)) (range_with_len 0 4) ++ inner_name ∷ outer_name ∷ raster_names output_name
+names_made = flat_map (λ t. raster_names (tile_name t)) (range_with_len 0 4) ++
+    inner_name ∷ outer_name ∷ raster_names output_name
 
--- The faults that it may end with over every folder. Where a folder doesn't tell its files, a later part may read something
--- else than an earlier one published; where it does, none of these comes but those of the outside.
+-- The faults that it may end with over every folder. Where a folder doesn't tell its files, a later part may read
+-- something else than an earlier one published; where it does, none of these comes but those of the outside.
 abbrev pub MayEnd : Fault → Type 0
 MayEnd (Usage n) = ⊥
 MayEnd (Absent name) = Unit {0}

@@ -1,4 +1,5 @@
--- The run from a number: rasters that a formula gives, mosaics of them, a copy of what these show, and what is told of it.
+-- The run from a number: rasters that a formula gives, mosaics of them, a copy of what these show, and what is told of
+-- it.
 use Rattle.std.specs.Prelude.{ℕ, ℤ, true, false, List, [], ◌∷◌, ◌++◌, Option, Some, None, Result, Ok, Err}
 use Rattle.lists_and_answers.specs.Answers.{◌>>=◌}
 use Rattle.outside.specs.Outside.{Files}
@@ -37,10 +38,30 @@ then_run m first next = followed first.steps first.fault (next (applied (publish
 
 -- what the mosaic of the tiles is asked for, and what the copy of the outer mosaic is: nothing but their names
 abbrev pub inner_options : buildvrt.Options
-inner_options = record { out = inner_name; bands = []; resolution = Average; extent = None; src_nodata = Absent; vrt_nodata = Absent; separate = false; strict = false }
+inner_options = record {
+  out = inner_name;
+  bands = [];
+  resolution = Average;
+  extent = None;
+  src_nodata = Absent;
+  vrt_nodata = Absent;
+  separate = false;
+  strict = false;
+}
 
 abbrev pub output_options : translate.Options
-output_options = record { driver = EHdr; layout = Bil; out = output_name; bands = []; view = Whole; outsize = None; nodata = Absent; kind = None; epo = false; eco = false }
+output_options = record {
+  driver = EHdr;
+  layout = Bil;
+  out = output_name;
+  bands = [];
+  view = Whole;
+  outsize = None;
+  nodata = Absent;
+  kind = None;
+  epo = false;
+  eco = false;
+}
 
 -- the files of the tiles
 abbrev pub tiles_run : ℕ → Done
@@ -70,7 +91,12 @@ copied m = do
 
 -- the pixels of the first band of a dataset, line by line from north to south
 abbrev pub samples_of : Files → Dataset → List ℤ
-samples_of m d = row_by_row (pixel_of_name m d.head.name 0) (record { x = 0; y = 0; w = d.head.size.w; h = d.head.size.h })
+samples_of m d = row_by_row (pixel_of_name m d.head.name 0) (record {
+  x = 0;
+  y = 0;
+  w = d.head.size.w;
+  h = d.head.size.h;
+})
 
 -- what is told of the copy
 abbrev pub tally_done : Files → Result Dataset Fault → Done

@@ -72,7 +72,11 @@ pub fn put_inner<F: Folder>(alloc: Global, folder: &mut F) -> Result<(), Fault>
 {
     let options = inner_options(alloc)?;
     match make_inner(alloc, folder, &options) {
-        Ok(made) => publish_document(alloc, folder, &options.out, &made.document),
+        Ok(made) => {
+            let published = publish_document(alloc, folder, &options.out, &made.document);
+            drop(made);
+            published
+        }
         Err(fault) => Err(fault),
     }
 }

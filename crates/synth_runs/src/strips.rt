@@ -218,5 +218,7 @@ pub fn tally_copied<F: Folder, L: Ledger>(
     let rows = lines_at_once(copied.size);
     let mut pixels: PixelReader<F, L> = pixels_for(copied.alloc, blocks, blank)?;
     let mut samples = vec![in copied.alloc; 0; area(copied.size.w, rows)]?;
-    tally_lines(copied, &mut pixels, folder, rows, &mut samples)
+    let tally = tally_lines(copied, &mut pixels, folder, rows, &mut samples);
+    drop(pixels);
+    tally
 }

@@ -8,4 +8,5 @@ use Rattle.error_lines.specs.Steps.{applied}
 -- of the first.
 abbrev pub ArePublished : List (List ℕ × List ℕ) → Files → Result (Unit {0}) Fault → Option Files → Type 0
 ArePublished files m (Ok done) names = names ≡ Some (applied files m)
-ArePublished files m (Err fault) names = (first : List (List ℕ × List ℕ)) × ((rest : List (List ℕ × List ℕ)) × (first ++ rest ≡ files) × (names ≡ Some (applied first m)))
+ArePublished files m (Err fault) names = (first : List (List ℕ × List ℕ)) ×
+    ((rest : List (List ℕ × List ℕ)) × (first ++ rest ≡ files) × (names ≡ Some (applied first m)))

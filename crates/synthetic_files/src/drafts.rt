@@ -32,7 +32,8 @@ fn append_lines<F: Folder>(
 ) -> Result<(), WriteFault>
     requires side { room.old.side ≡ side }
     requires tile { tile < 4 }
-    ensures bytes { F.draft_bytes draft.old ≡ Some [] → OnOk result (F.draft_bytes draft.new ≡ Some (tile_data side tile)) }
+    ensures bytes { F.draft_bytes draft.old ≡ Some [] →
+        OnOk result (F.draft_bytes draft.new ≡ Some (tile_data side tile)) }
     ensures name { F.draft_name draft.new ≡ F.draft_name draft.old }
     ensures side { room.new.side ≡ side }
     ensures names { F.names folder.new ≡ F.names folder.old }
@@ -56,7 +57,8 @@ pub fn data_draft<F: Folder>(
 ) -> Result<F::Draft, WriteFault>
     requires side { room.old.side ≡ side }
     requires tile { tile < 4 }
-    ensures bytes { IfOk result (λ draft. (m : Files) → F.names folder.old ≡ Some m → F.draft_bytes draft ≡ Some (tile_data side tile)) }
+    ensures bytes { IfOk result (λ draft. (m : Files) → F.names folder.old ≡ Some m →
+        F.draft_bytes draft ≡ Some (tile_data side tile)) }
     ensures name { IfOk result (λ draft. F.draft_name draft ≡ name.now) }
     ensures side { room.new.side ≡ side }
     ensures names { F.names folder.new ≡ F.names folder.old }
@@ -79,7 +81,8 @@ pub fn text_draft<F: Folder>(
     name: &Name,
     text: &[u8],
 ) -> Result<F::Draft, WriteFault>
-    ensures text { IfOk result (λ draft. (m : Files) → F.names folder.old ≡ Some m → F.draft_bytes draft ≡ Some text.now) }
+    ensures text { IfOk result (λ draft. (m : Files) → F.names folder.old ≡ Some m →
+        F.draft_bytes draft ≡ Some text.now) }
     ensures name { IfOk result (λ draft. F.draft_name draft ≡ name.now) }
     ensures names { F.names folder.new ≡ F.names folder.old }
     ensures writes { F.write_calls folder.new ≡ F.write_calls folder.old }
@@ -97,7 +100,8 @@ pub fn text_draft<F: Folder>(
 
 /// Publishes a draft.
 pub fn publish_draft<F: Folder>(folder: &mut F, draft: F::Draft) -> Result<(), Fault>
-    ensures told { (m : Files) (bytes : List ℕ) → F.names folder.old ≡ Some m → F.draft_bytes draft ≡ Some bytes → ArePublished ((F.draft_name draft, bytes) ∷ []) m result (F.names folder.new) }
+    ensures told { (m : Files) (bytes : List ℕ) → F.names folder.old ≡ Some m → F.draft_bytes draft ≡ Some bytes →
+        ArePublished ((F.draft_name draft, bytes) ∷ []) m result (F.names folder.new) }
     ensures writes { F.write_calls folder.new ≡ F.write_calls folder.old }
     ensures faults { IfErr result IsOfFolder }
     ensures cause { HasCause Fault.FolderFault (F.faults folder.old) (F.faults folder.new) result }

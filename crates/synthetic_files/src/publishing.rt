@@ -26,7 +26,8 @@ fn publish_data<F: Folder>(
 ) -> Result<(), Fault>
     requires side { room.old.side ≡ side }
     requires tile { tile < 4 }
-    ensures told { (m : Files) → F.names folder.old ≡ Some m → ArePublished ((name.now, tile_data side tile) ∷ []) m result (F.names folder.new) }
+    ensures told { (m : Files) → F.names folder.old ≡ Some m → ArePublished ((name.now, tile_data side tile) ∷ []) m
+        result (F.names folder.new) }
     ensures side { room.new.side ≡ side }
     ensures writes { F.write_calls folder.new ≡ F.write_calls folder.old }
     ensures faults { IfErr result IsOfFolder }
@@ -40,7 +41,8 @@ fn publish_data<F: Folder>(
 
 // Publishes a text under a name.
 fn publish_text<F: Folder>(folder: &mut F, name: &Name, text: &[u8]) -> Result<(), Fault>
-    ensures told { (m : Files) → F.names folder.old ≡ Some m → ArePublished ((name.now, text.now) ∷ []) m result (F.names folder.new) }
+    ensures told { (m : Files) → F.names folder.old ≡ Some m → ArePublished ((name.now, text.now) ∷ []) m result
+        (F.names folder.new) }
     ensures writes { F.write_calls folder.new ≡ F.write_calls folder.old }
     ensures faults { IfErr result IsOfFolder }
     ensures cause { HasCause Fault.FolderFault (F.faults folder.old) (F.faults folder.new) result }
@@ -71,7 +73,8 @@ fn publish_header<F: Folder>(
 ) -> Result<(), Fault>
     requires raw { IsTrue (is_raw (extension_of name.now)) }
     requires tile { tile < 4 }
-    ensures told { (m : Files) → F.names folder.old ≡ Some m → ArePublished ((header_of name.now, hdr_text (tile_head side tile)) ∷ []) m result (F.names folder.new) }
+    ensures told { (m : Files) → F.names folder.old ≡ Some m →
+        ArePublished ((header_of name.now, hdr_text (tile_head side tile)) ∷ []) m result (F.names folder.new) }
     ensures writes { F.write_calls folder.new ≡ F.write_calls folder.old }
     ensures faults { IfErr result IsOfFolder }
     ensures cause { HasCause Fault.FolderFault (F.faults folder.old) (F.faults folder.new) result }
@@ -91,7 +94,8 @@ fn publish_tile<F: Folder>(
 ) -> Result<(), Fault>
     requires side { room.old.side ≡ side }
     requires tile { tile < 4 }
-    ensures told { (m : Files) → F.names folder.old ≡ Some m → ArePublished (tile_files side tile) m result (F.names folder.new) }
+    ensures told { (m : Files) → F.names folder.old ≡ Some m → ArePublished (tile_files side tile) m result
+        (F.names folder.new) }
     ensures side { room.new.side ≡ side }
     ensures writes { F.write_calls folder.new ≡ F.write_calls folder.old }
     ensures faults { IfErr result IsOfFolder }
@@ -111,7 +115,8 @@ fn publish_all<F: Folder>(
     side: TileSide,
 ) -> Result<(), Fault>
     requires side { room.old.side ≡ side }
-    ensures told { (m : Files) → F.names folder.old ≡ Some m → ArePublished (tiles_files side) m result (F.names folder.new) }
+    ensures told { (m : Files) → F.names folder.old ≡ Some m → ArePublished (tiles_files side) m result
+        (F.names folder.new) }
     ensures writes { F.write_calls folder.new ≡ F.write_calls folder.old }
     ensures faults { IfErr result IsOfFolder }
     ensures cause { HasCause Fault.FolderFault (F.faults folder.old) (F.faults folder.new) result }
@@ -126,7 +131,8 @@ fn publish_all<F: Folder>(
 /// folder rose, Memory freely. After a refusal the files before it stand, and no draft is left.
 pub fn publish_tiles<F: Folder>(alloc: Global, folder: &mut F, side: TileSide) -> Result<(), Fault>
     // over a folder that tells its files: each name has its bytes, and nothing is put
-    ensures told { (m : Files) → F.names folder.old ≡ Some m → (out : Option (List ℕ)) → Goes (all_done (publishes (tiles_files side))) m result (F.names folder.new) out out }
+    ensures told { (m : Files) → F.names folder.old ≡ Some m → (out : Option (List ℕ)) →
+        Goes (all_done (publishes (tiles_files side))) m result (F.names folder.new) out out }
     ensures writes { F.write_calls folder.new ≡ F.write_calls folder.old }
     ensures faults { IfErr result IsOfFolder }
     ensures cause { HasCause Fault.FolderFault (F.faults folder.old) (F.faults folder.new) result }

@@ -11,11 +11,23 @@ use Rattle.synthetic_rasters.specs.Tiles.{nodata}
 
 -- a source that adds so much to each pixel, and is the same otherwise
 abbrev pub adding : ℕ → SourceValue → SourceValue
-adding more s = record { complex = s.complex; relative = s.relative; file = s.file; band = s.band; src = s.src; dst = s.dst; nodata = s.nodata; offset = pos (more * trillion); ratio = s.ratio; lut = s.lut }
+adding more s = record {
+  complex = s.complex;
+  relative = s.relative;
+  file = s.file;
+  band = s.band;
+  src = s.src;
+  dst = s.dst;
+  nodata = s.nodata;
+  offset = pos (more * trillion);
+  ratio = s.ratio;
+  lut = s.lut;
+}
 
 -- the source that shows the square of this side in the upper left corner of the inner mosaic in another place
 abbrev pub inner_source : ℕ → Rectangle → SourceValue
-inner_source side dst = plain_source (related outer_name inner_name) 1 (pixels_at (pos 0) (pos 0) (pos side) (pos side)) dst (Some nodata)
+inner_source side dst = plain_source (related outer_name inner_name) 1 (pixels_at (pos 0) (pos 0) (pos side) (pos side))
+    dst (Some nodata)
 
 -- The sources of the outer mosaic of tiles with side n: the whole of the inner mosaic, and over its lower right quarter
 -- the upper left one with 1000 added.
@@ -34,4 +46,9 @@ outer_bands n = record { kind = Int16; nodata = Some nodata; sources = outer_sou
 
 -- the outer mosaic: the size, the place, the type and the NODATA are those of the inner one
 unfoldable pub outer_document : ℕ → DocumentValue
-outer_document n = record { size = record { w = 2 * n; h = 2 * n }; srs = None; geo = Some outer_place; bands = outer_bands n }
+outer_document n = record {
+  size = record { w = 2 * n; h = 2 * n };
+  srs = None;
+  geo = Some outer_place;
+  bands = outer_bands n;
+}

@@ -33,7 +33,12 @@ greatest_of (n ∷ values) = fold int_max n values
 
 -- what is told of values, and of samples
 abbrev pub totals_of : List ℤ → Totals
-totals_of values = record { count = length values; sum = sum_of values; least = least_of values; greatest = greatest_of values }
+totals_of values = record {
+  count = length values;
+  sum = sum_of values;
+  least = least_of values;
+  greatest = greatest_of values;
+}
 
 unfoldable pub tally_of : List ℤ → Totals
 tally_of samples = totals_of (values_of samples)

@@ -1,5 +1,6 @@
 -- Tiles of samples that a formula gives: four rasters, two beside two, and the files that hold them.
-use Rattle.std.specs.Prelude.{ℕ, ℤ, pos, neg_ℤ, ◌*ℤ◌, ◌+◌, ◌*◌, ◌/◌, ◌%◌, ◌==◌, ◌≤◌, List, [], ◌∷◌, flat_map, Some, if◌then◌else◌}
+use Rattle.std.specs.Prelude.{ℕ, ℤ, pos, neg_ℤ, ◌*ℤ◌, ◌+◌, ◌*◌, ◌/◌, ◌%◌, ◌==◌, ◌≤◌, List, [], ◌∷◌, flat_map, Some}
+use Rattle.std.specs.Prelude.{if◌then◌else◌}
 use Rattle.std.specs.List.{range_with_len}
 use Rattle.outside.specs.Names.{header_of}
 use Rattle.geotransform.specs.Print.{unit}
@@ -27,7 +28,12 @@ tile_sample t x y = if (x + y + t) % 5 == 4 then nodata else pos ((7 * x + 13 * 
 
 -- The tiles 0 and 1 lie side by side, 2 and 3 below them: the place of a tile whose pixels are units.
 abbrev pub tile_place : ℕ → ℕ → Transform
-tile_place n t = record { ox = pos unit *ℤ pos (t % 2 * n); oy = neg_ℤ (pos unit *ℤ pos (t / 2 * n)); dx = pos unit; dy = neg_ℤ (pos unit) }
+tile_place n t = record {
+  ox = pos unit *ℤ pos (t % 2 * n);
+  oy = neg_ℤ (pos unit *ℤ pos (t / 2 * n));
+  dx = pos unit;
+  dy = neg_ℤ (pos unit);
+}
 
 -- the head of a tile
 abbrev pub tile_head : ℕ → ℕ → Head

@@ -1,7 +1,8 @@
 // The outer mosaic.
 ghost use Rattle.std.specs.Prelude.{◌≡◌, pos, ◌*◌, ◌≤◌, ◌<◌, true, IfOk};
 ghost use Rattle.vrt_profile.specs.Built.{pixels_at};
-ghost use Rattle.synthetic_rasters.specs.Outer.{adding, inner_source, outer_sources, outer_bands, outer_place, outer_document};
+ghost use Rattle.synthetic_rasters.specs.Outer.{adding, inner_source, outer_sources, outer_bands, outer_place};
+ghost use Rattle.synthetic_rasters.specs.Outer.{outer_document};
 
 use crate::names::{inner_name, outer_name};
 use crate::side::TileSide;

@@ -1,5 +1,6 @@
 // What is told of the samples of a raster.
-ghost use Rattle.std.specs.Prelude.{◌≡◌, ℤ, false, ◌+ℤ◌, ◌*◌, ◌+◌, ◌<◌, ◌≤◌, ◌^◌, ◌++◌, List, [], ◌∷◌, length, IfOk, unsigned_abs};
+ghost use Rattle.std.specs.Prelude.{◌≡◌, ℤ, false, ◌+ℤ◌, ◌*◌, ◌+◌, ◌<◌, ◌≤◌, ◌^◌, ◌++◌, List, [], ◌∷◌, length, IfOk};
+ghost use Rattle.std.specs.Prelude.{unsigned_abs};
 ghost use Rattle.std.specs.List.{All};
 ghost use Rattle.std.specs.Ordering.{int_eq};
 ghost use Rattle.synthetic_rasters.specs.Tiles.{nodata};
@@ -28,7 +29,12 @@ impl Model for Tally {
 
     ghost view = { λ t. record { count = t.count; sum = t.sum; least = t.least; greatest = t.greatest } };
 
-    ghost invariant = { λ t. IsTally (record { count = t.count; sum = t.sum; least = t.least; greatest = t.greatest }) };
+    ghost invariant = { λ t. IsTally (record {
+      count = t.count;
+      sum = t.sum;
+      least = t.least;
+      greatest = t.greatest;
+    }) };
 }
 
 // The sum of values and of one more.
@@ -44,7 +50,8 @@ fn sum_with(count: u64, sum: i128, value: Sample) -> i128
 
 // The least of so many values and of one more.
 fn least_with(count: u64, least: Sample, value: Sample) -> Sample
-    ensures least { (values : List ℤ) → count ≡ length values → least ≡ least_of values → result ≡ least_of (values ++ value ∷ []) }
+    ensures least { (values : List ℤ) → count ≡ length values → least ≡ least_of values →
+        result ≡ least_of (values ++ value ∷ []) }
 {
     if count == 0 || value < least {
         value
@@ -55,7 +62,8 @@ fn least_with(count: u64, least: Sample, value: Sample) -> Sample
 
 // The greatest of so many values and of one more.
 fn greatest_with(count: u64, greatest: Sample, value: Sample) -> Sample
-    ensures greatest { (values : List ℤ) → count ≡ length values → greatest ≡ greatest_of values → result ≡ greatest_of (values ++ value ∷ []) }
+    ensures greatest { (values : List ℤ) → count ≡ length values → greatest ≡ greatest_of values →
+        result ≡ greatest_of (values ++ value ∷ []) }
 {
     if count == 0 || greatest <= value {
         value

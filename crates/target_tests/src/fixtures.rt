@@ -59,7 +59,7 @@ pub struct Story<'a> {
 }
 
 /// How a target ended.
-#[derive(Clone, Copy, PartialEq, Eq, Debug)]
+#[derive(Clone, Copy, PartialEq, Eq)]
 pub enum Ended {
     /// Its files were published.
     Closed,

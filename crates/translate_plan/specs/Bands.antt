@@ -1,5 +1,6 @@
 -- The bands of an output.
-use Rattle.std.specs.Prelude.{◌≤◌, ℕ, ℤ, ◌-◌, ◌==◌, slice_index, Bool, true, false, not, List, [], ◌∷◌, length, map, slice_get, All, Option, Some, None, Result, Ok, Err, nat_lt, if◌then◌else◌}
+use Rattle.std.specs.Prelude.{◌≤◌, ℕ, ℤ, ◌-◌, ◌==◌, slice_index, Bool, true, false, not, List, [], ◌∷◌, length, map}
+use Rattle.std.specs.Prelude.{slice_get, All, Option, Some, None, Result, Ok, Err, nat_lt, if◌then◌else◌}
 use Rattle.std.specs.Option.{unwrap_or}
 use Rattle.std.specs.List.{range_with_len, list_all}
 use Rattle.geotransform.specs.declared.types.PixelType.{PixelType}
@@ -62,11 +63,17 @@ nodata_of None word kind source = nodata_by word kind source
 
 -- the output's band of a source's band, by the first band's type
 abbrev pub out_band : Options → PixelType → ℕ → BandHead → OutBand
-out_band o first source own = record { source = source; kind = kind_of o.driver o.kind first own.kind; nodata = nodata_of (own_nodata o.driver) o.nodata (kind_of o.driver o.kind first own.kind) own.nodata }
+out_band o first source own = record {
+  source = source;
+  kind = kind_of o.driver o.kind first own.kind;
+  nodata = nodata_of (own_nodata o.driver) o.nodata
+      (kind_of o.driver o.kind first own.kind) own.nodata;
+}
 
 -- output band k
 abbrev pub out_band_at : Options → DatasetHead → ℕ → OutBand
-out_band_at o h k = out_band o (band_at h (source_of o.bands 0)).kind (source_of o.bands k) (band_at h (source_of o.bands k))
+out_band_at o h k =
+    out_band o (band_at h (source_of o.bands 0)).kind (source_of o.bands k) (band_at h (source_of o.bands k))
 
 -- a band without its NODATA, or with it
 abbrev pub band_by : Bool → OutBand → OutBand

@@ -32,7 +32,12 @@ shown_band p base name b = record { kind = b.kind; nodata = b.nodata; sources = 
 
 -- the document `base` that shows the output of a plan of a dataset
 abbrev pub document_by : Planned → List ℕ → DatasetHead → DocumentValue
-document_by p base h = record { size = p.size; srs = h.srs; geo = p.geo; bands = map (shown_band p base h.name) p.bands }
+document_by p base h = record {
+  size = p.size;
+  srs = h.srs;
+  geo = p.geo;
+  bands = map (shown_band p base h.name) p.bands;
+}
 
 -- Under the name `base` a folder has the document that shows the output of a plan of a mosaic, of a dataset whose head
 -- the folder's files tell.

@@ -1,5 +1,6 @@
 -- What the driver of an output can hold.
-use Rattle.std.specs.Prelude.{ℕ, ℤ, negsuc, Bool, true, false, not, ◌&&◌, ◌||◌, ◌==◌, List, ◌++◌, codes, Option, Some, None, is_some, Result, Ok, Err, nat_lt, int_le, if◌then◌else◌}
+use Rattle.std.specs.Prelude.{ℕ, ℤ, negsuc, Bool, true, false, not, ◌&&◌, ◌||◌, ◌==◌, List, ◌++◌, codes, Option, Some}
+use Rattle.std.specs.Prelude.{None, is_some, Result, Ok, Err, nat_lt, int_le, if◌then◌else◌}
 use Rattle.std.specs.List.{list_all}
 use Rattle.lists_and_answers.specs.Options.{◌>>=◌}
 use Rattle.geotransform.specs.Types.{bytes_of, highest, is_in, is_signed, lowest}
@@ -43,7 +44,8 @@ own_nodata Vrt = None
 
 -- the number of bands
 abbrev pub count_in : Driver → ℕ → Result (Unit {0}) PlanFault
-count_in driver n = if nat_lt 256 n then Err Limit else (if nat_lt 1 n && is_single driver then Err BandCount else Ok tt)
+count_in driver n =
+    if nat_lt 256 n then Err Limit else (if nat_lt 1 n && is_single driver then Err BandCount else Ok tt)
 
 -- each number of a geotransform rounded to 16 places, where that is a geotransform
 abbrev pub rounded : Transform → Option Transform

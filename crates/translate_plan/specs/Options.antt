@@ -14,7 +14,8 @@ use Rattle.translate_plan.specs.declared.options.View.TheVariants as views
 use Rattle.translate_plan.specs.declared.options.OutSize.{OutSize}
 use Rattle.translate_plan.specs.declared.options.OutSize.TheVariants as sizes
 
--- the driver, the layout of raw data, the name and the bands of the output, counted from 1, the window, the size, the NODATA, the type, and whether the window may leave the raster in part or as a whole
+-- the driver, the layout of raw data, the name and the bands of the output, counted from 1, the window, the size, the
+-- NODATA, the type, and whether the window may leave the raster in part or as a whole
 pub record Options : Type 0 where
   pub driver : Driver
   pub layout : Layout

@@ -1,5 +1,7 @@
 -- What a translation does, or why it can't be done.
-use Rattle.std.specs.Prelude.{◌≡◌, ◌<◌, ◌≤◌, ℕ, ℤ, pos, negsuc, ◌+ℤ◌, ◌+◌, ◌*◌, ◌/◌, Bool, true, ◌&&◌, List, length, All, IfSome, Option, Some, None, Result, Ok, Err, slice_get, get_or, int_le, int_lt, if◌then◌else◌, unsigned_abs}
+use Rattle.std.specs.Prelude.{◌≡◌, ◌<◌, ◌≤◌, ℕ, ℤ, pos, negsuc, ◌+ℤ◌, ◌+◌, ◌*◌, ◌/◌, Bool, true, ◌&&◌, List, length}
+use Rattle.std.specs.Prelude.{All, IfSome, Option, Some, None, Result, Ok, Err, slice_get, get_or, int_le, int_lt}
+use Rattle.std.specs.Prelude.{if◌then◌else◌, unsigned_abs}
 use Rattle.std.specs.Option.{unwrap_or}
 use Rattle.lists_and_answers.specs.Answers.{◌>>=◌}
 use Rattle.geotransform.specs.Types.{is_in, clamp}
@@ -20,7 +22,8 @@ use Rattle.translate_plan.specs.declared.band.OutBand.{OutBand}
 use Rattle.translate_plan.specs.declared.window.Window.{Window}
 use Rattle.translate_plan.specs.Options.{Options, IsDriver}
 use Rattle.translate_plan.specs.Window.{asked_in, window_in, inside_in, sides_of, size_in, most_offset}
-use Rattle.translate_plan.specs.Fits.{is_single, count_in, geo_in, place_in, raw_in, holds_geo, holds_name, takes_kind, holds_kinds, takes_nodata}
+use Rattle.translate_plan.specs.Fits.{is_single, count_in, geo_in, place_in, raw_in, holds_geo, holds_name, takes_kind}
+use Rattle.translate_plan.specs.Fits.{holds_kinds, takes_nodata}
 use Rattle.translate_plan.specs.Bands.{all_known, count_of, asked_bands, out_bands, no_out_band}
 
 -- the output's driver and layout, its size, bands and geotransform, and the window of the source that it shows
@@ -36,14 +39,24 @@ pub record Planned : Type 0 where
 
 -- the driver can hold the output
 abbrev pub fits : Options → List OutBand → Size → Option Transform → Bool
-fits o bands size geo = (holds_geo o.driver size geo && holds_name o.driver o.out size geo) && (takes_kind o.driver o.kind && (holds_kinds o.driver bands && takes_nodata o.driver o.nodata bands))
+fits o bands size geo = (holds_geo o.driver size geo && holds_name o.driver o.out size geo) &&
+    (takes_kind o.driver o.kind && (holds_kinds o.driver bands && takes_nodata o.driver o.nodata bands))
 
 abbrev pub fits_in : Options → List OutBand → Size → Option Transform → Result (Unit {0}) PlanFault
 fits_in o bands size geo = if fits o bands size geo then Ok tt else Err Unfit
 
 -- what is planned where no check refuses
 abbrev pub planned_by : Options → DatasetHead → Window → Size → Option Transform → Planned
-planned_by o h v size geo = record { driver = o.driver; layout = o.layout; bands = out_bands o h; size = size; x = v.x; y = v.y; window = v.size; geo = geo }
+planned_by o h v size geo = record {
+  driver = o.driver;
+  layout = o.layout;
+  bands = out_bands o h;
+  size = size;
+  x = v.x;
+  y = v.y;
+  window = v.size;
+  geo = geo;
+}
 
 -- what is planned, or the first refusal
 unfoldable pub plan_of : Options → DatasetHead → Result Planned PlanFault
@@ -76,7 +89,8 @@ BandsHold SrtmHgt bands = All (λ b. (b.kind ≡ Int16) × (b.nodata ≡ Some (n
 BandsHold AaiGrid bands = holds_kinds AaiGrid bands ≡ true
 BandsHold Vrt bands = Unit {0}
 
--- what each plan keeps: sizes, offsets and bands within their limits, each NODATA in its band's type, and that the driver can hold them; the geotransform of a mosaic has 16 places
+-- what each plan keeps: sizes, offsets and bands within their limits, each NODATA in its band's type, and that the
+-- driver can hold them; the geotransform of a mosaic has 16 places
 pub record IsPlan (p : Planned) : Type 0 where
   pub driver : IsDriver p.driver
   pub size : IsRaster p.size
@@ -100,7 +114,8 @@ first_band p = get_or p.bands 0 no_out_band
 abbrev pub raw_head : Planned → raw.Head
 raw_head p = plain_head p.size (length p.bands) (first_band p).kind p.layout (first_band p).nodata (raw_in p.geo)
 
--- the column of the source that a column of the output shows, and the line that a line shows, counted from the window's offset
+-- the column of the source that a column of the output shows, and the line that a line shows, counted from the window's
+-- offset
 abbrev pub shown : ℕ → ℕ → ℕ → ℕ
 shown from to k = (2 * k + 1) * from / (2 * to)
 

@@ -1,5 +1,6 @@
 -- The window of the source that is translated, and the size that it gets.
-use Rattle.std.specs.Prelude.{◌≤◌, ℕ, ℤ, pos, ◌+ℤ◌, ◌*◌, ◌/◌, Bool, false, not, ◌&&◌, ◌||◌, Option, Some, None, Result, Ok, Err, nat_lt, int_lt, int_le, ◌==◌, if◌then◌else◌, unsigned_abs}
+use Rattle.std.specs.Prelude.{◌≤◌, ℕ, ℤ, pos, ◌+ℤ◌, ◌*◌, ◌/◌, Bool, false, not, ◌&&◌, ◌||◌, Option, Some, None, Result}
+use Rattle.std.specs.Prelude.{Ok, Err, nat_lt, int_lt, int_le, ◌==◌, if◌then◌else◌, unsigned_abs}
 use Rattle.geotransform.specs.Places.{rounded_up}
 use Rattle.geotransform.specs.Geo.{Transform, IsRaster, window_between}
 use Rattle.geotransform.specs.declared.types.Size.{Size}
@@ -55,11 +56,13 @@ window_in a =
 
 -- the window lies in the raster with all its pixels
 abbrev pub is_within : Window → Size → Bool
-is_within v size = (int_le (pos 0) v.x && int_le (pos 0) v.y) && (int_le (v.x +ℤ pos v.size.w) (pos size.w) && int_le (v.y +ℤ pos v.size.h) (pos size.h))
+is_within v size = (int_le (pos 0) v.x && int_le (pos 0) v.y) &&
+    (int_le (v.x +ℤ pos v.size.w) (pos size.w) && int_le (v.y +ℤ pos v.size.h) (pos size.h))
 
 -- some pixel of the window lies in the raster
 abbrev pub meets : Window → Size → Bool
-meets v size = (int_lt v.x (pos size.w) && int_lt v.y (pos size.h)) && (int_lt (pos 0) (v.x +ℤ pos v.size.w) && int_lt (pos 0) (v.y +ℤ pos v.size.h))
+meets v size = (int_lt v.x (pos size.w) && int_lt v.y (pos size.h)) &&
+    (int_lt (pos 0) (v.x +ℤ pos v.size.w) && int_lt (pos 0) (v.y +ℤ pos v.size.h))
 
 -- the window may leave the raster in part, or as a whole, unless the words refuse it
 abbrev pub inside_in : Bool → Bool → Window → Size → Result (Unit {0}) PlanFault
@@ -77,7 +80,8 @@ is_free (Percent p) = false
 
 -- a side of the output, of a window's side: where it is free and the other isn't, the other in the window's proportion
 abbrev pub side_by : OutSize → OutSize → ℕ → ℕ → ℕ
-side_by a b side other = if is_free a && not (is_free b) then unsigned_abs (rounded_up (pos (side_of b other * side)) (pos other)) else side_of a side
+side_by a b side other = if is_free a && not (is_free b)
+    then unsigned_abs (rounded_up (pos (side_of b other * side)) (pos other)) else side_of a side
 
 -- the sides of the output
 abbrev pub sides_of : Option (OutSize × OutSize) → Size → ℕ × ℕ
@@ -86,7 +90,8 @@ sides_of (Some s) size = (side_by s.0 s.1 size.w size.h, side_by s.1 s.0 size.h 
 
 -- the size of the output, within its limits
 abbrev pub size_in : ℕ × ℕ → Result Size PlanFault
-size_in s = if is_empty (pos s.0) (pos s.1) then Err EmptyWindow else (if is_large (pos s.0) (pos s.1) then Err Limit else Ok (record { w = s.0; h = s.1 }))
+size_in s = if is_empty (pos s.0) (pos s.1) then Err EmptyWindow
+    else (if is_large (pos s.0) (pos s.1) then Err Limit else Ok (record { w = s.0; h = s.1 }))
 
 -- what a window keeps
 pub record IsWindow (v : Window) : Type 0 where

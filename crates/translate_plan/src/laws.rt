@@ -14,13 +14,16 @@ ghost use Rattle.translate_plan.specs.declared.options.Driver.TheVariants.{Dted,
 
 /// What is planned keeps all limits, and its driver can hold it.
 pub fn plans_are_kept()
-    ensures kept { (o : Options) (h : DatasetHead) (p : Planned) → IsOptions o → IsDatasetHead h → plan_of o h ≡ Ok p → IsPlan p }
+    ensures kept { (o : Options) (h : DatasetHead) (p : Planned) → IsOptions o → IsDatasetHead h → plan_of o h ≡ Ok p →
+        IsPlan p }
 {}
 
 /// Each pixel of an output is of its band's type, and one of a cell can be written by sign and magnitude.
 pub fn pixels_are_held()
-    ensures within { (p : Planned) (source : Size) (pixels : ℕ → ℕ → ℕ → ℤ) (k i j : ℕ) (b : OutBand) → IsPlan p → slice_get p.bands k ≡ Some b → is_in b.kind (out_pixel p source pixels k i j) ≡ true }
-    ensures elevation { (p : Planned) (source : Size) (pixels : ℕ → ℕ → ℕ → ℤ) (k i j level : ℕ) → IsPlan p → p.driver ≡ Dted level → IsElevation (out_pixel p source pixels k i j) }
+    ensures within { (p : Planned) (source : Size) (pixels : ℕ → ℕ → ℕ → ℤ) (k i j : ℕ) (b : OutBand) → IsPlan p →
+        slice_get p.bands k ≡ Some b → is_in b.kind (out_pixel p source pixels k i j) ≡ true }
+    ensures elevation { (p : Planned) (source : Size) (pixels : ℕ → ℕ → ℕ → ℤ) (k i j level : ℕ) → IsPlan p →
+        p.driver ≡ Dted level → IsElevation (out_pixel p source pixels k i j) }
 {}
 
 /// A column, or line, of an output shows one of the window, and where the two have the same size, the
@@ -35,7 +38,9 @@ pub fn windows_are_shown()
 /// of its level, and a tile is one.
 pub fn plans_can_be_written()
     ensures raw { (p : Planned) → IsPlan p → IsHead (raw_head p) }
-    ensures grid { (p : Planned) (g : Transform) → IsPlan p → p.driver ≡ AaiGrid → p.geo ≡ Some g → (is_north_up g ≡ true) × (sizes_held g ≡ true) }
-    ensures cell { (p : Planned) (level : ℕ) → IsPlan p → p.driver ≡ Dted level → is_some (cell_in level p.size p.geo) ≡ true }
+    ensures grid { (p : Planned) (g : Transform) → IsPlan p → p.driver ≡ AaiGrid → p.geo ≡ Some g →
+        (is_north_up g ≡ true) × (sizes_held g ≡ true) }
+    ensures cell { (p : Planned) (level : ℕ) → IsPlan p → p.driver ≡ Dted level →
+        is_some (cell_in level p.size p.geo) ≡ true }
     ensures tile { (p : Planned) → IsPlan p → p.driver ≡ SrtmHgt → is_some (tile_in p.size p.geo) ≡ true }
 {}

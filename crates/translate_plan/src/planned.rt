@@ -43,9 +43,27 @@ impl Model for Plan {
 
     ghost Value = { Planned };
 
-    ghost view = { λ p. record { driver = p.driver; layout = p.layout; bands = take p.bands p.table; size = p.size; x = p.x; y = p.y; window = p.window; geo = p.geo } };
+    ghost view = { λ p. record {
+      driver = p.driver;
+      layout = p.layout;
+      bands = take p.bands p.table;
+      size = p.size;
+      x = p.x;
+      y = p.y;
+      window = p.window;
+      geo = p.geo;
+    } };
 
-    ghost invariant = { λ p. (p.bands ≤ 256) × IsPlan (record { driver = p.driver; layout = p.layout; bands = take p.bands p.table; size = p.size; x = p.x; y = p.y; window = p.window; geo = p.geo }) };
+    ghost invariant = { λ p. (p.bands ≤ 256) × IsPlan (record {
+      driver = p.driver;
+      layout = p.layout;
+      bands = take p.bands p.table;
+      size = p.size;
+      x = p.x;
+      y = p.y;
+      window = p.window;
+      geo = p.geo;
+    }) };
 }
 
 impl Plan {

@@ -32,7 +32,8 @@ fn shown_source(
     k: u32,
 ) -> Result<Source, AllocError>
     requires k { k < length plan.now.bands }
-    ensures source { IfOk result (λ s. option_map (shown_source plan.now base.now name.now) (slice_get plan.now.bands k) ≡ Some s) }
+    ensures source { IfOk result (λ s. option_map (shown_source plan.now base.now name.now) (slice_get plan.now.bands k)
+        ≡ Some s) }
 {
     plan.rules();
     let whole = whole_rect(plan.size);
@@ -57,7 +58,8 @@ fn shown_sources(
     k: u32,
 ) -> Result<SourceList, AllocError>
     requires k { k < length plan.now.bands }
-    ensures sources { IfOk result (λ l. option_map (λ b. shown_source plan.now base.now name.now b ∷ []) (slice_get plan.now.bands k) ≡ Some l) }
+    ensures sources { IfOk result (λ l. option_map (λ b. shown_source plan.now base.now name.now b ∷ [])
+        (slice_get plan.now.bands k) ≡ Some l) }
 {
     let mut sources = SourceList::new(alloc);
     sources.push(shown_source(alloc, plan, base, name, k)?)?;
@@ -74,7 +76,8 @@ fn shown_band(
     k: u32,
 ) -> Result<VrtBand, AllocError>
     requires k { k < length plan.now.bands }
-    ensures band { IfOk result (λ b. option_map (shown_band plan.now base.now name.now) (slice_get plan.now.bands k) ≡ Some b) }
+    ensures band { IfOk result (λ b. option_map (shown_band plan.now base.now name.now) (slice_get plan.now.bands k)
+        ≡ Some b) }
 {
     plan.rules();
     let sources = shown_sources(alloc, plan, base, name, k)?;

@@ -14,7 +14,10 @@ use vrt_writing::written_document_reads_back;
 /// Each pixel of the published document of a plan is that pixel of the plan's output, in each catalog that was walked
 /// from the document over the folder's files.
 pub fn documents_show_outputs()
-    ensures pixel { (m : Files) (cat : List Dataset) (id k i j : ℕ) (d : Dataset) (p : Planned) (h : DatasetHead) → IsCatalog cat → IsWalked m cat → slice_get cat id ≡ Some d → IsPublished m d.head.name p h → k < length p.bands → i < p.size.w → j < p.size.h → pixel_of_name m d.head.name k i j ≡ out_pixel p h.size (pixel_of_name m h.name) k i j }
+    ensures pixel { (m : Files) (cat : List Dataset) (id k i j : ℕ) (d : Dataset) (p : Planned) (h : DatasetHead) →
+        IsCatalog cat → IsWalked m cat → slice_get cat id ≡ Some d → IsPublished m d.head.name p h →
+        k < length p.bands → i < p.size.w → j < p.size.h → pixel_of_name m d.head.name k i j
+        ≡ out_pixel p h.size (pixel_of_name m h.name) k i j }
 {
     related_resolves();
     written_document_reads_back();

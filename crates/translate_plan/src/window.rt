@@ -4,7 +4,8 @@ ghost use Rattle.geotransform.specs.Places.{rounded_up};
 ghost use Rattle.geotransform.specs.Geo.{IsRaster};
 ghost use Rattle.geotransform.specs.declared.types.Size.{Size};
 ghost use Rattle.translate_plan.specs.Options.{IsView, IsOutSize};
-ghost use Rattle.translate_plan.specs.Window.{asked_in, is_empty, is_large, is_far, window_in, is_within, meets, inside_in, side_of, is_free, side_by, sides_of, size_in, IsWindow};
+ghost use Rattle.translate_plan.specs.Window.{asked_in, is_empty, is_large, is_far, window_in, is_within, meets};
+ghost use Rattle.translate_plan.specs.Window.{inside_in, side_of, is_free, side_by, sides_of, size_in, IsWindow};
 
 use crate::options::{OutSize, View};
 use geotransform::{FARTHEST, GeoTransform, MOST_SIDE, PlanFault, Size, rounded_up};

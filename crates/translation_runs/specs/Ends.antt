@@ -7,7 +7,10 @@ use Rattle.catalog.specs.declared.faults.WalkFault.{WalkFault}
 use Rattle.catalog.specs.declared.faults.WalkFault.TheVariants as walk
 use Rattle.translate_plan.specs.Options.{Options}
 use Rattle.error_lines.specs.declared.faults.Fault.{Fault}
-use Rattle.error_lines.specs.declared.faults.Fault.TheVariants.{Usage, Absent, NotRecognized, Malformed, Short, Cycle, TooDeep, Limit, SourceBand, Plan, Build, SameName, BadPoint, Changed, FolderFault, InputFault, OutFault, Memory}
+use Rattle.error_lines.specs.declared.faults.Fault.TheVariants.{Usage, Absent, NotRecognized, Malformed, Short, Cycle}
+use Rattle.error_lines.specs.declared.faults.Fault.TheVariants.{TooDeep, Limit, SourceBand, Plan, Build, SameName}
+use Rattle.error_lines.specs.declared.faults.Fault.TheVariants.{BadPoint, Changed, FolderFault, InputFault, OutFault}
+use Rattle.error_lines.specs.declared.faults.Fault.TheVariants.{Memory}
 use Rattle.error_lines.specs.Faults.{fault_of}
 use Rattle.translation_runs.specs.Published.{names_written}
 
@@ -38,8 +41,8 @@ abbrev pub ended : Result (Unit {0}) Fault → Option Fault
 ended (Ok done) = None
 ended (Err fault) = Some fault
 
--- A name that tells no kind is refused so, or for want of memory; where it tells another kind than a mosaic's, no name is
--- refused so.
+-- A name that tells no kind is refused so, or for want of memory; where it tells another kind than a mosaic's, no name
+-- is refused so.
 pub record RefusesName (name : List ℕ) (result : Result (Unit {0}) Fault) : Type 0 where
   pub always : (f : WalkFault) → kind_in name ≡ Err f → (result ≡ Err (fault_of f)) ⊎ (result ≡ Err Memory)
   pub file : (k : Kind) (n : List ℕ) → kind_in name ≡ Ok k → (k ≡ kinds.Vrt → ⊥) → result ≡ Err (NotRecognized n) → ⊥

@@ -42,4 +42,5 @@ translation_done m out quiet (Err fault) = refused fault
 
 -- the translation of the dataset of this name over these files
 abbrev pub translation_run : Files → Bool → List ℕ → Options → Bool → Done
-translation_run m verify name options quiet = translation_done m options.out quiet (translation_judged m verify name options)
+translation_run m verify name options quiet =
+    translation_done m options.out quiet (translation_judged m verify name options)

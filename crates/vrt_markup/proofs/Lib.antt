@@ -2,9 +2,12 @@ pub mod Shorter
 pub mod Names
 pub mod Next
 pub mod EndTags
+mod Bare
 mod Behind
 pub mod Reading
+mod Fronts
 mod Lent
+mod Ordered
 pub mod Utf8
 pub mod Outside
 mod Computes

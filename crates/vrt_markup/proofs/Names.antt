@@ -243,13 +243,13 @@ twice_here t p r e h =
     ∙ ap (λ b. not b && is_distinct (pairs r).0) h
 
 -- why a text begins with no tag: it has no name, no end, or an attribute twice
-abbrev front_by : List ℕ × List ℕ → Option (Bool × List ℕ) → Option (Tag × List ℕ)
+abbrev pub front_by : List ℕ × List ℕ → Option (Bool × List ℕ) → Option (Tag × List ℕ)
 front_by n end = end >>= λ e. Some (record { name = n.0; pairs = (pairs n.1).0; empty = e.0 }, e.1)
 
-abbrev tag_by : Option (List ℕ × List ℕ) → Option (Tag × List ℕ)
+abbrev pub tag_by : Option (List ℕ × List ℕ) → Option (Tag × List ℕ)
 tag_by name = (name >>= λ n. front_by n (tag_end (trim_front (pairs n.1).1))) >>= λ x. cond (is_distinct x.0.pairs) (Some x) None
 
-by_tag : (t : List ℕ) → tag_at t ≡ tag_by (name_at t)
+pub by_tag : (t : List ℕ) → tag_at t ≡ tag_by (name_at t)
 unfolding tag_at tag_front
 by_tag t = refl
 

@@ -1,7 +1,8 @@
 -- The numbers and the places of the faults of a VRT document.
 use Rattle.std.specs.Prelude.{◌≡◌, ℕ, Option, Some, None}
 use Rattle.vrt_markup.specs.declared.fault.VrtFault.{VrtFault}
-use Rattle.vrt_markup.specs.declared.fault.VrtFault.TheVariants.{BadText, UnknownElement, MissingPart, BadNumber, Unsupported, Limit, Memory}
+use Rattle.vrt_markup.specs.declared.fault.VrtFault.TheVariants.{BadText, UnknownElement, MissingPart, BadNumber}
+use Rattle.vrt_markup.specs.declared.fault.VrtFault.TheVariants.{Unsupported, Limit, Memory}
 
 -- the number that error lines print; want of memory has none, and is 0
 abbrev pub fault_number : VrtFault → ℕ

@@ -1,8 +1,10 @@
 -- Elements, one in another: the tree of a document.
-use Rattle.std.specs.Prelude.{ℕ, zero, suc, ◌-◌, Bool, true, ◌&&◌, List, [], ◌∷◌, ◌++◌, length, Result, Ok, Err, nat_le, Option, Some, None, ◌==◌, if◌then◌else◌}
+use Rattle.std.specs.Prelude.{ℕ, zero, suc, ◌-◌, Bool, true, ◌&&◌, List, [], ◌∷◌, ◌++◌, length, Result, Ok, Err, nat_le}
+use Rattle.std.specs.Prelude.{Option, Some, None, ◌==◌, if◌then◌else◌}
 use Rattle.std.specs.List.{list_all}
 use Rattle.lists_and_answers.specs.Answers.{◌>>=◌}
-use Rattle.vrt_markup.specs.Items.{Item, bad, comment, run, open_tag, close_tag, Tag, item_at, is_equal, is_white, option_case, entity_at}
+use Rattle.vrt_markup.specs.Items.{Item, bad, comment, run, open_tag, close_tag, Tag, item_at, is_equal, is_white}
+use Rattle.vrt_markup.specs.Items.{option_case, entity_at}
 use Rattle.vrt_markup.specs.declared.fault.VrtFault.{VrtFault}
 use Rattle.vrt_markup.specs.declared.fault.VrtFault.TheVariants.{BadText, Limit}
 
@@ -32,7 +34,8 @@ abbrev pub nodes_step : (ℕ → List ℕ → List ℕ → Read) → ℕ → ℕ
 nodes_step more total depth name bytes bad = Err (BadText (total - length bytes))
 nodes_step more total depth name bytes (comment rest) = more depth name rest
 nodes_step more total depth name bytes (run raw rest) = more depth name rest >>= with_text raw
-nodes_step more total depth name bytes (close_tag other rest) = if is_equal other name then Ok (stop, rest) else Err (BadText (total - length bytes))
+nodes_step more total depth name bytes (close_tag other rest) = if is_equal other name then Ok (stop, rest)
+    else Err (BadText (total - length bytes))
 nodes_step more total depth name bytes (open_tag tag rest) =
     if nat_le 64 depth then Err Limit else
     (inner_by more depth tag rest >>= λ x. more depth name x.1 >>= with_element (total - length bytes) tag x.0)
@@ -40,7 +43,8 @@ nodes_step more total depth name bytes (open_tag tag rest) =
 -- Each item takes a byte at least.
 abbrev pub nodes_by : ℕ → ℕ → ℕ → List ℕ → List ℕ → Read
 nodes_by zero total depth name bytes = Err (BadText (total - length bytes))
-nodes_by (suc fuel) total depth name bytes = nodes_step (λ d n r. nodes_by fuel total d n r) total depth name bytes (item_at bytes)
+nodes_by (suc fuel) total depth name bytes =
+    nodes_step (λ d n r. nodes_by fuel total d n r) total depth name bytes (item_at bytes)
 
 abbrev pub nodes : ℕ → ℕ → List ℕ → List ℕ → Read
 nodes total depth name bytes = nodes_by (length bytes) total depth name bytes

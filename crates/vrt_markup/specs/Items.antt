@@ -1,5 +1,6 @@
 -- The items of a document: comments, tags and runs of text.
-use Rattle.std.specs.Prelude.{ℕ, zero, suc, Bool, true, false, ◌||◌, ◌&&◌, not, List, [], ◌∷◌, length, drop, take, codes, Option, Some, None, ◌==◌, nat_le, if◌then◌else◌}
+use Rattle.std.specs.Prelude.{ℕ, zero, suc, Bool, true, false, ◌||◌, ◌&&◌, not, List, [], ◌∷◌, length, drop, take}
+use Rattle.std.specs.Prelude.{codes, Option, Some, None, ◌==◌, nat_le, if◌then◌else◌}
 use Rattle.std.specs.List.{prefix_len, list_all}
 use Rattle.std.specs.Cmp.Lexicographic.{pointwise}
 use Rattle.lists_and_answers.specs.Options.{◌>>=◌}
@@ -41,7 +42,8 @@ has_first [] = false
 has_first (c ∷ cs) = is_first c
 
 abbrev pub name_at : List ℕ → Option (List ℕ × List ℕ)
-name_at text = if has_first text then Some (take (prefix_len is_later text) text, drop (prefix_len is_later text) text) else None
+name_at text = if has_first text then Some (take (prefix_len is_later text) text, drop (prefix_len is_later text) text)
+    else None
 
 -- whether the whole of a text is a name
 abbrev pub is_name : List ℕ → Bool
@@ -128,7 +130,8 @@ pub record Tag : Type 0 where
 -- `>` or `/>`: whether it is the latter, and what stands behind it
 abbrev pub tag_end : List ℕ → Option (Bool × List ℕ)
 tag_end [] = None
-tag_end (c ∷ cs) = if c == 62 then Some (false, cs) else (if c == 47 then option_case (byte_at 62 cs) None (λ rest. Some (true, rest)) else None)
+tag_end (c ∷ cs) = if c == 62 then Some (false, cs) else (if c == 47
+    then option_case (byte_at 62 cs) None (λ rest. Some (true, rest)) else None)
 
 -- a tag behind its `<`, whatever its attributes
 unfoldable pub tag_front : List ℕ → Option (Tag × List ℕ)
@@ -159,7 +162,8 @@ pub data Item : Type 0 where
   close_tag : List ℕ → List ℕ → Item
 
 abbrev pub run_at : List ℕ → Item
-run_at text = if plain_len 60 text == 0 then bad else run (take (plain_len 60 text) text) (drop (plain_len 60 text) text)
+run_at text =
+    if plain_len 60 text == 0 then bad else run (take (plain_len 60 text) text) (drop (plain_len 60 text) text)
 
 abbrev pub tag_item : List ℕ → Item
 tag_item text = option_case (tag_at text) bad (λ t. open_tag t.0 t.1)

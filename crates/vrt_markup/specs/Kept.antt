@@ -4,7 +4,8 @@ use Rattle.vrt_markup.specs.Items.{Tag}
 use Rattle.lists_and_answers.specs.Answers.{◌>>=◌}
 use Rattle.vrt_markup.specs.Forest.{Forest, over, all_blank, text_of, child_of}
 use Rattle.vrt_markup.specs.declared.fault.VrtFault.{VrtFault}
-use Rattle.vrt_markup.specs.declared.fault.VrtFault.TheVariants.{BadText, UnknownElement, MissingPart, BadNumber, Unsupported, Limit, Memory}
+use Rattle.vrt_markup.specs.declared.fault.VrtFault.TheVariants.{BadText, UnknownElement, MissingPart, BadNumber}
+use Rattle.vrt_markup.specs.declared.fault.VrtFault.TheVariants.{Unsupported, Limit, Memory}
 
 -- What a function returned, seen by view, is what a definition gives, unless memory ran out.
 abbrev pub Fails : {Y : Type 0} → VrtFault → Result Y VrtFault → Type 0
@@ -22,7 +23,8 @@ Gives view (Err e) read = Fails e read
 
 -- What is known of an element after a part of what stands in it, where forest is what is left:
 -- the parts or the first fault among its children, and whether its text is blank.
-abbrev pub seen : {S : Type 0} → (S → ℕ → Tag → Forest → Result S VrtFault) → Result S VrtFault → Bool → Forest → Result S VrtFault × Bool
+abbrev pub seen : {S : Type 0} → (S → ℕ → Tag → Forest → Result S VrtFault) → Result S VrtFault → Bool → Forest →
+    Result S VrtFault × Bool
 seen step kept blank forest = (kept >>= λ s. over step s forest, blank && all_blank forest)
 
 abbrev pub first_child : Option ℕ → Option ℕ → Option ℕ
@@ -34,7 +36,8 @@ abbrev pub worded : List ℕ → Option ℕ → Forest → List ℕ × Option �
 worded front child forest = (front ++ text_of forest, first_child child (child_of forest))
 
 -- the parts so far with a child element
-abbrev pub stepped : {S : Type 0} → (S → ℕ → Tag → Forest → Result S VrtFault) → Result S VrtFault → ℕ → Tag → Forest → Result S VrtFault
+abbrev pub stepped : {S : Type 0} → (S → ℕ → Tag → Forest → Result S VrtFault) → Result S VrtFault → ℕ → Tag → Forest →
+    Result S VrtFault
 stepped step kept place tag inside = kept >>= λ s. step s place tag inside
 
 -- the parts, unless a child is at fault

@@ -1,7 +1,9 @@
 -- The tree of a document: its markup, from the first byte to the last.
-use Rattle.std.specs.Prelude.{ℕ, zero, suc, ◌-◌, List, [], ◌∷◌, length, drop, codes, Option, Some, None, Result, Ok, Err, nat_lt, if◌then◌else◌}
+use Rattle.std.specs.Prelude.{ℕ, zero, suc, ◌-◌, List, [], ◌∷◌, length, drop, codes, Option, Some, None, Result, Ok}
+use Rattle.std.specs.Prelude.{Err, nat_lt, if◌then◌else◌}
 use Rattle.std.specs.Str.Lossy.{utf8_valid_len}
-use Rattle.vrt_markup.specs.Items.{Item, bad, comment, run, open_tag, close_tag, Tag, item_at, strip, begins, option_case}
+use Rattle.vrt_markup.specs.Items.{Item, bad, comment, run, open_tag, close_tag, Tag, item_at, strip, begins}
+use Rattle.vrt_markup.specs.Items.{option_case}
 use Rattle.lists_and_answers.specs.Answers.{◌>>=◌}
 use Rattle.vrt_markup.specs.Forest.{Forest, inner, is_blank}
 use Rattle.vrt_markup.specs.declared.fault.VrtFault.{VrtFault}
@@ -35,7 +37,8 @@ after_declaration [] = None
 after_declaration (c ∷ cs) = if begins (codes "?>") (c ∷ cs) then Some (drop 2 (c ∷ cs)) else after_declaration cs
 
 abbrev pub declared_at : ℕ → List ℕ → Result (List ℕ) VrtFault
-declared_at total bytes = option_case (strip (codes "<?xml") bytes) (Ok bytes) (λ rest. option_case (after_declaration rest) (Err (BadText (total - length bytes))) Ok)
+declared_at total bytes = option_case (strip (codes "<?xml") bytes) (Ok bytes)
+    (λ rest. option_case (after_declaration rest) (Err (BadText (total - length bytes))) Ok)
 
 -- the root's tag
 pub record Root : Type 0 where

@@ -44,7 +44,9 @@ pub trait Parts {
     ) -> Result<(Result<(), VrtFault>, &'a [u8]), VrtFault>
         requires within { length bytes.now ≤ level.total }
         requires depth { level.depth < 64 }
-        ensures child { Gives (λ x. (kept_of (value self.new) x.0, x.1.now)) result (read_as (step self.old (value self.old) place (tag_view tag.entry)) (inner level.total level.depth (tag_view tag.entry) bytes.now)) }
+        ensures child { Gives (λ x. (kept_of (value self.new) x.0, x.1.now)) result
+            (read_as (step self.old (value self.old) place (tag_view tag.entry))
+            (inner level.total level.depth (tag_view tag.entry) bytes.now)) }
         ensures shorter { IfOk result (λ x. length x.1.now ≤ length bytes.now) }
         ensures same { step self.new ≡ step self.old };
 }
@@ -68,7 +70,9 @@ fn next_child<'a, P: Parts>(
 ) -> Result<(Result<(), VrtFault>, &'a [u8]), VrtFault>
     requires within { length bytes.now ≤ level.total }
     requires depth { level.depth < 64 }
-    ensures child { Gives (λ x. (kept_of (P.value parts.new) x.0, x.1.now)) result (read_as (stepped (P.step parts.old) (kept_of (P.value parts.old) kept) place (tag_view tag.entry)) (inner level.total level.depth (tag_view tag.entry) bytes.now)) }
+    ensures child { Gives (λ x. (kept_of (P.value parts.new) x.0, x.1.now)) result
+        (read_as (stepped (P.step parts.old) (kept_of (P.value parts.old) kept) place (tag_view tag.entry))
+        (inner level.total level.depth (tag_view tag.entry) bytes.now)) }
     ensures shorter { IfOk result (λ x. length x.1.now ≤ length bytes.now) }
     ensures same { P.step parts.new ≡ P.step parts.old }
 {
@@ -93,7 +97,9 @@ fn child_nodes<'a, P: Parts>(
     requires within { length bytes.now ≤ level.total }
     requires depth { level.depth ≤ 64 }
     requires named { is_name name.now ≡ true }
-    ensures seen { Gives (λ x. ((kept_of (P.value parts.new) x.0.kept, x.0.blank), x.1.now)) result (read_as (seen (P.step parts.old) (Ok (P.value parts.old)) true) (nodes level.total level.depth name.now bytes.now)) }
+    ensures seen { Gives (λ x. ((kept_of (P.value parts.new) x.0.kept, x.0.blank), x.1.now)) result
+        (read_as (seen (P.step parts.old) (Ok (P.value parts.old)) true)
+        (nodes level.total level.depth name.now bytes.now)) }
     ensures shorter { IfOk result (λ x. length x.1.now < length bytes.now) }
 {
     let mut rest = bytes;
@@ -141,7 +147,9 @@ pub fn children_of<'a, P: Parts>(
 ) -> Result<(Seen, &'a [u8]), VrtFault>
     requires within { length bytes.now ≤ level.total }
     requires depth { level.depth < 64 }
-    ensures seen { Gives (λ x. ((kept_of (P.value parts.new) x.0.kept, x.0.blank), x.1.now)) result (read_as (seen (P.step parts.old) (Ok (P.value parts.old)) true) (inner level.total level.depth (tag_view tag.entry) bytes.now)) }
+    ensures seen { Gives (λ x. ((kept_of (P.value parts.new) x.0.kept, x.0.blank), x.1.now)) result
+        (read_as (seen (P.step parts.old) (Ok (P.value parts.old)) true)
+        (inner level.total level.depth (tag_view tag.entry) bytes.now)) }
     ensures shorter { IfOk result (λ x. length x.1.now ≤ length bytes.now) }
 {
     if tag.empty {

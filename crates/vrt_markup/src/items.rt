@@ -1,8 +1,12 @@
 // The items of a document: comments, tags and runs of text.
-ghost use Rattle.std.specs.Prelude.{◌≡◌, ◌<◌, ◌≤◌, ◌+◌, ◌==◌, length, map, true, false, IfSome, IfOk, Option, Some, None, []};
+ghost use Rattle.std.specs.Prelude.{◌≡◌, ◌<◌, ◌≤◌, ◌+◌, ◌==◌, ℕ, List, length, map, true, false, IfSome, IfOk, Option};
+ghost use Rattle.std.specs.Prelude.{Some, None, []};
 ghost use Rattle.std.specs.Option.{option_map};
 ghost use Rattle.std.specs.List.{prefix_len};
-ghost use Rattle.vrt_markup.specs.Items.{is_name, is_some, strip, is_white, trim_front, is_first, is_later, has_first, name_at, byte_at, after_comment, entity_at, ends_at, plain_len, spaces_at, quote_at, value_at, pair_at, is_equal, begins, pairs, attribute, is_distinct, tag_end, tag_front, tag_item, tag_at, close_at, run_at, item_at};
+ghost use Rattle.vrt_markup.specs.Items.{is_name, is_some, strip, is_white, trim_front, is_first, is_later, has_first};
+ghost use Rattle.vrt_markup.specs.Items.{name_at, byte_at, after_comment, entity_at, ends_at, plain_len, spaces_at};
+ghost use Rattle.vrt_markup.specs.Items.{quote_at, value_at, pair_at, is_equal, begins, pairs, attribute, is_distinct};
+ghost use Rattle.vrt_markup.specs.Items.{tag_end, tag_front, tag_item, tag_at, close_at, run_at, item_at};
 ghost use Rattle.vrt_markup.specs.Keys.{last_bytes, key_of, number_of, apart, double_from, double_of};
 ghost use Rattle.vrt_markup.specs.Views.{pair_view, tag_view, Finds, Shortens};
 
@@ -245,6 +249,20 @@ pub fn attribute<'a>(text: &'a [u8], name: &[u8]) -> Option<&'a [u8]>
     attribute_in(text, name)
 }
 
+/// The value of the first attribute with this name, and a text in which all others may stand: what
+/// stands behind that attribute, where it is the one in front.
+#[tactic(auto, using(crate::proofs::Ordered::front_value, crate::proofs::Ordered::front_others))]
+pub fn attribute_front<'a>(text: &'a [u8], name: &[u8]) -> (Option<&'a [u8]>, &'a [u8])
+    ensures value { option_map (λ v. v.now) result.0 ≡ attribute name.now (pairs text.now).0 }
+    ensures others { (other : List ℕ) → is_equal name.now other ≡ false →
+        attribute other (pairs result.1.now).0 ≡ attribute other (pairs text.now).0 }
+{
+    match pair_at(text) {
+        Some((pair, more)) if pair.name == name => (Some(pair.value), more),
+        _ => (attribute(text, name), text),
+    }
+}
+
 /// The number that the last eight bytes of a name make.
 fn last_bytes(name: &[u8]) -> u64
     ensures number { result ≡ last_bytes 0 name.now }
@@ -424,18 +442,23 @@ fn tag_end(text: &[u8]) -> Option<(bool, &[u8])>
     }
 }
 
-/// A tag, what stands behind it, and the numbers of its attributes' names; none also where one of the
-/// first attributes stands twice.
-#[tactic(auto, unfolding(crate::specs::Items::tag_front), using(crate::proofs::Names::tag_nameless, crate::proofs::Names::tag_endless, crate::proofs::Names::tag_twice))]
-fn tag_front(alloc: Global, text: &[u8]) -> Result<Option<(Tag, &[u8], Vec<u64>)>, AllocError>
+/// A tag of this name, what stands behind it, and the numbers of its attributes' names; none also where
+/// one of the first attributes stands twice.
+#[tactic(auto, unfolding(crate::specs::Items::tag_front), using(crate::proofs::Names::tag_endless, crate::proofs::Names::tag_twice))]
+fn tag_front<'a>(
+    alloc: Global,
+    text: &'a [u8],
+    name: &'a [u8],
+    attributes: &'a [u8],
+) -> Result<Option<(Tag<'a>, &'a [u8], Vec<u64>)>, AllocError>
+    requires front { Some (name.now, attributes.now) ≡ name_at text.now }
+    requires named { is_name name.now ≡ true }
+    requires behind { length attributes.now ≤ length text.now }
     ensures tag { IfOk result (λ o. IfSome o (λ x. Some (tag_view x.0, x.1.now) ≡ tag_front text.now)) }
     ensures none { IfOk result (λ o. o ≡ None → tag_at text.now ≡ None) }
     ensures numbers { IfOk result (λ o. IfSome o (λ x. x.2.items ≡ map number_of (pairs x.0.attributes.now).0)) }
     ensures shorter { IfOk result (λ o. IfSome o (λ x. length x.1.now < length text.now)) }
 {
-    let Some((name, attributes)) = name_at(text) else {
-        return Ok(None);
-    };
     let Some((numbers, behind)) = numbers_of(alloc, attributes)? else {
         return Ok(None);
     };
@@ -450,13 +473,16 @@ fn tag_front(alloc: Global, text: &[u8]) -> Result<Option<(Tag, &[u8], Vec<u64>)
     Ok(Some((tag, rest, numbers)))
 }
 
-// The item of a tag behind its `<`.
+// The item of a tag of this name that may have attributes.
 #[tactic(auto, unfolding(crate::specs::Items::tag_at))]
-fn tag_item(alloc: Global, text: &[u8]) -> Item
+fn full_item<'a>(alloc: Global, text: &'a [u8], name: &'a [u8], attributes: &'a [u8]) -> Item<'a>
+    requires front { Some (name.now, attributes.now) ≡ name_at text.now }
+    requires named { is_name name.now ≡ true }
+    requires behind { length attributes.now ≤ length text.now }
     ensures item { Finds result (tag_item text.now) }
     ensures shorter { Shortens result text.now }
 {
-    match tag_front(alloc, text) {
+    match tag_front(alloc, text, name, attributes) {
         Err(_) => Item::NoMemory,
         Ok(None) => Item::Bad,
         Ok(Some((tag, rest, numbers))) => match is_distinct(alloc, tag.attributes, numbers) {
@@ -464,6 +490,47 @@ fn tag_item(alloc: Global, text: &[u8]) -> Item
             Ok(false) => Item::Bad,
             Err(_) => Item::NoMemory,
         },
+    }
+}
+
+// The item of a tag of this name without white space behind the name, and so without attributes.
+#[tactic(auto, using(crate::proofs::Bare::bare_tag, crate::proofs::Bare::bare_none))]
+fn bare_item<'a>(text: &'a [u8], name: &'a [u8], attributes: &'a [u8]) -> Item<'a>
+    requires front { Some (name.now, attributes.now) ≡ name_at text.now }
+    requires named { is_name name.now ≡ true }
+    requires behind { length attributes.now ≤ length text.now }
+    requires bare { is_some (spaces_at attributes.now) ≡ false }
+    ensures item { Finds result (tag_item text.now) }
+    ensures shorter { Shortens result text.now }
+{
+    match tag_end(attributes) {
+        Some((empty, rest)) => {
+            let tag = Tag {
+                name,
+                attributes,
+                empty,
+            };
+            Item::Open(tag, rest)
+        }
+        None => Item::Bad,
+    }
+}
+
+// The item of a tag behind its `<`.
+#[tactic(auto, using(crate::proofs::Bare::no_tag))]
+fn tag_item(alloc: Global, text: &[u8]) -> Item
+    ensures item { Finds result (tag_item text.now) }
+    ensures shorter { Shortens result text.now }
+{
+    match name_at(text) {
+        None => Item::Bad,
+        Some((name, attributes)) => {
+            if has_space(attributes) {
+                full_item(alloc, text, name, attributes)
+            } else {
+                bare_item(text, name, attributes)
+            }
+        }
     }
 }
 

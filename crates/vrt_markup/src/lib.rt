@@ -12,7 +12,7 @@ mod text;
 
 pub use children::{Level, Parts, Seen, children_of};
 pub use fault::VrtFault;
-pub use items::{Item, attribute, is_equal, is_white, item_at, trim_front};
+pub use items::{Item, attribute, attribute_front, is_equal, is_white, item_at, trim_front};
 pub use past::past_element;
 pub use root::{Root, end_at, root_at, utf8_of};
 pub use tag::Tag;

@@ -3,7 +3,8 @@ ghost use Rattle.std.specs.Prelude.{◌≡◌, ◌<◌, ◌≤◌, ◌-◌, leng
 ghost use Rattle.std.specs.Option.{option_map};
 ghost use Rattle.vrt_markup.specs.Views.{result_view, root_view};
 ghost use Rattle.vrt_markup.specs.Kept.{Gives};
-ghost use Rattle.vrt_markup.specs.Tree.{utf8_of, space, without_mark, after_declaration, declared_at, root_behind, root_at, end_by, end_at};
+ghost use Rattle.vrt_markup.specs.Tree.{utf8_of, space, without_mark, after_declaration, declared_at, root_behind};
+ghost use Rattle.vrt_markup.specs.Tree.{root_at, end_by, end_at};
 
 use crate::fault::VrtFault;
 use crate::items::{Item, item_at, strip};

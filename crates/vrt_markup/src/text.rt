@@ -1,5 +1,6 @@
 // The text directly in an element, and elements that hold text alone.
-ghost use Rattle.std.specs.Prelude.{◌≡◌, ℕ, true, IfSome, ◌<◌, ◌≤◌, ◌-◌, ◌++◌, [], length, IfOk, OnOk, Result, Ok, Option, None, Some};
+ghost use Rattle.std.specs.Prelude.{◌≡◌, ℕ, true, IfSome, ◌<◌, ◌≤◌, ◌-◌, ◌++◌, [], length, IfOk, OnOk, Result, Ok};
+ghost use Rattle.std.specs.Prelude.{Option, None, Some};
 ghost use Rattle.std.specs.List.{prefix_len};
 ghost use Rattle.vrt_markup.specs.Items.{is_white, is_name};
 ghost use Rattle.vrt_markup.specs.Keys.{is_plain};
@@ -12,6 +13,7 @@ use crate::fault::VrtFault;
 use crate::items::{Item, entity_at, is_equal, is_white, item_at};
 use crate::past::past_element;
 use crate::tag::Tag;
+use memchr::memchr2;
 use std::alloc::{AllocError, Global};
 
 /// Whether it is white space alone.
@@ -101,7 +103,8 @@ fn text_nodes<'a>(
 ) -> Result<(Words<'a>, &'a [u8]), VrtFault>
     requires within { length bytes.now ≤ total }
     requires depth { depth ≤ 64 }
-    ensures text { Gives (λ x. (text_view x.0, x.1.now)) result (read_as (worded [] None) (nodes total depth name.now bytes.now)) }
+    ensures text { Gives (λ x. (text_view x.0, x.1.now)) result (read_as (worded [] None)
+        (nodes total depth name.now bytes.now)) }
     ensures shorter { IfOk result (λ x. length x.1.now < length bytes.now) }
 {
     let mut rest = bytes;
@@ -138,26 +141,21 @@ fn text_nodes<'a>(
     }
 }
 
-// Whether it begins neither a tag nor an entity.
-fn is_plain(c: u8) -> bool
-    ensures { result ≡ is_plain c }
-{
-    c != b'<' && c != b'&'
-}
-
 // How many bytes stand in front of the first tag or entity.
+#[tactic(auto, using(crate::proofs::Fronts::first_place, crate::proofs::Fronts::place_within))]
 fn plain_front(bytes: &[u8]) -> usize
     ensures count { result ≡ prefix_len is_plain bytes.now }
     ensures bound { result ≤ length bytes.now }
 {
-    bytes.iter().take_while(|c| is_plain(**c)).count()
+    memchr2(b'<', b'&', bytes).unwrap_or(bytes.len())
 }
 
 // The text in an element of this name, behind its start tag, where it stands there in one piece as it is.
 #[tactic(auto, using(crate::proofs::Lent::lent))]
 fn lent_text<'a>(name: &[u8], bytes: &'a [u8]) -> Option<(&'a [u8], &'a [u8])>
     requires named { is_name name.now ≡ true }
-    ensures text { IfSome result (λ x. (total depth : ℕ) → Ok ((x.0.now, None), x.1.now) ≡ read_as (worded [] None) (nodes total depth name.now bytes.now)) }
+    ensures text { IfSome result (λ x. (total depth : ℕ) → Ok ((x.0.now, None), x.1.now) ≡ read_as (worded [] None)
+        (nodes total depth name.now bytes.now)) }
     ensures shorter { IfSome result (λ x. length x.1.now < length bytes.now) }
 {
     let (text, rest) = bytes.split_at(plain_front(bytes));
@@ -175,7 +173,8 @@ pub fn text_element<'a>(
 ) -> Result<(Words<'a>, &'a [u8]), VrtFault>
     requires within { length bytes.now ≤ total }
     requires depth { depth < 64 }
-    ensures text { Gives (λ x. (text_view x.0, x.1.now)) result (read_as (worded [] None) (inner total depth (tag_view tag.entry) bytes.now)) }
+    ensures text { Gives (λ x. (text_view x.0, x.1.now)) result (read_as (worded [] None)
+        (inner total depth (tag_view tag.entry) bytes.now)) }
     ensures shorter { IfOk result (λ x. length x.1.now ≤ length bytes.now) }
 {
     if tag.empty {

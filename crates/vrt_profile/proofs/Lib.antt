@@ -7,4 +7,5 @@ mod Answered
 mod Computes
 mod Related
 mod Built
+mod DigitRuns
 mod ShortNumbers

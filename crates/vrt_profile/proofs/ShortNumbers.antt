@@ -1,9 +1,9 @@
 -- Short numbers of a lookup table: what is read of their digits alone is what the whole pieces say.
-use Rattle.std.proofs.Common.{◌≡◌, ℕ, ℤ, pos, ◌+◌, ◌*◌, ◌^◌, ◌<◌, ◌≤◌, ◌-◌, Bool, true, false, cond, not, ◌==◌, ◌&&◌, List, [], ◌∷◌, ◌++◌, length, take, drop, get_or, Option, Some, None, refl, sym, ap, ◌∙◌, arith, if◌then◌else◌, subst, nat_lt, unsigned_abs, append_assoc, min}
+use Rattle.std.proofs.Common.{◌≡◌, ℕ, ℤ, pos, ◌+◌, ◌*◌, ◌^◌, ◌<◌, ◌≤◌, ◌-◌, Bool, true, false, cond, not, ◌==◌, ◌&&◌, List, [], ◌∷◌, ◌++◌, length, take, drop, get_or, Option, Some, None, refl, sym, ap, ◌∙◌, arith, if◌then◌else◌, subst, nat_lt, unsigned_abs, append_assoc, append-nil}
 use Rattle.std.specs.List.{list_all, prefix_len, suffix_len}
 use Rattle.std.specs.Char.{is_ascii_digit}
 use Rattle.std.proofs.Math.Seq.{take-append_seam, drop-append_seam, take-length, drop-length}
-use Rattle.std.proofs.lemmas.List.{length-append, take_all}
+use Rattle.std.proofs.lemmas.List.{length-append}
 use Rattle.std.proofs.lemmas.List.Folds.{list_all-append}
 use Rattle.std.proofs.lemmas.List.Sums.{AllPass-from_list_all, suffix_len-take_no}
 use Rattle.std.proofs.lemmas.List.Elements.{All-get_or}
@@ -17,7 +17,8 @@ use Rattle.geotransform.specs.Decimal.{number, scaled, signed, sign_at, digits_a
 use Rattle.geotransform.proofs.Numbers.{number_short, number-append}
 use Rattle.vrt_markup.specs.Items.{is_white, option_case}
 use Rattle.vrt_profile.specs.Fields.{length_before, cut_by, cut_at, first_piece, trim, trim_end, near_by, near_number, pair_of}
-use Rattle.vrt_profile.specs.Fronts.{is_inner, DigitsFront, FractionFront, DecimalFront, MicrosFront}
+use Rattle.vrt_profile.specs.Fronts.{is_inner, DigitsFront, FractionFront, DecimalFront, MicrosFront, PairFront}
+use Rattle.vrt_profile.specs.declared.rectangle.LutPair.{LutPair}
 use Rattle.vrt_profile.specs.Values.{million}
 use Rattle.vrt_profile.proofs.Rules.{signed_size}
 
@@ -140,21 +141,26 @@ below_whole n fraction all le =
     let product : number fraction * 10 ^ (n - length fraction) ≤ 10 ^ length fraction * 10 ^ (n - length fraction) = mul-le-mul_right (10 ^ (n - length fraction)) (omega (arith, small)) in
     omega (arith, product, places (length fraction) n le)
 
-near_decimal : (text rest : List ℕ) (m : ℕ) (number_text : List ℕ) (negative : Bool) (d : DecimalFront text m rest) → list_all is_inner number_text ≡ true → sign_at number_text ≡ (negative, d.body) → length number_text ≤ 64 → near_number number_text ≡ Some (signed negative m)
+places_decimal : (text rest : List ℕ) (m : ℕ) (number_text : List ℕ) (negative : Bool) (d : DecimalFront text m rest) → sign_at number_text ≡ (negative, d.body) → length number_text ≤ 64 → places_of 6 number_text ≡ Some (signed negative m)
 unfolding places_of
-near_decimal text rest m t negative d inner sign short =
+places_decimal text rest m t negative d sign short =
     let p : Decimal = decimal negative d.digits d.fraction in
     let few : length d.fraction ≤ 16 = omega (arith, d.few_behind) in
     let small : number d.digits < 10 ^ 9 = number_short d.digits 9 d.all d.few in
     let wide : magnitude p < 10 ^ 28 = omega (arith, magnitude_is 16 negative d.digits d.fraction few, below_whole 16 d.fraction d.all_behind few, small) in
     let near : nat_lt (magnitude p) (10 ^ 28) ≡ true = grind (arith, nat_tests, wide) in
     let value : near_at 6 p ≡ Some m = guard (nat_lt (magnitude p) (10 ^ 28)) (magnitude_at 6 p) near ∙ ap (λ n. Some n) (magnitude_is 6 negative d.digits d.fraction d.few_behind ∙ sym d.value) in
+    ap (λ p. p >>= λ d. near_at 6 d >>= λ n. Some (signed d.negative n)) (parts_at t d.body d.digits d.tail d.fraction negative sign d.cut d.behind short d.some)
+    ∙ ap (λ v. v >>= λ n. Some (signed negative n)) value
+
+near_decimal : (text rest : List ℕ) (m : ℕ) (number_text : List ℕ) (negative : Bool) (d : DecimalFront text m rest) → list_all is_inner number_text ≡ true → places_of 6 number_text ≡ Some (signed negative m) → near_number number_text ≡ Some (signed negative m)
+near_decimal text rest m t negative d inner places =
+    let small : number d.digits < 10 ^ 9 = number_short d.digits 9 d.all d.few in
     let size = signed_size negative m in
     let bound : m < 5000000000 * million = omega (arith, d.value, below_whole 6 d.fraction d.all_behind d.few_behind, small) in
     let low : nat_lt (unsigned_abs (signed negative m)) (5000000000 * million) ≡ true = ap (λ n. nat_lt n (5000000000 * million)) size ∙ grind (arith, nat_tests, bound) in
     ap (λ t. near_by (places_of 6 t)) (trim_inner t inner)
-    ∙ ap (λ p. near_by (p >>= λ d. near_at 6 d >>= λ n. Some (signed d.negative n))) (parts_at t d.body d.digits d.tail d.fraction negative sign d.cut d.behind short d.some)
-    ∙ ap (λ v. near_by (v >>= λ n. Some (signed negative n))) value
+    ∙ ap near_by places
     ∙ guard (nat_lt (unsigned_abs (signed negative m)) (5000000000 * million)) (signed negative m) low
 
 all_joined : (p : ℕ → Bool) (xs ys : List ℕ) → list_all p xs ≡ true → list_all p ys ≡ true → list_all p (xs ++ ys) ≡ true
@@ -274,28 +280,20 @@ signed_at (c ∷ cs) = signed_minus c cs (c == 45) refl
 front_of : (text : List ℕ) (negative : Bool) (behind : List ℕ) (m : ℕ) (rest : List ℕ) → Signed text negative behind → DecimalFront behind m rest → MicrosFront text (signed negative m) rest
 front_of text negative behind m rest s d =
     let inner = all_joined is_inner s.sign d.body s.inner d.inner in
+    let places = places_decimal behind rest m (s.sign ++ d.body) negative d (s.same d.body d.digits d.tail d.cut d.some) (omega (arith, length-append s.sign d.body, s.short, d.short)) in
     record {
       front = s.sign ++ d.body;
       whole = s.whole ∙ ap (λ t. s.sign ++ t) d.whole ∙ sym (append_assoc s.sign d.body rest);
       colons = all_by is_inner (λ c. not (c == 58)) (s.sign ++ d.body) not_colon inner;
       commas = all_by is_inner (λ c. not (c == 44)) (s.sign ++ d.body) not_comma inner;
-      value = near_decimal behind rest m (s.sign ++ d.body) negative d inner (s.same d.body d.digits d.tail d.cut d.some) (omega (arith, length-append s.sign d.body, s.short, d.short));
+      value = near_decimal behind rest m (s.sign ++ d.body) negative d inner places;
+      places = places;
     }
 
 pub micros_at : (text : List ℕ) (negative : Bool) (behind : List ℕ) (m : ℕ) (rest : List ℕ) (v : ℤ) → (negative, behind) ≡ sign_at text → v ≡ signed negative m → DecimalFront behind m rest → MicrosFront text v rest
 micros_at text negative behind m rest v sign value digits =
     let from : Signed text negative behind = subst (λ (s : Bool × List ℕ). Signed text s.0 s.1) (sym sign) (signed_at text) in
     subst (λ u. MicrosFront text u rest) (sym value) (front_of text negative behind m rest from digits)
-
-pub few_value : (ds : List ℕ) (i n : ℕ) → n ≡ min (number (take i ds)) 1000000000 → length ds ≤ i → list_all is_ascii_digit ds ≡ true → length ds ≤ 9 → n ≡ number ds
-few_value ds i n e le all few =
-    let small : number ds < 10 ^ 9 = number_short ds 9 all few in
-    e ∙ ap (λ t. min (number t) 1000000000) (take_all i ds le) ∙ omega (arith, small)
-
-pub few_bound : (ds : List ℕ) (i n : ℕ) → n ≡ min (number (take i ds)) 1000000000 → length ds ≤ i → list_all is_ascii_digit ds ≡ true → length ds ≤ 9 → n < 1000000000
-few_bound ds i n e le all few =
-    let small : number ds < 10 ^ 9 = number_short ds 9 all few in
-    omega (arith, small, few_value ds i n e le all few)
 
 -- what stands before the first separator
 before_first : (b : ℕ) (front rest : List ℕ) → (b == b) ≡ true → list_all (λ c. not (c == b)) front ≡ true → length_before b (front ++ b ∷ rest) ≡ length front
@@ -318,21 +316,53 @@ pair_text f g v w plain first second =
     ∙ ap (λ o. o >>= λ input. near_number g >>= λ output. Some (record { input = input; output = output })) first
     ∙ ap (λ o. o >>= λ output. Some (record { input = v; output = output })) second
 
-piece_text : (f g behind : List ℕ) → list_all (λ c. not (c == 44)) f ≡ true → list_all (λ c. not (c == 44)) g ≡ true → first_piece (f ++ 58 ∷ (g ++ 44 ∷ behind)) ≡ (f ++ 58 ∷ g, Some behind)
-piece_text f g behind one two =
-    let commas = all_joined (λ c. not (c == 44)) f (58 ∷ g) one two in
-    ap first_piece (sym (append_assoc f (58 ∷ g) (44 ∷ behind)))
-    ∙ ap (λ o. option_case o ((f ++ 58 ∷ g) ++ 44 ∷ behind, None) (λ x. (x.0, Some x.1))) (cut_front 44 (f ++ 58 ∷ g) behind refl commas)
+pub front_pair : (text rest second last : List ℕ) (v w : ℤ) → MicrosFront text v rest → rest ≡ 58 ∷ second → MicrosFront second w last → PairFront text (record { input = v; output = w }) last
+front_pair text rest second last v w a colon b = record {
+  front = a.front ++ 58 ∷ b.front;
+  whole = a.whole ∙ ap (λ t. a.front ++ t) colon ∙ ap (λ t. a.front ++ 58 ∷ t) b.whole ∙ sym (append_assoc a.front (58 ∷ b.front) last);
+  commas = all_joined (λ c. not (c == 44)) a.front (58 ∷ b.front) a.commas b.commas;
+  value = pair_text a.front b.front v w a.colons a.value b.value;
+}
 
-piece_at : (text rest second last behind : List ℕ) (v w : ℤ) (a : MicrosFront text v rest) (b : MicrosFront second w last) → rest ≡ 58 ∷ second → last ≡ 44 ∷ behind → first_piece text ≡ (a.front ++ 58 ∷ b.front, Some behind)
-piece_at text rest second last behind v w a b colon comma =
-    let whole : text ≡ a.front ++ 58 ∷ (b.front ++ 44 ∷ behind) = a.whole ∙ ap (λ t. a.front ++ t) colon ∙ ap (λ t. a.front ++ 58 ∷ t) b.whole ∙ ap (λ t. a.front ++ 58 ∷ (b.front ++ t)) comma in
-    ap first_piece whole ∙ piece_text a.front b.front behind a.commas b.commas
+-- the first piece of a text that begins with a pair and a comma
+piece_comma : (text rest behind : List ℕ) (p : LutPair) (f : PairFront text p rest) → rest ≡ 44 ∷ behind → first_piece text ≡ (f.front, Some behind)
+piece_comma text rest behind p f comma =
+    ap first_piece (f.whole ∙ ap (λ t. f.front ++ t) comma)
+    ∙ ap (λ o. option_case o (f.front ++ 44 ∷ behind, None) (λ x. (x.0, Some x.1))) (cut_front 44 f.front behind refl f.commas)
 
-pub pair_value : (text rest second last behind : List ℕ) (v w : ℤ) → MicrosFront text v rest → rest ≡ 58 ∷ second → MicrosFront second w last → last ≡ 44 ∷ behind → pair_of (first_piece text).0 ≡ Some (record { input = v; output = w })
-pair_value text rest second last behind v w a colon b comma =
-    ap (λ (x : List ℕ × Option (List ℕ)). pair_of x.0) (piece_at text rest second last behind v w a b colon comma) ∙ pair_text a.front b.front v w a.colons a.value b.value
+pub comma_pair : (text rest behind : List ℕ) (p : LutPair) → PairFront text p rest → rest ≡ 44 ∷ behind → pair_of (first_piece text).0 ≡ Some p
+comma_pair text rest behind p f comma = ap (λ (x : List ℕ × Option (List ℕ)). pair_of x.0) (piece_comma text rest behind p f comma) ∙ f.value
 
-pub pair_behind : (text rest second last behind : List ℕ) (v w : ℤ) → MicrosFront text v rest → rest ≡ 58 ∷ second → MicrosFront second w last → last ≡ 44 ∷ behind → (first_piece text).1 ≡ Some behind
-pair_behind text rest second last behind v w a colon b comma =
-    ap (λ (x : List ℕ × Option (List ℕ)). x.1) (piece_at text rest second last behind v w a b colon comma)
+pub comma_behind : (text rest behind : List ℕ) (p : LutPair) → PairFront text p rest → rest ≡ 44 ∷ behind → Some behind ≡ (first_piece text).1
+comma_behind text rest behind p f comma = sym (ap (λ (x : List ℕ × Option (List ℕ)). x.1) (piece_comma text rest behind p f comma))
+
+-- the first piece of a text that is a pair
+none_before : (b : ℕ) (front : List ℕ) → list_all (λ c. not (c == b)) front ≡ true → length_before b front ≡ length front
+none_before b [] h = refl
+none_before b (c ∷ cs) h =
+    ap (λ x. cond x (1 + length_before b cs) 0) (and_left (not (c == b)) (list_all (λ c. not (c == b)) cs) h)
+    ∙ ap (λ n. 1 + n) (none_before b cs (and_right (not (c == b)) (list_all (λ c. not (c == b)) cs) h))
+    ∙ omega arith
+
+whole_dropped : (front : List ℕ) → drop (length front) front ≡ []
+whole_dropped front = ap (drop (length front)) (sym (append-nil front)) ∙ drop-append_seam front []
+
+no_cut : (b : ℕ) (front : List ℕ) → list_all (λ c. not (c == b)) front ≡ true → cut_at b front ≡ None
+no_cut b front h =
+    ap (λ n. cut_by (take n front) (drop n front)) (none_before b front h)
+    ∙ ap (cut_by (take (length front) front)) (whole_dropped front)
+
+piece_last : (text rest : List ℕ) (p : LutPair) (f : PairFront text p rest) → rest ≡ [] → first_piece text ≡ (f.front, None)
+piece_last text rest p f end =
+    ap first_piece (f.whole ∙ ap (λ t. f.front ++ t) end ∙ append-nil f.front)
+    ∙ ap (λ o. option_case o (f.front, None) (λ x. (x.0, Some x.1))) (no_cut 44 f.front f.commas)
+
+pub last_pair : (text rest : List ℕ) (p : LutPair) → PairFront text p rest → rest ≡ [] → pair_of (first_piece text).0 ≡ Some p
+last_pair text rest p f end = ap (λ (x : List ℕ × Option (List ℕ)). pair_of x.0) (piece_last text rest p f end) ∙ f.value
+
+pub last_behind : (text rest : List ℕ) (p : LutPair) → PairFront text p rest → rest ≡ [] → None ≡ (first_piece text).1
+last_behind text rest p f end = sym (ap (λ (x : List ℕ × Option (List ℕ)). x.1) (piece_last text rest p f end))
+
+-- a text that is one number
+pub whole_micros : (text rest : List ℕ) (v : ℤ) → MicrosFront text v rest → rest ≡ [] → Some v ≡ places_of 6 text
+whole_micros text rest v f end = sym (ap (places_of 6) (f.whole ∙ ap (λ t. f.front ++ t) end ∙ append-nil f.front) ∙ f.places)

@@ -1,5 +1,6 @@
 -- Which pixel of its dataset a source puts at a pixel of the mosaic.
-use Rattle.std.specs.Prelude.{ℕ, ℤ, pos, negsuc, ◌+ℤ◌, ◌-ℤ◌, ◌*ℤ◌, ◌+◌, ◌*◌, Bool, ◌&&◌, Option, Some, None, nat_lt, int_lt, int_le, if◌then◌else◌, unwrap_or}
+use Rattle.std.specs.Prelude.{ℕ, ℤ, pos, negsuc, ◌+ℤ◌, ◌-ℤ◌, ◌*ℤ◌, ◌+◌, ◌*◌, Bool, ◌&&◌, Option, Some, None, nat_lt}
+use Rattle.std.specs.Prelude.{int_lt, int_le, if◌then◌else◌, unwrap_or}
 use Rattle.lists_and_answers.specs.Options.{◌>>=◌}
 use Rattle.geotransform.specs.Places.{floor_of}
 use Rattle.geotransform.specs.declared.types.Size.{Size}
@@ -23,7 +24,8 @@ is_covered a place = int_le a.mosaic_start place && int_lt place (a.mosaic_start
 
 -- the column or the line of the dataset that lies at a place
 abbrev pub dataset_at : Axis → ℤ → ℤ
-dataset_at a place = floor_of (a.dataset_start *ℤ a.mosaic_length +ℤ (place -ℤ a.mosaic_start) *ℤ a.dataset_length) (a.mosaic_length *ℤ pos million)
+dataset_at a place = floor_of (a.dataset_start *ℤ a.mosaic_length +ℤ (place -ℤ a.mosaic_start) *ℤ a.dataset_length)
+    (a.mosaic_length *ℤ pos million)
 
 -- a number from 0 up to a count
 abbrev pub counted : ℕ → ℤ → Option ℕ
@@ -43,7 +45,12 @@ part_of rectangle size = unwrap_or rectangle (whole size)
 
 -- a source along the columns and along the lines
 abbrev pub columns_by : Rectangle → Rectangle → Axis
-columns_by dst src = record { mosaic_start = dst.x; mosaic_length = dst.w; dataset_start = src.x; dataset_length = src.w }
+columns_by dst src = record {
+  mosaic_start = dst.x;
+  mosaic_length = dst.w;
+  dataset_start = src.x;
+  dataset_length = src.w;
+}
 
 abbrev pub lines_by : Rectangle → Rectangle → Axis
 lines_by dst src = record { mosaic_start = dst.y; mosaic_length = dst.h; dataset_start = src.y; dataset_length = src.h }
@@ -56,4 +63,5 @@ lines_of s mosaic size = lines_by (part_of s.dst mosaic) (part_of s.src size)
 
 -- At column x, line y of a mosaic of size `mosaic`, the column and the line of the source's dataset, of size `size`.
 unfoldable pub cover_of : SourceValue → Size → Size → ℕ → ℕ → Option (ℕ × ℕ)
-cover_of s mosaic size x y = axis_at (columns_of s mosaic size) size.w x >>= λ column. axis_at (lines_of s mosaic size) size.h y >>= λ line. Some (column, line)
+cover_of s mosaic size x y = axis_at (columns_of s mosaic size) size.w x >>= λ column.
+    axis_at (lines_of s mosaic size) size.h y >>= λ line. Some (column, line)

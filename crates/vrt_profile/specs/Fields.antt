@@ -1,5 +1,6 @@
 -- Numbers in a text, alone or with marks between them.
-use Rattle.std.specs.Prelude.{ℕ, ℤ, ◌-◌, ◌*◌, not, List, [], ◌∷◌, length, take, drop, Option, Some, None, nat_lt, nat_le, ◌==◌, if◌then◌else◌, unsigned_abs}
+use Rattle.std.specs.Prelude.{ℕ, ℤ, ◌-◌, ◌*◌, not, List, [], ◌∷◌, length, take, drop, Option, Some, None, nat_lt}
+use Rattle.std.specs.Prelude.{nat_le, ◌==◌, if◌then◌else◌, unsigned_abs}
 use Rattle.std.specs.List.{prefix_len, suffix_len}
 use Rattle.lists_and_answers.specs.Options.{◌>>=◌}
 use Rattle.geotransform.specs.Decimal.{number_of, places_of, ticks_of}

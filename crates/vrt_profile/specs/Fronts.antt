@@ -1,14 +1,29 @@
 -- Short numbers in front of a text, and what stands behind them.
-use Rattle.std.specs.Prelude.{◌≡◌, ℕ, ℤ, ◌<◌, ◌≤◌, ◌+◌, ◌-◌, ◌*◌, ◌^◌, ◌==◌, ◌&&◌, not, Bool, true, List, [], ◌++◌, length, Some}
+use Rattle.std.specs.Prelude.{◌≡◌, ℕ, ℤ, ◌<◌, ◌≤◌, ◌+◌, ◌-◌, ◌*◌, ◌^◌, ◌==◌, ◌&&◌, not, Bool, true, List, [], ◌∷◌, ◌++◌}
+use Rattle.std.specs.Prelude.{length, Some}
 use Rattle.std.specs.List.{list_all}
 use Rattle.std.specs.Char.{is_ascii_digit}
-use Rattle.geotransform.specs.Decimal.{number, digits_at, fraction_at}
+use Rattle.geotransform.specs.Decimal.{number, digits_at, fraction_at, places_of}
 use Rattle.vrt_markup.specs.Items.{is_white}
-use Rattle.vrt_profile.specs.Fields.{near_number}
+use Rattle.vrt_profile.specs.Fields.{near_number, pair_of}
+use Rattle.vrt_profile.specs.declared.rectangle.LutPair.{LutPair}
 
 -- a byte that neither parts nor is white space
 abbrev pub is_inner : ℕ → Bool
 is_inner c = not (c == 58) && (not (c == 44) && not (is_white c))
+
+-- a digit, which writes n
+abbrev pub IsDigitFront : List ℕ → ℕ → List ℕ → Type 0
+IsDigitFront text n rest = (n < 10) × (text ≡ (n + 48) ∷ rest)
+
+-- up to nine digits, so many, which write n
+pub record DigitRun (text : List ℕ) (n count : ℕ) (rest : List ℕ) : Type 0 where
+  pub digits : List ℕ
+  pub whole : text ≡ digits ++ rest
+  pub all : list_all is_ascii_digit digits ≡ true
+  pub size : length digits ≡ count
+  pub few : count ≤ 9
+  pub value : n ≡ number digits
 
 -- up to nine digits, which write n
 pub record DigitsFront (text : List ℕ) (n : ℕ) (rest : List ℕ) : Type 0 where
@@ -53,3 +68,11 @@ pub record MicrosFront (text : List ℕ) (v : ℤ) (rest : List ℕ) : Type 0 wh
   pub colons : list_all (λ c. not (c == 58)) front ≡ true
   pub commas : list_all (λ c. not (c == 44)) front ≡ true
   pub value : near_number front ≡ Some v
+  pub places : places_of 6 front ≡ Some v
+
+-- a pair of such numbers with a colon between them
+pub record PairFront (text : List ℕ) (pair : LutPair) (rest : List ℕ) : Type 0 where
+  pub front : List ℕ
+  pub whole : text ≡ front ++ rest
+  pub commas : list_all (λ c. not (c == 44)) front ≡ true
+  pub value : pair_of front ≡ Some pair

@@ -1,5 +1,6 @@
 -- What document a tree means: element by element, in their order.
-use Rattle.std.specs.Prelude.{ℕ, ℤ, pos, suc, ◌+◌, Bool, true, false, not, ◌&&◌, ◌||◌, List, [], ◌∷◌, ◌++◌, length, Option, Some, None, Result, Ok, Err, ◌==◌, nat_le, if◌then◌else◌, codes}
+use Rattle.std.specs.Prelude.{ℕ, ℤ, pos, suc, ◌+◌, Bool, true, false, not, ◌&&◌, ◌||◌, List, [], ◌∷◌, ◌++◌, length}
+use Rattle.std.specs.Prelude.{Option, Some, None, Result, Ok, Err, ◌==◌, nat_le, if◌then◌else◌, codes}
 use Rattle.std.specs.Str.{is_utf8}
 use Rattle.std.specs.Option.{unwrap_or}
 use Rattle.lists_and_answers.specs.Answers.{◌>>=◌}
@@ -24,7 +25,8 @@ use Rattle.vrt_profile.specs.declared.parts.BandPart.TheVariants as band_part
 use Rattle.vrt_profile.specs.declared.parts.DatasetPart.{DatasetPart}
 use Rattle.vrt_profile.specs.declared.parts.DatasetPart.TheVariants as dataset_part
 use Rattle.vrt_markup.specs.declared.fault.VrtFault.{VrtFault}
-use Rattle.vrt_markup.specs.declared.fault.VrtFault.TheVariants.{UnknownElement, MissingPart, BadNumber, Unsupported, Limit}
+use Rattle.vrt_markup.specs.declared.fault.VrtFault.TheVariants.{UnknownElement, MissingPart, BadNumber, Unsupported}
+use Rattle.vrt_markup.specs.declared.fault.VrtFault.TheVariants.{Limit}
 
 -- Names of elements. In VRTDataset and VRTRasterBand these are read past.
 abbrev pub is_remark : List ℕ → Bool
@@ -34,7 +36,8 @@ is_remark name =
 
 abbrev pub is_picture : List ℕ → Bool
 is_picture name =
-    is_equal name (codes "ColorInterp") || (is_equal name (codes "ColorTable") || (is_equal name (codes "CategoryNames") ||
+    is_equal name (codes "ColorInterp") || (is_equal name (codes "ColorTable") ||
+    (is_equal name (codes "CategoryNames") ||
     (is_equal name (codes "Histograms") || is_equal name (codes "OverviewList"))))
 
 abbrev pub is_past : List ℕ → Bool
@@ -99,7 +102,8 @@ pub record File : Type 0 where
   pub name : List ℕ
 
 abbrev pub flag_by : List ℕ → Result Bool VrtFault
-flag_by text = if is_equal text (codes "0") then Ok false else (if is_equal text (codes "1") then Ok true else Err BadNumber)
+flag_by text =
+    if is_equal text (codes "0") then Ok false else (if is_equal text (codes "1") then Ok true else Err BadNumber)
 
 abbrev pub flag_in : Option (List ℕ) → Result Bool VrtFault
 flag_in None = Ok false
@@ -153,7 +157,16 @@ pub record SourceParts : Type 0 where
   pub lut : Option (List LutPair)
 
 abbrev pub no_parts : SourceParts
-no_parts = record { file = None; band = None; src = None; dst = None; nodata = None; offset = None; ratio = None; lut = None }
+no_parts = record {
+  file = None;
+  band = None;
+  src = None;
+  dst = None;
+  nodata = None;
+  offset = None;
+  ratio = None;
+  lut = None;
+}
 
 -- a part that may stand once
 abbrev pub once : {A B : Type 0} → Option A → Result A VrtFault → (A → B) → Result B VrtFault
@@ -261,7 +274,8 @@ with_no_data_value s new = once s.nodata new (λ x. record s { nodata = Some x }
 
 -- a source past the limit is found before anything else of it
 abbrev pub with_source : BandParts → Result SourceValue VrtFault → Result BandParts VrtFault
-with_source s source = if nat_le 262144 (s.taken + length s.sources) then Err Limit else (source >>= λ x. Ok (record s { sources = s.sources ++ x ∷ [] }))
+with_source s source = if nat_le 262144 (s.taken + length s.sources) then Err Limit
+    else (source >>= λ x. Ok (record s { sources = s.sources ++ x ∷ [] }))
 
 abbrev pub band_parts : BandParts → ℕ → Tag → Forest → BandPart → Result BandParts VrtFault
 band_parts s place tag inside band_part.NoData = with_no_data_value s (nodata_by (text_of inside) (child_of inside))
@@ -326,7 +340,8 @@ with_geo s new = once s.geo new (λ x. record s { geo = Some x })
 
 -- a band past the limit is found before anything else of it
 abbrev pub with_raster_band : DatasetParts → Result BandValue VrtFault → Result DatasetParts VrtFault
-with_raster_band s band = if nat_le 256 (length s.bands) then Err Limit else (band >>= λ b. Ok (record s { bands = s.bands ++ b ∷ []; taken = s.taken + length b.sources }))
+with_raster_band s band = if nat_le 256 (length s.bands) then Err Limit
+    else (band >>= λ b. Ok (record s { bands = s.bands ++ b ∷ []; taken = s.taken + length b.sources }))
 
 abbrev pub srs_by : List ℕ → Option ℕ → Result (List ℕ) VrtFault
 srs_by text child = text_in text child
@@ -339,7 +354,8 @@ geo_by text child = do
 abbrev pub dataset_parts : DatasetParts → ℕ → Tag → Forest → DatasetPart → Result DatasetParts VrtFault
 dataset_parts s place tag inside dataset_part.Srs = with_srs s (srs_by (text_of inside) (child_of inside))
 dataset_parts s place tag inside dataset_part.Geo = with_geo s (geo_by (text_of inside) (child_of inside))
-dataset_parts s place tag inside dataset_part.Band = with_raster_band s (band_of (suc (length s.bands)) s.taken tag inside)
+dataset_parts s place tag inside dataset_part.Band =
+    with_raster_band s (band_of (suc (length s.bands)) s.taken tag inside)
 dataset_parts s place tag inside dataset_part.Past = Ok s
 dataset_parts s place tag inside dataset_part.Unknown = Err (UnknownElement place)
 
@@ -347,7 +363,12 @@ abbrev pub dataset_step : DatasetParts → ℕ → Tag → Forest → Result Dat
 dataset_step s place tag inside = dataset_parts s place tag inside (dataset_part_of tag.name)
 
 abbrev pub dataset_end : ℕ → ℕ → DatasetParts → Result DocumentValue VrtFault
-dataset_end w h p = if length p.bands == 0 then Err MissingPart else Ok (record { size = record { w = w; h = h }; srs = p.srs; geo = p.geo; bands = p.bands })
+dataset_end w h p = if length p.bands == 0 then Err MissingPart else Ok (record {
+  size = record { w = w; h = h };
+  srs = p.srs;
+  geo = p.geo;
+  bands = p.bands;
+})
 
 -- in order: its attributes and text in it, its children, what is missing
 unfoldable pub dataset_of : Tag → Forest → Result DocumentValue VrtFault
@@ -359,4 +380,5 @@ dataset_of tag inside = do
   dataset_end w h parts
 
 abbrev pub root_of : ℕ → Tag → Forest → Result DocumentValue VrtFault
-root_of place tag inside = if is_equal tag.name (codes "VRTDataset") then dataset_of tag inside else Err (UnknownElement place)
+root_of place tag inside = if is_equal tag.name (codes "VRTDataset") then dataset_of tag inside
+    else Err (UnknownElement place)

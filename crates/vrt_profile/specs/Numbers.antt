@@ -1,5 +1,6 @@
 -- The numbers of a document, each in a text.
-use Rattle.std.specs.Prelude.{ℕ, ℤ, pos, suc, ◌*◌, ◌^◌, Bool, true, ◌&&◌, List, [], ◌∷◌, take, map, codes, Option, Some, None, Result, Ok, Err, nat_lt, nat_le, int_lt, ◌==◌, if◌then◌else◌, unsigned_abs}
+use Rattle.std.specs.Prelude.{ℕ, ℤ, pos, suc, ◌*◌, ◌^◌, Bool, true, ◌&&◌, List, [], ◌∷◌, take, map, codes, Option, Some}
+use Rattle.std.specs.Prelude.{None, Result, Ok, Err, nat_lt, nat_le, int_lt, ◌==◌, if◌then◌else◌, unsigned_abs}
 use Rattle.std.specs.Char.{to_ascii_lowercase}
 use Rattle.lists_and_answers.specs.Answers.{◌>>=◌}
 use Rattle.geotransform.specs.Decimal.{places_of}
@@ -78,14 +79,16 @@ next_pair n last piece = if nat_le 65536 n then Err Limit else (or_fault BadNumb
 
 abbrev pub lut_from : ℕ → Option LutPair → List (List ℕ) → Result (List LutPair) VrtFault
 lut_from n last [] = Ok []
-lut_from n last (piece ∷ more) = next_pair n last piece >>= λ pair. lut_from (suc n) (Some pair) more >>= λ pairs. Ok (pair ∷ pairs)
+lut_from n last (piece ∷ more) = next_pair n last piece >>= λ pair. lut_from (suc n) (Some pair) more >>= λ pairs.
+    Ok (pair ∷ pairs)
 
 abbrev pub lut_of : List ℕ → Result (List LutPair) VrtFault
 lut_of text = lut_from 0 None (pieces 44 text)
 
 -- without a rotation
 abbrev pub north_up : Six → Result Transform VrtFault
-north_up s = if (unsigned_abs s.rx == 0) && (unsigned_abs s.ry == 0) then or_fault BadNumber (transform_of s.ox s.oy s.dx s.dy) else Err Unsupported
+north_up s = if (unsigned_abs s.rx == 0) && (unsigned_abs s.ry == 0)
+    then or_fault BadNumber (transform_of s.ox s.oy s.dx s.dy) else Err Unsupported
 
 abbrev pub geo_of : List ℕ → Result Transform VrtFault
 geo_of text = or_fault BadNumber (six_of text) >>= north_up

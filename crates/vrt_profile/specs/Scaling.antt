@@ -1,5 +1,6 @@
 -- What a source makes of pixels: its NODATA, offset, ratio and table.
-use Rattle.std.specs.Prelude.{ℤ, pos, ◌<◌, ◌*◌, ◌^◌, IfSome, unsigned_abs, Bool, not, is_some, ◌&&◌, List, Option, None, if◌then◌else◌, unwrap_or}
+use Rattle.std.specs.Prelude.{ℤ, pos, ◌<◌, ◌*◌, ◌^◌, IfSome, unsigned_abs, Bool, not, is_some, ◌&&◌, List, Option, None}
+use Rattle.std.specs.Prelude.{if◌then◌else◌, unwrap_or}
 use Rattle.std.specs.Ordering.{int_eq}
 use Rattle.vrt_profile.specs.Means.{value_in}
 use Rattle.vrt_profile.specs.Values.{IsLut, trillion}

@@ -4,7 +4,8 @@ use Rattle.std.specs.Prelude.{ℕ, ℤ, Bool, not, ◌&&◌, List, Option, Resul
 use Rattle.lists_and_answers.specs.Answers.{◌>>=◌}
 use Rattle.geotransform.specs.declared.types.PixelType.{PixelType}
 use Rattle.vrt_profile.specs.Values.{Rectangle, SourceValue, BandValue, DocumentValue}
-use Rattle.vrt_profile.specs.Means.{wants, text_in, File, SourceParts, source_end, BandParts, band_end, DatasetParts, dataset_end}
+use Rattle.vrt_profile.specs.Means.{wants, text_in, File, SourceParts, source_end, BandParts, band_end, DatasetParts}
+use Rattle.vrt_profile.specs.Means.{dataset_end}
 use Rattle.vrt_markup.specs.declared.fault.VrtFault.{VrtFault}
 use Rattle.vrt_markup.specs.declared.fault.VrtFault.TheVariants.{BadNumber, Unsupported}
 
@@ -22,7 +23,8 @@ rect_end blank children r = do
   bare ← children
   Ok r
 
-unfoldable pub rect_by : Result ℤ VrtFault → Result ℤ VrtFault → Result ℤ VrtFault → Result ℤ VrtFault → Bool → Result Bool VrtFault → Result Rectangle VrtFault
+unfoldable pub rect_by : Result ℤ VrtFault → Result ℤ VrtFault → Result ℤ VrtFault → Result ℤ VrtFault → Bool →
+    Result Bool VrtFault → Result Rectangle VrtFault
 rect_by x y w h blank children = do
   x ← x
   y ← y
@@ -38,7 +40,8 @@ source_by complex near blank parts = do
   source_end complex all
 
 -- a band, by what its attributes say, whether it is blank, and its parts
-abbrev pub band_by : Result PixelType VrtFault → Bool → Bool → Bool → Result BandParts VrtFault → Result BandValue VrtFault
+abbrev pub band_by : Result PixelType VrtFault → Bool → Bool → Bool → Result BandParts VrtFault →
+    Result BandValue VrtFault
 band_by kind placed sourced blank parts = do
   kind ← kind
   place ← wants placed BadNumber
@@ -47,7 +50,8 @@ band_by kind placed sourced blank parts = do
   band_end kind all
 
 -- the dataset, in the same way
-unfoldable pub dataset_by : Result ℕ VrtFault → Result ℕ VrtFault → Bool → Bool → Result DatasetParts VrtFault → Result DocumentValue VrtFault
+unfoldable pub dataset_by : Result ℕ VrtFault → Result ℕ VrtFault → Bool → Bool → Result DatasetParts VrtFault →
+    Result DocumentValue VrtFault
 dataset_by w h derived blank parts = do
   w ← w
   h ← h

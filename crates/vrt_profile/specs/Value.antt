@@ -1,5 +1,7 @@
 -- What a source makes of a pixel of its dataset, and what the pixels of a mosaic's band are.
-use Rattle.std.specs.Prelude.{ℕ, ℤ, pos, ◌+ℤ◌, ◌-ℤ◌, ◌*ℤ◌, ◌*◌, Bool, false, not, is_some, ◌&&◌, ◌||◌, nat_le, List, [], ◌∷◌, Option, Some, None, int_lt, int_le, if◌then◌else◌, unsigned_abs, unwrap_or, option_map}
+use Rattle.std.specs.Prelude.{ℕ, ℤ, pos, ◌+ℤ◌, ◌-ℤ◌, ◌*ℤ◌, ◌*◌, Bool, false, not, is_some, ◌&&◌, ◌||◌, nat_le, List, []}
+use Rattle.std.specs.Prelude.{◌∷◌, Option, Some, None, int_lt, int_le, if◌then◌else◌, unsigned_abs, unwrap_or}
+use Rattle.std.specs.Prelude.{option_map}
 use Rattle.std.specs.Ordering.{int_eq}
 use Rattle.std.specs.Option.{option_or}
 use Rattle.lists_and_answers.specs.Options.{◌>>=◌}
@@ -18,7 +20,8 @@ is_nodata (Some n) pixel = int_eq n pixel
 
 -- The output, rounded to a whole number, at an input on the straight line from pair p to pair q.
 abbrev pub on_line : LutPair → LutPair → ℤ → ℤ
-on_line p q input = half (p.output *ℤ (q.input -ℤ p.input) +ℤ (input -ℤ p.input) *ℤ (q.output -ℤ p.output)) (unsigned_abs (q.input -ℤ p.input) * million)
+on_line p q input = half (p.output *ℤ (q.input -ℤ p.input) +ℤ (input -ℤ p.input) *ℤ (q.output -ℤ p.output))
+    (unsigned_abs (q.input -ℤ p.input) * million)
 
 -- The output at an input that isn't below the first pair's: on the line to the next pair, or the last output.
 abbrev pub output_behind : LutPair → List LutPair → ℤ → ℤ
@@ -63,4 +66,5 @@ last_given given (s ∷ ss) = option_or (last_given given ss) (given s)
 -- The pixel of a band of a mosaic, by what each source gives at a column and a line: what the last source gives that
 -- gives something, in the band's range; else the band's NODATA, or 0.
 abbrev pub mosaic_pixel : BandValue → (SourceValue → ℕ → ℕ → Option ℤ) → ℕ → ℕ → ℤ
-mosaic_pixel b given x y = unwrap_or (option_map (clamp b.kind) (last_given (λ s. given s x y) b.sources)) (unwrap_or b.nodata (pos 0))
+mosaic_pixel b given x y =
+    unwrap_or (option_map (clamp b.kind) (last_given (λ s. given s x y) b.sources)) (unwrap_or b.nodata (pos 0))

@@ -1,5 +1,6 @@
 -- The values of a VRT document, and the rules that they keep.
-use Rattle.std.specs.Prelude.{◌≡◌, ℕ, ℤ, pos, ◌<◌, ◌≤◌, ◌*◌, ◌^◌, ◌%◌, ◌<ℤ◌, Bool, true, false, ◌&&◌, List, [], ◌∷◌, length, map, sum, Option, None, IfSome, IsUtf8, unsigned_abs, int_lt}
+use Rattle.std.specs.Prelude.{◌≡◌, ℕ, ℤ, pos, ◌<◌, ◌≤◌, ◌*◌, ◌^◌, ◌%◌, ◌<ℤ◌, Bool, true, false, ◌&&◌, List, [], ◌∷◌}
+use Rattle.std.specs.Prelude.{length, map, sum, Option, None, IfSome, IsUtf8, unsigned_abs, int_lt}
 use Rattle.std.specs.List.{All}
 use Rattle.geotransform.specs.Geo.{Transform, IsTransform, IsRaster}
 use Rattle.geotransform.specs.Types.{is_in}

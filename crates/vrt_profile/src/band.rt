@@ -1,10 +1,13 @@
 // Bands of a dataset.
-ghost use Rattle.std.specs.Prelude.{◌≡◌, ◌<◌, ◌≤◌, ◌-◌, length, IfOk, IfSome, Result, Ok, Err, Option, None, Some, true, false};
+ghost use Rattle.std.specs.Prelude.{◌≡◌, ◌<◌, ◌≤◌, ◌-◌, length, IfOk, IfSome, Result, Ok, Err, Option, None, Some};
+ghost use Rattle.std.specs.Prelude.{true, false};
 ghost use Rattle.std.specs.Option.{option_map};
 ghost use Rattle.geotransform.specs.Types.{is_in};
 ghost use Rattle.vrt_markup.specs.Forest.{inner, read_as, text_of, child_of};
 ghost use Rattle.vrt_profile.specs.Means as means;
-ghost use Rattle.vrt_profile.specs.Means.{nodata_by, no_band_parts, with_no_data_value, with_source, band_step, kind_in, is_number, is_placed, is_sourced, nodata_of, value_in, band_end, band_of, source_of};
+ghost use Rattle.vrt_profile.specs.Means.{nodata_by, no_band_parts, with_no_data_value, with_source, band_step};
+ghost use Rattle.vrt_profile.specs.Means.{kind_in, is_number, is_placed, is_sourced, nodata_of, value_in, band_end};
+ghost use Rattle.vrt_profile.specs.Means.{band_of, source_of};
 ghost use Rattle.vrt_profile.specs.Seen.{band_by};
 ghost use Rattle.vrt_markup.specs.Views.{tag_view};
 ghost use Rattle.vrt_markup.specs.Kept.{Gives, seen, kept_of};
@@ -86,7 +89,9 @@ impl BandParts {
     ) -> Result<(Result<(), VrtFault>, &'a [u8]), VrtFault>
         requires within { length bytes.now ≤ level.total }
         requires depth { level.depth < 64 }
-        ensures child { Gives (λ x. (kept_of self.new x.0, x.1.now)) result (read_as (λ f. with_no_data_value self.old (nodata_by (text_of f) (child_of f))) (inner level.total level.depth (tag_view tag.entry) bytes.now)) }
+        ensures child { Gives (λ x. (kept_of self.new x.0, x.1.now)) result
+            (read_as (λ f. with_no_data_value self.old (nodata_by (text_of f) (child_of f)))
+            (inner level.total level.depth (tag_view tag.entry) bytes.now)) }
         ensures shorter { IfOk result (λ x. length x.1.now ≤ length bytes.now) }
     {
         match text_element(alloc, level.total, level.depth, tag, bytes) {
@@ -106,7 +111,9 @@ impl BandParts {
     ) -> Result<(Result<(), VrtFault>, &'a [u8]), VrtFault>
         requires within { length bytes.now ≤ level.total }
         requires depth { level.depth < 64 }
-        ensures child { Gives (λ x. (kept_of self.new x.0, x.1.now)) result (read_as (λ f. with_source self.old (source_of complex (tag_view tag.entry) f)) (inner level.total level.depth (tag_view tag.entry) bytes.now)) }
+        ensures child { Gives (λ x. (kept_of self.new x.0, x.1.now)) result
+            (read_as (λ f. with_source self.old (source_of complex (tag_view tag.entry) f))
+            (inner level.total level.depth (tag_view tag.entry) bytes.now)) }
         ensures shorter { IfOk result (λ x. length x.1.now ≤ length bytes.now) }
     {
         match source_element(alloc, level, complex, tag, bytes) {
@@ -253,7 +260,8 @@ pub fn band_element<'a>(
 ) -> Result<(Result<VrtBand, VrtFault>, &'a [u8]), VrtFault>
     requires within { length bytes.now ≤ level.total }
     requires depth { level.depth < 64 }
-    ensures band { Gives (λ x. (x.0, x.1.now)) result (read_as (band_of number taken (tag_view tag.entry)) (inner level.total level.depth (tag_view tag.entry) bytes.now)) }
+    ensures band { Gives (λ x. (x.0, x.1.now)) result (read_as (band_of number taken (tag_view tag.entry))
+        (inner level.total level.depth (tag_view tag.entry) bytes.now)) }
     ensures shorter { IfOk result (λ x. length x.1.now ≤ length bytes.now) }
 {
     let kind = kind_in(attribute(tag.attributes, b"dataType"));

@@ -1,5 +1,6 @@
 // Documents that are built, from their sources up.
-ghost use Rattle.std.specs.Prelude.{◌≡◌, ℤ, pos, ◌*ℤ◌, ◌<ℤ◌, ◌<◌, ◌≤◌, ◌^◌, ◌++◌, ◌∷◌, [], true, length, IfSome, IfOk, OnOk, OnErr, IsUtf8, None, unsigned_abs};
+ghost use Rattle.std.specs.Prelude.{◌≡◌, ℤ, pos, ◌*ℤ◌, ◌<ℤ◌, ◌<◌, ◌≤◌, ◌^◌, ◌++◌, ◌∷◌, [], true, length, IfSome, IfOk};
+ghost use Rattle.std.specs.Prelude.{OnOk, OnErr, IsUtf8, None, unsigned_abs};
 ghost use Rattle.geotransform.specs.Geo.{IsRaster};
 ghost use Rattle.geotransform.specs.Types.{is_in};
 ghost use Rattle.vrt_profile.specs.Values.{IsDecimal, IsOffset, IsRectangle, million, trillion, source_count};
@@ -75,7 +76,8 @@ fn related_file(alloc: Global, base: &Name, name: &Name) -> Result<(bool, Text),
 
 // The scaling that leaves every pixel as it is, but this NODATA.
 fn showing_all_but(alloc: Global, nodata: Option<Sample>) -> Result<Scaling, AllocError>
-    ensures scaling { IfOk result (λ s. s ≡ record { nodata = nodata; offset = pos 0; ratio = pos trillion; lut = None }) }
+    ensures scaling { IfOk result
+        (λ s. s ≡ record { nodata = nodata; offset = pos 0; ratio = pos trillion; lut = None }) }
 {
     let parts = ScalingParts {
         nodata,

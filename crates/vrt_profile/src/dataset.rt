@@ -1,11 +1,13 @@
 // The dataset, which is the root of a document.
-ghost use Rattle.std.specs.Prelude.{◌≡◌, suc, ◌<◌, ◌≤◌, ◌-◌, ◌+◌, length, IfOk, Result, Ok, Err, Option, None, Some, true};
+ghost use Rattle.std.specs.Prelude.{◌≡◌, suc, ◌<◌, ◌≤◌, ◌-◌, ◌+◌, length, IfOk, Result, Ok, Err, Option, None, Some};
+ghost use Rattle.std.specs.Prelude.{true};
 ghost use Rattle.std.specs.Option.{option_map};
 ghost use Rattle.vrt_markup.specs.Items.{is_some};
 ghost use Rattle.vrt_profile.specs.Values.{IsDecimal};
 ghost use Rattle.vrt_markup.specs.Forest.{inner, read_as, text_of, child_of};
 ghost use Rattle.vrt_profile.specs.Means as means;
-ghost use Rattle.vrt_profile.specs.Means.{no_dataset_parts, with_srs, with_geo, with_raster_band, srs_by, geo_by, dataset_step, dataset_end, dataset_of, root_of, band_of};
+ghost use Rattle.vrt_profile.specs.Means.{no_dataset_parts, with_srs, with_geo, with_raster_band, srs_by, geo_by};
+ghost use Rattle.vrt_profile.specs.Means.{dataset_step, dataset_end, dataset_of, root_of, band_of};
 ghost use Rattle.vrt_profile.specs.Seen.{dataset_by};
 ghost use Rattle.vrt_markup.specs.Views.{plain_text, tag_view};
 ghost use Rattle.vrt_markup.specs.Kept.{Gives, seen, kept_of};
@@ -89,7 +91,9 @@ impl DatasetParts {
     ) -> Result<(Result<(), VrtFault>, &'a [u8]), VrtFault>
         requires within { length bytes.now ≤ level.total }
         requires depth { level.depth < 64 }
-        ensures child { Gives (λ x. (kept_of self.new x.0, x.1.now)) result (read_as (λ f. with_srs self.old (srs_by (text_of f) (child_of f))) (inner level.total level.depth (tag_view tag.entry) bytes.now)) }
+        ensures child { Gives (λ x. (kept_of self.new x.0, x.1.now)) result
+            (read_as (λ f. with_srs self.old (srs_by (text_of f) (child_of f)))
+            (inner level.total level.depth (tag_view tag.entry) bytes.now)) }
         ensures shorter { IfOk result (λ x. length x.1.now ≤ length bytes.now) }
     {
         match text_element(alloc, level.total, level.depth, tag, bytes) {
@@ -111,7 +115,9 @@ impl DatasetParts {
     ) -> Result<(Result<(), VrtFault>, &'a [u8]), VrtFault>
         requires within { length bytes.now ≤ level.total }
         requires depth { level.depth < 64 }
-        ensures child { Gives (λ x. (kept_of self.new x.0, x.1.now)) result (read_as (λ f. with_geo self.old (geo_by (text_of f) (child_of f))) (inner level.total level.depth (tag_view tag.entry) bytes.now)) }
+        ensures child { Gives (λ x. (kept_of self.new x.0, x.1.now)) result
+            (read_as (λ f. with_geo self.old (geo_by (text_of f) (child_of f)))
+            (inner level.total level.depth (tag_view tag.entry) bytes.now)) }
         ensures shorter { IfOk result (λ x. length x.1.now ≤ length bytes.now) }
     {
         match text_element(alloc, level.total, level.depth, tag, bytes) {
@@ -157,7 +163,9 @@ impl DatasetParts {
     ) -> Result<(Result<(), VrtFault>, &'a [u8]), VrtFault>
         requires within { length bytes.now ≤ level.total }
         requires depth { level.depth < 64 }
-        ensures child { Gives (λ x. (kept_of self.new x.0, x.1.now)) result (read_as (λ f. with_raster_band self.old (band_of (suc (length self.old.bands)) self.old.taken (tag_view tag.entry) f)) (inner level.total level.depth (tag_view tag.entry) bytes.now)) }
+        ensures child { Gives (λ x. (kept_of self.new x.0, x.1.now)) result
+            (read_as (λ f. with_raster_band self.old (band_of (suc (length self.old.bands)) self.old.taken
+            (tag_view tag.entry) f)) (inner level.total level.depth (tag_view tag.entry) bytes.now)) }
         ensures shorter { IfOk result (λ x. length x.1.now ≤ length bytes.now) }
     {
         let (number, taken) = counts(self);
@@ -262,7 +270,8 @@ fn dataset_element<'a>(
 ) -> Result<(Result<Document, VrtFault>, &'a [u8]), VrtFault>
     requires within { length bytes.now ≤ level.total }
     requires depth { level.depth < 64 }
-    ensures dataset { Gives (λ x. (x.0, x.1.now)) result (read_as (dataset_of (tag_view tag.entry)) (inner level.total level.depth (tag_view tag.entry) bytes.now)) }
+    ensures dataset { Gives (λ x. (x.0, x.1.now)) result (read_as (dataset_of (tag_view tag.entry))
+        (inner level.total level.depth (tag_view tag.entry) bytes.now)) }
     ensures shorter { IfOk result (λ x. length x.1.now ≤ length bytes.now) }
 {
     let w = side_in(attribute(tag.attributes, b"rasterXSize"));
@@ -284,7 +293,8 @@ pub fn root_element<'a>(
     bytes: &'a [u8],
 ) -> Result<(Result<Document, VrtFault>, &'a [u8]), VrtFault>
     requires within { length bytes.now ≤ total }
-    ensures root { Gives (λ x. (x.0, x.1.now)) result (read_as (root_of place (tag_view tag.entry)) (inner total 0 (tag_view tag.entry) bytes.now)) }
+    ensures root { Gives (λ x. (x.0, x.1.now)) result (read_as (root_of place (tag_view tag.entry))
+        (inner total 0 (tag_view tag.entry) bytes.now)) }
     ensures shorter { IfOk result (λ x. length x.1.now ≤ length bytes.now) }
 {
     if is_equal(tag.name, b"VRTDataset") {

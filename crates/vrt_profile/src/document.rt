@@ -37,9 +37,31 @@ impl Model for Source {
 
     ghost Value = { SourceValue };
 
-    ghost view = { λ s. record { complex = s.complex; relative = s.relative; file = s.file; band = s.band; src = s.src; dst = s.dst; nodata = s.scaling.nodata; offset = s.scaling.offset; ratio = s.scaling.ratio; lut = s.scaling.lut } };
+    ghost view = { λ s. record {
+      complex = s.complex;
+      relative = s.relative;
+      file = s.file;
+      band = s.band;
+      src = s.src;
+      dst = s.dst;
+      nodata = s.scaling.nodata;
+      offset = s.scaling.offset;
+      ratio = s.scaling.ratio;
+      lut = s.scaling.lut;
+    } };
 
-    ghost invariant = { λ s. IsSource (record { complex = s.complex; relative = s.relative; file = s.file; band = s.band; src = s.src; dst = s.dst; nodata = s.scaling.nodata; offset = s.scaling.offset; ratio = s.scaling.ratio; lut = s.scaling.lut }) };
+    ghost invariant = { λ s. IsSource (record {
+      complex = s.complex;
+      relative = s.relative;
+      file = s.file;
+      band = s.band;
+      src = s.src;
+      dst = s.dst;
+      nodata = s.scaling.nodata;
+      offset = s.scaling.offset;
+      ratio = s.scaling.ratio;
+      lut = s.scaling.lut;
+    }) };
 }
 
 /// The sources of a band, the last of which counts most.

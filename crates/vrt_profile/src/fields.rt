@@ -3,7 +3,8 @@ ghost use Rattle.std.specs.Prelude.{◌≡◌, ◌≤◌, ◌<◌, ◌*◌, leng
 ghost use Rattle.std.specs.Option.{option_map};
 ghost use Rattle.geotransform.specs.Decimal.{IsRead};
 ghost use Rattle.vrt_profile.specs.Values.{million, IsPair};
-ghost use Rattle.vrt_profile.specs.Fields.{trim, trim_end, whole_text, length_before, cut_at, near_number, pair_of, ticks_then, six_of, Six};
+ghost use Rattle.vrt_profile.specs.Fields.{trim, trim_end, whole_text, length_before, cut_at, near_number, pair_of};
+ghost use Rattle.vrt_profile.specs.Fields.{ticks_then, six_of, Six};
 ghost use Rattle.vrt_profile.specs.NumberViews.{six_view, IsReadSix};
 
 use crate::rectangle::LutPair;

@@ -1,40 +1,60 @@
-// Short numbers in front of a text, as most of a lookup table's are, read in one pass.
-ghost use Rattle.std.specs.Prelude.{◌≡◌, ◌<◌, ◌≤◌, ◌*◌, ◌-◌, ◌^◌, ◌∷◌, Some, length, true, IfSome};
-ghost use Rattle.std.specs.Char.{is_ascii_digit};
-ghost use Rattle.std.specs.List.{list_all};
-ghost use Rattle.geotransform.specs.Decimal.{number, signed};
-ghost use Rattle.vrt_profile.specs.Fronts.{DigitsFront, FractionFront, DecimalFront, MicrosFront};
+// Short numbers, as most of a document's are, read in one pass.
+ghost use Rattle.std.specs.Prelude.{◌≡◌, ◌<◌, ◌≤◌, ◌*◌, ◌-◌, ◌^◌, ◌∷◌, Some, length, IfSome};
+ghost use Rattle.std.specs.Option.{option_map};
+ghost use Rattle.geotransform.specs.Decimal.{places_of, signed};
+ghost use Rattle.vrt_profile.specs.Fronts.{IsDigitFront, DigitRun, DigitsFront, FractionFront, DecimalFront};
+ghost use Rattle.vrt_profile.specs.Fronts.{MicrosFront, PairFront};
 ghost use Rattle.vrt_profile.specs.Fields.{first_piece, pair_of};
 
 use crate::rectangle::LutPair;
-use geotransform::decimal::{digits_at, sign_at};
+use geotransform::decimal::sign_at;
 
-// The number that a few digits write.
-#[tactic(auto, using(geotransform::proofs::Numbers::number_short))]
-fn few_number(digits: &[u8]) -> u64
-    requires all { list_all is_ascii_digit digits.now ≡ true }
-    requires few { length digits.now ≤ 9 }
-    ensures value { result ≡ number digits.now }
-    ensures bound { result < 1000000000 }
+// The number of the digit in front, and what stands behind it.
+#[tactic(auto, using(crate::proofs::DigitRuns::digit_front))]
+fn digit_front(text: &[u8]) -> Option<(u64, &[u8])>
+    ensures digit { IfSome result (λ x. IsDigitFront text.now x.0 x.1.now) }
+    ensures bound { IfSome result (λ x. x.0 < 10) }
+    ensures shorter { IfSome result (λ x. length x.1.now < length text.now) }
 {
-    let mut n = 0u64;
-    for c in digits {
-        n = (n * 10 + u64::from(c.saturating_sub(b'0'))).min(1_000_000_000);
+    match text {
+        [c, rest @ ..] if c.is_ascii_digit() => Some((u64::from(*c - b'0'), rest)),
+        _ => None,
     }
-    n
+}
+
+// The number of the digits in front, which are nine at most, how many they are, and what stands behind
+// them.
+#[tactic(auto, using(crate::proofs::DigitRuns::run_none))]
+fn digit_run(text: &[u8]) -> Option<(u64, usize, &[u8])>
+    ensures digits { IfSome result (λ x. DigitRun text.now x.0 x.1 x.2.now) }
+    ensures shorter { IfSome result (λ x. length x.2.now ≤ length text.now) }
+{
+    let mut n = 0;
+    let mut count = 0;
+    let mut rest = text;
+    while let Some((digit, more)) = digit_front(rest) {
+        if count >= 9 {
+            return None;
+        }
+        n = n * 10 + digit;
+        count += 1;
+        rest = more;
+    }
+    Some((n, count, rest))
 }
 
 // The number of the one to nine digits in front, and what stands behind them.
+#[tactic(auto, using(crate::proofs::DigitRuns::run_digits, crate::proofs::DigitRuns::run_small))]
 fn few_digits(text: &[u8]) -> Option<(u64, &[u8])>
     ensures digits { IfSome result (λ x. DigitsFront text.now x.0 x.1.now) }
     ensures bound { IfSome result (λ x. x.0 < 1000000000) }
     ensures shorter { IfSome result (λ x. length x.1.now ≤ length text.now) }
 {
-    let (digits, rest) = digits_at(text);
-    if digits.is_empty() || digits.len() > 9 {
+    let (n, count, rest) = digit_run(text)?;
+    if count == 0 {
         return None;
     }
-    Some((few_number(digits), rest))
+    Some((n, rest))
 }
 
 // What the last of so many digits of a fraction counts, in millionths.
@@ -56,16 +76,17 @@ fn product(a: u64, b: u64) -> u64
 }
 
 // The fraction of the one to six digits in front, in millionths, and what stands behind them.
+#[tactic(auto, using(crate::proofs::DigitRuns::run_fraction, crate::proofs::DigitRuns::run_small))]
 fn fraction_front(text: &[u8]) -> Option<(u64, &[u8])>
     ensures digits { IfSome result (λ x. FractionFront text.now x.0 x.1.now) }
     ensures bound { IfSome result (λ x. x.0 < 1000000000000000) }
     ensures shorter { IfSome result (λ x. length x.1.now ≤ length text.now) }
 {
-    let (digits, rest) = digits_at(text);
-    if digits.is_empty() || digits.len() > 6 {
+    let (n, count, rest) = digit_run(text)?;
+    if count == 0 || count > 6 {
         return None;
     }
-    let part = product(few_number(digits), last_digit(digits.len()));
+    let part = product(n, last_digit(count));
     Some((part, rest))
 }
 
@@ -105,6 +126,19 @@ fn micros_front(text: &[u8]) -> Option<(i64, &[u8])>
     Some((with_sign(negative, size), rest))
 }
 
+/// The number that a text writes, in millionths, where it has up to nine digits, and up to six behind a
+/// point.
+#[tactic(auto, using(crate::proofs::ShortNumbers::whole_micros))]
+pub fn short_micros(text: &[u8]) -> Option<i64>
+    ensures number { IfSome result (λ v. Some v ≡ places_of 6 text.now) }
+{
+    let (value, rest) = micros_front(text)?;
+    match rest {
+        [] => Some(value),
+        _ => None,
+    }
+}
+
 // What stands behind this byte in front.
 fn behind_byte(text: &[u8], byte: u8) -> Option<&[u8]>
     ensures behind { IfSome result (λ r. text.now ≡ byte ∷ r.now) }
@@ -116,17 +150,30 @@ fn behind_byte(text: &[u8], byte: u8) -> Option<&[u8]>
     }
 }
 
-/// The pair of a lookup table in front, where its numbers have up to nine digits, and up to six behind a
-/// point, and a comma stands behind it, and what stands behind that comma.
-#[tactic(auto, using(crate::proofs::ShortNumbers::pair_value, crate::proofs::ShortNumbers::pair_behind))]
-pub fn short_pair(text: &[u8]) -> Option<(LutPair, &[u8])>
-    ensures pair { IfSome result (λ x. pair_of (first_piece text.now).0 ≡ Some x.0) }
-    ensures behind { IfSome result (λ x. (first_piece text.now).1 ≡ Some x.1.now) }
+// Two short numbers in front with a colon between them, and what stands behind them.
+fn pair_front(text: &[u8]) -> Option<(LutPair, &[u8])>
+    ensures pair { IfSome result (λ x. PairFront text.now x.0 x.1.now) }
     ensures shorter { IfSome result (λ x. length x.1.now < length text.now) }
 {
     let (input, rest) = micros_front(text)?;
     let second = behind_byte(rest, b':')?;
     let (output, rest) = micros_front(second)?;
-    let behind = behind_byte(rest, b',')?;
-    Some((LutPair { input, output }, behind))
+    Some((LutPair { input, output }, rest))
+}
+
+/// The pair of a lookup table in front, where its numbers have up to nine digits, and up to six behind a
+/// point, and a comma stands behind it, or nothing; and what stands behind that comma.
+pub fn short_pair(text: &[u8]) -> Option<(LutPair, Option<&[u8]>)>
+    ensures pair { IfSome result (λ x. pair_of (first_piece text.now).0 ≡ Some x.0) }
+    ensures behind { IfSome result (λ x. option_map (λ r. r.now) x.1 ≡ (first_piece text.now).1) }
+    ensures shorter { IfSome result (λ x. IfSome x.1 (λ r. length r.now < length text.now)) }
+{
+    let (pair, rest) = pair_front(text)?;
+    match rest {
+        [] => Some((pair, None)),
+        _ => {
+            let behind = behind_byte(rest, b',')?;
+            Some((pair, Some(behind)))
+        }
+    }
 }

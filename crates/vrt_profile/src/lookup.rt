@@ -78,7 +78,7 @@ fn pair_at(text: &[u8]) -> (Option<LutPair>, Option<&[u8]>)
     ensures shorter { IfSome result.1 (λ r. length r.now < length text.now) }
 {
     match short_pair(text) {
-        Some((pair, behind)) => (Some(pair), Some(behind)),
+        Some((pair, behind)) => (Some(pair), behind),
         None => {
             let (piece, more) = first_piece(text);
             (pair_of(piece), more)

@@ -1,15 +1,18 @@
 // The numbers of a document, each with the rule that it keeps.
 ghost use Rattle.std.specs.Prelude.{◌≡◌, ℤ, ◌≤◌, ◌<◌, ◌*◌, ◌^◌, pos, ◌<ℤ◌, Some, None, IfOk, IfSome, unsigned_abs};
 ghost use Rattle.std.specs.Option.{option_map};
-ghost use Rattle.geotransform.specs.Decimal.{whole_of, IsRead};
+ghost use Rattle.geotransform.specs.Decimal.{whole_of, places_of, IsRead};
 ghost use Rattle.geotransform.specs.Geo.{transform_of};
 ghost use Rattle.vrt_profile.specs.Fields.{trim};
 ghost use Rattle.vrt_profile.specs.Values.{IsOffset, IsDecimal};
-ghost use Rattle.vrt_profile.specs.Numbers.{side_by, side_in, micro_in, within_limit, offset_in, some_size, size_in, is_mask, no_band_fault, band_by, band_number, scale_of, or_fault, north_up, geo_of};
+ghost use Rattle.vrt_profile.specs.Numbers.{side_by, side_in, micro_in, within_limit, offset_in, some_size, size_in};
+ghost use Rattle.vrt_profile.specs.Numbers.{is_mask, no_band_fault, band_by, band_number, scale_of, or_fault, north_up};
+ghost use Rattle.vrt_profile.specs.Numbers.{geo_of};
 ghost use Rattle.vrt_markup.specs.declared.fault.VrtFault.TheVariants.{BadNumber};
 ghost use Rattle.vrt_profile.specs.NumberViews.{six_view, IsReadSix};
 
 use crate::fields::{Six, six_of, trim, whole_text};
+use crate::fronts::short_micros;
 use geotransform::{BandNumber, GeoTransform, Ticks, read_places, read_whole};
 use std::marker::Model;
 use vrt_markup::VrtFault;
@@ -92,12 +95,22 @@ pub fn side_in(text: Option<&[u8]>) -> Result<u32, VrtFault>
     }
 }
 
+// A number rounded half away from zero to millionths.
+fn micros_of(text: &[u8]) -> Option<i128>
+    ensures number { result ≡ places_of 6 text.now }
+{
+    match short_micros(text) {
+        Some(value) => Some(value as i128),
+        None => read_places(text, 6),
+    }
+}
+
 fn micro_in(text: Option<&[u8]>) -> Result<i128, VrtFault>
     ensures number { result ≡ micro_in (option_map (λ v. v.now) text.entry) }
 {
     match text {
         None => Err(VrtFault::MissingPart),
-        Some(text) => match read_places(text, 6) {
+        Some(text) => match micros_of(text) {
             None => Err(VrtFault::BadNumber),
             Some(n) => Ok(n),
         },

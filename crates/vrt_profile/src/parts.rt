@@ -1,6 +1,7 @@
 // The elements of a document by their names.
 ghost use Rattle.std.specs.Prelude.{◌≡◌};
-ghost use Rattle.vrt_profile.specs.Means.{is_remark, is_picture, is_past, dataset_part_of, band_part_of, scaling_of, scaling_part, source_part_of};
+ghost use Rattle.vrt_profile.specs.Means.{is_remark, is_picture, is_past, dataset_part_of, band_part_of, scaling_of};
+ghost use Rattle.vrt_profile.specs.Means.{scaling_part, source_part_of};
 
 use vrt_markup::is_equal;
 

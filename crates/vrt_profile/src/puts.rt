@@ -30,7 +30,8 @@ pub fn past_child<'a>(
 ) -> Result<(Result<(), VrtFault>, &'a [u8]), VrtFault>
     requires within { length bytes.now ≤ level.total }
     requires depth { level.depth < 64 }
-    ensures child { Gives (λ x. (x.0, x.1.now)) result (read_as (λ f. kept) (inner level.total level.depth (tag_view tag.entry) bytes.now)) }
+    ensures child { Gives (λ x. (x.0, x.1.now)) result (read_as (λ f. kept)
+        (inner level.total level.depth (tag_view tag.entry) bytes.now)) }
     ensures shorter { IfOk result (λ x. length x.1.now ≤ length bytes.now) }
 {
     match past_element(alloc, level.total, level.depth, tag, bytes) {

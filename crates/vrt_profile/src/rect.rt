@@ -1,5 +1,7 @@
 // Rectangles: SrcRect and DstRect.
-ghost use Rattle.std.specs.Prelude.{◌≡◌, ◌<◌, ◌≤◌, ◌<ℤ◌, pos, length, IfOk, Option, Some, Bool, true};
+ghost use Rattle.std.specs.Prelude.{◌≡◌, ◌<◌, ◌≤◌, ◌<ℤ◌, pos, length, codes, IfOk, Option, Some, Bool, true};
+ghost use Rattle.std.specs.Option.{option_map};
+ghost use Rattle.vrt_markup.specs.Items.{attribute, pairs};
 ghost use Rattle.vrt_profile.specs.Values.{IsOffset};
 ghost use Rattle.vrt_markup.specs.Forest.{inner, read_as};
 ghost use Rattle.vrt_profile.specs.Means.{once, rect_of};
@@ -11,7 +13,7 @@ use crate::numbers::{offset_in, size_in};
 use crate::puts::put_once;
 use crate::rectangle::MicroRect;
 use std::alloc::Global;
-use vrt_markup::{Level, Parts, Seen, Tag, VrtFault, attribute, children_of, past_element};
+use vrt_markup::{Level, Parts, Seen, Tag, VrtFault, attribute_front, children_of, past_element};
 
 // An element that has attributes alone: each element in it is a fault.
 #[derive(Drop)]
@@ -37,6 +39,29 @@ impl Parts for Bare {
             Err(error) => Err(error),
         }
     }
+}
+
+// The texts of a rectangle's numbers.
+#[derive(Clone, Copy)]
+struct RectTexts<'a> {
+    x: Option<&'a [u8]>,
+    y: Option<&'a [u8]>,
+    w: Option<&'a [u8]>,
+    h: Option<&'a [u8]>,
+}
+
+// The texts of the numbers in some attributes, read once where they stand in this order.
+fn rect_texts(attributes: &[u8]) -> RectTexts
+    ensures x { option_map (λ v. v.now) result.x ≡ attribute (codes "xOff") (pairs attributes.now).0 }
+    ensures y { option_map (λ v. v.now) result.y ≡ attribute (codes "yOff") (pairs attributes.now).0 }
+    ensures w { option_map (λ v. v.now) result.w ≡ attribute (codes "xSize") (pairs attributes.now).0 }
+    ensures h { option_map (λ v. v.now) result.h ≡ attribute (codes "ySize") (pairs attributes.now).0 }
+{
+    let (x, rest) = attribute_front(attributes, b"xOff");
+    let (y, rest) = attribute_front(rest, b"yOff");
+    let (w, rest) = attribute_front(rest, b"xSize");
+    let (h, _) = attribute_front(rest, b"ySize");
+    RectTexts { x, y, w, h }
 }
 
 fn rect_end(seen: Seen, rect: MicroRect) -> Result<MicroRect, VrtFault>
@@ -82,13 +107,15 @@ fn rect_element<'a>(
 ) -> Result<(Result<MicroRect, VrtFault>, &'a [u8]), VrtFault>
     requires within { length bytes.now ≤ level.total }
     requires depth { level.depth < 64 }
-    ensures rect { Gives (λ x. (x.0, x.1.now)) result (read_as (rect_of (tag_view tag.entry)) (inner level.total level.depth (tag_view tag.entry) bytes.now)) }
+    ensures rect { Gives (λ x. (x.0, x.1.now)) result (read_as (rect_of (tag_view tag.entry))
+        (inner level.total level.depth (tag_view tag.entry) bytes.now)) }
     ensures shorter { IfOk result (λ x. length x.1.now ≤ length bytes.now) }
 {
-    let x = offset_in(attribute(tag.attributes, b"xOff"));
-    let y = offset_in(attribute(tag.attributes, b"yOff"));
-    let w = size_in(attribute(tag.attributes, b"xSize"));
-    let h = size_in(attribute(tag.attributes, b"ySize"));
+    let texts = rect_texts(tag.attributes);
+    let x = offset_in(texts.x);
+    let y = offset_in(texts.y);
+    let w = size_in(texts.w);
+    let h = size_in(texts.h);
     match children_of(alloc, level, tag, &mut Bare, bytes) {
         Ok((seen, rest)) => Ok((rect_by(x, y, w, h, seen), rest)),
         Err(error) => Err(error),
@@ -105,7 +132,9 @@ pub fn rect_child<'a>(
 ) -> Result<(Result<(), VrtFault>, &'a [u8]), VrtFault>
     requires within { length bytes.now ≤ level.total }
     requires depth { level.depth < 64 }
-    ensures child { Gives (λ x. (kept_of place.new x.0, x.1.now)) result (read_as (λ f. once place.old (rect_of (tag_view tag.entry) f) Some) (inner level.total level.depth (tag_view tag.entry) bytes.now)) }
+    ensures child { Gives (λ x. (kept_of place.new x.0, x.1.now)) result
+        (read_as (λ f. once place.old (rect_of (tag_view tag.entry) f) Some)
+        (inner level.total level.depth (tag_view tag.entry) bytes.now)) }
     ensures shorter { IfOk result (λ x. length x.1.now ≤ length bytes.now) }
 {
     match rect_element(alloc, level, tag, bytes) {

@@ -1,9 +1,12 @@
 // Sources of a band.
-ghost use Rattle.std.specs.Prelude.{◌≡◌, ◌<◌, ◌≤◌, ◌-◌, ◌^◌, length, IfOk, IfSome, unsigned_abs, if◌then◌else◌, false, Result, Ok, Err, Option, None, Some, true};
+ghost use Rattle.std.specs.Prelude.{◌≡◌, ◌<◌, ◌≤◌, ◌-◌, ◌^◌, length, IfOk, IfSome, unsigned_abs, if◌then◌else◌, false};
+ghost use Rattle.std.specs.Prelude.{Result, Ok, Err, Option, None, Some, true};
 ghost use Rattle.std.specs.Option.{option_map, unwrap_or};
 ghost use Rattle.vrt_markup.specs.Forest.{inner, read_as, text_of, child_of};
 ghost use Rattle.vrt_profile.specs.Means as means;
-ghost use Rattle.vrt_profile.specs.Means.{flag_in, flag_by, file_of, source_band_by, nodata_by, scale_text, lut_by, with_file, number_parts, source_step, no_parts, is_like, is_near, source_end, source_of, value_in};
+ghost use Rattle.vrt_profile.specs.Means.{flag_in, flag_by, file_of, source_band_by, nodata_by, scale_text, lut_by};
+ghost use Rattle.vrt_profile.specs.Means.{with_file, number_parts, source_step, no_parts, is_like, is_near, source_end};
+ghost use Rattle.vrt_profile.specs.Means.{source_of, value_in};
 ghost use Rattle.vrt_profile.specs.Seen.{file_by, source_by};
 ghost use Rattle.vrt_profile.specs.Values.{IsRectangle, IsLut};
 ghost use Rattle.vrt_markup.specs.Views.{plain_text, tag_view};
@@ -91,7 +94,8 @@ fn file_element<'a>(
 ) -> Result<(Result<File, VrtFault>, &'a [u8]), VrtFault>
     requires within { length bytes.now ≤ level.total }
     requires depth { level.depth < 64 }
-    ensures file { Gives (λ x. (x.0, x.1.now)) result (read_as (file_of (tag_view tag.entry)) (inner level.total level.depth (tag_view tag.entry) bytes.now)) }
+    ensures file { Gives (λ x. (x.0, x.1.now)) result (read_as (file_of (tag_view tag.entry))
+        (inner level.total level.depth (tag_view tag.entry) bytes.now)) }
     ensures shorter { IfOk result (λ x. length x.1.now ≤ length bytes.now) }
 {
     let flag = flag_in(attribute(tag.attributes, b"relativeToVRT"));
@@ -185,7 +189,8 @@ impl SourceParts {
         part: NumberPart,
         words: &Words,
     ) -> Result<Result<(), VrtFault>, VrtFault>
-        ensures parts { Gives (λ k. kept_of (source_view self.new) k) result (Ok (number_parts (source_view self.old) (plain_text words.now.text) words.now.child part)) }
+        ensures parts { Gives (λ k. kept_of (source_view self.new) k) result
+            (Ok (number_parts (source_view self.old) (plain_text words.now.text) words.now.child part)) }
         ensures same { self.new.complex ≡ self.old.complex }
     {
         match part {
@@ -211,7 +216,9 @@ impl SourceParts {
     ) -> Result<(Result<(), VrtFault>, &'a [u8]), VrtFault>
         requires within { length bytes.now ≤ level.total }
         requires depth { level.depth < 64 }
-        ensures child { Gives (λ x. (kept_of (source_view self.new) x.0, x.1.now)) result (read_as (λ f. number_parts (source_view self.old) (text_of f) (child_of f) part) (inner level.total level.depth (tag_view tag.entry) bytes.now)) }
+        ensures child { Gives (λ x. (kept_of (source_view self.new) x.0, x.1.now)) result
+            (read_as (λ f. number_parts (source_view self.old) (text_of f) (child_of f) part)
+            (inner level.total level.depth (tag_view tag.entry) bytes.now)) }
         ensures shorter { IfOk result (λ x. length x.1.now ≤ length bytes.now) }
         ensures same { self.new.complex ≡ self.old.complex }
     {
@@ -234,7 +241,9 @@ impl SourceParts {
     ) -> Result<(Result<(), VrtFault>, &'a [u8]), VrtFault>
         requires within { length bytes.now ≤ level.total }
         requires depth { level.depth < 64 }
-        ensures child { Gives (λ x. (kept_of (source_view self.new) x.0, x.1.now)) result (read_as (λ f. with_file (source_view self.old) (file_of (tag_view tag.entry) f)) (inner level.total level.depth (tag_view tag.entry) bytes.now)) }
+        ensures child { Gives (λ x. (kept_of (source_view self.new) x.0, x.1.now)) result
+            (read_as (λ f. with_file (source_view self.old) (file_of (tag_view tag.entry) f))
+            (inner level.total level.depth (tag_view tag.entry) bytes.now)) }
         ensures shorter { IfOk result (λ x. length x.1.now ≤ length bytes.now) }
         ensures same { self.new.complex ≡ self.old.complex }
     {
@@ -419,7 +428,8 @@ fn source_by(
     seen: Seen,
     parts: SourceParts,
 ) -> Result<Result<Source, VrtFault>, VrtFault>
-    ensures source { Gives (λ x. x) result (Ok (source_by complex near seen.blank (kept_of (source_view parts) seen.kept))) }
+    ensures source { Gives (λ x. x) result (Ok (source_by complex near seen.blank
+        (kept_of (source_view parts) seen.kept))) }
 {
     if !(near && seen.blank) {
         return Ok(Err(VrtFault::Unsupported));
@@ -440,11 +450,12 @@ pub fn source_element<'a>(
 ) -> Result<(Result<Source, VrtFault>, &'a [u8]), VrtFault>
     requires within { length bytes.now ≤ level.total }
     requires depth { level.depth < 64 }
-    ensures source { Gives (λ x. (x.0, x.1.now)) result (read_as (source_of complex (tag_view tag.entry)) (inner level.total level.depth (tag_view tag.entry) bytes.now)) }
+    ensures source { Gives (λ x. (x.0, x.1.now)) result (read_as (source_of complex (tag_view tag.entry))
+        (inner level.total level.depth (tag_view tag.entry) bytes.now)) }
     ensures shorter { IfOk result (λ x. length x.1.now ≤ length bytes.now) }
 {
-    let near = is_near(attribute(tag.attributes, b"resampling"));
     let mut parts = no_parts(complex);
+    let near = is_near(attribute(tag.attributes, b"resampling"));
     match children_of(alloc, level, tag, &mut parts, bytes) {
         Ok((seen, rest)) => match source_by(alloc, complex, near, seen, parts) {
             Ok(source) => Ok((source, rest)),

@@ -1,5 +1,6 @@
 // Names of sources: resolved from a document's folder, and related to it.
-ghost use Rattle.std.specs.Prelude.{◌≡◌, ◌↔◌, ◌<◌, ◌++◌, ◌∷◌, ◌≢◌, Err, true, List, ℕ, length, option_map, IfOk, IsErrOf};
+ghost use Rattle.std.specs.Prelude.{◌≡◌, ◌↔◌, ◌<◌, ◌++◌, ◌∷◌, ◌≢◌, Err, true, List, ℕ, length, option_map};
+ghost use Rattle.std.specs.Prelude.{string_bytes, IfOk, IsErrOf};
 ghost use Rattle.outside.specs.Paths.{normal, IsName, is_absolute};
 ghost use Rattle.vrt_markup.specs.Items.{strip, byte_at};
 ghost use Rattle.vrt_profile.specs.Values.{SourceValue};
@@ -42,13 +43,14 @@ pub fn resolved_len(base: &Name, source: &Source) -> u64
 }
 
 // A text in a folder.
-fn in_folder(alloc: Global, folder: &str, text: &str) -> Result<Text, AllocError>
-    ensures text { IfOk result (λ all. all ≡ folder.now ++ 47 ∷ text.now) }
+fn in_folder(alloc: Global, folder: &str, text: &str) -> Result<String, AllocError>
+    ensures text { IfOk result (λ all. string_bytes all ≡ folder.now ++ 47 ∷ text.now) }
 {
-    let mut all = String::from_str(alloc, folder)?;
+    let mut all = String::with_capacity(alloc, folder.len() + 1 + text.len())?;
+    all.push_str(folder)?;
     all.push('/')?;
     all.push_str(text)?;
-    Text::new(alloc, all.as_str())
+    Ok(all)
 }
 
 /// The name of a source of the document with the name `base`. Where the source's text is relative,
@@ -135,6 +137,8 @@ pub fn relate(alloc: Global, base: &Name, name: &Name) -> Result<(bool, Text), A
 /// A source that names a file as `relate` does resolves to that file's name, and no limit is passed.
 #[tactic(auto, using(crate::proofs::Related::related_text, crate::proofs::Related::related_name))]
 pub fn related_resolves()
-    ensures text { (base name : List ℕ) → IsName name → (s : SourceValue) → s.relative ≡ (related base name).0 → s.file ≡ (related base name).1 → resolved_text base s ≡ name }
-    ensures name { (base name : List ℕ) → IsName name → (s : SourceValue) → s.relative ≡ (related base name).0 → s.file ≡ (related base name).1 → normal (resolved_text base s) ≡ name }
+    ensures text { (base name : List ℕ) → IsName name → (s : SourceValue) → s.relative ≡ (related base name).0 →
+        s.file ≡ (related base name).1 → resolved_text base s ≡ name }
+    ensures name { (base name : List ℕ) → IsName name → (s : SourceValue) → s.relative ≡ (related base name).0 →
+        s.file ≡ (related base name).1 → normal (resolved_text base s) ≡ name }
 {}

@@ -1,5 +1,6 @@
 -- The one text that is written of a document.
-use Rattle.std.specs.Prelude.{◌≡◌, ℕ, ℤ, pos, suc, ◌*◌, ◌*ℤ◌, ◌-ℤ◌, ◌==◌, Bool, List, [], ◌∷◌, ◌++◌, flat_map, replicate, codes, Option, Some, None, if◌then◌else◌, unsigned_abs}
+use Rattle.std.specs.Prelude.{◌≡◌, ℕ, ℤ, pos, suc, ◌*◌, ◌*ℤ◌, ◌-ℤ◌, ◌==◌, Bool, List, [], ◌∷◌, ◌++◌, flat_map}
+use Rattle.std.specs.Prelude.{replicate, codes, Option, Some, None, if◌then◌else◌, unsigned_abs}
 use Rattle.std.specs.Fmt.{decimal, signed_decimal}
 use Rattle.geotransform.specs.Print.{short_text}
 use Rattle.geotransform.specs.Geo.{Transform}
@@ -51,7 +52,8 @@ written level nothing = []
 written level (both a b) = written level a ++ written level b
 written level (words name pairs text) = tag_text level name pairs ++ (62 ∷ text ++ end_text name)
 written level (empty name pairs) = tag_text level name pairs ++ codes "/>\n"
-written level (group name pairs inside) = tag_text level name pairs ++ (codes ">\n" ++ (written (suc level) inside ++ (indent level ++ end_text name)))
+written level (group name pairs inside) = tag_text level name pairs ++
+    (codes ">\n" ++ (written (suc level) inside ++ (indent level ++ end_text name)))
 
 -- Numbers have no trailing zeros. A millionth is 180,000,000,000 ticks, a part of 10^12 is 180,000.
 unfoldable pub micro_text : ℤ → List ℕ
@@ -79,13 +81,15 @@ abbrev pub flag_text : Bool → List ℕ
 flag_text relative = if relative then codes "1" else codes "0"
 
 abbrev pub file_markup : Bool → List ℕ → Markup
-file_markup relative file = words (codes "SourceFilename") (pair (codes "relativeToVRT") (flag_text relative) ∷ []) (escaped file)
+file_markup relative file =
+    words (codes "SourceFilename") (pair (codes "relativeToVRT") (flag_text relative) ∷ []) (escaped file)
 
 abbrev pub source_band_markup : ℕ → Markup
 source_band_markup n = words (codes "SourceBand") [] (decimal n)
 
 abbrev pub rectangle_pairs : Rectangle → List Pair
-rectangle_pairs r = pair (codes "xOff") (micro_text r.x) ∷ pair (codes "yOff") (micro_text r.y) ∷ pair (codes "xSize") (micro_text r.w) ∷ pair (codes "ySize") (micro_text r.h) ∷ []
+rectangle_pairs r = pair (codes "xOff") (micro_text r.x) ∷ pair (codes "yOff") (micro_text r.y) ∷ pair (codes "xSize")
+    (micro_text r.w) ∷ pair (codes "ySize") (micro_text r.h) ∷ []
 
 abbrev pub rectangle_markup : List ℕ → Option Rectangle → Markup
 rectangle_markup name None = nothing
@@ -105,10 +109,13 @@ lut_markup (Some pairs) = words (codes "LUT") [] (lut_text pairs)
 
 -- what is taken of the source's file, and what becomes of its pixels
 abbrev pub place_markup : SourceValue → Markup
-place_markup s = both (file_markup s.relative s.file) (both (source_band_markup s.band) (both (rectangle_markup (codes "SrcRect") s.src) (rectangle_markup (codes "DstRect") s.dst)))
+place_markup s = both (file_markup s.relative s.file) (both (source_band_markup s.band)
+    (both (rectangle_markup (codes "SrcRect") s.src) (rectangle_markup (codes "DstRect") s.dst)))
 
 abbrev pub scaling_markup : SourceValue → Markup
-scaling_markup s = both (nodata_markup (codes "NODATA") s.nodata) (both (scale_markup (codes "ScaleOffset") (pos 0) s.offset) (both (scale_markup (codes "ScaleRatio") (pos trillion) s.ratio) (lut_markup s.lut)))
+scaling_markup s = both (nodata_markup (codes "NODATA") s.nodata)
+    (both (scale_markup (codes "ScaleOffset") (pos 0) s.offset)
+    (both (scale_markup (codes "ScaleRatio") (pos trillion) s.ratio) (lut_markup s.lut)))
 
 abbrev pub source_name : Bool → List ℕ
 source_name complex = if complex then codes "ComplexSource" else codes "SimpleSource"
@@ -125,7 +132,8 @@ abbrev pub band_pairs : ℕ → PixelType → List Pair
 band_pairs number kind = pair (codes "dataType") (name_of kind) ∷ pair (codes "band") (decimal number) ∷ []
 
 abbrev pub band_markup : ℕ → BandValue → Markup
-band_markup number b = group (codes "VRTRasterBand") (band_pairs number b.kind) (both (nodata_markup (codes "NoDataValue") b.nodata) (sources_markup b.sources))
+band_markup number b = group (codes "VRTRasterBand") (band_pairs number b.kind)
+    (both (nodata_markup (codes "NoDataValue") b.nodata) (sources_markup b.sources))
 
 abbrev pub bands_markup : ℕ → List BandValue → Markup
 bands_markup number [] = nothing
@@ -169,7 +177,8 @@ pub record AppendsPairs (old new : List ℕ) (pairs : List Pair) : Type 0 where
 
 -- the same of what stands before a file's name
 pub record FileOpens (old new : List ℕ) (relative : Bool) : Type 0 where
-  pub is : new ≡ old ++ (tag_text 3 (codes "SourceFilename") (pair (codes "relativeToVRT") (flag_text relative) ∷ []) ++ 62 ∷ [])
+  pub is : new ≡ old ++ (tag_text 3 (codes "SourceFilename") (pair (codes "relativeToVRT") (flag_text relative) ∷ []) ++
+      62 ∷ [])
 
 -- the same of a start line
 pub record AppendsTag (old new : List ℕ) (level : ℕ) (name : List ℕ) (pairs : List Pair) : Type 0 where

@@ -1,10 +1,15 @@
 // The text of a document: its elements, from the dataset to the parts of a source.
-ghost use Rattle.std.specs.Prelude.{◌≡◌, ℕ, ℤ, pos, suc, ◌<◌, ◌≤◌, ◌++◌, ◌∷◌, [], codes, List, Option, Some, None, OnOk, OnErr, length, flat_map, option_map};
+ghost use Rattle.std.specs.Prelude.{◌≡◌, ℕ, ℤ, pos, suc, ◌<◌, ◌≤◌, ◌++◌, ◌∷◌, [], codes, List, Option, Some, None};
+ghost use Rattle.std.specs.Prelude.{OnOk, OnErr, length, flat_map, option_map};
 ghost use Rattle.std.specs.List.{All};
 ghost use Rattle.lists_and_answers.specs.Growth.{KeepsFront};
 ghost use Rattle.geotransform.specs.Print.{short_text};
 ghost use Rattle.vrt_profile.specs.Values.{trillion, IsLut, IsPair};
-ghost use Rattle.vrt_writing.specs.Spelled.{Appends, AppendsPairs, AppendsTag, joined_text, lut_pair_text, next_pair_text, source_text, band_text, lut_text, lut_markup, place_markup, scaling_markup, source_name, source_markup, sources_markup, band_pairs, band_markup, bands_markup, srs_markup, geo_text, geo_markup, size_pairs, parts_markup, spelled};
+ghost use Rattle.vrt_writing.specs.Spelled.{Appends, AppendsPairs, AppendsTag, joined_text, lut_pair_text};
+ghost use Rattle.vrt_writing.specs.Spelled.{next_pair_text, source_text, band_text, lut_text, lut_markup, place_markup};
+ghost use Rattle.vrt_writing.specs.Spelled.{scaling_markup, source_name, source_markup, sources_markup, band_pairs};
+ghost use Rattle.vrt_writing.specs.Spelled.{band_markup, bands_markup, srs_markup, geo_text, geo_markup, size_pairs};
+ghost use Rattle.vrt_writing.specs.Spelled.{parts_markup, spelled};
 
 use crate::lines::{
     push_file, push_nodata, push_number_line, push_number_pair, push_open, push_rectangle,
@@ -181,7 +186,8 @@ fn push_band_pairs(kind: PixelType, number: u64, out: &mut Vec<u8>) -> Result<()
 
 #[tactic(auto, using(crate::proofs::Listed::tag_made, crate::proofs::Pieces::keeps_more, crate::proofs::Pieces::keeps_then_pairs, crate::proofs::Pieces::keeps_same))]
 fn push_band_tag(kind: PixelType, number: u64, out: &mut Vec<u8>) -> Result<(), AllocError>
-    ensures ok { OnOk result (AppendsTag out.old.items out.new.items 1 (codes "VRTRasterBand") (band_pairs number kind)) }
+    ensures ok { OnOk result (AppendsTag out.old.items out.new.items 1 (codes "VRTRasterBand")
+        (band_pairs number kind)) }
     ensures err { OnErr result (KeepsFront out.old.items out.new.items) }
 {
     push_start(1, b"VRTRasterBand", out)?;

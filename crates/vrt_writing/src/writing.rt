@@ -1,5 +1,6 @@
 // Writing a document: line by line, each with two spaces in front for each level.
-ghost use Rattle.std.specs.Prelude.{◌≡◌, ℕ, ℤ, pos, suc, ◌<◌, ◌≤◌, ◌*◌, ◌*ℤ◌, ◌^◌, ◌++◌, [], ◌∷◌, codes, flat_map, List, Option, OnOk, OnErr, unsigned_abs};
+ghost use Rattle.std.specs.Prelude.{◌≡◌, ℕ, ℤ, pos, suc, ◌<◌, ◌≤◌, ◌*◌, ◌*ℤ◌, ◌^◌, ◌++◌, [], ◌∷◌, codes, flat_map};
+ghost use Rattle.std.specs.Prelude.{List, Option, OnOk, OnErr, unsigned_abs};
 ghost use Rattle.std.specs.Fmt.{decimal, signed_decimal};
 ghost use Rattle.lists_and_answers.specs.Growth.{KeepsFront};
 ghost use Rattle.geotransform.specs.Print.{short_text};

@@ -27,7 +27,8 @@ pub fn written_end_reads_back()
 /// nothing else stands in the element.
 #[tactic(auto, using(crate::proofs::Reread::words_again, crate::proofs::Reread::words_text, crate::proofs::Reread::words_child))]
 pub fn written_words_read_back()
-    ensures element { (total depth : ℕ) (name t r : List ℕ) → IsTagName name → nodes total depth name (escaped t ++ (60 ∷ 47 ∷ name ++ 62 ∷ r)) ≡ Ok (words_forest t, r) }
+    ensures element { (total depth : ℕ) (name t r : List ℕ) → IsTagName name →
+        nodes total depth name (escaped t ++ (60 ∷ 47 ∷ name ++ 62 ∷ r)) ≡ Ok (words_forest t, r) }
     ensures text { (t : List ℕ) → text_of (words_forest t) ≡ t }
     ensures child { (t : List ℕ) → child_of (words_forest t) ≡ None }
 {}
@@ -43,7 +44,8 @@ pub fn written_numbers_read_back()
 /// A written attribute is read as the attribute.
 #[tactic(auto, using(crate::proofs::Tags::pair_again))]
 pub fn written_pair_reads_back()
-    ensures same { (p : Pair) → (r : List ℕ) → IsTagName p.name → IsValue p.value → pair_at (32 ∷ p.name ++ (61 ∷ 34 ∷ p.value ++ 34 ∷ r)) ≡ Some (p, r) }
+    ensures same { (p : Pair) → (r : List ℕ) → IsTagName p.name → IsValue p.value →
+        pair_at (32 ∷ p.name ++ (61 ∷ 34 ∷ p.value ++ 34 ∷ r)) ≡ Some (p, r) }
 {}
 
 /// The text that is written of a document is read as that document.

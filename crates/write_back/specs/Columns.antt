@@ -24,13 +24,15 @@ is_elevation n = is_in Int16 n && int_le (negsuc 32766) n
 abbrev pub IsBegun : Head → List ℕ → ℕ → Type 0
 IsBegun h bytes x = get_or bytes (record_of h x) 0 ≡ 170
 
--- What always holds of a cell's draft: the head's bytes stand in front, each record that begins with 170 is whole with its
--- sum, and the elevations of each other one are 0.
+-- What always holds of a cell's draft: the head's bytes stand in front, each record that begins with 170 is whole with
+-- its sum, and the elevations of each other one are 0.
 pub record IsCell (c : Cell) (bytes : List ℕ) : Type 0 where
   pub small : AreBytes bytes
   pub front : take (record_of c.head 0) bytes ≡ c.front
-  pub whole : (x : ℕ) → x < c.head.lines → IsBegun c.head bytes x → part (record_of c.head x) (record_len c.head) bytes ≡ record_bytes x (column_of c.head bytes x)
-  pub zeros : (x y : ℕ) → x < c.head.lines → y < c.head.points → (IsBegun c.head bytes x → ⊥) → dted_at c.head bytes x y ≡ pos 0
+  pub whole : (x : ℕ) → x < c.head.lines → IsBegun c.head bytes x →
+      part (record_of c.head x) (record_len c.head) bytes ≡ record_bytes x (column_of c.head bytes x)
+  pub zeros : (x y : ℕ) → x < c.head.lines → y < c.head.points → (IsBegun c.head bytes x → ⊥) →
+      dted_at c.head bytes x y ≡ pos 0
 
 -- room for the bytes of a record, and the bytes in front of the records
 pub record FitsCell (h : Head) (front bytes : ℕ) : Type 0 where

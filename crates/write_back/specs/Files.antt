@@ -1,5 +1,6 @@
 -- The files that an output becomes.
-use Rattle.std.specs.Prelude.{◌≡◌, ◌<◌, ℕ, ℤ, zero, suc, ◌+◌, ◌-◌, ◌*◌, ◌/◌, ◌%◌, List, [], ◌∷◌, ◌++◌, length, map, take, Option, Some, None, IsSome, Result, Ok, Err}
+use Rattle.std.specs.Prelude.{◌≡◌, ◌<◌, ℕ, ℤ, zero, suc, ◌+◌, ◌-◌, ◌*◌, ◌/◌, ◌%◌, List, [], ◌∷◌, ◌++◌, length, map}
+use Rattle.std.specs.Prelude.{take, Option, Some, None, IsSome, Result, Ok, Err}
 use Rattle.std.specs.List.{flat_map, range_with_len}
 use Rattle.std.specs.FinMap.{insert}
 use Rattle.outside.specs.Outside.{Files}
@@ -22,7 +23,8 @@ use Rattle.dted_records.specs.Written.{record_bytes}
 use Rattle.write_back.specs.Columns.{Cell}
 use Rattle.write_back.specs.Forms.{cut_of, needed_of, seen, under, IsFormed, IsMet, HasPixel}
 use Rattle.write_back.specs.Grids.{front_of, lines_text}
-use Rattle.write_back.specs.View.{Output, Blocks, Rows, SheetView, TargetView, sheet_in, shown, shown_on, IsSoundOn, IsRightOn, IsMetOn}
+use Rattle.write_back.specs.View.{Output, Blocks, Rows, SheetView, TargetView, sheet_in, shown, shown_on, IsSoundOn}
+use Rattle.write_back.specs.View.{IsRightOn, IsMetOn}
 
 -- nothing but samples stands in a file of the head
 abbrev pub IsTightBy : Layout → Head → Type 0
@@ -52,7 +54,9 @@ line_by Bsq h i = i / h.size.w % h.size.h
 
 -- the bytes of raw data: those of the samples, in the order of the file
 abbrev pub raw_bytes : Head → (ℕ → ℕ → ℕ → ℤ) → List ℕ
-raw_bytes h samples = flat_map (λ i. sample_bytes h (samples (band_by h.layout h i) (column_by h.layout h i) (line_by h.layout h i))) (range_with_len 0 (h.bands * h.size.h * h.size.w))
+raw_bytes h samples =
+    flat_map (λ i. sample_bytes h (samples (band_by h.layout h i) (column_by h.layout h i) (line_by h.layout h i)))
+    (range_with_len 0 (h.bands * h.size.h * h.size.w))
 
 -- a line and a column of the first band
 abbrev pub line_at : (ℕ → ℕ → ℕ → ℤ) → ℕ → ℕ → List ℤ
@@ -67,7 +71,8 @@ tile_bytes side samples = flat_map (λ y. row_bytes (line_at samples side y)) (r
 
 -- the bytes of a cell: its head, and the records of its columns from west to east
 abbrev pub cell_bytes : Cell → (ℕ → ℕ → ℕ → ℤ) → List ℕ
-cell_bytes c samples = c.front ++ flat_map (λ x. record_bytes x (column_at samples c.head.points x)) (range_with_len 0 c.head.lines)
+cell_bytes c samples =
+    c.front ++ flat_map (λ x. record_bytes x (column_at samples c.head.points x)) (range_with_len 0 c.head.lines)
 
 -- the text of a grid: its head, and its lines from north to south
 abbrev pub grid_text : GridForm → (ℕ → ℕ → ℕ → ℤ) → List ℕ
@@ -114,10 +119,12 @@ published_of n (Err e) = e.published
 -- a header's draft, by what it tells and its name, is for the text and the name of an output's header
 abbrev pub HasHeader : Option (List ℕ) → Option Files → List ℕ → Option (Option (List ℕ) × List ℕ) → Type 0
 HasHeader None told name header = header ≡ None
-HasHeader (Some text) told name header = (x : Option (List ℕ) × List ℕ) × (header ≡ Some x) × (x.1 ≡ header_of name) × ((m : Files) → told ≡ Some m → x.0 ≡ Some text)
+HasHeader (Some text) told name header = (x : Option (List ℕ) × List ℕ) × (header ≡ Some x) × (x.1 ≡ header_of name) ×
+    ((m : Files) → told ≡ Some m → x.0 ≡ Some text)
 
 -- what is told of a header's draft, and its name
-abbrev pub header_state : {D : Type 0} → (D → Option (List ℕ)) → (D → List ℕ) → Option D → Option (Option (List ℕ) × List ℕ)
+abbrev pub header_state : {D : Type 0} → (D → Option (List ℕ)) → (D → List ℕ) → Option D →
+    Option (Option (List ℕ) × List ℕ)
 header_state bytes name None = None
 header_state bytes name (Some d) = Some (bytes d, name d)
 
@@ -167,7 +174,8 @@ IsWholeOn (Rows g) s = s.lines ≡ g.size.h
 
 -- the bytes of an output that is whole
 pub record HasBytes (told : Option Files) (old : SheetView) (draft : Option (List ℕ)) : Type 0 where
-  pub all : IsSome told → IsForm old.output → IsWholeOn old.output old → draft ≡ Some (bytes_of old.output (shown_on old.output old.pool old.draft))
+  pub all : IsSome told → IsForm old.output → IsWholeOn old.output old →
+      draft ≡ Some (bytes_of old.output (shown_on old.output old.pool old.draft))
 
 abbrev pub IsWhole : TargetView → Type 0
 IsWhole t = IsWholeOn t.output (sheet_in t)
@@ -176,9 +184,11 @@ IsWhole t = IsWholeOn t.output (sheet_in t)
 abbrev pub files_in : TargetView → List (List ℕ × List ℕ)
 files_in t = files_of t.output t.name (shown t)
 
--- over a folder that tells its names, where a target was whole, the first published of its files were put under their names, and all other names keep their bytes
+-- over a folder that tells its names, where a target was whole, the first published of its files were put under their
+-- names, and all other names keep their bytes
 abbrev pub Publishes : Option Files → TargetView → Result (Unit {0}) CloseFault → Option Files → Type 0
-Publishes old t result new = (m : Files) → old ≡ Some m → (t.fault ≡ None → IsWhole t) → new ≡ Some (with_files (take (published_of (length (files_in t)) result) (files_in t)) m)
+Publishes old t result new = (m : Files) → old ≡ Some m → (t.fault ≡ None → IsWhole t) →
+    new ≡ Some (with_files (take (published_of (length (files_in t)) result) (files_in t)) m)
 
 -- the bytes have the length that an output must have, hold these samples, and tell of each block that was met
 pub record HasSamples (w : Writer) (samples : ℕ → ℕ → ℕ → ℤ) (met : ℕ → ℕ → Type 0) (bytes : List ℕ) : Type 0 where

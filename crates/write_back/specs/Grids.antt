@@ -21,7 +21,8 @@ pub record HasRows (g : GridForm) (lines : ℕ) (draft : Option (List ℕ)) (row
 
 -- the sample in column x, line y: the value of that token of the body, and 0 where there is none yet
 abbrev pub grid_at : GridForm → List ℕ → ℕ → ℕ → ℤ
-grid_at g bytes x y = get_or (row_of (g.size.w * g.size.h) (drop (length (front_of g)) bytes)) (y * g.size.w + x) (pos 0)
+grid_at g bytes x y =
+    get_or (row_of (g.size.w * g.size.h) (drop (length (front_of g)) bytes)) (y * g.size.w + x) (pos 0)
 
 abbrev pub grid_in : GridForm → Option (List ℕ) → ℕ → ℕ → ℤ
 grid_in g None x y = pos 0

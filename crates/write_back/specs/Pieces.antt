@@ -1,6 +1,7 @@
--- How the lines of a raw file are written: in pieces, through room that is used again. A line is one of a band, or of all
--- bands where they stand pixel by pixel.
-use Rattle.std.specs.Prelude.{◌≡◌, get_or, ℕ, ℤ, pos, length, map, drop, ◌+◌, ◌-◌, ◌*◌, ◌/◌, ◌<◌, ◌≤◌, Bool, true, false, List, None, if◌then◌else◌}
+-- How the lines of a raw file are written: in pieces, through room that is used again. A line is one of a band, or of
+-- all bands where they stand pixel by pixel.
+use Rattle.std.specs.Prelude.{◌≡◌, get_or, ℕ, ℤ, pos, length, map, drop, ◌+◌, ◌-◌, ◌*◌, ◌/◌, ◌<◌, ◌≤◌, Bool, true}
+use Rattle.std.specs.Prelude.{false, List, None, if◌then◌else◌}
 use Rattle.std.specs.List.{range_with_len}
 use Rattle.esri_hdr.specs.declared.header_parts.Layout.{Layout}
 use Rattle.esri_hdr.specs.declared.header_parts.Layout.TheVariants.{Bil, Bip, Bsq}
@@ -36,7 +37,11 @@ spots_of h = spots_by h.layout h.size.w h.bands
 
 -- where the samples of a band from a column on stand in the line that holds them
 abbrev pub lane_in : Bool → ℕ → ℕ → ℕ → Lane
-lane_in woven bands band x = if woven then record { band = 0; start = x * bands + band; stride = bands } else record { band = band; start = x; stride = 1 }
+lane_in woven bands band x = if woven then record {
+  band = 0;
+  start = x * bands + band;
+  stride = bands;
+} else record { band = band; start = x; stride = 1 }
 
 -- the place of a sample of such a line: nothing stands between one and the next
 abbrev pub spot_place : Head → ℕ → ℕ → ℕ → ℕ
@@ -52,7 +57,22 @@ spots_from h file band x y n = map (λ i. spot_at h file band (x + i) y) (range_
 
 -- a head of one pixel of one band, whose samples are written as those of another one
 abbrev pub plain_of : Head → Head
-plain_of h = record { size = record { w = 1; h = 1 }; bands = 1; kind = h.kind; big = h.big; layout = Bsq; skip = 0; band_row = sample_len h.kind; total_row = sample_len h.kind; gap = 0; nodata = None; geo = None }
+plain_of h = record {
+  size = record {
+    w = 1;
+    h = 1;
+  };
+  bands = 1;
+  kind = h.kind;
+  big = h.big;
+  layout = Bsq;
+  skip = 0;
+  band_row = sample_len h.kind;
+  total_row = sample_len h.kind;
+  gap = 0;
+  nodata = None;
+  geo = None;
+}
 
 -- the bytes from the first byte of a line of a band to its last
 abbrev pub span_of : Head → ℕ
@@ -91,7 +111,8 @@ pub record IsRunWritten (h : Head) (band y x n : ℕ) (line : List ℤ) (old new
   pub len : length new ≡ length old
   pub small : AreBytes old → AreBytes new
   pub here : (u : ℕ) → x ≤ u → u < x + n → spot_at h new band u y ≡ get_or line u (pos 0)
-  pub others : (k u v : ℕ) → IsLineSpot h k u v → (IsInRun band y x n k u v → ⊥) → spot_at h new k u v ≡ spot_at h old k u v
+  pub others : (k u v : ℕ) → IsLineSpot h k u v → (IsInRun band y x n k u v → ⊥) →
+      spot_at h new k u v ≡ spot_at h old k u v
 
 -- room for the bytes of a line of a tile
 pub record FitsSide (side bytes : ℕ) : Type 0 where

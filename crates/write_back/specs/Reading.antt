@@ -44,8 +44,8 @@ IsReadBackBy SrtmHgt p = Unit {0}
 IsReadBackBy AaiGrid p = (read : Transform) × IsReadAgain p.size (placing_of p.size p.geo) read
 IsReadBackBy Vrt p = Unit {0}
 
--- what a name and a place must be for the files of a plan to be read again: the name's extension is one of the driver, and
--- that of a tile is its corner's name
+-- what a name and a place must be for the files of a plan to be read again: the name's extension is one of the driver,
+-- and that of a tile is its corner's name
 pub record IsReadable (p : Planned) (name : List ℕ) : Type 0 where
   pub extension : IsNamedFor p name
   pub corner : holds_name p.driver name p.size p.geo ≡ true
@@ -61,5 +61,7 @@ pub record IsDecoded (m : Files) (verify : Bool) (name : List ℕ) (p : Planned)
   pub accepted : head_in m verify name ≡ Ok head
   pub size_is : head.size ≡ p.size
   pub count_is : length head.bands ≡ length p.bands
-  pub bands_are : (k : ℕ) (b : OutBand) (c : BandHead) → slice_get p.bands k ≡ Some b → slice_get head.bands k ≡ Some c → IsBandOf p.driver b c
-  pub pixels_are : (k x y : ℕ) → k < length p.bands → x < p.size.w → y < p.size.h → pixel_of_name m name k x y ≡ samples k x y
+  pub bands_are : (k : ℕ) (b : OutBand) (c : BandHead) → slice_get p.bands k ≡ Some b →
+      slice_get head.bands k ≡ Some c → IsBandOf p.driver b c
+  pub pixels_are : (k x y : ℕ) → k < length p.bands → x < p.size.w → y < p.size.h →
+      pixel_of_name m name k x y ≡ samples k x y

@@ -15,9 +15,25 @@ known_in bytes s = known s.writer s.written (bytes s.draft)
 
 -- a store with its folder and a count of written blocks
 abbrev pub state_of : {F File D : Type 0} → Ghosts F File D → F → Store F File D → ℕ → StoreState
-state_of calls folder s writes = store_state (calls.names folder) s.pool (known_in calls.draft_bytes s) (calls.draft_len s.draft) (calls.draft_name s.draft) (calls.faults folder) (calls.read_calls folder) (calls.write_calls folder) writes
+state_of calls folder s writes = store_state (calls.names folder) s.pool (known_in calls.draft_bytes s)
+    (calls.draft_len s.draft) (calls.draft_name s.draft) (calls.faults folder) (calls.read_calls folder)
+    (calls.write_calls folder) writes
 
 -- blocks have a pool, and lines a count
 abbrev pub sheet_of : {F File D : Type 0} → (D → Option (List ℕ)) → (D → ℕ) → (D → List ℕ) → Kind F File D → SheetView
-sheet_of bytes len name (kinds.Blocks s) = record { output = Blocks s.writer; pool = s.pool; draft = known_in bytes s; len = len s.draft; name = name s.draft; lines = 0 }
-sheet_of bytes len name (kinds.Rows r) = record { output = Rows r.form; pool = pool_view [] 0; draft = bytes r.draft; len = len r.draft; name = name r.draft; lines = r.lines }
+sheet_of bytes len name (kinds.Blocks s) = record {
+  output = Blocks s.writer;
+  pool = s.pool;
+  draft = known_in bytes s;
+  len = len s.draft;
+  name = name s.draft;
+  lines = 0;
+}
+sheet_of bytes len name (kinds.Rows r) = record {
+  output = Rows r.form;
+  pool = pool_view [] 0;
+  draft = bytes r.draft;
+  len = len r.draft;
+  name = name r.draft;
+  lines = r.lines;
+}

@@ -13,7 +13,8 @@ lines_of w = (cut_of w).bands * (cut_of w).blocks
 
 -- the blocks that a rectangle meets
 abbrev pub blocks_met : Bool → Rect → ℕ
-blocks_met by_columns rect = if by_columns then (if rect.h == 0 then 0 else rect.w) else (if rect.w == 0 then 0 else rect.h)
+blocks_met by_columns rect = if by_columns then (if rect.h == 0 then 0 else rect.w)
+    else (if rect.w == 0 then 0 else rect.h)
 
 abbrev pub lines_met : Writer → Rect → ℕ
 lines_met w rect = blocks_met (cut_of w).by_columns rect
@@ -31,7 +32,17 @@ pub record StoreState : Type 0 where
   pub writes : ℕ
 
 abbrev pub store_state : Option Files → PoolView → Option (List ℕ) → ℕ → List ℕ → ℕ → ℕ → ℕ → ℕ → StoreState
-store_state told pool draft len name faults reads calls writes = record { told = told; pool = pool; draft = draft; len = len; name = name; faults = faults; reads = reads; calls = calls; writes = writes }
+store_state told pool draft len name faults reads calls writes = record {
+  told = told;
+  pool = pool;
+  draft = draft;
+  len = len;
+  name = name;
+  faults = faults;
+  reads = reads;
+  calls = calls;
+  writes = writes;
+}
 
 -- what always holds of a pool of lines, also over a folder that tells nothing
 pub record IsSound (w : Writer) (pool : PoolView) : Type 0 where
@@ -45,13 +56,15 @@ pub record HasDraft (w : Writer) (pool : PoolView) (draft : Option (List ℕ)) (
   pub formed : IsFormed w bytes
   pub kept : AreKept w pool.entries bytes
 
--- what holds as long as no call was refused: the draft is as long as the raster's data, and over a folder that tells its files it tells what it holds
-pub record IsRight (w : Writer) (told : Option Files) (len : ℕ) (draft : Option (List ℕ)) (pool : PoolView) : Type 0 where
-  pub long : len ≡ needed_of w
-  pub holds : (m : Files) → told ≡ Some m → (b : List ℕ) × HasDraft w pool draft b
+-- what holds as long as no call was refused: the draft is as long as the raster's data, and over a folder that tells
+-- its files it tells what it holds
+pub record IsRight (w : Writer) (told : Option Files) (len : ℕ) (draft : Option (List ℕ)) (pool : PoolView) : Type 0
+  where
+    pub long : len ≡ needed_of w
+    pub holds : (m : Files) → told ≡ Some m → (b : List ℕ) × HasDraft w pool draft b
 
--- What each call does to a pool and a draft, whatever it answers. At most n blocks are written, and at most `slack` where
--- the pool has room for all lines; none of them takes more calls than the most that a line needs.
+-- What each call does to a pool and a draft, whatever it answers. At most n blocks are written, and at most `slack`
+-- where the pool has room for all lines; none of them takes more calls than the most that a line needs.
 pub record Serves (w : Writer) (n slack : ℕ) (before after : StoreState) : Type 0 where
   pub sound : IsSound w after.pool
   pub told : after.told ≡ before.told
@@ -64,11 +77,16 @@ pub record Serves (w : Writer) (n slack : ℕ) (before after : StoreState) : Typ
   pub few : after.writes ≤ before.writes + n
   pub bound : lines_of w ≤ before.pool.capacity → after.writes ≤ before.writes + slack
 
--- the draft keeps its length, and where it told what it holds it tells it again, the samples change as P says, and each block that was met stays so
-pub record Changes (w : Writer) (P : (ℕ → ℕ → ℕ → ℤ) → (ℕ → ℕ → ℕ → ℤ) → Type 0) (before after : StoreState) : Type 0 where
+-- the draft keeps its length, and where it told what it holds it tells it again, the samples change as P says, and each
+-- block that was met stays so
+pub record Changes (w : Writer) (P : (ℕ → ℕ → ℕ → ℤ) → (ℕ → ℕ → ℕ → ℤ) →
+    Type 0) (before after : StoreState) : Type 0 where
   pub long : after.len ≡ before.len
-  pub told : (b : List ℕ) → HasDraft w before.pool before.draft b → (c : List ℕ) × HasDraft w after.pool after.draft c × P (overlay w before.pool.entries b) (overlay w after.pool.entries c) × Stays w before.pool.entries b after.pool.entries c
+  pub told : (b : List ℕ) → HasDraft w before.pool before.draft b →
+      (c : List ℕ) × HasDraft w after.pool after.draft c × P (overlay w before.pool.entries b)
+      (overlay w after.pool.entries c) × Stays w before.pool.entries b after.pool.entries c
 
 -- so many columns of a band from one on were met, by what the draft holds now
 pub record AreMet (w : Writer) (band x n : ℕ) (before after : StoreState) : Type 0 where
-  pub each : (b c : List ℕ) → HasDraft w before.pool before.draft b → after.draft ≡ Some c → (i : ℕ) → i < n → WasMet w after.pool.entries c band (x + i)
+  pub each : (b c : List ℕ) → HasDraft w before.pool before.draft b → after.draft ≡ Some c → (i : ℕ) → i < n →
+      WasMet w after.pool.entries c band (x + i)

@@ -1,5 +1,6 @@
 -- Blocks that were never written to a draft: they are zeros in it.
-use Rattle.std.specs.Prelude.{◌≡◌, ℕ, zero, suc, ℤ, pos, negsuc, ◌+◌, ◌*◌, ◌<◌, Bool, true, false, ◌||◌, List, get_or, Option, Some, None, if◌then◌else◌}
+use Rattle.std.specs.Prelude.{◌≡◌, ℕ, zero, suc, ℤ, pos, negsuc, ◌+◌, ◌*◌, ◌<◌, Bool, true, false, ◌||◌, List, get_or}
+use Rattle.std.specs.Prelude.{Option, Some, None, if◌then◌else◌}
 use Rattle.std.specs.List.{list_all, range_with_len}
 use Rattle.write_back.specs.declared.forms.Writer.{Writer}
 use Rattle.write_back.specs.Forms.{cut_of, under}
@@ -28,10 +29,12 @@ is_blank w bytes band block = list_all is_zero (held_in w bytes band block)
 
 -- each block that wasn't written is blank
 abbrev pub AreBlank : Writer → Marks → List ℕ → Type 0
-AreBlank w m bytes = (k v : ℕ) → k < (cut_of w).bands → v < (cut_of w).blocks → is_written m k v ≡ false → IsBlank w bytes k v
+AreBlank w m bytes = (k v : ℕ) → k < (cut_of w).bands → v < (cut_of w).blocks → is_written m k v ≡ false →
+    IsBlank w bytes k v
 
 abbrev pub are_blank : Writer → Marks → List ℕ → Bool
-are_blank w m bytes = list_all (λ k. list_all (λ v. is_written m k v || is_blank w bytes k v) (range_with_len 0 (cut_of w).blocks)) (range_with_len 0 (cut_of w).bands)
+are_blank w m bytes = list_all (λ k. list_all (λ v. is_written m k v || is_blank w bytes k v)
+    (range_with_len 0 (cut_of w).blocks)) (range_with_len 0 (cut_of w).bands)
 
 -- the bytes of a draft, where they are told and each block that wasn't written is blank in them
 unfoldable pub known : Writer → Marks → Option (List ℕ) → Option (List ℕ)

@@ -1,5 +1,6 @@
 -- What a contract sees of an output that is being written.
-use Rattle.std.specs.Prelude.{◌≡◌, ◌<◌, ◌≤◌, ◌+◌, ◌-◌, ◌*◌, min, ℕ, ℤ, pos, Bool, List, Option, Some, None, IsSome, true}
+use Rattle.std.specs.Prelude.{◌≡◌, ◌<◌, ◌≤◌, ◌+◌, ◌-◌, ◌*◌, min, ℕ, ℤ, pos, Bool, List, Option, Some, None, IsSome}
+use Rattle.std.specs.Prelude.{true}
 use Rattle.std.specs.List.{All}
 use Rattle.geotransform.specs.declared.types.Rect.{Rect}
 use Rattle.outside.specs.Outside.{Files}
@@ -19,8 +20,9 @@ pub data Output : Type 0 where
   Blocks : Writer → Output
   Rows : GridForm → Output
 
--- An output's data: what is written, the pool, the draft's bytes, its length and its name, and the lines of a grid that were written. The bytes are
--- none where the draft doesn't tell them, or where they tell a sample other than 0 of a block that wasn't written since the draft was made.
+-- An output's data: what is written, the pool, the draft's bytes, its length and its name, and the lines of a grid that
+-- were written. The bytes are none where the draft doesn't tell them, or where they tell a sample other than 0 of a
+-- block that wasn't written since the draft was made.
 pub record SheetView : Type 0 where
   pub output : Output
   pub pool : PoolView
@@ -44,7 +46,16 @@ abbrev pub sheet_in : TargetView → SheetView
 sheet_in t = record { output = t.output; pool = t.pool; draft = t.draft; len = t.len; name = t.name; lines = t.lines }
 
 abbrev pub target_of : SheetView → Option (Option (List ℕ) × List ℕ) → Option TargetFault → TargetView
-target_of s header fault = record { output = s.output; pool = s.pool; draft = s.draft; len = s.len; name = s.name; lines = s.lines; header = header; fault = fault }
+target_of s header fault = record {
+  output = s.output;
+  pool = s.pool;
+  draft = s.draft;
+  len = s.len;
+  name = s.name;
+  lines = s.lines;
+  header = header;
+  fault = fault;
+}
 
 -- the bands, the columns and the lines
 abbrev pub bands_of : Output → ℕ
@@ -79,7 +90,8 @@ abbrev pub IsNext : Output → ℕ → Rect → Type 0
 IsNext (Blocks w) lines rect = Unit {0}
 IsNext (Rows g) lines rect = (rect.x ≡ 0) × (rect.w ≡ g.size.w) × (rect.y ≡ lines)
 
--- the blocks that a window meets, and all blocks, and the most calls that the writing of one takes; a grid is appended to, and takes none
+-- the blocks that a window meets, and all blocks, and the most calls that the writing of one takes; a grid is appended
+-- to, and takes none
 abbrev pub blocks_in : Output → Rect → ℕ
 blocks_in (Blocks w) rect = lines_met w rect
 blocks_in (Rows g) rect = rect.h
@@ -148,11 +160,13 @@ pub record Keeps (rect : Rect) (old new : SheetView) (told told' : Option Files)
   pub calls : c' ≤ c + calls_of old.output * (w' - w)
 
 -- and where it answers Ok
-pub record Puts (band : ℕ) (rect : Rect) (samples : List ℤ) (told told' : Option Files) (old new : SheetView) : Type 0 where
-  pub right : IsRightOn old.output told' new
-  pub overlay : IsSome told → IsOverlaid (IsIn old.output) band rect samples (shown_on old.output old.pool old.draft) (shown_on old.output new.pool new.draft)
-  pub met : IsSome told → Meets old.output rect old new
-  pub lines : new.lines ≡ lines_after old.output old.lines rect
+pub record Puts (band : ℕ) (rect : Rect) (samples : List ℤ) (told told' : Option Files) (old new : SheetView) : Type 0
+  where
+    pub right : IsRightOn old.output told' new
+    pub overlay : IsSome told → IsOverlaid (IsIn old.output) band rect samples (shown_on old.output old.pool old.draft)
+        (shown_on old.output new.pool new.draft)
+    pub met : IsSome told → Meets old.output rect old new
+    pub lines : new.lines ≡ lines_after old.output old.lines rect
 
 -- what the last writing does, whatever it answers
 pub record Finishes (old new : SheetView) (told told' : Option Files) (r r' c c' w w' : ℕ) : Type 0 where
@@ -169,7 +183,8 @@ IsZero t = (k x y : ℕ) → IsIn t.output k x y → shown t k x y ≡ pos 0
 
 -- over a folder that tells its names, a window's samples stand inside its rectangle, and all others are as before
 abbrev pub Shows : Option Files → ℕ → Rect → List ℤ → TargetView → TargetView → Type 0
-Shows told band rect samples old new = IsSome told → IsOverlaid (IsIn old.output) band rect samples (shown old) (shown new)
+Shows told band rect samples old new =
+    IsSome told → IsOverlaid (IsIn old.output) band rect samples (shown old) (shown new)
 
 -- over a folder that tells its names, each column that was met is met still, and each one of a window is met
 abbrev pub MeetsAll : Option Files → Rect → TargetView → TargetView → Type 0

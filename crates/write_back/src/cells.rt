@@ -1,5 +1,6 @@
 // Columns of a DTED cell, each written and read as a whole record.
-ghost use Rattle.std.specs.Prelude.{◌≡◌, ◌<◌, ◌≤◌, ◌+◌, ◌*◌, ℕ, List, length, vec_len, vec_items, true, Some, OnOk, IfOk};
+ghost use Rattle.std.specs.Prelude.{◌≡◌, ◌<◌, ◌≤◌, ◌+◌, ◌*◌, ℕ, List, length, vec_len, vec_items, true, Some, OnOk};
+ghost use Rattle.std.specs.Prelude.{IfOk};
 ghost use Rattle.std.specs.List.{All};
 ghost use Rattle.outside.specs.Causes.{HasCause, one_more};
 ghost use Rattle.outside.specs.Outside.{Written};
@@ -82,7 +83,8 @@ impl ColumnWriter {
         requires range { All (λ n. is_elevation n ≡ true) block.now.samples }
         requires room { length block.now.samples ≡ self.old.head.points }
         ensures cell { self.new ≡ self.old }
-        ensures told { OnOk result (Written (record_of self.old.head x) (record_bytes x block.now.samples) (F.draft_bytes draft.old) (F.draft_bytes draft.new)) }
+        ensures told { OnOk result (Written (record_of self.old.head x) (record_bytes x block.now.samples)
+            (F.draft_bytes draft.old) (F.draft_bytes draft.new)) }
         ensures small { AreBytes (record_bytes x block.now.samples) }
         ensures len { OnOk result (F.draft_len draft.new ≡ F.draft_len draft.old) }
         ensures name { F.draft_name draft.new ≡ F.draft_name draft.old }
@@ -109,7 +111,8 @@ impl ColumnWriter {
         requires kind { block.old.kind ≡ Int16 }
         requires room { length block.old.samples ≡ self.old.head.points }
         ensures cell { self.new ≡ self.old }
-        ensures told { OnOk result ((b : List ℕ) → F.draft_bytes draft.old ≡ Some b → length b ≡ needed_of self.old.head → block.new.samples ≡ column_of self.old.head b x) }
+        ensures told { OnOk result ((b : List ℕ) → F.draft_bytes draft.old ≡ Some b →
+            length b ≡ needed_of self.old.head → block.new.samples ≡ column_of self.old.head b x) }
         ensures kind { OnOk result (block.new.kind ≡ Int16) }
         ensures count { OnOk result (length block.new.samples ≡ self.old.head.points) }
         ensures range { OnOk result (All (λ n. is_elevation n ≡ true) block.new.samples) }
@@ -132,7 +135,8 @@ fn decode_column(head: &DtedHead, bytes: &[u8], block: &mut Block)
     requires len { length bytes.now ≡ record_len head.now }
     requires kind { block.old.kind ≡ Int16 }
     requires points { length block.old.samples ≡ head.now.points }
-    ensures file { (file : List ℕ) (x : ℕ) → StandsAt file bytes.now (record_of head.now x) → block.new.samples ≡ column_of head.now file x }
+    ensures file { (file : List ℕ) (x : ℕ) → StandsAt file bytes.now (record_of head.now x) →
+        block.new.samples ≡ column_of head.now file x }
     ensures kind { block.new.kind ≡ Int16 }
     ensures count { length block.new.samples ≡ head.now.points }
     ensures range { All (λ n. is_elevation n ≡ true) block.new.samples }
@@ -155,7 +159,8 @@ fn put_record<F: Folder>(
     requires kind { block.now.kind ≡ Int16 }
     requires range { All (λ n. is_elevation n ≡ true) block.now.samples }
     requires room { length block.now.samples ≡ head.now.points }
-    ensures told { OnOk result (Written (record_of head.now x) (record_bytes x block.now.samples) (F.draft_bytes draft.old) (F.draft_bytes draft.new)) }
+    ensures told { OnOk result (Written (record_of head.now x) (record_bytes x block.now.samples)
+        (F.draft_bytes draft.old) (F.draft_bytes draft.new)) }
     ensures small { AreBytes (record_bytes x block.now.samples) }
     ensures len { OnOk result (F.draft_len draft.new ≡ F.draft_len draft.old) }
     ensures name { F.draft_name draft.new ≡ F.draft_name draft.old }
@@ -184,7 +189,8 @@ fn get_record<F: Folder>(
     requires long { F.draft_len draft.old ≡ needed_of head.now }
     requires kind { block.old.kind ≡ Int16 }
     requires room { length block.old.samples ≡ head.now.points }
-    ensures told { OnOk result ((b : List ℕ) → F.draft_bytes draft.old ≡ Some b → length b ≡ needed_of head.now → block.new.samples ≡ column_of head.now b x) }
+    ensures told { OnOk result ((b : List ℕ) → F.draft_bytes draft.old ≡ Some b → length b ≡ needed_of head.now →
+        block.new.samples ≡ column_of head.now b x) }
     ensures kind { OnOk result (block.new.kind ≡ Int16) }
     ensures count { OnOk result (length block.new.samples ≡ head.now.points) }
     ensures range { OnOk result (All (λ n. is_elevation n ≡ true) block.new.samples) }

@@ -14,7 +14,8 @@ pub(crate) fn zeros_draft<F: Folder>(
     name: &Name,
     len: u64,
 ) -> Result<F::Draft, TargetFault>
-    ensures zeros { IfOk result (λ draft. (m : Files) → F.names folder.old ≡ Some m → F.draft_bytes draft ≡ Some (replicate len 0)) }
+    ensures zeros { IfOk result (λ draft. (m : Files) → F.names folder.old ≡ Some m →
+        F.draft_bytes draft ≡ Some (replicate len 0)) }
     ensures len { IfOk result (λ draft. F.draft_len draft ≡ len) }
     ensures name { IfOk result (λ draft. F.draft_name draft ≡ name.now) }
     ensures names { F.names folder.new ≡ F.names folder.old }
@@ -45,7 +46,8 @@ pub(crate) fn text_draft<F: Folder>(
     name: &Name,
     text: &[u8],
 ) -> Result<F::Draft, TargetFault>
-    ensures text { IfOk result (λ draft. (m : Files) → F.names folder.old ≡ Some m → F.draft_bytes draft ≡ Some text.now) }
+    ensures text { IfOk result (λ draft. (m : Files) → F.names folder.old ≡ Some m →
+        F.draft_bytes draft ≡ Some text.now) }
     ensures len { IfOk result (λ draft. F.draft_len draft ≡ length text.now) }
     ensures small { AreBytes text.now }
     ensures name { IfOk result (λ draft. F.draft_name draft ≡ name.now) }
@@ -79,7 +81,8 @@ pub(crate) fn front_draft<F: Folder>(
     len: u64,
 ) -> Result<F::Draft, TargetFault>
     requires room { length front.now ≤ len }
-    ensures front { IfOk result (λ draft. (m : Files) → F.names folder.old ≡ Some m → F.draft_bytes draft ≡ Some (front.now ++ replicate (len - length front.now) 0)) }
+    ensures front { IfOk result (λ draft. (m : Files) → F.names folder.old ≡ Some m →
+        F.draft_bytes draft ≡ Some (front.now ++ replicate (len - length front.now) 0)) }
     ensures len { IfOk result (λ draft. F.draft_len draft ≡ len) }
     ensures small { AreBytes front.now }
     ensures name { IfOk result (λ draft. F.draft_name draft ≡ name.now) }
@@ -104,14 +107,17 @@ pub(crate) fn front_draft<F: Folder>(
 
 // Publishes a header behind the data, where there is one.
 fn publish_header<F: Folder>(folder: &mut F, header: Option<F::Draft>) -> Result<(), CloseFault>
-    ensures told { (m : Files) → F.names folder.old ≡ Some m → IsHeaderPut (header_state F.draft_bytes F.draft_name header) (published_by header result - 1) m (F.names folder.new) }
+    ensures told { (m : Files) → F.names folder.old ≡ Some m →
+        IsHeaderPut (header_state F.draft_bytes F.draft_name header) (published_by header result - 1) m
+        (F.names folder.new) }
     ensures some { 1 ≤ published_by header result }
     ensures first { IfErr result (λ e. 1 ≤ e.published) }
     ensures most { IfErr result (λ e. e.published < files_with header) }
     ensures reads { F.read_calls folder.new ≡ F.read_calls folder.old }
     ensures calls { F.write_calls folder.new ≡ F.write_calls folder.old }
     ensures later { F.faults folder.old ≤ F.faults folder.new }
-    ensures cause { IfErr result (λ e. e.cause ≡ TargetFault.FolderFault → Rose (F.faults folder.old) (F.faults folder.new)) }
+    ensures cause { IfErr result (λ e. e.cause ≡ TargetFault.FolderFault →
+        Rose (F.faults folder.old) (F.faults folder.new)) }
 {
     match header {
         None => Ok(()),
@@ -149,13 +155,16 @@ pub(crate) fn publish_all<F: Folder>(
     samples: F::Draft,
     header: Option<F::Draft>,
 ) -> Result<(), CloseFault>
-    ensures told { (m : Files) (b : List ℕ) → F.names folder.old ≡ Some m → F.draft_bytes samples ≡ Some b → ArePut (header_state F.draft_bytes F.draft_name header) (F.draft_name samples) b (published_by header result) m (F.names folder.new) }
+    ensures told { (m : Files) (b : List ℕ) → F.names folder.old ≡ Some m → F.draft_bytes samples ≡ Some b →
+        ArePut (header_state F.draft_bytes F.draft_name header) (F.draft_name samples) b (published_by header result) m
+        (F.names folder.new) }
     ensures most { IfErr result (λ e. e.published < files_with header) }
     ensures untouched { IfErr result (λ e. e.published ≡ 0 → F.names folder.new ≡ F.names folder.old) }
     ensures reads { F.read_calls folder.new ≡ F.read_calls folder.old }
     ensures calls { F.write_calls folder.new ≡ F.write_calls folder.old }
     ensures later { F.faults folder.old ≤ F.faults folder.new }
-    ensures cause { IfErr result (λ e. e.cause ≡ TargetFault.FolderFault → Rose (F.faults folder.old) (F.faults folder.new)) }
+    ensures cause { IfErr result (λ e. e.cause ≡ TargetFault.FolderFault →
+        Rose (F.faults folder.old) (F.faults folder.new)) }
 {
     match folder.publish(samples) {
         Ok(()) => publish_header(folder, header),

@@ -1,7 +1,8 @@
 // What differs between the outputs that are written through a pool of blocks.
 ghost use Rattle.std.specs.Prelude.{◌≡◌, ◌<◌, ◌≤◌, ◌+◌, ◌*◌, ◌^◌, ℕ, List, length, Some, OnOk};
 ghost use Rattle.outside.specs.Causes.{HasCause};
-ghost use Rattle.write_back.specs.Forms.{bands_in, cut_of, height_of, holds, lane_of, most_calls, needed_of, width_of, IsFormed};
+ghost use Rattle.write_back.specs.Forms.{bands_in, cut_of, height_of, holds, lane_of, most_calls, needed_of, width_of};
+ghost use Rattle.write_back.specs.Forms.{IsFormed};
 ghost use Rattle.write_back.specs.Overlay.{held_in, line_key, IsBlockWritten, IsLine};
 
 use crate::TargetFault;
@@ -145,7 +146,9 @@ impl Writer {
         requires line { IsLine self.old key block.now }
         requires long { F.draft_len draft.old ≡ needed_of self.old }
         ensures same { self.new ≡ self.old }
-        ensures told { OnOk result ((b : List ℕ) → F.draft_bytes draft.old ≡ Some b → length b ≡ needed_of self.old → IsFormed self.old b → (c : List ℕ) × (F.draft_bytes draft.new ≡ Some c) × IsBlockWritten self.old key block.now.samples b c) }
+        ensures told { OnOk result ((b : List ℕ) → F.draft_bytes draft.old ≡ Some b → length b ≡ needed_of self.old →
+            IsFormed self.old b → (c : List ℕ) × (F.draft_bytes draft.new ≡ Some c) ×
+            IsBlockWritten self.old key block.now.samples b c) }
         ensures len { OnOk result (F.draft_len draft.new ≡ F.draft_len draft.old) }
         ensures name { F.draft_name draft.new ≡ F.draft_name draft.old }
         ensures names { F.names folder.new ≡ F.names folder.old }
@@ -191,7 +194,8 @@ impl Writer {
         requires kind { into.old.kind ≡ (cut_of self.old).kind }
         requires room { length into.old.samples ≡ (cut_of self.old).spots }
         ensures same { self.new ≡ self.old }
-        ensures told { OnOk result ((b : List ℕ) → F.draft_bytes draft.old ≡ Some b → length b ≡ needed_of self.old → into.new.samples ≡ held_in self.old b band block) }
+        ensures told { OnOk result ((b : List ℕ) → F.draft_bytes draft.old ≡ Some b → length b ≡ needed_of self.old →
+            into.new.samples ≡ held_in self.old b band block) }
         ensures line { OnOk result (IsLine self.old (line_key band block) into.new) }
         ensures bytes { F.draft_bytes draft.new ≡ F.draft_bytes draft.old }
         ensures len { F.draft_len draft.new ≡ F.draft_len draft.old }

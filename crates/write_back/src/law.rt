@@ -19,7 +19,8 @@ ghost use Rattle.write_back.specs.Windows.{Window, sample_of_last, AreWritten};
 
 /// In raw data of a plain head, as translations write it, nothing but samples stands.
 pub fn plain_heads_are_tight()
-    ensures tight { (size : Size) (bands : ℕ) (kind : PixelType) (layout : Layout) (nodata : Option ℤ) (geo : Option RawGeo) → IsTight (plain_head size bands kind layout nodata geo) }
+    ensures tight { (size : Size) (bands : ℕ) (kind : PixelType) (layout : Layout) (nodata : Option ℤ)
+        (geo : Option RawGeo) → IsTight (plain_head size bands kind layout nodata geo) }
 {}
 
 /// Each plan but that of a mosaic has an output, with the plan's bands, columns and lines.
@@ -33,20 +34,28 @@ pub fn outputs_have_sizes()
 /// An output can hold each sample of a band's type, where in a cell it is an elevation that records hold; so it can
 /// hold each pixel of its plan.
 pub fn outputs_hold_pixels()
-    ensures samples { (p : Planned) (o : Output) (b : OutBand) (k : ℕ) (n : ℤ) → IsPlan p → output_of p ≡ Some o → slice_get p.bands k ≡ Some b → is_in b.kind n ≡ true → ((level : ℕ) → p.driver ≡ Dted level → IsElevation n) → is_writable o n ≡ true }
-    ensures pixels { (p : Planned) (o : Output) (source : Size) (pixels : ℕ → ℕ → ℕ → ℤ) (k i j : ℕ) → IsPlan p → output_of p ≡ Some o → k < length p.bands → is_writable o (out_pixel p source pixels k i j) ≡ true }
+    ensures samples { (p : Planned) (o : Output) (b : OutBand) (k : ℕ) (n : ℤ) → IsPlan p → output_of p ≡ Some o →
+        slice_get p.bands k ≡ Some b → is_in b.kind n ≡ true → ((level : ℕ) → p.driver ≡ Dted level → IsElevation n) →
+        is_writable o n ≡ true }
+    ensures pixels { (p : Planned) (o : Output) (source : Size) (pixels : ℕ → ℕ → ℕ → ℤ) (k i j : ℕ) → IsPlan p →
+        output_of p ≡ Some o → k < length p.bands → is_writable o (out_pixel p source pixels k i j) ≡ true }
 {}
 
 /// A folder over which an output's files are put has them. They are accepted under a name of its driver, and read as
 /// its plan says: they have its size and its bands, and their pixels are the samples. A grid is read so where the
 /// coordinates that its text writes, and the place that is read from them, stay below 10^12 units.
 pub fn outputs_decode()
-    ensures held { (m : Files) (name : List ℕ) (p : Planned) (o : Output) (samples : ℕ → ℕ → ℕ → ℤ) → output_of p ≡ Some o → IsNamedFor p name → HasFiles (with_files (files_of o name samples) m) (files_of o name samples) }
-    ensures decoded { (m : Files) (verify : Bool) (name : List ℕ) (p : Planned) (o : Output) (samples : ℕ → ℕ → ℕ → ℤ) → IsPlan p → output_of p ≡ Some o → IsReadable p name → AreSamplesOf o samples → HasFiles m (files_of o name samples) → IsDecoded m verify name p samples }
+    ensures held { (m : Files) (name : List ℕ) (p : Planned) (o : Output) (samples : ℕ → ℕ → ℕ → ℤ) →
+        output_of p ≡ Some o → IsNamedFor p name → HasFiles (with_files (files_of o name samples) m)
+        (files_of o name samples) }
+    ensures decoded { (m : Files) (verify : Bool) (name : List ℕ) (p : Planned) (o : Output) (samples : ℕ → ℕ → ℕ → ℤ) →
+        IsPlan p → output_of p ≡ Some o → IsReadable p name → AreSamplesOf o samples →
+        HasFiles m (files_of o name samples) → IsDecoded m verify name p samples }
 {}
 
 /// After any list of windows that were written one after another, each pixel of an output shows the sample of the last
 /// window that covered it, else 0. So a list of windows has one raster.
 pub fn windows_show_the_last()
-    ensures last { (o : Output) (windows : List Window) (raster : ℕ → ℕ → ℕ → ℤ) → AreWritten o windows raster → (k x y : ℕ) → IsIn o k x y → raster k x y ≡ sample_of_last windows k x y }
+    ensures last { (o : Output) (windows : List Window) (raster : ℕ → ℕ → ℕ → ℤ) → AreWritten o windows raster →
+        (k x y : ℕ) → IsIn o k x y → raster k x y ≡ sample_of_last windows k x y }
 {}

@@ -61,7 +61,8 @@ impl<F: Folder> RowStore<F> {
         ensures form { self.new.form ≡ self.old.form }
         ensures lines { OnOk result (self.new.lines ≡ self.old.lines + 1) }
         ensures most { self.new.lines ≤ self.old.lines + 1 }
-        ensures told { OnOk result (Appended (row_text samples.now) (F.draft_bytes self.old.draft) (F.draft_bytes self.new.draft)) }
+        ensures told { OnOk result (Appended (row_text samples.now) (F.draft_bytes self.old.draft)
+            (F.draft_bytes self.new.draft)) }
         ensures name { F.draft_name self.new.draft ≡ F.draft_name self.old.draft }
         ensures names { F.names folder.new ≡ F.names folder.old }
         ensures reads { F.read_calls folder.new ≡ F.read_calls folder.old }
@@ -94,7 +95,9 @@ impl<F: Folder> RowStore<F> {
         ensures form { self.new.form ≡ self.old.form }
         ensures lines { OnOk result (self.new.lines ≡ self.old.lines + rect.h) }
         ensures most { self.new.lines ≤ self.old.lines + rect.h }
-        ensures told { OnOk result ((rows : List (List ℤ)) → HasRows self.old.form self.old.lines (F.draft_bytes self.old.draft) rows → HasRows self.old.form self.new.lines (F.draft_bytes self.new.draft) (rows ++ rows_in rect.w rect.h samples.now)) }
+        ensures told { OnOk result ((rows : List (List ℤ)) → HasRows self.old.form self.old.lines
+            (F.draft_bytes self.old.draft) rows → HasRows self.old.form self.new.lines (F.draft_bytes self.new.draft)
+            (rows ++ rows_in rect.w rect.h samples.now)) }
         ensures name { F.draft_name self.new.draft ≡ F.draft_name self.old.draft }
         ensures names { F.names folder.new ≡ F.names folder.old }
         ensures reads { F.read_calls folder.new ≡ F.read_calls folder.old }

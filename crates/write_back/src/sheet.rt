@@ -2,7 +2,8 @@
 ghost use Rattle.std.specs.Prelude.{◌≡◌, ◌<◌, ◌≤◌, ◌+◌, ◌*◌, ℕ, List, length, Some, true, OnOk};
 ghost use Rattle.std.specs.List.{list_all};
 ghost use Rattle.outside.specs.Causes.{HasCause};
-ghost use Rattle.write_back.specs.View.{bands_of, columns_of, is_writable, rows_of, AreWritable, IsNext, IsSoundOn, IsRightOn, Puts};
+ghost use Rattle.write_back.specs.View.{bands_of, columns_of, is_writable, rows_of, AreWritable, IsNext, IsSoundOn};
+ghost use Rattle.write_back.specs.View.{IsRightOn, Puts};
 ghost use Rattle.write_back.specs.Served.{FinishesIn, KeepsIn};
 ghost use Rattle.write_back.specs.Files.{HasBytes};
 
@@ -113,7 +114,8 @@ impl<F: Folder> Sheet<F> {
         requires range { AreWritable self.old.output samples.now }
         requires next { IsNext self.old.output self.old.lines rect }
         ensures kept { KeepsIn F.Folder rect folder.old self.old writes.old folder.new self.new writes.new }
-        ensures put { OnOk result (Puts band rect samples.now (F.names folder.old) (F.names folder.new) self.old self.new) }
+        ensures put { OnOk result (Puts band rect samples.now (F.names folder.old) (F.names folder.new) self.old
+            self.new) }
         ensures cause { HasCause TargetFault.FolderFault (F.faults folder.old) (F.faults folder.new) result }
     {
         match &mut self.kind {
@@ -151,12 +153,13 @@ impl<F: Folder> Sheet<F> {
         match kind {
             Kind::Blocks(store) => {
                 let Store {
-                    writer: _,
-                    pool: _,
+                    writer,
+                    pool,
                     draft,
-                    written: _,
-                    spare: _,
+                    written,
+                    spare,
                 } = store;
+                drop((writer, pool, written, spare));
                 draft
             }
             Kind::Rows(rows) => {

@@ -1,11 +1,14 @@
 // A pool of lines over a draft: a line that the pool drops is written, and one that it lacks is read back. Where bands
 // lie pixel by pixel, a line is one of all bands.
-ghost use Rattle.std.specs.Prelude.{◌≡◌, ◌<◌, ◌≤◌, ◌+◌, ◌*◌, [], ℕ, List, length, get_or, pos, Some, None, true, false, OnOk, IfOk};
+ghost use Rattle.std.specs.Prelude.{◌≡◌, ◌<◌, ◌≤◌, ◌+◌, ◌*◌, [], ℕ, List, length, get_or, pos, Some, None, true, false};
+ghost use Rattle.std.specs.Prelude.{OnOk, IfOk};
 ghost use Rattle.outside.specs.Causes.{HasCause};
 ghost use Rattle.band_blocks.specs.Spread.{IsSpread};
 ghost use Rattle.block_cache.specs.Entries.{held_at};
-ghost use Rattle.write_back.specs.Forms.{bands_in, cut_of, needed_of, most_calls, AreHeld, IsFormed, width_of, height_of};
-ghost use Rattle.write_back.specs.Overlay.{IsLine, IsPut, IsWindow, IsLineSet, AreSame, HoldsDirty, IsBlockWritten, held_in, line_key};
+ghost use Rattle.write_back.specs.Forms.{bands_in, cut_of, needed_of, most_calls, AreHeld, IsFormed, width_of};
+ghost use Rattle.write_back.specs.Forms.{height_of};
+ghost use Rattle.write_back.specs.Overlay.{IsLine, IsPut, IsWindow, IsLineSet, AreSame, HoldsDirty, IsBlockWritten};
+ghost use Rattle.write_back.specs.Overlay.{held_in, line_key};
 ghost use Rattle.write_back.specs.Seen.{known_in, state_of};
 ghost use Rattle.write_back.specs.State.{AreMet, Changes, IsSound, Serves, lines_met};
 
@@ -54,6 +57,7 @@ fn room_for(
         if block.kind() == kind && block.len() == len {
             return Ok(block);
         }
+        drop(block);
     }
     Block::new(alloc, kind, len)
 }
@@ -83,7 +87,9 @@ impl<F: Folder> Store<F> {
         requires long { F.draft_len self.old.draft ≡ needed_of self.old.writer }
         ensures head { self.new.writer ≡ self.old.writer }
         ensures pool { self.new.pool ≡ self.old.pool }
-        ensures written { OnOk result ((b : List ℕ) → known_in F.draft_bytes self.old ≡ Some b → length b ≡ needed_of self.old.writer → IsFormed self.old.writer b → (c : List ℕ) × (known_in F.draft_bytes self.new ≡ Some c) × IsBlockWritten self.old.writer key block.now.samples b c) }
+        ensures written { OnOk result ((b : List ℕ) → known_in F.draft_bytes self.old ≡ Some b →
+            length b ≡ needed_of self.old.writer → IsFormed self.old.writer b → (c : List ℕ) ×
+            (known_in F.draft_bytes self.new ≡ Some c) × IsBlockWritten self.old.writer key block.now.samples b c) }
         ensures len { OnOk result (F.draft_len self.new.draft ≡ F.draft_len self.old.draft) }
         ensures name { F.draft_name self.new.draft ≡ F.draft_name self.old.draft }
         ensures names { F.names folder.new ≡ F.names folder.old }
@@ -111,7 +117,9 @@ impl<F: Folder> Store<F> {
         requires long { F.draft_len self.old.draft ≡ needed_of self.old.writer }
         ensures head { self.new.writer ≡ self.old.writer }
         ensures pool { self.new.pool ≡ self.old.pool }
-        ensures written { OnOk result ((b : List ℕ) → known_in F.draft_bytes self.old ≡ Some b → length b ≡ needed_of self.old.writer → IsFormed self.old.writer b → (c : List ℕ) × (known_in F.draft_bytes self.new ≡ Some c) × IsBlockWritten self.old.writer key block.samples b c) }
+        ensures written { OnOk result ((b : List ℕ) → known_in F.draft_bytes self.old ≡ Some b →
+            length b ≡ needed_of self.old.writer → IsFormed self.old.writer b → (c : List ℕ) ×
+            (known_in F.draft_bytes self.new ≡ Some c) × IsBlockWritten self.old.writer key block.samples b c) }
         ensures len { OnOk result (F.draft_len self.new.draft ≡ F.draft_len self.old.draft) }
         ensures name { F.draft_name self.new.draft ≡ F.draft_name self.old.draft }
         ensures names { F.names folder.new ≡ F.names folder.old }
@@ -120,7 +128,9 @@ impl<F: Folder> Store<F> {
         ensures one { writes.new ≡ writes.old + 1 }
         ensures cause { HasCause TargetFault.FolderFault (F.faults folder.old) (F.faults folder.new) result }
     {
-        self.write_out(folder, key, &block, writes)
+        let written = self.write_out(folder, key, &block, writes);
+        drop(block);
+        written
     }
 
     // Keeps a line that isn't held. The line that a full pool drops for it is written, and is spare: no held line was
@@ -137,8 +147,10 @@ impl<F: Folder> Store<F> {
         requires absent { held_at key self.old.pool.entries ≡ None }
         requires line { IsLine self.old.writer key block }
         ensures head { self.new.writer ≡ self.old.writer }
-        ensures serves { Serves self.old.writer 1 0 (state_of F.Folder folder.old self.old writes.old) (state_of F.Folder folder.new self.new writes.new) }
-        ensures changed { OnOk result (Changes self.old.writer (IsLineSet self.old.writer key block.samples) (state_of F.Folder folder.old self.old writes.old) (state_of F.Folder folder.new self.new writes.new)) }
+        ensures serves { Serves self.old.writer 1 0 (state_of F.Folder folder.old self.old writes.old)
+            (state_of F.Folder folder.new self.new writes.new) }
+        ensures changed { OnOk result (Changes self.old.writer (IsLineSet self.old.writer key block.samples)
+            (state_of F.Folder folder.old self.old writes.old) (state_of F.Folder folder.new self.new writes.new)) }
         ensures dirty { OnOk result (HoldsDirty self.new.pool.entries key) }
         ensures cause { HasCause TargetFault.FolderFault (F.faults folder.old) (F.faults folder.new) result }
     {
@@ -146,10 +158,13 @@ impl<F: Folder> Store<F> {
             Ok(None) => Ok(()),
             Ok(Some(last)) => {
                 let written = self.write_out(folder, last.key, &last.block, writes);
-                self.spare = Some(last.block);
+                drop(self.spare.replace(last.block));
                 written
             }
-            Err(_) => Err(TargetFault::Memory),
+            Err(refused) => {
+                drop(refused);
+                Err(TargetFault::Memory)
+            }
         }
     }
 
@@ -169,7 +184,8 @@ impl<F: Folder> Store<F> {
         ensures head { self.new.writer ≡ self.old.writer }
         ensures pool { self.new.pool ≡ self.old.pool }
         ensures line { OnOk result (IsLine self.old.writer (line_key band y) block.new) }
-        ensures told { OnOk result ((b : List ℕ) → known_in F.draft_bytes self.old ≡ Some b → length b ≡ needed_of self.old.writer → block.new.samples ≡ held_in self.old.writer b band y) }
+        ensures told { OnOk result ((b : List ℕ) → known_in F.draft_bytes self.old ≡ Some b →
+            length b ≡ needed_of self.old.writer → block.new.samples ≡ held_in self.old.writer b band y) }
         ensures bytes { known_in F.draft_bytes self.new ≡ known_in F.draft_bytes self.old }
         ensures len { F.draft_len self.new.draft ≡ F.draft_len self.old.draft }
         ensures name { F.draft_name self.new.draft ≡ F.draft_name self.old.draft }
@@ -203,7 +219,9 @@ impl<F: Folder> Store<F> {
         ensures head { self.new.writer ≡ self.old.writer }
         ensures pool { self.new.pool ≡ self.old.pool }
         ensures line { IfOk result (λ block. IsLine self.old.writer (line_key spot.band spot.y) block) }
-        ensures told { (b : List ℕ) → known_in F.draft_bytes self.old ≡ Some b → length b ≡ needed_of self.old.writer → IfOk result (λ block. IsSpread samples.now 0 (length samples.now) spot.x spot.stride (held_in self.old.writer b spot.band spot.y) block.samples) }
+        ensures told { (b : List ℕ) → known_in F.draft_bytes self.old ≡ Some b → length b ≡ needed_of self.old.writer →
+            IfOk result (λ block. IsSpread samples.now 0 (length samples.now) spot.x spot.stride
+            (held_in self.old.writer b spot.band spot.y) block.samples) }
         ensures bytes { known_in F.draft_bytes self.new ≡ known_in F.draft_bytes self.old }
         ensures len { F.draft_len self.new.draft ≡ F.draft_len self.old.draft }
         ensures name { F.draft_name self.new.draft ≡ F.draft_name self.old.draft }
@@ -240,8 +258,11 @@ impl<F: Folder> Store<F> {
         requires room { (i : ℕ) → i < length samples.now → spot.x + i * spot.stride < (cut_of self.old.writer).spots }
         requires range { AreHeld self.old.writer samples.now }
         ensures head { self.new.writer ≡ self.old.writer }
-        ensures serves { Serves self.old.writer 1 0 (state_of F.Folder folder.old self.old writes.old) (state_of F.Folder folder.new self.new writes.new) }
-        ensures changed { OnOk result (Changes self.old.writer (IsPut self.old.writer (record { band = spot.band; start = spot.x; stride = spot.stride }) spot.y samples.now) (state_of F.Folder folder.old self.old writes.old) (state_of F.Folder folder.new self.new writes.new)) }
+        ensures serves { Serves self.old.writer 1 0 (state_of F.Folder folder.old self.old writes.old)
+            (state_of F.Folder folder.new self.new writes.new) }
+        ensures changed { OnOk result (Changes self.old.writer (IsPut self.old.writer
+            (record { band = spot.band; start = spot.x; stride = spot.stride }) spot.y samples.now)
+            (state_of F.Folder folder.old self.old writes.old) (state_of F.Folder folder.new self.new writes.new)) }
         ensures dirty { OnOk result (HoldsDirty self.new.pool.entries (line_key spot.band spot.y)) }
         ensures cause { HasCause TargetFault.FolderFault (F.faults folder.old) (F.faults folder.new) result }
     {
@@ -277,8 +298,10 @@ impl<F: Folder> Store<F> {
         requires size { length samples.now ≡ rect.w * rect.h }
         requires range { AreHeld self.old.writer samples.now }
         ensures head { self.new.writer ≡ self.old.writer }
-        ensures serves { Serves self.old.writer rect.h 0 (state_of F.Folder folder.old self.old writes.old) (state_of F.Folder folder.new self.new writes.new) }
-        ensures changed { OnOk result (Changes self.old.writer (IsWindow self.old.writer band rect samples.now) (state_of F.Folder folder.old self.old writes.old) (state_of F.Folder folder.new self.new writes.new)) }
+        ensures serves { Serves self.old.writer rect.h 0 (state_of F.Folder folder.old self.old writes.old)
+            (state_of F.Folder folder.new self.new writes.new) }
+        ensures changed { OnOk result (Changes self.old.writer (IsWindow self.old.writer band rect samples.now)
+            (state_of F.Folder folder.old self.old writes.old) (state_of F.Folder folder.new self.new writes.new)) }
         ensures cause { HasCause TargetFault.FolderFault (F.faults folder.old) (F.faults folder.new) result }
     {
         // This call is made for the proof: it says that a block's number fits.
@@ -318,9 +341,12 @@ impl<F: Folder> Store<F> {
         requires size { length samples.now ≡ rect.w * rect.h }
         requires range { AreHeld self.old.writer samples.now }
         ensures head { self.new.writer ≡ self.old.writer }
-        ensures serves { Serves self.old.writer rect.w 0 (state_of F.Folder folder.old self.old writes.old) (state_of F.Folder folder.new self.new writes.new) }
-        ensures changed { OnOk result (Changes self.old.writer (IsWindow self.old.writer band rect samples.now) (state_of F.Folder folder.old self.old writes.old) (state_of F.Folder folder.new self.new writes.new)) }
-        ensures met { OnOk result (AreMet self.old.writer band rect.x rect.w (state_of F.Folder folder.old self.old writes.old) (state_of F.Folder folder.new self.new writes.new)) }
+        ensures serves { Serves self.old.writer rect.w 0 (state_of F.Folder folder.old self.old writes.old)
+            (state_of F.Folder folder.new self.new writes.new) }
+        ensures changed { OnOk result (Changes self.old.writer (IsWindow self.old.writer band rect samples.now)
+            (state_of F.Folder folder.old self.old writes.old) (state_of F.Folder folder.new self.new writes.new)) }
+        ensures met { OnOk result (AreMet self.old.writer band rect.x rect.w
+            (state_of F.Folder folder.old self.old writes.old) (state_of F.Folder folder.new self.new writes.new)) }
         ensures cause { HasCause TargetFault.FolderFault (F.faults folder.old) (F.faults folder.new) result }
     {
         // This call is made for the proof: it says that a block's number fits.
@@ -364,9 +390,13 @@ impl<F: Folder> Store<F> {
         requires size { length samples.now ≡ rect.w * rect.h }
         requires range { AreHeld self.old.writer samples.now }
         ensures head { self.new.writer ≡ self.old.writer }
-        ensures serves { Serves self.old.writer (lines_met self.old.writer rect) 0 (state_of F.Folder folder.old self.old writes.old) (state_of F.Folder folder.new self.new writes.new) }
-        ensures changed { OnOk result (Changes self.old.writer (IsWindow self.old.writer band rect samples.now) (state_of F.Folder folder.old self.old writes.old) (state_of F.Folder folder.new self.new writes.new)) }
-        ensures met { OnOk result ((cut_of self.old.writer).by_columns ≡ true → AreMet self.old.writer band rect.x rect.w (state_of F.Folder folder.old self.old writes.old) (state_of F.Folder folder.new self.new writes.new)) }
+        ensures serves { Serves self.old.writer (lines_met self.old.writer rect) 0
+            (state_of F.Folder folder.old self.old writes.old) (state_of F.Folder folder.new self.new writes.new) }
+        ensures changed { OnOk result (Changes self.old.writer (IsWindow self.old.writer band rect samples.now)
+            (state_of F.Folder folder.old self.old writes.old) (state_of F.Folder folder.new self.new writes.new)) }
+        ensures met { OnOk result ((cut_of self.old.writer).by_columns ≡ true →
+            AreMet self.old.writer band rect.x rect.w (state_of F.Folder folder.old self.old writes.old)
+            (state_of F.Folder folder.new self.new writes.new)) }
         ensures cause { HasCause TargetFault.FolderFault (F.faults folder.old) (F.faults folder.new) result }
     {
         let shape = self.writer.shape();
@@ -386,8 +416,10 @@ impl<F: Folder> Store<F> {
         requires sound { IsSound self.old.writer self.old.pool }
         requires long { F.draft_len self.old.draft ≡ needed_of self.old.writer }
         ensures head { self.new.writer ≡ self.old.writer }
-        ensures serves { Serves self.old.writer (length self.old.pool.entries) (length self.old.pool.entries) (state_of F.Folder folder.old self.old writes.old) (state_of F.Folder folder.new self.new writes.new) }
-        ensures changed { OnOk result (Changes self.old.writer (AreSame self.old.writer) (state_of F.Folder folder.old self.old writes.old) (state_of F.Folder folder.new self.new writes.new)) }
+        ensures serves { Serves self.old.writer (length self.old.pool.entries) (length self.old.pool.entries)
+            (state_of F.Folder folder.old self.old writes.old) (state_of F.Folder folder.new self.new writes.new) }
+        ensures changed { OnOk result (Changes self.old.writer (AreSame self.old.writer)
+            (state_of F.Folder folder.old self.old writes.old) (state_of F.Folder folder.new self.new writes.new)) }
         ensures empty { OnOk result (self.new.pool.entries ≡ []) }
         ensures cause { HasCause TargetFault.FolderFault (F.faults folder.old) (F.faults folder.new) result }
     {

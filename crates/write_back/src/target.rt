@@ -1,5 +1,6 @@
 // An output that is written: its data, and a draft of its header where it has one.
-ghost use Rattle.std.specs.Prelude.{◌≡◌, ◌<◌, ◌≤◌, ◌+◌, ◌*◌, ◌-◌, [], ℕ, ℤ, pos, Bool, length, Some, None, IsTrue, IsSome, OnOk, IfOk, IfErr, IfSome, true, min, Err, Option, vec_len, vec_items};
+ghost use Rattle.std.specs.Prelude.{◌≡◌, ◌<◌, ◌≤◌, ◌+◌, ◌*◌, ◌-◌, [], ℕ, ℤ, pos, Bool, length, Some, None, IsTrue};
+ghost use Rattle.std.specs.Prelude.{IsSome, OnOk, IfOk, IfErr, IfSome, true, min, Err, Option, vec_len, vec_items};
 ghost use Rattle.std.specs.List.{list_all};
 ghost use Rattle.std.specs.Result.{result_err};
 ghost use Rattle.outside.specs.Causes.{HasCause, Rose};
@@ -12,7 +13,9 @@ ghost use Rattle.block_cache.specs.Entries.{pool_view};
 ghost use Rattle.write_back.specs.declared.forms.Writer.TheVariants.{Raw, Hgt, Dted};
 ghost use Rattle.write_back.specs.declared.fault.TargetFault.{TargetFault};
 ghost use Rattle.write_back.specs.Columns.{cell_of};
-ghost use Rattle.write_back.specs.View.{Blocks, Rows, all_blocks, bands_of, blocks_in, calls_of, columns_of, is_writable, lines_after, rows_of, AreWritable, IsNext, IsPooled, IsZero, MeetsAll, Shows};
+ghost use Rattle.write_back.specs.View.{Blocks, Rows, all_blocks, bands_of, blocks_in, calls_of, columns_of};
+ghost use Rattle.write_back.specs.View.{is_writable, lines_after, rows_of, AreWritable, IsNext, IsPooled, IsZero};
+ghost use Rattle.write_back.specs.View.{MeetsAll, Shows};
 ghost use Rattle.write_back.specs.Files.{files_in, IsTarget, IsTight, Publishes};
 
 use crate::cells::ColumnWriter;
@@ -303,14 +306,17 @@ impl<F: Folder> Target<F> {
         ensures fault { self.new.fault ≡ result_err result }
         ensures earlier { IfSome self.old.fault (λ f. result ≡ Err f) }
         ensures still { IsSome self.old.fault → F.faults folder.new ≡ F.faults folder.old }
-        ensures cause { self.old.fault ≡ None → HasCause TargetFault.FolderFault (F.faults folder.old) (F.faults folder.new) result }
+        ensures cause { self.old.fault ≡ None → HasCause TargetFault.FolderFault (F.faults folder.old)
+            (F.faults folder.new) result }
         ensures later { F.faults folder.old ≤ F.faults folder.new }
         ensures names { F.names folder.new ≡ F.names folder.old }
         ensures reads { F.read_calls folder.new ≡ F.read_calls folder.old }
         ensures counted { writes.old ≤ writes.new }
         ensures few { writes.new ≤ writes.old + blocks_in self.old.output rect }
-        ensures none { IsPooled self.old.output → all_blocks self.old.output ≤ self.old.pool.capacity → writes.new ≡ writes.old }
-        ensures calls { F.write_calls folder.new ≤ F.write_calls folder.old + calls_of self.old.output * (writes.new - writes.old) }
+        ensures none { IsPooled self.old.output → all_blocks self.old.output ≤ self.old.pool.capacity →
+            writes.new ≡ writes.old }
+        ensures calls { F.write_calls folder.new ≤ F.write_calls folder.old + calls_of self.old.output
+            * (writes.new - writes.old) }
     {
         if let Some(fault) = self.fault {
             return Err(fault);
@@ -341,12 +347,14 @@ impl<F: Folder> Target<F> {
         ensures most { IfErr result (λ e. e.published < length (files_in self)) }
         ensures earlier { IfSome self.fault (λ f. result ≡ Err (record { published = 0; cause = f })) }
         ensures still { IsSome self.fault → F.faults folder.new ≡ F.faults folder.old }
-        ensures cause { self.fault ≡ None → IfErr result (λ e. e.cause ≡ TargetFault.FolderFault → Rose (F.faults folder.old) (F.faults folder.new)) }
+        ensures cause { self.fault ≡ None → IfErr result (λ e. e.cause ≡ TargetFault.FolderFault →
+            Rose (F.faults folder.old) (F.faults folder.new)) }
         ensures later { F.faults folder.old ≤ F.faults folder.new }
         ensures reads { F.read_calls folder.new ≡ F.read_calls folder.old }
         ensures counted { writes.old ≤ writes.new }
         ensures few { writes.new ≤ writes.old + min self.pool.capacity (all_blocks self.output) }
-        ensures calls { F.write_calls folder.new ≤ F.write_calls folder.old + calls_of self.output * (writes.new - writes.old) }
+        ensures calls { F.write_calls folder.new ≤ F.write_calls folder.old + calls_of self.output
+            * (writes.new - writes.old) }
     {
         let Target {
             mut sheet,

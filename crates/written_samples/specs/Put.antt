@@ -21,8 +21,8 @@ pub record IsInRun (band x y n k u v : ℕ) : Type 0 where
   pub band_is : k ≡ band
   pub row : IsInRow x y n u v
 
--- Bytes that may be put into a raw file as a run of samples, which are those of a band and a line from a column on: a stride
--- apart they hold the samples, and between the samples they are what the file has there.
+-- Bytes that may be put into a raw file as a run of samples, which are those of a band and a line from a column on: a
+-- stride apart they hold the samples, and between the samples they are what the file has there.
 pub record IsRunFor (h : Head) (file : List ℕ) (band x y : ℕ) (samples : List ℤ) (bytes : List ℕ) : Type 0 where
   pub in_bands : band < h.bands
   pub in_lines : y < h.size.h
@@ -30,13 +30,16 @@ pub record IsRunFor (h : Head) (file : List ℕ) (band x y : ℕ) (samples : Lis
   pub in_file : position_of h band x y + length bytes ≤ length file
   pub holds : Holds h bytes (length samples)
   pub read : map (run_of h bytes) (range_with_len 0 (length samples)) ≡ samples
-  pub between : (j : ℕ) → j < length bytes → IsBetween h (length samples) j → get_or bytes j 0 ≡ get_or file (position_of h band x y + j) 0
+  pub between : (j : ℕ) → j < length bytes → IsBetween h (length samples) j →
+      get_or bytes j 0 ≡ get_or file (position_of h band x y + j) 0
 
--- the number of a sample in its line of a BIP file, where those of all bands of a pixel come before those of the next pixel
+-- the number of a sample in its line of a BIP file, where those of all bands of a pixel come before those of the next
+-- pixel
 abbrev pub number_in_line : Head → ℕ → ℕ → ℕ
 number_in_line h band x = x * h.bands + band
 
--- bytes that may be put into a BIP file as n samples of a line, one behind the other from that of a band and a column on
+-- bytes that may be put into a BIP file as n samples of a line, one behind the other from that of a band and a column
+-- on
 pub record AreSamplesFor (h : Head) (file : List ℕ) (band x y n : ℕ) (bytes : List ℕ) : Type 0 where
   pub bip : h.layout ≡ Bip
   pub in_lines : y < h.size.h

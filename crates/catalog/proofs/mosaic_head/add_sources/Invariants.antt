@@ -1,9 +1,9 @@
 use Rattle.std.proofs.Common.{◌++◌, take, List, ℕ}
 use Rattle.std.specs.List.{filter_map}
 use Rattle.catalog.specs.Mosaics.{source_name}
-use Rattle.catalog.specs.Listed.{HasListed}
+use Rattle.catalog.specs.Gathered.{HasGathered}
 use Rattle.catalog.proofs.mosaic_head.add_sources.Given as goal
 
--- the names of the sources so far are listed
+-- the names of the sources so far are gathered
 abbrev pub invariant-loop-source : goal.invariant-loop-source
-invariant-loop-source l = (own : List ℕ) (names : List (List ℕ)) → HasListed own names l.fn.listing → HasListed own (names ++ filter_map (source_name l.base) (take l.source-index l.sources)) l.listing
+invariant-loop-source l = (own : List ℕ) (names : List (List ℕ)) → HasGathered own names l.fn.gathered → HasGathered own (names ++ filter_map (source_name l.base) (take l.source-index l.sources)) l.gathered

@@ -3,6 +3,15 @@ use Rattle.esri_hdr.specs.Text.{hdr_text, text_of, layout_fields, sample_fields,
 use Rattle.esri_hdr.proofs.Writes.{all_lines, keeps_after, on_err_any}
 use Rattle.esri_hdr.proofs.writing.write.Goals as goal
 
+pub returns-in_err-push_layout-clause-err : goal.returns-in_err-push_layout-clause-err
+returns-in_err-push_layout-clause-err c = on_err_any _ c.in_err-push_layout.ensures.err
+
+pub returns-in_err-push_samples-clause-err : goal.returns-in_err-push_samples-clause-err
+returns-in_err-push_samples-clause-err c = on_err_any _ (keeps_after _ _ _ _ c.in_ok-push_layout.ensures.ok c.in_err-push_samples.ensures.err)
+
+pub returns-in_err-push_rows-clause-err : goal.returns-in_err-push_rows-clause-err
+returns-in_err-push_rows-clause-err c = on_err_any _ (keeps_after _ _ _ _ c.in_ok-push_layout.ensures.ok (keeps_after _ _ _ _ c.in_ok-push_samples.ensures.ok c.in_err-push_rows.ensures.err))
+
 pub returns-in_err-push_nodata-clause-err : goal.returns-in_err-push_nodata-clause-err
 returns-in_err-push_nodata-clause-err c = on_err_any c.from_residual-in_err-push_nodata.result (keeps_after _ _ _ _ c.in_ok-push_layout.ensures.ok (keeps_after _ _ _ _ c.in_ok-push_samples.ensures.ok (keeps_after _ _ _ _ c.in_ok-push_rows.ensures.ok c.in_err-push_nodata.ensures.err)))
 

@@ -19,46 +19,46 @@ returns-in_err-points-clause-told g c = λ m is d at i left.
 
 pub returns-in-Some-clause-told : goal.returns-in-Some-clause-told
 returns-in-Some-clause-told g c = λ m is d at i left.
-    subst (λ (p : Option (ℤ × ℤ)). Ends (answers (point_text m c.args.question.now.cat d c.args.question.now.asked) p (entries i)) c.put_point.result (g.O.Sink.got c.args.out.now) (g.O.Sink.got c.put_point.new.out))
+    subst (λ (p : Option (ℤ × ℤ)). Ends (answers (point_text m c.args.question.now.cat d c.args.question.now.asked) p (entries i)) c.put_point-put.result (g.O.Sink.got c.args.out.now) (g.O.Sink.got c.put_point-put.new.out))
     (sym c.in-Some.is)
-    (equal_put (point_text m c.args.question.now.cat d c.args.question.now.asked c.in-Some.x c.in-Some.y) _ c.put_point.result _ _ (c.put_point.ensures.told m is d at) (first_of (search rules, grind (arith, common_steps), cc)))
+    (equal_put (point_text m c.args.question.now.cat d c.args.question.now.asked c.in-Some.x c.in-Some.y) _ c.put_point-put.result _ _ (c.put_point-put.ensures.told m is d at) (first_of (search rules, grind (arith, common_steps), cc)))
 
 pub returns-in-Some-clause-never : goal.returns-in-Some-clause-never
 returns-in-Some-clause-never g c = λ m is.
     let bands = c.requires.bands in
-    puts_unchanged _ c.put_point.result _ _ (c.put_point.ensures.told m is bands.dataset bands.at)
+    puts_unchanged _ c.put_point-put.result _ _ (c.put_point-put.ensures.told m is bands.dataset bands.at)
 
 pub returns-clause-told : goal.returns-clause-told
 returns-clause-told g c = λ m is d at i left.
-    subst (λ (p : Option (ℤ × ℤ)). Ends (answers (point_text m c.args.question.now.cat d c.args.question.now.asked) p (entries i)) c.answer_input.result (g.O.Sink.got c.args.out.now) (g.O.Sink.got c.answer_input.new.out))
+    subst (λ (p : Option (ℤ × ℤ)). Ends (answers (point_text m c.args.question.now.cat d c.args.question.now.asked) p (entries i)) c.answer_input-answered.result (g.O.Sink.got c.args.out.now) (g.O.Sink.got c.answer_input-answered.new.out))
     (sym c.in-None.is)
-    (lines_put (point_text m c.args.question.now.cat d c.args.question.now.asked) i (g.I.Input.left c.answer_input.new.input) c.answer_input.result _ _ (c.answer_input.ensures.told m is d at i (left (ap (λ (p : Option (ℤ × ℤ)). is_some p) c.in-None.is))))
+    (lines_put (point_text m c.args.question.now.cat d c.args.question.now.asked) i (g.I.Input.left c.answer_input-answered.new.input) c.answer_input-answered.result _ _ (c.answer_input-answered.ensures.told m is d at i (left (ap (λ (p : Option (ℤ × ℤ)). is_some p) c.in-None.is))))
 
 pub returns-clause-stopped : goal.returns-clause-stopped
 returns-clause-stopped g c = λ so m is d at i left.
-    subst (λ (p : Option (ℤ × ℤ)). StopsBehind (answers (point_text m c.args.question.now.cat d c.args.question.now.asked) p) i (g.I.Input.left c.answer_input.new.input) (g.O.Sink.got c.args.out.now) (g.O.Sink.got c.answer_input.new.out))
+    subst (λ (p : Option (ℤ × ℤ)). StopsBehind (answers (point_text m c.args.question.now.cat d c.args.question.now.asked) p) i (g.I.Input.left c.answer_input-answered.new.input) (g.O.Sink.got c.args.out.now) (g.O.Sink.got c.answer_input-answered.new.out))
     (sym c.in-None.is)
-    (c.answer_input.ensures.stopped so m is d at i left)
+    (c.answer_input-answered.ensures.stopped so m is d at i left)
 
 pub returns-in-Some-clause-lines : goal.returns-in-Some-clause-lines
-returns-in-Some-clause-lines g c = readings_of_lines c.put_point.result c.put_point.ensures.late
+returns-in-Some-clause-lines g c = readings_of_lines c.put_point-put.result c.put_point-put.ensures.late
 
-pub put_point-requires-clause-ready : goal.put_point-requires-clause-ready
-put_point-requires-clause-ready g c κs within = record {
+pub put_point-put-requires-clause-ready : goal.put_point-put-requires-clause-ready
+put_point-put-requires-clause-ready g c κs within = record {
   ready = c.in_ok-points.ensures.fresh c.args.folder.now c.args.question.now.cat c.requires.walked;
   told_is = c.requires.told;
   scene_is = c.requires.scene;
 }
 
-pub answer_input-requires-clause-ready : goal.answer_input-requires-clause-ready
-answer_input-requires-clause-ready g c κs within = record {
+pub answer_input-answered-requires-clause-ready : goal.answer_input-answered-requires-clause-ready
+answer_input-answered-requires-clause-ready g c κs within = record {
   ready = c.in_ok-points.ensures.fresh c.args.folder.now c.args.question.now.cat c.requires.walked;
   told_is = c.requires.told;
   scene_is = c.requires.scene;
 }
 
 pub returns-in-Some-clause-read : goal.returns-in-Some-clause-read
-returns-in-Some-clause-read g c = always_ok c.put_point.result _ (λ none i left. (let some = ap (λ (p : Option (ℤ × ℤ)). is_some p) c.in-Some.is in absurd (cc)))
+returns-in-Some-clause-read g c = always_ok c.put_point-put.result _ (λ none i left. (let some = ap (λ (p : Option (ℤ × ℤ)). is_some p) c.in-Some.is in absurd (cc)))
 
 pub returns-clause-read : goal.returns-clause-read
-returns-clause-read g c = then_ok c.answer_input.result _ _ c.answer_input.ensures.read (λ read none i left. read i left)
+returns-clause-read g c = then_ok c.answer_input-answered.result _ _ c.answer_input-answered.ensures.read (λ read none i left. read i left)

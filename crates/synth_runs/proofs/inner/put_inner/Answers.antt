@@ -23,12 +23,12 @@ returns-clause-told g c = λ m told out.
 
 pub returns-in-Ok-clause-told : goal.returns-in-Ok-clause-told
 returns-in-Ok-clause-told g c = λ m told out.
-    let r = c.publish_document.result in
-    let names = g.F.Folder.names c.publish_document.new.folder in
+    let r = c.publish_document-published.result in
+    let names = g.F.Folder.names c.publish_document-published.new.folder in
     let document = (built_by c.in-Ok.made).document in
     inner_made m (built_by c.in-Ok.made) r names out (c.in-Ok.ensures.told m told)
     (subst (λ (o : Options). Goes (all_done (Publishes o.out (spelled document) ∷ [])) m r names out out) (c.options.view_is ∙ c.in_ok-options.ensures.options)
-    (c.publish_document.ensures.told m (c.make_inner.ensures.names ∙ told) out))
+    (c.publish_document-published.ensures.told m (c.make_inner.ensures.names ∙ told) out))
 
 pub returns-in-Ok-clause-faults : goal.returns-in-Ok-clause-faults
-returns-in-Ok-clause-faults g c = where_failed IsOfFolder (IsOfMaking inner_name) c.publish_document.result (folder_making inner_name) c.publish_document.ensures.faults
+returns-in-Ok-clause-faults g c = where_failed IsOfFolder (IsOfMaking inner_name) c.publish_document-published.result (folder_making inner_name) c.publish_document-published.ensures.faults

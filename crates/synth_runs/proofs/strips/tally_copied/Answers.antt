@@ -15,4 +15,4 @@ of_lines (Err e) told cat id size end m d are is at = tt
 
 pub returns-clause-tally : goal.returns-clause-tally
 returns-clause-tally g c = λ m is d at.
-    of_lines c.tally_lines.result (g.F.Folder.names c.args.folder.now) c.args.copied.now.cat c.args.copied.now.id c.args.copied.now.size c.args.copied.now.size.h m d c.tally_lines.ensures.tallied is at
+    of_lines c.tally_lines-tally.result (g.F.Folder.names c.args.folder.now) c.args.copied.now.cat c.args.copied.now.id c.args.copied.now.size c.args.copied.now.size.h m d c.tally_lines-tally.ensures.tallied is at

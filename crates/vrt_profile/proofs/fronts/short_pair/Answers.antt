@@ -1,18 +1,26 @@
-use Rattle.std.proofs.Common.{◌≡◌, ℤ, ◌∙◌, ap, sym, rules, Some, w64, to_z, of_z}
-use Rattle.vrt_profile.specs.declared.rectangle.LutPair.{LutPair}
-use Rattle.vrt_profile.proofs.ShortNumbers.{pair_value, pair_behind}
+use Rattle.std.proofs.Common.{arith}
+use Rattle.std.proofs.lemmas.List.{nil_from_length}
+use Rattle.vrt_profile.proofs.ShortNumbers.{comma_pair, comma_behind, last_pair, last_behind}
 use Rattle.vrt_profile.proofs.fronts.short_pair.Goals as goal
 
-abbrev pair : ℤ → ℤ → LutPair
-pair input output = record { input = input; output = output }
+pub returns-in-empty-clause-pair : goal.returns-in-empty-clause-pair
+returns-in-empty-clause-pair c =
+    let p = c.in_ok-pair in
+    last_pair c.args.text.now p.rest.now p.pair p.ensures.pair (nil_from_length p.rest.now (omega (arith, c.in-empty.len_below)))
 
-pub returns-clause-pair : goal.returns-clause-pair
-returns-clause-pair c =
-    let input : to_z w64 (of_z w64 c.in_ok-input.input) ≡ c.in_ok-input.input = search rules in
-    let output : to_z w64 (of_z w64 c.in_ok-output.output) ≡ c.in_ok-output.output = search rules in
-    pair_value c.args.text.now c.in_ok-input.rest.now c.in_ok-second.second.now c.in_ok-output.rest.now c.in_ok-behind.behind.now c.in_ok-input.input c.in_ok-output.output c.in_ok-input.ensures.front c.in_ok-second.ensures.behind c.in_ok-output.ensures.front c.in_ok-behind.ensures.behind
-    ∙ ap (λ (v : ℤ). Some (pair v c.in_ok-output.output)) (sym input)
-    ∙ ap (λ (v : ℤ). Some (pair (to_z w64 (of_z w64 c.in_ok-input.input)) v)) (sym output)
+pub returns-in-empty-clause-behind : goal.returns-in-empty-clause-behind
+returns-in-empty-clause-behind c =
+    let p = c.in_ok-pair in
+    last_behind c.args.text.now p.rest.now p.pair p.ensures.pair (nil_from_length p.rest.now (omega (arith, c.in-empty.len_below)))
 
-pub returns-clause-behind : goal.returns-clause-behind
-returns-clause-behind c = pair_behind c.args.text.now c.in_ok-input.rest.now c.in_ok-second.second.now c.in_ok-output.rest.now c.in_ok-behind.behind.now c.in_ok-input.input c.in_ok-output.output c.in_ok-input.ensures.front c.in_ok-second.ensures.behind c.in_ok-output.ensures.front c.in_ok-behind.ensures.behind
+pub returns-in_ok-behind-in_default-clause-pair : goal.returns-in_ok-behind-in_default-clause-pair
+returns-in_ok-behind-in_default-clause-pair c =
+    let p = c.in_ok-pair in
+    let b = c.in_ok-behind-in_default in
+    comma_pair c.args.text.now p.rest.now b.behind.now p.pair p.ensures.pair b.ensures.behind
+
+pub returns-in_ok-behind-in_default-clause-behind : goal.returns-in_ok-behind-in_default-clause-behind
+returns-in_ok-behind-in_default-clause-behind c =
+    let p = c.in_ok-pair in
+    let b = c.in_ok-behind-in_default in
+    comma_behind c.args.text.now p.rest.now b.behind.now p.pair p.ensures.pair b.ensures.behind

@@ -16,10 +16,10 @@ returns-in-Ok-clause-rect c =
     let inside = inner c.args.level.total c.args.level.depth tag c.args.bytes.now in
     let blank = c.in-Ok.seen.blank in
     let children = kept_of true c.in-Ok.seen.kept in
-    let x : c.offset_in-x.result ≡ offset_in (attribute (codes "xOff") tag.pairs) = c.offset_in-x.ensures.number ∙ ap offset_in c.attribute.ensures.value in
-    let y : c.offset_in-y.result ≡ offset_in (attribute (codes "yOff") tag.pairs) = c.offset_in-y.ensures.number ∙ ap offset_in c.attribute-2.ensures.value in
-    let w : c.size_in-w.result ≡ size_in (attribute (codes "xSize") tag.pairs) = c.size_in-w.ensures.number ∙ ap size_in c.attribute-3.ensures.value in
-    let h : c.size_in-h.result ≡ size_in (attribute (codes "ySize") tag.pairs) = c.size_in-h.ensures.number ∙ ap size_in c.attribute-4.ensures.value in
+    let x : c.offset_in-x.result ≡ offset_in (attribute (codes "xOff") tag.pairs) = c.offset_in-x.ensures.number ∙ ap offset_in c.rect_texts-texts.ensures.x in
+    let y : c.offset_in-y.result ≡ offset_in (attribute (codes "yOff") tag.pairs) = c.offset_in-y.ensures.number ∙ ap offset_in c.rect_texts-texts.ensures.y in
+    let w : c.size_in-w.result ≡ size_in (attribute (codes "xSize") tag.pairs) = c.size_in-w.ensures.number ∙ ap size_in c.rect_texts-texts.ensures.w in
+    let h : c.size_in-h.result ≡ size_in (attribute (codes "ySize") tag.pairs) = c.size_in-h.ensures.number ∙ ap size_in c.rect_texts-texts.ensures.h in
     ap (λ z. Ok (z, c.in-Ok.rest.now)) (c.rect_by.ensures.rect
     ∙ ap (λ n. rect_by n c.offset_in-y.result c.size_in-w.result c.size_in-h.result blank children) x
     ∙ ap (λ n. rect_by (offset_in (attribute (codes "xOff") tag.pairs)) n c.size_in-w.result c.size_in-h.result blank children) y

@@ -1,0 +1,16 @@
+-- The files of a mosaic while the names of its sources are gathered.
+use Rattle.std.specs.Prelude.{◌≡◌, ℕ, ◌+◌, ◌*◌, ◌%◌, List, [], ◌∷◌, map}
+use Rattle.catalog.specs.declared.gathered.Gathered.{Gathered}
+use Rattle.catalog.specs.Mosaics.{distinct}
+
+-- the number that the bytes of a text make, behind those of a number
+abbrev pub text_number : ℕ → List ℕ → ℕ
+text_number number [] = number
+text_number number (c ∷ cs) = text_number (number % 36028797018963968 * 257 + c) cs
+
+-- behind the own name there are names of which some may stand again, with their numbers
+pub record HasGathered (own : List ℕ) (names : List (List ℕ)) (g : Gathered) : Type 0 where
+  pub kept : List (List ℕ)
+  pub files : g.files ≡ own ∷ kept
+  pub numbers : g.numbers.items ≡ map (text_number 0) kept
+  pub same : distinct kept ≡ distinct names

@@ -1,0 +1,12 @@
+use Rattle.std.proofs.Common.{◌∙◌, ◌++◌, ap}
+use Rattle.esri_hdr.proofs.Writes.{line_made, keeps_pushes, keeps_third, on_err_any}
+use Rattle.esri_hdr.proofs.writing.push_text.Goals as goal
+
+pub returns-in_err-extend_from_slice-2-clause-err : goal.returns-in_err-extend_from_slice-2-clause-err
+returns-in_err-extend_from_slice-2-clause-err c = on_err_any _ (keeps_pushes _ _ _ _ c.in_ok-extend_from_slice.ensures.items c.in_err-extend_from_slice-2.ensures.items)
+
+pub returns-in_err-push-clause-err : goal.returns-in_err-push-clause-err
+returns-in_err-push-clause-err c = on_err_any _ (keeps_third _ _ _ _ _ _ c.in_ok-extend_from_slice.ensures.items c.in_ok-extend_from_slice-2.ensures.items c.in_err-push.ensures.items)
+
+pub returns-clause-ok : goal.returns-clause-ok
+returns-clause-ok c = line_made c.args.key _ _ _ _ _ (c.in_ok-extend_from_slice.ensures.items ∙ ap (λ l. c.args.out.now.items ++ l) c.label.ensures) c.in_ok-extend_from_slice-2.ensures.items c.in_ok-push.ensures.items

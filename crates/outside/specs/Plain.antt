@@ -1,0 +1,16 @@
+-- Paths that are their own normal form, by the first bytes of their parts.
+use Rattle.std.specs.Prelude.{ℕ, ◌==◌, Bool, not, ◌||◌, ◌&&◌, List, [], ◌∷◌, if◌then◌else◌}
+
+-- whether a part that begins here begins with a slash or a point
+abbrev pub begins_specially : Bool → ℕ → Bool
+begins_specially first c = first && ((c == 47) || (c == 46))
+
+-- whether each part between slashes, the first of which may have begun, begins with a byte that isn't a point
+abbrev pub are_plain : Bool → List ℕ → Bool
+are_plain first [] = not first
+are_plain first (c ∷ cs) = not (begins_specially first c) && are_plain (c == 47) cs
+
+-- what stands behind a slash in front, or all where there is none
+abbrev pub behind_slash : List ℕ → List ℕ
+behind_slash [] = []
+behind_slash (c ∷ cs) = if c == 47 then cs else c ∷ cs
