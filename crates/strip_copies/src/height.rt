@@ -4,7 +4,8 @@ ghost use Rattle.catalog.specs.Drivers.{Dataset};
 ghost use Rattle.strip_copies.specs.declared.height.BlockShape.TheVariants.{Squares};
 ghost use Rattle.strip_copies.specs.Heights.{fewest_read, has_blocks, is_cell, is_cut_in, is_grid, is_made, is_mosaic};
 ghost use Rattle.strip_copies.specs.Heights.{is_shared, is_tall, is_woven, lines_alone, lines_copied, lines_each};
-ghost use Rattle.strip_copies.specs.Heights.{lines_held, lines_near, most_lines, strip_height};
+ghost use Rattle.strip_copies.specs.Heights.{lines_held, lines_near, most_lines, strip_height, most_samples};
+ghost use Rattle.geotransform.specs.Limits.{most_side};
 
 use crate::making::area;
 use crate::shares::{FEWEST_COPIED, FEWEST_MADE};
@@ -29,10 +30,10 @@ pub enum BlockShape {
 pub fn height_of(most: u32, width: u32) -> u32
     requires any { 1 ≤ most }
     requires some { 0 < width }
-    requires most { width ≤ 4194304 }
+    requires most { width ≤ most_side }
     ensures height { result ≡ strip_height most width }
     ensures least { 1 ≤ result }
-    ensures bound { width * result ≤ 4194304 }
+    ensures bound { width * result ≤ most_samples }
 {
     let lines = 4_194_304 / width;
     lines.min(most)
@@ -142,7 +143,7 @@ fn fewest_read(cat: &Catalog) -> usize
 // The most samples of a strip for each of so many workers.
 fn share_of(workers: u32) -> usize
     requires some { 1 ≤ workers }
-    ensures share { result ≡ 4194304 / workers }
+    ensures share { result ≡ most_samples / workers }
 {
     4_194_304 / workers as usize
 }
@@ -259,7 +260,7 @@ pub fn strip_height(translation: &Translation, workers: WorkerCount, blocks: u32
     requires some { 1 ≤ blocks }
     ensures height { result ≡ lines_copied workers blocks translation.now.cat translation.now.plan }
     ensures some { 1 ≤ result }
-    ensures bound { translation.now.plan.size.w * result ≤ 4194304 }
+    ensures bound { translation.now.plan.size.w * result ≤ most_samples }
 {
     let plan = &translation.plan;
     plan.rules();

@@ -10,6 +10,7 @@ ghost use Rattle.vrt_profile.specs.Numbers.{is_mask, no_band_fault, band_by, ban
 ghost use Rattle.vrt_profile.specs.Numbers.{geo_of};
 ghost use Rattle.vrt_markup.specs.declared.fault.VrtFault.TheVariants.{BadNumber};
 ghost use Rattle.vrt_profile.specs.NumberViews.{six_view, IsReadSix};
+ghost use Rattle.geotransform.specs.Limits.{most_side};
 
 use crate::fields::{Six, six_of, trim, whole_text};
 use crate::fronts::short_micros;
@@ -87,7 +88,7 @@ fn side_by(number: Option<u64>) -> Result<u32, VrtFault>
 /// A side of a raster, from 1 to 4,194,304.
 pub fn side_in(text: Option<&[u8]>) -> Result<u32, VrtFault>
     ensures side { result ≡ side_in (option_map (λ v. v.now) text.entry) }
-    ensures bounds { IfOk result (λ n. (0 < n) × (n ≤ 4194304)) }
+    ensures bounds { IfOk result (λ n. (0 < n) × (n ≤ most_side)) }
 {
     match text {
         None => Err(VrtFault::MissingPart),

@@ -13,6 +13,7 @@ ghost use Rattle.vrt_markup.specs.Views.{plain_text, tag_view};
 ghost use Rattle.vrt_markup.specs.Kept.{Gives, seen, kept_of};
 ghost use Rattle.vrt_profile.specs.SourceViews.{source_view, no_source};
 ghost use Rattle.vrt_profile.specs.Scaling.{IsScaling, no_scaling, scaling_of};
+ghost use Rattle.geotransform.specs.Limits.{most_bands};
 
 use crate::document::Source;
 use crate::fields::trim;
@@ -301,7 +302,7 @@ fn is_near(text: Option<&[u8]>) -> bool
 // The parts of a Source, each with the rules that it keeps.
 fn band_or_one(band: Option<BandNumber>) -> u32
     ensures value { result ≡ unwrap_or band 1 }
-    ensures bounds { (0 < result) × (result ≤ 256) }
+    ensures bounds { (0 < result) × (result ≤ most_bands) }
 {
     match band {
         Some(band) => band.get(),
