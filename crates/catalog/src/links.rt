@@ -193,9 +193,18 @@ impl Met {
     {
         let id = self.datasets.len() as u32;
         let alloc = *self.datasets.allocator();
-        self.links.push(link)?;
-        self.datasets.reserve(1)?;
-        keep_number(&mut self.numbers, alloc, &dataset, id)?;
+        if let Err(failed) = self.links.push(link) {
+            drop(dataset);
+            return Err(failed.into());
+        }
+        if let Err(error) = self.datasets.reserve(1) {
+            drop(dataset);
+            return Err(error);
+        }
+        if let Err(error) = keep_number(&mut self.numbers, alloc, &dataset, id) {
+            drop(dataset);
+            return Err(error);
+        }
         // There is room: no number is kept without its dataset.
         self.datasets.push(dataset)?;
         Ok(id)
