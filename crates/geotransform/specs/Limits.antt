@@ -1,4 +1,5 @@
 -- The limits of all rasters, whatever their format.
+use Rattle.std.specs.Prelude.{ℕ}
 
 -- The most columns of a raster, and the most lines.
 abbrev pub most_side : ℕ
