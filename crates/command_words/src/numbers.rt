@@ -29,6 +29,9 @@ impl Model for BlockCount {
 }
 
 impl BlockCount {
+    /// The most that are held.
+    const MOST: u32 = 65_536;
+
     /// As many as are held where nothing is said.
     pub const USUAL: BlockCount = BlockCount { number: 64 };
 
@@ -36,7 +39,7 @@ impl BlockCount {
     pub fn new(number: u32) -> Option<BlockCount>
         ensures exact { result ≡ (if nat_le 1 number && nat_le number most_blocks then Some number else None) }
     {
-        if number >= 1 && number <= 65_536 {
+        if number >= 1 && number <= Self::MOST {
             Some(BlockCount { number })
         } else {
             None

@@ -12,6 +12,9 @@ use crate::spans::Span;
 use crate::stretches::{all_stretches, total_of};
 use std::alloc::{AllocError, Global};
 
+// So many numbers all lists have together at most.
+const MOST_LISTED: u64 = 4_194_304;
+
 // Counts one more at each place of a span.
 fn count_between(counts: &mut Vec<u32>, span: Span)
     requires within { IsWithinCount (length counts.old.items) span }
@@ -105,7 +108,7 @@ pub fn lists_within(
 {
     let stretches = all_stretches(alloc, spans, cuts, height)?;
     let count = cuts.len() + 1;
-    if total_of(stretches.as_slice(), count) > 4_194_304 {
+    if total_of(stretches.as_slice(), count) > MOST_LISTED {
         return Ok(None);
     }
     Ok(Some(lists_of(alloc, stretches.as_slice(), count)?))

@@ -12,6 +12,7 @@ use crate::shares::{FEWEST_COPIED, FEWEST_MADE};
 use crate::translation::Translation;
 use catalog::{Catalog, Kind};
 use esri_hdr::Layout;
+use geotransform::MOST_SIDE;
 use lane_teams::WorkerCount;
 use translate_plan::{Driver, Plan};
 
@@ -26,6 +27,15 @@ pub enum BlockShape {
     Digits,
 }
 
+/// The most samples of a strip of more than one line.
+const MOST_SAMPLES: u32 = 4_194_304;
+
+// So many samples stay in a processor's cache: 1 MiB.
+const SAMPLES_NEAR: u32 = 65_536;
+
+// The most lines of a strip whose samples stay there.
+const MOST_NEAR: u32 = 32;
+
 /// The lines of a strip of so many columns, at most so many. It has 4,194,304 samples at most, or one line.
 pub fn height_of(most: u32, width: u32) -> u32
     requires any { 1 ≤ most }
@@ -35,7 +45,7 @@ pub fn height_of(most: u32, width: u32) -> u32
     ensures least { 1 ≤ result }
     ensures bound { width * result ≤ most_samples }
 {
-    let lines = 4_194_304 / width;
+    let lines = MOST_SAMPLES / width;
     lines.min(most)
 }
 
@@ -145,7 +155,7 @@ fn share_of(workers: u32) -> usize
     requires some { 1 ≤ workers }
     ensures share { result ≡ most_samples / workers }
 {
-    4_194_304 / workers as usize
+    MOST_SAMPLES as usize / workers as usize
 }
 
 // Whether several workers read a strip: where there are several, and each of them has enough samples for a thread.
@@ -165,7 +175,7 @@ fn lines_near(width: u32) -> u32
     ensures lines { result ≡ lines_near width }
     ensures any { 1 ≤ result }
 {
-    (65_536 / width).max(1).min(32)
+    (SAMPLES_NEAR / width).max(1).min(MOST_NEAR)
 }
 
 // The lines of a strip that one worker reads alone: of a file of bytes those that stay in the cache.
@@ -202,7 +212,7 @@ pub fn most_lines(translation: &Translation, workers: WorkerCount) -> u32
     ensures some { 1 ≤ result }
 {
     if is_tall(translation) {
-        4_194_304
+        MOST_SIDE
     } else if is_shared(translation, workers) {
         lines_of_all(lines_each(&translation.cat), workers.get())
     } else {
@@ -223,7 +233,7 @@ pub fn shares_blocks(translation: &Translation) -> bool
 pub fn lines_apart(translation: &Translation) -> u32 {
     let cat = &translation.cat;
     if has_blocks(cat, BlockShape::Columns) || has_blocks(cat, BlockShape::Squares) {
-        4_194_304
+        MOST_SIDE
     } else {
         0
     }
@@ -249,7 +259,7 @@ fn lines_held(translation: &Translation, blocks: u32) -> u32
     if is_woven(&translation.plan) && !is_tall(translation) {
         blocks
     } else {
-        4_194_304
+        MOST_SIDE
     }
 }
 

@@ -30,7 +30,7 @@ use crate::shares::fewest_for;
 use crate::spans::{Reach, Run, run_from};
 use crate::translation::Translation;
 use band_blocks::LoadFault;
-use geotransform::{PixelType, Rect, Sample, Size};
+use geotransform::{MOST_SIDE, PixelType, Rect, Sample, Size};
 use lane_teams::{Team, WorkerCount};
 use nearest_window::{Supply, Window};
 use outside::Folder;
@@ -220,7 +220,7 @@ fn next_run<S: Scene>(shown: &Shown<S>, rows: u32, lines: Lines) -> Next
     let plan = &shown.translation.plan;
     let height = source_size(shown.translation).h;
     let whole = Reach {
-        rows: 4_194_304,
+        rows: MOST_SIDE,
         apart: 0,
     };
     let run = run_from(plan, height, whole, lines.band, lines.first, lines.end);
@@ -389,7 +389,7 @@ fn lines_in(samples: usize, columns: u32) -> u32
         return 1;
     }
     let lines = samples / columns as usize;
-    lines.min(4_194_304) as u32
+    lines.min(MOST_SIDE as usize) as u32
 }
 
 // Reads lines of a band, one run after the other. After a refusal `samples` and `out` are unknown.
