@@ -9,7 +9,7 @@ use Rattle.catalog.specs.declared.kind.Kind.{Kind}
 use Rattle.catalog.specs.declared.kind.Kind.TheVariants as kinds
 use Rattle.translate_plan.specs.declared.options.Driver.{Driver}
 use Rattle.translate_plan.specs.declared.options.Driver.TheVariants.{EHdr, Dted, SrtmHgt, AaiGrid, Vrt}
-use Rattle.translate_plan.specs.Window.{most_side}
+use Rattle.geotransform.specs.Limits.{most_side}
 use Rattle.translate_plan.specs.Plan.{Planned}
 use Rattle.strip_copies.specs.declared.height.BlockShape.{BlockShape}
 use Rattle.strip_copies.specs.declared.height.BlockShape.TheVariants.{Columns, Squares, Digits}

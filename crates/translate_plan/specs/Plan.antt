@@ -21,11 +21,11 @@ use Rattle.translate_plan.specs.declared.options.Driver.TheVariants.{EHdr, Dted,
 use Rattle.translate_plan.specs.declared.band.OutBand.{OutBand}
 use Rattle.translate_plan.specs.declared.window.Window.{Window}
 use Rattle.translate_plan.specs.Options.{Options, IsDriver}
-use Rattle.translate_plan.specs.Window.{asked_in, window_in, inside_in, sides_of, size_in, farthest}
+use Rattle.translate_plan.specs.Window.{asked_in, window_in, inside_in, sides_of, size_in}
 use Rattle.translate_plan.specs.Fits.{is_single, count_in, geo_in, place_in, raw_in, holds_geo, holds_name, takes_kind}
 use Rattle.translate_plan.specs.Fits.{holds_kinds, takes_nodata}
 use Rattle.translate_plan.specs.Bands.{all_known, count_of, asked_bands, out_bands, no_out_band}
-use Rattle.geotransform.specs.Limits.{most_bands}
+use Rattle.geotransform.specs.Limits.{most_bands, farthest}
 
 -- the output's driver and layout, its size, bands and geotransform, and the window of the source that it shows
 pub record Planned : Type 0 where

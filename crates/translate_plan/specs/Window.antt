@@ -1,6 +1,7 @@
 -- The window of the source that is translated, and the size that it gets.
 use Rattle.std.specs.Prelude.{◌≤◌, ℕ, ℤ, pos, ◌+ℤ◌, ◌*◌, ◌/◌, Bool, false, not, ◌&&◌, ◌||◌, Option, Some, None, Result}
 use Rattle.std.specs.Prelude.{Ok, Err, nat_lt, int_lt, int_le, ◌==◌, if◌then◌else◌, unsigned_abs}
+use Rattle.geotransform.specs.Limits.{most_side, farthest}
 use Rattle.geotransform.specs.Places.{rounded_up}
 use Rattle.geotransform.specs.Geo.{Transform, IsRaster, window_between}
 use Rattle.geotransform.specs.declared.types.Size.{Size}
