@@ -1,5 +1,5 @@
 // Sources of a band.
-ghost use Rattle.std.specs.Prelude.{◌≡◌, ◌<◌, ◌≤◌, ◌-◌, ◌^◌, length, IfOk, IfSome, unsigned_abs, if◌then◌else◌, false};
+ghost use Rattle.std.specs.Prelude.{◌≡◌, ◌<◌, ◌≤◌, ◌-◌, ◌^◌, length, IfOk, IfSome, unsigned_abs, false};
 ghost use Rattle.std.specs.Prelude.{Result, Ok, Err, Option, None, Some, true};
 ghost use Rattle.std.specs.Option.{option_map, unwrap_or};
 ghost use Rattle.vrt_markup.specs.Forest.{inner, read_as, text_of, child_of};
@@ -323,40 +323,37 @@ fn ruled(rect: Option<MicroRect>) -> Option<MicroRect>
     }
 }
 
-fn nodata_or(complex: bool, nodata: Option<Option<NoData>>) -> Option<i128>
-    ensures value { result ≡ (if complex then value_in nodata else None) }
+fn nodata_or_none(nodata: Option<Option<NoData>>) -> Option<i128>
+    ensures value { result ≡ value_in nodata }
     ensures small { IfSome result (λ n. unsigned_abs n < 10 ^ 20) }
-    ensures simple { complex ≡ false → result ≡ None }
 {
     match nodata {
-        Some(Some(nodata)) if complex => Some(nodata.get()),
+        Some(Some(nodata)) => Some(nodata.get()),
         _ => None,
     }
 }
 
-fn scale_or(complex: bool, scale: Option<Scale>, plain: i128) -> i128
+fn scale_or(scale: Option<Scale>, plain: i128) -> i128
     requires plain { unsigned_abs plain < 10 ^ 24 }
-    ensures value { result ≡ (if complex then unwrap_or scale plain else plain) }
+    ensures value { result ≡ unwrap_or scale plain }
     ensures small { unsigned_abs result < 10 ^ 24 }
-    ensures simple { complex ≡ false → result ≡ plain }
 {
     match scale {
-        Some(scale) if complex => scale.get(),
-        _ => plain,
+        Some(scale) => scale.get(),
+        None => plain,
     }
 }
 
-fn lut_or(complex: bool, lut: Option<Lut>) -> Option<Lut>
-    ensures value { result ≡ (if complex then lut else None) }
+fn ruled_lut(lut: Option<Lut>) -> Option<Lut>
+    ensures same { result ≡ lut }
     ensures rules { IfSome result IsLut }
-    ensures simple { complex ≡ false → result ≡ None }
 {
     match lut {
-        Some(lut) if complex => {
+        Some(lut) => {
             let _pairs = lut.pairs();
             Some(lut)
         }
-        _ => None,
+        None => None,
     }
 }
 
@@ -373,11 +370,14 @@ fn scaling_of(
     ensures rules { IfOk result IsScaling }
     ensures simple { complex ≡ false → IfOk result (λ s. s ≡ no_scaling) }
 {
+    if !complex {
+        return Ok(Scaling::none());
+    }
     let parts = ScalingParts {
-        nodata: nodata_or(complex, nodata),
-        offset: scale_or(complex, offset, 0),
-        ratio: scale_or(complex, ratio, 1_000_000_000_000),
-        lut: lut_or(complex, lut),
+        nodata: nodata_or_none(nodata),
+        offset: scale_or(offset, 0),
+        ratio: scale_or(ratio, 1_000_000_000_000),
+        lut: ruled_lut(lut),
     };
     Scaling::of(alloc, parts)
 }
