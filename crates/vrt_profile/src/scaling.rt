@@ -120,11 +120,7 @@ fn kept_table(alloc: Global, nodata: Option<i128>, lut: Lut) -> Result<Kept, All
 }
 
 // What is kept of parts that scale no pixel.
-fn kept_unscaled(
-    alloc: Global,
-    nodata: Option<i128>,
-    lut: Option<Lut>,
-) -> Result<Kept, AllocError>
+fn kept_unscaled(alloc: Global, nodata: Option<i128>, lut: Option<Lut>) -> Result<Kept, AllocError>
     ensures kept { IfOk result (λ k. kept_scaling k ≡ record no_scaling { nodata = nodata; lut = lut }) }
 {
     match lut {
@@ -159,7 +155,9 @@ impl Scaling {
     pub fn of(alloc: Global, parts: ScalingParts) -> Result<Scaling, AllocError>
         ensures same { IfOk result (λ s. s ≡ parts) }
     {
-        Ok(Scaling { kept: kept_of(alloc, parts)? })
+        Ok(Scaling {
+            kept: kept_of(alloc, parts)?,
+        })
     }
 
     /// The pixel that gives nothing.
