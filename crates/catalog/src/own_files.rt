@@ -85,6 +85,15 @@ pub fn read_dataset<F: Folder>(
     })
 }
 
+// The head of a dataset that is let go.
+fn head_alone(dataset: Dataset) -> Head
+    ensures head { result ≡ dataset.head }
+{
+    let Dataset { head, content, .. } = dataset;
+    drop(content);
+    head
+}
+
 /// The head of the dataset of a name: what its extension and its own files say. `verify` asks for the
 /// sums of DTED records.
 ///
@@ -125,6 +134,11 @@ pub fn head_of<F: Folder>(
 {
     let kind = kind_of(name)?;
     let dataset = read_dataset(alloc, folder, kind, name, verify)?;
-    names_within(name, &dataset.content)?;
-    Ok(dataset.head)
+    match names_within(name, &dataset.content) {
+        Ok(()) => Ok(head_alone(dataset)),
+        Err(fault) => {
+            drop(dataset);
+            Err(fault)
+        }
+    }
 }
