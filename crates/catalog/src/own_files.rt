@@ -77,12 +77,17 @@ pub fn read_dataset<F: Folder>(
     ensures of_file { IfErr result IsOfFile }
 {
     let found = find(alloc, folder, kind, name, verify)?;
-    let head = content_head(alloc, name, &found.content)?;
-    Ok(Dataset {
-        head,
-        content: found.content,
-        length: found.length,
-    })
+    match content_head(alloc, name, &found.content) {
+        Ok(head) => Ok(Dataset {
+            head,
+            content: found.content,
+            length: found.length,
+        }),
+        Err(fault) => {
+            drop(found);
+            Err(fault)
+        }
+    }
 }
 
 // The head of a dataset that is let go.
