@@ -61,9 +61,9 @@ impl Model for Grid {
     }) };
 }
 
-// The way of so many steps.
+/// The way of so many steps.
 #[tactic(auto, using(crate::proofs::Measures::way_bound))]
-fn way_of(count: u32, step: i128) -> i128
+pub fn way_of(count: u32, step: i128) -> i128
     requires count { count ≤ most_side }
     requires step { IsNear step }
     ensures value { result ≡ pos count *ℤ step }
