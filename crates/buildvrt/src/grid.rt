@@ -61,6 +61,18 @@ impl Model for Grid {
     }) };
 }
 
+/// The way of so many steps.
+#[tactic(auto, using(crate::proofs::Measures::way_bound))]
+pub fn way_of(count: u32, step: i128) -> i128
+    requires count { count ≤ most_side }
+    requires step { IsNear step }
+    ensures value { result ≡ pos count *ℤ step }
+    ensures bound { unsigned_abs result ≤ most_side * (10 ^ 12 * unit) }
+{
+    let steps = count as i128;
+    steps * step
+}
+
 // The place `count` steps from `start`.
 fn edge(start: i128, step: i128, count: u32) -> i128
     requires start { IsNear start }
@@ -69,7 +81,7 @@ fn edge(start: i128, step: i128, count: u32) -> i128
     ensures value { result ≡ start +ℤ (pos count *ℤ step) }
     ensures bound { unsigned_abs result < 10 ^ 36 }
 {
-    start + count as i128 * step
+    start + way_of(count, step)
 }
 
 // A number of an input.

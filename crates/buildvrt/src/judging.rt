@@ -309,8 +309,34 @@ fn judge_beyond<'a>(
     judge_behind(options, reference, &taken, first, heads, judged)
 }
 
-/// The inputs that stay and those that are skipped. The reference is the first that stays.
+// Adds the verdicts on all inputs.
 #[tactic(auto, using(crate::proofs::Verdicts::from_found, crate::proofs::Verdicts::from_skipped))]
+fn judge_all<'a>(
+    alloc: Global,
+    options: &BuildOptions,
+    heads: &[Input<'a>],
+    judged: &mut Judged<'a>,
+) -> Result<(), AllocError>
+    requires few { length heads.now ≤ most_datasets }
+    ensures judged { OnOk result (judged.new ≡ joined judged.old (judged_of options.now heads.now)) }
+{
+    let mut number = 0;
+    for input in heads {
+        let head = input.head;
+        match judge_alone(options, head) {
+            Ok(tile) => {
+                judged.add(number, Ok(tile))?;
+                let rest = &heads[number as usize + 1..];
+                return judge_beyond(alloc, options, head, number + 1, rest, judged);
+            }
+            Err(reason) => judged.add(number, Err(reason))?,
+        }
+        number += 1;
+    }
+    Ok(())
+}
+
+/// The inputs that stay and those that are skipped. The reference is the first that stays.
 pub fn judge<'a>(
     alloc: Global,
     options: &BuildOptions,
@@ -320,21 +346,13 @@ pub fn judge<'a>(
     ensures judged { IfOk result (λ j. j ≡ judged_of options.now heads.now) }
 {
     let mut judged = Judged::new(alloc);
-    let mut number = 0;
-    for input in heads {
-        let head = input.head;
-        match judge_alone(options, head) {
-            Ok(tile) => {
-                judged.add(number, Ok(tile))?;
-                let rest = &heads[number as usize + 1..];
-                judge_beyond(alloc, options, head, number + 1, rest, &mut judged)?;
-                return Ok(judged);
-            }
-            Err(reason) => judged.add(number, Err(reason))?,
+    match judge_all(alloc, options, heads, &mut judged) {
+        Ok(()) => Ok(judged),
+        Err(error) => {
+            drop(judged);
+            Err(error)
         }
-        number += 1;
     }
-    Ok(judged)
 }
 
 // The first skipped input is refused.

@@ -10,7 +10,7 @@ ghost use Rattle.buildvrt.specs.Rectangles.{shown_at, patch_of, patches_of, IsPi
 ghost use Rattle.geotransform.specs.Limits.{farthest, most_side};
 
 use crate::faults::BuildFault;
-use crate::grid::{Grid, difference, negative, rounded, some_pixels};
+use crate::grid::{Grid, difference, negative, rounded, some_pixels, way_of};
 use crate::tile::Tile;
 use catalog::Head;
 use geotransform::{Size, Ticks};
@@ -54,7 +54,7 @@ fn way(count: u32, step: Ticks) -> Ticks
     requires step { IsNear step }
     ensures value { result ≡ pos count *ℤ step }
 {
-    Ticks::of(count as i128 * step.get())
+    Ticks::of(way_of(count, step.get()))
 }
 
 // The pixels on which an input comes to lie.
