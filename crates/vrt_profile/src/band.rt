@@ -27,6 +27,9 @@ use vrt_markup::{
     Level, Parts, Seen, Tag, VrtFault, attribute, children_of, is_equal, text_element,
 };
 
+/// The most sources of all bands of a document.
+const MOST_SOURCES: usize = 262_144;
+
 /// What is read of a band so far, where so many sources were taken before it.
 #[derive(Drop)]
 pub struct BandParts {
@@ -62,7 +65,7 @@ impl BandParts {
     fn is_full(&self) -> bool
         ensures full { result ≡ nat_le most_sources (self.now.taken + length self.now.sources) }
     {
-        self.taken >= 262_144 || self.sources.len() >= 262_144 - self.taken
+        self.taken >= MOST_SOURCES || self.sources.len() >= MOST_SOURCES - self.taken
     }
 
     // Puts a NoDataValue.

@@ -29,6 +29,9 @@ use vrt_markup::{
     text_element,
 };
 
+/// The most bands of a document.
+const MOST_BANDS: usize = geotransform::MOST_BANDS as usize;
+
 /// What is read of a dataset so far, and how many sources its bands have.
 #[derive(Drop)]
 pub struct DatasetParts {
@@ -135,7 +138,7 @@ impl DatasetParts {
         requires fits { IfOk band (λ b. self.old.taken + length b.sources ≤ most_sources) }
         ensures parts { Gives (λ k. kept_of self.new k) result (Ok (with_raster_band self.old band)) }
     {
-        if self.bands.len() >= 256 {
+        if self.bands.len() >= MOST_BANDS {
             return Ok(Err(VrtFault::Limit));
         }
         match band {

@@ -11,7 +11,7 @@ use outside::{Name, NameFault, Text};
 use std::alloc::{AllocError, Global};
 
 // The greatest length of a name in bytes.
-const LONGEST: u64 = 4096;
+const LONGEST: u64 = outside::LONGEST_NAME as u64;
 
 fn is_absolute(text: &str) -> bool
     ensures absolute { result ≡ is_absolute text.now }
