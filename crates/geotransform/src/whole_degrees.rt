@@ -1,5 +1,5 @@
 // Rasters whose outer pixels have their centres at whole degrees one apart.
-ghost use Rattle.std.specs.Prelude.{◌≡◌, ◌<◌, ◌≤◌, ◌^◌, ◌*◌, ℤ, pos, ◌+ℤ◌, ◌-ℤ◌, ◌*ℤ◌, ◌<ℤ◌, ◌≤ℤ◌, IfSome};
+ghost use Rattle.std.specs.Prelude.{◌≡◌, ◌<◌, ◌≤◌, ◌^◌, ◌*◌, ◌/◌, ℤ, pos, ◌+ℤ◌, ◌-ℤ◌, ◌*ℤ◌, ◌<ℤ◌, ◌≤ℤ◌, IfSome};
 ghost use Rattle.std.specs.Prelude.{unsigned_abs};
 ghost use Rattle.geotransform.specs.Geo.{IsNear};
 ghost use Rattle.geotransform.specs.Degrees.{degrees, twice_centre, degree_near, is_at, in_range, are_at};
@@ -96,6 +96,14 @@ fn way(twice: i128, degree: i32) -> u128
     (twice - 2 * degrees(degree)).unsigned_abs()
 }
 
+/// Twice a thousandth of a spacing.
+fn twice_thousandth(spacing: u64) -> u128
+    ensures { result ≡ 2 * spacing / 1000 }
+{
+    let wide = spacing as u128;
+    2 * wide / 1000
+}
+
 /// Whether half of so many ticks is within a thousandth of a spacing of a whole degree.
 #[tactic(auto, using(crate::proofs::Centres::thousandth_is))]
 pub fn is_at(spacing: u64, twice: i128, degree: i32) -> bool
@@ -103,7 +111,7 @@ pub fn is_at(spacing: u64, twice: i128, degree: i32) -> bool
     requires degree { unsigned_abs degree ≤ 181 }
     ensures at { result ≡ is_at spacing twice degree }
 {
-    way(twice, degree) <= 2 * spacing as u128 / 1000
+    way(twice, degree) <= twice_thousandth(spacing)
 }
 
 /// A degree from `-limit` on and below the limit.
