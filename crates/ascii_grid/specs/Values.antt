@@ -10,12 +10,13 @@ use Rattle.geotransform.specs.Types.{is_in}
 use Rattle.geotransform.specs.declared.types.PixelType.TheVariants.{Int32}
 use Rattle.ascii_grid.specs.declared.faults.GridFault.{GridFault}
 use Rattle.ascii_grid.specs.declared.faults.GridFault.TheVariants.{BadToken, NotInteger, Limit}
+use Rattle.geotransform.specs.Limits.{most_side}
 
 -- a number of columns or rows: one to nine digits that write a number above 0
 unfoldable pub side_in : ℕ → List ℕ → Result ℕ GridFault
 side_in at text = do
   n ← ok_or (number_of text) (BadToken at)
-  if nat_lt 9 (length text) || (n == 0) then Err (BadToken at) else (if nat_lt 4194304 n then Err Limit else Ok n)
+  if nat_lt 9 (length text) || (n == 0) then Err (BadToken at) else (if nat_lt most_side n then Err Limit else Ok n)
 
 -- a coordinate in ticks
 abbrev pub coordinate_in : ℕ → List ℕ → Result ℤ GridFault

@@ -2,6 +2,7 @@
 ghost use Rattle.std.specs.Prelude.{◌≡◌, ◌<◌, ◌≤◌, ◌*◌, ◌^◌, ◌%◌, unsigned_abs, true};
 ghost use Rattle.geotransform.specs.Decimal.{IsRead};
 ghost use Rattle.ascii_grid.specs.Values.{is_value};
+ghost use Rattle.geotransform.specs.Limits.{most_side};
 
 use geotransform::{GeoTransform, Sample, Ticks};
 use std::marker::Model;
@@ -29,19 +30,20 @@ pub struct Side {
 
 impl Model for Side {
     ghost use Rattle.std.specs.Prelude.{◌<◌, ◌≤◌, ℕ};
+    ghost use Rattle.geotransform.specs.Limits.{most_side};
 
     ghost Value = { ℕ };
 
     ghost view = { λ s. s.count };
 
-    ghost invariant = { λ s. (0 < s.count) × (s.count ≤ 4194304) };
+    ghost invariant = { λ s. (0 < s.count) × (s.count ≤ most_side) };
 
     ghost inverse = { λ n. record { count = n } };
 }
 
 impl Side {
     pub fn new(count: u32) -> Side
-        requires { (0 < count) × (count ≤ 4194304) }
+        requires { (0 < count) × (count ≤ most_side) }
         ensures { result ≡ count }
     {
         Side { count }
@@ -50,7 +52,7 @@ impl Side {
     pub fn get(self) -> u32
         ensures value { result ≡ self }
         ensures some { 0 < result }
-        ensures bound { result ≤ 4194304 }
+        ensures bound { result ≤ most_side }
     {
         self.count
     }

@@ -4,6 +4,7 @@ ghost use Rattle.std.specs.Prelude.{IfErr, OnOk};
 ghost use Rattle.lists_and_answers.specs.Texts.{same_letters};
 ghost use Rattle.geotransform.specs.Geo.{IsTransform};
 ghost use Rattle.ascii_grid.specs.Keys.{key_of, with_value, edge_of, steps_of, placed, shape_of};
+ghost use Rattle.geotransform.specs.Limits.{most_side};
 
 use crate::faults::GridFault;
 use crate::head_parts::{Found, Key, LowerLeft, Shape, Side, Step};
@@ -112,7 +113,7 @@ fn steps_of(cellsize: Option<Step>, dx: Option<Step>, dy: Option<Step>) -> Optio
 #[tactic(auto, using(crate::proofs::Products::height_small))]
 fn height_of(h: Side, step: Step) -> i128
     ensures value { result ≡ pos (h * step) }
-    ensures bound { unsigned_abs result ≤ 4194304 * (18 * 10 ^ 28) }
+    ensures bound { unsigned_abs result ≤ most_side * (18 * 10 ^ 28) }
 {
     (u128::from(h.get()) * step.get()) as i128
 }
@@ -120,7 +121,7 @@ fn height_of(h: Side, step: Step) -> i128
 // The upper edge of rows whose lower edge and height these are.
 fn top_of(bottom: i128, height: i128) -> Ticks
     requires bottom { unsigned_abs bottom < 36 * 10 ^ 28 }
-    requires height { unsigned_abs height ≤ 4194304 * (18 * 10 ^ 28) }
+    requires height { unsigned_abs height ≤ most_side * (18 * 10 ^ 28) }
     ensures { result ≡ bottom +ℤ height }
 {
     Ticks::of(bottom + height)

@@ -3,6 +3,7 @@ ghost use Rattle.std.specs.Prelude.{◌≡◌, ◌≤◌, ◌^◌, ◌*◌, ◌*
 ghost use Rattle.std.specs.Option.{option_map};
 ghost use Rattle.geotransform.specs.Geo.{IsRaster, IsNear, along};
 ghost use Rattle.ascii_grid.specs.Text.{placing_of};
+ghost use Rattle.geotransform.specs.Limits.{most_side};
 
 use geotransform::{GeoTransform, Size, Ticks, round16};
 
@@ -17,17 +18,17 @@ pub struct Placing {
 
 // The way over so many lines.
 fn depth(h: u32, step: Ticks) -> i128
-    requires h { h ≤ 4194304 }
+    requires h { h ≤ most_side }
     requires step { IsNear step }
     ensures value { result ≡ pos h *ℤ step }
-    ensures bound { unsigned_abs result ≤ 4194304 * (18 * 10 ^ 28) }
+    ensures bound { unsigned_abs result ≤ most_side * (18 * 10 ^ 28) }
 {
     h as i128 * step.get()
 }
 
 // The place of the edge below so many lines.
 fn below(geo: &GeoTransform, h: u32) -> Ticks
-    requires { h ≤ 4194304 }
+    requires { h ≤ most_side }
     ensures place { result ≡ along geo.now.oy geo.now.dy (pos h) }
     ensures small { unsigned_abs result ≤ 10 ^ 36 }
 {
@@ -44,7 +45,7 @@ fn opposite(step: Ticks) -> Ticks
 
 // The edges and the sizes of a geotransform, rounded to 16 places.
 fn rounded(size: Size, geo: &GeoTransform) -> Placing
-    requires { size.h ≤ 4194304 }
+    requires { size.h ≤ most_side }
     ensures { result ≡ placing_of size (Some geo.now) }
 {
     Placing {
@@ -57,7 +58,7 @@ fn rounded(size: Size, geo: &GeoTransform) -> Placing
 
 /// What is written of a geotransform, or of none: the place 0 and sizes of one unit.
 pub fn placing_of(size: Size, geo: Option<&GeoTransform>) -> Placing
-    requires { size.h ≤ 4194304 }
+    requires { size.h ≤ most_side }
     ensures { result ≡ placing_of size (option_map (λ g. g.now) geo.entry) }
 {
     match geo {

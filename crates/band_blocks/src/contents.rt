@@ -11,6 +11,7 @@ ghost use Rattle.lists_and_answers.specs.Places.{StandsAt};
 ghost use Rattle.dted_records.specs.Places.{record_of};
 ghost use Rattle.dted_records.specs.Records.{point_of};
 ghost use Rattle.band_blocks.specs.Samples.{HasPlaces, HasSample, place_of, width_of};
+ghost use Rattle.geotransform.specs.Limits.{most_side};
 
 use crate::grid::read_grid_row;
 use crate::int16::{single_elevation, single_item};
@@ -81,7 +82,7 @@ fn elevation_place(head: &DtedHead, x: u32, y: u32) -> u64
 
 // The place of the sample of a column and a line of a tile.
 fn item_place(side: u32, x: u32, y: u32) -> u64
-    requires short { side ≤ 4194304 }
+    requires short { side ≤ most_side }
     requires column { x < side }
     requires line { y < side }
     ensures place { result ≡ 2 * (y * side + x) }

@@ -5,7 +5,7 @@ use Rattle.std.specs.List.{IsDistinct}
 use Rattle.std.specs.Map.{lookup, lookup_entry, remove_entry, keys_of, set_value}
 use Rattle.std.specs.Option.{option_map_or, option_or}
 use Rattle.band_blocks.specs.declared.key.BlockKey.{BlockKey}
-use Rattle.band_blocks.specs.Blocks.{BlockView, block_view, written}
+use Rattle.band_blocks.specs.Blocks.{BlockView, block_view, written, most_blocks}
 use Rattle.band_blocks.specs.Keys.{same_key}
 use Rattle.block_cache.specs.declared.pool.Entry.{Entry}
 use Rattle.block_cache.specs.declared.pool.Evicted.{Evicted}
@@ -25,7 +25,7 @@ pub record IsPool (pool : PoolView) : Type 0 where
   pub distinct : IsDistinct same_key (keys_of pool.entries)
   pub within : length pool.entries ≤ pool.capacity
   pub some : 0 < pool.capacity
-  pub few : pool.capacity ≤ 65536
+  pub few : pool.capacity ≤ most_blocks
 
 -- the entry of the key, if it is held
 abbrev pub held_at : BlockKey → List (BlockKey × Entry) → Option Entry

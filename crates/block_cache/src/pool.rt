@@ -2,7 +2,7 @@ ghost use Rattle.std.specs.Prelude.{◌≡◌, ◌≤◌, ◌<◌, ◌-◌, ◌+
 ghost use Rattle.std.specs.Prelude.{IfErr, IfSome, IsSome, IsOk, is_some, option_map, slice_get};
 ghost use Rattle.std.specs.Borrow.{sem};
 ghost use Rattle.std.specs.Option.{option_copied};
-ghost use Rattle.band_blocks.specs.Blocks.{AreIn};
+ghost use Rattle.band_blocks.specs.Blocks.{AreIn, most_blocks};
 ghost use Rattle.block_cache.specs.Entries.{pool_view, entry_of, entry_dropped, patched_block, held_at, moved_to_front};
 ghost use Rattle.block_cache.specs.Entries.{admitted, dropped, patched, IsPool, last_dirty, left_by};
 ghost use Rattle.block_cache.specs.PoolLends.{ends_as};
@@ -50,7 +50,7 @@ impl Pool {
     /// An empty pool of 1 to 65,536 blocks. It is refused where memory is.
     pub fn new(alloc: Global, capacity: u32) -> Result<Pool, AllocError>
         requires some { 1 ≤ capacity }
-        requires few { capacity ≤ 65536 }
+        requires few { capacity ≤ most_blocks }
         ensures empty { IfOk result (λ pool. pool ≡ pool_view [] capacity) }
     {
         let capacity = NonZeroUsize::new(capacity as usize).unwrap();

@@ -1,10 +1,11 @@
 -- Numbers of the inputs: least, greatest, sum and mean.
-use Rattle.std.proofs.Common.{◌≡◌, ℕ, ℤ, pos, negsuc, ◌+◌, ◌*◌, ◌^◌, ◌<◌, ◌≤◌, ◌≤ℤ◌, ◌+ℤ◌, Bool, true, false, cond, ◌%◌, List, length, drop, get_or, refl, ap, ◌∙◌, arith, add-one, drop-cons, unsigned_abs, Option, Some, None}
+use Rattle.std.proofs.Common.{◌≡◌, ℕ, ℤ, pos, negsuc, ◌+◌, ◌*◌, ◌^◌, ◌<◌, ◌≤◌, ◌≤ℤ◌, ◌+ℤ◌, ◌*ℤ◌, Bool, true, false, cond, ◌%◌, List, length, drop, get_or, refl, ap, ◌∙◌, arith, add-one, drop-cons, unsigned_abs, Option, Some, None}
 use Rattle.std.specs.Prelude.{int_lt, IfSome}
 use Rattle.std.proofs.Math.Nat.{mul-le-mul_right}
 use Rattle.std.proofs.lemmas.Nat.{le-div}
 use Rattle.std.proofs.lemmas.Int.{ints}
 use Rattle.geotransform.specs.Decimal.{half_up}
+use Rattle.geotransform.proofs.Products.{product_within}
 use Rattle.geotransform.proofs.Numbers.{half_le}
 use Rattle.geotransform.specs.Geo.{IsTransform}
 use Rattle.geotransform.specs.Geo.{Transform, transform_of}
@@ -14,6 +15,10 @@ use Rattle.vrt_profile.specs.Values.{IsDecimal}
 use Rattle.buildvrt.specs.Tiles.{TileValue}
 use Rattle.buildvrt.specs.declared.grid.Measure.{Measure}
 use Rattle.buildvrt.specs.Grids.{measure, IsMeasure, IsStep, less_of, greater_of, least_from, greatest_from, sum_from}
+
+-- the way of so many steps
+pub way_bound : (n : ℕ) (step : ℤ) → n ≤ 4194304 → unsigned_abs step < 10 ^ 12 * unit → unsigned_abs (pos n *ℤ step) ≤ 4194304 * (10 ^ 12 * unit)
+way_bound n step p q = product_within (pos n) step 4194304 (10 ^ 12 * unit) p q
 
 -- one input more
 pub least_next : (m : Measure) (x : ℤ) (ts : List TileValue) (i : ℕ) (t : TileValue) → i < length ts → t ≡ get_or ts i t → least_from m (less_of x (measure m t)) (drop (i + 1) ts) ≡ least_from m x (drop i ts)

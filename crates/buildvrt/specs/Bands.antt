@@ -4,7 +4,7 @@ use Rattle.std.specs.Prelude.{Result, Ok, Err, if◌then◌else◌}
 use Rattle.std.specs.List.{filter_map}
 use Rattle.geotransform.specs.Types.{is_in}
 use Rattle.geotransform.specs.declared.types.PixelType.{PixelType}
-use Rattle.vrt_profile.specs.Values.{SourceValue, BandValue, Rectangle, source_count}
+use Rattle.vrt_profile.specs.Values.{SourceValue, BandValue, Rectangle, source_count, most_sources}
 use Rattle.vrt_profile.specs.Cover.{whole}
 use Rattle.vrt_profile.specs.Built.{plain_source}
 use Rattle.vrt_profile.specs.Resolve.{related}
@@ -17,6 +17,7 @@ use Rattle.catalog.specs.declared.nodata.NodataWord.{NodataWord}
 use Rattle.catalog.specs.declared.nodata.NodataWord.TheVariants.{Absent, Remove, Number}
 use Rattle.buildvrt.specs.declared.faults.BuildFault.{BuildFault}
 use Rattle.buildvrt.specs.declared.faults.BuildFault.TheVariants.{Limit}
+use Rattle.geotransform.specs.Limits.{most_bands}
 
 -- the NODATA of a source, from that of the input's band
 abbrev pub source_nodata : NodataWord → Option ℤ → Option ℤ
@@ -82,7 +83,7 @@ all_bands o reference patches = if o.separate then separate_bands o patches else
 
 -- the limits of a document: its bands, and the sources of all bands
 abbrev pub is_few : ℕ → ℕ → Bool
-is_few bands sources = nat_le bands 256 && nat_le sources 262144
+is_few bands sources = nat_le bands most_bands && nat_le sources most_sources
 
 abbrev pub bands_within : List BandValue → Result (List BandValue) BuildFault
 bands_within bands = if is_few (length bands) (source_count bands) then Ok bands else Err Limit
@@ -94,5 +95,5 @@ shown_count patches = length (filter_map (λ p. p.shown) patches)
 -- bands that a document may have
 pub record FitsDocument (bands : List BandValue) : Type 0 where
   pub some : 0 < length bands
-  pub few : length bands ≤ 256
-  pub sources : source_count bands ≤ 262144
+  pub few : length bands ≤ most_bands
+  pub sources : source_count bands ≤ most_sources

@@ -13,6 +13,7 @@ use Rattle.buildvrt.specs.declared.options.Resolution.TheVariants.{Highest, Lowe
 use Rattle.buildvrt.specs.declared.options.Extent.{Extent}
 use Rattle.buildvrt.specs.declared.grid.Measure.{Measure}
 use Rattle.buildvrt.specs.declared.grid.Measure.TheVariants.{ColumnStep, LineStep, Left, Right, Top, Bottom}
+use Rattle.geotransform.specs.Limits.{most_side}
 
 -- A number of an input: the sides of its pixels, counted positive, and its edges.
 abbrev pub measure : Measure → TileValue → ℤ
@@ -87,7 +88,7 @@ some_pixels way step = greater_of (pos 1) (rounded_up way step)
 
 -- the columns, or lines, of a mosaic, where they are within the limit
 abbrev pub side_within : ℤ → Option ℕ
-side_within n = if int_lt (pos 4194304) n then None else Some (unsigned_abs n)
+side_within n = if int_lt (pos most_side) n then None else Some (unsigned_abs n)
 
 abbrev pub side_of : ℤ → ℤ → Option ℕ
 side_of way step = side_within (some_pixels way step)

@@ -7,6 +7,7 @@ use Rattle.buildvrt.specs.declared.options.Resolution.TheVariants.{Highest, Lowe
 use Rattle.buildvrt.specs.declared.options.Extent.{Extent}
 use Rattle.catalog.specs.declared.nodata.NodataWord.{NodataWord}
 use Rattle.catalog.specs.declared.nodata.NodataWord.TheVariants.{Absent, Remove, Number}
+use Rattle.geotransform.specs.Limits.{most_bands}
 
 pub record Options : Type 0 where
   -- the name of the document that the mosaic is for
@@ -43,7 +44,7 @@ pub record IsExtent (e : Extent) : Type 0 where
 -- a number of a band
 pub record IsBandNumber (n : ℕ) : Type 0 where
   pub from_one : 0 < n
-  pub few : n ≤ 256
+  pub few : n ≤ most_bands
 
 -- a number of a type of 64 bits, with or without a sign
 abbrev pub IsWord : NodataWord → Type 0

@@ -13,6 +13,7 @@ use Rattle.buildvrt.specs.declared.grid.Measure.TheVariants.{ColumnStep, LineSte
 use Rattle.buildvrt.specs.declared.patch.PixelRect.{PixelRect}
 use Rattle.buildvrt.specs.declared.faults.BuildFault.{BuildFault}
 use Rattle.buildvrt.specs.declared.faults.BuildFault.TheVariants.{Limit}
+use Rattle.geotransform.specs.Limits.{farthest}
 
 -- the pixels on which an input comes to lie
 abbrev pub rectangle_of : GridValue → TileValue → PixelRect
@@ -32,7 +33,7 @@ meets size r = meets_side r.x r.w size.w && meets_side r.y r.h size.h
 
 -- the limits of a document's rectangles
 abbrev pub is_offset : ℤ → Bool
-is_offset v = nat_le (unsigned_abs v) 8388608
+is_offset v = nat_le (unsigned_abs v) farthest
 
 abbrev pub is_within : PixelRect → Bool
 is_within r = is_offset r.x && (is_offset r.y && (is_offset r.w && is_offset r.h))

@@ -11,6 +11,7 @@ ghost use Rattle.buildvrt.specs.Mosaic.{IsMemory};
 ghost use Rattle.buildvrt.specs.Bands.{source_nodata, wanted_nodata, wanted_by_source, in_type, own_nodata, source_of};
 ghost use Rattle.buildvrt.specs.Bands.{source_in, band_from, band_with, common_bands, own_band, separate_bands};
 ghost use Rattle.buildvrt.specs.Bands.{all_bands, bands_within, shown_count, is_few, FitsDocument};
+ghost use Rattle.catalog.specs.Dataset.{most_datasets};
 
 use crate::faults::BuildFault;
 use crate::judging::{band_of, head_rules, taken_bands};
@@ -261,7 +262,7 @@ fn shown_count(patches: &[Patch]) -> usize
 
 // Whether so many bands, each of which has so many sources, are within the limits.
 fn is_few(bands: usize, each: usize) -> bool
-    requires { each ≤ 65536 }
+    requires { each ≤ most_datasets }
     ensures { result ≡ is_few bands (bands * each) }
 {
     bands <= MOST_BANDS && bands * each <= MOST_SOURCES
@@ -279,7 +280,7 @@ fn common_within(
     requires numbers { All IsBandNumber taken.now }
     requires has { has_bands reference.now taken.now ≡ true }
     requires some { 0 < length taken.now }
-    requires few { length patches.now ≤ 65536 }
+    requires few { length patches.now ≤ most_datasets }
     ensures bands { Gives IsMemory (λ l. l) result
         (bands_within (filter_map (band_with options.now reference.now patches.now) taken.now)) }
     ensures rules { IfOk result FitsDocument }
@@ -322,7 +323,7 @@ pub fn bands_of(
     requires has { has_bands reference.now options.now.bands ≡ true }
     requires patches { All IsPatch patches.now }
     requires some { 0 < length patches.now }
-    requires few { length patches.now ≤ 65536 }
+    requires few { length patches.now ≤ most_datasets }
     ensures bands { Gives IsMemory (λ l. l) result (bands_within (all_bands options.now reference.now patches.now)) }
     ensures rules { IfOk result FitsDocument }
 {

@@ -4,6 +4,7 @@ ghost use Rattle.lists_and_answers.specs.Answers.{Gives};
 ghost use Rattle.buildvrt.specs.Tiles.{TileValue};
 ghost use Rattle.buildvrt.specs.Judging.{has_bands, reference_of, judged_of};
 ghost use Rattle.buildvrt.specs.Mosaic.{IsMemory, document_on, document_by, mosaic_by, mosaic_of, HasReference};
+ghost use Rattle.catalog.specs.Dataset.{most_datasets};
 
 use crate::bands::bands_of;
 use crate::faults::{BuildFault, SkipList};
@@ -28,7 +29,7 @@ fn document_on(
 ) -> Result<Document, BuildFault>
     requires has { has_bands reference.now options.now.bands ≡ true }
     requires some { 0 < length tiles.now }
-    requires few { length tiles.now ≤ 65536 }
+    requires few { length tiles.now ≤ most_datasets }
     ensures document { Gives IsMemory (λ d. d) result (document_on options.now reference.now grid.now tiles.now) }
 {
     let patches = match patches_of(alloc, grid, tiles) {
@@ -50,7 +51,7 @@ fn document_by(
     tiles: &[Tile],
 ) -> Result<Document, BuildFault>
     requires has { HasReference options.now tiles.now }
-    requires few { length tiles.now ≤ 65536 }
+    requires few { length tiles.now ≤ most_datasets }
     ensures document { Gives IsMemory (λ d. d) result (document_by options.now tiles.now) }
 {
     let Some(reference) = tiles.first() else {
@@ -72,7 +73,7 @@ fn document_of(
     heads: &[Input],
     judged: &Judged,
 ) -> Result<Document, BuildFault>
-    requires few { length heads.now ≤ 65536 }
+    requires few { length heads.now ≤ most_datasets }
     requires judged { judged.now ≡ judged_of options.now heads.now }
     ensures document { Gives IsMemory (λ d. d) result (document_by options.now judged.now.tiles) }
 {
@@ -87,7 +88,7 @@ fn mosaic_by(
     heads: &[Input],
     judged: Judged,
 ) -> Result<(Document, SkipList), BuildFault>
-    requires few { length heads.now ≤ 65536 }
+    requires few { length heads.now ≤ most_datasets }
     requires judged { judged ≡ judged_of options.now heads.now }
     ensures mosaic { Gives IsMemory (λ x. x) result (mosaic_by options.now heads.now judged.entry) }
 {
@@ -108,7 +109,7 @@ pub fn mosaic_of_inputs(
     inputs: &[Input],
     options: &BuildOptions,
 ) -> Result<(Document, SkipList), BuildFault>
-    requires few { length inputs.now ≤ 65536 }
+    requires few { length inputs.now ≤ most_datasets }
     ensures mosaic { Gives IsMemory (λ x. x) result (mosaic_of options.now inputs.now) }
 {
     let judged = judge(alloc, options, inputs)?;
@@ -132,7 +133,7 @@ pub fn mosaic(
     heads: &[Head],
     options: &BuildOptions,
 ) -> Result<(Document, SkipList), BuildFault>
-    requires few { length heads.now ≤ 65536 }
+    requires few { length heads.now ≤ most_datasets }
     ensures mosaic { Gives IsMemory (λ x. x) result (mosaic_of options.now heads.now) }
 {
     let inputs = inputs_of(alloc, heads)?;

@@ -9,6 +9,8 @@ ghost use Rattle.buildvrt.specs.Grids.{measure, IsMeasure, IsSide, less_of, grea
 ghost use Rattle.buildvrt.specs.Grids.{least, greatest, mean, sum_from, IsStep, IsSteps, IsReach, IsGrid, steps_of};
 ghost use Rattle.buildvrt.specs.Grids.{union_of, extent_of, some_pixels, side_within, side_of, rounded_transform};
 ghost use Rattle.buildvrt.specs.Grids.{grid_by, grid_of};
+ghost use Rattle.geotransform.specs.Limits.{most_side};
+ghost use Rattle.catalog.specs.Dataset.{most_datasets};
 
 use crate::options::{BuildOptions, Extent, Resolution};
 use crate::tile::Tile;
@@ -59,15 +61,27 @@ impl Model for Grid {
     }) };
 }
 
+/// The way of so many steps.
+#[tactic(auto, using(crate::proofs::Measures::way_bound))]
+pub fn way_of(count: u32, step: i128) -> i128
+    requires count { count ≤ most_side }
+    requires step { IsNear step }
+    ensures value { result ≡ pos count *ℤ step }
+    ensures bound { unsigned_abs result ≤ most_side * (10 ^ 12 * unit) }
+{
+    let steps = count as i128;
+    steps * step
+}
+
 // The place `count` steps from `start`.
 fn edge(start: i128, step: i128, count: u32) -> i128
     requires start { IsNear start }
     requires step { IsNear step }
-    requires count { count ≤ 4194304 }
+    requires count { count ≤ most_side }
     ensures value { result ≡ start +ℤ (pos count *ℤ step) }
     ensures bound { unsigned_abs result < 10 ^ 36 }
 {
-    start + count as i128 * step
+    start + way_of(count, step)
 }
 
 // A number of an input.
@@ -150,7 +164,7 @@ fn greatest(which: Measure, tiles: &[Tile]) -> i128
 #[tactic(auto, using(crate::proofs::Measures::sum_next))]
 fn sum_of(which: Measure, tiles: &[Tile]) -> i128
     requires step { IsSide which }
-    requires few { length tiles.now ≤ 65536 }
+    requires few { length tiles.now ≤ most_datasets }
     ensures value { result ≡ sum_from which (pos 0) tiles.now }
     ensures least { pos (length tiles.now) ≤ℤ result }
     ensures bound { unsigned_abs result ≤ length tiles.now * (10 ^ 12 * unit) }
@@ -167,7 +181,7 @@ fn sum_of(which: Measure, tiles: &[Tile]) -> i128
 fn mean(which: Measure, tiles: &[Tile]) -> i128
     requires step { IsSide which }
     requires some { 0 < length tiles.now }
-    requires few { length tiles.now ≤ 65536 }
+    requires few { length tiles.now ≤ most_datasets }
     ensures value { result ≡ mean which tiles.now }
     ensures rules { IsStep result }
 {
@@ -177,7 +191,7 @@ fn mean(which: Measure, tiles: &[Tile]) -> i128
 // The sides of the mosaic's pixels.
 fn steps_of(options: &BuildOptions, tiles: &[Tile]) -> (Ticks, Ticks)
     requires some { 0 < length tiles.now }
-    requires few { length tiles.now ≤ 65536 }
+    requires few { length tiles.now ≤ most_datasets }
     ensures value { result ≡ steps_of options.now tiles.now }
     ensures rules { IsSteps result }
 {
@@ -249,7 +263,7 @@ pub fn some_pixels(way: Ticks, step: Ticks) -> i128
 fn side_of(way: Ticks, step: Ticks) -> Option<u32>
     requires step { IsStep step }
     ensures value { result ≡ side_of way step }
-    ensures rules { IfSome result (λ n. (0 < n) × (n ≤ 4194304)) }
+    ensures rules { IfSome result (λ n. (0 < n) × (n ≤ most_side)) }
 {
     let side = some_pixels(way, step);
     if side > MOST {
@@ -319,7 +333,7 @@ fn grid_by(extent: Extent, steps: (Ticks, Ticks)) -> Option<Grid>
 /// The grid of the mosaic, where it is within the limits.
 pub fn grid_of(options: &BuildOptions, tiles: &[Tile]) -> Option<Grid>
     requires some { 0 < length tiles.now }
-    requires few { length tiles.now ≤ 65536 }
+    requires few { length tiles.now ≤ most_datasets }
     ensures value { result ≡ grid_of options.now tiles.now }
 {
     grid_by(extent_of(options, tiles), steps_of(options, tiles))

@@ -3,7 +3,7 @@ ghost use Rattle.std.specs.Prelude.{◌≡◌, ℕ, ℤ, pos, suc, ◌<ℤ◌, �
 ghost use Rattle.std.specs.Prelude.{IfOk, OnOk, IfSome, Option, Some, None, false, true, ◌==◌, IsTrue};
 ghost use Rattle.geotransform.specs.Geo.{IsTransform};
 ghost use Rattle.geotransform.specs.Types.{is_same, is_in};
-ghost use Rattle.catalog.specs.Dataset.{DatasetHead, IsDatasetHead};
+ghost use Rattle.catalog.specs.Dataset.{DatasetHead, IsDatasetHead, most_datasets};
 ghost use Rattle.std.specs.List.{All, range_with_len};
 ghost use Rattle.lists_and_answers.specs.Answers.{Gives};
 ghost use Rattle.buildvrt.specs.Mosaic.{IsMemory};
@@ -12,6 +12,7 @@ ghost use Rattle.buildvrt.specs.Judging.{north_up, north_up_of, same_text, has_b
 ghost use Rattle.buildvrt.specs.Judging.{numbers_or_all, type_number, band_type, same_type, same_types, same_count};
 ghost use Rattle.buildvrt.specs.Judging.{judged_alone, judged_beside, joined, one_judged, none_judged, judged_behind};
 ghost use Rattle.buildvrt.specs.Judging.{judged_from, judged_of, IsOneOf, first_refused, strictly};
+ghost use Rattle.geotransform.specs.Limits.{most_bands};
 
 use crate::faults::{BuildFault, Reason, SkipList, Skipped};
 use crate::options::BuildOptions;
@@ -140,7 +141,7 @@ fn same_count(options: &BuildOptions, reference: &Head, head: &Head) -> bool
 // The numbers from 1 to a count.
 #[tactic(auto, using(crate::proofs::Verdicts::numbers_next, crate::proofs::Verdicts::rules_next))]
 fn numbers_to(alloc: Global, count: u32) -> Result<Vec<u32>, AllocError>
-    requires { count ≤ 256 }
+    requires { count ≤ most_bands }
     ensures numbers { IfOk result (λ v. v.items ≡ range_with_len 1 count) }
     ensures rules { IfOk result (λ v. All IsBandNumber v.items) }
 {
@@ -278,7 +279,7 @@ fn judge_behind<'a>(
 ) -> Result<(), AllocError>
     requires taken { taken.now ≡ taken_bands options.now reference.now }
     requires numbers { All IsBandNumber taken.now }
-    requires few { first + length heads.now ≤ 65536 }
+    requires few { first + length heads.now ≤ most_datasets }
     ensures judged { OnOk result (judged.new ≡ joined judged.old (judged_behind options.now reference.now first
         heads.now)) }
 {
@@ -300,7 +301,7 @@ fn judge_beyond<'a>(
     heads: &[Input<'a>],
     judged: &mut Judged<'a>,
 ) -> Result<(), AllocError>
-    requires few { first + length heads.now ≤ 65536 }
+    requires few { first + length heads.now ≤ most_datasets }
     ensures judged { OnOk result (judged.new ≡ joined judged.old (judged_behind options.now reference.now first
         heads.now)) }
 {
@@ -308,17 +309,17 @@ fn judge_beyond<'a>(
     judge_behind(options, reference, &taken, first, heads, judged)
 }
 
-/// The inputs that stay and those that are skipped. The reference is the first that stays.
+// Adds the verdicts on all inputs.
 #[tactic(auto, using(crate::proofs::Verdicts::from_found, crate::proofs::Verdicts::from_skipped))]
-pub fn judge<'a>(
+fn judge_all<'a>(
     alloc: Global,
     options: &BuildOptions,
     heads: &[Input<'a>],
-) -> Result<Judged<'a>, AllocError>
-    requires few { length heads.now ≤ 65536 }
-    ensures judged { IfOk result (λ j. j ≡ judged_of options.now heads.now) }
+    judged: &mut Judged<'a>,
+) -> Result<(), AllocError>
+    requires few { length heads.now ≤ most_datasets }
+    ensures judged { OnOk result (judged.new ≡ joined judged.old (judged_of options.now heads.now)) }
 {
-    let mut judged = Judged::new(alloc);
     let mut number = 0;
     for input in heads {
         let head = input.head;
@@ -326,14 +327,32 @@ pub fn judge<'a>(
             Ok(tile) => {
                 judged.add(number, Ok(tile))?;
                 let rest = &heads[number as usize + 1..];
-                judge_beyond(alloc, options, head, number + 1, rest, &mut judged)?;
-                return Ok(judged);
+                return judge_beyond(alloc, options, head, number + 1, rest, judged);
             }
             Err(reason) => judged.add(number, Err(reason))?,
         }
         number += 1;
     }
-    Ok(judged)
+    Ok(())
+}
+
+/// The inputs that stay and those that are skipped. The reference is the first that stays.
+pub fn judge<'a>(
+    alloc: Global,
+    options: &BuildOptions,
+    heads: &[Input<'a>],
+) -> Result<Judged<'a>, AllocError>
+    requires few { length heads.now ≤ most_datasets }
+    ensures judged { IfOk result (λ j. j ≡ judged_of options.now heads.now) }
+{
+    let mut judged = Judged::new(alloc);
+    match judge_all(alloc, options, heads, &mut judged) {
+        Ok(()) => Ok(judged),
+        Err(error) => {
+            drop(judged);
+            Err(error)
+        }
+    }
 }
 
 // The first skipped input is refused.

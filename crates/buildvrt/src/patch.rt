@@ -7,9 +7,10 @@ ghost use Rattle.buildvrt.specs.Mosaic.{IsMemory};
 ghost use Rattle.geotransform.specs.Geo.{IsNear};
 ghost use Rattle.buildvrt.specs.Rectangles.{rectangle_of, meets_side, meets, is_offset, is_within, in_millionths};
 ghost use Rattle.buildvrt.specs.Rectangles.{shown_at, patch_of, patches_of, IsPixelRect, IsPatch};
+ghost use Rattle.geotransform.specs.Limits.{farthest, most_side};
 
 use crate::faults::BuildFault;
-use crate::grid::{Grid, difference, negative, rounded, some_pixels};
+use crate::grid::{Grid, difference, negative, rounded, some_pixels, way_of};
 use crate::tile::Tile;
 use catalog::Head;
 use geotransform::{Size, Ticks};
@@ -49,11 +50,11 @@ impl<'a> Model for Patch<'a> {
 
 // So many steps.
 fn way(count: u32, step: Ticks) -> Ticks
-    requires count { count ≤ 4194304 }
+    requires count { count ≤ most_side }
     requires step { IsNear step }
     ensures value { result ≡ pos count *ℤ step }
 {
-    Ticks::of(count as i128 * step.get())
+    Ticks::of(way_of(count, step.get()))
 }
 
 // The pixels on which an input comes to lie.
@@ -90,7 +91,7 @@ fn meets(size: Size, rect: PixelRect) -> bool
 
 fn is_offset(v: i128) -> bool
     ensures value { result ≡ is_offset v }
-    ensures within { IsTrue result ↔ (unsigned_abs v ≤ 8388608) }
+    ensures within { IsTrue result ↔ (unsigned_abs v ≤ farthest) }
 {
     v.unsigned_abs() <= FARTHEST
 }

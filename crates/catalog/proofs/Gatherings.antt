@@ -30,7 +30,7 @@ gathered_more own names old new x n is numbers files h =
     }
 
 -- the name at a place is among the names
-or_true : (a : Bool) → (a || true) ≡ true
+pub or_true : (a : Bool) → (a || true) ≡ true
 or_true true = refl
 or_true false = refl
 

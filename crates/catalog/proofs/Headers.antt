@@ -3,8 +3,9 @@ use Rattle.std.proofs.Common.{◌≡◌, ◌⊎◌, ◌<◌, ap, subst, inl, tru
 use Rattle.std.proofs.lemmas.Bool.Decides.{nat_tests}
 use Rattle.std.specs.Prelude.{nat_lt}
 use Rattle.outside.specs.Outside.{Files}
+use Rattle.esri_hdr.specs.declared.header_parts.HdrFault.{HdrFault}
 use Rattle.esri_hdr.specs.declared.header_parts.HdrFault.TheVariants.{Limit}
-use Rattle.esri_hdr.specs.Head.{esri_head, head_of}
+use Rattle.esri_hdr.specs.Head.{Head, esri_head, head_of}
 use Rattle.esri_hdr.specs.Lines.{last_of}
 use Rattle.catalog.specs.declared.faults.WalkFault.{WalkFault}
 use Rattle.catalog.specs.declared.faults.WalkFault.TheVariants.{Absent, NotRecognized, Malformed, Short, Cycle, TooDeep, Limit as Passed, SourceBand, FolderFault, Memory}
@@ -32,6 +33,11 @@ too_long text long = let test : nat_lt 1048576 (length text) ≡ true = grind (a
 pub long_header : (m : Files) (name text : List ℕ) → file_in m name ≡ Ok text → 1048576 < length text → header_in m name ≡ Err (Malformed name (Hdr Limit))
 unfolding header_in
 long_header m name text is long = rw is (ap (named (λ f. Malformed name (Hdr f))) (too_long text long))
+
+-- a header that is there says what its text says
+pub header_read : (m : Files) (name text : List ℕ) (r : Result Head HdrFault) → file_in m name ≡ Ok text → esri_head text ≡ r → header_in m name ≡ named (λ f. Malformed name (Hdr f)) r
+unfolding header_in
+header_read m name text r is e = rw is (ap (named (λ f. Malformed name (Hdr f))) e)
 
 -- what failed outside is no fault of a file, and may end any reading
 pub outside_of_file : (f : WalkFault) → IsOutside f → IsOfFile f

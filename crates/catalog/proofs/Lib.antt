@@ -24,6 +24,7 @@ mod PixelRows
 pub mod Pixels
 pub mod Readings
 pub mod Records
+pub mod Repeated
 pub mod Rows
 pub mod Scans
 pub mod States

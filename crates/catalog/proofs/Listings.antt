@@ -63,7 +63,7 @@ listed_text own names old new t x added same e files seen listed =
 pub next_item : {X : Type 0} (xs : List X) (i : ℕ) (x : X) → i < length xs → x ≡ get_or xs i x → take (i + 1) xs ≡ take i xs ++ x ∷ []
 next_item xs i x below is = take_more xs i x below ∙ ap (λ y. take i xs ++ y ∷ []) (sym is)
 
-named_behind : (base : List ℕ) (ss : List SourceValue) (i : ℕ) (s : SourceValue) → i < length ss → s ≡ get_or ss i s → filter_map (source_name base) (take i ss) ++ filter_map (source_name base) (s ∷ []) ≡ filter_map (source_name base) (take (i + 1) ss)
+pub named_behind : (base : List ℕ) (ss : List SourceValue) (i : ℕ) (s : SourceValue) → i < length ss → s ≡ get_or ss i s → filter_map (source_name base) (take i ss) ++ filter_map (source_name base) (s ∷ []) ≡ filter_map (source_name base) (take (i + 1) ss)
 named_behind base ss i s below is = sym (filter_map-append (source_name base) (take i ss) (s ∷ [])) ∙ ap (filter_map (source_name base)) (sym (next_item ss i s below is))
 
 -- a source that has a name

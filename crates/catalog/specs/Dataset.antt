@@ -6,6 +6,11 @@ use Rattle.geotransform.specs.declared.types.Size.{Size}
 use Rattle.catalog.specs.declared.kind.BandHead.{BandHead}
 use Rattle.catalog.specs.declared.kind.Kind.{Kind}
 use Rattle.catalog.specs.declared.kind.Kind.TheVariants as kinds
+use Rattle.geotransform.specs.Limits.{most_bands}
+
+-- The most datasets of a catalog, and so the most inputs of a mosaic.
+abbrev pub most_datasets : ℕ
+most_datasets = 65536
 
 -- a dataset: its name and kind, its raster, its bands in order, and the names of its own files
 pub record DatasetHead : Type 0 where
@@ -41,5 +46,5 @@ pub record IsBandHead (kind : Kind) (size : Size) (band : BandHead) : Type 0 whe
 pub record IsDatasetHead (head : DatasetHead) : Type 0 where
   pub size : IsRaster head.size
   pub some_band : 0 < band_count head
-  pub bands : band_count head ≤ 256
+  pub bands : band_count head ≤ most_bands
   pub each : All (IsBandHead head.kind head.size) head.bands

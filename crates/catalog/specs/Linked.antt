@@ -5,12 +5,12 @@ use Rattle.std.specs.Prelude.{slice_get, ◌++◌, take, set, Option, Some, None
 use Rattle.std.specs.Prelude.{if◌then◌else◌}
 use Rattle.lists_and_answers.specs.Lists.{flattened}
 use Rattle.vrt_profile.specs.Value.{is_plain}
-use Rattle.vrt_profile.specs.Values.{DocumentValue, BandValue, SourceValue}
+use Rattle.vrt_profile.specs.Values.{DocumentValue, BandValue, SourceValue, most_sources}
 use Rattle.catalog.specs.declared.driver.Content.{Content}
 use Rattle.catalog.specs.declared.driver.Content.TheVariants.{File, Mosaic}
 use Rattle.catalog.specs.declared.faults.WalkFault.TheVariants.{TooDeep}
 use Rattle.catalog.specs.declared.links.Link.{Link}
-use Rattle.catalog.specs.Dataset.{band_at, band_count}
+use Rattle.catalog.specs.Dataset.{band_at, band_count, most_datasets}
 use Rattle.catalog.specs.Drivers.{Dataset}
 use Rattle.catalog.specs.Mosaics.{source_name, is_among}
 use Rattle.catalog.specs.Walk.{Met, again, is_narrow_band, number_of, sources_among, IsDataset, IsApart, IsCatalog}
@@ -97,8 +97,8 @@ pub record IsLink (st : State) (d : Dataset) (l : Link) : Type 0 where
 pub record IsLinked (st : State) : Type 0 where
   pub long : length st.links ≡ length st.datasets
   pub each : All IsDataset st.datasets
-  pub few : length st.datasets ≤ 65536
-  pub sources : st.sources ≤ 262144
+  pub few : length st.datasets ≤ most_datasets
+  pub sources : st.sources ≤ most_sources
   pub apart : IsApart st.datasets
   pub whole : (id : ℕ) (d : Dataset) (l : Link) → slice_get st.datasets id ≡ Some d →
       slice_get st.links id ≡ Some (Some l) → IsLink st d l

@@ -3,7 +3,7 @@ use Rattle.std.specs.Prelude.{ℕ, Bool, false, not, ◌||◌, List, [], ◌∷�
 use Rattle.std.specs.Prelude.{Some, None, if◌then◌else◌}
 use Rattle.std.specs.List.{filter, filter_map}
 use Rattle.geotransform.specs.declared.types.Size.{Size}
-use Rattle.outside.specs.Paths.{normal}
+use Rattle.outside.specs.Paths.{normal, longest_name}
 use Rattle.vrt_profile.specs.Values.{DocumentValue, BandValue, SourceValue}
 use Rattle.vrt_profile.specs.Resolve.{resolved_text}
 use Rattle.catalog.specs.declared.kind.BandHead.{BandHead}
@@ -16,7 +16,7 @@ sources_of d = flat_map (λ (b : BandValue). b.sources) d.bands
 
 -- the name that a text stands for, if it has at most 4,096 bytes
 abbrev pub name_of_text : List ℕ → Option (List ℕ)
-name_of_text text = if nat_lt 4096 (length text) then None else Some (normal text)
+name_of_text text = if nat_lt longest_name (length text) then None else Some (normal text)
 
 -- the name of a source of the mosaic with the name `base`, if it is within the limit
 abbrev pub source_name : List ℕ → SourceValue → Option (List ℕ)

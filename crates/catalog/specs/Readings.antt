@@ -8,6 +8,10 @@ use Rattle.catalog.specs.declared.driver.Content.{Content}
 use Rattle.catalog.specs.declared.driver.Content.TheVariants.{File, Mosaic}
 use Rattle.catalog.specs.Drivers.{Dataset}
 
+-- How many bytes of a grid are read at a time.
+abbrev pub piece_len : ℕ
+piece_len = 65536
+
 -- The most reads in which the head of a file's data is found. Raw data have a header, which is read at once. Of a cell
 -- the front is read, and then, where `verify` asks for the sums, the record of each line. A tile's name and length tell
 -- all. A grid is read whole, in pieces of 65,536 bytes.
@@ -15,7 +19,7 @@ abbrev pub calls_to_find_head : Bool → DriverHead → ℕ → ℕ
 calls_to_find_head verify (Raw h) len = 1
 calls_to_find_head verify (Dted h) len = 1 + (if verify then h.lines else 0)
 calls_to_find_head verify (Hgt side) len = 0
-calls_to_find_head verify (Ascii h) len = div_ceil len 65536
+calls_to_find_head verify (Ascii h) len = div_ceil len piece_len
 
 -- the same of a content whose file has this length; the document of a mosaic is read at once, and no source
 abbrev pub calls_to_find : Bool → Content → ℕ → ℕ

@@ -7,14 +7,14 @@ use Rattle.lists_and_answers.specs.Answers.{◌>>=◌}
 use Rattle.outside.specs.Outside.{Files}
 use Rattle.geotransform.specs.Types.{bytes_of}
 use Rattle.vrt_profile.specs.Value.{is_plain}
-use Rattle.vrt_profile.specs.Values.{SourceValue}
+use Rattle.vrt_profile.specs.Values.{SourceValue, most_sources}
 use Rattle.vrt_markup.specs.declared.fault.VrtFault.TheVariants as vrt
 use Rattle.catalog.specs.declared.kind.BandHead.{BandHead}
 use Rattle.catalog.specs.declared.kind.Kind.{Kind}
 use Rattle.catalog.specs.declared.kind.Kind.TheVariants as kinds
 use Rattle.catalog.specs.declared.driver.Content.{Content}
 use Rattle.catalog.specs.declared.driver.Content.TheVariants.{File, Mosaic}
-use Rattle.catalog.specs.Dataset.{IsDatasetHead, band_at, band_count}
+use Rattle.catalog.specs.Dataset.{IsDatasetHead, band_at, band_count, most_datasets}
 use Rattle.catalog.specs.Drivers.{Dataset, content_head, Fits}
 use Rattle.catalog.specs.Mosaics.{sources_of, is_among}
 use Rattle.catalog.specs.Heads.{kind_in, dataset_by, dataset_in, resolved}
@@ -66,11 +66,11 @@ room_for (suc room) kind name = Ok tt
 
 -- one more dataset is within the limit
 abbrev pub one_more_in : List Dataset → Result (Unit {0}) WalkFault
-one_more_in cat = if nat_lt (length cat) 65536 then Ok tt else Err (Limit limits.Files 65537)
+one_more_in cat = if nat_lt (length cat) most_datasets then Ok tt else Err (Limit limits.Files 65537)
 
 -- one more source is within the limit
 abbrev pub one_more_source : ℕ → Result (Unit {0}) WalkFault
-one_more_source sources = if nat_lt sources 262144 then Ok tt else Err (Limit limits.Sources 262145)
+one_more_source sources = if nat_lt sources most_sources then Ok tt else Err (Limit limits.Sources 262145)
 
 -- the number of the bands of the dataset of a name
 abbrev pub bands_of : Option Dataset → ℕ
@@ -220,8 +220,8 @@ IsNested (suc room) cat d = All (HasMember (λ t. IsNested room cat t) cat d.hea
 -- what every catalog keeps
 pub record IsCatalog (cat : List Dataset) : Type 0 where
   pub each : All IsDataset cat
-  pub few : length cat ≤ 65536
-  pub sources : sources_among cat ≤ 262144
+  pub few : length cat ≤ most_datasets
+  pub sources : sources_among cat ≤ most_sources
   pub apart : IsApart cat
   pub nested : All (λ d. IsNested 16 cat d) cat
 

@@ -13,6 +13,7 @@ ghost use Rattle.catalog.specs.Outcomes.{IsOutside};
 ghost use Rattle.catalog.specs.Scanned.{HasFed, IsScanFault};
 ghost use Rattle.catalog.specs.Drivers.{content_kind, Fits};
 ghost use Rattle.catalog.specs.Heads.{grid_in, ascii_in, IsOfFile};
+ghost use Rattle.catalog.specs.Readings.{piece_len};
 
 use crate::driver::{Content, Found};
 use crate::files::open_file;
@@ -151,7 +152,7 @@ fn scan<F: Folder>(alloc: Global, folder: &mut F, mut file: F::File) -> Result<G
     ensures kept { IfOk result IsHead }
     ensures rows { IfOk result (λ h. AreRising 0 (F.file_len file) h.rows) }
     ensures names { F.names folder.new ≡ F.names folder.old }
-    ensures reads { F.read_calls folder.new ≤ F.read_calls folder.old + div_ceil (F.file_len file) 65536 }
+    ensures reads { F.read_calls folder.new ≤ F.read_calls folder.old + div_ceil (F.file_len file) piece_len }
     ensures write_calls { F.write_calls folder.new ≡ F.write_calls folder.old }
     ensures cause { HasCause ScanFault.Failed (F.faults folder.old) (F.faults folder.new) result }
 {
@@ -188,7 +189,7 @@ pub fn find_grid<F: Folder>(alloc: Global, folder: &mut F, name: &Name) -> Resul
     ensures fits { IfOk result (λ found. Fits name.now found.content found.length) }
     ensures names { F.names folder.new ≡ F.names folder.old }
     ensures reads { IfOk result (λ found. F.read_calls folder.new ≤ F.read_calls folder.old + div_ceil found.length
-        65536) }
+        piece_len) }
     ensures write_calls { F.write_calls folder.new ≡ F.write_calls folder.old }
     ensures cause { HasCause WalkFault.FolderFault (F.faults folder.old) (F.faults folder.new) result }
     ensures of_file { IfErr result IsOfFile }

@@ -9,7 +9,7 @@ ghost use Rattle.lists_and_answers.specs.Lists.{flattened};
 ghost use Rattle.catalog.specs.Outcomes.{IsMemory};
 ghost use Rattle.catalog.specs.Drivers.{Dataset as Known};
 ghost use Rattle.catalog.specs.Walking.{IsPlain};
-ghost use Rattle.catalog.specs.Dataset.{band_at};
+ghost use Rattle.catalog.specs.Dataset.{band_at, most_datasets};
 ghost use Rattle.catalog.specs.Walk.{is_narrow_band, number_of, one_more_source};
 ghost use Rattle.catalog.specs.Linked.{State, IsLinked, IsHigh, IsDeep, Grows, HasBand, IsMosaicAt, pushed, closed};
 ghost use Rattle.catalog.specs.Linked.{one_counted, cut_to, height_at, most, first_above};
@@ -107,7 +107,7 @@ impl Met {
 
     /// The number of datasets.
     pub fn count(&self) -> u32
-        requires few { length self.now.datasets ≤ 65536 }
+        requires few { length self.now.datasets ≤ most_datasets }
         ensures count { result ≡ length self.now.datasets }
     {
         self.datasets.len() as u32
@@ -122,7 +122,7 @@ impl Met {
 
     /// The number of the dataset of a name.
     pub fn number(&self, name: &Name) -> Option<u32>
-        requires few { length self.now.datasets ≤ 65536 }
+        requires few { length self.now.datasets ≤ most_datasets }
         ensures number { result ≡ number_of self.now.datasets name.now }
     {
         self.numbers.get(name.as_str()).copied()
@@ -186,16 +186,25 @@ impl Met {
 
     /// Adds a dataset. Where memory is refused, what was met stays.
     pub fn push(&mut self, dataset: Dataset, link: Option<Link>) -> Result<u32, AllocError>
-        requires few { length self.old.datasets ≤ 65536 }
+        requires few { length self.old.datasets ≤ most_datasets }
         ensures ok { OnOk result (self.new ≡ pushed self.old dataset link) }
         ensures id { IfOk result (λ id. id ≡ length self.old.datasets) }
         ensures grows { Grows self.old self.new }
     {
         let id = self.datasets.len() as u32;
         let alloc = *self.datasets.allocator();
-        self.links.push(link)?;
-        self.datasets.reserve(1)?;
-        keep_number(&mut self.numbers, alloc, &dataset, id)?;
+        if let Err(failed) = self.links.push(link) {
+            drop(dataset);
+            return Err(failed.into());
+        }
+        if let Err(error) = self.datasets.reserve(1) {
+            drop(dataset);
+            return Err(error);
+        }
+        if let Err(error) = keep_number(&mut self.numbers, alloc, &dataset, id) {
+            drop(dataset);
+            return Err(error);
+        }
         // There is room: no number is kept without its dataset.
         self.datasets.push(dataset)?;
         Ok(id)

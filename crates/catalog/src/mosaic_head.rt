@@ -1,10 +1,11 @@
 // The heads of mosaics, as their documents say, and the limits of their sources' names.
-ghost use Rattle.std.specs.Prelude.{◌≡◌, ◌++◌, ◌∷◌, [], List, ℕ, map, flat_map, IfOk, IfErr, OnOk};
+ghost use Rattle.std.specs.Prelude.{◌≡◌, ◌<◌, ◌+◌, ◌++◌, ◌∷◌, [], true, List, ℕ, length, take, map, flat_map};
+ghost use Rattle.std.specs.Prelude.{IfOk, IfErr, OnOk};
 ghost use Rattle.std.specs.List.{filter_map};
 ghost use Rattle.catalog.specs.Outcomes.{IsMemory};
 ghost use Rattle.catalog.specs.Dataset.{IsDatasetHead};
 ghost use Rattle.catalog.specs.Mosaics.{distinct, source_name, source_names, mosaic_band, mosaic_head};
-ghost use Rattle.catalog.specs.Gathered.{HasGathered};
+ghost use Rattle.catalog.specs.Gathered.{HasGathered, IsThere};
 ghost use Rattle.catalog.specs.Listed.{HasListed};
 ghost use Rattle.catalog.specs.Heads.{all_resolved, names_within};
 
@@ -93,6 +94,52 @@ fn source_name(alloc: Global, base: &Name, source: &Source) -> Result<Option<Nam
     }
 }
 
+// Whether two sources name the same file by the same text.
+fn is_same_file(last: &Source, source: &Source) -> bool
+    ensures relative { result ≡ true → source.now.relative ≡ last.now.relative }
+    ensures file { result ≡ true → source.now.file ≡ last.now.file }
+{
+    if source.relative != last.relative {
+        return false;
+    }
+    source.file.is(&last.file)
+}
+
+// Whether the source at a place names the file of the one before it. Its name is there already.
+fn is_again(sources: &[Source], at: usize, source: &Source) -> bool
+    requires within { at < length sources.now }
+    ensures again { result ≡ true → (base : List ℕ) → IsThere base (take at sources.now) source.now }
+{
+    if at == 0 {
+        return false;
+    }
+    is_same_file(&sources[at - 1], source)
+}
+
+// Adds the name of the source at a place. That of the source before it is not resolved once more.
+fn add_source(
+    alloc: Global,
+    base: &Name,
+    sources: &[Source],
+    at: usize,
+    gathered: &mut Gathered,
+) -> Result<(), WalkFault>
+    requires within { at < length sources.now }
+    ensures gathered { OnOk result ((own : List ℕ) (names : List (List ℕ)) →
+        HasGathered own (names ++ filter_map (source_name base.now) (take at sources.now)) gathered.old →
+        HasGathered own (names ++ filter_map (source_name base.now) (take (at + 1) sources.now)) gathered.new) }
+    ensures err { IfErr result IsMemory }
+{
+    let source = &sources[at];
+    if is_again(sources, at, source) {
+        return Ok(());
+    }
+    if let Some(name) = source_name(alloc, base, source)? {
+        gathered.add(name)?;
+    }
+    Ok(())
+}
+
 // Adds the names of the sources of a band.
 fn add_sources(
     alloc: Global,
@@ -104,10 +151,8 @@ fn add_sources(
         HasGathered own (names ++ filter_map (source_name base.now) sources.now) gathered.new) }
     ensures err { IfErr result IsMemory }
 {
-    for source in sources {
-        if let Some(name) = source_name(alloc, base, source)? {
-            gathered.add(name)?;
-        }
+    for at in 0..sources.len() {
+        add_source(alloc, base, sources, at, gathered)?;
     }
     Ok(())
 }

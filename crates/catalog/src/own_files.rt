@@ -77,12 +77,26 @@ pub fn read_dataset<F: Folder>(
     ensures of_file { IfErr result IsOfFile }
 {
     let found = find(alloc, folder, kind, name, verify)?;
-    let head = content_head(alloc, name, &found.content)?;
-    Ok(Dataset {
-        head,
-        content: found.content,
-        length: found.length,
-    })
+    match content_head(alloc, name, &found.content) {
+        Ok(head) => Ok(Dataset {
+            head,
+            content: found.content,
+            length: found.length,
+        }),
+        Err(fault) => {
+            drop(found);
+            Err(fault)
+        }
+    }
+}
+
+// The head of a dataset that is let go.
+fn head_alone(dataset: Dataset) -> Head
+    ensures head { result ≡ dataset.head }
+{
+    let Dataset { head, content, .. } = dataset;
+    drop(content);
+    head
 }
 
 /// The head of the dataset of a name: what its extension and its own files say. `verify` asks for the
@@ -125,6 +139,11 @@ pub fn head_of<F: Folder>(
 {
     let kind = kind_of(name)?;
     let dataset = read_dataset(alloc, folder, kind, name, verify)?;
-    names_within(name, &dataset.content)?;
-    Ok(dataset.head)
+    match names_within(name, &dataset.content) {
+        Ok(()) => Ok(head_alone(dataset)),
+        Err(fault) => {
+            drop(dataset);
+            Err(fault)
+        }
+    }
 }

@@ -4,7 +4,7 @@ use Rattle.std.specs.Prelude.{take, drop, codes, bytes_eq, Option, Some, None, o
 use Rattle.std.specs.Prelude.{if◌then◌else◌, int_le, int_lt}
 use Rattle.lists_and_answers.specs.Texts.{same_letters}
 use Rattle.geotransform.specs.Decimal.{number_of, whole_of, ticks_of}
-use Rattle.outside.specs.Paths.{normal}
+use Rattle.outside.specs.Paths.{normal, longest_name}
 use Rattle.esri_hdr.specs.declared.header_parts.Layout.{Layout}
 use Rattle.esri_hdr.specs.declared.header_parts.Layout.TheVariants.{Bil, Bip, Bsq}
 use Rattle.catalog.specs.declared.nodata.NodataWord.{NodataWord}
@@ -15,6 +15,9 @@ use Rattle.command_words.specs.declared.spoken.OutFormat.{OutFormat}
 use Rattle.command_words.specs.declared.spoken.OutFormat.TheVariants.{EHdr, Dted, SrtmHgt, AaiGrid, Vrt}
 use Rattle.command_words.specs.declared.spoken.ResolutionWord.{ResolutionWord}
 use Rattle.command_words.specs.declared.spoken.ResolutionWord.TheVariants.{Highest, Lowest, Average, User}
+use Rattle.geotransform.specs.Limits.{most_bands}
+use Rattle.band_blocks.specs.Blocks.{most_blocks}
+use Rattle.synthetic_rasters.specs.Tiles.{most_tile_side}
 
 abbrev pub begins_with_dash : List ℕ → Bool
 begins_with_dash [] = false
@@ -30,17 +33,17 @@ number_within most None = None
 number_within most (Some n) = if nat_le 1 n && nat_le n most then Some n else None
 
 abbrev pub band_of : List ℕ → Option ℕ
-band_of word = number_within 256 (short_of word)
+band_of word = number_within most_bands (short_of word)
 
 abbrev pub blocks_of : List ℕ → Option ℕ
-blocks_of word = number_within 65536 (short_of word)
+blocks_of word = number_within most_blocks (short_of word)
 
 abbrev pub workers_of : List ℕ → Option ℕ
 workers_of word = number_within 16 (short_of word)
 
 -- the side of a tile that synth makes
 abbrev pub tile_side_of : List ℕ → Option ℕ
-tile_side_of word = number_within 4096 (short_of word)
+tile_side_of word = number_within most_tile_side (short_of word)
 
 -- one to nine digits, with a minus or without
 abbrev pub integer_of : List ℕ → Option ℤ
@@ -61,7 +64,7 @@ side_of word =
 
 -- the normal form of a word of 1 to 4,096 bytes
 abbrev pub name_of : List ℕ → Option (List ℕ)
-name_of word = if nat_le 1 (length word) && nat_le (length word) 4096 then Some (normal word) else None
+name_of word = if nat_le 1 (length word) && nat_le (length word) longest_name then Some (normal word) else None
 
 -- the settings that mean no
 abbrev pub is_no : List ℕ → Bool

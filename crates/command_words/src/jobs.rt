@@ -8,6 +8,7 @@ ghost use Rattle.command_words.specs.Jobs.{of_format, written_of, view_of, layou
 ghost use Rattle.command_words.specs.Jobs.{translate_job, inputs_of, separate_of, named_resolution, given_resolution};
 ghost use Rattle.command_words.specs.Jobs.{resolution_of, asked_mosaic, build_job, synth_job, job_of};
 ghost use Rattle.command_words.specs.Words.{IsMemory};
+ghost use Rattle.geotransform.specs.Limits.{most_bands};
 
 use crate::command::Job;
 use crate::numbers::{AskedExtent, AskedNodata, AskedResolution, AskedView, Side};
@@ -211,7 +212,7 @@ fn layout_in(interleave: Option<(u64, Layout)>, written: Written) -> Result<Layo
 #[tactic(auto, using(crate::proofs::Listed::numbers_more))]
 fn numbers_of(alloc: Global, bands: &[BandNumber]) -> Result<Numbers, WordFault>
     ensures ok { IfOk result (λ numbers. numbers ≡ bands.now) }
-    ensures within { IfOk result (All (λ b. (0 < b) × (b ≤ 256))) }
+    ensures within { IfOk result (All (λ b. (0 < b) × (b ≤ most_bands))) }
     ensures err { IfErr result IsMemory }
 {
     let mut numbers = Numbers::new(alloc);

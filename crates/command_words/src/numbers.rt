@@ -2,6 +2,7 @@
 ghost use Rattle.std.specs.Prelude.{◌≡◌, ◌≤◌, ◌&&◌, nat_le, if◌then◌else◌, Some, None};
 ghost use Rattle.translate_plan.specs.Options.{IsView, IsOutSize, IsWord};
 ghost use Rattle.buildvrt.specs.Options.{IsResolution, IsExtent};
+ghost use Rattle.band_blocks.specs.Blocks.{most_blocks};
 
 use buildvrt::{Extent, Resolution};
 use catalog::NodataWord;
@@ -16,25 +17,29 @@ pub struct BlockCount {
 
 impl Model for BlockCount {
     ghost use Rattle.std.specs.Prelude.{ℕ, ◌≤◌};
+    ghost use Rattle.band_blocks.specs.Blocks.{most_blocks};
 
     ghost Value = { ℕ };
 
     ghost view = { λ b. b.number };
 
-    ghost invariant = { λ b. (1 ≤ b.number) × (b.number ≤ 65536) };
+    ghost invariant = { λ b. (1 ≤ b.number) × (b.number ≤ most_blocks) };
 
     ghost inverse = { λ n. record { number = n } };
 }
 
 impl BlockCount {
+    /// The most that are held.
+    const MOST: u32 = 65_536;
+
     /// As many as are held where nothing is said.
     pub const USUAL: BlockCount = BlockCount { number: 64 };
 
     /// The number where it is from 1 to 65,536, else none.
     pub fn new(number: u32) -> Option<BlockCount>
-        ensures exact { result ≡ (if nat_le 1 number && nat_le number 65536 then Some number else None) }
+        ensures exact { result ≡ (if nat_le 1 number && nat_le number most_blocks then Some number else None) }
     {
-        if number >= 1 && number <= 65_536 {
+        if number >= 1 && number <= Self::MOST {
             Some(BlockCount { number })
         } else {
             None
@@ -45,7 +50,7 @@ impl BlockCount {
     pub fn get(self) -> u32
         ensures value { result ≡ self }
         ensures some { 1 ≤ result }
-        ensures few { result ≤ 65536 }
+        ensures few { result ≤ most_blocks }
     {
         self.number
     }

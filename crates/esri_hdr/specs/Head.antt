@@ -22,6 +22,7 @@ use Rattle.esri_hdr.specs.Lines.{Values, last_of}
 use Rattle.esri_hdr.specs.Values.{or_fault, side_in, bands_in, bits_in, big_in, layout_in, skip_in, signed_in, kind_of}
 use Rattle.esri_hdr.specs.Values.{band_row_in, total_row_in, gap_in, BandRowFits, TotalRowFits, GapFits}
 use Rattle.esri_hdr.specs.Keys as keys
+use Rattle.geotransform.specs.Limits.{most_bands, most_side}
 
 -- ULXMAP, ULYMAP
 unfoldable pub place_in : Option (List ℕ) → Result (Option ℤ) HdrFault
@@ -162,13 +163,13 @@ pub record GeoFits (g : RawGeo) : Type 0 where
 
 -- a width or a height
 abbrev pub IsSide : ℕ → Type 0
-IsSide n = (0 < n) × (n ≤ 4194304)
+IsSide n = (0 < n) × (n ≤ most_side)
 
 -- the rules of a head
 pub record IsHead (h : Head) : Type 0 where
   pub width : IsSide h.size.w
   pub height : IsSide h.size.h
-  pub bands : (0 < h.bands) × (h.bands ≤ 256)
+  pub bands : (0 < h.bands) × (h.bands ≤ most_bands)
   pub skip : h.skip ≤ 2 ^ 40
   pub rows : RowsFit h.layout h.bands (h.size.w * sample_len h.kind) (record {
     band_row = h.band_row;
@@ -182,7 +183,7 @@ pub record IsHead (h : Head) : Type 0 where
 pub record IsShape (s : Shape) : Type 0 where
   pub width : IsSide s.w
   pub height : IsSide s.h
-  pub bands : (0 < s.bands) × (s.bands ≤ 256)
+  pub bands : (0 < s.bands) × (s.bands ≤ most_bands)
   pub skip : s.skip ≤ 2 ^ 40
   pub bits : (s.bits ≡ 8) ⊎ ((s.bits ≡ 16) ⊎ ((s.bits ≡ 32) ⊎ (s.bits ≡ 64)))
 

@@ -12,6 +12,7 @@ use Rattle.esri_hdr.specs.declared.header_parts.HdrFault.{HdrFault}
 use Rattle.esri_hdr.specs.declared.header_parts.HdrFault.TheVariants.{BadValue, Unsupported, Limit}
 use Rattle.esri_hdr.specs.declared.header_parts.Layout.{Layout}
 use Rattle.esri_hdr.specs.declared.header_parts.Layout.TheVariants.{Bil, Bip, Bsq}
+use Rattle.geotransform.specs.Limits.{most_bands, most_side}
 
 -- what is found, or the fault
 abbrev pub or_fault : {A : Type 0} → HdrFault → Option A → Result A HdrFault
@@ -39,13 +40,13 @@ number_or default (Some text) = number_in text
 unfoldable pub side_in : List ℕ → Result ℕ HdrFault
 side_in text = do
   n ← number_in text
-  counted 4194304 n
+  counted most_side n
 
 -- NBANDS
 unfoldable pub bands_in : Option (List ℕ) → Result ℕ HdrFault
 bands_in text = do
   n ← number_or 1 text
-  counted 256 n
+  counted most_bands n
 
 -- NBITS
 unfoldable pub bits_in : Option (List ℕ) → Result ℕ HdrFault

@@ -8,6 +8,7 @@ ghost use Rattle.esri_hdr.specs.declared.header_parts.Layout.{Layout};
 ghost use Rattle.esri_hdr.specs.Head.{Head, IsHead, GeoFits, esri_head, half_of, raw_geo, holds_transform, plain_head};
 ghost use Rattle.esri_hdr.specs.Text.{hdr_text};
 ghost use Rattle.esri_hdr.specs.declared.header_parts.RawGeo.{RawGeo};
+ghost use Rattle.geotransform.specs.Limits.{most_bands};
 
 /// The text that is written of a head is read as the head.
 pub fn written_reads_back()
@@ -28,6 +29,7 @@ pub fn held_places_fit()
 /// The head of a file that has its samples alone keeps the rules of a head.
 pub fn plain_heads_are_heads()
     ensures rules { (size : Size) (bands : ℕ) (kind : PixelType) (layout : Layout) (nodata : Option ℤ)
-        (geo : Option RawGeo) → IsRaster size → 0 < bands → bands ≤ 256 → IfSome nodata (λ n. is_in kind n ≡ true) →
-        IfSome geo GeoFits → IsHead (plain_head size bands kind layout nodata geo) }
+        (geo : Option RawGeo) → IsRaster size → 0 < bands → bands ≤ most_bands →
+        IfSome nodata (λ n. is_in kind n ≡ true) → IfSome geo GeoFits →
+        IsHead (plain_head size bands kind layout nodata geo) }
 {}

@@ -3,6 +3,7 @@ ghost use Rattle.std.specs.Prelude.{◌≡◌, ◌<◌, ◌≤◌, ◌*◌, ◌^
 ghost use Rattle.geotransform.specs.Types.{is_in};
 ghost use Rattle.geotransform.specs.Geo.{IsRaster};
 ghost use Rattle.esri_hdr.specs.Head.{IsHead, GeoFits, sample_len, plain_row, plain_head};
+ghost use Rattle.geotransform.specs.Limits.{most_bands, most_side};
 
 use crate::head::{RawHead, sample_len};
 use crate::header_parts::{Layout, RawGeo};
@@ -11,9 +12,9 @@ use geotransform::{PixelType, Sample, Size};
 /// The bytes of a row of one band.
 #[tactic(auto, using(crate::proofs::Heads::row_bound))]
 fn row_of(columns: u32, kind: PixelType) -> u64
-    requires { columns ≤ 4194304 }
+    requires { columns ≤ most_side }
     ensures value { result ≡ columns * sample_len kind }
-    ensures bound { result ≤ 8 * 4194304 }
+    ensures bound { result ≤ 8 * most_side }
 {
     let len = sample_len(kind) as u64;
     columns as u64 * len
@@ -21,8 +22,8 @@ fn row_of(columns: u32, kind: PixelType) -> u64
 
 /// The bytes of a line of all bands.
 fn plain_row(layout: Layout, bands: u32, row: u64) -> u64
-    requires bands { bands ≤ 256 }
-    requires row { row ≤ 8 * 4194304 }
+    requires bands { bands ≤ most_bands }
+    requires row { row ≤ 8 * most_side }
     ensures { result ≡ plain_row layout bands row }
 {
     match layout {
@@ -46,7 +47,7 @@ impl RawHead {
     ) -> RawHead
         requires size { IsRaster size }
         requires some { 0 < bands }
-        requires bands { bands ≤ 256 }
+        requires bands { bands ≤ most_bands }
         requires nodata { IfSome nodata (λ n. is_in kind n ≡ true) }
         requires geo { IfSome geo GeoFits }
         ensures head { result ≡ plain_head size bands kind layout nodata geo }

@@ -5,6 +5,7 @@ ghost use Rattle.geotransform.specs.Decimal.{number_of};
 ghost use Rattle.esri_hdr.specs.Values.{number_in, number_or, at_most, counted, side_in, bands_in, bits_in, order_of};
 ghost use Rattle.esri_hdr.specs.Values.{big_in, layout_in, skip_in, is_negative, signed_in, kind_of, row_in};
 ghost use Rattle.esri_hdr.specs.Values.{band_row_in, total_row_in, gap_in, BandRowFits, TotalRowFits, GapFits};
+ghost use Rattle.geotransform.specs.Limits.{most_bands, most_side};
 
 use crate::header_parts::{HdrFault, Layout};
 use geotransform::{MOST_BANDS, MOST_SIDE, PixelType, is_negative_decimal, read_number};
@@ -49,7 +50,7 @@ fn counted(limit: u32, n: u64) -> Result<u32, HdrFault>
 #[tactic(auto, unfolding(crate::specs::Values::side_in))]
 pub fn side_in(text: &[u8]) -> Result<u32, HdrFault>
     ensures value { result ≡ side_in text.now }
-    ensures bound { IfOk result (λ n. (0 < n) × (n ≤ 4194304)) }
+    ensures bound { IfOk result (λ n. (0 < n) × (n ≤ most_side)) }
 {
     counted(MOST_SIDE, number_in(text)?)
 }
@@ -57,7 +58,7 @@ pub fn side_in(text: &[u8]) -> Result<u32, HdrFault>
 #[tactic(auto, unfolding(crate::specs::Values::bands_in))]
 pub fn bands_in(text: Option<&[u8]>) -> Result<u32, HdrFault>
     ensures value { result ≡ bands_in (option_map (λ v. v.now) text.entry) }
-    ensures bound { IfOk result (λ n. (0 < n) × (n ≤ 256)) }
+    ensures bound { IfOk result (λ n. (0 < n) × (n ≤ most_bands)) }
 {
     counted(MOST_BANDS, number_or(1, text)?)
 }
@@ -200,7 +201,7 @@ pub fn total_row_in(
     band_row: u64,
     text: Option<&[u8]>,
 ) -> Result<u64, HdrFault>
-    requires bands { bands ≤ 256 }
+    requires bands { bands ≤ most_bands }
     requires row { row ≤ 2 ^ 33 }
     requires band_row { band_row ≤ 2 ^ 33 }
     ensures fits { IfOk result (TotalRowFits layout bands row band_row) }

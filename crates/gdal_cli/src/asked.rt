@@ -4,6 +4,7 @@ ghost use Rattle.std.specs.List.{find, range_with_len};
 ghost use Rattle.lists_and_answers.specs.Answers.{Gives};
 ghost use Rattle.error_lines.specs.Faults.{IsOutside, IsLate, HasNoCause};
 ghost use Rattle.gdal_cli.specs.Location.{chosen_in, frame_in, asked_in};
+ghost use Rattle.geotransform.specs.Limits.{most_bands};
 
 use catalog::Head;
 use error_lines::Fault;
@@ -44,7 +45,7 @@ fn push_number(numbers: &mut Numbers, number: u32) -> Result<(), Fault>
 // The numbers of all bands.
 #[tactic(auto, using(crate::proofs::Listed::range_more))]
 fn all_bands(alloc: Global, count: u32) -> Result<Numbers, Fault>
-    requires { count ≤ 256 }
+    requires { count ≤ most_bands }
     ensures ok { IfOk result (λ bands. bands ≡ range_with_len 1 count) }
     ensures err { IfErr result (λ f. f ≡ Fault.Memory) }
 {
@@ -70,7 +71,7 @@ fn numbers_of(alloc: Global, bands: &[BandNumber]) -> Result<Numbers, Fault>
 
 // The chosen bands, or all where none is chosen.
 fn chosen(alloc: Global, count: u32, bands: &[BandNumber]) -> Result<Numbers, Fault>
-    requires { count ≤ 256 }
+    requires { count ≤ most_bands }
     ensures gives { Gives IsOutside (λ b. b) result (chosen_in count bands.now) }
     ensures within { IfOk result (All (λ band. (1 ≤ band) × (band ≤ count))) }
     ensures inner { HasNoCause result }
@@ -113,7 +114,7 @@ pub fn asked_in(
     geoloc: bool,
     head: &Head,
 ) -> Result<Asked, Fault>
-    requires few { length head.now.bands ≤ 256 }
+    requires few { length head.now.bands ≤ most_bands }
     ensures gives { Gives IsOutside (λ a. a) result (asked_in form bands.now geoloc head.now) }
     ensures within { IfOk result (λ a. All (λ band. (1 ≤ band) × (band ≤ length head.now.bands)) a.bands) }
     ensures inner { HasNoCause result }

@@ -1,5 +1,6 @@
 // The numbers of bands.
 ghost use Rattle.std.specs.Prelude.{◌≡◌, ◌≤◌, ◌&&◌, nat_le, if◌then◌else◌, Some, None};
+ghost use Rattle.geotransform.specs.Limits.{most_bands};
 
 use crate::limits::MOST_BANDS;
 use std::marker::Model;
@@ -12,12 +13,13 @@ pub struct BandNumber {
 
 impl Model for BandNumber {
     ghost use Rattle.std.specs.Prelude.{ℕ, ◌≤◌};
+    ghost use Rattle.geotransform.specs.Limits.{most_bands};
 
     ghost Value = { ℕ };
 
     ghost view = { λ b. b.number };
 
-    ghost invariant = { λ b. (1 ≤ b.number) × (b.number ≤ 256) };
+    ghost invariant = { λ b. (1 ≤ b.number) × (b.number ≤ most_bands) };
 
     ghost inverse = { λ n. record { number = n } };
 }
@@ -25,7 +27,7 @@ impl Model for BandNumber {
 impl BandNumber {
     /// The number where it is from 1 to 256, else none.
     pub fn new(number: u32) -> Option<BandNumber>
-        ensures exact { result ≡ (if nat_le 1 number && nat_le number 256 then Some number else None) }
+        ensures exact { result ≡ (if nat_le 1 number && nat_le number most_bands then Some number else None) }
     {
         if number >= 1 && number <= MOST_BANDS {
             Some(BandNumber { number })
@@ -37,7 +39,7 @@ impl BandNumber {
     /// This number.
     pub fn of(number: u32) -> BandNumber
         requires first { 1 ≤ number }
-        requires last { number ≤ 256 }
+        requires last { number ≤ most_bands }
         ensures value { result ≡ number }
     {
         BandNumber { number }
@@ -47,7 +49,7 @@ impl BandNumber {
     pub fn get(self) -> u32
         ensures value { result ≡ self }
         ensures first { 1 ≤ result }
-        ensures last { result ≤ 256 }
+        ensures last { result ≤ most_bands }
     {
         self.number
     }

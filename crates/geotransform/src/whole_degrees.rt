@@ -1,10 +1,11 @@
 // Rasters whose outer pixels have their centres at whole degrees one apart.
-ghost use Rattle.std.specs.Prelude.{◌≡◌, ◌<◌, ◌≤◌, ◌^◌, ◌*◌, ℤ, pos, ◌+ℤ◌, ◌-ℤ◌, ◌*ℤ◌, ◌<ℤ◌, ◌≤ℤ◌, IfSome};
+ghost use Rattle.std.specs.Prelude.{◌≡◌, ◌<◌, ◌≤◌, ◌^◌, ◌*◌, ◌/◌, ℤ, pos, ◌+ℤ◌, ◌-ℤ◌, ◌*ℤ◌, ◌<ℤ◌, ◌≤ℤ◌, IfSome};
 ghost use Rattle.std.specs.Prelude.{unsigned_abs};
 ghost use Rattle.geotransform.specs.Geo.{IsNear};
 ghost use Rattle.geotransform.specs.Degrees.{degrees, twice_centre, degree_near, is_at, in_range, are_at};
 ghost use Rattle.geotransform.specs.Degrees.{degree_between, twice_west, twice_east, twice_south, twice_north, lon_of};
 ghost use Rattle.geotransform.specs.Degrees.{lat_of};
+ghost use Rattle.geotransform.specs.Limits.{most_side, most_steps};
 
 use crate::geo::GeoTransform;
 use crate::rounding::{along, floor_of};
@@ -29,9 +30,9 @@ fn twice_middle(first: Ticks, second: Ticks) -> i128
 
 /// The side behind the column, or line, `k`.
 fn behind(k: i64) -> i64
-    requires { unsigned_abs k ≤ 4194304 }
+    requires { unsigned_abs k ≤ most_side }
     ensures value { result ≡ k +ℤ pos 1 }
-    ensures bound { unsigned_abs result ≤ 16777216 }
+    ensures bound { unsigned_abs result ≤ most_steps }
 {
     k + 1
 }
@@ -40,7 +41,7 @@ fn behind(k: i64) -> i64
 pub fn twice_centre(start: Ticks, step: Ticks, k: i64) -> i128
     requires start { IsNear start }
     requires step { IsNear step }
-    requires k { unsigned_abs k ≤ 4194304 }
+    requires k { unsigned_abs k ≤ most_side }
     ensures centre { result ≡ twice_centre start step k }
     ensures bound { unsigned_abs result ≤ 2 * 10 ^ 37 }
 {
@@ -55,7 +56,7 @@ fn twice_west(geo: &GeoTransform) -> i128
 }
 
 fn twice_east(geo: &GeoTransform, columns: u32) -> i128
-    requires { (0 < columns) × (columns ≤ 4194304) }
+    requires { (0 < columns) × (columns ≤ most_side) }
     ensures value { result ≡ twice_east geo.now columns }
     ensures bound { unsigned_abs result ≤ 2 * 10 ^ 37 }
 {
@@ -64,7 +65,7 @@ fn twice_east(geo: &GeoTransform, columns: u32) -> i128
 
 /// Twice the latitude of the centres of the last line.
 pub fn twice_south(geo: &GeoTransform, lines: u32) -> i128
-    requires { (0 < lines) × (lines ≤ 4194304) }
+    requires { (0 < lines) × (lines ≤ most_side) }
     ensures value { result ≡ twice_south geo.now lines }
     ensures bound { unsigned_abs result ≤ 2 * 10 ^ 37 }
 {
@@ -95,6 +96,14 @@ fn way(twice: i128, degree: i32) -> u128
     (twice - 2 * degrees(degree)).unsigned_abs()
 }
 
+/// Twice a thousandth of a spacing.
+fn twice_thousandth(spacing: u64) -> u128
+    ensures { result ≡ 2 * spacing / 1000 }
+{
+    let wide = spacing as u128;
+    2 * wide / 1000
+}
+
 /// Whether half of so many ticks is within a thousandth of a spacing of a whole degree.
 #[tactic(auto, using(crate::proofs::Centres::thousandth_is))]
 pub fn is_at(spacing: u64, twice: i128, degree: i32) -> bool
@@ -102,7 +111,7 @@ pub fn is_at(spacing: u64, twice: i128, degree: i32) -> bool
     requires degree { unsigned_abs degree ≤ 181 }
     ensures at { result ≡ is_at spacing twice degree }
 {
-    way(twice, degree) <= 2 * spacing as u128 / 1000
+    way(twice, degree) <= twice_thousandth(spacing)
 }
 
 /// A degree from `-limit` on and below the limit.
@@ -157,7 +166,7 @@ fn degree_between(spacing: u64, limit: i32, first: i128, second: i128) -> Option
 /// thousandth of the spacing of whole degrees one apart. `None` exactly where they aren't, or the
 /// degree isn't from -180 to 179.
 pub fn lon_of(geo: &GeoTransform, columns: u32, spacing: u64) -> Option<i32>
-    requires { (0 < columns) × (columns ≤ 4194304) }
+    requires { (0 < columns) × (columns ≤ most_side) }
     ensures degree { result ≡ lon_of spacing columns geo.now }
     ensures bound { IfSome result (λ d. unsigned_abs d ≤ 180) }
 {
@@ -168,7 +177,7 @@ pub fn lon_of(geo: &GeoTransform, columns: u32, spacing: u64) -> Option<i32>
 /// thousandth of the spacing of whole degrees one apart. `None` exactly where they aren't, or the
 /// degree isn't from -90 to 89.
 pub fn lat_of(geo: &GeoTransform, lines: u32, spacing: u64) -> Option<i32>
-    requires { (0 < lines) × (lines ≤ 4194304) }
+    requires { (0 < lines) × (lines ≤ most_side) }
     ensures degree { result ≡ lat_of spacing lines geo.now }
     ensures bound { IfSome result (λ d. unsigned_abs d ≤ 90) }
 {

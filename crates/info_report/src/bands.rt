@@ -1,6 +1,7 @@
 // The lines on the bands. Each call may be refused memory.
 ghost use Rattle.std.specs.Prelude.{◌≡◌, ◌++◌, ◌≤◌, length, OnOk};
 ghost use Rattle.info_report.specs.Report.{nodata_text, band_text, bands_text};
+ghost use Rattle.geotransform.specs.Limits.{most_bands};
 
 use catalog::BandHead;
 use geotransform::Sample;
@@ -44,7 +45,7 @@ fn push_band(number: usize, band: &BandHead, out: &mut Vec<u8>) -> Result<(), Al
 /// Appends the lines of the bands, of which there are at most 256.
 #[tactic(auto, using(crate::proofs::Appended::one_band_more))]
 pub fn push_bands(bands: &[BandHead], out: &mut Vec<u8>) -> Result<(), AllocError>
-    requires { length bands.now ≤ 256 }
+    requires { length bands.now ≤ most_bands }
     ensures { OnOk result (out.new.items ≡ out.old.items ++ bands_text 1 bands.now) }
 {
     for (at, band) in bands.iter().enumerate() {

@@ -2,6 +2,7 @@
 ghost use Rattle.std.specs.Prelude.{◌≡◌, ◌≤◌, ◌++◌, pos, Some, OnOk};
 ghost use Rattle.geotransform.specs.Geo.{IsRaster, corner_of};
 ghost use Rattle.info_report.specs.Report.{pair_text, corner_text, corners_text, geo_text};
+ghost use Rattle.geotransform.specs.Limits.{most_side};
 
 use geotransform::{GeoTransform, Size, Ticks, print_decimal};
 use std::alloc::AllocError;
@@ -35,8 +36,8 @@ fn push_corner(
     y: u32,
     out: &mut Vec<u8>,
 ) -> Result<(), AllocError>
-    requires x { x ≤ 4194304 }
-    requires y { y ≤ 4194304 }
+    requires x { x ≤ most_side }
+    requires y { y ≤ most_side }
     ensures { OnOk result (out.new.items ≡ out.old.items ++ corner_text name.now (corner_of geo.now (pos x) (pos y))) }
 {
     let (px, py) = geo.corner(x as i64, y as i64);

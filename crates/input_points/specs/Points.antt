@@ -5,6 +5,10 @@ use Rattle.geotransform.specs.Decimal.{ticks_of}
 use Rattle.input_points.specs.declared.entry.LineKind.{LineKind}
 use Rattle.input_points.specs.declared.entry.LineKind.TheVariants.{Blank, Point, Bad}
 
+-- The most bytes of a line that is a point.
+abbrev pub longest_line : ℕ
+longest_line = 4096
+
 -- the point of two numbers, where both are there
 abbrev pub point_of : Option ℤ → Option ℤ → LineKind
 point_of None y = Bad
@@ -18,5 +22,5 @@ kind_of line =
     let first = token_at line in
     let second = token_at first.1 in
     let third = token_at second.1 in
-    if nat_lt 4096 (length line) then Bad else (if length first.0 == 0 then Blank
+    if nat_lt longest_line (length line) then Bad else (if length first.0 == 0 then Blank
     else (if length third.0 == 0 then point_of (ticks_of first.0) (ticks_of second.0) else Bad))

@@ -6,7 +6,7 @@ ghost use Rattle.std.specs.Option.{option_to_list};
 ghost use Rattle.std.specs.Str.Lines.{lines, strip_carriage_return};
 ghost use Rattle.input_points.specs.Lines.{is_inside, ended_lines};
 ghost use Rattle.input_points.specs.Points.{kind_of};
-ghost use Rattle.input_points.specs.Entries.{ends, entry_of, entries, ended_entries};
+ghost use Rattle.input_points.specs.Entries.{most_lines, ends, entry_of, entries, ended_entries};
 ghost use Rattle.input_points.specs.Reading.{start, kept, behind, coming};
 
 use crate::entry::{Entry, LineKind};
@@ -31,17 +31,18 @@ pub struct PointLines {
 }
 
 impl Model for PointLines {
-    ghost use Rattle.std.specs.Prelude.{◌≡◌, ◌≤◌, ◌<◌, length, true};
+    ghost use Rattle.std.specs.Prelude.{◌≡◌, ◌≤◌, ◌<◌, ◌+◌, length, true};
     ghost use Rattle.std.specs.List.{list_all};
     ghost use Rattle.std.specs.Vec.{vec_capacity};
     ghost use Rattle.input_points.specs.Lines.{is_inside};
+    ghost use Rattle.input_points.specs.Entries.{most_lines};
     ghost use Rattle.input_points.specs.Reading.{Reading};
 
     ghost Value = { Reading };
 
     ghost view = { λ p. record { line = p.line; held = p.bytes.items; over = p.over } };
 
-    ghost invariant = { λ p. (p.line ≤ 16777217) × (16777216 < p.line → length p.bytes.items ≡ 0) × (length p.bytes.items ≤ 4097) × (4097 ≤ vec_capacity p.bytes) × (list_all is_inside p.bytes.items ≡ true) };
+    ghost invariant = { λ p. (p.line ≤ most_lines + 1) × (most_lines < p.line → length p.bytes.items ≡ 0) × (length p.bytes.items ≤ 4097) × (4097 ≤ vec_capacity p.bytes) × (list_all is_inside p.bytes.items ≡ true) };
 }
 
 impl PointLines {
@@ -62,7 +63,7 @@ impl PointLines {
     // Keeps the bytes behind those that are kept, where they aren't too many.
     fn keep(&mut self, bytes: &[u8]) -> bool
         requires inside { list_all is_inside bytes.now ≡ true }
-        requires few { self.old.line ≤ 16777216 }
+        requires few { self.old.line ≤ most_lines }
         ensures inside { list_all is_inside self.old.held ≡ true }
         ensures fits { result ≡ nat_le (length self.old.held + length bytes.now) 4097 }
         ensures state { self.new ≡ (if result then kept self.old bytes.now else self.old) }
@@ -74,7 +75,7 @@ impl PointLines {
     // What the line says that ends behind these bytes.
     fn kind_behind(&mut self, bytes: &[u8]) -> LineKind
         requires inside { list_all is_inside bytes.now ≡ true }
-        requires few { self.old.line ≤ 16777216 }
+        requires few { self.old.line ≤ most_lines }
         ensures inside { list_all is_inside self.old.held ≡ true }
         ensures kind { result ≡ kind_of (strip_carriage_return (self.old.held ++ bytes.now)) }
         ensures line { self.new.line ≡ self.old.line }
@@ -90,7 +91,7 @@ impl PointLines {
 
     // The entry of the line, behind which the next one begins.
     fn answer(&mut self, kind: LineKind) -> Entry
-        requires { ends kind ≡ false → self.old.line ≤ 16777216 }
+        requires { ends kind ≡ false → self.old.line ≤ most_lines }
         ensures entry { result ≡ record { line = self.old.line; kind = kind } }
         ensures state { self.new ≡ behind self.old.line kind }
     {
@@ -108,7 +109,7 @@ impl PointLines {
     // Reads the piece up to the line's end, or keeps all of it.
     fn read(&mut self, piece: &[u8]) -> (Option<Entry>, usize)
         requires going { self.old.over ≡ false }
-        requires few { self.old.line ≤ 16777216 }
+        requires few { self.old.line ≤ most_lines }
         requires some { 0 < length piece.now }
         ensures all { (more : List ℕ) → coming lines self.old (piece.now ++ more) ≡ option_to_list result.0
             ++ coming lines self.new (drop result.1 piece.now ++ more) }

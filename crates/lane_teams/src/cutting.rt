@@ -1,6 +1,7 @@
 // How a window is cut among lanes.
 ghost use Rattle.std.specs.Prelude.{◌≡◌, ◌+◌, ◌<◌, ◌≤◌};
 ghost use Rattle.lane_teams.specs.Parts.{lines_before, part_of};
+ghost use Rattle.geotransform.specs.Limits.{most_side};
 
 use geotransform::Rect;
 use nearest_window::Window;
@@ -27,7 +28,7 @@ pub fn part_of(job: &Job, first: usize, end: usize) -> Window
     requires some { 0 < job.now.count }
     requires order { first ≤ end }
     requires within { end ≤ job.now.count }
-    requires low { job.now.window.rect.y + job.now.window.rect.h ≤ 4194304 }
+    requires low { job.now.window.rect.y + job.now.window.rect.h ≤ most_side }
     ensures part { result ≡ part_of job.now.window job.now.count first end }
 {
     let window = job.window;

@@ -1,5 +1,6 @@
 // Lines for the lanes of several workers.
 ghost use Rattle.std.specs.Prelude.{◌≡◌, ◌≤◌, IfSome, None};
+ghost use Rattle.band_blocks.specs.Blocks.{most_blocks};
 
 use crate::WorkerCount;
 use catalog::Catalog;
@@ -20,7 +21,7 @@ pub fn lines_for<F: Folder, S: Scene>(
     requires told { S.told ≡ F.names folder.now }
     requires scene { S.cat ≡ cat.now }
     requires some { 1 ≤ count }
-    requires few { count ≤ 65536 }
+    requires few { count ≤ most_blocks }
     ensures alone { workers ≡ 1 → result ≡ None }
     ensures count { IfSome result (λ lines. lines ≡ count) }
 {

@@ -14,6 +14,7 @@ ghost use Rattle.nearest_window.specs.Right.{IsFresh, IsReady, slack_of, TellsCh
 ghost use Rattle.nearest_window.specs.Shown.{IsInBand, IsWindow};
 ghost use Rattle.lane_teams.specs.Parts.{AreOfWindow};
 ghost use Rattle.lane_teams.specs.Turns.{OnlyReadByViews};
+ghost use Rattle.band_blocks.specs.Blocks.{most_blocks};
 
 use crate::beside::read_beside;
 use crate::cutting::Job;
@@ -38,7 +39,7 @@ pub struct Team<F: Folder, L: Ledger> {
 // So many lanes.
 fn lanes_of<F: Folder>(alloc: Global, count: u32, capacity: u32) -> Result<Vec<Lane<F>>, AllocError>
     requires some { 1 ≤ capacity }
-    requires few { capacity ≤ 65536 }
+    requires few { capacity ≤ most_blocks }
     ensures count { IfOk result (λ lanes. length lanes.items ≡ count) }
     ensures fresh { IfOk result (λ lanes. All (IsFresh F.Folder) lanes.items) }
 {
@@ -60,7 +61,7 @@ impl<F: Folder, L: Ledger> Team<F, L> {
         blank: Blank,
     ) -> Result<Team<F, L>, AllocError>
         requires some { 1 ≤ capacity }
-        requires few { capacity ≤ 65536 }
+        requires few { capacity ≤ most_blocks }
         requires name { blank.name ≡ L.name }
         requires parts { blank.parts ≡ L.parts }
         requires shares { 0 < blank.parts }

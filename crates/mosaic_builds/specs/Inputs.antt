@@ -7,11 +7,12 @@ use Rattle.std.specs.Str.{is_utf8}
 use Rattle.std.specs.Str.Lines.{lines}
 use Rattle.lists_and_answers.specs.Answers.{◌>>=◌}
 use Rattle.outside.specs.Outside.{Files}
-use Rattle.outside.specs.Paths.{normal}
+use Rattle.outside.specs.Paths.{normal, longest_name}
 use Rattle.catalog.specs.declared.faults.Bad.TheVariants as bad
 use Rattle.catalog.specs.declared.faults.LimitKind.TheVariants as limits
 use Rattle.error_lines.specs.declared.faults.Fault.{Fault}
 use Rattle.error_lines.specs.declared.faults.Fault.TheVariants.{Absent, Malformed, Limit}
+use Rattle.catalog.specs.Dataset.{most_datasets}
 
 -- the bytes under the name of a list
 abbrev pub list_in : Files → List ℕ → Result (List ℕ) Fault
@@ -47,11 +48,13 @@ listed_in m (Some name) = lines_in m name
 
 -- a line as a name, which is normalised
 abbrev pub name_of_line : List ℕ → Result (List ℕ) Fault
-name_of_line line = if nat_lt 4096 (length line) then Err (Limit limits.Name (length line)) else Ok (normal line)
+name_of_line line =
+    if nat_lt longest_name (length line) then Err (Limit limits.Name (length line)) else Ok (normal line)
 
 -- with one more name there are at most 65,536
 abbrev pub with_name : List (List ℕ) → List ℕ → Result (List (List ℕ)) Fault
-with_name names name = if nat_lt (length names) 65536 then Ok (names ++ name ∷ []) else Err (Limit limits.Files 65537)
+with_name names name =
+    if nat_lt (length names) most_datasets then Ok (names ++ name ∷ []) else Err (Limit limits.Files 65537)
 
 -- the names of lines behind these names, up to the first that is refused
 abbrev pub with_lines : List (List ℕ) → List (List ℕ) → Result (List (List ℕ)) Fault
@@ -60,7 +63,7 @@ with_lines names (line ∷ more) = name_of_line line >>= λ name. (with_name nam
 
 -- of the names that are given there are as many too
 abbrev pub few_of : List (List ℕ) → Result (Unit {0}) Fault
-few_of names = if nat_lt 65536 (length names) then Err (Limit limits.Files 65537) else Ok tt
+few_of names = if nat_lt most_datasets (length names) then Err (Limit limits.Files 65537) else Ok tt
 
 abbrev pub named_behind : List (List ℕ) → List (List ℕ) → Result (List (List ℕ)) Fault
 named_behind names lines = few_of names >>= λ few. with_lines names lines

@@ -8,6 +8,7 @@ ghost use Rattle.outside.specs.Causes.{HasCause};
 ghost use Rattle.error_lines.specs.Faults.{IsOutside};
 ghost use Rattle.mosaic_builds.specs.Ends.{IsOfNames, IsOfMaking};
 ghost use Rattle.mosaic_builds.specs.Inputs.{lines_in, filled, name_of_line, with_lines, named_behind, names_in};
+ghost use Rattle.catalog.specs.Dataset.{most_datasets};
 
 use crate::empty_lines::drop_empty_lines;
 use catalog::{Bad, LimitKind};
@@ -109,12 +110,12 @@ fn line_name(alloc: Global, line: &str) -> Result<Name, Fault>
 // Adds the name of a line that isn't empty.
 fn add_name(alloc: Global, line: &str, names: &mut Names) -> Result<(), Fault>
     requires some { 0 < length line.now }
-    requires few { length names.old ≤ 65536 }
+    requires few { length names.old ≤ most_datasets }
     ensures ok { OnOk result ((more : List (List ℕ)) → with_lines names.old (line.now ∷ more)
         ≡ with_lines names.new more) }
     ensures err { IfErr result (λ f. (f ≡ Fault.Memory) ⊎ ((more : List (List ℕ)) →
         with_lines names.old (line.now ∷ more) ≡ Err f)) }
-    ensures few { OnOk result (length names.new ≤ 65536) }
+    ensures few { OnOk result (length names.new ≤ most_datasets) }
     ensures faults { IfErr result IsOfNames }
 {
     let name = match line_name(alloc, line) {
@@ -135,12 +136,12 @@ fn add_name(alloc: Global, line: &str, names: &mut Names) -> Result<(), Fault>
 
 // Adds the name of a line, where it isn't empty.
 fn add_line(alloc: Global, line: &str, names: &mut Names) -> Result<(), Fault>
-    requires few { length names.old ≤ 65536 }
+    requires few { length names.old ≤ most_datasets }
     ensures ok { OnOk result ((more : List (List ℕ)) → with_lines names.old (filled (line.now ∷ more))
         ≡ with_lines names.new (filled more)) }
     ensures err { IfErr result (λ f. (f ≡ Fault.Memory) ⊎ ((more : List (List ℕ)) →
         with_lines names.old (filled (line.now ∷ more)) ≡ Err f)) }
-    ensures few { OnOk result (length names.new ≤ 65536) }
+    ensures few { OnOk result (length names.new ≤ most_datasets) }
     ensures faults { IfErr result IsOfNames }
 {
     if line.is_empty() {
@@ -152,10 +153,10 @@ fn add_line(alloc: Global, line: &str, names: &mut Names) -> Result<(), Fault>
 
 // Adds the names of the lines of a text.
 fn add_lines(alloc: Global, text: &str, names: &mut Names) -> Result<(), Fault>
-    requires few { length names.old ≤ 65536 }
+    requires few { length names.old ≤ most_datasets }
     ensures told { Gives (λ f. f ≡ Fault.Memory) (λ done. names.new) result
         (with_lines names.old (filled (lines text.now))) }
-    ensures few { OnOk result (length names.new ≤ 65536) }
+    ensures few { OnOk result (length names.new ≤ most_datasets) }
     ensures faults { IfErr result IsOfNames }
 {
     for line in text.lines() {
@@ -170,7 +171,7 @@ fn add_lines(alloc: Global, text: &str, names: &mut Names) -> Result<(), Fault>
 // The names of the lines of a text behind those that are given.
 fn with_text(alloc: Global, mut names: Names, text: &str) -> Result<Names, Fault>
     ensures told { Gives (λ f. f ≡ Fault.Memory) (λ all. all) result (named_behind names (filled (lines text.now))) }
-    ensures few { IfOk result (λ all. length all ≤ 65536) }
+    ensures few { IfOk result (λ all. length all ≤ most_datasets) }
     ensures faults { IfErr result IsOfNames }
 {
     if names.len() > MOST_INPUTS {
@@ -194,7 +195,7 @@ fn with_list<F: Folder>(
 ) -> Result<Names, Fault>
     ensures told { (m : Files) → F.names folder.old ≡ Some m → Gives IsOutside (λ all. all) result
         (names_in m names (Some list.now)) }
-    ensures few { IfOk result (λ all. length all ≤ 65536) }
+    ensures few { IfOk result (λ all. length all ≤ most_datasets) }
     ensures names { F.names folder.new ≡ F.names folder.old }
     ensures cause { HasCause Fault.FolderFault (F.faults folder.old) (F.faults folder.new) result }
     ensures faults { (out : List ℕ) → IfErr result (IsOfMaking out) }
@@ -228,7 +229,7 @@ pub fn list_names<F: Folder>(
 ) -> Result<Names, Fault>
     ensures told { (m : Files) → F.names folder.old ≡ Some m → Gives IsOutside (λ all. all) result
         (names_in m inputs list.now) }
-    ensures few { IfOk result (λ all. length all ≤ 65536) }
+    ensures few { IfOk result (λ all. length all ≤ most_datasets) }
     ensures names { F.names folder.new ≡ F.names folder.old }
     ensures cause { HasCause Fault.FolderFault (F.faults folder.old) (F.faults folder.new) result }
     ensures faults { (out : List ℕ) → IfErr result (IsOfMaking out) }

@@ -7,6 +7,7 @@ ghost use Rattle.error_lines.specs.Faults.{IsOutside};
 ghost use Rattle.mosaic_builds.specs.Built.{built_of, built_in, built_by, IsMade};
 ghost use Rattle.mosaic_builds.specs.Ends.{IsOfBuilding, IsOfMaking};
 ghost use Rattle.mosaic_builds.specs.Walks.{heads_at, AreKnown};
+ghost use Rattle.catalog.specs.Dataset.{most_datasets};
 
 use crate::list::list_names;
 use crate::mosaic::mosaic_of_walked;
@@ -45,7 +46,7 @@ pub struct Made {
 // The mosaic of walked inputs, whose name is none of a file that was read.
 fn build(alloc: Global, cat: Catalog, ids: Numbers, options: &BuildOptions) -> Result<Made, Fault>
     requires known { AreKnown cat ids }
-    requires few { length ids ≤ 65536 }
+    requires few { length ids ≤ most_datasets }
     ensures told { Gives (λ f. f ≡ Fault.Memory) built_by result (built_of options.now cat (heads_at cat ids)) }
     ensures made { IfOk result IsMade }
     ensures faults { IfErr result (IsOfBuilding options.now.out) }

@@ -7,6 +7,7 @@ ghost use Rattle.buildvrt.specs.Mosaic.{mosaic_of};
 ghost use Rattle.error_lines.specs.Faults.{by_build};
 ghost use Rattle.mosaic_builds.specs.Ends.{IsOfBuilding};
 ghost use Rattle.mosaic_builds.specs.Walks.{heads_at, AreKnown};
+ghost use Rattle.catalog.specs.Dataset.{most_datasets};
 
 use buildvrt::{BuildOptions, Input, SkipList, mosaic_of_inputs};
 use catalog::Catalog;
@@ -43,7 +44,7 @@ pub fn mosaic_of_walked(
     options: &BuildOptions,
 ) -> Result<(Document, SkipList), Fault>
     requires known { AreKnown cat.now ids.now }
-    requires few { length ids.now ≤ 65536 }
+    requires few { length ids.now ≤ most_datasets }
     ensures mosaic { Gives (λ f. f ≡ Fault.Memory) (λ made. made) result
         (by_build (mosaic_of options.now (heads_at cat.now ids.now))) }
     ensures within { IfOk result (λ made. All (IsOneOf (length ids.now)) made.1) }

@@ -5,11 +5,15 @@ ghost use Rattle.std.specs.List.{All, sum_by};
 ghost use Rattle.std.specs.List.Sorted.{IsStrictlyIncreasing};
 ghost use Rattle.mosaic_sources.specs.Rows.{most_listed};
 ghost use Rattle.mosaic_sources.specs.Stretches.{holding_lines, AreListsOf, HasEdges, IsWithinCount};
+ghost use Rattle.vrt_profile.specs.Values.{most_sources};
 
 use crate::row_list::RowList;
 use crate::spans::Span;
 use crate::stretches::{all_stretches, total_of};
 use std::alloc::{AllocError, Global};
+
+// So many numbers all lists have together at most.
+const MOST_LISTED: u64 = 4_194_304;
 
 // Counts one more at each place of a span.
 fn count_between(counts: &mut Vec<u32>, span: Span)
@@ -70,7 +74,7 @@ fn add_between(lists: &mut Vec<RowList>, span: Span, number: u32) -> Result<(), 
 
 // For each of `count` stretches, the numbers of the spans of stretches that hold it, in order.
 fn lists_of(alloc: Global, stretches: &[Span], count: usize) -> Result<Vec<RowList>, AllocError>
-    requires few { length stretches.now ≤ 262144 }
+    requires few { length stretches.now ≤ most_sources }
     requires within { All (IsWithinCount count) stretches.now }
     ensures count { IfOk result (λ v. length v.items ≡ count) }
     ensures lists { IfOk result (λ v. (k : ℕ) → k < count → slice_index_or v.items k [] ≡ holding_lines stretches.now
@@ -92,7 +96,7 @@ pub fn lists_within(
     cuts: &[u32],
     height: u32,
 ) -> Result<Option<Vec<RowList>>, AllocError>
-    requires few { length spans.now ≤ 262144 }
+    requires few { length spans.now ≤ most_sources }
     requires short { length cuts.now ≤ 2 * length spans.now }
     requires rising { IsStrictlyIncreasing cuts.now }
     requires edges { All (HasEdges cuts.now height) spans.now }
@@ -104,7 +108,7 @@ pub fn lists_within(
 {
     let stretches = all_stretches(alloc, spans, cuts, height)?;
     let count = cuts.len() + 1;
-    if total_of(stretches.as_slice(), count) > 4_194_304 {
+    if total_of(stretches.as_slice(), count) > MOST_LISTED {
         return Ok(None);
     }
     Ok(Some(lists_of(alloc, stretches.as_slice(), count)?))

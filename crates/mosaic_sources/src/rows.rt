@@ -2,6 +2,7 @@
 ghost use Rattle.std.specs.Prelude.{◌≡◌, ℕ, ◌<◌, ◌≤◌, IfOk, IfSome, None, length};
 ghost use Rattle.std.specs.List.{Contains};
 ghost use Rattle.mosaic_sources.specs.Rows.{IsIndexOf, Rows, list_at, listed, most_listed};
+ghost use Rattle.vrt_profile.specs.Values.{most_sources};
 
 use crate::cuts::{cuts_of, spans_of};
 use crate::lists::{lists_within, numbers_of};
@@ -36,7 +37,7 @@ impl RowIndex {
     /// more than 4,194,304 numbers; their sum is known from the sources' first and last lines, before any list is
     /// made. It is refused where memory is.
     pub fn new(alloc: Global, sources: &Sources, size: Size) -> Result<Option<RowIndex>, AllocError>
-        requires few { length sources.now ≤ 262144 }
+        requires few { length sources.now ≤ most_sources }
         ensures index { IfOk result (λ o. IfSome o (IsIndexOf sources.now size)) }
         ensures short { IfOk result (λ o. IfSome o (λ r. listed r ≤ most_listed)) }
         ensures long { IfOk result (λ o. o ≡ None → (r : Rows) × (IsIndexOf sources.now size r ×

@@ -5,6 +5,7 @@ ghost use Rattle.std.specs.List.Sorted.{IsStrictlyIncreasing};
 ghost use Rattle.mosaic_sources.specs.Stretches.{holding_lines, held_by, HasEdges, IsWithinCount, is_in_span};
 ghost use Rattle.mosaic_sources.specs.Rows.{IsInner};
 ghost use Rattle.mosaic_sources.specs.Rows as rows;
+ghost use Rattle.vrt_profile.specs.Values.{most_sources};
 
 use crate::spans::Span;
 use std::alloc::{AllocError, Global};
@@ -98,7 +99,7 @@ pub fn all_stretches(
 
 /// How many numbers the lists of `count` stretches have together.
 pub fn total_of(stretches: &[Span], count: usize) -> u64
-    requires few { length stretches.now ≤ 262144 }
+    requires few { length stretches.now ≤ most_sources }
     requires short { count ≤ 524289 }
     requires within { All (IsWithinCount count) stretches.now }
     ensures total { result ≡ held_by stretches.now }

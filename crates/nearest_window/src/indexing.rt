@@ -5,6 +5,7 @@ ghost use Rattle.catalog.specs.Drivers.{Dataset};
 ghost use Rattle.catalog.specs.Places.{IsWithin};
 ghost use Rattle.nearest_window.specs.Right.{IsIndexIn, IsMosaicKey};
 ghost use Rattle.nearest_window.specs.Wanted.{IsWanted, numbers_of};
+ghost use Rattle.vrt_profile.specs.Values.{most_sources};
 
 use crate::indexes::{Indexes, Kept};
 use crate::wanted::{Wanted, all_of, wanted_of};
@@ -23,7 +24,7 @@ const MOST_SOURCES: usize = catalog::MOST_SOURCES as usize;
 
 // Whether the sources of a band are indexed.
 fn is_indexed(sources: &Sources) -> bool
-    ensures few { result ≡ true → length sources.now ≤ 262144 }
+    ensures few { result ≡ true → length sources.now ≤ most_sources }
 {
     sources.len() > FEW && sources.len() <= MOST_SOURCES
 }
@@ -31,7 +32,7 @@ fn is_indexed(sources: &Sources) -> bool
 // A band with the index of its sources. It is refused where memory is.
 fn kept_of(alloc: Global, cat: &Catalog, key: BlockKey, band: &VrtBand) -> Result<Kept, AllocError>
     requires key { IsMosaicKey cat.now key band.now }
-    requires few { length band.now.sources ≤ 262144 }
+    requires few { length band.now.sources ≤ most_sources }
     ensures index { IfOk result (IsIndexIn cat.now) }
 {
     let index = RowIndex::new(alloc, &band.sources, cat.head(key.dataset).size)?;
@@ -52,7 +53,7 @@ fn index_band(
 ) -> Result<(), AllocError>
     requires listed { All (IsIndexIn cat.now) indexes.old }
     requires key { IsMosaicKey cat.now key band.now }
-    requires few { length band.now.sources ≤ 262144 }
+    requires few { length band.now.sources ≤ most_sources }
     ensures listed { All (IsIndexIn cat.now) indexes.new }
 {
     if !indexes.has_room() {

@@ -22,6 +22,7 @@ ghost use Rattle.nearest_window.specs.Right.{IsFileKey, IsMosaicKey, Served, Ser
 ghost use Rattle.nearest_window.specs.Shown.{IsAreaOf, IsPictureOf, IsPartOf, IsLonePart};
 ghost use Rattle.nearest_window.specs.Taken.{place_at};
 ghost use Rattle.nearest_window.specs.Wanted.{IsWanted, numbers_of};
+ghost use Rattle.band_blocks.specs.Blocks.{most_blocks};
 
 use crate::block_parts::{
     Part, Rows, cost_of, has_cells, has_large_sources, is_straight, part_of, rows_end, rows_of,
@@ -135,7 +136,7 @@ impl<F: Folder> Lane<F> {
     /// A lane with an empty pool of 1 to 65,536 blocks, and no open file. It is refused where memory is.
     pub fn new(alloc: Global, capacity: u32) -> Result<Lane<F>, AllocError>
         requires some { 1 ≤ capacity }
-        requires few { capacity ≤ 65536 }
+        requires few { capacity ≤ most_blocks }
         ensures empty { IfOk result (λ lane. lane ≡ lane_view (pool_view [] capacity) [] (pool_view [] 4096) [] []) }
         ensures right { IfOk result (λ lane. (told : _) (cat : List Dataset) → IsRightLane F.Folder told cat lane) }
         ensures fresh { IfOk result (λ lane. IsFresh F.Folder lane) }

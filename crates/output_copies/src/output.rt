@@ -15,6 +15,7 @@ ghost use Rattle.error_lines.specs.Progress.{progress};
 ghost use Rattle.error_lines.specs.Steps.{all_done, publishes, Goes};
 ghost use Rattle.output_copies.specs.Copying.{spoken, IsFilled, MayEnd};
 ghost use Rattle.output_copies.specs.Steps.{files_by, raster_of, translation_steps, unless_quiet, written};
+ghost use Rattle.band_blocks.specs.Blocks.{most_blocks};
 
 use crate::ahead::{Rooms, copy_ahead};
 use crate::copying::{Copier, copy_all};
@@ -44,7 +45,7 @@ fn copier_for<'a, F: Folder, L: Ledger, W: Ledger, S: Scene>(
 ) -> Result<Copier<'a, F, L, W, S>, Fault>
     requires translation { IsTranslation translation.now.cat translation.now.id translation.now.plan }
     requires some { 1 ≤ writing.now.blocks }
-    requires few { writing.now.blocks ≤ 65536 }
+    requires few { writing.now.blocks ≤ most_blocks }
     requires loads_name { loads.name ≡ L.name }
     requires loads_parts { loads.parts ≡ L.parts }
     requires loads_shares { 0 < loads.parts }
@@ -172,7 +173,7 @@ fn lines_of<F: Folder, S: Scene>(
     requires told { S.told ≡ F.names folder.now }
     requires scene { S.cat ≡ translation.now.cat }
     requires some { 1 ≤ writing.now.blocks }
-    requires few { writing.now.blocks ≤ 65536 }
+    requires few { writing.now.blocks ≤ most_blocks }
 {
     if !shares_blocks(translation) {
         return None;
@@ -202,7 +203,7 @@ fn write_files<R: Threads + Sync, F: Folder, O: Sink, L: Ledger + Send, W: Ledge
     requires told { S.told ≡ F.names folder.old }
     requires scene { S.cat ≡ translation.now.cat }
     requires some { 1 ≤ writing.now.blocks }
-    requires few { writing.now.blocks ≤ 65536 }
+    requires few { writing.now.blocks ≤ most_blocks }
     requires files { translation.now.plan.driver ≢ Vrt }
     requires extension { IsNamedFor translation.now.plan writing.now.name.now }
     requires loads_name { loads.name ≡ L.name }
@@ -256,7 +257,7 @@ fn write_planned<R: Threads + Sync, F: Folder, O: Sink>(
     requires translation { IsTranslation translation.now.cat translation.now.id translation.now.plan }
     requires walked { WhereTold F.Folder folder.old (λ m. IsWalked m translation.now.cat) }
     requires some { 1 ≤ writing.now.blocks }
-    requires few { writing.now.blocks ≤ 65536 }
+    requires few { writing.now.blocks ≤ most_blocks }
     requires extension { IsNamedFor translation.now.plan writing.now.name.now }
     ensures goes { (m : Files) (d : Dataset) → F.names folder.old ≡ Some m →
         slice_get translation.now.cat translation.now.id ≡ Some d →
@@ -301,7 +302,7 @@ pub fn write_output<R: Threads + Sync, F: Folder, O: Sink>(
     requires translation { IsTranslation translation.now.cat translation.now.id translation.now.plan }
     requires walked { WhereTold F.Folder folder.old (λ m. IsWalked m translation.now.cat) }
     requires some { 1 ≤ writing.now.blocks }
-    requires few { writing.now.blocks ≤ 65536 }
+    requires few { writing.now.blocks ≤ most_blocks }
     requires extension { IsNamedFor translation.now.plan writing.now.name.now }
     // over a folder that tells its files: all the steps are done, or where the outside failed the first of them
     ensures told { WhereTold F.Folder folder.old (λ m. (d : Dataset) →

@@ -4,6 +4,10 @@ use Rattle.std.specs.Prelude.{map, flat_map, codes, bytes_eq, slice_get, Option,
 use Rattle.std.specs.List.{slice_split}
 use denote.Ref.{Bor}
 
+-- The most bytes of a name.
+abbrev pub longest_name : ℕ
+longest_name = 4096
+
 -- the parts that references stand for
 abbrev pub seen : List (Bor (List ℕ)) → List (List ℕ)
 seen parts = map (λ p. p.now) parts
@@ -56,4 +60,4 @@ normal text = spelled (is_absolute text) (parts_of (is_absolute text) [] (pieces
 pub record IsName (text : List ℕ) : Type 0 where
   pub is_normal : normal text ≡ text
   pub some : 1 ≤ length text
-  pub fits : length text ≤ 4096
+  pub fits : length text ≤ longest_name

@@ -2,7 +2,7 @@
 ghost use Rattle.std.specs.Prelude.{◌≡◌, ◌↔◌, ◌<◌, ℕ, length, take, ◌-◌, option_map, IsTrue, IfOk, IsErrOf, [], codes};
 ghost use Rattle.std.specs.Option.{unwrap_or};
 ghost use Rattle.lists_and_answers.specs.Texts.{same_letters};
-ghost use Rattle.outside.specs.Paths.{normal, IsName};
+ghost use Rattle.outside.specs.Paths.{normal, IsName, longest_name};
 ghost use Rattle.outside.specs.Names.{cut_last, behind_last, folder_part, last_part, ending_of, kind_of, extension_of};
 ghost use Rattle.outside.specs.Names.{is_raw, has_no_lower, header_ending, header_of};
 ghost use Rattle.outside.specs.declared.name.NameFault.TheVariants as name_fault;
@@ -175,7 +175,7 @@ impl Name {
         ensures ok { IfOk result (λ name. name ≡ normal text.now) }
         ensures valid { IfOk result (λ name. IsName name) }
         ensures empty { IsErrOf result NameFault.Empty ↔ (length text.now ≡ 0) }
-        ensures too_long { IsErrOf result NameFault.TooLong ↔ (4096 < length text.now) }
+        ensures too_long { IsErrOf result NameFault.TooLong ↔ (longest_name < length text.now) }
     {
         if text.is_empty() {
             return Err(NameFault::Empty);

@@ -8,6 +8,7 @@ ghost use Rattle.catalog.specs.Drivers.{Dataset};
 ghost use Rattle.band_blocks.specs.Contents.{IsBlock};
 ghost use Rattle.shared_lines.specs.Events.{line_of};
 ghost use Rattle.shared_lines.specs.Shapes.{HasShape};
+ghost use Rattle.band_blocks.specs.Blocks.{most_blocks};
 
 use crate::Scene;
 use band_blocks::{Block, BlockKey};
@@ -137,7 +138,7 @@ impl<S: Scene> Lines<S> {
         requires told { S.told ≡ F.names folder.now }
         requires cat { S.cat ≡ cat.now }
         requires some { 1 ≤ count }
-        requires few { count ≤ 65536 }
+        requires few { count ≤ most_blocks }
         ensures count { IfOk result (λ lines. lines ≡ count) }
     {
         let _ = cat;

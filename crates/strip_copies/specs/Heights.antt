@@ -9,10 +9,14 @@ use Rattle.catalog.specs.declared.kind.Kind.{Kind}
 use Rattle.catalog.specs.declared.kind.Kind.TheVariants as kinds
 use Rattle.translate_plan.specs.declared.options.Driver.{Driver}
 use Rattle.translate_plan.specs.declared.options.Driver.TheVariants.{EHdr, Dted, SrtmHgt, AaiGrid, Vrt}
-use Rattle.translate_plan.specs.Window.{most_side}
+use Rattle.geotransform.specs.Limits.{most_side}
 use Rattle.translate_plan.specs.Plan.{Planned}
 use Rattle.strip_copies.specs.declared.height.BlockShape.{BlockShape}
 use Rattle.strip_copies.specs.declared.height.BlockShape.TheVariants.{Columns, Squares, Digits}
+
+-- The most samples of a strip, but for a strip of one line.
+abbrev pub most_samples : ℕ
+most_samples = 4194304
 
 -- datasets whose blocks are whole columns are cells, those whose blocks are squares are mosaics, and those of digits
 -- are grids
@@ -70,7 +74,7 @@ fewest_read cat = if is_made cat then 262144 else 1000000
 -- several workers read a strip of a window so wide where each has enough samples for a thread
 abbrev pub is_shared : ℕ → List Dataset → ℕ → Bool
 is_shared workers cat width =
-    nat_lt 1 workers && nat_le (fewest_read cat) (min (lines_each cat * width) (most_side / workers))
+    nat_lt 1 workers && nat_le (fewest_read cat) (min (lines_each cat * width) (most_samples / workers))
 
 -- the lines of so many columns that stay in a processor's cache
 abbrev pub lines_near : ℕ → ℕ
@@ -87,7 +91,7 @@ most_lines workers cat p = if is_tall cat p.driver then most_side
 
 -- the lines of a strip of so many columns, from 1 to 4,194,304: at most 4,194,304 samples
 abbrev pub strip_height : ℕ → ℕ → ℕ
-strip_height most width = min most (4194304 / width)
+strip_height most width = min most (most_samples / width)
 
 -- the lines of raw data hold several bands, pixel by pixel
 abbrev pub is_woven : Layout → ℕ → Bool

@@ -2,6 +2,7 @@
 ghost use Rattle.std.specs.Prelude.{◌≡◌, ◌<◌, ◌≤◌, ◌+◌, ◌+ℤ◌, pos, IfOk};
 ghost use Rattle.translate_plan.specs.Plan.{shown_column};
 ghost use Rattle.strip_copies.specs.Rows.{within, column_at, held_to, AreColumns};
+ghost use Rattle.geotransform.specs.Limits.{most_side};
 
 use crate::shown_places::{place_in, shown_at};
 use std::alloc::{AllocError, Global};
@@ -52,7 +53,7 @@ impl Columns {
     /// The columns of a source of this width, at most 4,194,304, that a plan's output shows: those of its window.
     /// It is refused where memory is.
     pub fn new(alloc: Global, plan: &Plan, width: u32) -> Result<Columns, AllocError>
-        requires width { width ≤ 4194304 }
+        requires width { width ≤ most_side }
         ensures columns { IfOk result (AreColumns plan.now width) }
     {
         plan.rules();

@@ -4,13 +4,15 @@ ghost use Rattle.catalog.specs.Drivers.{Dataset};
 ghost use Rattle.strip_copies.specs.declared.height.BlockShape.TheVariants.{Squares};
 ghost use Rattle.strip_copies.specs.Heights.{fewest_read, has_blocks, is_cell, is_cut_in, is_grid, is_made, is_mosaic};
 ghost use Rattle.strip_copies.specs.Heights.{is_shared, is_tall, is_woven, lines_alone, lines_copied, lines_each};
-ghost use Rattle.strip_copies.specs.Heights.{lines_held, lines_near, most_lines, strip_height};
+ghost use Rattle.strip_copies.specs.Heights.{lines_held, lines_near, most_lines, strip_height, most_samples};
+ghost use Rattle.geotransform.specs.Limits.{most_side};
 
 use crate::making::area;
 use crate::shares::{FEWEST_COPIED, FEWEST_MADE};
 use crate::translation::Translation;
 use catalog::{Catalog, Kind};
 use esri_hdr::Layout;
+use geotransform::MOST_SIDE;
 use lane_teams::WorkerCount;
 use translate_plan::{Driver, Plan};
 
@@ -25,16 +27,25 @@ pub enum BlockShape {
     Digits,
 }
 
+/// The most samples of a strip of more than one line.
+const MOST_SAMPLES: u32 = 4_194_304;
+
+// So many samples stay in a processor's cache: 1 MiB.
+const SAMPLES_NEAR: u32 = 65_536;
+
+// The most lines of a strip whose samples stay there.
+const MOST_NEAR: u32 = 32;
+
 /// The lines of a strip of so many columns, at most so many. It has 4,194,304 samples at most, or one line.
 pub fn height_of(most: u32, width: u32) -> u32
     requires any { 1 ≤ most }
     requires some { 0 < width }
-    requires most { width ≤ 4194304 }
+    requires most { width ≤ most_side }
     ensures height { result ≡ strip_height most width }
     ensures least { 1 ≤ result }
-    ensures bound { width * result ≤ 4194304 }
+    ensures bound { width * result ≤ most_samples }
 {
-    let lines = 4_194_304 / width;
+    let lines = MOST_SAMPLES / width;
     lines.min(most)
 }
 
@@ -142,9 +153,9 @@ fn fewest_read(cat: &Catalog) -> usize
 // The most samples of a strip for each of so many workers.
 fn share_of(workers: u32) -> usize
     requires some { 1 ≤ workers }
-    ensures share { result ≡ 4194304 / workers }
+    ensures share { result ≡ most_samples / workers }
 {
-    4_194_304 / workers as usize
+    MOST_SAMPLES as usize / workers as usize
 }
 
 // Whether several workers read a strip: where there are several, and each of them has enough samples for a thread.
@@ -164,7 +175,7 @@ fn lines_near(width: u32) -> u32
     ensures lines { result ≡ lines_near width }
     ensures any { 1 ≤ result }
 {
-    (65_536 / width).max(1).min(32)
+    (SAMPLES_NEAR / width).max(1).min(MOST_NEAR)
 }
 
 // The lines of a strip that one worker reads alone: of a file of bytes those that stay in the cache.
@@ -201,7 +212,7 @@ pub fn most_lines(translation: &Translation, workers: WorkerCount) -> u32
     ensures some { 1 ≤ result }
 {
     if is_tall(translation) {
-        4_194_304
+        MOST_SIDE
     } else if is_shared(translation, workers) {
         lines_of_all(lines_each(&translation.cat), workers.get())
     } else {
@@ -222,7 +233,7 @@ pub fn shares_blocks(translation: &Translation) -> bool
 pub fn lines_apart(translation: &Translation) -> u32 {
     let cat = &translation.cat;
     if has_blocks(cat, BlockShape::Columns) || has_blocks(cat, BlockShape::Squares) {
-        4_194_304
+        MOST_SIDE
     } else {
         0
     }
@@ -248,7 +259,7 @@ fn lines_held(translation: &Translation, blocks: u32) -> u32
     if is_woven(&translation.plan) && !is_tall(translation) {
         blocks
     } else {
-        4_194_304
+        MOST_SIDE
     }
 }
 
@@ -259,7 +270,7 @@ pub fn strip_height(translation: &Translation, workers: WorkerCount, blocks: u32
     requires some { 1 ≤ blocks }
     ensures height { result ≡ lines_copied workers blocks translation.now.cat translation.now.plan }
     ensures some { 1 ≤ result }
-    ensures bound { translation.now.plan.size.w * result ≤ 4194304 }
+    ensures bound { translation.now.plan.size.w * result ≤ most_samples }
 {
     let plan = &translation.plan;
     plan.rules();

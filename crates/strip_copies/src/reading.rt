@@ -17,6 +17,9 @@ ghost use Rattle.translate_plan.specs.Plan.{out_pixel};
 ghost use Rattle.translate_plan.specs.declared.band.OutBand.{OutBand};
 ghost use Rattle.strip_copies.specs.Copies.{lines_rect, AreOf, IsDirect, IsPart, IsRoomFor, IsTranslation};
 ghost use Rattle.strip_copies.specs.Rows.{strip_rect, AreColumns, AreIn, IsHeldIn, IsMaking};
+ghost use Rattle.geotransform.specs.Limits.{most_side};
+ghost use Rattle.strip_copies.specs.Heights.{most_samples};
+ghost use Rattle.band_blocks.specs.Blocks.{most_blocks};
 
 use crate::columns::Columns;
 use crate::direct::{hold_all, is_all_direct, is_direct};
@@ -27,7 +30,7 @@ use crate::shares::fewest_for;
 use crate::spans::{Reach, Run, run_from};
 use crate::translation::Translation;
 use band_blocks::LoadFault;
-use geotransform::{PixelType, Rect, Sample, Size};
+use geotransform::{MOST_SIDE, PixelType, Rect, Sample, Size};
 use lane_teams::{Team, WorkerCount};
 use nearest_window::{Supply, Window};
 use outside::Folder;
@@ -48,10 +51,10 @@ pub struct StripReader<F: Folder, L: Ledger> {
 // How many lines of the source are read at a time into the room for them, at least one.
 fn room_height(most: u32, columns: u32, lines: u32) -> u32
     requires any { 1 ≤ most }
-    requires columns { columns ≤ 4194304 }
+    requires columns { columns ≤ most_side }
     requires lines { 1 ≤ lines }
     ensures some { 1 ≤ result }
-    ensures bound { columns * result ≤ 4194304 }
+    ensures bound { columns * result ≤ most_samples }
 {
     if columns == 0 {
         return 1;
@@ -69,9 +72,9 @@ fn is_sparse(translation: &Translation) -> bool {
 // one.
 fn room_lines(translation: &Translation, columns: &Columns, workers: WorkerCount) -> u32
     requires translation { IsTranslation translation.now.cat translation.now.id translation.now.plan }
-    requires columns { columns.now.count ≤ 4194304 }
+    requires columns { columns.now.count ≤ most_side }
     ensures some { 1 ≤ result }
-    ensures bound { columns.now.count * result ≤ 4194304 }
+    ensures bound { columns.now.count * result ≤ most_samples }
 {
     let size = source_size(translation);
     if is_all_direct(&translation.plan, columns, size.h) || is_sparse(translation) {
@@ -91,7 +94,7 @@ impl<F: Folder, L: Ledger> StripReader<F, L> {
     ) -> Result<StripReader<F, L>, AllocError>
         requires translation { IsTranslation translation.now.cat translation.now.id translation.now.plan }
         requires some { 1 ≤ capacity }
-        requires few { capacity ≤ 65536 }
+        requires few { capacity ≤ most_blocks }
         requires name { blank.name ≡ L.name }
         requires parts { blank.parts ≡ L.parts }
         requires shares { 0 < blank.parts }
@@ -99,7 +102,7 @@ impl<F: Folder, L: Ledger> StripReader<F, L> {
         ensures fresh { IfOk result (λ reader. AreLanesFresh F.Folder reader.team.lanes.items) }
         ensures room { IfOk result (λ reader. IsRoomFor translation.now.cat translation.now.id translation.now.plan
             reader.columns reader.samples.items) }
-        ensures bound { IfOk result (λ reader. length reader.samples.items ≤ 4194304) }
+        ensures bound { IfOk result (λ reader. length reader.samples.items ≤ most_samples) }
         ensures none { IfOk result (λ reader. reader.team.loads ≡ 0) }
     {
         let alloc = translation.alloc;
@@ -217,7 +220,7 @@ fn next_run<S: Scene>(shown: &Shown<S>, rows: u32, lines: Lines) -> Next
     let plan = &shown.translation.plan;
     let height = source_size(shown.translation).h;
     let whole = Reach {
-        rows: 4_194_304,
+        rows: MOST_SIDE,
         apart: 0,
     };
     let run = run_from(plan, height, whole, lines.band, lines.first, lines.end);
@@ -386,7 +389,7 @@ fn lines_in(samples: usize, columns: u32) -> u32
         return 1;
     }
     let lines = samples / columns as usize;
-    lines.min(4_194_304) as u32
+    lines.min(MOST_SIDE as usize) as u32
 }
 
 // Reads lines of a band, one run after the other. After a refusal `samples` and `out` are unknown.

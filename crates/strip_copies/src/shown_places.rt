@@ -1,15 +1,15 @@
 // Which columns and lines of the source an output shows.
 ghost use Rattle.std.specs.Prelude.{◌≡◌, ◌<◌, ◌≤◌, ◌+◌, ◌*◌, ◌+ℤ◌, pos, unsigned_abs, IfSome};
 ghost use Rattle.translate_plan.specs.Plan.{shown, shown_line};
-ghost use Rattle.translate_plan.specs.Window.{most_offset};
 ghost use Rattle.strip_copies.specs.Rows.{within};
+ghost use Rattle.geotransform.specs.Limits.{most_side, farthest};
 
 use translate_plan::{Plan, windows_are_shown};
 
 // An odd number of halves, times a side.
 fn halves(k: u32, side: u32) -> u64
-    requires place { k < 4194304 }
-    requires side { side ≤ 4194304 }
+    requires place { k < most_side }
+    requires side { side ≤ most_side }
     ensures { result ≡ (2 * k + 1) * side }
 {
     let odd = 2 * u64::from(k) + 1;
@@ -19,8 +19,8 @@ fn halves(k: u32, side: u32) -> u64
 /// The column, or line, of a window of `from` of them that a column, or line, of an output of `to` shows.
 pub fn shown_at(from: u32, to: u32, k: u32) -> u32
     requires some { 0 < from }
-    requires few { from ≤ 4194304 }
-    requires least { to ≤ 4194304 }
+    requires few { from ≤ most_side }
+    requires least { to ≤ most_side }
     requires inside { k < to }
     ensures shown { result ≡ shown from to k }
     ensures within { result < from }
@@ -32,7 +32,7 @@ pub fn shown_at(from: u32, to: u32, k: u32) -> u32
 
 /// The column, or line, of a side that stands so many behind an offset; None outside.
 pub fn place_in(side: u32, offset: i64, step: u32) -> Option<u32>
-    requires far { unsigned_abs offset ≤ most_offset }
+    requires far { unsigned_abs offset ≤ farthest }
     ensures place { result ≡ within side (offset +ℤ pos step) }
     ensures inside { IfSome result (λ place. place < side) }
 {

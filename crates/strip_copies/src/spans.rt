@@ -1,6 +1,7 @@
 // Lines of the source that are read at a time.
 ghost use Rattle.std.specs.Prelude.{◌≡◌, ◌<◌, ◌≤◌, ◌+◌, ◌^◌, ℕ, Some, IfSome};
 ghost use Rattle.strip_copies.specs.Rows.{AreIn, IsIn};
+ghost use Rattle.geotransform.specs.Limits.{most_side};
 
 use crate::shown_places::line_at;
 use translate_plan::Plan;
@@ -85,7 +86,7 @@ fn widened(span: Span, reach: Reach, place: Option<u32>) -> Option<Span>
 /// Lines of the output from `first` on, at most up to `to`, that show lines of one span of a source of this height.
 /// The span reaches no further than `reach` says.
 pub fn run_from(plan: &Plan, height: u32, reach: Reach, band: u32, first: u32, to: u32) -> Run
-    requires height { height ≤ 4194304 }
+    requires height { height ≤ most_side }
     requires rows { 1 ≤ reach.rows }
     requires first { first < to }
     requires to { to ≤ plan.now.size.h }

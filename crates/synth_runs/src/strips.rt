@@ -11,6 +11,7 @@ ghost use Rattle.strip_copies.specs.Copies.{lines_rect};
 ghost use Rattle.output_copies.specs.Copying.{MayEnd};
 ghost use Rattle.synthetic_rasters.specs.Tally.{tally_of};
 ghost use Rattle.synth_runs.specs.Tallied.{lines_of, AreTallied, IsCopied};
+ghost use Rattle.strip_copies.specs.Heights.{most_samples};
 
 use band_blocks::Counter;
 use catalog::Catalog;
@@ -57,7 +58,7 @@ fn area(columns: u32, lines: u32) -> usize
 fn lines_at_once(size: Size) -> u32
     requires raster { IsRaster size }
     ensures some { 1 ≤ result }
-    ensures bound { size.w * result ≤ 4194304 }
+    ensures bound { size.w * result ≤ most_samples }
 {
     let lines = 1_048_576 / size.w;
     if lines == 0 { 1 } else { lines.min(size.h) }

@@ -7,6 +7,7 @@ use Rattle.std.specs.Fmt.{decimal, signed_decimal}
 use Rattle.geotransform.specs.declared.types.Size.{Size}
 use Rattle.lists_and_answers.specs.Texts.{text}
 use Rattle.synthetic_rasters.specs.Tiles.{nodata}
+use Rattle.geotransform.specs.Limits.{most_side}
 
 -- how many values there are, their sum, the least and the greatest of them
 pub record Totals : Type 0 where
@@ -45,7 +46,7 @@ tally_of samples = totals_of (values_of samples)
 
 -- the pixels of the greatest raster
 abbrev pub most_pixels : ℕ
-most_pixels = 4194304 * 4194304
+most_pixels = most_side * most_side
 
 -- the limits of what is told of samples of the types of bands
 pub record IsTally (t : Totals) : Type 0 where

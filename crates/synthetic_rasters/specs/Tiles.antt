@@ -12,10 +12,14 @@ use Rattle.esri_hdr.specs.Text.{hdr_text}
 use Rattle.interleaved_raw.specs.Raw.{sample_bytes}
 use Rattle.synthetic_rasters.specs.Names.{tile_name}
 
+-- The most columns of a tile, and the most lines.
+abbrev pub most_tile_side : ℕ
+most_tile_side = 4096
+
 -- the side of a tile, in pixels
 pub record IsSide (n : ℕ) : Type 0 where
   pub some : 1 ≤ n
-  pub few : n ≤ 4096
+  pub few : n ≤ most_tile_side
 
 -- the NODATA of the tiles, and of all that is made of them
 abbrev pub nodata : ℤ

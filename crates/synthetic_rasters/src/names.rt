@@ -1,7 +1,7 @@
 // The names of what is made.
 ghost use Rattle.std.specs.Prelude.{◌≡◌, ◌<◌, ◌≤◌, length, IsTrue, IfOk};
 ghost use Rattle.outside.specs.Names.{extension_of, is_raw};
-ghost use Rattle.outside.specs.Paths.{normal};
+ghost use Rattle.outside.specs.Paths.{normal, longest_name};
 ghost use Rattle.synthetic_rasters.specs.Names.{tile_name, tile_names, inner_name, outer_name, output_name};
 
 use outside::{Name, Names};
@@ -10,7 +10,7 @@ use std::alloc::{AllocError, Global};
 // The name that a text becomes, which is neither empty nor too long.
 fn named(alloc: Global, text: &str) -> Result<Name, AllocError>
     requires some { 0 < length text.now }
-    requires few { length text.now ≤ 4096 }
+    requires few { length text.now ≤ longest_name }
     ensures name { IfOk result (λ name. name ≡ normal text.now) }
 {
     match Name::read(alloc, text) {

@@ -3,6 +3,7 @@ ghost use Rattle.std.specs.Prelude.{◌≡◌, pos, ◌*◌, ◌≤◌, ◌<◌,
 ghost use Rattle.vrt_profile.specs.Built.{pixels_at};
 ghost use Rattle.synthetic_rasters.specs.Outer.{adding, inner_source, outer_sources, outer_bands, outer_place};
 ghost use Rattle.synthetic_rasters.specs.Outer.{outer_document};
+ghost use Rattle.synthetic_rasters.specs.Tiles.{most_tile_side};
 
 use crate::names::{inner_name, outer_name};
 use crate::side::TileSide;
@@ -42,7 +43,7 @@ fn adding(alloc: Global, source: Source) -> Result<Source, AllocError>
 // The sources of the outer mosaic.
 fn outer_sources(alloc: Global, side: u32) -> Result<SourceList, AllocError>
     requires some { 0 < side }
-    requires few { side ≤ 4096 }
+    requires few { side ≤ most_tile_side }
     ensures sources { IfOk result (λ l. l ≡ outer_sources side) }
 {
     let mut sources = SourceList::new(alloc);
@@ -56,7 +57,7 @@ fn outer_sources(alloc: Global, side: u32) -> Result<SourceList, AllocError>
 // The one band of the outer mosaic.
 fn outer_bands(alloc: Global, side: u32) -> Result<BandList, AllocError>
     requires some { 0 < side }
-    requires few { side ≤ 4096 }
+    requires few { side ≤ most_tile_side }
     ensures bands { IfOk result (λ l. l ≡ outer_bands side) }
 {
     let sources = outer_sources(alloc, side)?;

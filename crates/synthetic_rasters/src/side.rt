@@ -1,6 +1,6 @@
 // The side of a tile.
 ghost use Rattle.std.specs.Prelude.{◌≡◌, ◌&&◌, Some, None, nat_le, if◌then◌else◌};
-ghost use Rattle.synthetic_rasters.specs.Tiles.{IsSide};
+ghost use Rattle.synthetic_rasters.specs.Tiles.{IsSide, most_tile_side};
 
 use std::marker::Model;
 
@@ -24,11 +24,14 @@ impl Model for TileSide {
 }
 
 impl TileSide {
+    /// The longest side.
+    const MOST: u32 = 4096;
+
     /// The number where it is from 1 to 4,096, else none.
     pub fn new(number: u32) -> Option<TileSide>
-        ensures exact { result ≡ (if nat_le 1 number && nat_le number 4096 then Some number else None) }
+        ensures exact { result ≡ (if nat_le 1 number && nat_le number most_tile_side then Some number else None) }
     {
-        if number >= 1 && number <= 4096 {
+        if number >= 1 && number <= Self::MOST {
             Some(TileSide { number })
         } else {
             None

@@ -6,6 +6,7 @@ ghost use Rattle.geotransform.specs.Print.{unit};
 ghost use Rattle.geotransform.specs.Types.{is_in};
 ghost use Rattle.geotransform.specs.declared.types.PixelType.TheVariants.{Int16};
 ghost use Rattle.synthetic_rasters.specs.Tiles.{IsSide, tile_sample, tile_place, tile_head, line_bytes};
+ghost use Rattle.synthetic_rasters.specs.Tiles.{most_tile_side};
 
 use crate::side::TileSide;
 use esri_hdr::{Layout, RawGeo, RawHead};
@@ -16,7 +17,7 @@ use std::marker::Model;
 
 // So many units.
 fn units(n: i128) -> Ticks
-    requires near { unsigned_abs n ≤ 4096 }
+    requires near { unsigned_abs n ≤ most_tile_side }
     ensures value { result ≡ pos unit *ℤ n }
 {
     Ticks::of(180_000_000_000_000_000 * n)
@@ -51,8 +52,8 @@ pub fn tile_head(side: TileSide, tile: u32) -> RawHead
 // The sample of a tile in a column and a line.
 fn tile_sample(tile: u32, x: u32, y: u32) -> Sample
     requires tile { tile < 4 }
-    requires x { x < 4096 }
-    requires y { y < 4096 }
+    requires x { x < most_tile_side }
+    requires y { y < most_tile_side }
     ensures sample { result ≡ tile_sample tile x y }
     ensures typed { is_in Int16 result ≡ true }
 {
@@ -66,8 +67,8 @@ fn tile_sample(tile: u32, x: u32, y: u32) -> Sample
 // Fills a line with the samples of a tile.
 fn fill_samples(tile: u32, line: u32, samples: &mut [Sample])
     requires tile { tile < 4 }
-    requires line { line < 4096 }
-    requires few { length samples.old ≤ 4096 }
+    requires line { line < most_tile_side }
+    requires few { length samples.old ≤ most_tile_side }
     ensures samples { samples.new ≡ map (λ x. tile_sample tile x line) (range_with_len 0 (length samples.old)) }
     ensures typed { All (λ n. is_in Int16 n ≡ true) samples.new }
 {

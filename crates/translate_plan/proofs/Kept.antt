@@ -24,7 +24,8 @@ use Rattle.translate_plan.specs.declared.band.OutBand.{OutBand}
 use Rattle.translate_plan.specs.declared.window.Asked.{Asked}
 use Rattle.translate_plan.specs.declared.window.Window.{Window}
 use Rattle.translate_plan.specs.Options.{Options, IsOptions}
-use Rattle.translate_plan.specs.Window.{asked_in, is_empty, is_large, is_far, window_in, inside_in, sides_of, size_in, IsWindow, most_offset}
+use Rattle.translate_plan.specs.Window.{asked_in, is_empty, is_large, is_far, window_in, inside_in, sides_of, size_in, IsWindow}
+use Rattle.geotransform.specs.Limits.{farthest}
 use Rattle.translate_plan.specs.Fits.{own_nodata, is_single, count_in, geo_in, place_in, holds_geo, holds_name, takes_kind, is_int16, holds_kinds, is_same, takes_number, takes_nodata}
 use Rattle.translate_plan.specs.Bands.{all_known, AreKnown, count_of, kind_of, nodata_of, out_band_at, band_by, bands_by, same_nodata, agree, is_bare, asked_bands, out_bands, band_at, source_of}
 use Rattle.translate_plan.proofs.Rounded.{places_kept}
@@ -79,7 +80,7 @@ or_false : (a b : Bool) → (a || b) ≡ false → (a ≡ false) × (b ≡ false
 or_false true b e = absurd cc
 or_false false b e = (refl, e)
 
-near_bounds : (x y : ℤ) → is_far x y ≡ false → (unsigned_abs x ≤ most_offset) × (unsigned_abs y ≤ most_offset)
+near_bounds : (x y : ℤ) → is_far x y ≡ false → (unsigned_abs x ≤ farthest) × (unsigned_abs y ≤ farthest)
 near_bounds x y e = grind (arith, nat_tests)
 
 window_is : (a : Asked) (v : Window) → window_in a ≡ Ok v → IsWindow v

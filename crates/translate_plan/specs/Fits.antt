@@ -25,6 +25,7 @@ use Rattle.translate_plan.specs.declared.options.Driver.{Driver}
 use Rattle.translate_plan.specs.declared.options.Driver.TheVariants.{EHdr, Dted, SrtmHgt, AaiGrid, Vrt}
 use Rattle.translate_plan.specs.declared.window.Window.{Window}
 use Rattle.translate_plan.specs.declared.band.OutBand.{OutBand}
+use Rattle.geotransform.specs.Limits.{most_bands}
 
 -- the drivers whose files have one band
 abbrev pub is_single : Driver → Bool
@@ -45,7 +46,7 @@ own_nodata Vrt = None
 -- the number of bands
 abbrev pub count_in : Driver → ℕ → Result (Unit {0}) PlanFault
 count_in driver n =
-    if nat_lt 256 n then Err Limit else (if nat_lt 1 n && is_single driver then Err BandCount else Ok tt)
+    if nat_lt most_bands n then Err Limit else (if nat_lt 1 n && is_single driver then Err BandCount else Ok tt)
 
 -- each number of a geotransform rounded to 16 places, where that is a geotransform
 abbrev pub rounded : Transform → Option Transform

@@ -13,6 +13,7 @@ use Rattle.translate_plan.specs.declared.options.View.{View}
 use Rattle.translate_plan.specs.declared.options.View.TheVariants as views
 use Rattle.translate_plan.specs.declared.options.OutSize.{OutSize}
 use Rattle.translate_plan.specs.declared.options.OutSize.TheVariants as sizes
+use Rattle.geotransform.specs.Limits.{most_bands}
 
 -- the driver, the layout of raw data, the name and the bands of the output, counted from 1, the window, the size, the
 -- NODATA, the type, and whether the window may leave the raster in part or as a whole
@@ -73,7 +74,7 @@ IsWord (nodata.Number n) = (neg_ℤ (pos (2 ^ 63)) ≤ℤ n) × (n ≤ℤ pos (2
 -- the ranges in which the values of words are
 pub record IsOptions (o : Options) : Type 0 where
   pub driver : IsDriver o.driver
-  pub bands : All (λ b. (0 < b) × (b ≤ 256)) o.bands
+  pub bands : All (λ b. (0 < b) × (b ≤ most_bands)) o.bands
   pub view : IsView o.view
   pub outsize : IfSome o.outsize (λ s. IsOutSize s.0 × IsOutSize s.1)
   pub nodata : IsWord o.nodata

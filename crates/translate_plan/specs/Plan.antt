@@ -21,10 +21,11 @@ use Rattle.translate_plan.specs.declared.options.Driver.TheVariants.{EHdr, Dted,
 use Rattle.translate_plan.specs.declared.band.OutBand.{OutBand}
 use Rattle.translate_plan.specs.declared.window.Window.{Window}
 use Rattle.translate_plan.specs.Options.{Options, IsDriver}
-use Rattle.translate_plan.specs.Window.{asked_in, window_in, inside_in, sides_of, size_in, most_offset}
+use Rattle.translate_plan.specs.Window.{asked_in, window_in, inside_in, sides_of, size_in}
 use Rattle.translate_plan.specs.Fits.{is_single, count_in, geo_in, place_in, raw_in, holds_geo, holds_name, takes_kind}
 use Rattle.translate_plan.specs.Fits.{holds_kinds, takes_nodata}
 use Rattle.translate_plan.specs.Bands.{all_known, count_of, asked_bands, out_bands, no_out_band}
+use Rattle.geotransform.specs.Limits.{most_bands, farthest}
 
 -- the output's driver and layout, its size, bands and geotransform, and the window of the source that it shows
 pub record Planned : Type 0 where
@@ -95,13 +96,13 @@ pub record IsPlan (p : Planned) : Type 0 where
   pub driver : IsDriver p.driver
   pub size : IsRaster p.size
   pub window : IsRaster p.window
-  pub x : unsigned_abs p.x ≤ most_offset
-  pub y : unsigned_abs p.y ≤ most_offset
+  pub x : unsigned_abs p.x ≤ farthest
+  pub y : unsigned_abs p.y ≤ farthest
   pub some_band : 0 < length p.bands
-  pub bands : length p.bands ≤ 256
+  pub bands : length p.bands ≤ most_bands
   pub single : is_single p.driver ≡ true → length p.bands ≤ 1
   pub each : All IsOutBand p.bands
-  pub sources : All (λ b. b.source < 256) p.bands
+  pub sources : All (λ b. b.source < most_bands) p.bands
   pub alike : BandsHold p.driver p.bands
   pub geo : holds_geo p.driver p.size p.geo ≡ true
   pub places : p.driver ≡ Vrt → IfSome p.geo IsDecimal

@@ -1,6 +1,7 @@
 -- The window of the source that is translated, and the size that it gets.
 use Rattle.std.specs.Prelude.{◌≤◌, ℕ, ℤ, pos, ◌+ℤ◌, ◌*◌, ◌/◌, Bool, false, not, ◌&&◌, ◌||◌, Option, Some, None, Result}
 use Rattle.std.specs.Prelude.{Ok, Err, nat_lt, int_lt, int_le, ◌==◌, if◌then◌else◌, unsigned_abs}
+use Rattle.geotransform.specs.Limits.{most_side, farthest}
 use Rattle.geotransform.specs.Places.{rounded_up}
 use Rattle.geotransform.specs.Geo.{Transform, IsRaster, window_between}
 use Rattle.geotransform.specs.declared.types.Size.{Size}
@@ -28,13 +29,6 @@ asked_in Whole size geo = Ok (asked_of (pos 0, pos 0, pos size.w, pos size.h))
 asked_in (Pixels x y w h) size geo = Ok (asked_of (x, y, w, h))
 asked_in (Places ulx uly lrx lry) size geo = asked_between geo ulx uly lrx lry
 
--- the greatest side of a raster, and the greatest offset of a window
-abbrev pub most_side : ℕ
-most_side = 4194304
-
-abbrev pub most_offset : ℕ
-most_offset = 8388608
-
 -- there is no column or no line
 abbrev pub is_empty : ℤ → ℤ → Bool
 is_empty w h = int_lt w (pos 1) || int_lt h (pos 1)
@@ -45,7 +39,7 @@ is_large w h = int_lt (pos most_side) w || int_lt (pos most_side) h
 
 -- an offset is past its limit
 abbrev pub is_far : ℤ → ℤ → Bool
-is_far x y = nat_lt most_offset (unsigned_abs x) || nat_lt most_offset (unsigned_abs y)
+is_far x y = nat_lt farthest (unsigned_abs x) || nat_lt farthest (unsigned_abs y)
 
 -- the window, within its limits
 abbrev pub window_in : Asked → Result Window PlanFault
@@ -95,6 +89,6 @@ size_in s = if is_empty (pos s.0) (pos s.1) then Err EmptyWindow
 
 -- what a window keeps
 pub record IsWindow (v : Window) : Type 0 where
-  pub x : unsigned_abs v.x ≤ most_offset
-  pub y : unsigned_abs v.y ≤ most_offset
+  pub x : unsigned_abs v.x ≤ farthest
+  pub y : unsigned_abs v.y ≤ farthest
   pub size : IsRaster v.size

@@ -4,6 +4,7 @@ ghost use Rattle.translate_plan.specs.Bands.{count_of, AreKnown};
 ghost use Rattle.esri_hdr.specs.Head.{IsHead};
 ghost use Rattle.translate_plan.specs.Plan.{plan_of, planned_by, first_band, raw_head, IsOutBand, IsPlan};
 ghost use Rattle.translate_plan.specs.declared.options.Driver.TheVariants.{EHdr};
+ghost use Rattle.geotransform.specs.Limits.{most_bands};
 
 use crate::band::{MOST_BANDS, OutBand};
 use crate::bands::out_table;
@@ -40,6 +41,7 @@ pub struct Plan {
 impl Model for Plan {
     ghost use Rattle.std.specs.Prelude.{take, ◌≤◌};
     ghost use Rattle.translate_plan.specs.Plan.{Planned, IsPlan};
+    ghost use Rattle.geotransform.specs.Limits.{most_bands};
 
     ghost Value = { Planned };
 
@@ -54,7 +56,7 @@ impl Model for Plan {
       geo = p.geo;
     } };
 
-    ghost invariant = { λ p. (p.bands ≤ 256) × IsPlan (record {
+    ghost invariant = { λ p. (p.bands ≤ most_bands) × IsPlan (record {
       driver = p.driver;
       layout = p.layout;
       bands = take p.bands p.table;
@@ -153,7 +155,7 @@ pub fn made(
 ) -> Plan
     requires known { AreKnown options.now.bands (length head.now.bands) }
     requires count { count ≡ count_of options.now.bands (length head.now.bands) }
-    requires few { count ≤ 256 }
+    requires few { count ≤ most_bands }
     requires planned { plan_of options.now head.now ≡ Ok (planned_by options.now head.now window.now size geo) }
     ensures plan { result ≡ planned_by options.now head.now window.now size geo }
     ensures kept { IsPlan result }

@@ -6,6 +6,7 @@ ghost use Rattle.geotransform.specs.declared.types.Size.{Size};
 ghost use Rattle.translate_plan.specs.Options.{IsView, IsOutSize};
 ghost use Rattle.translate_plan.specs.Window.{asked_in, is_empty, is_large, is_far, window_in, is_within, meets};
 ghost use Rattle.translate_plan.specs.Window.{inside_in, side_of, is_free, side_by, sides_of, size_in, IsWindow};
+ghost use Rattle.geotransform.specs.Limits.{farthest, most_side};
 
 use crate::options::{OutSize, View};
 use geotransform::{FARTHEST, GeoTransform, MOST_SIDE, PlanFault, Size, rounded_up};
@@ -81,27 +82,27 @@ fn is_far(x: i128, y: i128) -> bool
 }
 
 fn offset_of(x: i128) -> i64
-    requires { unsigned_abs x ≤ 8388608 }
+    requires { unsigned_abs x ≤ farthest }
     ensures value { result ≡ x }
-    ensures bound { unsigned_abs result ≤ 8388608 }
+    ensures bound { unsigned_abs result ≤ farthest }
 {
     x as i64
 }
 
 fn side_within(w: i128) -> u32
     requires some { pos 1 ≤ℤ w }
-    requires few { w ≤ℤ pos 4194304 }
+    requires few { w ≤ℤ pos most_side }
     ensures value { result ≡ unsigned_abs w }
-    ensures bounds { (0 < result) × (result ≤ 4194304) }
+    ensures bounds { (0 < result) × (result ≤ most_side) }
 {
     w as u32
 }
 
 fn size_within(w: i128, h: i128) -> Size
     requires some_columns { pos 1 ≤ℤ w }
-    requires columns { w ≤ℤ pos 4194304 }
+    requires columns { w ≤ℤ pos most_side }
     requires some_lines { pos 1 ≤ℤ h }
-    requires lines { h ≤ℤ pos 4194304 }
+    requires lines { h ≤ℤ pos most_side }
     ensures value { result ≡ record { w = unsigned_abs w; h = unsigned_abs h } }
     ensures raster { IsRaster result }
 {
@@ -132,7 +133,7 @@ pub fn window_in(asked: &Asked) -> Result<Window, PlanFault>
 
 /// The column, or line, behind the last one.
 fn end_of(start: i64, side: u32) -> i64
-    requires { unsigned_abs start ≤ 8388608 }
+    requires { unsigned_abs start ≤ farthest }
     ensures { result ≡ start +ℤ pos side }
 {
     start + side as i64
@@ -174,7 +175,7 @@ pub fn inside_in(epo: bool, eco: bool, window: &Window, size: Size) -> Result<()
 /// A side by itself.
 fn side_of(asked: OutSize, side: u32) -> u64
     requires asked { IsOutSize asked }
-    requires side { side ≤ 4194304 }
+    requires side { side ≤ most_side }
     ensures value { result ≡ side_of asked side }
     ensures bound { result < 10 ^ 14 }
 {
@@ -196,9 +197,9 @@ fn is_free(asked: OutSize) -> bool
 #[tactic(auto, using(crate::proofs::Shown::product_bound))]
 fn product(a: u64, b: u32) -> u128
     requires a { a ≤ 10 ^ 14 }
-    requires b { b ≤ 4194304 }
+    requires b { b ≤ most_side }
     ensures value { result ≡ a * b }
-    ensures bound { result ≤ 10 ^ 14 * 4194304 }
+    ensures bound { result ≤ 10 ^ 14 * most_side }
 {
     let wide = a as u128;
     let side = b as u128;
@@ -208,8 +209,8 @@ fn product(a: u64, b: u32) -> u128
 /// The side that has to `other` the proportion of two sides, rounded up.
 fn in_proportion(other: u64, side: u32, of: u32) -> u128
     requires other { other < 10 ^ 14 }
-    requires side { side ≤ 4194304 }
-    requires of { (0 < of) × (of ≤ 4194304) }
+    requires side { side ≤ most_side }
+    requires of { (0 < of) × (of ≤ most_side) }
     ensures value { result ≡ unsigned_abs (rounded_up (pos (other * side)) (pos of)) }
     ensures bound { result < 10 ^ 22 }
 {
@@ -219,8 +220,8 @@ fn in_proportion(other: u64, side: u32, of: u32) -> u128
 fn side_by(asked: OutSize, other_asked: OutSize, side: u32, other: u32) -> u128
     requires asked { IsOutSize asked }
     requires other_asked { IsOutSize other_asked }
-    requires side { (0 < side) × (side ≤ 4194304) }
-    requires other { (0 < other) × (other ≤ 4194304) }
+    requires side { (0 < side) × (side ≤ most_side) }
+    requires other { (0 < other) × (other ≤ most_side) }
     ensures value { result ≡ side_by asked other_asked side other }
     ensures bound { result < 10 ^ 22 }
 {

@@ -10,7 +10,8 @@ use Rattle.vrt_markup.specs.Items.{Tag, attribute}
 use Rattle.vrt_markup.specs.Forest.{Forest, stop, text, element, Read, read_as, over, all_blank}
 use Rattle.vrt_profile.specs.Values.{SourceValue, BandValue, IsSource, IsBand, IsDecimal, source_count}
 use Rattle.vrt_profile.specs.Means.{BandParts, DatasetParts, no_band_parts, once, with_source, band_parts, band_step, band_part_of, band_end, band_of, kind_in, is_placed, is_sourced, wants}
-use Rattle.vrt_profile.specs.Seen.{band_by}
+use Rattle.vrt_markup.specs.Kept.{kept_of}
+use Rattle.vrt_profile.specs.Seen.{band_by, one_more}
 use Rattle.vrt_profile.specs.Parts.{IsBandParts, IsDatasetParts}
 use Rattle.vrt_profile.specs.declared.parts.BandPart.{BandPart}
 use Rattle.vrt_profile.specs.declared.parts.BandPart.TheVariants.{NoData, Simple, Complex, Past, Unknown}
@@ -119,3 +120,10 @@ pub bands_fit : (number taken : ℕ) (tag : Tag) (band : Result BandValue VrtFau
 bands_fit number taken tag (Err e) rest x some h = tt
 bands_fit number taken tag (Ok b) rest (Err e) some h = absurd cc
 bands_fit number taken tag (Ok b) rest (Ok y) some h = band_fits number taken tag b y.0 some (sym (ap (λ (r : Result (Result BandValue VrtFault × List ℕ) VrtFault). value_of r) h))
+
+-- a band's sources with one more, among its parts
+pub grown : (s : BandParts) (new : List SourceValue) (source : Result SourceValue VrtFault) (kept : Result (Unit {0}) VrtFault) → kept_of new kept ≡ one_more s.sources source → kept_of (record s { sources = new }) kept ≡ (source >>= λ x. Ok (record s { sources = s.sources ++ x ∷ [] }))
+grown s new (Ok x) (Ok u) h = ap (λ (r : Result (List SourceValue) VrtFault). r >>= λ l. Ok (record s { sources = l })) h
+grown s new (Ok x) (Err e) h = absurd cc
+grown s new (Err f) (Ok u) h = absurd cc
+grown s new (Err f) (Err e) h = cc

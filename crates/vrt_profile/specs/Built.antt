@@ -1,6 +1,7 @@
 -- Documents that are built: rectangles of whole pixels, and sources that change no pixel.
 use Rattle.std.specs.Prelude.{ℕ, ℤ, pos, ◌*ℤ◌, ◌≤◌, ◌<ℤ◌, Bool, List, Option, Some, None, is_some, unsigned_abs}
 use Rattle.vrt_profile.specs.Values.{million, trillion, Rectangle, SourceValue}
+use Rattle.geotransform.specs.Limits.{farthest}
 
 -- a rectangle of whole pixels
 abbrev pub pixels_at : ℤ → ℤ → ℤ → ℤ → Rectangle
@@ -8,7 +9,7 @@ pixels_at x y w h = record { x = pos million *ℤ x; y = pos million *ℤ y; w =
 
 -- An offset in whole pixels is within its limits, and so is a side.
 abbrev pub IsPixelOffset : ℤ → Type 0
-IsPixelOffset v = unsigned_abs v ≤ 8388608
+IsPixelOffset v = unsigned_abs v ≤ farthest
 
 pub record IsPixelSide (v : ℤ) : Type 0 where
   pub some : pos 0 <ℤ v

@@ -14,4 +14,5 @@ pub mod Fronts
 pub mod NumberViews
 pub mod Parts
 pub mod Seen
+pub mod ScalingViews
 pub mod SourceViews

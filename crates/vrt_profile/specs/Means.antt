@@ -14,7 +14,7 @@ use Rattle.vrt_profile.specs.Fields.{trim, whole_text}
 use Rattle.vrt_profile.specs.Numbers.{or_fault, side_in, offset_in, size_in, band_number, scale_of, lut_of, geo_of}
 use Rattle.vrt_markup.specs.Forest.{Forest, over, all_blank, text_of, child_of}
 use Rattle.vrt_markup.specs.Kept.{no_child}
-use Rattle.vrt_profile.specs.Values.{trillion, Rectangle, SourceValue, BandValue, DocumentValue}
+use Rattle.vrt_profile.specs.Values.{trillion, Rectangle, SourceValue, BandValue, DocumentValue, most_sources}
 use Rattle.vrt_profile.specs.declared.rectangle.LutPair.{LutPair}
 use Rattle.vrt_profile.specs.declared.parts.SourcePart.{SourcePart}
 use Rattle.vrt_profile.specs.declared.parts.SourcePart.TheVariants as source_part
@@ -27,6 +27,7 @@ use Rattle.vrt_profile.specs.declared.parts.DatasetPart.TheVariants as dataset_p
 use Rattle.vrt_markup.specs.declared.fault.VrtFault.{VrtFault}
 use Rattle.vrt_markup.specs.declared.fault.VrtFault.TheVariants.{UnknownElement, MissingPart, BadNumber, Unsupported}
 use Rattle.vrt_markup.specs.declared.fault.VrtFault.TheVariants.{Limit}
+use Rattle.geotransform.specs.Limits.{most_bands}
 
 -- Names of elements. In VRTDataset and VRTRasterBand these are read past.
 abbrev pub is_remark : List ℕ → Bool
@@ -274,7 +275,7 @@ with_no_data_value s new = once s.nodata new (λ x. record s { nodata = Some x }
 
 -- a source past the limit is found before anything else of it
 abbrev pub with_source : BandParts → Result SourceValue VrtFault → Result BandParts VrtFault
-with_source s source = if nat_le 262144 (s.taken + length s.sources) then Err Limit
+with_source s source = if nat_le most_sources (s.taken + length s.sources) then Err Limit
     else (source >>= λ x. Ok (record s { sources = s.sources ++ x ∷ [] }))
 
 abbrev pub band_parts : BandParts → ℕ → Tag → Forest → BandPart → Result BandParts VrtFault
@@ -340,7 +341,7 @@ with_geo s new = once s.geo new (λ x. record s { geo = Some x })
 
 -- a band past the limit is found before anything else of it
 abbrev pub with_raster_band : DatasetParts → Result BandValue VrtFault → Result DatasetParts VrtFault
-with_raster_band s band = if nat_le 256 (length s.bands) then Err Limit
+with_raster_band s band = if nat_le most_bands (length s.bands) then Err Limit
     else (band >>= λ b. Ok (record s { bands = s.bands ++ b ∷ []; taken = s.taken + length b.sources }))
 
 abbrev pub srs_by : List ℕ → Option ℕ → Result (List ℕ) VrtFault

@@ -7,10 +7,11 @@ use Rattle.geotransform.specs.Decimal.{places_of}
 use Rattle.geotransform.specs.Geo.{Transform, transform_of}
 use Rattle.vrt_markup.specs.Items.{is_equal}
 use Rattle.vrt_profile.specs.Fields.{trim, whole_text, pair_of, pieces, Six, six_of}
-use Rattle.vrt_profile.specs.Values.{million}
+use Rattle.vrt_profile.specs.Values.{million, most_pairs}
 use Rattle.vrt_profile.specs.declared.rectangle.LutPair.{LutPair}
 use Rattle.vrt_markup.specs.declared.fault.VrtFault.{VrtFault}
 use Rattle.vrt_markup.specs.declared.fault.VrtFault.TheVariants.{MissingPart, BadNumber, Unsupported, Limit}
+use Rattle.geotransform.specs.Limits.{farthest, most_bands, most_side}
 
 -- what is found, or this fault
 abbrev pub or_fault : {A : Type 0} → VrtFault → Option A → Result A VrtFault
@@ -20,7 +21,7 @@ or_fault fault (Some x) = Ok x
 -- A side of the raster: a whole text above 0, up to a limit.
 abbrev pub side_by : Option ℕ → Result ℕ VrtFault
 side_by None = Err BadNumber
-side_by (Some n) = if n == 0 then Err BadNumber else (if nat_lt 4194304 n then Err Limit else Ok n)
+side_by (Some n) = if n == 0 then Err BadNumber else (if nat_lt most_side n then Err Limit else Ok n)
 
 abbrev pub side_in : Option (List ℕ) → Result ℕ VrtFault
 side_in None = Err MissingPart
@@ -32,7 +33,7 @@ micro_in None = Err MissingPart
 micro_in (Some text) = or_fault BadNumber (places_of 6 text)
 
 abbrev pub within_limit : ℤ → Result ℤ VrtFault
-within_limit v = if nat_lt (8388608 * million) (unsigned_abs v) then Err Limit else Ok v
+within_limit v = if nat_lt (farthest * million) (unsigned_abs v) then Err Limit else Ok v
 
 abbrev pub offset_in : Option (List ℕ) → Result ℤ VrtFault
 offset_in text = micro_in text >>= within_limit
@@ -52,7 +53,7 @@ no_band_fault text = if is_mask text then Unsupported else BadNumber
 
 abbrev pub band_by : List ℕ → Option ℕ → Result ℕ VrtFault
 band_by text None = Err (no_band_fault text)
-band_by text (Some n) = if nat_lt 0 n && nat_le n 256 then Ok n else Err (no_band_fault text)
+band_by text (Some n) = if nat_lt 0 n && nat_le n most_bands then Ok n else Err (no_band_fault text)
 
 abbrev pub band_number : List ℕ → Result ℕ VrtFault
 band_number text = band_by text (whole_text text)
@@ -75,7 +76,8 @@ abbrev pub rising_pair : Option LutPair → LutPair → Result LutPair VrtFault
 rising_pair last pair = if is_above last pair then Ok pair else Err BadNumber
 
 abbrev pub next_pair : ℕ → Option LutPair → List ℕ → Result LutPair VrtFault
-next_pair n last piece = if nat_le 65536 n then Err Limit else (or_fault BadNumber (pair_of piece) >>= rising_pair last)
+next_pair n last piece =
+    if nat_le most_pairs n then Err Limit else (or_fault BadNumber (pair_of piece) >>= rising_pair last)
 
 abbrev pub lut_from : ℕ → Option LutPair → List (List ℕ) → Result (List LutPair) VrtFault
 lut_from n last [] = Ok []

@@ -1,6 +1,6 @@
 -- What an element means, by what its attributes say and what stands in it, each of which may be a fault: the steps of
 -- the definitions of `Means`, in their order.
-use Rattle.std.specs.Prelude.{ℕ, ℤ, Bool, not, ◌&&◌, List, Option, Result, Ok}
+use Rattle.std.specs.Prelude.{ℕ, ℤ, Bool, not, ◌&&◌, List, [], ◌∷◌, ◌++◌, Option, Result, Ok}
 use Rattle.lists_and_answers.specs.Answers.{◌>>=◌}
 use Rattle.geotransform.specs.declared.types.PixelType.{PixelType}
 use Rattle.vrt_profile.specs.Values.{Rectangle, SourceValue, BandValue, DocumentValue}
@@ -38,6 +38,10 @@ source_by complex near blank parts = do
   plain ← wants (near && blank) Unsupported
   all ← parts
   source_end complex all
+
+-- the sources of a band with one more, if it is one
+abbrev pub one_more : List SourceValue → Result SourceValue VrtFault → Result (List SourceValue) VrtFault
+one_more sources source = source >>= λ x. Ok (sources ++ x ∷ [])
 
 -- a band, by what its attributes say, whether it is blank, and its parts
 abbrev pub band_by : Result PixelType VrtFault → Bool → Bool → Bool → Result BandParts VrtFault →

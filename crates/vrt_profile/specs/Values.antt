@@ -7,6 +7,15 @@ use Rattle.geotransform.specs.Types.{is_in}
 use Rattle.geotransform.specs.declared.types.PixelType.{PixelType}
 use Rattle.geotransform.specs.declared.types.Size.{Size}
 use Rattle.vrt_profile.specs.declared.rectangle.LutPair.{LutPair}
+use Rattle.geotransform.specs.Limits.{farthest, most_bands}
+
+-- The most sources of all bands of a document, and of all mosaics of a catalog.
+abbrev pub most_sources : ℕ
+most_sources = 262144
+
+-- The most pairs of a lookup table.
+abbrev pub most_pairs : ℕ
+most_pairs = 65536
 
 -- millionths of a pixel
 abbrev pub million : ℕ
@@ -25,7 +34,7 @@ pub record Rectangle : Type 0 where
 
 -- the limits of a rectangle
 abbrev pub IsOffset : ℤ → Type 0
-IsOffset v = unsigned_abs v ≤ 8388608 * million
+IsOffset v = unsigned_abs v ≤ farthest * million
 
 pub record IsRectangle (r : Rectangle) : Type 0 where
   pub left : IsOffset r.x
@@ -52,7 +61,7 @@ pub record IsPair (p : LutPair) : Type 0 where
 -- the rules of a table
 pub record IsLut (pairs : List LutPair) : Type 0 where
   pub some : 0 < length pairs
-  pub few : length pairs ≤ 65536
+  pub few : length pairs ≤ most_pairs
   pub rising : is_rising pairs ≡ true
   pub near : All IsPair pairs
 
@@ -81,7 +90,7 @@ pub record IsSource (s : SourceValue) : Type 0 where
   pub named : 0 < length s.file
   pub text : IsUtf8 s.file
   pub some_band : 0 < s.band
-  pub band : s.band ≤ 256
+  pub band : s.band ≤ most_bands
   pub src : IfSome s.src IsRectangle
   pub dst : IfSome s.dst IsRectangle
   pub nodata : IfSome s.nodata (λ n. unsigned_abs n < 10 ^ 20)
@@ -126,6 +135,6 @@ pub record IsDocument (d : DocumentValue) : Type 0 where
   pub srs : IfSome d.srs IsUtf8
   pub geo : IfSome d.geo IsDecimal
   pub some : 0 < length d.bands
-  pub few : length d.bands ≤ 256
-  pub sources : source_count d.bands ≤ 262144
+  pub few : length d.bands ≤ most_bands
+  pub sources : source_count d.bands ≤ most_sources
   pub bands : All IsBand d.bands

@@ -1,6 +1,6 @@
 // Bands of a dataset.
 ghost use Rattle.std.specs.Prelude.{◌≡◌, ◌<◌, ◌≤◌, ◌-◌, length, IfOk, IfSome, Result, Ok, Err, Option, None, Some};
-ghost use Rattle.std.specs.Prelude.{true, false};
+ghost use Rattle.std.specs.Prelude.{true, false, nat_le, ◌+◌};
 ghost use Rattle.std.specs.Option.{option_map};
 ghost use Rattle.geotransform.specs.Types.{is_in};
 ghost use Rattle.vrt_markup.specs.Forest.{inner, read_as, text_of, child_of};
@@ -9,10 +9,11 @@ ghost use Rattle.vrt_profile.specs.Means.{nodata_by, no_band_parts, with_no_data
 ghost use Rattle.vrt_profile.specs.Means.{kind_in, is_number, is_placed, is_sourced, nodata_of, value_in, band_end};
 ghost use Rattle.vrt_profile.specs.Means.{band_of, source_of};
 ghost use Rattle.vrt_profile.specs.Seen.{band_by};
+ghost use Rattle.vrt_profile.specs.Values.{most_sources};
 ghost use Rattle.vrt_markup.specs.Views.{tag_view};
 ghost use Rattle.vrt_markup.specs.Kept.{Gives, seen, kept_of};
 
-use crate::document::{Source, Sources, VrtBand};
+use crate::document::{Sources, VrtBand};
 use crate::fields::whole_text;
 use crate::numbers::NoData;
 use crate::parts::{BandPart, band_part_of};
@@ -25,6 +26,9 @@ use std::marker::Model;
 use vrt_markup::{
     Level, Parts, Seen, Tag, VrtFault, attribute, children_of, is_equal, text_element,
 };
+
+/// The most sources of all bands of a document.
+const MOST_SOURCES: usize = 262_144;
 
 /// What is read of a band so far, where so many sources were taken before it.
 #[derive(Drop)]
@@ -57,26 +61,11 @@ fn no_band_parts(alloc: Global, taken: usize) -> BandParts
 }
 
 impl BandParts {
-    // Adds a source; one past the limit is found before anything else of it.
-    fn add_source(
-        &mut self,
-        source: Result<Source, VrtFault>,
-    ) -> Result<Result<(), VrtFault>, VrtFault>
-        ensures parts { Gives (λ k. kept_of self.new k) result (Ok (with_source self.old source)) }
+    // Whether no source may be added: one past the limit is found before anything else of it.
+    fn is_full(&self) -> bool
+        ensures full { result ≡ nat_le most_sources (self.now.taken + length self.now.sources) }
     {
-        if self.taken >= 262_144 || self.sources.len() >= 262_144 - self.taken {
-            return Ok(Err(VrtFault::Limit));
-        }
-        match source {
-            Err(fault) => Ok(Err(fault)),
-            Ok(source) => {
-                source.rules();
-                match self.sources.push(source) {
-                    Ok(()) => Ok(Ok(())),
-                    Err(_) => Err(VrtFault::Memory),
-                }
-            }
-        }
+        self.taken >= MOST_SOURCES || self.sources.len() >= MOST_SOURCES - self.taken
     }
 
     // Puts a NoDataValue.
@@ -116,13 +105,10 @@ impl BandParts {
             (inner level.total level.depth (tag_view tag.entry) bytes.now)) }
         ensures shorter { IfOk result (λ x. length x.1.now ≤ length bytes.now) }
     {
-        match source_element(alloc, level, complex, tag, bytes) {
-            Ok((source, rest)) => match self.add_source(source) {
-                Ok(kept) => Ok((kept, rest)),
-                Err(error) => Err(error),
-            },
-            Err(error) => Err(error),
+        if self.is_full() {
+            return past_child(alloc, level, Err(VrtFault::Limit), tag, bytes);
         }
+        source_element(alloc, level, complex, tag, &mut self.sources, bytes)
     }
 }
 

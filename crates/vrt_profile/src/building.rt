@@ -4,9 +4,11 @@ ghost use Rattle.std.specs.Prelude.{OnOk, OnErr, IsUtf8, None, unsigned_abs};
 ghost use Rattle.geotransform.specs.Geo.{IsRaster};
 ghost use Rattle.geotransform.specs.Types.{is_in};
 ghost use Rattle.vrt_profile.specs.Values.{IsDecimal, IsOffset, IsRectangle, million, trillion, source_count};
+ghost use Rattle.vrt_profile.specs.Values.{most_sources};
 ghost use Rattle.vrt_profile.specs.Cover.{whole};
 ghost use Rattle.vrt_profile.specs.Resolve.{related};
 ghost use Rattle.vrt_profile.specs.Built.{pixels_at, IsPixelOffset, IsPixelSide, plain_source};
+ghost use Rattle.geotransform.specs.Limits.{most_bands};
 
 use crate::document::{Document, Source, Sources, VrtBand, VrtBands};
 use crate::kept::text_rules;
@@ -98,7 +100,7 @@ fn source_from(
     nodata: Option<Sample>,
 ) -> Result<Source, AllocError>
     requires named { 0 < length file.1 }
-    requires band { (0 < band) × (band ≤ 256) }
+    requires band { (0 < band) × (band ≤ most_bands) }
     requires nodata { IfSome nodata (λ n. unsigned_abs n < 10 ^ 20) }
     ensures source { IfOk result (λ s. s ≡ plain_source file band src dst nodata) }
 {
@@ -130,7 +132,7 @@ pub fn plain_source(
     dst: MicroRect,
     nodata: Option<Sample>,
 ) -> Result<Source, AllocError>
-    requires band { (0 < band) × (band ≤ 256) }
+    requires band { (0 < band) × (band ≤ most_bands) }
     requires nodata { IfSome nodata (λ n. unsigned_abs n < 10 ^ 20) }
     ensures source { IfOk result (λ s. s ≡ plain_source (related base.now name.now) band src dst nodata) }
 {
@@ -250,8 +252,8 @@ impl BandList {
         requires size { IsRaster size }
         requires geo { IfSome geo IsDecimal }
         requires some { 0 < length self }
-        requires few { length self ≤ 256 }
-        requires sources { source_count self ≤ 262144 }
+        requires few { length self ≤ most_bands }
+        requires sources { source_count self ≤ most_sources }
         ensures document { IfOk result (λ d. d ≡ record { size = size; srs = srs.now; geo = geo; bands = self }) }
     {
         let srs = copied(srs)?;

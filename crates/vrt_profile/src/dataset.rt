@@ -3,7 +3,7 @@ ghost use Rattle.std.specs.Prelude.{◌≡◌, suc, ◌<◌, ◌≤◌, ◌-◌,
 ghost use Rattle.std.specs.Prelude.{true};
 ghost use Rattle.std.specs.Option.{option_map};
 ghost use Rattle.vrt_markup.specs.Items.{is_some};
-ghost use Rattle.vrt_profile.specs.Values.{IsDecimal};
+ghost use Rattle.vrt_profile.specs.Values.{IsDecimal, most_sources};
 ghost use Rattle.vrt_markup.specs.Forest.{inner, read_as, text_of, child_of};
 ghost use Rattle.vrt_profile.specs.Means as means;
 ghost use Rattle.vrt_profile.specs.Means.{no_dataset_parts, with_srs, with_geo, with_raster_band, srs_by, geo_by};
@@ -11,6 +11,7 @@ ghost use Rattle.vrt_profile.specs.Means.{dataset_step, dataset_end, dataset_of,
 ghost use Rattle.vrt_profile.specs.Seen.{dataset_by};
 ghost use Rattle.vrt_markup.specs.Views.{plain_text, tag_view};
 ghost use Rattle.vrt_markup.specs.Kept.{Gives, seen, kept_of};
+ghost use Rattle.geotransform.specs.Limits.{most_side};
 
 use crate::band::band_element;
 use crate::document::{Document, VrtBand, VrtBands};
@@ -27,6 +28,9 @@ use vrt_markup::{
     Level, Parts, Seen, Tag, VrtFault, Words, attribute, children_of, is_equal, past_element,
     text_element,
 };
+
+/// The most bands of a document.
+const MOST_BANDS: usize = geotransform::MOST_BANDS as usize;
 
 /// What is read of a dataset so far, and how many sources its bands have.
 #[derive(Drop)]
@@ -75,7 +79,7 @@ fn geo_by(words: &Words) -> Result<GeoTransform, VrtFault>
 fn counts(parts: &DatasetParts) -> (u64, usize)
     ensures number { result.0 ≡ suc (length parts.now.bands) }
     ensures taken { result.1 ≡ parts.now.taken }
-    ensures bound { result.1 ≤ 262144 }
+    ensures bound { result.1 ≤ most_sources }
 {
     (parts.bands.len() as u64 + 1, parts.taken)
 }
@@ -131,10 +135,10 @@ impl DatasetParts {
         &mut self,
         band: Result<VrtBand, VrtFault>,
     ) -> Result<Result<(), VrtFault>, VrtFault>
-        requires fits { IfOk band (λ b. self.old.taken + length b.sources ≤ 262144) }
+        requires fits { IfOk band (λ b. self.old.taken + length b.sources ≤ most_sources) }
         ensures parts { Gives (λ k. kept_of self.new k) result (Ok (with_raster_band self.old band)) }
     {
-        if self.bands.len() >= 256 {
+        if self.bands.len() >= MOST_BANDS {
             return Ok(Err(VrtFault::Limit));
         }
         match band {
@@ -208,8 +212,8 @@ impl Parts for DatasetParts {
 }
 
 fn dataset_end(w: u32, h: u32, parts: DatasetParts) -> Result<Document, VrtFault>
-    requires w { (0 < w) × (w ≤ 4194304) }
-    requires h { (0 < h) × (h ≤ 4194304) }
+    requires w { (0 < w) × (w ≤ most_side) }
+    requires h { (0 < h) × (h ≤ most_side) }
     ensures document { result ≡ dataset_end w h parts }
 {
     let DatasetParts {
@@ -238,8 +242,8 @@ fn dataset_by(
     seen: Seen,
     parts: DatasetParts,
 ) -> Result<Document, VrtFault>
-    requires w { IfOk w (λ n. (0 < n) × (n ≤ 4194304)) }
-    requires h { IfOk h (λ n. (0 < n) × (n ≤ 4194304)) }
+    requires w { IfOk w (λ n. (0 < n) × (n ≤ most_side)) }
+    requires h { IfOk h (λ n. (0 < n) × (n ≤ most_side)) }
     ensures document { result ≡ dataset_by w h derived seen.blank (kept_of parts seen.kept) }
 {
     let w = w?;

@@ -12,6 +12,9 @@ use lists_and_answers::Items;
 use std::alloc::Global;
 use vrt_markup::VrtFault;
 
+/// The most pairs of a table.
+const MOST_PAIRS: usize = 65_536;
+
 // Whether the pair's input is above that of the last pair.
 fn is_above(last: Option<LutPair>, pair: LutPair) -> bool
     ensures above { result ≡ is_above last pair }
@@ -40,7 +43,7 @@ fn next_pair(
 ) -> Result<LutPair, VrtFault>
     ensures pair { (piece : List ℕ) → pair ≡ pair_of piece → result ≡ next_pair count last piece }
 {
-    if count >= 65_536 {
+    if count >= MOST_PAIRS {
         return Err(VrtFault::Limit);
     }
     match pair {

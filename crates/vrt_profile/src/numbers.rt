@@ -10,12 +10,18 @@ ghost use Rattle.vrt_profile.specs.Numbers.{is_mask, no_band_fault, band_by, ban
 ghost use Rattle.vrt_profile.specs.Numbers.{geo_of};
 ghost use Rattle.vrt_markup.specs.declared.fault.VrtFault.TheVariants.{BadNumber};
 ghost use Rattle.vrt_profile.specs.NumberViews.{six_view, IsReadSix};
+ghost use Rattle.geotransform.specs.Limits.{most_side};
 
 use crate::fields::{Six, six_of, trim, whole_text};
 use crate::fronts::short_micros;
-use geotransform::{BandNumber, GeoTransform, Ticks, read_places, read_whole};
+use geotransform::{
+    BandNumber, GeoTransform, MOST_BANDS, MOST_SIDE, Ticks, read_places, read_whole,
+};
 use std::marker::Model;
 use vrt_markup::VrtFault;
+
+/// The greatest offset of a rectangle in millionths of a pixel, to either side.
+const FARTHEST_MICROS: u128 = 8_388_608_000_000;
 
 /// A NODATA, below 10^20 in magnitude.
 #[derive(Clone, Copy)]
@@ -79,7 +85,7 @@ fn side_by(number: Option<u64>) -> Result<u32, VrtFault>
     match number {
         None => Err(VrtFault::BadNumber),
         Some(0) => Err(VrtFault::BadNumber),
-        Some(n) if n > 4_194_304 => Err(VrtFault::Limit),
+        Some(n) if n > MOST_SIDE as u64 => Err(VrtFault::Limit),
         Some(n) => Ok(n as u32),
     }
 }
@@ -87,7 +93,7 @@ fn side_by(number: Option<u64>) -> Result<u32, VrtFault>
 /// A side of a raster, from 1 to 4,194,304.
 pub fn side_in(text: Option<&[u8]>) -> Result<u32, VrtFault>
     ensures side { result ≡ side_in (option_map (λ v. v.now) text.entry) }
-    ensures bounds { IfOk result (λ n. (0 < n) × (n ≤ 4194304)) }
+    ensures bounds { IfOk result (λ n. (0 < n) × (n ≤ most_side)) }
 {
     match text {
         None => Err(VrtFault::MissingPart),
@@ -121,7 +127,7 @@ fn within_limit(value: i128) -> Result<i64, VrtFault>
     ensures number { result ≡ within_limit value }
     ensures bound { IfOk result IsOffset }
 {
-    if value.unsigned_abs() > 8_388_608_000_000 {
+    if value.unsigned_abs() > FARTHEST_MICROS {
         return Err(VrtFault::Limit);
     }
     Ok(value as i64)
@@ -183,7 +189,7 @@ fn band_by(text: &[u8], number: Option<u64>) -> Result<BandNumber, VrtFault>
     ensures number { result ≡ band_by text.now number }
 {
     match number {
-        Some(n) if 0 < n && n <= 256 => Ok(BandNumber::of(n as u32)),
+        Some(n) if 0 < n && n <= MOST_BANDS as u64 => Ok(BandNumber::of(n as u32)),
         _ => Err(no_band_fault(text)),
     }
 }

@@ -1,6 +1,8 @@
 // What sources make of pixels.
-ghost use Rattle.std.specs.Prelude.{◌≡◌, IfOk, IsTrue, is_some, option_map};
+ghost use Rattle.std.specs.Prelude.{◌≡◌, pos, Some, IfOk, IfSome, IsTrue, is_some, option_map};
+ghost use Rattle.vrt_profile.specs.Values.{trillion};
 ghost use Rattle.vrt_profile.specs.Scaling.{no_scaling, keeps_pixels};
+ghost use Rattle.vrt_profile.specs.ScalingViews.{kept_scaling};
 
 use crate::rectangle::Lut;
 use std::alloc::{AllocError, Global};
@@ -26,20 +28,30 @@ impl Model for ScalingParts {
     ghost view = { λ p. record { nodata = p.nodata; offset = p.offset; ratio = p.ratio; lut = p.lut } };
 }
 
-/// What a source makes of the pixels of its dataset. Its parts stand apart, and one that changes no pixel has none, so
-/// that a source that shows pixels as they are stays small.
+/// What is kept of a scaling: nothing where it changes no pixel, its NODATA or its table where it has nothing else. So
+/// most scalings take little memory or none.
+#[derive(Drop)]
+enum Kept {
+    Plain,
+    NoData(i64),
+    Table(Box<Lut>),
+    Parts(Box<ScalingParts>),
+}
+
+/// What a source makes of the pixels of its dataset. What is more than a NODATA of eight bytes stands apart, so that a
+/// source stays small.
 #[derive(Drop)]
 pub struct Scaling {
-    parts: Option<Box<ScalingParts>>,
+    kept: Kept,
 }
 
 impl Model for Scaling {
-    ghost use Rattle.std.specs.Prelude.{unwrap_or, option_map};
-    ghost use Rattle.vrt_profile.specs.Scaling.{ScalingValue, no_scaling};
+    ghost use Rattle.vrt_profile.specs.Scaling.{ScalingValue};
+    ghost use Rattle.vrt_profile.specs.ScalingViews.{kept_scaling};
 
     ghost Value = { ScalingValue };
 
-    ghost view = { λ s. unwrap_or (option_map (λ b. b.value) s.parts) no_scaling };
+    ghost view = { λ s. kept_scaling s.kept };
 }
 
 fn has_table(lut: &Option<Lut>) -> bool
@@ -52,15 +64,15 @@ fn has_table(lut: &Option<Lut>) -> bool
 }
 
 impl ScalingParts {
-    /// The parts of the scaling that changes no pixel.
-    fn none() -> ScalingParts
-        ensures none { result ≡ no_scaling }
+    // The parts of a scaling that scales no pixel.
+    fn of(nodata: Option<i128>, lut: Option<Lut>) -> ScalingParts
+        ensures unscaled { result ≡ record no_scaling { nodata = nodata; lut = lut } }
     {
         ScalingParts {
-            nodata: None,
+            nodata,
             offset: 0,
             ratio: 1_000_000_000_000,
-            lut: None,
+            lut,
         }
     }
 
@@ -71,24 +83,80 @@ impl ScalingParts {
         self.ratio == 1_000_000_000_000 && self.offset == 0 && !has_table(&self.lut)
     }
 
-    // Whether they change no pixel, nor leave one out.
-    fn are_none(&self) -> bool
-        ensures none { IsTrue result → self.now ≡ no_scaling }
+    // Whether they scale no pixel.
+    fn keep_scale(&self) -> bool
+        ensures kept { IsTrue result → (self.now.ratio ≡ pos trillion) × (self.now.offset ≡ pos 0) }
     {
-        self.nodata.is_none() && self.keep_pixels()
+        self.ratio == 1_000_000_000_000 && self.offset == 0
+    }
+}
+
+// What is kept of a NODATA alone, where it has at most eight bytes.
+fn small_nodata(nodata: Option<i128>) -> Option<Kept>
+    ensures kept { IfSome result (λ k. kept_scaling k ≡ record no_scaling { nodata = nodata }) }
+{
+    match nodata {
+        None => Some(Kept::Plain),
+        Some(n) if n.unsigned_abs() < 0x8000_0000_0000_0000 => Some(Kept::NoData(n as i64)),
+        Some(_) => None,
+    }
+}
+
+// What is kept of all parts.
+fn kept_parts(alloc: Global, parts: ScalingParts) -> Result<Kept, AllocError>
+    ensures kept { IfOk result (λ k. kept_scaling k ≡ parts) }
+{
+    Ok(Kept::Parts(Box::new(alloc, parts)?))
+}
+
+// What is kept of a table and a NODATA.
+fn kept_table(alloc: Global, nodata: Option<i128>, lut: Lut) -> Result<Kept, AllocError>
+    ensures kept { IfOk result (λ k. kept_scaling k ≡ record no_scaling { nodata = nodata; lut = Some lut }) }
+{
+    match nodata {
+        None => Ok(Kept::Table(Box::new(alloc, lut)?)),
+        Some(_) => kept_parts(alloc, ScalingParts::of(nodata, Some(lut))),
+    }
+}
+
+// What is kept of parts that scale no pixel.
+fn kept_unscaled(alloc: Global, nodata: Option<i128>, lut: Option<Lut>) -> Result<Kept, AllocError>
+    ensures kept { IfOk result (λ k. kept_scaling k ≡ record no_scaling { nodata = nodata; lut = lut }) }
+{
+    match lut {
+        Some(lut) => kept_table(alloc, nodata, lut),
+        None => match small_nodata(nodata) {
+            Some(kept) => Ok(kept),
+            None => kept_parts(alloc, ScalingParts::of(nodata, None)),
+        },
+    }
+}
+
+// What is kept of parts.
+fn kept_of(alloc: Global, parts: ScalingParts) -> Result<Kept, AllocError>
+    ensures kept { IfOk result (λ k. kept_scaling k ≡ parts) }
+{
+    if parts.keep_scale() {
+        kept_unscaled(alloc, parts.nodata, parts.lut)
+    } else {
+        kept_parts(alloc, parts)
     }
 }
 
 impl Scaling {
+    // The scaling that changes no pixel.
+    pub(crate) fn none() -> Scaling
+        ensures none { result ≡ no_scaling }
+    {
+        Scaling { kept: Kept::Plain }
+    }
+
     /// The scaling of these parts.
     pub fn of(alloc: Global, parts: ScalingParts) -> Result<Scaling, AllocError>
         ensures same { IfOk result (λ s. s ≡ parts) }
     {
-        if parts.are_none() {
-            return Ok(Scaling { parts: None });
-        }
         Ok(Scaling {
-            parts: Some(Box::new(alloc, parts)?),
+            kept: kept_of(alloc, parts)?,
         })
     }
 
@@ -96,9 +164,11 @@ impl Scaling {
     pub fn nodata(&self) -> Option<i128>
         ensures nodata { result ≡ self.now.nodata }
     {
-        match &self.parts {
-            None => None,
-            Some(parts) => parts.nodata,
+        match &self.kept {
+            Kept::Plain => None,
+            Kept::NoData(nodata) => Some(*nodata as i128),
+            Kept::Table(_) => None,
+            Kept::Parts(parts) => parts.nodata,
         }
     }
 
@@ -106,9 +176,9 @@ impl Scaling {
     pub fn offset(&self) -> i128
         ensures offset { result ≡ self.now.offset }
     {
-        match &self.parts {
-            None => 0,
-            Some(parts) => parts.offset,
+        match &self.kept {
+            Kept::Plain | Kept::NoData(_) | Kept::Table(_) => 0,
+            Kept::Parts(parts) => parts.offset,
         }
     }
 
@@ -116,9 +186,9 @@ impl Scaling {
     pub fn ratio(&self) -> i128
         ensures ratio { result ≡ self.now.ratio }
     {
-        match &self.parts {
-            None => 1_000_000_000_000,
-            Some(parts) => parts.ratio,
+        match &self.kept {
+            Kept::Plain | Kept::NoData(_) | Kept::Table(_) => 1_000_000_000_000,
+            Kept::Parts(parts) => parts.ratio,
         }
     }
 
@@ -126,9 +196,10 @@ impl Scaling {
     pub fn lut(&self) -> Option<&Lut>
         ensures lut { option_map (λ t. t.now) result ≡ self.now.lut }
     {
-        match &self.parts {
-            None => None,
-            Some(parts) => parts.lut.as_ref(),
+        match &self.kept {
+            Kept::Plain | Kept::NoData(_) => None,
+            Kept::Table(lut) => Some(lut.as_ref()),
+            Kept::Parts(parts) => parts.lut.as_ref(),
         }
     }
 
@@ -136,9 +207,10 @@ impl Scaling {
     pub fn keeps_pixels(&self) -> bool
         ensures kept { result ≡ keeps_pixels self.now }
     {
-        match &self.parts {
-            None => true,
-            Some(parts) => parts.keep_pixels(),
+        match &self.kept {
+            Kept::Plain | Kept::NoData(_) => true,
+            Kept::Table(_) => false,
+            Kept::Parts(parts) => parts.keep_pixels(),
         }
     }
 
@@ -146,9 +218,11 @@ impl Scaling {
     fn into_parts(self) -> ScalingParts
         ensures same { result ≡ self }
     {
-        match self.parts {
-            None => ScalingParts::none(),
-            Some(parts) => Box::into_inner(parts),
+        match self.kept {
+            Kept::Plain => ScalingParts::of(None, None),
+            Kept::NoData(nodata) => ScalingParts::of(Some(nodata as i128), None),
+            Kept::Table(lut) => ScalingParts::of(None, Some(Box::into_inner(lut))),
+            Kept::Parts(parts) => Box::into_inner(parts),
         }
     }
 

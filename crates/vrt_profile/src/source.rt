@@ -1,20 +1,22 @@
 // Sources of a band.
-ghost use Rattle.std.specs.Prelude.{◌≡◌, ◌<◌, ◌≤◌, ◌-◌, ◌^◌, length, IfOk, IfSome, unsigned_abs, if◌then◌else◌, false};
+ghost use Rattle.std.specs.Prelude.{◌≡◌, ◌<◌, ◌≤◌, ◌-◌, ◌^◌, ◌++◌, ◌∷◌, [], length, IfOk, IfSome, unsigned_abs, false};
 ghost use Rattle.std.specs.Prelude.{Result, Ok, Err, Option, None, Some, true};
 ghost use Rattle.std.specs.Option.{option_map, unwrap_or};
+ghost use Rattle.std.specs.List.{All};
 ghost use Rattle.vrt_markup.specs.Forest.{inner, read_as, text_of, child_of};
 ghost use Rattle.vrt_profile.specs.Means as means;
 ghost use Rattle.vrt_profile.specs.Means.{flag_in, flag_by, file_of, source_band_by, nodata_by, scale_text, lut_by};
 ghost use Rattle.vrt_profile.specs.Means.{with_file, number_parts, source_step, no_parts, is_like, is_near, source_end};
 ghost use Rattle.vrt_profile.specs.Means.{source_of, value_in};
-ghost use Rattle.vrt_profile.specs.Seen.{file_by, source_by};
-ghost use Rattle.vrt_profile.specs.Values.{IsRectangle, IsLut};
+ghost use Rattle.vrt_profile.specs.Seen.{file_by, source_by, one_more};
+ghost use Rattle.vrt_profile.specs.Values.{IsSource, IsRectangle, IsLut};
 ghost use Rattle.vrt_markup.specs.Views.{plain_text, tag_view};
-ghost use Rattle.vrt_markup.specs.Kept.{Gives, seen, kept_of};
+ghost use Rattle.vrt_markup.specs.Kept.{Gives, kept_of};
 ghost use Rattle.vrt_profile.specs.SourceViews.{source_view, no_source};
 ghost use Rattle.vrt_profile.specs.Scaling.{IsScaling, no_scaling, scaling_of};
+ghost use Rattle.geotransform.specs.Limits.{most_bands};
 
-use crate::document::Source;
+use crate::document::{Source, Sources};
 use crate::fields::trim;
 use crate::kept::{text_by, text_rules};
 use crate::lookup::lut_of;
@@ -301,7 +303,7 @@ fn is_near(text: Option<&[u8]>) -> bool
 // The parts of a Source, each with the rules that it keeps.
 fn band_or_one(band: Option<BandNumber>) -> u32
     ensures value { result ≡ unwrap_or band 1 }
-    ensures bounds { (0 < result) × (result ≤ 256) }
+    ensures bounds { (0 < result) × (result ≤ most_bands) }
 {
     match band {
         Some(band) => band.get(),
@@ -322,40 +324,37 @@ fn ruled(rect: Option<MicroRect>) -> Option<MicroRect>
     }
 }
 
-fn nodata_or(complex: bool, nodata: Option<Option<NoData>>) -> Option<i128>
-    ensures value { result ≡ (if complex then value_in nodata else None) }
+fn nodata_or_none(nodata: Option<Option<NoData>>) -> Option<i128>
+    ensures value { result ≡ value_in nodata }
     ensures small { IfSome result (λ n. unsigned_abs n < 10 ^ 20) }
-    ensures simple { complex ≡ false → result ≡ None }
 {
     match nodata {
-        Some(Some(nodata)) if complex => Some(nodata.get()),
+        Some(Some(nodata)) => Some(nodata.get()),
         _ => None,
     }
 }
 
-fn scale_or(complex: bool, scale: Option<Scale>, plain: i128) -> i128
+fn scale_or(scale: Option<Scale>, plain: i128) -> i128
     requires plain { unsigned_abs plain < 10 ^ 24 }
-    ensures value { result ≡ (if complex then unwrap_or scale plain else plain) }
+    ensures value { result ≡ unwrap_or scale plain }
     ensures small { unsigned_abs result < 10 ^ 24 }
-    ensures simple { complex ≡ false → result ≡ plain }
 {
     match scale {
-        Some(scale) if complex => scale.get(),
-        _ => plain,
+        Some(scale) => scale.get(),
+        None => plain,
     }
 }
 
-fn lut_or(complex: bool, lut: Option<Lut>) -> Option<Lut>
-    ensures value { result ≡ (if complex then lut else None) }
+fn ruled_lut(lut: Option<Lut>) -> Option<Lut>
+    ensures same { result ≡ lut }
     ensures rules { IfSome result IsLut }
-    ensures simple { complex ≡ false → result ≡ None }
 {
     match lut {
-        Some(lut) if complex => {
+        Some(lut) => {
             let _pairs = lut.pairs();
             Some(lut)
         }
-        _ => None,
+        None => None,
     }
 }
 
@@ -372,93 +371,110 @@ fn scaling_of(
     ensures rules { IfOk result IsScaling }
     ensures simple { complex ≡ false → IfOk result (λ s. s ≡ no_scaling) }
 {
+    if !complex {
+        return Ok(Scaling::none());
+    }
     let parts = ScalingParts {
-        nodata: nodata_or(complex, nodata),
-        offset: scale_or(complex, offset, 0),
-        ratio: scale_or(complex, ratio, 1_000_000_000_000),
-        lut: lut_or(complex, lut),
+        nodata: nodata_or_none(nodata),
+        offset: scale_or(offset, 0),
+        ratio: scale_or(ratio, 1_000_000_000_000),
+        lut: ruled_lut(lut),
     };
     Scaling::of(alloc, parts)
 }
 
-// The source that the parts give, where they have a file.
-fn source_end(
+// Adds a source at the end.
+fn push_ruled(source: Source, sources: &mut Sources) -> Result<Result<(), VrtFault>, VrtFault>
+    ensures pushed { Gives (λ k. kept_of sources.new k) result (Ok (Ok (sources.old ++ source ∷ []))) }
+    ensures rules { All IsSource sources.old → All IsSource sources.new }
+{
+    source.rules();
+    match sources.push(source) {
+        Ok(()) => Ok(Ok(())),
+        Err(_) => Err(VrtFault::Memory),
+    }
+}
+
+// Adds the source that the parts give, where they have a file. It is made where it stays, since it is large.
+fn push_source(
     alloc: Global,
     complex: bool,
-    parts: SourceParts,
-) -> Result<Result<Source, VrtFault>, VrtFault>
-    ensures source { Gives (λ x. x) result (Ok (source_end complex (source_view parts))) }
+    parts: &mut SourceParts,
+    sources: &mut Sources,
+) -> Result<Result<(), VrtFault>, VrtFault>
+    ensures pushed { Gives (λ k. kept_of sources.new k) result
+        (Ok (one_more sources.old (source_end complex (source_view parts.old)))) }
+    ensures rules { All IsSource sources.old → All IsSource sources.new }
 {
-    let SourceParts {
-        complex: _,
-        file,
-        band,
-        src,
-        dst,
-        nodata,
-        offset,
-        ratio,
-        lut,
-    } = parts;
-    let Some(File { relative, name }) = file else {
+    let Some(File { relative, name }) = parts.file.take() else {
         return Ok(Err(VrtFault::MissingPart));
     };
     if name.as_str().is_empty() {
         return Ok(Err(VrtFault::MissingPart));
     }
     text_rules(&name);
-    match scaling_of(alloc, complex, nodata, offset, ratio, lut) {
-        Ok(scaling) => Ok(Ok(Source {
-            complex,
-            relative,
-            file: name,
-            band: band_or_one(band),
-            src: ruled(src),
-            dst: ruled(dst),
-            scaling,
-        })),
+    let lut = parts.lut.take();
+    match scaling_of(alloc, complex, parts.nodata, parts.offset, parts.ratio, lut) {
+        Ok(scaling) => push_ruled(
+            Source {
+                complex,
+                relative,
+                file: name,
+                band: band_or_one(parts.band),
+                src: ruled(parts.src),
+                dst: ruled(parts.dst),
+                scaling,
+            },
+            sources,
+        ),
         Err(_) => Err(VrtFault::Memory),
     }
 }
 
-fn source_by(
+// Adds the source of what is seen of it, where there is room for one.
+fn push_seen(
     alloc: Global,
     complex: bool,
     near: bool,
     seen: Seen,
-    parts: SourceParts,
-) -> Result<Result<Source, VrtFault>, VrtFault>
-    ensures source { Gives (λ x. x) result (Ok (source_by complex near seen.blank
-        (kept_of (source_view parts) seen.kept))) }
+    parts: &mut SourceParts,
+    sources: &mut Sources,
+) -> Result<Result<(), VrtFault>, VrtFault>
+    ensures pushed { Gives (λ k. kept_of sources.new k) result (Ok (one_more sources.old
+        (source_by complex near seen.blank (kept_of (source_view parts.old) seen.kept)))) }
+    ensures rules { All IsSource sources.old → All IsSource sources.new }
 {
     if !(near && seen.blank) {
         return Ok(Err(VrtFault::Unsupported));
     }
     match seen.kept {
-        Ok(()) => source_end(alloc, complex, parts),
+        Ok(()) => push_source(alloc, complex, parts, sources),
         Err(fault) => Ok(Err(fault)),
     }
 }
 
-/// What a SimpleSource or a ComplexSource means.
+/// Adds what a SimpleSource or a ComplexSource means to the sources before it.
 pub fn source_element<'a>(
     alloc: Global,
     level: Level,
     complex: bool,
     tag: Tag,
+    sources: &mut Sources,
     bytes: &'a [u8],
-) -> Result<(Result<Source, VrtFault>, &'a [u8]), VrtFault>
+) -> Result<(Result<(), VrtFault>, &'a [u8]), VrtFault>
     requires within { length bytes.now ≤ level.total }
     requires depth { level.depth < 64 }
-    ensures source { Gives (λ x. (x.0, x.1.now)) result (read_as (source_of complex (tag_view tag.entry))
+    ensures source { Gives (λ x. (kept_of sources.new x.0, x.1.now)) result
+        (read_as (λ f. one_more sources.old (source_of complex (tag_view tag.entry) f))
         (inner level.total level.depth (tag_view tag.entry) bytes.now)) }
+    ensures rules { All IsSource sources.old → All IsSource sources.new }
     ensures shorter { IfOk result (λ x. length x.1.now ≤ length bytes.now) }
 {
     let mut parts = no_parts(complex);
     let near = is_near(attribute(tag.attributes, b"resampling"));
     match children_of(alloc, level, tag, &mut parts, bytes) {
-        Ok((seen, rest)) => match source_by(alloc, complex, near, seen, parts) {
-            Ok(source) => Ok((source, rest)),
+        Ok((seen, rest)) => match push_seen(alloc, complex, near, seen, &mut parts, sources) {
+            Ok(kept) => Ok((kept, rest)),
             Err(error) => Err(error),
         },
         Err(error) => Err(error),

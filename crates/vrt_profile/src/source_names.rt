@@ -1,7 +1,7 @@
 // Names of sources: resolved from a document's folder, and related to it.
 ghost use Rattle.std.specs.Prelude.{◌≡◌, ◌↔◌, ◌<◌, ◌++◌, ◌∷◌, ◌≢◌, Err, true, List, ℕ, length, option_map};
 ghost use Rattle.std.specs.Prelude.{string_bytes, IfOk, IsErrOf};
-ghost use Rattle.outside.specs.Paths.{normal, IsName, is_absolute};
+ghost use Rattle.outside.specs.Paths.{normal, IsName, is_absolute, longest_name};
 ghost use Rattle.vrt_markup.specs.Items.{strip, byte_at};
 ghost use Rattle.vrt_profile.specs.Values.{SourceValue};
 ghost use Rattle.vrt_profile.specs.Resolve.{folder_for, resolved_text, some_text, behind_folder, related};
@@ -11,7 +11,7 @@ use outside::{Name, NameFault, Text};
 use std::alloc::{AllocError, Global};
 
 // The greatest length of a name in bytes.
-const LONGEST: u64 = 4096;
+const LONGEST: u64 = outside::LONGEST_NAME as u64;
 
 fn is_absolute(text: &str) -> bool
     ensures absolute { result ≡ is_absolute text.now }
@@ -61,7 +61,7 @@ fn in_folder(alloc: Global, folder: &str, text: &str) -> Result<String, AllocErr
 pub fn resolve(alloc: Global, base: &Name, source: &Source) -> Result<Name, NameFault>
     ensures ok { IfOk result (λ name. name ≡ normal (resolved_text base.now source.now)) }
     ensures valid { IfOk result IsName }
-    ensures too_long { IsErrOf result NameFault.TooLong ↔ (4096 < length (resolved_text base.now source.now)) }
+    ensures too_long { IsErrOf result NameFault.TooLong ↔ (longest_name < length (resolved_text base.now source.now)) }
     ensures never_empty { result ≢ Err NameFault.Empty }
 {
     if resolved_len(base, source) > LONGEST {

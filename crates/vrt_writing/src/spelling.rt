@@ -10,6 +10,7 @@ ghost use Rattle.vrt_writing.specs.Spelled.{next_pair_text, source_text, band_te
 ghost use Rattle.vrt_writing.specs.Spelled.{scaling_markup, source_name, source_markup, sources_markup, band_pairs};
 ghost use Rattle.vrt_writing.specs.Spelled.{band_markup, bands_markup, srs_markup, geo_text, geo_markup, size_pairs};
 ghost use Rattle.vrt_writing.specs.Spelled.{parts_markup, spelled};
+ghost use Rattle.geotransform.specs.Limits.{most_bands};
 
 use crate::lines::{
     push_file, push_nodata, push_number_line, push_number_pair, push_open, push_rectangle,
@@ -209,7 +210,7 @@ fn push_band(band: &VrtBand, number: u64, out: &mut Vec<u8>) -> Result<(), Alloc
 
 #[tactic(auto, using(crate::proofs::Listed::bands_made))]
 fn push_bands(bands: &[VrtBand], out: &mut Vec<u8>) -> Result<(), AllocError>
-    requires few { length bands.now ≤ 256 }
+    requires few { length bands.now ≤ most_bands }
     ensures ok { OnOk result (Appends out.old.items out.new.items 1 (bands_markup 1 bands.now)) }
     ensures err { OnErr result (KeepsFront out.old.items out.new.items) }
 {

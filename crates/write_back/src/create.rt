@@ -7,6 +7,7 @@ ghost use Rattle.write_back.specs.declared.fault.TargetFault.{TargetFault};
 ghost use Rattle.write_back.specs.View.{IsZero};
 ghost use Rattle.write_back.specs.Files.{IsTarget};
 ghost use Rattle.write_back.specs.Plans.{output_of, room_of, IsNamedFor};
+ghost use Rattle.band_blocks.specs.Blocks.{most_blocks};
 
 use crate::TargetFault;
 use crate::rows::GridForm;
@@ -28,7 +29,7 @@ impl<F: Folder> Target<F> {
         capacity: u32,
     ) -> Result<Target<F>, TargetFault>
         requires some { 1 ≤ capacity }
-        requires few { capacity ≤ 65536 }
+        requires few { capacity ≤ most_blocks }
         requires files { plan.now.driver ≢ Vrt }
         requires extension { IsNamedFor plan.now name.now }
         ensures output { IfOk result (λ t. output_of plan.now ≡ Some t.output) }
@@ -75,7 +76,7 @@ impl<F: Folder> Target<F> {
         capacity: u32,
     ) -> Result<Target<F>, TargetFault>
         requires some { 1 ≤ capacity }
-        requires few { capacity ≤ 65536 }
+        requires few { capacity ≤ most_blocks }
         requires level { plan.now.driver ≡ Dted level }
         ensures output { IfOk result (λ t. output_of plan.now ≡ Some t.output) }
         ensures name { IfOk result (λ t. t.name ≡ name.now) }

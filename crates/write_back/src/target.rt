@@ -17,6 +17,7 @@ ghost use Rattle.write_back.specs.View.{Blocks, Rows, all_blocks, bands_of, bloc
 ghost use Rattle.write_back.specs.View.{is_writable, lines_after, rows_of, AreWritable, IsNext, IsPooled, IsZero};
 ghost use Rattle.write_back.specs.View.{MeetsAll, Shows};
 ghost use Rattle.write_back.specs.Files.{files_in, IsTarget, IsTight, Publishes};
+ghost use Rattle.band_blocks.specs.Blocks.{most_blocks};
 
 use crate::cells::ColumnWriter;
 use crate::drafts::{discard_header, front_draft, publish_all, text_draft, zeros_draft};
@@ -69,7 +70,7 @@ impl<F: Folder> Target<F> {
         capacity: u32,
     ) -> Result<Target<F>, TargetFault>
         requires some { 1 ≤ capacity }
-        requires few { capacity ≤ 65536 }
+        requires few { capacity ≤ most_blocks }
         requires raw { IsTrue (is_raw (extension_of name.now)) }
         requires tight { IsTight head.now }
         ensures output { IfOk result (λ t. t.output ≡ Blocks (Raw head.now)) }
@@ -125,7 +126,7 @@ impl<F: Folder> Target<F> {
         capacity: u32,
     ) -> Result<Target<F>, TargetFault>
         requires some { 1 ≤ capacity }
-        requires few { capacity ≤ 65536 }
+        requires few { capacity ≤ most_blocks }
         requires side { IsSide side }
         ensures output { IfOk result (λ t. t.output ≡ Blocks (Hgt side)) }
         ensures name { IfOk result (λ t. t.name ≡ name.now) }
@@ -169,7 +170,7 @@ impl<F: Folder> Target<F> {
         capacity: u32,
     ) -> Result<Target<F>, TargetFault>
         requires some { 1 ≤ capacity }
-        requires few { capacity ≤ 65536 }
+        requires few { capacity ≤ most_blocks }
         requires front { vec_len front ≡ record_of head.now 0 }
         ensures output { IfOk result (λ t. t.output ≡ Blocks (Dted (cell_of head.now (vec_items front)))) }
         ensures name { IfOk result (λ t. t.name ≡ name.now) }

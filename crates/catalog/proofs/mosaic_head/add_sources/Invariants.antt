@@ -5,5 +5,5 @@ use Rattle.catalog.specs.Gathered.{HasGathered}
 use Rattle.catalog.proofs.mosaic_head.add_sources.Given as goal
 
 -- the names of the sources so far are gathered
-abbrev pub invariant-loop-source : goal.invariant-loop-source
-invariant-loop-source l = (own : List ℕ) (names : List (List ℕ)) → HasGathered own names l.fn.gathered → HasGathered own (names ++ filter_map (source_name l.base) (take l.source-index l.sources)) l.gathered
+abbrev pub invariant-loop-at : goal.invariant-loop-at
+invariant-loop-at l = (own : List ℕ) (names : List (List ℕ)) → HasGathered own names l.fn.gathered → HasGathered own (names ++ filter_map (source_name l.base) (take l.at l.sources)) l.gathered

@@ -12,4 +12,4 @@ invariant_of-self c =
     let count : c.len-count.result ≡ length c.in-Ok.band.sources = c.len-count.ensures.count ∙ ap (λ (b : BandValue). length b.sources) c.band.view_is in
     let fits : c.args.self.now.taken + length c.in-Ok.band.sources ≤ 262144 = subst (λ (r : Result BandValue VrtFault). IfOk r (λ b. c.args.self.now.taken + length b.sources ≤ 262144)) c.in-Ok.is c.requires.fits in
     more_bands p q c.in-Ok.band c.self.invariant c.rules.ensures.rules refl refl c.in-Ok-push.ensures.ok (ap (λ n. c.self.inside.taken + n) count)
-    (omega (arith, c.if-len-ge256.false, c.len.ensures.count)) (omega (arith, fits, ap (λ (x : DatasetParts). x.taken) c.self.view_is))
+    (omega (arith, c.if-len-ge-MOST_BANDS.false, c.len.ensures.count)) (omega (arith, fits, ap (λ (x : DatasetParts). x.taken) c.self.view_is))
