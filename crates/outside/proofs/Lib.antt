@@ -5,6 +5,7 @@ pub mod Normal
 pub mod Parts
 pub mod PathParts
 pub mod Plain
+pub mod Slashes
 pub mod Puts
 pub mod Sinks
 pub mod Walks

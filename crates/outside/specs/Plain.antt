@@ -1,5 +1,9 @@
 -- Paths that are their own normal form, by the first bytes of their parts.
-use Rattle.std.specs.Prelude.{ℕ, ◌==◌, Bool, not, ◌||◌, ◌&&◌, List, [], ◌∷◌, if◌then◌else◌}
+use Rattle.std.specs.Prelude.{◌≡◌, ℕ, ◌==◌, Bool, true, false, not, ◌||◌, ◌&&◌, List, Option, Some, None, [], ◌∷◌, if◌then◌else◌}
+
+-- whether a byte isn't a slash
+abbrev pub is_inside : ℕ → Bool
+is_inside c = not (c == 47)
 
 -- whether a part that begins here begins with a slash or a point
 abbrev pub begins_specially : Bool → ℕ → Bool
@@ -14,3 +18,9 @@ are_plain first (c ∷ cs) = not (begins_specially first c) && are_plain (c == 4
 abbrev pub behind_slash : List ℕ → List ℕ
 behind_slash [] = []
 behind_slash (c ∷ cs) = if c == 47 then cs else c ∷ cs
+
+-- what stands behind the slash at which the part in front of it ends says whether all parts are so, and that there is
+-- no such slash that this is the last one
+abbrev pub are_plain_behind : List ℕ → Option (List ℕ) → Type 0
+are_plain_behind text None = are_plain false text ≡ true
+are_plain_behind text (Some rest) = are_plain false text ≡ are_plain true rest

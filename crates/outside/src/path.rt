@@ -1,8 +1,10 @@
 // Normal forms of paths.
-ghost use Rattle.std.specs.Prelude.{◌≡◌, true, IfOk, OnOk, string_bytes, []};
+ghost use Rattle.std.specs.Prelude.{◌≡◌, ◌<◌, ◌≤◌, true, false, length, option_map, IfOk, IfSome, OnOk, string_bytes, []};
+ghost use Rattle.std.specs.List.{prefix_len};
 ghost use Rattle.outside.specs.Paths.{seen, with_part, parts_of, pieces, joined, normal, is_kept};
-ghost use Rattle.outside.specs.Plain.{begins_specially, are_plain, behind_slash};
+ghost use Rattle.outside.specs.Plain.{are_plain, are_plain_behind, behind_slash, is_inside};
 
+use memchr::memchr;
 use std::alloc::{AllocError, Global};
 
 // Whether the last part is one that `..` removes.
@@ -78,27 +80,50 @@ fn behind_slash(text: &[u8]) -> &[u8]
     }
 }
 
-// Whether a part that begins here begins with a slash or a point.
-fn begins_specially(first: bool, c: u8) -> bool
-    ensures { result ≡ begins_specially first c }
+// Whether something begins here, and its first byte is neither a slash nor a point.
+fn begins_plainly(text: &[u8]) -> bool
+    ensures plain { result ≡ true → are_plain true text.now ≡ are_plain false text.now }
+    ensures other { result ≡ false → are_plain true text.now ≡ false }
 {
-    first && (c == b'/' || c == b'.')
+    match text {
+        [c, ..] => *c != b'/' && *c != b'.',
+        [] => false,
+    }
+}
+
+// How many bytes stand in front of the first slash.
+#[tactic(auto, using(crate::proofs::Slashes::first_slash, crate::proofs::Slashes::slash_within))]
+fn part_len(text: &[u8]) -> usize
+    ensures count { result ≡ prefix_len is_inside text.now }
+    ensures bound { result ≤ length text.now }
+{
+    memchr(b'/', text).unwrap_or(text.len())
+}
+
+// What stands behind the first slash, where there is one.
+fn behind_part(text: &[u8]) -> Option<&[u8]>
+    ensures next { are_plain_behind text.now (option_map (λ rest. rest.now) result) }
+    ensures shorter { IfSome result (λ rest. length rest.now < length text.now) }
+{
+    let (_, rest) = text.split_at(part_len(text));
+    match rest {
+        [_, more @ ..] => Some(more),
+        [] => None,
+    }
 }
 
 // Whether each part between slashes begins with a byte that isn't a point.
 fn are_plain(text: &[u8]) -> bool
     ensures { result ≡ are_plain true text.now }
 {
-    let mut first = true;
     let mut rest = text;
-    while let [c, more @ ..] = rest {
-        if begins_specially(first, *c) {
-            return false;
+    while begins_plainly(rest) {
+        match behind_part(rest) {
+            Some(more) => rest = more,
+            None => return true,
         }
-        first = *c == b'/';
-        rest = more;
     }
-    !first
+    false
 }
 
 // Whether a path is its own normal form by the first bytes of its parts, as most are.
