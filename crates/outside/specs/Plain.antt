@@ -1,5 +1,6 @@
 -- Paths that are their own normal form, by the first bytes of their parts.
-use Rattle.std.specs.Prelude.{◌≡◌, ℕ, ◌==◌, Bool, true, false, not, ◌||◌, ◌&&◌, List, Option, Some, None, [], ◌∷◌, if◌then◌else◌}
+use Rattle.std.specs.Prelude.{◌≡◌, ℕ, ◌==◌, Bool, true, false, not, ◌||◌, ◌&&◌, if◌then◌else◌}
+use Rattle.std.specs.Prelude.{List, Option, Some, None, [], ◌∷◌}
 
 -- whether a byte isn't a slash
 abbrev pub is_inside : ℕ → Bool

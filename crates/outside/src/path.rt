@@ -1,5 +1,6 @@
 // Normal forms of paths.
-ghost use Rattle.std.specs.Prelude.{◌≡◌, ◌<◌, ◌≤◌, true, false, length, option_map, IfOk, IfSome, OnOk, string_bytes, []};
+ghost use Rattle.std.specs.Prelude.{◌≡◌, ◌<◌, ◌≤◌, true, false, length, option_map, string_bytes, []};
+ghost use Rattle.std.specs.Prelude.{IfOk, IfSome, OnOk};
 ghost use Rattle.std.specs.List.{prefix_len};
 ghost use Rattle.outside.specs.Paths.{seen, with_part, parts_of, pieces, joined, normal, is_kept};
 ghost use Rattle.outside.specs.Plain.{are_plain, are_plain_behind, behind_slash, is_inside};
