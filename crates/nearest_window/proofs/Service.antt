@@ -1,18 +1,23 @@
 -- How the service of a lane goes on from call to call.
-use Rattle.std.proofs.Common.{◌≡◌, inl, inr, ℕ, ℤ, ◌+◌, ◌*◌, ◌≤◌, List, Option, None, length, refl, sym, ◌∙◌, subst, arith, Result, Ok, Err, OnOk, OnErr}
+use Rattle.std.proofs.Common.{◌≡◌, inl, inr, ℕ, ℤ, ◌+◌, ◌-◌, ◌*◌, ◌≤◌, List, Option, None, length, refl, sym, ap, ◌∙◌, subst, arith, Result, Ok, Err, OnOk, OnErr, IfErr, IfOk, IsErr, IsErrAnd, Some}
+use Rattle.std.specs.Prelude.{slice_get}
 use Rattle.std.specs.List.{All}
+use Rattle.outside.specs.Causes.{HasCause, Rose}
 use Rattle.outside.specs.Outside.{Files}
+use Rattle.outside.specs.Reading.{OnlyRead}
 use Rattle.catalog.specs.Drivers.{Dataset}
 use Rattle.catalog.specs.Blocks.{all_blocks}
 use Rattle.band_blocks.specs.declared.key.BlockKey.{BlockKey}
 use Rattle.band_blocks.specs.declared.key.PixelKey.{PixelKey}
 use Rattle.band_blocks.specs.Contents.{IsBlock, most_calls}
 use Rattle.band_blocks.specs.Keys.{IsKeyOf}
-use Rattle.band_blocks.specs.Open.{AreGood}
+use Rattle.band_blocks.specs.Open.{AreGood, IsUnchanged, TellsChange}
+use Rattle.band_blocks.specs.declared.fault.LoadFault.{LoadFault}
+use Rattle.band_blocks.specs.declared.fault.LoadFault.TheVariants.{FolderFault, Changed, Memory}
 use Rattle.block_cache.specs.declared.pool.Entry.{Entry}
 use Rattle.block_cache.specs.Entries.{PoolView, moved_to_front, admitted, held_at, IsPool, pool_view}
 use Rattle.nearest_window.specs.declared.indexes.Kept.{Kept}
-use Rattle.nearest_window.specs.Right.{AreBlocks, AreRecalled, IsIndexIn, IsReady, IsRight, LaneState, lane_state, Serves, slack_of, state_of}
+use Rattle.nearest_window.specs.Right.{AreBlocks, AreRecalled, IsAnswered, IsFit, IsIndexIn, IsReady, IsRight, LaneState, lane_state, Serves, slack_of, state_of, TellsChangeIn}
 use Rattle.nearest_window.specs.Lanes.{IsKept, IsUsed, LaneView, lane_view}
 use Rattle.outside.specs.declared.folder.Folder.{Ghosts}
 use Rattle.nearest_window.proofs.Keys.{length_moved, are_blocks_moved, are_blocks_admitted, length_admitted, length_admitted_new}
@@ -227,3 +232,114 @@ module _ {File : Type 0} (bytes : File → Option (List ℕ)) (len : File → �
 pub ready_then : {F File Draft : Type 0} (calls : Ghosts F File Draft) (cat : List Dataset) (slack : ℕ) (folder folder' : F) (lane lane' : LaneView File) (loads loads' : ℕ) → IsReady calls folder cat lane
     → Serves calls.file_bytes calls.file_len cat slack (state_of calls folder lane loads) (state_of calls folder' lane' loads') → IsReady calls folder' cat lane'
 ready_then calls cat slack folder folder' lane lane' loads loads' ready served = record { right = served.right; walked = λ m e. ready.walked m (sym served.told ∙ e) }
+
+-- a call that is refused gives nothing
+pub none_given : {T E : Type 0} (r : Result T E) (P : Type 0) (e : E) → IsErr r × IsErrAnd r (λ x. x ≡ e) → OnOk r P
+none_given (Ok x) P e h = absurd h.1
+none_given (Err y) P e h = tt
+
+pub no_value : {T E : Type 0} (r : Result T E) (P : T → Type 0) (e : E) → IsErr r × IsErrAnd r (λ x. x ≡ e) → IfOk r P
+no_value (Ok x) P e h = absurd h.1
+no_value (Err y) P e h = tt
+
+-- what a fault tells of a dataset it tells of the catalog
+pub tells_in : (cat : List Dataset) (id : ℕ) (d : Dataset) → slice_get cat id ≡ Some d → (f : LoadFault) → TellsChange d f → TellsChangeIn cat f
+tells_in cat id d at FolderFault h = tt
+tells_in cat id d at (Changed name was now) h = (id, d, at, h)
+tells_in cat id d at Memory h = tt
+
+-- the reads of so many loads
+pub reads_between : (m r r' l l' : ℕ) → l ≤ l' → r' + m * l ≤ r + m * l' → r' ≤ r + m * (l' - l)
+reads_between m r r' l l' more most =
+    let sum : l' ≡ l + (l' - l) = omega arith in
+    let apart : m * (l + (l' - l)) ≡ m * l + m * (l' - l) = grind arith in
+    let all : m * l' ≡ m * (l + (l' - l)) = ap (λ n. m * n) sum in
+    omega arith
+
+rose_later : (a b c : ℕ) → a ≤ b → Rose b c → Rose a c
+rose_later a b c later rose = omega arith
+
+module _ {F File Draft : Type 0} (calls : Ghosts F File Draft) (cat : List Dataset) where
+  -- a lane that was fit is fit after what served
+  pub fit_then : {shown : Option Files} {known : List Dataset} {slack : ℕ} {folder folder' : F} {lane lane' : LaneView File} {loads loads' : ℕ} → IsFit calls shown known folder cat lane
+      → Serves calls.file_bytes calls.file_len cat slack (state_of calls folder lane loads) (state_of calls folder' lane' loads') → IsFit calls shown known folder' cat lane'
+  fit_then fit served = record {
+    ready = record { right = served.right; walked = λ m e. fit.ready.walked m (sym served.told ∙ e) };
+    told = fit.told ∙ sym served.told;
+    scene = fit.scene;
+  }
+
+  -- a lane that stays as it was is fit
+  pub fit_same : {shown : Option Files} {known : List Dataset} {folder : F} {lane lane' : LaneView File} → IsFit calls shown known folder cat lane → lane' ≡ lane → IsFit calls shown known folder cat lane'
+  fit_same {shown} {known} {folder} fit same = subst (λ (l : LaneView File). IsFit calls shown known folder cat l) (sym same) fit
+
+  -- a ready lane stays as it is
+  pub serves_still : (folder : F) (lane : LaneView File) (loads : ℕ) → IsReady calls folder cat lane → Serves calls.file_bytes calls.file_len cat 0 (state_of calls folder lane loads) (state_of calls folder lane loads)
+  serves_still folder lane loads ready = serves_refl calls.file_bytes calls.file_len cat (state_of calls folder lane loads) ready.right
+
+  -- a call that isn't refused
+  pub answered_ok : {T : Type 0} (x : T) {folder folder' : F} {lane lane' : LaneView File} {loads loads' : ℕ} → Serves calls.file_bytes calls.file_len cat 0 (state_of calls folder lane loads) (state_of calls folder' lane' loads')
+      → IsAnswered calls cat (Ok x) folder lane loads folder' lane' loads'
+  answered_ok x s = record { serves = s; cause = record { later = s.faults; failed = λ e. cc }; changed = tt; never = λ m e. tt }
+
+  -- a call that is refused for memory alone
+  pub answered_memory : {T : Type 0} (r : Result T LoadFault) {folder folder' : F} {lane lane' : LaneView File} {loads loads' : ℕ} → IfErr r (λ e. e ≡ Memory)
+      → Serves calls.file_bytes calls.file_len cat (slack_of r) (state_of calls folder lane loads) (state_of calls folder' lane' loads') → IsAnswered calls cat r folder lane loads folder' lane' loads'
+  answered_memory (Ok x) h s = answered_ok x s
+  answered_memory (Err f) h s = record {
+    serves = s;
+    cause = record { later = s.faults; failed = λ e. cc };
+    changed = subst (TellsChangeIn cat) (sym h) tt;
+    never = λ m e. subst IsUnchanged (sym h) tt;
+  }
+
+  -- memory is refused after what served
+  pub refused_memory : {T : Type 0} (r : Result T LoadFault) {folder folder' : F} {lane lane' : LaneView File} {loads loads' : ℕ} → IsErr r × IsErrAnd r (λ e. e ≡ Memory)
+      → Serves calls.file_bytes calls.file_len cat 0 (state_of calls folder lane loads) (state_of calls folder' lane' loads') → IsAnswered calls cat r folder lane loads folder' lane' loads'
+  refused_memory (Ok x) h s = absurd h.1
+  refused_memory (Err f) h s = answered_memory (Err f) h.1 (serves_slack calls.file_bytes calls.file_len cat _ _ s)
+
+  -- a call answers after what served
+  pub answered_then : {T : Type 0} (r : Result T LoadFault) {folder between folder' : F} {lane midway lane' : LaneView File} {loads counted loads' : ℕ} → Serves calls.file_bytes calls.file_len cat 0 (state_of calls folder lane loads) (state_of calls between midway counted)
+      → IsAnswered calls cat r between midway counted folder' lane' loads' → IsAnswered calls cat r folder lane loads folder' lane' loads'
+  answered_then r s a = record {
+    serves = serves_trans calls.file_bytes calls.file_len cat (slack_of r) _ _ _ s a.serves;
+    cause = record { later = omega (arith, s.faults, a.serves.faults); failed = λ e. rose_later _ _ _ s.faults (a.cause.failed e) };
+    changed = a.changed;
+    never = λ m e. a.never m (s.told ∙ e);
+  }
+
+  -- a call answers, from a lane that stayed as it was
+  pub answered_same : {T : Type 0} (r : Result T LoadFault) {folder folder' : F} {lane midway lane' : LaneView File} {loads loads' : ℕ} → midway ≡ lane → IsAnswered calls cat r folder midway loads folder' lane' loads' → IsAnswered calls cat r folder lane loads folder' lane' loads'
+  answered_same r {folder} {folder'} {lane} {midway} {lane'} {loads} {loads'} same a = subst (λ (l : LaneView File). IsAnswered calls cat r folder l loads folder' lane' loads') same a
+
+  -- a fault is handed on
+  pub refused : {T U : Type 0} (r : Result U LoadFault) (f : LoadFault) {folder folder' : F} {lane lane' : LaneView File} {loads loads' : ℕ} → IsErr r × IsErrAnd r (λ e. e ≡ f) → IsAnswered {T = T} calls cat (Err f) folder lane loads folder' lane' loads'
+      → IsAnswered calls cat r folder lane loads folder' lane' loads'
+  refused (Ok x) f h a = absurd h.1
+  refused (Err d) f h a = record {
+    serves = a.serves;
+    cause = record { later = a.cause.later; failed = λ e. a.cause.failed (let same : f ≡ FolderFault = cc in ap Err same) };
+    changed = subst (TellsChangeIn cat) (sym h.1) a.changed;
+    never = λ m e. subst IsUnchanged (sym h.1) (a.never m e);
+  }
+
+  -- a fault is handed on after what served
+  pub refused_then : {T U : Type 0} (r : Result U LoadFault) (f : LoadFault) {folder between folder' : F} {lane midway lane' : LaneView File} {loads counted loads' : ℕ} → IsErr r × IsErrAnd r (λ e. e ≡ f)
+      → Serves calls.file_bytes calls.file_len cat 0 (state_of calls folder lane loads) (state_of calls between midway counted) → IsAnswered {T = T} calls cat (Err f) between midway counted folder' lane' loads' → IsAnswered calls cat r folder lane loads folder' lane' loads'
+  refused_then {T} r f h s a = answered_then r s (refused {T = T} r f h a)
+
+  -- a fault of a call of its own
+  pub refused_for : {T U : Type 0} (r : Result U LoadFault) (f : LoadFault) {folder folder' : F} {lane lane' : LaneView File} {loads loads' : ℕ} → IsErr r × IsErrAnd r (λ e. e ≡ f) → Serves calls.file_bytes calls.file_len cat 1 (state_of calls folder lane loads) (state_of calls folder' lane' loads')
+      → HasCause {T = T} FolderFault (calls.faults folder) (calls.faults folder') (Err f) → TellsChangeIn cat f → ((m : Files) → calls.names folder ≡ Some m → IsUnchanged f) → IsAnswered calls cat r folder lane loads folder' lane' loads'
+  refused_for {T} r f h s cause changed never = refused {T = T} r f h (record { serves = s; cause = cause; changed = changed; never = never })
+
+  -- a pixel was read by itself, while the pool was full
+  pub serves_read : (slack : ℕ) (inside : LaneView File) (files : List (ℕ × File)) (key : BlockKey) (d : Dataset) {folder folder' : F} {lane : LaneView File} {loads loads' : ℕ} → inside ≡ lane → IsReady calls folder cat lane → IsKeyOf cat key d
+      → held_at key lane.pool.entries ≡ None → lane.pool.capacity ≤ length lane.pool.entries → OnlyRead calls folder folder' → AreGood calls.file_bytes calls.file_len (calls.names folder') cat files → calls.read_calls folder' ≤ calls.read_calls folder + most_calls cat → loads' ≡ loads + 1
+      → Serves calls.file_bytes calls.file_len cat slack (state_of calls folder lane loads) (state_of calls folder' (lane_view inside.pool files inside.made inside.indexes inside.recalled) loads')
+  serves_read slack inside files key d {folder} {folder'} {lane} {loads} {loads'} same ready key_of absent full only_read good most count =
+      subst (λ (l : LaneView File). IsReady calls folder cat l → held_at key l.pool.entries ≡ None → l.pool.capacity ≤ length l.pool.entries → Serves calls.file_bytes calls.file_len cat slack (state_of calls folder l loads) (state_of calls folder' (lane_view inside.pool files inside.made inside.indexes inside.recalled) loads')) same
+      (λ r a f. rw count (serves_alone calls.file_bytes calls.file_len cat slack (calls.names folder) (calls.names folder') inside.pool inside.files files inside.made inside.indexes inside.recalled (calls.faults folder) (calls.faults folder') (calls.read_calls folder) (calls.read_calls folder') (calls.write_calls folder) (calls.write_calls folder') loads key d
+      r.right key_of a f only_read.names only_read.writes good only_read.faults most))
+      ready absent full

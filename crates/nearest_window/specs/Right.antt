@@ -1,9 +1,10 @@
 -- When a lane is right for a catalog and a folder, and what a call does to a lane.
 use Rattle.std.specs.Prelude.{◌≡◌, ℕ, ℤ, true, ◌+◌, ◌*◌, ◌≤◌, List, All, length, Option, Some, None, IfSome, Contains}
-use Rattle.std.specs.Prelude.{Result, Ok, Err, option_map, slice_get}
+use Rattle.std.specs.Prelude.{Result, Ok, Err, IfErr, option_map, slice_get}
 use Rattle.geotransform.specs.Types.{is_in}
 use Rattle.geotransform.specs.declared.types.PixelType.{PixelType}
 use Rattle.geotransform.specs.declared.types.Rect.{Rect}
+use Rattle.outside.specs.Causes.{HasCause}
 use Rattle.outside.specs.Outside.{Files}
 use Rattle.outside.specs.Reading.{WhereTold}
 use Rattle.outside.specs.declared.folder.Folder.{Ghosts}
@@ -21,7 +22,7 @@ use Rattle.band_blocks.specs.Contents.{IsBlock, IsOfBand, most_calls}
 use Rattle.band_blocks.specs.Keys.{IsKeyOf}
 use Rattle.band_blocks.specs.declared.fault.LoadFault.{LoadFault}
 use Rattle.band_blocks.specs.declared.fault.LoadFault.TheVariants.{FolderFault, Changed, Memory}
-use Rattle.band_blocks.specs.Open.{AreGood, TellsChange}
+use Rattle.band_blocks.specs.Open.{AreGood, IsUnchanged, TellsChange}
 use Rattle.block_cache.specs.declared.pool.Entry.{Entry}
 use Rattle.block_cache.specs.Entries.{PoolView, IsPool}
 use Rattle.nearest_window.specs.declared.indexes.Kept.{Kept}
@@ -94,6 +95,13 @@ pub record IsReady {F File Draft : Type 0} (calls : Ghosts F File Draft) (folder
 abbrev pub IsFresh : {F File Draft : Type 0} → Ghosts F File Draft → LaneView File → Type 0
 IsFresh {F} calls lane = (folder : F) (cat : List Dataset) → WhereTold calls folder (λ m. IsWalked m cat) →
     IsReady calls folder cat lane
+
+-- The lane is ready for a catalog and a folder, and lines stand for both: for what the folder tells, and that catalog.
+pub record IsFit {F File Draft : Type 0} (calls : Ghosts F File Draft) (shown : Option Files) (known : List Dataset)
+    (folder : F) (cat : List Dataset) (lane : LaneView File) : Type 0 where
+  pub ready : IsReady calls folder cat lane
+  pub told : shown ≡ calls.names folder
+  pub scene : known ≡ cat
 
 -- a lane with its folder and its count of loads, at one moment
 pub record LaneState (File : Type 0) : Type 0 where
@@ -176,3 +184,14 @@ TellsChangeIn cat FolderFault = Unit {0}
 TellsChangeIn cat (Changed name was now) = (id : ℕ) × (d : Dataset) × (slice_get cat id ≡ Some d) ×
     TellsChange d (Changed name was now)
 TellsChangeIn cat Memory = Unit {0}
+
+-- What a call that reads answers, and what it does to a lane, its folder and its count of loads. A fault of the folder
+-- comes only where the folder's count of faults rose. A fault that says that a file changed tells what was found, and
+-- comes never over a folder that tells its files.
+pub record IsAnswered {F File Draft T : Type 0} (calls : Ghosts F File Draft) (cat : List Dataset)
+    (result : Result T LoadFault) (folder : F) (lane : LaneView File) (loads : ℕ) (folder' : F) (lane' : LaneView File)
+    (loads' : ℕ) : Type 0 where
+  pub serves : Served calls cat result folder lane loads folder' lane' loads'
+  pub cause : HasCause FolderFault (calls.faults folder) (calls.faults folder') result
+  pub changed : IfErr result (TellsChangeIn cat)
+  pub never : WhereTold calls folder (λ _. IfErr result IsUnchanged)

@@ -3,13 +3,10 @@ ghost use Rattle.std.specs.Prelude.{◌≡◌, ⊤, ℕ, Option, ◌+◌, ◌*�
 ghost use Rattle.std.specs.Prelude.{OnOk, OnErr, IfSome, is_some, false, true, slice_get};
 ghost use Rattle.std.specs.Option.{IsSomeAnd};
 ghost use Rattle.std.specs.List.{All};
-ghost use Rattle.outside.specs.Causes.{HasCause};
 ghost use Rattle.outside.specs.Outside.{Files};
-ghost use Rattle.outside.specs.Reading.{WhereTold};
 ghost use Rattle.catalog.specs.Drivers.{Dataset};
 ghost use Rattle.catalog.specs.Places.{IsWithin};
 ghost use Rattle.band_blocks.specs.Keys.{IsKey};
-ghost use Rattle.band_blocks.specs.Open.{IsUnchanged};
 ghost use Rattle.band_blocks.specs.Samples.{IsDirect};
 ghost use Rattle.block_cache.specs.Entries.{pool_view, entry_of, held_at, moved_to_front, admitted, IsPool};
 ghost use Rattle.nearest_window.specs.Canvases.{IsCanvas, IsSourceTaken};
@@ -17,8 +14,8 @@ ghost use Rattle.nearest_window.specs.Lanes.{IsHeldWith, IsKept, IsUsed, LaneVie
 ghost use Rattle.nearest_window.specs.Lanes.{room_of};
 ghost use Rattle.nearest_window.specs.Painted.{IsPainted, in_columns};
 ghost use Rattle.nearest_window.specs.Pictures.{IsPicture, from_block};
-ghost use Rattle.nearest_window.specs.Right.{AreRecalled, IsFresh, IsIndexIn, IsPartBlock, IsReady, IsRightLane};
-ghost use Rattle.nearest_window.specs.Right.{IsFileKey, IsMosaicKey, Served, Serves, state_of, TellsChangeIn};
+ghost use Rattle.nearest_window.specs.Right.{AreRecalled, IsAnswered, IsFit, IsFresh, IsIndexIn, IsPartBlock};
+ghost use Rattle.nearest_window.specs.Right.{IsFileKey, IsMosaicKey, IsReady, IsRightLane, Serves, state_of};
 ghost use Rattle.nearest_window.specs.Shown.{IsAreaOf, IsPictureOf, IsPartOf, IsLonePart};
 ghost use Rattle.nearest_window.specs.Taken.{place_at};
 ghost use Rattle.nearest_window.specs.Wanted.{IsWanted, numbers_of};
@@ -310,9 +307,7 @@ impl<F: Folder> Lane<F> {
 
     // Whether the lines show a block, which is then kept. It isn't where memory is refused.
     fn takes_shown<S: Scene>(&mut self, supply: &Supply<S>, folder: &F, key: BlockKey) -> bool
-        requires ready { IsReady F.Folder folder.now supply.now.cat.now self.old }
-        requires told { S.told ≡ F.names folder.now }
-        requires scene { S.cat ≡ supply.now.cat.now }
+        requires fit { IsFit F.Folder S.told S.cat folder.now supply.now.cat.now self.old }
         requires key { IsKey supply.now.cat.now key }
         ensures serves { (loads : ℕ) → Serves F.file_bytes F.file_len supply.now.cat.now 0
             (state_of F.Folder folder.now self.old loads) (state_of F.Folder folder.now self.new loads) }
@@ -331,13 +326,11 @@ impl<F: Folder> Lane<F> {
 
     // Whether a block is held, or is so now since the lines showed it.
     pub(crate) fn finds<S: Scene>(&mut self, supply: &Supply<S>, folder: &F, key: BlockKey) -> bool
-        requires ready { IsReady F.Folder folder.now supply.now.cat.now self.old }
-        requires told { S.told ≡ F.names folder.now }
-        requires scene { S.cat ≡ supply.now.cat.now }
+        requires fit { IsFit F.Folder S.told S.cat folder.now supply.now.cat.now self.old }
         requires key { IsKey supply.now.cat.now key }
         ensures serves { (loads : ℕ) → Serves F.file_bytes F.file_len supply.now.cat.now 0
             (state_of F.Folder folder.now self.old loads) (state_of F.Folder folder.now self.new loads) }
-        ensures ready { IsReady F.Folder folder.now supply.now.cat.now self.new }
+        ensures fit { IsFit F.Folder S.told S.cat folder.now supply.now.cat.now self.new }
         ensures held { result ≡ true → IsHeldWith key self.new (λ _. ⊤) }
         ensures absent { result ≡ false → held_at key self.new.pool.entries ≡ None }
     {
@@ -355,16 +348,11 @@ impl<F: Folder> Lane<F> {
         key: BlockKey,
         loads: &mut Counter<L>,
     ) -> Result<(), LoadFault>
-        requires ready { IsReady F.Folder folder.old supply.now.cat.now self.old }
-        requires told { S.told ≡ F.names folder.old }
-        requires scene { S.cat ≡ supply.now.cat.now }
+        requires fit { IsFit F.Folder S.told S.cat folder.old supply.now.cat.now self.old }
         requires key { IsFileKey supply.now.cat.now key }
         requires absent { held_at key self.old.pool.entries ≡ None }
-        ensures serves { Served F.Folder supply.now.cat.now result folder.old self.old loads.old folder.new self.new
-            loads.new }
-        ensures cause { HasCause LoadFault.FolderFault (F.faults folder.old) (F.faults folder.new) result }
-        ensures changed { IfErr result (TellsChangeIn supply.now.cat.now) }
-        ensures never { WhereTold F.Folder folder.old (λ _. IfErr result IsUnchanged) }
+        ensures answered { IsAnswered F.Folder supply.now.cat.now result folder.old self.old loads.old folder.new
+            self.new loads.new }
         ensures held { OnOk result (IsHeldWith key self.new (λ _. ⊤)) }
     {
         let block = load_block(
@@ -439,10 +427,8 @@ impl<F: Folder> Lane<F> {
         requires within { (d : Dataset) → slice_get cat.now key.dataset ≡ Some d → IsWithin rect d.head.size }
         requires narrow { rect.w ≡ 1 }
         requires low { rect.h ≡ 1 }
-        ensures serves { Served F.Folder cat.now result folder.old self.old loads.old folder.new self.new loads.new }
-        ensures cause { HasCause LoadFault.FolderFault (F.faults folder.old) (F.faults folder.new) result }
-        ensures changed { IfErr result (TellsChangeIn cat.now) }
-        ensures never { WhereTold F.Folder folder.old (λ _. IfErr result IsUnchanged) }
+        ensures answered { IsAnswered F.Folder cat.now result folder.old self.old loads.old folder.new self.new
+            loads.new }
         ensures block { IfOk result (λ b. IsPartBlock (F.names folder.new) cat.now key rect b) }
     {
         let pixel = PixelKey {

@@ -1,15 +1,12 @@
 // How a lane fills pictures: from blocks that it holds, loads or makes, each of which may need pictures of other
 // mosaics.
-ghost use Rattle.std.specs.Prelude.{◌≡◌, ⊤, ◌+◌, ◌*◌, ◌^◌, ◌<◌, ◌≤◌, Some, None, length, IfErr, IfOk, OnOk, slice_get};
-ghost use Rattle.outside.specs.Causes.{HasCause};
-ghost use Rattle.outside.specs.Reading.{WhereTold};
+ghost use Rattle.std.specs.Prelude.{◌≡◌, ⊤, ◌+◌, ◌*◌, ◌^◌, ◌<◌, ◌≤◌, Some, None, length, IfOk, OnOk, slice_get};
 ghost use Rattle.catalog.specs.Drivers.{Dataset};
 ghost use Rattle.catalog.specs.Places.{IsWithin};
 ghost use Rattle.band_blocks.specs.Keys.{IsKey};
-ghost use Rattle.band_blocks.specs.Open.{IsUnchanged};
 ghost use Rattle.nearest_window.specs.Canvases.{IsCanvas, IsSourceTaken};
 ghost use Rattle.nearest_window.specs.Lanes.{IsHeldWith};
-ghost use Rattle.nearest_window.specs.Right.{IsPartBlock, IsReady, IsMosaicKey, Served, TellsChangeIn};
+ghost use Rattle.nearest_window.specs.Right.{IsAnswered, IsFit, IsPartBlock, IsMosaicKey};
 ghost use Rattle.nearest_window.specs.Shown.{AreTyped, IsAreaOf, IsPictureOf, IsShown, IsTyped, IsBandOf, IsPartOf};
 ghost use Rattle.nearest_window.specs.Shown.{IsSourceOf};
 
@@ -40,15 +37,10 @@ impl<F: Folder> Lane<F> {
         key: BlockKey,
         loads: &mut Counter<L>,
     ) -> Result<(), LoadFault>
-        requires ready { IsReady F.Folder folder.old supply.now.cat.now self.old }
-        requires told { S.told ≡ F.names folder.old }
-        requires scene { S.cat ≡ supply.now.cat.now }
+        requires fit { IsFit F.Folder S.told S.cat folder.old supply.now.cat.now self.old }
         requires key { IsKey supply.now.cat.now key }
-        ensures serves { Served F.Folder supply.now.cat.now result folder.old self.old loads.old folder.new self.new
-            loads.new }
-        ensures cause { HasCause LoadFault.FolderFault (F.faults folder.old) (F.faults folder.new) result }
-        ensures changed { IfErr result (TellsChangeIn supply.now.cat.now) }
-        ensures never { WhereTold F.Folder folder.old (λ _. IfErr result IsUnchanged) }
+        ensures answered { IsAnswered F.Folder supply.now.cat.now result folder.old self.old loads.old folder.new
+            self.new loads.new }
         ensures held { OnOk result (IsHeldWith key self.new (λ _. ⊤)) }
     {
         if self.finds(supply, folder, key) {
@@ -75,19 +67,14 @@ impl<F: Folder> Lane<F> {
         part: Part,
         loads: &mut Counter<L>,
     ) -> Result<Block, LoadFault>
-        requires ready { IsReady F.Folder folder.old supply.now.cat.now self.old }
-        requires told { S.told ≡ F.names folder.old }
-        requires scene { S.cat ≡ supply.now.cat.now }
+        requires fit { IsFit F.Folder S.told S.cat folder.old supply.now.cat.now self.old }
         requires key { IsMosaicKey supply.now.cat.now key part.band.now }
         requires sources { length part.band.now.sources < 2 ^ 32 }
         requires within { (d : Dataset) → slice_get supply.now.cat.now key.dataset ≡ Some d →
             IsWithin part.rect d.head.size }
         requires few { part.rect.w * part.rect.h < 2 ^ 32 }
-        ensures serves { Served F.Folder supply.now.cat.now result folder.old self.old loads.old folder.new self.new
-            loads.new }
-        ensures cause { HasCause LoadFault.FolderFault (F.faults folder.old) (F.faults folder.new) result }
-        ensures changed { IfErr result (TellsChangeIn supply.now.cat.now) }
-        ensures never { WhereTold F.Folder folder.old (λ _. IfErr result IsUnchanged) }
+        ensures answered { IsAnswered F.Folder supply.now.cat.now result folder.old self.old loads.old folder.new
+            self.new loads.new }
         ensures block { IfOk result (λ b. IsPartBlock (F.names folder.new) supply.now.cat.now key part.entry.rect b) }
     {
         if let Some(block) = self.recall(supply.alloc, supply.cat, key, part.rect) {
@@ -110,19 +97,14 @@ impl<F: Folder> Lane<F> {
         rect: Rect,
         loads: &mut Counter<L>,
     ) -> Result<Block, LoadFault>
-        requires ready { IsReady F.Folder folder.old supply.now.cat.now self.old }
-        requires told { S.told ≡ F.names folder.old }
-        requires scene { S.cat ≡ supply.now.cat.now }
+        requires fit { IsFit F.Folder S.told S.cat folder.old supply.now.cat.now self.old }
         requires key { IsMosaicKey supply.now.cat.now key band.now }
         requires sources { length band.now.sources < 2 ^ 32 }
         requires within { (d : Dataset) → slice_get supply.now.cat.now key.dataset ≡ Some d →
             IsWithin rect d.head.size }
         requires few { rect.w * rect.h < 2 ^ 32 }
-        ensures serves { Served F.Folder supply.now.cat.now result folder.old self.old loads.old folder.new self.new
-            loads.new }
-        ensures cause { HasCause LoadFault.FolderFault (F.faults folder.old) (F.faults folder.new) result }
-        ensures changed { IfErr result (TellsChangeIn supply.now.cat.now) }
-        ensures never { WhereTold F.Folder folder.old (λ _. IfErr result IsUnchanged) }
+        ensures answered { IsAnswered F.Folder supply.now.cat.now result folder.old self.old loads.old folder.new
+            self.new loads.new }
         ensures block { IfOk result (λ b. IsPartBlock (F.names folder.new) supply.now.cat.now key rect b) }
     {
         // This call is made for the proof: it says what holds of every catalog.
@@ -159,18 +141,13 @@ impl<F: Folder> Lane<F> {
         canvas: &mut Canvas,
         loads: &mut Counter<L>,
     ) -> Result<(), LoadFault>
-        requires ready { IsReady F.Folder folder.old supply.now.cat.now self.old }
-        requires told { S.told ≡ F.names folder.old }
-        requires scene { S.cat ≡ supply.now.cat.now }
+        requires fit { IsFit F.Folder S.told S.cat folder.old supply.now.cat.now self.old }
         requires source { IsSourceOf supply.now.cat.now source.key source.number source.source.now }
         requires within { (d : Dataset) → slice_get supply.now.cat.now source.key.dataset ≡ Some d →
             IsWithin canvas.old.rect d.head.size }
         requires canvas { IsCanvas canvas.old }
-        ensures serves { Served F.Folder supply.now.cat.now result folder.old self.old loads.old folder.new self.new
-            loads.new }
-        ensures cause { HasCause LoadFault.FolderFault (F.faults folder.old) (F.faults folder.new) result }
-        ensures changed { IfErr result (TellsChangeIn supply.now.cat.now) }
-        ensures never { WhereTold F.Folder folder.old (λ _. IfErr result IsUnchanged) }
+        ensures answered { IsAnswered F.Folder supply.now.cat.now result folder.old self.old loads.old folder.new
+            self.new loads.new }
         ensures canvas { OnOk result (IsCanvas canvas.new) }
         ensures taken { (d : Dataset) → slice_get supply.now.cat.now source.entry.key.dataset ≡ Some d →
             OnOk result (IsSourceTaken (F.names folder.new) supply.now.cat.now d source.entry.source.now canvas.old
@@ -201,16 +178,11 @@ impl<F: Folder> Lane<F> {
         out: &mut [Sample],
         loads: &mut Counter<L>,
     ) -> Result<(), LoadFault>
-        requires ready { IsReady F.Folder folder.old supply.now.cat.now self.old }
-        requires told { S.told ≡ F.names folder.old }
-        requires scene { S.cat ≡ supply.now.cat.now }
+        requires fit { IsFit F.Folder S.told S.cat folder.old supply.now.cat.now self.old }
         requires picture { IsPictureOf supply.now.cat.now picture.now }
         requires rows { length out.old ≡ picture.now.height * picture.now.stride }
-        ensures serves { Served F.Folder supply.now.cat.now result folder.old self.old loads.old folder.new self.new
-            loads.new }
-        ensures cause { HasCause LoadFault.FolderFault (F.faults folder.old) (F.faults folder.new) result }
-        ensures changed { IfErr result (TellsChangeIn supply.now.cat.now) }
-        ensures never { WhereTold F.Folder folder.old (λ _. IfErr result IsUnchanged) }
+        ensures answered { IsAnswered F.Folder supply.now.cat.now result folder.old self.old loads.old folder.new
+            self.new loads.new }
         ensures painted { OnOk result (IsShown (F.names folder.new) supply.now.cat.now picture.now 0 picture.now.width 0
             out.old out.new) }
         ensures typed { OnOk result (AreTyped supply.now.cat.now picture.now (picture.now.height * picture.now.stride)
@@ -246,19 +218,14 @@ impl<F: Folder> Lane<F> {
         out: &mut [Sample],
         loads: &mut Counter<L>,
     ) -> Result<(), LoadFault>
-        requires ready { IsReady F.Folder folder.old supply.now.cat.now self.old }
-        requires told { S.told ≡ F.names folder.old }
-        requires scene { S.cat ≡ supply.now.cat.now }
+        requires fit { IsFit F.Folder S.told S.cat folder.old supply.now.cat.now self.old }
         requires picture { IsPictureOf supply.now.cat.now picture.now }
         requires lines { lines.first + lines.count ≤ picture.now.height }
         requires some { 0 < lines.count }
         requires band { IsBandOf supply.now.cat.now picture.now lines.first lines.count }
         requires rows { length out.old ≡ lines.count * picture.now.stride }
-        ensures serves { Served F.Folder supply.now.cat.now result folder.old self.old loads.old folder.new self.new
-            loads.new }
-        ensures cause { HasCause LoadFault.FolderFault (F.faults folder.old) (F.faults folder.new) result }
-        ensures changed { IfErr result (TellsChangeIn supply.now.cat.now) }
-        ensures never { WhereTold F.Folder folder.old (λ _. IfErr result IsUnchanged) }
+        ensures answered { IsAnswered F.Folder supply.now.cat.now result folder.old self.old loads.old folder.new
+            self.new loads.new }
         ensures painted { OnOk result (IsShown (F.names folder.new) supply.now.cat.now picture.now 0 picture.now.width
             lines.first out.old out.new) }
         ensures typed { OnOk result (IsTyped supply.now.cat.now picture.now 0 picture.now.width out.old out.new) }
@@ -285,19 +252,14 @@ impl<F: Folder> Lane<F> {
         out: &mut [Sample],
         loads: &mut Counter<L>,
     ) -> Result<(), LoadFault>
-        requires ready { IsReady F.Folder folder.old supply.now.cat.now self.old }
-        requires told { S.told ≡ F.names folder.old }
-        requires scene { S.cat ≡ supply.now.cat.now }
+        requires fit { IsFit F.Folder S.told S.cat folder.old supply.now.cat.now self.old }
         requires picture { IsPictureOf supply.now.cat.now picture.now }
         requires lines { lines.first + lines.count ≤ picture.now.height }
         requires some { 0 < lines.count }
         requires band { IsBandOf supply.now.cat.now picture.now lines.first lines.count }
         requires rows { length out.old ≡ lines.count * picture.now.stride }
-        ensures serves { Served F.Folder supply.now.cat.now result folder.old self.old loads.old folder.new self.new
-            loads.new }
-        ensures cause { HasCause LoadFault.FolderFault (F.faults folder.old) (F.faults folder.new) result }
-        ensures changed { IfErr result (TellsChangeIn supply.now.cat.now) }
-        ensures never { WhereTold F.Folder folder.old (λ _. IfErr result IsUnchanged) }
+        ensures answered { IsAnswered F.Folder supply.now.cat.now result folder.old self.old loads.old folder.new
+            self.new loads.new }
         ensures painted { OnOk result (IsShown (F.names folder.new) supply.now.cat.now picture.now 0 picture.now.width
             lines.first out.old out.new) }
         ensures typed { OnOk result (IsTyped supply.now.cat.now picture.now 0 picture.now.width out.old out.new) }
@@ -332,18 +294,13 @@ impl<F: Folder> Lane<F> {
         out: &mut [Sample],
         loads: &mut Counter<L>,
     ) -> Result<(), LoadFault>
-        requires ready { IsReady F.Folder folder.old supply.now.cat.now self.old }
-        requires told { S.told ≡ F.names folder.old }
-        requires scene { S.cat ≡ supply.now.cat.now }
+        requires fit { IsFit F.Folder S.told S.cat folder.old supply.now.cat.now self.old }
         requires picture { IsPictureOf supply.now.cat.now picture.now }
         requires piece { IsPartOf supply.now.cat.now picture.now piece }
         requires area { IsAreaOf picture.now piece.area }
         requires rows { length out.old ≡ piece.area.lines * picture.now.stride }
-        ensures serves { Served F.Folder supply.now.cat.now result folder.old self.old loads.old folder.new self.new
-            loads.new }
-        ensures cause { HasCause LoadFault.FolderFault (F.faults folder.old) (F.faults folder.new) result }
-        ensures changed { IfErr result (TellsChangeIn supply.now.cat.now) }
-        ensures never { WhereTold F.Folder folder.old (λ _. IfErr result IsUnchanged) }
+        ensures answered { IsAnswered F.Folder supply.now.cat.now result folder.old self.old loads.old folder.new
+            self.new loads.new }
         ensures painted { OnOk result (IsShown (F.names folder.new) supply.now.cat.now picture.now piece.area.column
             piece.area.columns piece.area.line out.old out.new) }
         ensures typed { OnOk result (IsTyped supply.now.cat.now picture.now piece.area.column piece.area.columns out.old
@@ -376,16 +333,11 @@ impl<F: Folder> Lane<F> {
         out: &mut [Sample],
         loads: &mut Counter<L>,
     ) -> Result<(), LoadFault>
-        requires ready { IsReady F.Folder folder.old supply.now.cat.now self.old }
-        requires told { S.told ≡ F.names folder.old }
-        requires scene { S.cat ≡ supply.now.cat.now }
+        requires fit { IsFit F.Folder S.told S.cat folder.old supply.now.cat.now self.old }
         requires picture { IsPictureOf supply.now.cat.now picture.now }
         requires rows { length out.old ≡ picture.now.height * picture.now.stride }
-        ensures serves { Served F.Folder supply.now.cat.now result folder.old self.old loads.old folder.new self.new
-            loads.new }
-        ensures cause { HasCause LoadFault.FolderFault (F.faults folder.old) (F.faults folder.new) result }
-        ensures changed { IfErr result (TellsChangeIn supply.now.cat.now) }
-        ensures never { WhereTold F.Folder folder.old (λ _. IfErr result IsUnchanged) }
+        ensures answered { IsAnswered F.Folder supply.now.cat.now result folder.old self.old loads.old folder.new
+            self.new loads.new }
         ensures painted { OnOk result (IsShown (F.names folder.new) supply.now.cat.now picture.now 0 picture.now.width 0
             out.old out.new) }
         ensures typed { OnOk result (AreTyped supply.now.cat.now picture.now (picture.now.height * picture.now.stride)

@@ -1,10 +1,14 @@
-use Rattle.std.proofs.Common.{sym, subst}
-use Rattle.nearest_window.specs.Right.{IsReady, Served}
+use Rattle.nearest_window.proofs.Service.{answered_same, fit_same}
 use Rattle.nearest_window.proofs.lane.Lane.paint_window.Goals as goal
 
-pub paint_picture-requires-clause-ready : goal.paint_picture-requires-clause-ready
-paint_picture-requires-clause-ready g c κs within = subst (λ lane. IsReady g.F.Folder c.args.folder.now c.args.supply.now.cat.now lane) (sym c.begin.ensures.same) c.requires.ready
+pub paint_picture-requires-clause-fit : goal.paint_picture-requires-clause-fit
+paint_picture-requires-clause-fit g c κs within = fit_same g.F.Folder c.args.supply.now.cat.now c.requires.fit c.begin.ensures.same
 
-pub returns-clause-serves : goal.returns-clause-serves
-returns-clause-serves g c =
-    subst (λ lane. Served g.F.Folder c.args.supply.now.cat.now c.paint_picture.result c.args.folder.now lane c.args.loads.now c.paint_picture.new.folder c.paint_picture.new.self c.paint_picture.new.loads) c.begin.ensures.same c.paint_picture.ensures.serves
+pub returns-clause-answered : goal.returns-clause-answered
+returns-clause-answered g c = answered_same g.F.Folder c.args.supply.now.cat.now c.paint_picture.result c.begin.ensures.same c.paint_picture.ensures.answered
+
+pub returns-clause-painted : goal.returns-clause-painted
+returns-clause-painted g c = c.paint_picture.ensures.painted
+
+pub returns-clause-typed : goal.returns-clause-typed
+returns-clause-typed g c = c.paint_picture.ensures.typed
