@@ -22,3 +22,6 @@ returns-clause-met g c = on_ok c.put-done.result _ _ (λ put some. subst (λ (t 
 
 pub returns-clause-lines : goal.returns-clause-lines
 returns-clause-lines g c = on_ok c.put-done.result _ _ (λ put. subst (λ (t : TargetView). c.put-done.new.self.lines ≡ lines_after t.output t.lines c.args.rect) c.self.view_is put.lines) c.put-done.ensures.put
+
+pub returns-clause-fault : goal.returns-clause-fault
+returns-clause-fault g c = c.err-fault.ensures.value
