@@ -30,6 +30,7 @@ pub mod PieceCounts
 pub mod Taken
 pub mod Transposed
 pub mod TileNames
+pub mod Windowed
 pub mod Windows
 pub mod Woven
 pub mod Zeros

@@ -62,20 +62,26 @@ line_more samples run old new width first columns lines n below is so_far spread
       ∙ ap (λ m. get_or samples m (pos 0)) (omega arith))
 ]
 
+-- a column of a group ends within it
+pub column_fits : (samples : List ℤ) (rect : Rect) (most : ℕ) (span : Span) (group : List ℤ) (x : ℕ) → length group ≡ most * rect.h → IsGroup samples rect most span group → span.first ≤ x → x < span.first + span.count
+    → (x - span.first) * rect.h + rect.h ≤ length group
+column_fits samples rect most span group x long held low high =
+    let rows = row_fits (x - span.first) rect.h most (let few = held.few in omega arith) in
+    let turned : most * rect.h ≡ rect.h * most = mul_comm most rect.h in
+    omega arith
+
+-- a group of no column
+pub no_group : (samples : List ℤ) (rect : Rect) (most : ℕ) (group : List ℤ) → IsGroup samples rect most (record { first = 0; count = 0 }) group
+no_group samples rect most group = record { few = omega arith; within = omega arith; turned = λ c l less line. absurd (omega arith) }
+
 -- a column of a group
 pub column_of : (samples : List ℤ) (rect : Rect) (most : ℕ) (span : Span) (group : List ℤ) (x : ℕ) → length group ≡ most * rect.h → IsGroup samples rect most span group → span.first ≤ x → x < span.first + span.count
     → take rect.h (drop ((x - span.first) * rect.h) group) ≡ column_in samples rect.w x rect.h
 column_of samples rect most span group x long held low high =
     fill_by_all (λ y. get_or samples (y * rect.w + x) (pos 0)) (take rect.h (drop ((x - span.first) * rect.h) group)) rect.h (pos 0)
-    (length-take-le rect.h (drop ((x - span.first) * rect.h) group) (omega (arith, length-drop ((x - span.first) * rect.h) group, fits)))
+    (length-take-le rect.h (drop ((x - span.first) * rect.h) group) (omega (arith, length-drop ((x - span.first) * rect.h) group, column_fits samples rect most span group x long held low high)))
     (λ k below.
     get_or-take rect.h (drop ((x - span.first) * rect.h) group) k (pos 0) below
     ∙ get_or-drop ((x - span.first) * rect.h) group k (pos 0)
     ∙ held.turned (x - span.first) k (omega arith) below
     ∙ ap (λ c. get_or samples (k * rect.w + c) (pos 0)) (omega arith))
-  where
-    fits : (x - span.first) * rect.h + rect.h ≤ length group
-    fits =
-        let rows = row_fits (x - span.first) rect.h most (let few = held.few in omega arith) in
-        let turned : most * rect.h ≡ rect.h * most = mul_comm most rect.h in
-        omega arith

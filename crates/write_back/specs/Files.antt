@@ -1,6 +1,6 @@
 -- The files that an output becomes.
 use Rattle.std.specs.Prelude.{◌≡◌, ◌<◌, ℕ, ℤ, zero, suc, ◌+◌, ◌-◌, ◌*◌, ◌/◌, ◌%◌, List, [], ◌∷◌, ◌++◌, length, map}
-use Rattle.std.specs.Prelude.{take, Option, Some, None, IsSome, Result, Ok, Err}
+use Rattle.std.specs.Prelude.{take, replicate, Option, Some, None, IsSome, Result, Ok, Err}
 use Rattle.std.specs.List.{flat_map, range_with_len}
 use Rattle.std.specs.FinMap.{insert}
 use Rattle.outside.specs.Outside.{Files}
@@ -11,6 +11,7 @@ use Rattle.esri_hdr.specs.Head.{Head, IsHead, sample_len}
 use Rattle.esri_hdr.specs.Text.{hdr_text}
 use Rattle.geotransform.specs.Geo.{IsRaster}
 use Rattle.interleaved_raw.specs.Raw.{sample_bytes}
+use Rattle.interleaved_raw.specs.Raw as raw
 use Rattle.hgt_tiles.specs.Samples.{row_bytes}
 use Rattle.hgt_tiles.specs.Places.{IsSide}
 use Rattle.dted_records.specs.Places.{record_of}
@@ -127,6 +128,15 @@ abbrev pub header_state : {D : Type 0} → (D → Option (List ℕ)) → (D → 
     Option (Option (List ℕ) × List ℕ)
 header_state bytes name None = None
 header_state bytes name (Some d) = Some (bytes d, name d)
+
+-- the drafts of new raw data and of its header, by what they tell, the length of the data and their names
+pub record AreRawDrafts (told : Option Files) (h : Head) (named : List ℕ) (bytes : Option (List ℕ)) (length_is : ℕ)
+    (data_name : List ℕ) (header : Option (List ℕ)) (header_name : List ℕ) : Type 0 where
+  pub zeros : (m : Files) → told ≡ Some m → bytes ≡ Some (replicate (raw.needed_of h) 0)
+  pub len : length_is ≡ raw.needed_of h
+  pub name : data_name ≡ named
+  pub text : (m : Files) → told ≡ Some m → header ≡ Some (hdr_text h)
+  pub beside : header_name ≡ header_of named
 
 -- a header was put over a map, where there is one and n isn't 0
 abbrev pub IsHeaderPut : Option (Option (List ℕ) × List ℕ) → ℕ → Files → Option Files → Type 0

@@ -6,7 +6,8 @@ ghost use Rattle.translate_plan.specs.declared.options.Driver.TheVariants.{AaiGr
 ghost use Rattle.write_back.specs.declared.fault.TargetFault.{TargetFault};
 ghost use Rattle.write_back.specs.View.{IsZero};
 ghost use Rattle.write_back.specs.Files.{IsTarget};
-ghost use Rattle.write_back.specs.Plans.{output_of, room_of, IsNamedFor};
+ghost use Rattle.write_back.specs.Plans.{output_of, room_of, IsNamedFor, IsNew};
+ghost use Rattle.write_back.specs.Served.{IsLeftIn};
 ghost use Rattle.band_blocks.specs.Blocks.{most_blocks};
 
 use crate::TargetFault;
@@ -44,6 +45,26 @@ impl<F: Folder> Target<F> {
         ensures calls { F.write_calls folder.new ≡ F.write_calls folder.old }
         ensures cause { HasCause TargetFault.FolderFault (F.faults folder.old) (F.faults folder.new) result }
     {
+        Target::create_planned(alloc, folder, plan, name, capacity)
+    }
+
+    // Drafts for the files that a plan writes under a name.
+    fn create_planned(
+        alloc: Global,
+        folder: &mut F,
+        plan: &Plan,
+        name: &Name,
+        capacity: u32,
+    ) -> Result<Target<F>, TargetFault>
+        requires some { 1 ≤ capacity }
+        requires few { capacity ≤ most_blocks }
+        requires files { plan.now.driver ≢ Vrt }
+        requires extension { IsNamedFor plan.now name.now }
+        ensures output { IfOk result (λ t. output_of plan.now ≡ Some t.output) }
+        ensures made { IfOk result (IsNew (F.names folder.old) (F.names folder.new) name.now capacity) }
+        ensures kept { IsLeftIn F.Folder folder.old folder.new }
+        ensures cause { HasCause TargetFault.FolderFault (F.faults folder.old) (F.faults folder.new) result }
+    {
         plan.rules();
         match plan.driver {
             Driver::EHdr => {
@@ -79,15 +100,8 @@ impl<F: Folder> Target<F> {
         requires few { capacity ≤ most_blocks }
         requires level { plan.now.driver ≡ Dted level }
         ensures output { IfOk result (λ t. output_of plan.now ≡ Some t.output) }
-        ensures name { IfOk result (λ t. t.name ≡ name.now) }
-        ensures pool { IfOk result (λ t. t.pool ≡ pool_view [] (room_of t.output capacity)) }
-        ensures lines { IfOk result (λ t. t.lines ≡ 0) }
-        ensures fault { IfOk result (λ t. t.fault ≡ None) }
-        ensures target { IfOk result (λ t. IsTarget (F.names folder.new) t) }
-        ensures zeros { IfOk result (λ t. IsSome (F.names folder.old) → IsZero t) }
-        ensures names { F.names folder.new ≡ F.names folder.old }
-        ensures reads { F.read_calls folder.new ≡ F.read_calls folder.old }
-        ensures calls { F.write_calls folder.new ≡ F.write_calls folder.old }
+        ensures made { IfOk result (IsNew (F.names folder.old) (F.names folder.new) name.now capacity) }
+        ensures kept { IsLeftIn F.Folder folder.old folder.new }
         ensures cause { HasCause TargetFault.FolderFault (F.faults folder.old) (F.faults folder.new) result }
     {
         plan.rules();

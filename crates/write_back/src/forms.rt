@@ -9,7 +9,7 @@ use crate::TargetFault;
 use crate::cells::ColumnWriter;
 use crate::tiles::TileWriter;
 use crate::writer::{Lane, LineWriter, is_woven, line_bands, line_len};
-use band_blocks::{Block, BlockKey, Row};
+use band_blocks::Block;
 use geotransform::{PixelType, Sample, Size, holds};
 use outside::Folder;
 
@@ -140,15 +140,16 @@ impl Writer {
         &mut self,
         folder: &mut F,
         draft: &mut F::Draft,
-        key: BlockKey,
-        block: &Block,
+        band: u32,
+        block: u32,
+        from: &Block,
     ) -> Result<(), TargetFault>
-        requires line { IsLine self.old key block.now }
+        requires line { IsLine self.old (line_key band block) from.now }
         requires long { F.draft_len draft.old ≡ needed_of self.old }
         ensures same { self.new ≡ self.old }
         ensures told { OnOk result ((b : List ℕ) → F.draft_bytes draft.old ≡ Some b → length b ≡ needed_of self.old →
             IsFormed self.old b → (c : List ℕ) × (F.draft_bytes draft.new ≡ Some c) ×
-            IsBlockWritten self.old key block.now.samples b c) }
+            IsBlockWritten self.old (line_key band block) from.now.samples b c) }
         ensures len { OnOk result (F.draft_len draft.new ≡ F.draft_len draft.old) }
         ensures name { F.draft_name draft.new ≡ F.draft_name draft.old }
         ensures names { F.names folder.new ≡ F.names folder.old }
@@ -157,25 +158,9 @@ impl Writer {
         ensures cause { HasCause TargetFault.FolderFault (F.faults folder.old) (F.faults folder.new) result }
     {
         match self {
-            Writer::Raw(lines) => {
-                // This call is made for the proof: it says that a line's number fits.
-                let _head = lines.head();
-                let row = Row {
-                    band: key.band,
-                    y: key.block as u32,
-                };
-                lines.write_line(folder, draft, row, block)
-            }
-            Writer::Hgt(tile) => {
-                // This call is made for the proof: it says that a line's number fits.
-                let _side = tile.side();
-                tile.write_line(folder, draft, key.block as u32, block)
-            }
-            Writer::Dted(cell) => {
-                // This call is made for the proof: it says that a column's number fits.
-                let _head = cell.head();
-                cell.write_column(folder, draft, key.block as u32, block)
-            }
+            Writer::Raw(lines) => lines.write_line(folder, draft, band, block, from),
+            Writer::Hgt(tile) => tile.write_line(folder, draft, block, from),
+            Writer::Dted(cell) => cell.write_column(folder, draft, block, from),
         }
     }
 

@@ -11,6 +11,7 @@ mod law;
 mod pieces;
 mod rows;
 mod sheet;
+mod slices;
 mod store;
 mod target;
 mod tiles;

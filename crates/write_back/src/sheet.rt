@@ -5,7 +5,7 @@ ghost use Rattle.outside.specs.Causes.{HasCause};
 ghost use Rattle.write_back.specs.View.{bands_of, columns_of, is_writable, rows_of, AreWritable, IsNext, IsSoundOn};
 ghost use Rattle.write_back.specs.View.{IsRightOn, Puts};
 ghost use Rattle.write_back.specs.Served.{FinishesIn, KeepsIn};
-ghost use Rattle.write_back.specs.Files.{HasBytes};
+ghost use Rattle.write_back.specs.Files.{HasBytes, IsForm};
 
 use crate::TargetFault;
 use crate::rows::RowStore;
@@ -124,6 +124,36 @@ impl<F: Folder> Sheet<F> {
             }
             Kind::Rows(rows) => return rows.put_lines(folder, rect, samples, writes),
         }
+    }
+
+    // Puts samples over a rectangle of a band, which may be empty.
+    pub(crate) fn put<L: Ledger>(
+        &mut self,
+        alloc: Global,
+        folder: &mut F,
+        band: u32,
+        rect: Rect,
+        samples: &[Sample],
+        writes: &mut Counter<L>,
+    ) -> Result<(), TargetFault>
+        requires form { IsForm self.old.output }
+        requires sound { IsSoundOn self.old.output self.old }
+        requires right { IsRightOn self.old.output (F.names folder.old) self.old }
+        requires band { band < bands_of self.old.output }
+        requires across { rect.x + rect.w ≤ columns_of self.old.output }
+        requires down { rect.y + rect.h ≤ rows_of self.old.output }
+        requires size { length samples.now ≡ rect.w * rect.h }
+        requires range { AreWritable self.old.output samples.now }
+        requires next { IsNext self.old.output self.old.lines rect }
+        ensures kept { KeepsIn F.Folder rect folder.old self.old writes.old folder.new self.new writes.new }
+        ensures put { OnOk result (Puts band rect samples.now (F.names folder.old) (F.names folder.new) self.old
+            self.new) }
+        ensures cause { HasCause TargetFault.FolderFault (F.faults folder.old) (F.faults folder.new) result }
+    {
+        if rect.w == 0 || rect.h == 0 {
+            return Ok(());
+        }
+        self.put_window(alloc, folder, band, rect, samples, writes)
     }
 
     // Writes what isn't written yet. No block is held then.

@@ -14,7 +14,8 @@ ghost use Rattle.write_back.specs.State.{AreMet, Changes, IsSound, Serves, lines
 
 use crate::TargetFault;
 use crate::forms::Writer;
-use crate::turned::{Span, group_width, turn_to};
+use crate::slices::nth_run;
+use crate::turned::{Span, group_width, samples_in, turn_to};
 use crate::unwritten::Written;
 use band_blocks::{Block, BlockKey};
 use block_cache::Pool;
@@ -101,8 +102,10 @@ impl<F: Folder> Store<F> {
         writes.tick();
         // This call is made for the proof: it says that a block's number fits.
         let _shape = self.writer.shape();
-        self.written.mark(key.band, key.block as u32);
-        self.writer.write_block(folder, &mut self.draft, key, block)
+        let (band, number) = (key.band, key.block as u32);
+        self.written.mark(band, number);
+        self.writer
+            .write_block(folder, &mut self.draft, band, number, block)
     }
 
     // Writes a line that left the pool into the draft.
@@ -236,7 +239,10 @@ impl<F: Folder> Store<F> {
             block.write_run(0, samples);
             return Ok(block);
         }
-        self.fetch(folder, spot.band, spot.y, &mut block)?;
+        if let Err(fault) = self.fetch(folder, spot.band, spot.y, &mut block) {
+            drop(block);
+            return Err(fault);
+        }
         block.write_spread(spot.x, spot.stride, samples);
         Ok(block)
     }
@@ -307,10 +313,8 @@ impl<F: Folder> Store<F> {
         // This call is made for the proof: it says that a block's number fits.
         let _shape = self.writer.shape();
         let lane = self.writer.lane(band, rect.x);
-        let width = rect.w as usize;
         for row in 0..rect.h {
-            let from = row as usize * width;
-            let line = &samples[from..from + width];
+            let line = nth_run(samples, row, rect.w);
             let spot = Spot {
                 band: lane.band,
                 x: lane.start,
@@ -352,13 +356,12 @@ impl<F: Folder> Store<F> {
         // This call is made for the proof: it says that a block's number fits.
         let _shape = self.writer.shape();
         let most = group_width(rect);
-        let mut room = vec![in alloc; 0i128; most as usize * rect.h as usize]?;
+        let mut room = vec![in alloc; 0i128; samples_in(most, rect.h)]?;
         let group = room.as_mut_slice();
         let mut held = Span { first: 0, count: 0 };
         for x in 0..rect.w {
             held = turn_to(samples, rect, most, x, held, group);
-            let from = (x - held.first) as usize * rect.h as usize;
-            let line = &group[from..from + rect.h as usize];
+            let line = nth_run(group, x - held.first, rect.h);
             let spot = Spot {
                 band,
                 x: rect.y,

@@ -5,18 +5,19 @@ ghost use Rattle.std.specs.List.{list_all};
 ghost use Rattle.std.specs.Result.{result_err};
 ghost use Rattle.outside.specs.Causes.{HasCause, Rose};
 ghost use Rattle.outside.specs.Names.{extension_of, is_raw};
-ghost use Rattle.outside.specs.Outside.{Files};
 ghost use Rattle.geotransform.specs.Geo.{IsRaster};
 ghost use Rattle.hgt_tiles.specs.Places.{IsSide};
 ghost use Rattle.dted_records.specs.Places.{record_of};
-ghost use Rattle.block_cache.specs.Entries.{pool_view};
+ghost use Rattle.block_cache.specs.Entries.{pool_view, IsPool};
 ghost use Rattle.write_back.specs.declared.forms.Writer.TheVariants.{Raw, Hgt, Dted};
 ghost use Rattle.write_back.specs.declared.fault.TargetFault.{TargetFault};
 ghost use Rattle.write_back.specs.Columns.{cell_of};
 ghost use Rattle.write_back.specs.View.{Blocks, Rows, all_blocks, bands_of, blocks_in, calls_of, columns_of};
-ghost use Rattle.write_back.specs.View.{is_writable, lines_after, rows_of, AreWritable, IsNext, IsPooled, IsZero};
+ghost use Rattle.write_back.specs.View.{is_writable, lines_after, rows_of, AreWritable, IsNext, IsPooled};
 ghost use Rattle.write_back.specs.View.{MeetsAll, Shows};
-ghost use Rattle.write_back.specs.Files.{files_in, IsTarget, IsTight, Publishes};
+ghost use Rattle.write_back.specs.Files.{files_in, AreRawDrafts, IsTarget, IsTight, Publishes};
+ghost use Rattle.write_back.specs.Plans.{IsNew};
+ghost use Rattle.write_back.specs.Served.{IsLeftIn};
 ghost use Rattle.band_blocks.specs.Blocks.{most_blocks};
 
 use crate::cells::ColumnWriter;
@@ -36,9 +37,64 @@ use esri_hdr::{RawHead, write};
 use geotransform::{Rect, Sample, Size};
 use interleaved_raw::needed_len;
 use outside::{Counter, Folder, Name};
-use std::alloc::Global;
+use std::alloc::{AllocError, Global};
 use std::marker::Model;
 use std::sync::ledger::Ledger;
+
+// What the lines of raw data are written through, with a pool that holds none and no line written.
+fn raw_parts(
+    alloc: Global,
+    head: &RawHead,
+    capacity: u32,
+) -> Result<(LineWriter, Pool, Written), AllocError>
+    requires some { 1 ≤ capacity }
+    requires few { capacity ≤ most_blocks }
+    ensures writer { IfOk result (λ p. p.0 ≡ head.now) }
+    ensures pool { IfOk result (λ p. p.1 ≡ pool_view [] capacity) }
+    ensures valid { IfOk result (λ p. IsPool p.1) }
+{
+    let pool = Pool::new(alloc, capacity)?;
+    let writer = LineWriter::new(alloc, head)?;
+    let written = Written::new(alloc, line_bands(head), head.size.h)?;
+    Ok((writer, pool, written))
+}
+
+// A draft of zeros for the raw data of a head, and one of its header. After a refusal neither is left.
+fn raw_drafts<F: Folder>(
+    alloc: Global,
+    folder: &mut F,
+    head: &RawHead,
+    name: &Name,
+) -> Result<(F::Draft, F::Draft), TargetFault>
+    requires raw { IsTrue (is_raw (extension_of name.now)) }
+    ensures drafts { IfOk result (λ d. AreRawDrafts (F.names folder.old) head.now name.now (F.draft_bytes d.0)
+        (F.draft_len d.0) (F.draft_name d.0) (F.draft_bytes d.1) (F.draft_name d.1)) }
+    ensures kept { IsLeftIn F.Folder folder.old folder.new }
+    ensures cause { HasCause TargetFault.FolderFault (F.faults folder.old) (F.faults folder.new) result }
+{
+    let header_name = name.header(alloc)?;
+    let mut text = Vec::new(alloc);
+    write(head, &mut text)?;
+    let draft = zeros_draft(folder, name, needed_len(head))?;
+    match text_draft(folder, &header_name, &text) {
+        Ok(header) => Ok((draft, header)),
+        Err(fault) => {
+            folder.discard(draft);
+            Err(fault)
+        }
+    }
+}
+
+// Gives the drafts of an output up: no name changes.
+fn discard_drafts<F: Folder>(folder: &mut F, sheet: Sheet<F>, header: Option<F::Draft>)
+    ensures names { F.names folder.new ≡ F.names folder.old }
+    ensures reads { F.read_calls folder.new ≡ F.read_calls folder.old }
+    ensures calls { F.write_calls folder.new ≡ F.write_calls folder.old }
+    ensures faults { F.faults folder.new ≡ F.faults folder.old }
+{
+    folder.discard(sheet.into_draft());
+    discard_header(folder, header);
+}
 
 /// An output that is being written. Contracts see what is written, the pool, the bytes of the drafts, the name, the
 /// lines of a grid that were written, and the fault that a refused window left.
@@ -74,47 +130,29 @@ impl<F: Folder> Target<F> {
         requires raw { IsTrue (is_raw (extension_of name.now)) }
         requires tight { IsTight head.now }
         ensures output { IfOk result (λ t. t.output ≡ Blocks (Raw head.now)) }
-        ensures name { IfOk result (λ t. t.name ≡ name.now) }
-        ensures pool { IfOk result (λ t. t.pool ≡ pool_view [] capacity) }
-        ensures lines { IfOk result (λ t. t.lines ≡ 0) }
-        ensures fault { IfOk result (λ t. t.fault ≡ None) }
-        ensures target { IfOk result (λ t. IsTarget (F.names folder.new) t) }
-        ensures zeros { IfOk result (λ t. IsSome (F.names folder.old) → IsZero t) }
-        ensures names { F.names folder.new ≡ F.names folder.old }
-        ensures reads { F.read_calls folder.new ≡ F.read_calls folder.old }
-        ensures calls { F.write_calls folder.new ≡ F.write_calls folder.old }
+        ensures made { IfOk result (IsNew (F.names folder.old) (F.names folder.new) name.now capacity) }
+        ensures kept { IsLeftIn F.Folder folder.old folder.new }
         ensures cause { HasCause TargetFault.FolderFault (F.faults folder.old) (F.faults folder.new) result }
     {
         // This read is made for the proof: it says what holds of every head.
         let _bands = head.bands;
-        let pool = Pool::new(alloc, capacity)?;
-        let writer = LineWriter::new(alloc, head)?;
-        let written = Written::new(alloc, line_bands(head), head.size.h)?;
-        let header_name = name.header(alloc)?;
-        let mut text = Vec::new(alloc);
-        write(head, &mut text)?;
-        let draft = zeros_draft(folder, name, needed_len(head))?;
-        match text_draft(folder, &header_name, &text) {
-            Ok(header) => {
-                let writer = Writer::Raw(writer);
-                let kind = Kind::Blocks(Store {
-                    writer,
-                    pool,
-                    draft,
-                    written,
-                    spare: None,
-                });
-                Ok(Target {
-                    sheet: Sheet { kind },
-                    header: Some(header),
-                    fault: None,
-                })
-            }
-            Err(fault) => {
-                folder.discard(draft);
-                Err(fault)
-            }
-        }
+        let parts = raw_parts(alloc, head, capacity)?;
+        let drafts = raw_drafts(alloc, folder, head, name)?;
+        let (writer, pool, written) = parts;
+        let (draft, header) = drafts;
+        let writer = Writer::Raw(writer);
+        let kind = Kind::Blocks(Store {
+            writer,
+            pool,
+            draft,
+            written,
+            spare: None,
+        });
+        Ok(Target {
+            sheet: Sheet { kind },
+            header: Some(header),
+            fault: None,
+        })
     }
 
     /// A draft for a tile of this side, whose samples are 0, and an empty pool of 1 to 65,536 lines.
@@ -129,15 +167,8 @@ impl<F: Folder> Target<F> {
         requires few { capacity ≤ most_blocks }
         requires side { IsSide side }
         ensures output { IfOk result (λ t. t.output ≡ Blocks (Hgt side)) }
-        ensures name { IfOk result (λ t. t.name ≡ name.now) }
-        ensures pool { IfOk result (λ t. t.pool ≡ pool_view [] capacity) }
-        ensures lines { IfOk result (λ t. t.lines ≡ 0) }
-        ensures fault { IfOk result (λ t. t.fault ≡ None) }
-        ensures target { IfOk result (λ t. IsTarget (F.names folder.new) t) }
-        ensures zeros { IfOk result (λ t. IsSome (F.names folder.old) → IsZero t) }
-        ensures names { F.names folder.new ≡ F.names folder.old }
-        ensures reads { F.read_calls folder.new ≡ F.read_calls folder.old }
-        ensures calls { F.write_calls folder.new ≡ F.write_calls folder.old }
+        ensures made { IfOk result (IsNew (F.names folder.old) (F.names folder.new) name.now capacity) }
+        ensures kept { IsLeftIn F.Folder folder.old folder.new }
         ensures cause { HasCause TargetFault.FolderFault (F.faults folder.old) (F.faults folder.new) result }
     {
         let pool = Pool::new(alloc, capacity)?;
@@ -173,15 +204,8 @@ impl<F: Folder> Target<F> {
         requires few { capacity ≤ most_blocks }
         requires front { vec_len front ≡ record_of head.now 0 }
         ensures output { IfOk result (λ t. t.output ≡ Blocks (Dted (cell_of head.now (vec_items front)))) }
-        ensures name { IfOk result (λ t. t.name ≡ name.now) }
-        ensures pool { IfOk result (λ t. t.pool ≡ pool_view [] capacity) }
-        ensures lines { IfOk result (λ t. t.lines ≡ 0) }
-        ensures fault { IfOk result (λ t. t.fault ≡ None) }
-        ensures target { IfOk result (λ t. IsTarget (F.names folder.new) t) }
-        ensures zeros { IfOk result (λ t. IsSome (F.names folder.old) → IsZero t) }
-        ensures names { F.names folder.new ≡ F.names folder.old }
-        ensures reads { F.read_calls folder.new ≡ F.read_calls folder.old }
-        ensures calls { F.write_calls folder.new ≡ F.write_calls folder.old }
+        ensures made { IfOk result (IsNew (F.names folder.old) (F.names folder.new) name.now capacity) }
+        ensures kept { IsLeftIn F.Folder folder.old folder.new }
         ensures cause { HasCause TargetFault.FolderFault (F.faults folder.old) (F.faults folder.new) result }
     {
         let pool = Pool::new(alloc, capacity)?;
@@ -219,15 +243,9 @@ impl<F: Folder> Target<F> {
     ) -> Result<Target<F>, TargetFault>
         requires size { IsRaster form.now.size }
         ensures output { IfOk result (λ t. t.output ≡ Rows form.now) }
-        ensures name { IfOk result (λ t. t.name ≡ name.now) }
-        ensures pool { IfOk result (λ t. t.pool ≡ pool_view [] 0) }
-        ensures lines { IfOk result (λ t. t.lines ≡ 0) }
-        ensures fault { IfOk result (λ t. t.fault ≡ None) }
-        ensures target { IfOk result (λ t. IsTarget (F.names folder.new) t) }
-        ensures zeros { IfOk result (λ t. IsSome (F.names folder.old) → IsZero t) }
-        ensures names { F.names folder.new ≡ F.names folder.old }
-        ensures reads { F.read_calls folder.new ≡ F.read_calls folder.old }
-        ensures calls { F.write_calls folder.new ≡ F.write_calls folder.old }
+        ensures made { (capacity : ℕ) →
+            IfOk result (IsNew (F.names folder.old) (F.names folder.new) name.now capacity) }
+        ensures kept { IsLeftIn F.Folder folder.old folder.new }
         ensures cause { HasCause TargetFault.FolderFault (F.faults folder.old) (F.faults folder.new) result }
     {
         let mut text = Vec::new(alloc);
@@ -322,19 +340,10 @@ impl<F: Folder> Target<F> {
         if let Some(fault) = self.fault {
             return Err(fault);
         }
-        if rect.w == 0 || rect.h == 0 {
-            return Ok(());
-        }
-        match self
-            .sheet
-            .put_window(alloc, folder, band, rect, samples, writes)
-        {
-            Ok(()) => Ok(()),
-            Err(fault) => {
-                self.fault = Some(fault);
-                Err(fault)
-            }
-        }
+        let done = self.sheet.put(alloc, folder, band, rect, samples, writes);
+        let fault = done.err();
+        self.fault = fault;
+        done
     }
 
     /// Writes all blocks that aren't written yet, and publishes the data and then the header. After a refusal the
@@ -363,8 +372,7 @@ impl<F: Folder> Target<F> {
             fault,
         } = self;
         if let Some(cause) = fault {
-            folder.discard(sheet.into_draft());
-            discard_header(folder, header);
+            discard_drafts(folder, sheet, header);
             return Err(CloseFault {
                 published: 0,
                 cause,
@@ -373,8 +381,7 @@ impl<F: Folder> Target<F> {
         match sheet.finish(folder, writes) {
             Ok(()) => publish_all(folder, sheet.into_draft(), header),
             Err(cause) => {
-                folder.discard(sheet.into_draft());
-                discard_header(folder, header);
+                discard_drafts(folder, sheet, header);
                 Err(CloseFault {
                     published: 0,
                     cause,
@@ -395,7 +402,6 @@ impl<F: Folder> Target<F> {
             header,
             fault: _,
         } = self;
-        folder.discard(sheet.into_draft());
-        discard_header(folder, header);
+        discard_drafts(folder, sheet, header);
     }
 }

@@ -60,6 +60,13 @@ pub(crate) fn group_width(rect: Rect) -> u32
     rect.w.min(most)
 }
 
+// The samples of so many columns of so many lines.
+pub(crate) fn samples_in(columns: u32, lines: u32) -> usize
+    ensures count { result ≡ columns * lines }
+{
+    columns as usize * lines as usize
+}
+
 // The group that column x is in: the one that is held, or else the one from x on, which is put in its place.
 pub(crate) fn turn_to(
     samples: &[Sample],

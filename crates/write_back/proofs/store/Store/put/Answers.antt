@@ -1,11 +1,11 @@
-use Rattle.std.proofs.Common.{◌≡◌, refl, ap, sym, ◌∙◌}
+use Rattle.std.proofs.Common.{◌≡◌, refl, ap, sym, ◌∙◌, arith}
 use Rattle.block_cache.specs.Entries.{PoolView, held_at}
 use Rattle.block_cache.specs.Spreads.{IsSpreadInto}
 use Rattle.write_back.specs.Overlay.{line_key, IsLineSet}
 use Rattle.write_back.specs.Seen.{state_of}
 use Rattle.write_back.proofs.MetColumns.{dirty_patched}
 use Rattle.write_back.proofs.Runs.{on_ok}
-use Rattle.write_back.proofs.States.{held_range, held_room, some_of, none_of, spread_line, patched_sound, patched_changes, set_changes, serves_unwritten, changes_from, set_as}
+use Rattle.write_back.proofs.States.{held_range, held_room, some_of, none_of, spread_line, patched_sound, patched_changes, set_changes, serves_as, serves_more, serves_read, serves_trans, serves_unwritten, changes_from, set_as}
 use Rattle.write_back.proofs.store.Store.put.Goals as goal
 
 pub patch_spread-requires-clause-within : goal.patch_spread-requires-clause-within
@@ -39,6 +39,24 @@ returns-then-patch_spread-clause-changed g c =
       long = refl;
       told = λ b has. patched_changes h p c.patch_spread.new.self (line_key c.args.spot.band c.args.spot.y) found.0 c.args.spot.x c.args.spot.stride c.args.samples.now b _ c.requires.sound held put c.requires.room has;
     }
+
+pub returns-in_err-block-clause-serves : goal.returns-in_err-block-clause-serves
+returns-in_err-block-clause-serves g c =
+    let h = c.args.self.now.writer in
+    let p = c.args.self.now.pool in
+    let absent = none_of (held_at (line_key c.args.spot.band c.args.spot.y) c.args.self.now.pool.entries) (sym c.patch_spread.ensures.held ∙ c.if-patch_spread.false) in
+    let same : c.patch_spread.new.self ≡ p = c.patch_spread.ensures.absent absent in
+    let w = c.line_with.ensures in
+    serves_more h 0 0 1 0 _ _ (omega arith) (omega arith) (serves_read h _ _ p _ _ _ _ _ _ _ _ _ _ _ _ _ _ c.requires.sound (w.pool ∙ same) w.names w.name w.reads w.calls w.cause.later)
+
+pub returns-clause-serves : goal.returns-clause-serves
+returns-clause-serves g c =
+    let h = c.args.self.now.writer in
+    let p = c.args.self.now.pool in
+    let absent = none_of (held_at (line_key c.args.spot.band c.args.spot.y) c.args.self.now.pool.entries) (sym c.patch_spread.ensures.held ∙ c.if-patch_spread.false) in
+    let same : c.patch_spread.new.self ≡ p = c.patch_spread.ensures.absent absent in
+    let w = c.line_with.ensures in
+    serves_trans h 0 0 1 0 _ _ _ (serves_read h _ _ p _ _ _ _ _ _ _ _ _ _ _ _ _ _ c.requires.sound (w.pool ∙ same) w.names w.name w.reads w.calls w.cause.later) (serves_as _ _ 1 0 _ _ w.head c.keep.ensures.serves)
 
 pub returns-clause-changed : goal.returns-clause-changed
 returns-clause-changed g c =

@@ -15,9 +15,9 @@ returns-in-Ok-clause-files g c = λ m e whole.
     let o = c.in-Ok.ensures in
     let some = subst IsSome (sym e) refl in
     let bytes = o.bytes.all some form (all c.in_default.is) in
-    let name = c.into_draft-in-Ok.ensures.name ∙ o.kept.name in
+    let name = c.into_draft.ensures.name ∙ o.kept.name in
     let file = bytes_of c.self.inside.sheet.output (shown_on c.self.inside.sheet.output c.self.inside.sheet.pool c.self.inside.sheet.draft) in
-    let put = c.publish_all.ensures.told m file (o.kept.names ∙ e) (c.into_draft-in-Ok.ensures.bytes file bytes) in
+    let put = c.publish_all.ensures.told m file (o.kept.names ∙ e) (c.into_draft.ensures.bytes file bytes) in
     subst (λ (t : TargetView). g.F.Folder.names c.publish_all.new.folder ≡ Some (with_files (take (published_of (length (files_in t)) c.publish_all.result) (files_in t)) m)) view
     (subst (λ n. g.F.Folder.names c.publish_all.new.folder ≡ Some (with_files (take n (files_of c.self.inside.sheet.output c.self.inside.sheet.name (shown_on c.self.inside.sheet.output c.self.inside.sheet.pool c.self.inside.sheet.draft))) m))
     (same_count g.F.Folder.draft_bytes g.F.Folder.draft_name c.self.inside.header (header_in c.self.inside.sheet.output) _ c.self.inside.sheet.name file c.publish_all.result headed)
