@@ -6,11 +6,14 @@ use Rattle.std.proofs.lemmas.Bool.{cases_lt}
 use Rattle.std.proofs.lemmas.Nat.{div-mul-add, mod-mul-add, div-add-mod', mod_below, le-div, mul-le}
 use Rattle.std.proofs.lemmas.List.{get_or_append_left, get_or-append_right}
 use Rattle.std.proofs.lemmas.List.Elements.{All-append}
+use Rattle.geotransform.specs.Limits.{most_side}
 use Rattle.geotransform.specs.declared.types.Rect.{Rect}
 use Rattle.outside.specs.Outside.{Files}
 use Rattle.catalog.specs.Drivers.{Dataset}
 use Rattle.catalog.specs.Pixels.{pixel_of, pixel_of_name}
 use Rattle.catalog.specs.Places.{row_by_row}
+use Rattle.catalog.specs.Walk.{IsCatalog}
+use Rattle.catalog.proofs.Walked.{dataset_kept}
 use Rattle.band_blocks.proofs.Corners.{length-row_by_row, get_or-row_by_row, filled-row_by_row}
 use Rattle.band_blocks.specs.declared.fault.LoadFault.{LoadFault}
 use Rattle.nearest_window.specs.declared.window.Window.{Window}
@@ -127,6 +130,14 @@ window_part cat window n a b some order within w = record {
   across = w.across;
   down = let p = before_rises window.rect.h n a b some order in let q = before_below window.rect.h n b some within in let d = w.down in omega arith;
 }
+
+-- no line of a window lies behind the last that a dataset can have
+pub window_low : (cat : List Dataset) (window : Window) → IsCatalog cat → IsWindow cat window → window.rect.y + window.rect.h ≤ most_side
+window_low cat window valid w =
+    let size = (dataset_kept cat window.dataset w.dataset valid w.at).valid.size in
+    let lines : w.dataset.head.size.h ≤ most_side = size.lines in
+    let down = w.down in
+    omega (arith, lines, down)
 
 -- the samples of two halves
 pub sizes : (rect : Rect) (n a m b : ℕ) → 0 < n → a ≤ m → m ≤ b → rect.w * (lines_of rect n a b).h ≡ rect.w * (lines_of rect n a m).h + rect.w * (lines_of rect n m b).h

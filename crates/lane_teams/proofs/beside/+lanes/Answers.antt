@@ -1,7 +1,18 @@
-use Rattle.std.proofs.Common.{◌*◌, ◌/◌, refl, ap, length, arith}
+use Rattle.std.proofs.Common.{◌≡◌, ◌*◌, ◌/◌, ℕ, refl, ap, subst, length, arith}
 use Rattle.nearest_window.specs.declared.window.Window.{Window}
+use Rattle.lane_teams.specs.Turns.{HaveRead}
 use Rattle.lane_teams.proofs.Halving.{front_ready, back_ready, front_fits, halves_read}
+use Rattle.lane_teams.proofs.Windows.{window_low}
 use Rattle.lane_teams.proofs.beside.+lanes.Goals as goal
+
+pub read_all-returns-then-count-eq1 : goal.read_all-returns-then-count-eq1
+read_all-returns-then-count-eq1 g t c =
+    let counted = c.if-count-eq1.true in
+    let one : 1 ≡ length c.args.lanes.now = omega (arith, counted) in
+    record { read = subst (λ (n : ℕ). HaveRead g.F.Folder g.S.Scene.told c.args.supply.now.cat.now c.args.job.now c.args.first n c.read_one.new.lanes c.read_one.new.turns c.read_one.new.out) one c.read_one.ensures.read }
+
+pub read_all-part_of-requires-clause-low : goal.read_all-part_of-requires-clause-low
+read_all-part_of-requires-clause-low g t c = window_low c.args.supply.now.cat.now c.args.job.now.window c.count-count.ensures.valid c.requires.ready.window
 
 pub read_all-split_at_mut-out-requires : goal.read_all-split_at_mut-out-requires
 read_all-split_at_mut-out-requires g t c =
@@ -39,3 +50,9 @@ read_all-returns g t c =
           c.args.lanes.now c.split_at_mut-lanes.result.0.now c.split_at_mut-lanes.result.1.now _ _ _ _ _ _ _ _ _
           (omega arith) c.split_at_mut-lanes.ensures.value c.split_at_mut-lanes.ensures.front_len o.front o.back refl refl refl;
     }
+
+pub read_both-returns-clause-front_read : goal.read_both-returns-clause-front_read
+read_both-returns-clause-front_read g t c = let changed = c.both.ensures.front in rw (← changed.left, ← changed.argument_is) changed.call.3
+
+pub read_both-returns-clause-back_read : goal.read_both-returns-clause-back_read
+read_both-returns-clause-back_read g t c = let changed = c.both.ensures.back in rw (← changed.left, ← changed.argument_is) changed.call.3

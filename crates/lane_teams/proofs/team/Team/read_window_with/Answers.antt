@@ -49,3 +49,16 @@ returns-clause-reads g c = λ one.
     let more = c.if-count-eq1.false in
     let here = ap length c.as_mut_slice-lanes.ensures.value ∙ one in
     absurd (omega arith)
+
+pub returns-then-count-eq1-clause-count : goal.returns-then-count-eq1-clause-count
+returns-then-count-eq1-clause-count g c =
+    let xs = c.as_mut_slice-lanes.result.now in
+    let new = slice_set xs 0 c.read_window_with.new.self in
+    let same = length-set xs 0 c.read_window_with.new.self in
+    ap length (put_back c.args.self.now.lanes.len new c.args.self.now.lanes.items (sym (same ∙ c.as_mut_slice-lanes.ensures.len))) ∙ same ∙ ap length c.as_mut_slice-lanes.ensures.value
+
+pub returns-clause-count : goal.returns-clause-count
+returns-clause-count g c =
+    let new = c.read_beside.new.lanes in
+    let long = sym (c.read_beside.auto.lanes ∙ c.as_mut_slice-lanes.ensures.len) in
+    ap length (put_back c.args.self.now.lanes.len new c.args.self.now.lanes.items long) ∙ c.read_beside.auto.lanes ∙ ap length c.as_mut_slice-lanes.ensures.value
