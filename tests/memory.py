@@ -44,6 +44,19 @@ void *calloc(size_t n, size_t m) { return refused() ? 0 : __libc_calloc(n, m); }
 void *realloc(void *p, size_t n) { return refused() ? 0 : __libc_realloc(p, n); }
 int posix_memalign(void **p, size_t a, size_t n) { return refused() ? ENOMEM : NEXT(posix_memalign)(p, a, n); }
 void *aligned_alloc(size_t a, size_t n) { return refused() ? 0 : NEXT(aligned_alloc)(a, n); }
+
+/* before the first read of standard input a file may lose a byte, and behind so many reads all others may fail */
+extern ssize_t __read(int, void *, size_t);
+ssize_t read(int file, void *to, size_t n) {
+    static long reads;
+    const char *shrunk = getenv("SHRUNK_FILE"), *given = getenv("READS_GIVEN");
+    if (file == 0 && reads++ == 0 && shrunk && truncate(shrunk, atol(getenv("SHRUNK_TO")))) return -1;
+    if (file == 0 && given && reads > atol(given)) {
+        errno = EIO;
+        return -1;
+    }
+    return __read(file, to, n);
+}
 """
 
 
@@ -118,6 +131,10 @@ NUMBER = (
 )
 # in the place of an input's bytes: the input, or the error stream, is one that fails
 NO_INPUT, NO_ERRORS = "no input", "no errors"
+# an input's bytes, what happens as it is read (it fails behind them, or a file gets shorter before them), and the line
+# that is told of it with enough memory
+FAILS_LATER = (b"0 0\n9", {"READS_GIVEN": "1"}, b"ERROR 3: reading the input failed\n")
+SHRINKS = (b"2 1\n", {"SHRUNK_FILE": "a.bil", "SHRUNK_TO": "11"}, b"ERROR 3: a.bil: length changed from 12 to 11\n")
 # a name, the words, the input, and the files that are published, in their order
 JOBS = (
     ("a point of raw data", "gdallocationinfo -valonly a.bil 2 1", b"", ()),
@@ -126,6 +143,8 @@ JOBS = (
     ("points that are looked for in lines", "gdallocationinfo --workers 2 -valonly o.vrt", b"0 0\n1 0\n0 0\n", ()),
     ("a line that is too long", "gdallocationinfo -valonly a.bil", b"0" * 4097, ()),
     ("an input that fails", "gdallocationinfo -valonly a.bil", NO_INPUT, ()),
+    ("an input that fails within its second line", "gdallocationinfo -valonly a.bil", FAILS_LATER, ()),
+    ("a file that shrinks behind the walk", "gdallocationinfo -valonly a.bil", SHRINKS, ()),
     ("the sources of a pixel", "gdallocationinfo -lifonly o.vrt 0 0", b"", ()),
     ("a report of raw data", "gdalinfo a.bil", b"", ()),
     ("a report of a mosaic", "gdalinfo o.vrt", b"", ()),
@@ -173,6 +192,8 @@ def put(path, text, is_named):
 
 
 def streams_of(fed):
+    if isinstance(fed, tuple):
+        return {"input": fed[0], "stderr": subprocess.PIPE}
     if fed == NO_INPUT:
         return {"stdin": FOLDER, "stderr": subprocess.PIPE}
     if fed == NO_ERRORS:
@@ -197,6 +218,7 @@ class Ran:
         if os.path.exists(mark):
             os.remove(mark)
         seen = {**os.environ, "LD_PRELOAD": f"{room}/refuse.so", "REFUSED_CALL": str(number), "REFUSED_MARK": mark}
+        seen.update(fed[1] if isinstance(fed, tuple) else {})
         streams = streams_of(fed)
         ran = subprocess.run([program, *words.split()], cwd=folder, stdout=subprocess.PIPE, timeout=60, env=seen, **streams)
         self.status, self.out, self.err, self.is_refused = ran.returncode, ran.stdout, ran.stderr or b"", os.path.exists(mark)
@@ -216,7 +238,7 @@ def is_right(whole, ran, outputs):
         and whole.err.startswith(warned)
         and whole.out.startswith(ran.out)
         and new == set(outputs[: len(new)])
-        and all(whole.made.get(name) == text for name, text in ran.made.items())
+        and all(text in (whole.made.get(name), FILES.get(name)) for name, text in ran.made.items())
     )
 
 
@@ -225,6 +247,8 @@ def try_job(room, program, words, fed, outputs):
     whole, number = Ran(room, program, words, fed, 0), 0
     if set(whole.made) - set(FILES) != set(outputs):
         return 0, f"published {sorted(set(whole.made) - set(FILES))}"
+    if isinstance(fed, tuple) and whole.err != fed[2]:
+        return 0, f"told {whole.err!r}"
     while True:
         ran = Ran(room, program, words, fed, number + 1)
         if not is_right(whole, ran, outputs):

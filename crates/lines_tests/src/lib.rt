@@ -1,5 +1,8 @@
-// Tests of `shared_lines`: which of the blocks that were offered are shown. They link less than the tests of lanes do.
+// Tests of what lanes share, and of lanes beside each other: which of the blocks that were offered to lines are shown,
+// and that the lanes of a team don't read in turn.
 #![tactic(auto)]
 
 #[cfg(test)]
 mod lines;
+#[cfg(test)]
+mod teams;

@@ -78,6 +78,21 @@ fn is_copied<R: Threads + Sync + Abort>(rt: &R, alloc: Global) -> bool {
     said && has(rt, alloc, &folder, ("out.bil", bytes.as_slice()))
 }
 
+// Few lines, which one of two workers reads through the folder itself, so that nobody waits.
+const FEW: Row<'static> = ("gdal_translate -q --workers 2 tall.bil out.bil", 0, "", "");
+
+fn few_are_copied<R: Threads + Sync + Abort>(rt: &R, alloc: Global) -> bool {
+    let mut gate = Gate::new(alloc, folder(rt, alloc)).expect(rt, "memory");
+    let said = says_in(rt, alloc, &mut gate, &FEW);
+    let folder = gate.into_inner();
+    said && has(rt, alloc, &folder, ("out.bil", samples()))
+}
+
+#[test]
+fn few_lines_over_a_gate(rt: HostRuntime) {
+    assert!(rt; few_are_copied(&rt, rt.alloc()));
+}
+
 #[test]
 fn two_workers_read_beside_each_other(rt: HostRuntime) {
     assert!(rt; is_copied(&rt, rt.alloc()));

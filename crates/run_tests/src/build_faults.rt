@@ -320,7 +320,7 @@ static STRICT: [Row<'static>; 1] = [(
 )];
 
 // Whether each call of the folder ends a build where it fails, each of the output does, the first one behind the
-// warning and the document, and nothing is changed where no input may be skipped.
+// warning and the document, none of the input is made, and nothing is changed where no input may be skipped.
 fn tiles_end<R: Threads + Sync + Abort>(
     rt: &R,
     alloc: Global,
@@ -332,6 +332,7 @@ fn tiles_end<R: Threads + Sync + Abort>(
     each_cuts(rt, alloc, files, work, Failer::Folder, (8, 256))
         && ends(rt, alloc, files, work, output, puts, End::Warned(1))
         && each_cuts(rt, alloc, files, work, output, (0, 64))
+        && each_cuts(rt, alloc, files, work, Failer::Input, (0, 1))
         && first_unrefused(rt, alloc, files, &STRICT).is_none()
 }
 

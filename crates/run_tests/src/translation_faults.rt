@@ -216,16 +216,17 @@ fn each_failing_call(rt: HostRuntime) {
 }
 
 // Translations, how many bytes a failing call of the output takes first, and how many calls each makes at least.
-static PUTS: [Turn; 6] = [
+static PUTS: [Turn; 7] = [
     (FIVE, Failer::Output(0), (2, 64)),
     (FIVE, Failer::Output(1), (2, 64)),
     (FIVE, Failer::Output(5), (2, 64)),
     (GRID, Failer::Output(3), (2, 64)),
     (NESTED, Failer::Output(3), (2, 64)),
     (QUIET, Failer::Output(3), (0, 64)),
+    (NESTED, Failer::Input, (0, 1)),
 ];
 
-// Each call of the output fails in turn. A quiet translation makes none.
+// Each call of the output fails in turn. A quiet translation makes none, and no translation one of the input.
 #[test]
 fn each_failing_put(rt: HostRuntime) {
     none_wrong(&rt, first_unmet(&rt, rt.alloc(), files(), works(), &PUTS));
