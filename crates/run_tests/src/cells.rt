@@ -349,7 +349,7 @@ const HEADER: &[u8] = b"NROWS 2\nNCOLS 3\nNBANDS 2\n";
 // The lengths of a file when it is opened first and again, the words, and the status, what is printed and what is told.
 type Change<'a> = (u64, Option<u64>, &'a str, (u8, &'a str, &'a str));
 
-static CHANGES: [Change<'static>; 6] = [
+static CHANGES: [Change<'static>; 8] = [
     (
         2_884_802,
         Some(25_934_402),
@@ -398,9 +398,22 @@ static CHANGES: [Change<'static>; 6] = [
         "gdallocationinfo -valonly a.bil 2 1",
         (0, "0\n0\n", ""),
     ),
+    (
+        12,
+        Some(11),
+        "gdal_translate -q a.bil out.bil",
+        (2, "", "ERROR 3: a.bil: length changed from 12 to 11\n"),
+    ),
+    (
+        12,
+        None,
+        "gdal_translate -q --workers 2 -b 2 a.bil out.bsq",
+        (2, "", "ERROR 3: a.bil: length changed from 12 to none\n"),
+    ),
 ];
 
-// Whether this is said of a file that has these lengths when it is opened first and again.
+// Whether this is said of a file that has these lengths when it is opened first and again, where nothing is published
+// and no draft is left open.
 fn changes_so<R: Threads + Sync + Abort>(rt: &R, alloc: Global, change: &Change<'_>) -> bool {
     let (first, again, line, (status, out, err)) = *change;
     let mut folder = Fickle {
@@ -409,8 +422,11 @@ fn changes_so<R: Threads + Sync + Abort>(rt: &R, alloc: Global, change: &Change<
         header: HEADER,
         reads: 0,
         writes: 0,
+        drafts: 0,
+        published: 0,
     };
-    says_in(rt, alloc, &mut folder, &(line, status, out, err))
+    let said = says_in(rt, alloc, &mut folder, &(line, status, out, err));
+    said && folder.drafts == 0 && folder.published == 0
 }
 
 // The first of these of which something else is said.

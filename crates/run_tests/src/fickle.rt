@@ -1,6 +1,7 @@
 // A folder whose one file has a length at its first opening, and another or none later, beside a header that stays. The
-// file holds zeros; the folder tells nothing and never fails.
-ghost use Rattle.std.specs.Prelude.{[], None};
+// file holds zeros; the folder tells nothing and never fails. Of drafts it keeps how many are open, and of what is
+// published how often.
+ghost use Rattle.std.specs.Prelude.{None};
 
 use outside::{Failed, Folder, Name, OpenFault, WriteFault};
 use std::alloc::AllocError;
@@ -14,6 +15,8 @@ pub struct Fickle {
     pub header: &'static [u8],
     pub reads: u64,
     pub writes: u64,
+    pub drafts: u64,
+    pub published: u64,
 }
 
 /// The header, or zeros.
@@ -23,9 +26,12 @@ pub struct Zeros {
     is_header: bool,
 }
 
-/// What a draft would be, of which this folder gives none.
-#[derive(Clone, Copy)]
-pub struct NoDraft;
+/// The name and the length of a draft, whose bytes are kept nowhere.
+#[derive(Drop)]
+pub struct Blank {
+    name: Name,
+    len: u64,
+}
 
 // A byte of a text behind a place, or 0 where there is none.
 fn byte_at(text: &[u8], pos: u64, at: usize) -> u8 {
@@ -38,7 +44,7 @@ fn byte_at(text: &[u8], pos: u64, at: usize) -> u8 {
 impl Folder for Fickle {
     type File = Zeros;
 
-    type Draft = NoDraft;
+    type Draft = Blank;
 
     ghost names = { λ s. None };
 
@@ -52,11 +58,11 @@ impl Folder for Fickle {
 
     ghost file_len = { λ f. f.len };
 
-    ghost draft_name = { λ d. [] };
+    ghost draft_name = { λ d. d.name };
 
     ghost draft_bytes = { λ d. None };
 
-    ghost draft_len = { λ d. 0 };
+    ghost draft_len = { λ d. d.len };
 
     fn open(&mut self, name: &Name) -> Result<Zeros, OpenFault> {
         if name.as_str().as_bytes().ends_with(b".hdr") {
@@ -89,42 +95,55 @@ impl Folder for Fickle {
         Ok(())
     }
 
-    fn create(&mut self, _name: &Name) -> Result<NoDraft, WriteFault> {
-        Err(WriteFault::Memory)
+    fn create(&mut self, name: &Name) -> Result<Blank, WriteFault> {
+        let name = name.try_clone()?;
+        self.drafts = self.drafts.saturating_add(1);
+        Ok(Blank { name, len: 0 })
     }
 
-    fn grow(&mut self, _draft: &mut NoDraft, _len: u64) -> Result<(), WriteFault> {
-        Err(WriteFault::Memory)
+    fn grow(&mut self, draft: &mut Blank, len: u64) -> Result<(), WriteFault> {
+        draft.len = len;
+        Ok(())
     }
 
     fn write_at(
         &mut self,
-        _draft: &mut NoDraft,
+        _draft: &mut Blank,
         _pos: u64,
         _bytes: &[u8],
     ) -> Result<(), WriteFault> {
         self.writes = self.writes.saturating_add(1);
-        Err(WriteFault::Memory)
+        Ok(())
     }
 
-    fn append(&mut self, _draft: &mut NoDraft, _bytes: &[u8]) -> Result<(), WriteFault> {
-        Err(WriteFault::Memory)
+    fn append(&mut self, draft: &mut Blank, bytes: &[u8]) -> Result<(), WriteFault> {
+        match draft.len.checked_add(bytes.len() as u64) {
+            Some(len) => {
+                draft.len = len;
+                Ok(())
+            }
+            None => Err(WriteFault::Memory),
+        }
     }
 
     fn draft_read(
         &mut self,
-        _draft: &mut NoDraft,
+        _draft: &mut Blank,
         _pos: u64,
         _out: &mut [u8],
     ) -> Result<(), Failed> {
         Ok(())
     }
 
-    fn publish(&mut self, _draft: NoDraft) -> Result<(), WriteFault> {
-        Err(WriteFault::Memory)
+    fn publish(&mut self, _draft: Blank) -> Result<(), WriteFault> {
+        self.drafts = self.drafts.saturating_sub(1);
+        self.published = self.published.saturating_add(1);
+        Ok(())
     }
 
-    fn discard(&mut self, _draft: NoDraft) {}
+    fn discard(&mut self, _draft: Blank) {
+        self.drafts = self.drafts.saturating_sub(1);
+    }
 
     fn fork(&self) -> Result<Self, AllocError> {
         Ok(Fickle {
@@ -133,6 +152,8 @@ impl Folder for Fickle {
             header: self.header,
             reads: 0,
             writes: 0,
+            drafts: 0,
+            published: 0,
         })
     }
 
