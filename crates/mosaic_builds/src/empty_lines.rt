@@ -42,6 +42,7 @@ fn move_kept(bytes: &mut [u8]) -> usize
 
 /// Takes out the line feeds that end empty lines: at the start, and behind another one.
 pub fn drop_empty_lines(bytes: &mut Vec<u8>)
+    ensures kept { bytes.new.items ≡ without_empty true bytes.old.items }
     ensures lines { filled (lines bytes.new.items) ≡ filled (lines bytes.old.items) }
     ensures text { IsUtf8 bytes.new.items ↔ IsUtf8 bytes.old.items }
     ensures short { length bytes.new.items ≤ length bytes.old.items }

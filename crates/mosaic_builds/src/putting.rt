@@ -48,6 +48,7 @@ fn warn_all<E: Sink>(err: &mut E, failed: &mut bool, made: &Made)
 fn put_progress<O: Sink>(out: &mut O, quiet: bool) -> Result<(), Fault>
     ensures told { (m : Files) (names : Option Files) → names ≡ Some m →
         Goes (all_done (progress_steps quiet)) m result names (O.got out.old) (O.got out.new) }
+    ensures quiet { quiet ≡ true → out.new ≡ out.old }
     ensures faults { IfErr result (λ f. f ≡ Fault.OutFault) }
     ensures cause { HasCause Fault.OutFault (O.faults out.old) (O.faults out.new) result }
 {
@@ -72,6 +73,7 @@ fn put_document<F: Folder, O: Sink>(
     ensures told { (m : Files) → F.names folder.old ≡ Some m →
         Goes (all_done (publishing_steps quiet name.now document.now)) m result (F.names folder.new) (O.got out.old)
         (O.got out.new) }
+    ensures quiet { quiet ≡ true → out.new ≡ out.old }
     ensures faults { IfErr result IsOfWriting }
     ensures cause { HasCauses (F.faults folder.old) (F.faults folder.new) (O.faults out.old) (O.faults out.new) result }
 {
@@ -98,6 +100,7 @@ fn put_made<F: Folder, O: Sink, E: Sink>(
         (λ steps. AreWarned steps failed.new (E.faults err.old) (E.faults err.new) (E.got err.old) (E.got err.new)) }
     ensures warned { failed.old ≡ false → AreWarned (warns (built_by made.now).warnings) failed.new (E.faults err.old)
         (E.faults err.new) (E.got err.old) (E.got err.new) }
+    ensures quiet { building.entry.quiet ≡ true → out.new ≡ out.old }
     ensures faults { IfErr result IsOfWriting }
     ensures cause { HasCauses (F.faults folder.old) (F.faults folder.new) (O.faults out.old) (O.faults out.new) result }
 {
@@ -136,6 +139,8 @@ pub fn put_mosaic<F: Folder, O: Sink, E: Sink>(
     // a refused mosaic has done nothing
     ensures refused { IfErr result (λ f. fault_status f ≡ 1 → (out.new ≡ out.old) × (err.new ≡ err.old) ×
         (failed.new ≡ failed.old) × (F.names folder.new ≡ F.names folder.old)) }
+    // over every folder and for every answer: a quiet mosaic leaves the output as it was
+    ensures quiet { building.entry.quiet ≡ true → out.new ≡ out.old }
     ensures may_end { IfErr result (MayEnd building.entry.options.now.out) }
     ensures cause { HasCauses (F.faults folder.old) (F.faults folder.new) (O.faults out.old) (O.faults out.new) result }
 {

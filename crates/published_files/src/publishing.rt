@@ -15,6 +15,7 @@ use vrt_writing::write;
 // A fault of writing as that of the run.
 fn write_fault(fault: WriteFault) -> Fault
     ensures folder { result ≡ Fault.FolderFault → fault ≡ WriteFault.Failed }
+    ensures failed { fault ≡ WriteFault.Failed → result ≡ Fault.FolderFault }
     ensures outside { IsOfFolder result }
 {
     match fault {

@@ -1,5 +1,5 @@
 // Drafts of a tile's data and of a text, and how they are published.
-ghost use Rattle.std.specs.Prelude.{◌≡◌, ◌<◌, ℕ, List, [], ◌∷◌, Some, IfOk, OnOk, IfErr};
+ghost use Rattle.std.specs.Prelude.{◌≡◌, ◌<◌, ℕ, List, [], ◌∷◌, Some, IfOk, OnOk, IfErr, OnErr};
 ghost use Rattle.outside.specs.Outside.{Files};
 ghost use Rattle.outside.specs.Causes.{HasCause};
 ghost use Rattle.published_files.specs.Documents.{IsOfFolder};
@@ -13,6 +13,7 @@ use synthetic_rasters::{TileLine, TileSide};
 /// A fault of writing as that of the run.
 pub fn write_fault(fault: WriteFault) -> Fault
     ensures folder { result ≡ Fault.FolderFault → fault ≡ WriteFault.Failed }
+    ensures failed { fault ≡ WriteFault.Failed → result ≡ Fault.FolderFault }
     ensures outside { IsOfFolder result }
 {
     match fault {
@@ -102,6 +103,7 @@ pub fn text_draft<F: Folder>(
 pub fn publish_draft<F: Folder>(folder: &mut F, draft: F::Draft) -> Result<(), Fault>
     ensures told { (m : Files) (bytes : List ℕ) → F.names folder.old ≡ Some m → F.draft_bytes draft ≡ Some bytes →
         ArePublished ((F.draft_name draft, bytes) ∷ []) m result (F.names folder.new) }
+    ensures names { OnErr result (F.names folder.new ≡ F.names folder.old) }
     ensures writes { F.write_calls folder.new ≡ F.write_calls folder.old }
     ensures faults { IfErr result IsOfFolder }
     ensures cause { HasCause Fault.FolderFault (F.faults folder.old) (F.faults folder.new) result }

@@ -1,5 +1,5 @@
 // Tiles that are published.
-ghost use Rattle.std.specs.Prelude.{◌≡◌, ◌<◌, ℕ, List, [], ◌∷◌, Option, Some, IsTrue, IfOk, IfErr};
+ghost use Rattle.std.specs.Prelude.{◌≡◌, ◌<◌, ℕ, List, [], ◌∷◌, Option, Some, IsTrue, IfOk, IfErr, OnErr};
 ghost use Rattle.outside.specs.Names.{extension_of, header_of, is_raw};
 ghost use Rattle.outside.specs.Outside.{Files};
 ghost use Rattle.outside.specs.Causes.{HasCause};
@@ -28,6 +28,7 @@ fn publish_data<F: Folder>(
     requires tile { tile < 4 }
     ensures told { (m : Files) → F.names folder.old ≡ Some m → ArePublished ((name.now, tile_data side tile) ∷ []) m
         result (F.names folder.new) }
+    ensures names { OnErr result (F.names folder.new ≡ F.names folder.old) }
     ensures side { room.new.side ≡ side }
     ensures writes { F.write_calls folder.new ≡ F.write_calls folder.old }
     ensures faults { IfErr result IsOfFolder }
@@ -43,6 +44,7 @@ fn publish_data<F: Folder>(
 fn publish_text<F: Folder>(folder: &mut F, name: &Name, text: &[u8]) -> Result<(), Fault>
     ensures told { (m : Files) → F.names folder.old ≡ Some m → ArePublished ((name.now, text.now) ∷ []) m result
         (F.names folder.new) }
+    ensures names { OnErr result (F.names folder.new ≡ F.names folder.old) }
     ensures writes { F.write_calls folder.new ≡ F.write_calls folder.old }
     ensures faults { IfErr result IsOfFolder }
     ensures cause { HasCause Fault.FolderFault (F.faults folder.old) (F.faults folder.new) result }
@@ -75,6 +77,7 @@ fn publish_header<F: Folder>(
     requires tile { tile < 4 }
     ensures told { (m : Files) → F.names folder.old ≡ Some m →
         ArePublished ((header_of name.now, hdr_text (tile_head side tile)) ∷ []) m result (F.names folder.new) }
+    ensures names { OnErr result (F.names folder.new ≡ F.names folder.old) }
     ensures writes { F.write_calls folder.new ≡ F.write_calls folder.old }
     ensures faults { IfErr result IsOfFolder }
     ensures cause { HasCause Fault.FolderFault (F.faults folder.old) (F.faults folder.new) result }
