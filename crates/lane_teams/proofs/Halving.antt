@@ -1,14 +1,15 @@
 -- Lanes that are cut into two halves, and what both have read.
-use Rattle.std.proofs.Common.{◌≡◌, ◌∙◌, sym, ap, subst, ◌+◌, ◌*◌, ◌<◌, ◌≤◌, ℕ, ℤ, List, [], ◌∷◌, ◌++◌, length, length-append, get_or, Option, Some, Ok, arith}
+use Rattle.std.proofs.Common.{◌≡◌, ◌∙◌, sym, ap, subst, ◌+◌, ◌*◌, ◌<◌, ◌≤◌, ℕ, ℤ, List, [], ◌∷◌, ◌++◌, length, length-append, map, get_or, Option, Some, Ok, arith}
 use Rattle.std.specs.List.{All}
 use Rattle.std.specs.Prelude.{slice_set}
-use Rattle.std.proofs.lemmas.List.{length-set, get_or-set_same}
+use lib.Seq.{map-set_same}
+use Rattle.std.proofs.lemmas.List.{length-set, get_or-set_same, map-append}
 use Rattle.std.proofs.lemmas.List.Elements.{All-append, All-set}
 use Rattle.outside.specs.Outside.{Files}
 use Rattle.outside.specs.declared.folder.Folder.{Ghosts}
 use Rattle.catalog.specs.Drivers.{Dataset}
 use Rattle.catalog.specs.Walk.{IsWalked}
-use Rattle.nearest_window.specs.Lanes.{LaneView}
+use Rattle.nearest_window.specs.Lanes.{LaneView, room_of}
 use Rattle.nearest_window.specs.Right.{IsReady, IsRightLane}
 use Rattle.geotransform.specs.declared.types.Rect.{Rect}
 use Rattle.lane_teams.specs.declared.cutting.Job.{Job}
@@ -94,29 +95,32 @@ module _ {F File Draft : Type 0} (calls : Ghosts F File Draft) (told : Option Fi
 
 module _ {F File Draft : Type 0} (calls : Ghosts F File Draft) (told : Option Files) (cat : List Dataset) (job : Job) where
   -- the lanes of both halves have read
-  pub both_read : (k n m : ℕ) (a b : List (LaneView File)) (t u : List (Turn F File Draft)) (p q : List ℤ) → 0 < job.count
-      → HaveRead calls told cat job k n a t p → HaveRead calls told cat job (k + n) m b u q
-      → HaveRead calls told cat job k (n + m) (a ++ b) (t ++ u) (p ++ q)
-  both_read k n m a b t u p q some front back = record {
-    lanes_count = let e = length-append a b in let f = front.lanes_count in let g = back.lanes_count in omega arith;
-    turns_count = let e = length-append t u in let f = front.turns_count in let g = back.turns_count in omega arith;
-    right = All-append (IsRightLane calls told cat) a b front.right back.right;
+  pub both_read : (k : ℕ) (a b a' b' : List (LaneView File)) (t u : List (Turn F File Draft)) (p q : List ℤ) → 0 < job.count
+      → HaveRead calls told cat job k a a' t p → HaveRead calls told cat job (k + length a) b b' u q
+      → HaveRead calls told cat job k (a ++ b) (a' ++ b') (t ++ u) (p ++ q)
+  both_read k a b a' b' t u p q some front back = record {
+    lanes_count = let d = length-append a b in let e = length-append a' b' in let f = front.lanes_count in let g = back.lanes_count in omega arith;
+    turns_count = let d = length-append a b in let e = length-append t u in let f = front.turns_count in let g = back.turns_count in omega arith;
+    rooms = map-append room_of a' b' ∙ ap (λ ns. ns ++ map room_of b') front.rooms ∙ ap (λ ns. map room_of a ++ ns) back.rooms ∙ sym (map-append room_of a b);
+    right = All-append (IsRightLane calls told cat) a' b' front.right back.right;
     turns_are = All-append (IsTurnOf calls told cat) t u front.turns_are back.turns_are;
     shown = λ all.
-        let end : k + n + m ≡ k + (n + m) = omega arith in
+        let whole = length-append a b in
+        let end : k + length a + length b ≡ k + length (a ++ b) = omega arith in
         subst (λ i. AreOfWindow told cat (part_of job.window job.count k i) (p ++ q)) end
-        (both_shown told cat job.window job.count k (k + n) (k + n + m) p q some (omega arith) (omega arith) (front.shown (all_front IsDone t u all)) (back.shown (all_back IsDone t u all)));
+        (both_shown told cat job.window job.count k (k + length a) (k + length a + length b) p q some (omega arith) (omega arith) (front.shown (all_front IsDone t u all)) (back.shown (all_back IsDone t u all)));
   }
 
   -- a single lane has read
-  pub one_read : (k : ℕ) (lanes : List (LaneView File)) (turns : List (Turn F File Draft)) (lane : LaneView File) (turn : Turn F File Draft) (out : List ℤ)
+  pub one_read : (k : ℕ) (lanes : List (LaneView File)) (turns : List (Turn F File Draft)) (lane d : LaneView File) (turn : Turn F File Draft) (out : List ℤ)
       → AreReady calls told cat job k lanes turns out → length lanes ≡ 1 → (new : List ℤ)
-      → IsRightLane calls told cat lane → IsTurnOf calls told cat turn
+      → room_of lane ≡ room_of (get_or lanes 0 d) → IsRightLane calls told cat lane → IsTurnOf calls told cat turn
       → (turn.answer ≡ Ok tt → AreOfWindow told cat (part_of job.window job.count k (k + 1)) new)
-      → HaveRead calls told cat job k 1 (slice_set lanes 0 lane) (slice_set turns 0 turn) new
-  one_read k lanes turns lane turn out ready one new right turned shown = record {
-    lanes_count = length-set lanes 0 lane ∙ one;
-    turns_count = length-set turns 0 turn ∙ ready.pairs ∙ one;
+      → HaveRead calls told cat job k lanes (slice_set lanes 0 lane) (slice_set turns 0 turn) new
+  one_read k lanes turns lane d turn out ready one new room right turned shown = record {
+    lanes_count = length-set lanes 0 lane;
+    turns_count = length-set turns 0 turn ∙ ready.pairs;
+    rooms = map-set_same room_of lanes 0 lane d room;
     right = All-set (IsRightLane calls told cat) lanes 0 lane right ready.right;
     turns_are = All-set (IsTurnOf calls told cat) turns 0 turn turned ready.turns_are;
     shown = λ all.
@@ -124,7 +128,8 @@ module _ {F File Draft : Type 0} (calls : Ghosts F File Draft) (told : Option Fi
         let some : 0 < length turns = omega arith in
         let there : 0 < length (slice_set turns 0 turn) = (let s = length-set turns 0 turn in omega arith) in
         let here : get_or (slice_set turns 0 turn) 0 turn ≡ turn = get_or-set_same turns 0 turn turn some in
-        shown (ap (λ (t : Turn F File Draft). t.answer) (sym here) ∙ all 0 turn there);
+        subst (λ n. AreOfWindow told cat (part_of job.window job.count k (k + n)) new) (sym one)
+        (shown (ap (λ (t : Turn F File Draft). t.answer) (sym here) ∙ all 0 turn there));
   }
 
   -- the first lines fit
@@ -139,13 +144,12 @@ module _ {F File Draft : Type 0} (calls : Ghosts F File Draft) (told : Option Fi
       omega arith
 
   pub halves_read : (k low : ℕ) (lanes a b a' b' l : List (LaneView File)) (t' u' t : List (Turn F File Draft)) (p' q' o : List ℤ) → 0 < job.count → lanes ≡ a ++ b → length a ≡ low
-      → HaveRead calls told cat job k (length a) a' t' p' → HaveRead calls told cat job (k + low) (length b) b' u' q'
-      → l ≡ a' ++ b' → t ≡ t' ++ u' → o ≡ p' ++ q' → HaveRead calls told cat job k (length lanes) l t o
+      → HaveRead calls told cat job k a a' t' p' → HaveRead calls told cat job (k + low) b b' u' q'
+      → l ≡ a' ++ b' → t ≡ t' ++ u' → o ≡ p' ++ q' → HaveRead calls told cat job k lanes l t o
   halves_read k low lanes a b a' b' l t' u' t p' q' o some el la front back is_l is_t is_o =
-      let behind = subst (λ n. HaveRead calls told cat job (k + n) (length b) b' u' q') (sym la) back in
-      let whole = both_read k (length a) (length b) a' b' t' u' p' q' some front behind in
-      let count : length a + length b ≡ length lanes = sym (ap length el ∙ length-append a b) in
-      let counted = subst (λ n. HaveRead calls told cat job k n (a' ++ b') (t' ++ u') (p' ++ q')) count whole in
-      subst (λ xs. HaveRead calls told cat job k (length lanes) xs t o) (sym is_l)
-      (subst (λ xs. HaveRead calls told cat job k (length lanes) (a' ++ b') xs o) (sym is_t)
-      (subst (λ xs. HaveRead calls told cat job k (length lanes) (a' ++ b') (t' ++ u') xs) (sym is_o) counted))
+      let behind = subst (λ n. HaveRead calls told cat job (k + n) b b' u' q') (sym la) back in
+      let whole = both_read k a b a' b' t' u' p' q' some front behind in
+      subst (λ xs. HaveRead calls told cat job k xs l t o) (sym el)
+      (subst (λ xs. HaveRead calls told cat job k (a ++ b) xs t o) (sym is_l)
+      (subst (λ xs. HaveRead calls told cat job k (a ++ b) (a' ++ b') xs o) (sym is_t)
+      (subst (λ xs. HaveRead calls told cat job k (a ++ b) (a' ++ b') (t' ++ u') xs) (sym is_o) whole)))

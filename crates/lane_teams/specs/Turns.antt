@@ -1,5 +1,5 @@
 -- Lanes that read beside each other, each through a view of the folder.
-use Rattle.std.specs.Prelude.{◌≡◌, ℕ, ℤ, ◌+◌, ◌*◌, ◌<◌, ◌≤◌, List, [], ◌∷◌, length, Option, Some, Result, Ok, Err}
+use Rattle.std.specs.Prelude.{◌≡◌, ℕ, ℤ, ◌+◌, ◌*◌, ◌<◌, ◌≤◌, List, [], ◌∷◌, length, map, Option, Some, Result, Ok, Err}
 use Rattle.std.specs.Prelude.{IfErr}
 use Rattle.std.specs.List.{All}
 use Rattle.outside.specs.Outside.{Files}
@@ -9,7 +9,7 @@ use Rattle.catalog.specs.Walk.{IsWalked}
 use Rattle.band_blocks.specs.declared.fault.LoadFault.{LoadFault}
 use Rattle.band_blocks.specs.declared.fault.LoadFault.TheVariants.{FolderFault}
 use Rattle.band_blocks.specs.Open.{IsUnchanged}
-use Rattle.nearest_window.specs.Lanes.{LaneView}
+use Rattle.nearest_window.specs.Lanes.{LaneView, room_of}
 use Rattle.nearest_window.specs.Right.{IsRightLane, TellsChangeIn}
 use Rattle.nearest_window.specs.Shown.{IsWindow}
 use Rattle.lane_teams.specs.declared.cutting.Job.{Job}
@@ -63,11 +63,13 @@ module _ {F File Draft : Type 0} (calls : Ghosts F File Draft) (told : Option Fi
     pub right : All (IsRightLane calls told cat) lanes
     pub turns_are : All IsTurnOf turns
 
-  -- n lanes from one on have read, and are right; where none refused, `out` has the samples of their lines
-  pub record HaveRead (job : Job) (first n : ℕ) (lanes : List (LaneView File)) (turns : List (Turn F File Draft))
+  -- lanes from one on, as they were and as they are, have read: each is right, and has the room that it had; where none
+  -- refused, `out` has the samples of their lines
+  pub record HaveRead (job : Job) (first : ℕ) (were lanes : List (LaneView File)) (turns : List (Turn F File Draft))
       (out : List ℤ) : Type 0 where
-    pub lanes_count : length lanes ≡ n
-    pub turns_count : length turns ≡ n
+    pub lanes_count : length lanes ≡ length were
+    pub turns_count : length turns ≡ length were
+    pub rooms : map room_of lanes ≡ map room_of were
     pub right : All (IsRightLane calls told cat) lanes
     pub turns_are : All IsTurnOf turns
-    pub shown : All IsDone turns → AreOfWindow told cat (part_of job.window job.count first (first + n)) out
+    pub shown : All IsDone turns → AreOfWindow told cat (part_of job.window job.count first (first + length were)) out

@@ -1,10 +1,11 @@
 // Lanes that read their parts of a window beside each other, by halves of halves.
-ghost use Rattle.std.specs.Prelude.{◌≡◌, ◌≤◌, ◌*◌, ◌<◌, length, OnOk, IfErr};
+ghost use Rattle.std.specs.Prelude.{◌≡◌, ◌≤◌, ◌*◌, ◌<◌, length, map, OnOk, IfErr};
 ghost use Rattle.std.specs.List.{All};
 ghost use Rattle.std.specs.Thread.{IsSend, IsSync};
 ghost use Rattle.outside.specs.Causes.{HasCause};
 ghost use Rattle.outside.specs.Reading.{WhereTold};
 ghost use Rattle.band_blocks.specs.Open.{IsUnchanged};
+ghost use Rattle.nearest_window.specs.Lanes.{room_of};
 ghost use Rattle.nearest_window.specs.Right.{IsReady, TellsChangeIn};
 ghost use Rattle.nearest_window.specs.Shown.{IsWindow};
 ghost use Rattle.lane_teams.specs.Parts.{AreOfWindow};
@@ -52,8 +53,8 @@ fn read_half<R: Threads + Sync, F: Folder, S: Scene>(
     ensures lanes { half.new.lanes.ghost_name ≡ half.old.lanes.ghost_name }
     ensures turns { half.new.turns.ghost_name ≡ half.old.turns.ghost_name }
     ensures out { half.new.out.ghost_name ≡ half.old.out.ghost_name }
-    ensures read { HaveRead F.Folder S.told supply.now.cat.now job.now first (length half.old.lanes.now)
-        half.new.lanes.now half.new.turns.now half.new.out.now }
+    ensures read { HaveRead F.Folder S.told supply.now.cat.now job.now first half.old.lanes.now half.new.lanes.now
+        half.new.turns.now half.new.out.now }
 {
     let lanes = &mut *half.lanes;
     let turns = &mut *half.turns;
@@ -81,12 +82,12 @@ fn read_both<'a, R: Threads + Sync, F: Folder, S: Scene>(
     ensures front_lanes { front.new.lanes.ghost_name ≡ front.old.lanes.ghost_name }
     ensures front_turns { front.new.turns.ghost_name ≡ front.old.turns.ghost_name }
     ensures front_out { front.new.out.ghost_name ≡ front.old.out.ghost_name }
-    ensures front_read { HaveRead F.Folder S.told supply.now.cat.now job.now halves.first (length front.old.lanes.now)
+    ensures front_read { HaveRead F.Folder S.told supply.now.cat.now job.now halves.first front.old.lanes.now
         front.new.lanes.now front.new.turns.now front.new.out.now }
     ensures back_lanes { back.new.lanes.ghost_name ≡ back.old.lanes.ghost_name }
     ensures back_turns { back.new.turns.ghost_name ≡ back.old.turns.ghost_name }
     ensures back_out { back.new.out.ghost_name ≡ back.old.out.ghost_name }
-    ensures back_read { HaveRead F.Folder S.told supply.now.cat.now job.now halves.middle (length back.old.lanes.now)
+    ensures back_read { HaveRead F.Folder S.told supply.now.cat.now job.now halves.middle back.old.lanes.now
         back.new.lanes.now back.new.turns.now back.new.out.now }
 {
     let most = halves.most;
@@ -98,7 +99,7 @@ fn read_both<'a, R: Threads + Sync, F: Folder, S: Scene>(
         ensures { (half.new.lanes.ghost_name ≡ half.old.lanes.ghost_name) ×
             (half.new.turns.ghost_name ≡ half.old.turns.ghost_name) ×
             (half.new.out.ghost_name ≡ half.old.out.ghost_name) × HaveRead F.Folder S.told supply.entry.now.cat.now
-            job.entry.now at (length half.old.lanes.now) half.new.lanes.now half.new.turns.now half.new.out.now }
+            job.entry.now at half.old.lanes.now half.new.lanes.now half.new.turns.now half.new.out.now }
     {
         // The clauses name it.
         let _most = most;
@@ -125,9 +126,9 @@ fn read_pair<'x, R: Threads + Sync, F: Folder, S: Scene>(
     requires back { AreReady F.Folder S.told supply.now.cat.now job.now halves.middle lanes.1.now turns.1.now
         out.1.now }
     requires back_few { length lanes.1.now ≤ halves.most }
-    ensures front { HaveRead F.Folder S.told supply.now.cat.now job.now halves.first (length lanes.entry.0.now)
-        lanes.exit.0.now turns.exit.0.now out.exit.0.now }
-    ensures back { HaveRead F.Folder S.told supply.now.cat.now job.now halves.middle (length lanes.entry.1.now)
+    ensures front { HaveRead F.Folder S.told supply.now.cat.now job.now halves.first lanes.entry.0.now lanes.exit.0.now
+        turns.exit.0.now out.exit.0.now }
+    ensures back { HaveRead F.Folder S.told supply.now.cat.now job.now halves.middle lanes.entry.1.now
         lanes.exit.1.0.now turns.exit.1.0.now out.exit.1.0.now }
 {
     let (first_lanes, other_lanes) = lanes;
@@ -159,8 +160,7 @@ fn read_all<'x, R: Threads + Sync, F: Folder, S: Scene>(
 )
     requires scene { S.cat ≡ supply.now.cat.now }
     requires ready { AreReady F.Folder S.told supply.now.cat.now job.now first lanes.old turns.old out.old }
-    ensures read { HaveRead F.Folder S.told supply.now.cat.now job.now first (length lanes.old) lanes.new turns.new
-        out.new }
+    ensures read { HaveRead F.Folder S.told supply.now.cat.now job.now first lanes.old lanes.new turns.new out.new }
 {
     let count = lanes.len();
     if count == 1 {
@@ -196,8 +196,8 @@ fn read_views<R: Threads + Sync, F: Folder, S: Scene>(
     requires told { S.told ≡ F.names folder.now }
     requires scene { S.cat ≡ supply.now.cat.now }
     requires ready { AreReady F.Folder (F.names folder.now) supply.now.cat.now job.now 0 lanes.old turns.old out.old }
-    ensures read { HaveRead F.Folder (F.names folder.now) supply.now.cat.now job.now 0 (length lanes.old) lanes.new
-        turns.new out.new }
+    ensures read { HaveRead F.Folder (F.names folder.now) supply.now.cat.now job.now 0 lanes.old lanes.new turns.new
+        out.new }
 {
     let _ = folder;
     read_all::<R, F, S>(rt, supply, job, 0, lanes, turns, out);
@@ -221,6 +221,7 @@ pub fn read_beside<R: Threads + Sync, F: Folder, S: Scene>(
     requires size { length out.old ≡ job.now.window.rect.w * job.now.window.rect.h }
     ensures shown { OnOk result (AreOfWindow (F.names folder.old) supply.now.cat.now job.now.window out.new) }
     ensures ready { All (IsReady F.Folder folder.new supply.now.cat.now) lanes.new }
+    ensures capacity { map room_of lanes.new ≡ map room_of lanes.old }
     ensures only_read { OnlyReadByViews F.Folder folder.old folder.new }
     ensures cause { HasCause LoadFault.FolderFault (F.faults folder.old) (F.faults folder.new) result }
     ensures changed { IfErr result (TellsChangeIn supply.now.cat.now) }

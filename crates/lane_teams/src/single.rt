@@ -5,6 +5,7 @@ ghost use Rattle.outside.specs.Outside.{Files};
 ghost use Rattle.outside.specs.Reading.{OnlyRead, WhereTold};
 ghost use Rattle.catalog.specs.Walk.{IsWalked};
 ghost use Rattle.band_blocks.specs.Open.{IsUnchanged};
+ghost use Rattle.nearest_window.specs.Lanes.{room_of};
 ghost use Rattle.nearest_window.specs.Right.{IsReady, IsRightLane, TellsChangeIn};
 ghost use Rattle.nearest_window.specs.Shown.{IsWindow};
 ghost use Rattle.lane_teams.specs.Parts.{AreOfWindow};
@@ -39,6 +40,7 @@ fn read_counted<F: Folder, L: Ledger, S: Scene>(
     requires some { 0 < blank.parts }
     ensures shown { OnOk result (AreOfWindow (F.names folder.old) supply.now.cat.now window out.new) }
     ensures ready { IsReady F.Folder folder.new supply.now.cat.now lane.new }
+    ensures capacity { room_of lane.new ≡ room_of lane.old }
     ensures only_read { OnlyRead F.Folder folder.old folder.new }
     ensures cause { HasCause LoadFault.FolderFault (F.faults folder.old) (F.faults folder.new) result }
     ensures changed { IfErr result (TellsChangeIn supply.now.cat.now) }
@@ -63,6 +65,7 @@ fn read_alone<F: Folder, S: Scene>(
     requires size { length out.old ≡ window.rect.w * window.rect.h }
     ensures shown { OnOk result (AreOfWindow (F.names folder.old) supply.now.cat.now window out.new) }
     ensures ready { IsReady F.Folder folder.new supply.now.cat.now lane.new }
+    ensures capacity { room_of lane.new ≡ room_of lane.old }
     ensures only_read { OnlyRead F.Folder folder.old folder.new }
     ensures cause { HasCause LoadFault.FolderFault (F.faults folder.old) (F.faults folder.new) result }
     ensures changed { IfErr result (TellsChangeIn supply.now.cat.now) }
@@ -86,6 +89,7 @@ fn take_turn<F: Folder, S: Scene>(
     requires window { IsWindow supply.now.cat.now window }
     requires size { length out.old ≡ window.rect.w * window.rect.h }
     ensures right { IsRightLane F.Folder S.told supply.now.cat.now lane.new }
+    ensures capacity { room_of lane.new ≡ room_of lane.old }
     ensures turn { IsTurnOf F.Folder S.told supply.now.cat.now turn.new }
     ensures shown { turn.new.answer ≡ Ok tt → AreOfWindow S.told supply.now.cat.now window out.new }
 {
@@ -104,7 +108,7 @@ pub fn read_one<F: Folder, S: Scene>(
     requires scene { S.cat ≡ supply.now.cat.now }
     requires one { length lanes.old ≡ 1 }
     requires ready { AreReady F.Folder S.told supply.now.cat.now job.now first lanes.old turns.old out.old }
-    ensures read { HaveRead F.Folder S.told supply.now.cat.now job.now first 1 lanes.new turns.new out.new }
+    ensures read { HaveRead F.Folder S.told supply.now.cat.now job.now first lanes.old lanes.new turns.new out.new }
 {
     // This call is made for the proof: it says what holds of every catalog.
     let _count = supply.cat.count();

@@ -1,5 +1,6 @@
 // Teams of lanes.
-ghost use Rattle.std.specs.Prelude.{◌≡◌, ◌+◌, ◌-◌, ◌*◌, ◌<◌, ◌≤◌, [], ◌∷◌, Some, length, slice_get, OnOk, IfOk, IfErr};
+ghost use Rattle.std.specs.Prelude.{◌≡◌, ◌+◌, ◌-◌, ◌*◌, ◌<◌, ◌≤◌, [], ◌∷◌, Some, length, map, slice_get, OnOk, IfOk};
+ghost use Rattle.std.specs.Prelude.{IfErr};
 ghost use Rattle.std.specs.List.{All};
 ghost use Rattle.outside.specs.Causes.{HasCause};
 ghost use Rattle.outside.specs.Reading.{WhereTold};
@@ -42,6 +43,7 @@ fn lanes_of<F: Folder>(alloc: Global, count: u32, capacity: u32) -> Result<Vec<L
     requires few { capacity ≤ most_blocks }
     ensures count { IfOk result (λ lanes. length lanes.items ≡ count) }
     ensures fresh { IfOk result (λ lanes. All (IsFresh F.Folder) lanes.items) }
+    ensures room { IfOk result (λ lanes. All (λ lane. room_of lane ≡ capacity) lanes.items) }
 {
     let mut lanes = Vec::with_capacity(alloc, count as usize)?;
     for _at in 0..count {
@@ -52,8 +54,8 @@ fn lanes_of<F: Folder>(alloc: Global, count: u32, capacity: u32) -> Result<Vec<L
 }
 
 impl<F: Folder, L: Ledger> Team<F, L> {
-    /// A team of so many lanes, each with an empty pool of 1 to 65,536 blocks and no open file. It is refused where
-    /// memory is.
+    /// A team of so many lanes, each with an empty pool of so many blocks, 1 to 65,536, and no open file. It is refused
+    /// where memory is.
     pub fn new(
         alloc: Global,
         count: u32,
@@ -67,6 +69,7 @@ impl<F: Folder, L: Ledger> Team<F, L> {
         requires shares { 0 < blank.parts }
         ensures count { IfOk result (λ team. length team.lanes.items ≡ count) }
         ensures fresh { IfOk result (λ team. All (IsFresh F.Folder) team.lanes.items) }
+        ensures room { IfOk result (λ team. All (λ lane. room_of lane ≡ capacity) team.lanes.items) }
         ensures none { IfOk result (λ team. team.loads ≡ 0) }
     {
         let loads = Counter::open(blank);
@@ -81,8 +84,8 @@ impl<F: Folder, L: Ledger> Team<F, L> {
     /// of a team of one, through the folder itself. Each lane is ready for the catalog and the folder.
     ///
     /// A refusal is that of the first lane that refused, in their order, and its causes are those of
-    /// `Lane::read_window`. All views are ended, and all lanes ready, after every answer. `loads` counts the loads of a
-    /// lane that reads through the folder; those of several lanes aren't counted.
+    /// `Lane::read_window`. All views are ended, and all lanes ready, with the room that they had, after every answer.
+    /// `loads` counts the loads of a lane that reads through the folder; those of several lanes aren't counted.
     pub fn read_window<R: Threads + Sync>(
         &mut self,
         rt: &R,
@@ -105,6 +108,8 @@ impl<F: Folder, L: Ledger> Team<F, L> {
         ensures typed { OnOk result (All (IsInBand cat.now window.dataset window.band) out.new) }
         ensures ready { All (IsReady F.Folder folder.new cat.now) self.new.lanes.items }
         ensures count { length self.new.lanes.items ≡ length self.old.lanes.items }
+        // each lane has the room that it had
+        ensures capacity { map room_of self.new.lanes.items ≡ map room_of self.old.lanes.items }
         // of one lane with room for all blocks, each load makes one more block held, but for the last of a refused call
         ensures loads { (old : _) (new : _) → self.old.lanes.items ≡ old ∷ [] → self.new.lanes.items ≡ new ∷ [] →
             all_blocks cat.now ≤ room_of old → self.new.loads ≤ self.old.loads + (held_in new - held_in old) + slack_of
@@ -145,6 +150,8 @@ impl<F: Folder, L: Ledger> Team<F, L> {
         ensures typed { OnOk result (All (IsInBand cat.now window.dataset window.band) out.new) }
         ensures ready { All (IsReady F.Folder folder.new cat.now) self.new.lanes.items }
         ensures count { length self.new.lanes.items ≡ length self.old.lanes.items }
+        // each lane has the room that it had
+        ensures capacity { map room_of self.new.lanes.items ≡ map room_of self.old.lanes.items }
         // of one lane with room for all blocks, each load makes one more block held, but for the last of a refused call
         ensures loads { (old : _) (new : _) → self.old.lanes.items ≡ old ∷ [] → self.new.lanes.items ≡ new ∷ [] →
             all_blocks cat.now ≤ room_of old → self.new.loads ≤ self.old.loads + (held_in new - held_in old) + slack_of
@@ -196,6 +203,8 @@ impl<F: Folder, L: Ledger> Team<F, L> {
         ensures typed { OnOk result (All (IsInBand supply.now.cat.now window.dataset window.band) out.new) }
         ensures ready { All (IsReady F.Folder folder.new supply.now.cat.now) self.new.lanes.items }
         ensures count { length self.new.lanes.items ≡ length self.old.lanes.items }
+        // each lane has the room that it had
+        ensures capacity { map room_of self.new.lanes.items ≡ map room_of self.old.lanes.items }
         // of one lane with room for all blocks, each load makes one more block held, but for the last of a refused call
         ensures loads { (old : _) (new : _) → self.old.lanes.items ≡ old ∷ [] → self.new.lanes.items ≡ new ∷ [] →
             all_blocks supply.now.cat.now ≤ room_of old → self.new.loads ≤ self.old.loads + (held_in new - held_in old)

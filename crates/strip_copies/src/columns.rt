@@ -55,6 +55,8 @@ impl Columns {
     pub fn new(alloc: Global, plan: &Plan, width: u32) -> Result<Columns, AllocError>
         requires width { width ≤ most_side }
         ensures columns { IfOk result (AreColumns plan.now width) }
+        ensures first { IfOk result (λ c. c.first ≡ held_to width plan.now.x) }
+        ensures end { IfOk result (λ c. c.first + c.count ≡ held_to width (plan.now.x +ℤ pos plan.now.window.w)) }
     {
         plan.rules();
         let first = held_to(width, plan.x);

@@ -1,5 +1,5 @@
 // Lines of a translation's output, read by a team of lanes.
-ghost use Rattle.std.specs.Prelude.{◌≡◌, ◌<◌, ◌≤◌, ◌+◌, ◌-◌, ◌*◌, All, IfErr, IfOk, OnOk, length, option_map};
+ghost use Rattle.std.specs.Prelude.{◌≡◌, ◌<◌, ◌≤◌, ◌+◌, ◌-◌, ◌*◌, All, IfErr, IfOk, OnOk, length, map, option_map};
 ghost use Rattle.std.specs.Prelude.{slice_get, false, true, Some};
 ghost use Rattle.geotransform.specs.Geo.{IsRaster};
 ghost use Rattle.outside.specs.Causes.{HasCause};
@@ -9,6 +9,7 @@ ghost use Rattle.band_blocks.specs.Open.{IsUnchanged};
 ghost use Rattle.catalog.specs.Drivers.{Dataset};
 ghost use Rattle.catalog.specs.Pixels.{pixel_of_name};
 ghost use Rattle.catalog.specs.Places.{row_by_row};
+ghost use Rattle.nearest_window.specs.Lanes.{room_of};
 ghost use Rattle.nearest_window.specs.Right.{TellsChangeIn};
 ghost use Rattle.nearest_window.specs.Shown.{IsWindow};
 ghost use Rattle.lane_teams.specs.Ready.{AreLanesFresh, AreLanesReady};
@@ -100,6 +101,7 @@ impl<F: Folder, L: Ledger> StripReader<F, L> {
         requires shares { 0 < blank.parts }
         ensures lanes { IfOk result (λ reader. length reader.team.lanes.items ≡ workers) }
         ensures fresh { IfOk result (λ reader. AreLanesFresh F.Folder reader.team.lanes.items) }
+        ensures capacity { IfOk result (λ reader. All (λ lane. room_of lane ≡ capacity) reader.team.lanes.items) }
         ensures room { IfOk result (λ reader. IsRoomFor translation.now.cat translation.now.id translation.now.plan
             reader.columns reader.samples.items) }
         ensures bound { IfOk result (λ reader. length reader.samples.items ≤ most_samples) }
@@ -271,6 +273,7 @@ fn read_direct<R: Threads + Sync, F: Folder, L: Ledger, S: Scene>(
         shown.now.translation.now.plan run.band run.first (length out.old) out.new) }
     ensures ready { AreLanesReady F.Folder S.told S.cat folder.new shown.now.translation.now.cat team.new.lanes.items }
     ensures lanes { length team.new.lanes.items ≡ length team.old.lanes.items }
+    ensures capacity { map room_of team.new.lanes.items ≡ map room_of team.old.lanes.items }
     ensures only_read { OnlyReadByViews F.Folder folder.old folder.new }
     ensures cause { HasCause LoadFault.FolderFault (F.faults folder.old) (F.faults folder.new) result }
     ensures changed { IfErr result (TellsChangeIn shown.now.translation.now.cat) }
@@ -317,6 +320,7 @@ fn read_made<R: Threads + Sync, F: Folder, L: Ledger, S: Scene>(
         shown.now.translation.now.plan run.band run.first (length out.old) out.new) }
     ensures ready { AreLanesReady F.Folder S.told S.cat folder.new shown.now.translation.now.cat team.new.lanes.items }
     ensures lanes { length team.new.lanes.items ≡ length team.old.lanes.items }
+    ensures capacity { map room_of team.new.lanes.items ≡ map room_of team.old.lanes.items }
     ensures only_read { OnlyReadByViews F.Folder folder.old folder.new }
     ensures cause { HasCause LoadFault.FolderFault (F.faults folder.old) (F.faults folder.new) result }
     ensures changed { IfErr result (TellsChangeIn shown.now.translation.now.cat) }
@@ -364,6 +368,7 @@ fn read_part<R: Threads + Sync, F: Folder, L: Ledger, S: Scene>(
         shown.now.translation.now.plan next.run.band next.run.first (length out.old) out.new) }
     ensures ready { AreLanesReady F.Folder S.told S.cat folder.new shown.now.translation.now.cat team.new.lanes.items }
     ensures lanes { length team.new.lanes.items ≡ length team.old.lanes.items }
+    ensures capacity { map room_of team.new.lanes.items ≡ map room_of team.old.lanes.items }
     ensures only_read { OnlyReadByViews F.Folder folder.old folder.new }
     ensures cause { HasCause LoadFault.FolderFault (F.faults folder.old) (F.faults folder.new) result }
     ensures changed { IfErr result (TellsChangeIn shown.now.translation.now.cat) }
@@ -415,6 +420,7 @@ fn read_runs<R: Threads + Sync, F: Folder, L: Ledger, S: Scene>(
         shown.now.translation.now.plan lines.band lines.first (length out.old) out.new) }
     ensures ready { AreLanesReady F.Folder S.told S.cat folder.new shown.now.translation.now.cat team.new.lanes.items }
     ensures lanes { length team.new.lanes.items ≡ length team.old.lanes.items }
+    ensures capacity { map room_of team.new.lanes.items ≡ map room_of team.old.lanes.items }
     ensures only_read { OnlyReadByViews F.Folder folder.old folder.new }
     ensures cause { HasCause LoadFault.FolderFault (F.faults folder.old) (F.faults folder.new) result }
     ensures changed { IfErr result (TellsChangeIn shown.now.translation.now.cat) }
@@ -450,8 +456,8 @@ fn read_runs<R: Threads + Sync, F: Folder, L: Ledger, S: Scene>(
 ///
 /// FolderFault comes only where the folder's count rose, Memory freely. Changed comes only where a file was opened
 /// again and had another length than the walk found, or was absent: never over a folder that tells its files. After a
-/// refusal
-/// `out` is unknown, and the lanes are still ready. Of one lane each read is behind a load that is counted.
+/// refusal `out` is unknown, and the lanes are still ready. Each lane has the room that it had. Of one lane each read
+/// is behind a load that is counted.
 pub fn read_lines<R: Threads + Sync, F: Folder, L: Ledger, S: Scene>(
     rt: &R,
     translation: &Translation,
@@ -477,6 +483,8 @@ pub fn read_lines<R: Threads + Sync, F: Folder, L: Ledger, S: Scene>(
     ensures held { OnOk result (All (IsHeldIn translation.now.plan lines.band) out.new) }
     ensures ready { AreLanesReady F.Folder S.told S.cat folder.new translation.now.cat reader.new.team.lanes.items }
     ensures lanes { length reader.new.team.lanes.items ≡ length reader.old.team.lanes.items }
+    // each lane has the room that it had
+    ensures capacity { map room_of reader.new.team.lanes.items ≡ map room_of reader.old.team.lanes.items }
     ensures room { IsRoomFor translation.now.cat translation.now.id translation.now.plan reader.new.columns
         reader.new.samples.items }
     ensures only_read { OnlyReadByViews F.Folder folder.old folder.new }

@@ -1,15 +1,11 @@
-use Rattle.std.proofs.Common.{◌≡◌, ◌*◌, ◌/◌, ℕ, refl, ap, subst, length, arith}
+use Rattle.std.proofs.Common.{◌*◌, ◌/◌, refl, ap, length, arith}
 use Rattle.nearest_window.specs.declared.window.Window.{Window}
-use Rattle.lane_teams.specs.Turns.{HaveRead}
 use Rattle.lane_teams.proofs.Halving.{front_ready, back_ready, front_fits, halves_read}
 use Rattle.lane_teams.proofs.Windows.{window_low}
 use Rattle.lane_teams.proofs.beside.+lanes.Goals as goal
 
 pub read_all-returns-then-count-eq1 : goal.read_all-returns-then-count-eq1
-read_all-returns-then-count-eq1 g t c =
-    let counted = c.if-count-eq1.true in
-    let one : 1 ≡ length c.args.lanes.now = omega (arith, counted) in
-    record { read = subst (λ (n : ℕ). HaveRead g.F.Folder g.S.Scene.told c.args.supply.now.cat.now c.args.job.now c.args.first n c.read_one.new.lanes c.read_one.new.turns c.read_one.new.out) one c.read_one.ensures.read }
+read_all-returns-then-count-eq1 g t c = record { read = c.read_one.ensures.read }
 
 pub read_all-part_of-requires-clause-low : goal.read_all-part_of-requires-clause-low
 read_all-part_of-requires-clause-low g t c = window_low c.args.supply.now.cat.now c.args.job.now.window c.count-count.ensures.valid c.requires.ready.window

@@ -56,6 +56,9 @@ pub returns-in_err-turns-clause-ready : goal.returns-in_err-turns-clause-ready
 returns-in_err-turns-clause-ready g c =
     all_kept g.F.Folder c.args.supply.now.cat.now c.args.folder.now c.turns_of.new.folder c.args.lanes.now c.in_err-turns.ensures.only_read.names c.requires.ready
 
+pub returns-clause-capacity : goal.returns-clause-capacity
+returns-clause-capacity g c = c.read_views.ensures.read.rooms
+
 pub collect-requires-clause-turns : goal.collect-requires-clause-turns
 collect-requires-clause-turns g c κs within =
     let whole = put_back c.in_ok-turns.turns.len c.read_views.new.turns c.in_ok-turns.turns.items (sym (c.read_views.auto.turns ∙ c.as_mut_slice.ensures.len)) in

@@ -16,7 +16,7 @@ take_turn-requires-clause-window g c κs within =
 pub returns : goal.returns
 returns g c = record {
   read =
-      one_read g.F.Folder g.S.Scene.told c.args.supply.now.cat.now c.args.job.now c.args.first c.args.lanes.now c.args.turns.now c.take_turn.new.lane c.take_turn.new.turn c.args.out.now
-      c.requires.ready c.requires.one c.take_turn.new.out c.take_turn.ensures.right c.take_turn.ensures.turn
+      one_read g.F.Folder g.S.Scene.told c.args.supply.now.cat.now c.args.job.now c.args.first c.args.lanes.now c.args.turns.now c.take_turn.new.lane _ c.take_turn.new.turn c.args.out.now
+      c.requires.ready c.requires.one c.take_turn.new.out c.take_turn.ensures.capacity c.take_turn.ensures.right c.take_turn.ensures.turn
       (λ ok. subst (λ w. AreOfWindow g.S.Scene.told c.args.supply.now.cat.now w c.take_turn.new.out) c.part_of-window.ensures.part (c.take_turn.ensures.shown ok));
 }

@@ -31,6 +31,9 @@ returns-in_err-read_part-clause-reads g c =
     let before = c.loop-line.invariant in
     λ one. reads_more (most_calls c.args.shown.now.translation.now.cat) c.args.team.now.loads c.loop-line.team.loads c.read_part.new.team.loads _ _ _ before.counted c.read_part.ensures.counted (before.reads one) (c.read_part.ensures.reads (before.lanes ∙ one))
 
+pub returns-in_err-read_part-clause-capacity : goal.returns-in_err-read_part-clause-capacity
+returns-in_err-read_part-clause-capacity g c = c.read_part.ensures.capacity ∙ c.loop-line.invariant.capacity
+
 pub loop-line-preserved : goal.loop-line-preserved
 loop-line-preserved g c =
     let p = c.args.shown.now.translation.now.plan in
@@ -61,6 +64,7 @@ loop-line-preserved g c =
           (samples_moved _ _ d.head.name p d.head.size _ _ _ _ _ _ c.read_part.new.out before.only_read.names run.band down part (c.in_ok-read_part.ensures.samples d at)));
       ready = here.ready;
       lanes = here.lanes ∙ before.lanes;
+      capacity = here.capacity ∙ before.capacity;
       only_read = record { names = here.only_read.names ∙ before.only_read.names; writes = omega (arith, here.only_read.writes, before.only_read.writes); faults = omega (arith, here.only_read.faults, before.only_read.faults) };
       counted = omega (arith, before.counted, here.counted);
       reads = λ one. reads_more (most_calls c.args.shown.now.translation.now.cat) c.args.team.now.loads c.loop-line.team.loads c.read_part.new.team.loads _ _ _ before.counted here.counted (before.reads one) (here.reads (before.lanes ∙ one));

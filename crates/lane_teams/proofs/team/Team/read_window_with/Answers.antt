@@ -1,8 +1,10 @@
-use Rattle.std.proofs.Common.{◌∙◌, ap, sym, subst, length, arith}
+use Rattle.std.proofs.Common.{◌∙◌, ap, sym, subst, length, map, arith}
 use Rattle.std.specs.List.{All}
 use Rattle.std.specs.Prelude.{slice_set}
+use lib.Seq.{map-set_same}
 use Rattle.std.proofs.lemmas.List.{length-set}
 use Rattle.std.proofs.lemmas.List.Elements.{All-set}
+use Rattle.nearest_window.specs.Lanes.{room_of}
 use Rattle.nearest_window.specs.Right.{IsReady}
 use Rattle.lane_teams.proofs.Halving.{all_kept}
 use Rattle.lane_teams.proofs.Refusals.{on_ok, put_back}
@@ -62,3 +64,18 @@ returns-clause-count g c =
     let new = c.read_beside.new.lanes in
     let long = sym (c.read_beside.auto.lanes ∙ c.as_mut_slice-lanes.ensures.len) in
     ap length (put_back c.args.self.now.lanes.len new c.args.self.now.lanes.items long) ∙ c.read_beside.auto.lanes ∙ ap length c.as_mut_slice-lanes.ensures.value
+
+pub returns-then-count-eq1-clause-capacity : goal.returns-then-count-eq1-clause-capacity
+returns-then-count-eq1-clause-capacity g c =
+    let xs = c.as_mut_slice-lanes.result.now in
+    let new = slice_set xs 0 c.read_window_with.new.self in
+    let long = sym (length-set xs 0 c.read_window_with.new.self ∙ c.as_mut_slice-lanes.ensures.len) in
+    ap (map room_of) (put_back c.args.self.now.lanes.len new c.args.self.now.lanes.items long)
+    ∙ map-set_same room_of xs 0 c.read_window_with.new.self _ c.read_window_with.ensures.capacity
+    ∙ ap (map room_of) c.as_mut_slice-lanes.ensures.value
+
+pub returns-clause-capacity : goal.returns-clause-capacity
+returns-clause-capacity g c =
+    let new = c.read_beside.new.lanes in
+    let long = sym (c.read_beside.auto.lanes ∙ c.as_mut_slice-lanes.ensures.len) in
+    ap (map room_of) (put_back c.args.self.now.lanes.len new c.args.self.now.lanes.items long) ∙ c.read_beside.ensures.capacity ∙ ap (map room_of) c.as_mut_slice-lanes.ensures.value

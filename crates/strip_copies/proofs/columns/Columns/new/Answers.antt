@@ -14,8 +14,8 @@ loop-column-preserved c =
       each = push_more (λ i n. within c.args.width (shown_column c.args.plan.now i) ≡ column_at c.held_to-first.result (c.held_to-end.result - c.held_to-first.result) n) c.loop-column.places.items c.push.new.self.items c.loop-column.column c.column_place.result before.long more before.each c.column_place.ensures.place;
     }
 
-pub returns : goal.returns
-returns c =
+pub returns-clause-columns : goal.returns-clause-columns
+returns-clause-columns c =
     let wide = ap (λ (p : Planned). p.size.w) c.plan.view_is in
     let first : c.held_to-first.result ≤ c.args.width = subst (λ n. n ≤ c.args.width) (sym c.held_to-first.ensures.nearest) (held_within c.args.width _) in
     let end : c.held_to-end.result ≤ c.args.width = subst (λ n. n ≤ c.args.width) (sym c.held_to-end.ensures.nearest) (held_within c.args.width _) in
@@ -23,9 +23,7 @@ returns c =
     let most = c.loop-column.auto.column-end in
     let before = c.loop-column.invariant in
     record {
-      columns = record {
-        inside = omega (arith, first, end);
-        long = omega (arith, before.long, wide, all, most);
-        each = λ i less. before.each i (omega (arith, less, wide, all));
-      };
+      inside = omega (arith, first, end);
+      long = omega (arith, before.long, wide, all, most);
+      each = λ i less. before.each i (omega (arith, less, wide, all));
     }
