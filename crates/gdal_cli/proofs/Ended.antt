@@ -9,6 +9,7 @@ use Rattle.catalog.specs.declared.faults.WalkFault.{WalkFault}
 use Rattle.catalog.specs.declared.faults.WalkFault.TheVariants as walk
 use Rattle.catalog.specs.Outcomes as outcomes
 use Rattle.catalog.specs.Dataset.{DatasetHead}
+use Rattle.std.specs.Prelude.{IfErr}
 use Rattle.std.specs.Result.{IsErr, IsErrAnd}
 use Rattle.catalog.specs.Drivers.{Dataset}
 use Rattle.catalog.specs.Heads.{dataset_in, head_in}
@@ -20,6 +21,7 @@ use Rattle.info_report.specs.declared.report.ReportFault.{ReportFault}
 use Rattle.info_report.specs.declared.report.ReportFault.TheVariants as report
 use Rattle.info_report.specs.Report.{info_text}
 use Rattle.error_lines.specs.declared.faults.Fault.{Fault}
+use Rattle.error_lines.specs.declared.faults.Fault.TheVariants.{OutFault}
 use Rattle.error_lines.specs.Faults.{fault_of, report_fault_of, by_walk, IsOutside}
 use Rattle.gdal_cli.specs.declared.asked.Asked.{Asked}
 use Rattle.gdal_cli.specs.Input.{AnswersInput, StopsBehind}
@@ -32,6 +34,11 @@ use Rattle.gdal_cli.proofs.Cuts.{printed_one, printed_prints}
 -- where nothing was put, a first part of every text was
 pub nothing_put : (text : List ℕ) (old : Option (List ℕ)) → GetsPart text old old
 nothing_put text old = λ g is. (0, is ∙ ap (λ (t : List ℕ). Some t) (sym (append-nil g)))
+
+-- and every fault came before anything was put
+pub unput : {T X : Type 0} (r : Result T Fault) (x : X) → IfErr r (λ f. (f ≡ OutFault → ⊥) → x ≡ x)
+unput (Ok done) x = tt
+unput (Err f) x = λ other. refl
 
 -- a fault of the outside of a walk is one of the run
 pub outside_walk : (f : WalkFault) → outcomes.IsOutside f → IsOutside (fault_of f)

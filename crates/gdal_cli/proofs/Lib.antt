@@ -18,4 +18,5 @@ pub mod SynthEnds
 pub mod Told
 pub mod TranslationEnds
 pub mod Unread
+pub mod Untold
 pub mod Warning

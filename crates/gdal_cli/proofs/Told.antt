@@ -58,7 +58,7 @@ not_files form (inl is) files = cc
 not_files form (inr is) files = cc
 
 -- a column or a line of the side
-within_side : (side n : ℕ) → n < side → within side (pos n) ≡ Some n
+pub within_side : (side n : ℕ) → n < side → within side (pos n) ≡ Some n
 within_side side n less = cond-true (nat_lt n side) (Some n) None (lt-ltb n side less)
 
 module _ (m : Files) (cat : List Dataset) (d : Dataset) (asked : Asked) where

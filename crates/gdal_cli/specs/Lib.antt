@@ -8,3 +8,4 @@ pub mod Input
 pub mod Lanes
 pub mod Pixels
 pub mod Published
+pub mod Untold

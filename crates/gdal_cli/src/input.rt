@@ -8,7 +8,7 @@ ghost use Rattle.input_points.specs.Lines.{ended_lines};
 ghost use Rattle.input_points.specs.Reading.{start, coming};
 ghost use Rattle.catalog.specs.Drivers.{Dataset};
 ghost use Rattle.error_lines.specs.Faults.{Differs, HasCauses};
-ghost use Rattle.gdal_cli.specs.Faults.{IsOfLines};
+ghost use Rattle.gdal_cli.specs.Faults.{IsOfLines, TellsChange};
 ghost use Rattle.gdal_cli.specs.Input.{IsReading, room_of, AnswersNext, AnswersPiece, AnswersPieces, AnswersInput};
 ghost use Rattle.gdal_cli.specs.Input.{StopsBehind};
 ghost use Rattle.gdal_cli.specs.Lanes.{IsReadyWith};
@@ -56,6 +56,7 @@ fn answer_line<F: Folder, O: Sink, L: Ledger, S: Scene>(
     ensures room { length points.new.room.values.items ≡ length points.old.room.values.items }
     ensures late { IfErr result IsOfLines }
     ensures differs { Differs result }
+    ensures changed { IfErr result (TellsChange question.now.cat) }
     ensures names { F.names folder.new ≡ F.names folder.old }
     ensures writes { F.write_calls folder.new ≡ F.write_calls folder.old }
 {
@@ -101,6 +102,7 @@ fn answer_next<F: Folder, O: Sink, L: Ledger, S: Scene>(
     ensures room { length points.new.room.values.items ≡ length points.old.room.values.items }
     ensures late { IfErr result IsOfLines }
     ensures differs { Differs result }
+    ensures changed { IfErr result (TellsChange question.now.cat) }
     ensures names { F.names folder.new ≡ F.names folder.old }
     ensures writes { F.write_calls folder.new ≡ F.write_calls folder.old }
 {
@@ -143,6 +145,7 @@ fn answer_piece<F: Folder, O: Sink, L: Ledger, S: Scene>(
     ensures room { length points.new.room.values.items ≡ length points.old.room.values.items }
     ensures late { IfErr result IsOfLines }
     ensures differs { Differs result }
+    ensures changed { IfErr result (TellsChange question.now.cat) }
     ensures names { F.names folder.new ≡ F.names folder.old }
     ensures writes { F.write_calls folder.new ≡ F.write_calls folder.old }
 {
@@ -187,6 +190,7 @@ fn answer_pieces<F: Folder, I: Input, O: Sink, L: Ledger, S: Scene>(
     ensures room { length points.new.room.values.items ≡ length points.old.room.values.items }
     ensures late { IfErr result IsOfLines }
     ensures differs { Differs result }
+    ensures changed { IfErr result (TellsChange question.now.cat) }
     ensures names { F.names folder.new ≡ F.names folder.old }
     ensures writes { F.write_calls folder.new ≡ F.write_calls folder.old }
 {
@@ -239,6 +243,7 @@ pub fn answer_input<F: Folder, I: Input, O: Sink, L: Ledger, S: Scene>(
     ensures room { length points.new.room.values.items ≡ length points.old.room.values.items }
     ensures late { IfErr result IsOfLines }
     ensures differs { Differs result }
+    ensures changed { IfErr result (TellsChange question.now.cat) }
     ensures names { F.names folder.new ≡ F.names folder.old }
     ensures writes { F.write_calls folder.new ≡ F.write_calls folder.old }
 {

@@ -130,6 +130,7 @@ fn put_answers<F: Folder, I: Input, O: Sink, L: Ledger, S: Scene>(
     ensures read { OnOk result (is_some point ≡ false → (i : List ℕ) → I.left input.old ≡ Some i →
         I.left input.new ≡ Some []) }
     ensures untouched { is_some point ≡ true → input.new ≡ input.old }
+    ensures unput { is_some point ≡ true → IfErr result (λ f. (f ≡ Fault.OutFault → ⊥) → out.new ≡ out.old) }
     ensures cause { HasCauses (F.faults folder.old) (F.faults folder.new) (O.faults out.old) (O.faults out.new) result }
     ensures input_cause { HasCause Fault.InputFault (I.faults input.old) (I.faults input.new) result }
     ensures lines { IfErr result IsOfLines }

@@ -5,9 +5,11 @@ ghost use Rattle.outside.specs.Causes.{HasCause};
 ghost use Rattle.catalog.specs.Drivers.{Dataset};
 ghost use Rattle.location_report.specs.Covering.{covering_files};
 ghost use Rattle.error_lines.specs.Faults.{IsOutside, Differs, HasCauses, IsOfReading};
+ghost use Rattle.gdal_cli.specs.Faults.{TellsChange};
 ghost use Rattle.gdal_cli.specs.Lanes.{IsReadyWith};
-ghost use Rattle.gdal_cli.specs.Location.{told_text, point_text, PutsText};
+ghost use Rattle.gdal_cli.specs.Location.{column_and_line, told_text, point_text, PutsText};
 ghost use Rattle.gdal_cli.specs.Pixels.{IsOnRaster, HasBands};
+ghost use Rattle.gdal_cli.specs.Untold.{TellsPlace, PutsPlace};
 
 use crate::point_pixels::{column_and_line, within};
 use crate::reader::{PixelReader, PointReader, Question, Room};
@@ -59,6 +61,9 @@ fn make_inside<F: Folder, L: Ledger, S: Scene>(
     ensures text { (m : Files) → F.names folder.old ≡ Some m → (d : Dataset) →
         slice_get question.now.cat question.now.id ≡ Some d →
         OnOk result (room.new.text.items ≡ told_text m question.now.cat d question.now.asked (pos x, pos y)) }
+    ensures place { OnOk result (TellsPlace question.now.cat question.now.id question.now.asked (pos x, pos y)
+        room.new.text.items) }
+    ensures changed { IfErr result (TellsChange question.now.cat) }
     ensures never { (m : Files) → F.names folder.old ≡ Some m → IfErr result IsOutside }
     ensures cause { HasCause Fault.FolderFault (F.faults folder.old) (F.faults folder.new) result }
     ensures not_input { result ≡ Err Fault.InputFault → ⊥ }
@@ -114,6 +119,9 @@ fn make_text<F: Folder, L: Ledger, S: Scene>(
     ensures text { (m : Files) → F.names folder.old ≡ Some m → (d : Dataset) →
         slice_get question.now.cat question.now.id ≡ Some d →
         OnOk result (room.new.text.items ≡ told_text m question.now.cat d question.now.asked (column, line)) }
+    ensures place { OnOk result (TellsPlace question.now.cat question.now.id question.now.asked (column, line)
+        room.new.text.items) }
+    ensures changed { IfErr result (TellsChange question.now.cat) }
     ensures never { (m : Files) → F.names folder.old ≡ Some m → IfErr result IsOutside }
     ensures cause { HasCause Fault.FolderFault (F.faults folder.old) (F.faults folder.new) result }
     ensures not_input { result ≡ Err Fault.InputFault → ⊥ }
@@ -146,11 +154,12 @@ fn make_text<F: Folder, L: Ledger, S: Scene>(
     }
 }
 
-/// Puts what is told of a point of a dataset. The text is made whole before it is put.
+/// Puts what is told of a point of a dataset. The text is made whole before it is put. Over a folder that doesn't tell
+/// its names, it tells of the place with some value of each band, which is of the band's type.
 ///
 /// FolderFault and OutFault come only where the count of the folder and of the output rose, Changed only over a folder
-/// that doesn't tell its names, Memory freely. Nothing was put then, but for an OutFault, before which a first part of
-/// the text was.
+/// that doesn't tell its names, with the name of a file and the length that the walk found, Memory freely. Nothing was
+/// put then, but for an OutFault, before which a first part of the text was.
 pub fn put_point<F: Folder, O: Sink, L: Ledger, S: Scene>(
     question: &Question,
     points: &mut PointReader<F, L, S>,
@@ -165,6 +174,11 @@ pub fn put_point<F: Folder, O: Sink, L: Ledger, S: Scene>(
     ensures told { (m : Files) → F.names folder.old ≡ Some m → (d : Dataset) →
         slice_get question.now.cat question.now.id ≡ Some d →
         PutsText (point_text m question.now.cat d question.now.asked x y) result (O.got out.old) (O.got out.new) }
+    // over every folder, a text of the place was put
+    ensures place { OnOk result (PutsPlace question.now.cat question.now.id question.now.asked
+        (column_and_line question.now.asked.frame x y) (O.got out.old) (O.got out.new)) }
+    ensures unput { IfErr result (λ f. (f ≡ Fault.OutFault → ⊥) → out.new ≡ out.old) }
+    ensures changed { IfErr result (TellsChange question.now.cat) }
     ensures never { (m : Files) → F.names folder.old ≡ Some m → (name : List ℕ) (was : ℕ) (now : Option ℕ) →
         result ≡ Err (Fault.Changed name was now) → ⊥ }
     ensures cause { HasCauses (F.faults folder.old) (F.faults folder.new) (O.faults out.old) (O.faults out.new) result }

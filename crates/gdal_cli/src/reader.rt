@@ -1,5 +1,6 @@
 // What the points of a dataset are answered with.
-ghost use Rattle.std.specs.Prelude.{◌≡◌, ◌<◌, IfOk, length};
+ghost use Rattle.std.specs.Prelude.{◌≡◌, ◌<◌, IfOk, [], length};
+ghost use Rattle.nearest_window.specs.Lanes.{held_in, room_of};
 ghost use Rattle.nearest_window.specs.Right.{IsFresh};
 
 use crate::asked::Asked;
@@ -49,6 +50,7 @@ impl Room {
     /// Room for the values of so many bands, and no text.
     pub fn new(alloc: Global, bands: usize) -> Result<Room, AllocError>
         ensures values { IfOk result (λ room. length room.values.items ≡ bands) }
+        ensures text { IfOk result (λ room. room.text.items ≡ []) }
     {
         Ok(Room {
             values: vec![in alloc; 0; bands]?,
@@ -58,7 +60,8 @@ impl Room {
 }
 
 impl<'a, F: Folder, L: Ledger, S: Scene> PointReader<'a, F, L, S> {
-    /// A reader that holds so many blocks at a time, for points of so many bands. It has read nothing.
+    /// A reader that holds so many blocks at a time, looks for them in these lines, if there are any, and has room for
+    /// the values of so many bands, and no text. It has read nothing.
     pub fn new(
         alloc: Global,
         blocks: BlockCount,
@@ -71,6 +74,11 @@ impl<'a, F: Folder, L: Ledger, S: Scene> PointReader<'a, F, L, S> {
         requires some { 0 < blank.parts }
         ensures fresh { IfOk result (λ points. IsFresh F.Folder points.pixels.lane) }
         ensures room { IfOk result (λ points. length points.room.values.items ≡ bands) }
+        ensures text { IfOk result (λ points. points.room.text.items ≡ []) }
+        ensures capacity { IfOk result (λ points. room_of points.pixels.lane ≡ blocks) }
+        ensures empty { IfOk result (λ points. held_in points.pixels.lane ≡ 0) }
+        ensures none { IfOk result (λ points. points.pixels.loads ≡ 0) }
+        ensures shared { IfOk result (λ points. points.pixels.shared ≡ shared.entry) }
     {
         let loads = Counter::open(blank);
         let lane = Lane::new(alloc, blocks.get())?;

@@ -4,8 +4,10 @@ ghost use Rattle.outside.specs.Outside.{Files};
 ghost use Rattle.outside.specs.Causes.{HasCause};
 ghost use Rattle.catalog.specs.Pixels.{pixel_of};
 ghost use Rattle.error_lines.specs.Faults.{IsOutside, Differs, IsOfReading};
+ghost use Rattle.nearest_window.specs.Shown.{IsInBand};
+ghost use Rattle.gdal_cli.specs.Faults.{TellsChange};
 ghost use Rattle.gdal_cli.specs.Lanes.{IsReadyWith};
-ghost use Rattle.gdal_cli.specs.Pixels.{IsOnRaster, AreBands, HasBands};
+ghost use Rattle.gdal_cli.specs.Pixels.{IsOnRaster, AreBands, AreOfBands, HasBands};
 
 use crate::reader::{PixelReader, Question};
 use error_lines::Fault;
@@ -29,6 +31,8 @@ fn read_value<F: Folder, L: Ledger, S: Scene>(
     requires band { AreBands question.now.cat question.now.id (λ count. band < count) }
     ensures value { (m : Files) → F.names folder.old ≡ Some m →
         IfOk result (λ v. v ≡ pixel_of m question.now.cat question.now.id band x y) }
+    ensures typed { IfOk result (IsInBand question.now.cat question.now.id band) }
+    ensures changed { IfErr result (TellsChange question.now.cat) }
     ensures ready { IsReadyWith F.Folder S.told S.cat folder.new question.now.cat pixels.new.lane }
     ensures never { (m : Files) → F.names folder.old ≡ Some m → IfErr result IsOutside }
     ensures late { IfErr result IsOfReading }
@@ -58,9 +62,9 @@ fn read_value<F: Folder, L: Ledger, S: Scene>(
 
 /// Fills `values` with the values of these bands, counted from 1, in a column and a line.
 ///
-/// FolderFault comes only where the folder's count rose, Changed only over a folder that doesn't tell its names, where
-/// a file was opened again and had another length than the walk found or was absent, Memory freely. After a refusal
-/// `values` are unknown.
+/// FolderFault comes only where the folder's count rose, Changed only over a folder that doesn't tell its names, with
+/// the name of a file that was opened again, the length that the walk found, and another one, or none where the file
+/// was absent; Memory freely. After a refusal `values` are unknown.
 pub fn read_values<F: Folder, L: Ledger, S: Scene>(
     question: &Question,
     pixels: &mut PixelReader<F, L, S>,
@@ -76,6 +80,9 @@ pub fn read_values<F: Folder, L: Ledger, S: Scene>(
     requires room { length values.old ≡ length bands.now }
     ensures values { (m : Files) → F.names folder.old ≡ Some m →
         OnOk result (values.new ≡ map (λ band. pixel_of m question.now.cat question.now.id (band - 1) x y) bands.now) }
+    // over every folder, each value is of its band's type
+    ensures typed { OnOk result (AreOfBands question.now.cat question.now.id bands.now values.new) }
+    ensures changed { IfErr result (TellsChange question.now.cat) }
     ensures room { length values.new ≡ length values.old }
     ensures ready { IsReadyWith F.Folder S.told S.cat folder.new question.now.cat pixels.new.lane }
     ensures never { (m : Files) → F.names folder.old ≡ Some m → IfErr result IsOutside }

@@ -8,7 +8,7 @@ use Rattle.gdal_cli.specs.Location.{answers, point_text}
 use Rattle.gdal_cli.specs.Run.{Ends}
 use Rattle.gdal_cli.proofs.Causes.{readings_of_lines}
 use Rattle.gdal_cli.proofs.Changed.{puts_unchanged}
-use Rattle.gdal_cli.proofs.Ended.{err_is, ends_outside, equal_put, lines_put}
+use Rattle.gdal_cli.proofs.Ended.{err_is, ends_outside, equal_put, lines_put, unput}
 use Rattle.gdal_cli.proofs.Pieces.{always_ok, then_ok}
 use Rattle.gdal_cli.proofs.jobs.put_answers.Goals as goal
 
@@ -62,3 +62,9 @@ returns-in-Some-clause-read g c = always_ok c.put_point-put.result _ (λ none i 
 
 pub returns-clause-read : goal.returns-clause-read
 returns-clause-read g c = then_ok c.answer_input-answered.result _ _ c.answer_input-answered.ensures.read (λ read none i left. read i left)
+
+pub returns-in_err-points-clause-unput : goal.returns-in_err-points-clause-unput
+returns-in_err-points-clause-unput g c = λ some. unput c.from_residual.result c.args.out.now
+
+pub returns-in-Some-clause-unput : goal.returns-in-Some-clause-unput
+returns-in-Some-clause-unput g c = λ some. c.put_point-put.ensures.unput
