@@ -1,8 +1,10 @@
 pub mod Alike
 mod Beside
+pub mod Changes
 pub mod Copied
 pub mod Ends
 pub mod Goes
+pub mod Puts
 pub mod Told
 pub mod Whole
 pub mod Written

@@ -4,11 +4,14 @@ use Rattle.std.specs.Prelude.{IfErr, slice_get}
 use Rattle.outside.specs.Outside.{Files}
 use Rattle.outside.specs.Streams.{Gets, GetsPart}
 use Rattle.catalog.specs.Drivers.{Dataset}
+use Rattle.band_blocks.specs.declared.fault.LoadFault.TheVariants as load
+use Rattle.nearest_window.specs.Right.{TellsChangeIn}
 use Rattle.translate_plan.specs.Plan.{Planned}
 use Rattle.write_back.specs.Files.{IsTarget}
 use Rattle.write_back.specs.Plans.{output_of}
 use Rattle.write_back.specs.View.{Output, Blocks, Rows, TargetView, columns_of, sheet_in, shown, IsIn, IsMetOn}
 use Rattle.error_lines.specs.declared.faults.Fault.{Fault}
+use Rattle.error_lines.specs.declared.faults.Fault.TheVariants.{Changed}
 use Rattle.error_lines.specs.Faults.{Differs, HasCauses, IsOfReading, IsOutside}
 use Rattle.error_lines.specs.Progress.{progress}
 use Rattle.output_copies.specs.Steps.{raster_of}
@@ -22,6 +25,22 @@ spoken false told = told
 abbrev pub Tells : Bool → Result ℕ Fault → Option (List ℕ) → Option (List ℕ) → Type 0
 Tells quiet (Ok told) before after = Gets (spoken quiet (take told progress)) before after
 Tells quiet (Err fault) before after = GetsPart (spoken quiet progress) before after
+
+-- a text was put, or where a fault is answered a first part of it
+abbrev pub Puts : {T : Type 0} → List ℕ → Result T Fault → Option (List ℕ) → Option (List ℕ) → Type 0
+Puts text (Ok done) before after = Gets text before after
+Puts text (Err fault) before after = GetsPart text before after
+
+-- the fault says that a file changed
+abbrev pub IsChanged : Fault → Type 0
+IsChanged (Changed name was now) = Unit {0}
+IsChanged fault = ⊥
+
+-- where it does, the file is that of a dataset of the catalog, and the fault says its name, the length that the walk
+-- found, and another length or none
+abbrev pub TellsChangeOf : List Dataset → Fault → Type 0
+TellsChangeOf cat (Changed name was now) = TellsChangeIn cat (load.Changed name was now)
+TellsChangeOf cat fault = Unit {0}
 
 -- How a part of a translation may end: the counts of the folder and of the output rose where their faults are answered,
 -- and where the folder tells its files, what is answered is a fault of the outside.

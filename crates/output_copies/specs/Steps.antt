@@ -21,6 +21,10 @@ use Rattle.error_lines.specs.Steps.{Step, Prints, publishes}
 abbrev pub size_line : Size → List ℕ
 size_line size = text (codes "Input file size is " ∷ decimal size.w ∷ codes ", " ∷ decimal size.h ∷ codes "\n" ∷ [])
 
+-- all that is told: the size of the source, how far the work is, and that it is done
+abbrev pub translation_text : Size → List ℕ
+translation_text size = size_line size ++ (progress ++ progress_end)
+
 -- a text is put, but for a quiet translation
 abbrev pub unless_quiet : Bool → List ℕ → List Step
 unless_quiet true told = []

@@ -6,9 +6,10 @@ ghost use Rattle.catalog.specs.Drivers.{Dataset};
 ghost use Rattle.translate_plan.specs.Documents.{document_by};
 ghost use Rattle.translate_plan.specs.declared.options.Driver.TheVariants.{Vrt};
 ghost use Rattle.strip_copies.specs.Copies.{IsTranslation};
+ghost use Rattle.error_lines.specs.Faults.{IsOutside};
 ghost use Rattle.error_lines.specs.Progress.{progress};
 ghost use Rattle.error_lines.specs.Steps.{Publishes, all_done, Goes};
-ghost use Rattle.output_copies.specs.Copying.{MayEnd};
+ghost use Rattle.output_copies.specs.Copying.{spoken, MayEnd, Puts};
 ghost use Rattle.output_copies.specs.Steps.{unless_quiet};
 
 use crate::progress::put_progress;
@@ -47,9 +48,11 @@ pub fn write_document<F: Folder, O: Sink>(
         Goes (all_done (unless_quiet writing.now.quiet progress ++ Publishes writing.now.name.now
         (spelled (document_by translation.now.plan writing.now.name.now d.head)) ∷ [])) m result (F.names folder.new)
         (O.got out.old) (O.got out.new) }
+    ensures put { Puts (spoken writing.now.quiet progress) result (O.got out.old) (O.got out.new) }
     ensures quiet { writing.now.quiet ≡ true → out.new ≡ out.old }
     ensures ends { MayEnd (F.names folder.old) (F.faults folder.old) (F.faults folder.new) (O.faults out.old)
         (O.faults out.new) result }
+    ensures outside { IfErr result IsOutside }
 {
     let document = document_for(translation, writing.name)?;
     put_progress(out, writing.quiet)?;

@@ -10,11 +10,13 @@ ghost use Rattle.lane_teams.specs.Ready.{AreLanesFresh, AreLanesReady};
 ghost use Rattle.translate_plan.specs.declared.options.Driver.TheVariants.{Vrt};
 ghost use Rattle.write_back.specs.Plans.{output_of, IsNamedFor};
 ghost use Rattle.strip_copies.specs.Copies.{IsRoomFor, IsTranslation};
-ghost use Rattle.error_lines.specs.Faults.{Differs, HasCauses, IsOfReading};
+ghost use Rattle.strip_copies.specs.Heights.{most_samples};
+ghost use Rattle.error_lines.specs.Faults.{Differs, HasCauses, IsOfReading, IsOutside};
 ghost use Rattle.error_lines.specs.Progress.{progress};
 ghost use Rattle.error_lines.specs.Steps.{all_done, publishes, Goes};
-ghost use Rattle.output_copies.specs.Copying.{spoken, IsFilled, MayEnd};
-ghost use Rattle.output_copies.specs.Steps.{files_by, raster_of, translation_steps, unless_quiet, written};
+ghost use Rattle.output_copies.specs.Copying.{spoken, IsChanged, IsFilled, MayEnd, Puts, TellsChangeOf};
+ghost use Rattle.output_copies.specs.Steps.{files_by, raster_of, translation_steps, translation_text, unless_quiet};
+ghost use Rattle.output_copies.specs.Steps.{written};
 ghost use Rattle.band_blocks.specs.Blocks.{most_blocks};
 
 use crate::ahead::{Rooms, copy_ahead};
@@ -56,6 +58,7 @@ fn copier_for<'a, F: Folder, L: Ledger, W: Ledger, S: Scene>(
     ensures room { IfOk result (λ copier. IsRoomFor translation.now.cat translation.now.id translation.now.plan
         copier.reader.columns copier.reader.samples.items) }
     ensures rows { IfOk result (λ copier. 1 ≤ copier.rows) }
+    ensures bound { IfOk result (λ copier. translation.now.plan.size.w * copier.rows ≤ most_samples) }
     ensures quiet { IfOk result (λ copier. copier.quiet ≡ writing.now.quiet) }
     ensures memory { IfErr result (λ f. f ≡ Fault.Memory) }
 {
@@ -131,6 +134,7 @@ fn copy_lines<R: Threads + Sync, F: Folder, O: Sink, L: Ledger + Send, W: Ledger
     ensures quiet { copier.old.quiet ≡ true → out.new ≡ out.old }
     ensures ends { MayEnd (F.names folder.old) (F.faults folder.old) (F.faults folder.new) (O.faults out.old)
         (O.faults out.new) result }
+    ensures changed { IfErr result (TellsChangeOf translation.now.cat) }
 {
     match second_room(translation, copier.ahead, copier.rows) {
         Some(next) => {
@@ -155,6 +159,7 @@ fn publish<F: Folder, W: Ledger>(
         Goes (all_done (publishes (files_by (output_of translation.now.plan) target.name
         (raster_of m d translation.now.plan)))) m result (F.names folder.new) text text }
     ensures ends { MayEnd (F.names folder.old) (F.faults folder.old) (F.faults folder.new) 0 0 result }
+    ensures outside { IfErr result IsOutside }
 {
     translation.plan.rules();
     match target.close(folder, writes) {
@@ -217,9 +222,12 @@ fn write_files<R: Threads + Sync, F: Folder, O: Sink, L: Ledger + Send, W: Ledge
         Goes (all_done (unless_quiet writing.now.quiet progress ++ publishes
         (files_by (output_of translation.now.plan) writing.now.name.now (raster_of m d translation.now.plan)))) m result
         (F.names folder.new) (O.got out.old) (O.got out.new) }
+    ensures put { Puts (spoken writing.now.quiet progress) result (O.got out.old) (O.got out.new) }
     ensures quiet { writing.now.quiet ≡ true → out.new ≡ out.old }
     ensures ends { MayEnd (F.names folder.old) (F.faults folder.old) (F.faults folder.new) (O.faults out.old)
         (O.faults out.new) result }
+    ensures changed { IfErr result (TellsChangeOf translation.now.cat) }
+    ensures kept { IfErr result (λ f. IsChanged f → F.names folder.new ≡ F.names folder.old) }
 {
     let alloc = translation.alloc;
     let plan = &translation.plan;
@@ -264,9 +272,12 @@ fn write_planned<R: Threads + Sync, F: Folder, O: Sink>(
         Goes (all_done (unless_quiet writing.now.quiet progress ++ publishes
         (written m d translation.now.plan writing.now.name.now))) m result (F.names folder.new) (O.got out.old)
         (O.got out.new) }
+    ensures put { Puts (spoken writing.now.quiet progress) result (O.got out.old) (O.got out.new) }
     ensures quiet { writing.now.quiet ≡ true → out.new ≡ out.old }
     ensures ends { MayEnd (F.names folder.old) (F.faults folder.old) (F.faults folder.new) (O.faults out.old)
         (O.faults out.new) result }
+    ensures changed { IfErr result (TellsChangeOf translation.now.cat) }
+    ensures kept { IfErr result (λ f. IsChanged f → F.names folder.new ≡ F.names folder.old) }
 {
     translation.plan.rules();
     if let Driver::Vrt = translation.plan.driver {
@@ -290,8 +301,8 @@ fn write_planned<R: Threads + Sync, F: Folder, O: Sink>(
 /// workers.
 ///
 /// FolderFault and OutFault come only where the count of the folder and of the output rose, Changed only where a file
-/// was opened again and had another length than the walk found, or was absent, and Memory freely. All names but those
-/// that were published by then keep what they held, and no draft is left.
+/// was opened again and had another length than the walk found, or was absent, and then nothing was published, and
+/// Memory freely. All names but those that were published by then keep what they held, and no draft is left.
 pub fn write_output<R: Threads + Sync, F: Folder, O: Sink>(
     rt: &R,
     translation: &Translation,
@@ -309,10 +320,17 @@ pub fn write_output<R: Threads + Sync, F: Folder, O: Sink>(
         slice_get translation.now.cat translation.now.id ≡ Some d →
         Goes (all_done (translation_steps writing.now.quiet m d translation.now.plan writing.now.name.now)) m result
         (F.names folder.new) (O.got out.old) (O.got out.new)) }
+    // over every folder: the size of the source, all of the progress line and its end are put, or where a fault is
+    // answered a first part of them
+    ensures put { (d : Dataset) → slice_get translation.now.cat translation.now.id ≡ Some d →
+        Puts (spoken writing.now.quiet (translation_text d.head.size)) result (O.got out.old) (O.got out.new) }
     // over every folder and for every answer: a quiet copy leaves the sink as it was
     ensures quiet { writing.now.quiet ≡ true → out.new ≡ out.old }
     ensures faults { IfErr result IsOfReading }
     ensures differs { Differs result }
+    // over every folder: a length that changed is that of a dataset of the catalog, and then nothing is published
+    ensures changed { IfErr result (TellsChangeOf translation.now.cat) }
+    ensures kept { IfErr result (λ f. IsChanged f → F.names folder.new ≡ F.names folder.old) }
     ensures cause { HasCauses (F.faults folder.old) (F.faults folder.new) (O.faults out.old) (O.faults out.new) result }
 {
     put_size(translation, out, writing.quiet)?;

@@ -1,8 +1,8 @@
 // Parts of an output: lines of a band, which are read and then written.
-ghost use Rattle.std.specs.Prelude.{◌≡◌, ◌+◌, ◌-◌, ◌*◌, length, OnOk};
+ghost use Rattle.std.specs.Prelude.{◌≡◌, ◌+◌, ◌-◌, ◌*◌, length, IfErr, OnOk};
 ghost use Rattle.lane_teams.specs.Ready.{AreLanesReady};
 ghost use Rattle.strip_copies.specs.Copies.{IsRoomFor, IsTranslation};
-ghost use Rattle.output_copies.specs.Copying.{IsFilled, MayEnd};
+ghost use Rattle.output_copies.specs.Copying.{IsFilled, MayEnd, TellsChangeOf};
 ghost use Rattle.output_copies.specs.Parts.{ArePart, AreRead};
 
 use error_lines::Fault;
@@ -44,6 +44,7 @@ pub fn read_part<R: Threads + Sync, F: Folder, L: Ledger, S: Scene>(
         reader.new.samples.items }
     ensures names { F.names folder.new ≡ F.names folder.old }
     ensures ends { MayEnd (F.names folder.old) (F.faults folder.old) (F.faults folder.new) 0 0 result }
+    ensures changed { IfErr result (TellsChangeOf translation.now.cat) }
 {
     read_lines(rt, translation, reader, folder, shared, lines, samples)?;
     Ok(())
@@ -68,6 +69,7 @@ pub fn write_part<F: Folder, W: Ledger>(
     ensures name { target.new.name ≡ target.old.name }
     ensures names { F.names folder.new ≡ F.names folder.old }
     ensures ends { MayEnd (F.names folder.old) (F.faults folder.old) (F.faults folder.new) 0 0 result }
+    ensures changed { IfErr result (TellsChangeOf translation.now.cat) }
 {
     let plan = &translation.plan;
     plan.rules();

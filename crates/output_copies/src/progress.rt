@@ -1,5 +1,5 @@
 // What is told while the lines of an output are written.
-ghost use Rattle.std.specs.Prelude.{◌≡◌, ◌<◌, ◌≤◌, ℕ, List, Option, IfOk, OnErr, OnOk, take, true};
+ghost use Rattle.std.specs.Prelude.{◌≡◌, ◌<◌, ◌≤◌, ℕ, List, Option, IfErr, IfOk, OnErr, OnOk, take, true};
 ghost use Rattle.outside.specs.Outside.{Files};
 ghost use Rattle.outside.specs.Streams.{Gets, GetsPart};
 ghost use Rattle.error_lines.specs.Progress.{progress};
@@ -37,6 +37,7 @@ pub fn tell<O: Sink>(out: &mut O, quiet: bool, told: usize, share: Share) -> Res
     ensures within { IfOk result (λ next. next ≤ 49) }
     ensures whole { share.done ≡ share.height → IfOk result (λ next. next ≡ 49) }
     ensures quiet { quiet ≡ true → out.new ≡ out.old }
+    ensures faults { IfErr result (λ f. f ≡ Fault.OutFault) }
     ensures ends { (names : Option Files) (faults : ℕ) → MayEnd names faults faults (O.faults out.old)
         (O.faults out.new) result }
 {
@@ -52,6 +53,7 @@ pub fn put_progress<O: Sink>(out: &mut O, quiet: bool) -> Result<(), Fault>
     ensures ok { OnOk result (Gets (spoken quiet progress) (O.got out.old) (O.got out.new)) }
     ensures err { OnErr result (GetsPart (spoken quiet progress) (O.got out.old) (O.got out.new)) }
     ensures quiet { quiet ≡ true → out.new ≡ out.old }
+    ensures faults { IfErr result (λ f. f ≡ Fault.OutFault) }
     ensures ends { (names : Option Files) (faults : ℕ) → MayEnd names faults faults (O.faults out.old)
         (O.faults out.new) result }
 {

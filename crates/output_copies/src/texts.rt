@@ -1,5 +1,6 @@
 // What is told of a translation.
-ghost use Rattle.std.specs.Prelude.{◌≡◌, ℕ, ◌∷◌, [], Option, Some, OnOk, OnErr, slice_get, codes, decimal, true};
+ghost use Rattle.std.specs.Prelude.{◌≡◌, ℕ, ◌∷◌, [], Option, Some, IfErr, OnOk, OnErr, slice_get, codes, decimal};
+ghost use Rattle.std.specs.Prelude.{true};
 ghost use Rattle.lists_and_answers.specs.Texts.{joined};
 ghost use Rattle.outside.specs.Outside.{Files};
 ghost use Rattle.outside.specs.Streams.{Gets, GetsPart};
@@ -20,6 +21,7 @@ pub fn put_text<O: Sink>(out: &mut O, quiet: bool, parts: &[&[u8]]) -> Result<()
     ensures ok { OnOk result (Gets (spoken quiet (joined parts.now)) (O.got out.old) (O.got out.new)) }
     ensures err { OnErr result (GetsPart (spoken quiet (joined parts.now)) (O.got out.old) (O.got out.new)) }
     ensures quiet { quiet ≡ true → out.new ≡ out.old }
+    ensures faults { IfErr result (λ f. f ≡ Fault.OutFault) }
     ensures ends { (told : Option Files) (faults : ℕ) → MayEnd told faults faults (O.faults out.old) (O.faults out.new)
         result }
 {
@@ -46,6 +48,7 @@ fn put_sides<O: Sink>(size: Size, out: &mut O, quiet: bool) -> Result<(), Fault>
     ensures ok { OnOk result (Gets (spoken quiet (size_line size)) (O.got out.old) (O.got out.new)) }
     ensures err { OnErr result (GetsPart (spoken quiet (size_line size)) (O.got out.old) (O.got out.new)) }
     ensures quiet { quiet ≡ true → out.new ≡ out.old }
+    ensures faults { IfErr result (λ f. f ≡ Fault.OutFault) }
     ensures ends { (told : Option Files) (faults : ℕ) → MayEnd told faults faults (O.faults out.old) (O.faults out.new)
         result }
 {
@@ -68,6 +71,7 @@ pub fn put_size<O: Sink>(translation: &Translation, out: &mut O, quiet: bool) ->
     ensures err { (d : Dataset) → slice_get translation.now.cat translation.now.id ≡ Some d →
         OnErr result (GetsPart (spoken quiet (size_line d.head.size)) (O.got out.old) (O.got out.new)) }
     ensures quiet { quiet ≡ true → out.new ≡ out.old }
+    ensures faults { IfErr result (λ f. f ≡ Fault.OutFault) }
     ensures ends { (told : Option Files) (faults : ℕ) → MayEnd told faults faults (O.faults out.old) (O.faults out.new)
         result }
 {
@@ -80,6 +84,7 @@ pub fn put_end<O: Sink>(out: &mut O, quiet: bool) -> Result<(), Fault>
     ensures ok { OnOk result (Gets (spoken quiet progress_end) (O.got out.old) (O.got out.new)) }
     ensures err { OnErr result (GetsPart (spoken quiet progress_end) (O.got out.old) (O.got out.new)) }
     ensures quiet { quiet ≡ true → out.new ≡ out.old }
+    ensures faults { IfErr result (λ f. f ≡ Fault.OutFault) }
     ensures ends { (told : Option Files) (faults : ℕ) → MayEnd told faults faults (O.faults out.old) (O.faults out.new)
         result }
 {

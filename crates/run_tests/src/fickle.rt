@@ -106,12 +106,7 @@ impl Folder for Fickle {
         Ok(())
     }
 
-    fn write_at(
-        &mut self,
-        _draft: &mut Blank,
-        _pos: u64,
-        _bytes: &[u8],
-    ) -> Result<(), WriteFault> {
+    fn write_at(&mut self, _draft: &mut Blank, _pos: u64, _bytes: &[u8]) -> Result<(), WriteFault> {
         self.writes = self.writes.saturating_add(1);
         Ok(())
     }
@@ -126,12 +121,7 @@ impl Folder for Fickle {
         }
     }
 
-    fn draft_read(
-        &mut self,
-        _draft: &mut Blank,
-        _pos: u64,
-        _out: &mut [u8],
-    ) -> Result<(), Failed> {
+    fn draft_read(&mut self, _draft: &mut Blank, _pos: u64, _out: &mut [u8]) -> Result<(), Failed> {
         Ok(())
     }
 

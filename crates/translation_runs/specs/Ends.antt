@@ -1,5 +1,6 @@
 -- How a translation may end over every folder.
-use Rattle.std.specs.Prelude.{ℕ, ◌≡◌, ◌⊎◌, Contains, List, Option, Some, None, Result, Ok, Err}
+use Rattle.std.specs.Prelude.{ℕ, ◌≡◌, ◌⊎◌, Bool, Contains, List, Option, Some, None, Result, Ok, Err}
+use Rattle.geotransform.specs.declared.types.Size.{Size}
 use Rattle.catalog.specs.Heads.{kind_in, IsOwnFault}
 use Rattle.catalog.specs.declared.kind.Kind.{Kind}
 use Rattle.catalog.specs.declared.kind.Kind.TheVariants as kinds
@@ -12,6 +13,8 @@ use Rattle.error_lines.specs.declared.faults.Fault.TheVariants.{TooDeep, Limit, 
 use Rattle.error_lines.specs.declared.faults.Fault.TheVariants.{BadPoint, Changed, FolderFault, InputFault, OutFault}
 use Rattle.error_lines.specs.declared.faults.Fault.TheVariants.{Memory}
 use Rattle.error_lines.specs.Faults.{fault_of}
+use Rattle.output_copies.specs.Copying.{spoken, Puts}
+use Rattle.output_copies.specs.Steps.{translation_text}
 use Rattle.translation_runs.specs.Published.{names_written}
 
 -- The faults that a translation may end with. A name that isn't recognized tells no kind, want of memory is never told
@@ -35,6 +38,11 @@ MayEnd o FolderFault = Unit {0}
 MayEnd o InputFault = ⊥
 MayEnd o OutFault = Unit {0}
 MayEnd o Memory = Unit {0}
+
+-- all that is told of a translation of a source of some size was put, but for a quiet one, or where a fault is answered
+-- a first part of it
+abbrev pub PutsText : Bool → Result (Unit {0}) Fault → Option (List ℕ) → Option (List ℕ) → Type 0
+PutsText quiet result before after = (size : Size) × Puts (spoken quiet (translation_text size)) result before after
 
 -- the fault that a call ended with, if there is one
 abbrev pub ended : Result (Unit {0}) Fault → Option Fault

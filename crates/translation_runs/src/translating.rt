@@ -3,7 +3,8 @@ ghost use Rattle.std.specs.Prelude.{◌≡◌, IfErr, Some, true};
 ghost use Rattle.outside.specs.Outside.{Files};
 ghost use Rattle.error_lines.specs.Faults.{HasCauses, HasChanged, fault_status};
 ghost use Rattle.error_lines.specs.Steps.{Goes};
-ghost use Rattle.translation_runs.specs.Ends.{MayEnd, RefusesName, ended};
+ghost use Rattle.output_copies.specs.Copying.{IsChanged};
+ghost use Rattle.translation_runs.specs.Ends.{MayEnd, PutsText, RefusesName, ended};
 ghost use Rattle.translation_runs.specs.Judged.{translation_run};
 ghost use Rattle.translation_runs.specs.Published.{IsNamed};
 
@@ -38,8 +39,8 @@ pub struct Way {
 ///
 /// The refusals of the walk come first, then Plan, then SameName with the first such name, all before anything is put
 /// or published. FolderFault and OutFault come only where the count of the folder and of the output rose, Changed only
-/// over a folder that doesn't tell its names, Memory freely. Nothing of this depends on the number of blocks or of
-/// workers.
+/// over a folder that doesn't tell its names, before anything is published, Memory freely. Nothing of this depends on
+/// the number of blocks or of workers.
 #[tactic(auto, unfolding(crate::specs::Judged::translation_judged))]
 pub fn put_translation<R: Threads + Sync, F: Folder, O: Sink>(
     rt: &R,
@@ -58,11 +59,15 @@ pub fn put_translation<R: Threads + Sync, F: Folder, O: Sink>(
     // over every folder: a refused translation has done nothing
     ensures refused { IfErr result (λ f. fault_status f ≡ 1 → (out.new ≡ out.old) ×
         (F.names folder.new ≡ F.names folder.old)) }
+    // over every folder: all that is told of a source of some size is put, or where a fault is answered a first part
+    ensures put { PutsText way.quiet result (O.got out.old) (O.got out.new) }
     // over every folder and for every answer: a quiet translation leaves the sink as it was
     ensures quiet { way.quiet ≡ true → out.new ≡ out.old }
     ensures may_end { IfErr result (MayEnd options.now) }
     ensures unknown { RefusesName src.now result }
     ensures changed { HasChanged (F.names folder.old) (ended result) }
+    // over every folder: where a length changed nothing was published
+    ensures kept { IfErr result (λ f. IsChanged f → F.names folder.new ≡ F.names folder.old) }
     ensures cause { HasCauses (F.faults folder.old) (F.faults folder.new) (O.faults out.old) (O.faults out.new) result }
 {
     let mut cat = Catalog::new(alloc);

@@ -1,6 +1,7 @@
 use Rattle.std.proofs.Common.{◌≡◌, refl, arith, sym, subst, length, ℕ, Option}
 use Rattle.outside.specs.Outside.{Files}
-use Rattle.output_copies.specs.Copying.{IsFilled}
+use Rattle.output_copies.specs.Copying.{IsFilled, TellsChangeOf}
+use Rattle.output_copies.proofs.Changes.{handed_on}
 use Rattle.output_copies.proofs.Copied.{filled_next, filled_to}
 use Rattle.output_copies.proofs.copying.copy_strip.Goals as goal
 
@@ -22,3 +23,9 @@ returns-clause-filled g c =
     subst (λ (o : Option Files). IsFilled o c.args.translation.now.cat c.args.translation.now.id p c.loop-band.target c.args.strip.end c.args.strip.end 0) (sym before.names)
     (filled_next (g.F.Folder.names c.args.folder.now) c.args.translation.now.cat c.args.translation.now.id p c.rules.ensures.kept c.loop-band.target c.args.strip.first c.args.strip.end c.args.strip.end c.requires.order
     (subst (λ (k : ℕ). IsFilled (g.F.Folder.names c.args.folder.now) c.args.translation.now.cat c.args.translation.now.id p c.loop-band.target c.args.strip.first c.args.strip.end k) all before.filled))
+
+pub returns-in_err-copy_band-clause-changed : goal.returns-in_err-copy_band-clause-changed
+returns-in_err-copy_band-clause-changed g c =
+    let cat = c.args.translation.now.cat in
+    let x = c.in_err-copy_band.field-0.0 in
+    handed_on (TellsChangeOf cat) x c.from_residual.result c.from_residual.ensures c.in_err-copy_band.ensures.changed

@@ -24,3 +24,6 @@ returns-in-Err-clause-goes g c = λ m d told at text.
     publishes_stops (files_by (output_of p) c.args.target.name (raster_of m d p)) m n c.from.result (g.F.Folder.names c.close.new.folder) text
     (subst names whole.1 (c.in-Err.ensures.files m told (λ calm. whole.0)))
     (outside_target c.in-Err.fault.cause c.from.result c.from.ensures)
+
+pub returns-in-Err-clause-outside : goal.returns-in-Err-clause-outside
+returns-in-Err-clause-outside g c = outside_target c.in-Err.fault.cause c.from.result c.from.ensures

@@ -1,14 +1,16 @@
 use Rattle.std.proofs.Common.{◌≡◌, ◌∙◌, refl, arith, sym, subst, ℕ, Bool, List, Some, Err}
 use Rattle.outside.specs.Streams.{Gets, GetsPart}
-use Rattle.error_lines.specs.Faults.{target_fault_of}
+use Rattle.error_lines.specs.Faults.{target_fault_of, IsOutside}
 use Rattle.error_lines.specs.Progress.{progress}
 use Rattle.error_lines.specs.Steps.{all_done, publishes, Goes}
 use Rattle.write_back.specs.Plans.{output_of}
 use Rattle.lane_teams.proofs.Lanes.{lanes_begin}
-use Rattle.output_copies.specs.Copying.{spoken, MayEnd}
+use Rattle.output_copies.specs.Copying.{spoken, MayEnd, TellsChangeOf}
 use Rattle.output_copies.specs.Steps.{files_by, raster_of, unless_quiet}
+use Rattle.output_copies.proofs.Changes.{handed_on, kept_all, kept_outside, memory_tells, outside_tells, target_tells, where_failed}
 use Rattle.output_copies.proofs.Ends.{ends_after, ends_beside, ends_so, ends_target, err_is, outside_memory, outside_target}
 use Rattle.output_copies.proofs.Goes.{goes_refused, goes_stop, goes_then, spoken_done, spoken_stops}
+use Rattle.output_copies.proofs.Puts.{puts_none, puts_whole}
 use Rattle.output_copies.proofs.Written.{samples_steps}
 use Rattle.output_copies.proofs.output.write_files.Goals as goal
 
@@ -75,3 +77,65 @@ returns-clause-ends g c =
     subst (λ (n : ℕ). MayEnd {T = Unit {0}} (g.F.Folder.names c.args.folder.now) (g.F.Folder.faults c.args.folder.now) n (g.O.Sink.faults c.args.out.now) (g.O.Sink.faults c.copy_lines.new.out) (Err c.in-Err.fault)) (sym c.give_up.ensures.faults)
     (ends_after (g.F.Folder.names c.args.folder.now) (g.F.Folder.names c.create.new.folder) (g.F.Folder.faults c.args.folder.now) (g.F.Folder.faults c.create.new.folder) (g.F.Folder.faults c.copy_lines.new.folder) (g.O.Sink.faults c.args.out.now) (g.O.Sink.faults c.args.out.now) (g.O.Sink.faults c.copy_lines.new.out) (Err c.in-Err.fault)
     c.create.ensures.names c.create.ensures.cause.later (omega arith) c.in-Err.ensures.ends)
+
+pub returns-in_err-copier-clause-put : goal.returns-in_err-copier-clause-put
+returns-in_err-copier-clause-put g c = puts_none (spoken c.args.writing.now.quiet progress) c.in_err-copier.field-0.0 c.from_residual.result (g.O.Sink.got c.args.out.now) c.from_residual.ensures
+
+pub returns-in_err-copier-clause-changed : goal.returns-in_err-copier-clause-changed
+returns-in_err-copier-clause-changed g c =
+    let cat = c.args.translation.now.cat in
+    let x = c.in_err-copier.field-0.0 in
+    handed_on (TellsChangeOf cat) x c.from_residual.result c.from_residual.ensures (memory_tells cat x c.in_err-copier.ensures.memory)
+
+pub returns-in_err-copier-clause-kept : goal.returns-in_err-copier-clause-kept
+returns-in_err-copier-clause-kept g c = kept_all c.from_residual.result (g.F.Folder.names c.args.folder.now) (g.F.Folder.names c.args.folder.now) refl
+
+pub returns-in_err-samples-clause-put : goal.returns-in_err-samples-clause-put
+returns-in_err-samples-clause-put g c = puts_none (spoken c.args.writing.now.quiet progress) c.in_err-samples.field-0.0 c.from_residual-in_err-samples.result (g.O.Sink.got c.args.out.now) c.from_residual-in_err-samples.ensures
+
+pub returns-in_err-samples-clause-changed : goal.returns-in_err-samples-clause-changed
+returns-in_err-samples-clause-changed g c =
+    let cat = c.args.translation.now.cat in
+    let x = c.in_err-samples.field-0.0 in
+    handed_on (TellsChangeOf cat) x c.from_residual-in_err-samples.result c.from_residual-in_err-samples.ensures (memory_tells cat x c.in_err-samples.ensures.memory)
+
+pub returns-in_err-samples-clause-kept : goal.returns-in_err-samples-clause-kept
+returns-in_err-samples-clause-kept g c = kept_all c.from_residual-in_err-samples.result (g.F.Folder.names c.args.folder.now) (g.F.Folder.names c.args.folder.now) refl
+
+pub returns-in_err-target-clause-put : goal.returns-in_err-target-clause-put
+returns-in_err-target-clause-put g c = puts_none (spoken c.args.writing.now.quiet progress) (target_fault_of c.in_err-target.field-0.0) c.from_residual-in_err-target.result (g.O.Sink.got c.args.out.now) c.from_residual-in_err-target.ensures
+
+pub returns-in_err-target-clause-changed : goal.returns-in_err-target-clause-changed
+returns-in_err-target-clause-changed g c =
+    let cat = c.args.translation.now.cat in
+    let x = c.in_err-target.field-0.0 in
+    handed_on (TellsChangeOf cat) (target_fault_of x) c.from_residual-in_err-target.result c.from_residual-in_err-target.ensures (target_tells cat x)
+
+pub returns-in_err-target-clause-kept : goal.returns-in_err-target-clause-kept
+returns-in_err-target-clause-kept g c = kept_all c.from_residual-in_err-target.result (g.F.Folder.names c.args.folder.now) (g.F.Folder.names c.create.new.folder) c.create.ensures.names
+
+pub returns-in-Ok-clause-put : goal.returns-in-Ok-clause-put
+returns-in-Ok-clause-put g c =
+    let before = g.O.Sink.got c.args.out.now in
+    let after = g.O.Sink.got c.copy_lines.new.out in
+    puts_whole (spoken c.args.writing.now.quiet progress) c.publish.result before after (subst (λ (b : Bool). Gets (spoken b progress) before after) c.in_ok-copier.ensures.quiet c.in-Ok.ensures.ok)
+
+pub returns-in-Ok-clause-changed : goal.returns-in-Ok-clause-changed
+returns-in-Ok-clause-changed g c =
+    let cat = c.args.translation.now.cat in
+    where_failed IsOutside (TellsChangeOf cat) c.publish.result (outside_tells cat) c.publish.ensures.outside
+
+pub returns-in-Ok-clause-kept : goal.returns-in-Ok-clause-kept
+returns-in-Ok-clause-kept g c = kept_outside c.publish.result _ c.publish.ensures.outside
+
+pub returns-clause-put : goal.returns-clause-put
+returns-clause-put g c =
+    let before = g.O.Sink.got c.args.out.now in
+    let after = g.O.Sink.got c.copy_lines.new.out in
+    subst (λ (b : Bool). GetsPart (spoken b progress) before after) c.in_ok-copier.ensures.quiet c.in-Err.ensures.err
+
+pub returns-clause-changed : goal.returns-clause-changed
+returns-clause-changed g c = c.in-Err.ensures.changed
+
+pub returns-clause-kept : goal.returns-clause-kept
+returns-clause-kept g c = λ is. c.give_up.ensures.names ∙ (c.copy_lines.ensures.names ∙ c.create.ensures.names)

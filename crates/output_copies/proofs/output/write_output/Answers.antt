@@ -1,8 +1,14 @@
-use Rattle.std.proofs.Common.{refl, arith, sym, subst, Result, Err}
+use Rattle.std.proofs.Common.{◌≡◌, ◌++◌, refl, arith, sym, subst, Result, Err}
 use Rattle.error_lines.specs.declared.faults.Fault.{Fault}
+use Rattle.error_lines.specs.declared.faults.Fault.TheVariants.{OutFault}
+use Rattle.error_lines.specs.Faults.{IsOutside}
+use Rattle.error_lines.specs.Progress.{progress, progress_end}
 use Rattle.error_lines.specs.Steps.{all_done, Goes}
-use Rattle.output_copies.specs.Steps.{translation_steps}
+use Rattle.output_copies.specs.Copying.{spoken, IsChanged, TellsChangeOf}
+use Rattle.output_copies.specs.Steps.{size_line, translation_steps, translation_text}
+use Rattle.output_copies.proofs.Changes.{handed_on, kept_all, kept_outside, out_outside, out_tells, where_failed}
 use Rattle.output_copies.proofs.Ends.{ends_after, ends_so, err_is}
+use Rattle.output_copies.proofs.Puts.{first_part, puts_by, puts_part, puts_then, second_part}
 use Rattle.output_copies.proofs.Whole.{end_goes, files_stop, size_stops}
 use Rattle.output_copies.proofs.output.write_output.Goals as goal
 
@@ -75,3 +81,62 @@ returns-clause-cause g c =
     let ends = ends_after told told (g.F.Folder.faults c.args.folder.now) (g.F.Folder.faults c.write_planned.new.folder) (g.F.Folder.faults c.write_planned.new.folder) (g.O.Sink.faults c.args.out.now) (g.O.Sink.faults c.write_planned.new.out) (g.O.Sink.faults c.put_end.new.out) c.put_end.result refl
     folder_later (omega arith) (c.put_end.ensures.ends told (g.F.Folder.faults c.write_planned.new.folder)) in
     ends.cause
+
+pub returns-in_err-put_size-clause-put : goal.returns-in_err-put_size-clause-put
+returns-in_err-put_size-clause-put g c = λ d at.
+    let q = c.args.writing.now.quiet in
+    let before = g.O.Sink.got c.args.out.now in
+    let after = g.O.Sink.got c.put_size.new.out in
+    puts_part (spoken q (translation_text d.head.size)) c.in_err-put_size.field-0.0 c.from_residual.result before after c.from_residual.ensures
+    (first_part q (size_line d.head.size) (progress ++ progress_end) before after (c.in_err-put_size.ensures.err d at))
+
+pub returns-in_err-put_size-clause-changed : goal.returns-in_err-put_size-clause-changed
+returns-in_err-put_size-clause-changed g c =
+    let cat = c.args.translation.now.cat in
+    let f = c.in_err-put_size.field-0.0 in
+    handed_on (TellsChangeOf cat) f c.from_residual.result c.from_residual.ensures (out_tells cat f c.in_err-put_size.ensures.faults)
+
+pub returns-in_err-put_size-clause-kept : goal.returns-in_err-put_size-clause-kept
+returns-in_err-put_size-clause-kept g c = kept_all c.from_residual.result (g.F.Folder.names c.args.folder.now) (g.F.Folder.names c.args.folder.now) refl
+
+pub returns-in_err-write_planned-clause-put : goal.returns-in_err-write_planned-clause-put
+returns-in_err-write_planned-clause-put g c = λ d at.
+    let q = c.args.writing.now.quiet in
+    let size = size_line d.head.size in
+    let before = g.O.Sink.got c.args.out.now in
+    let mid = g.O.Sink.got c.put_size.new.out in
+    let after = g.O.Sink.got c.write_planned.new.out in
+    let r = c.from_residual-in_err-write_planned in
+    puts_part (spoken q (translation_text d.head.size)) c.in_err-write_planned.field-0.0 r.result before after r.ensures
+    (second_part q size (progress ++ progress_end) before mid after (c.in_ok-put_size.ensures.ok d at) (first_part q progress progress_end mid after c.in_err-write_planned.ensures.put))
+
+pub returns-in_err-write_planned-clause-changed : goal.returns-in_err-write_planned-clause-changed
+returns-in_err-write_planned-clause-changed g c =
+    let cat = c.args.translation.now.cat in
+    let r = c.from_residual-in_err-write_planned in
+    handed_on (TellsChangeOf cat) c.in_err-write_planned.field-0.0 r.result r.ensures c.in_err-write_planned.ensures.changed
+
+pub returns-in_err-write_planned-clause-kept : goal.returns-in_err-write_planned-clause-kept
+returns-in_err-write_planned-clause-kept g c =
+    let r = c.from_residual-in_err-write_planned in
+    handed_on (λ (f : Fault). IsChanged f → g.F.Folder.names c.write_planned.new.folder ≡ g.F.Folder.names c.args.folder.now) c.in_err-write_planned.field-0.0 r.result r.ensures c.in_err-write_planned.ensures.kept
+
+pub returns-clause-put : goal.returns-clause-put
+returns-clause-put g c = λ d at.
+    let q = c.args.writing.now.quiet in
+    let r = c.put_end.result in
+    let before = g.O.Sink.got c.args.out.now in
+    let mid = g.O.Sink.got c.put_size.new.out in
+    let late = g.O.Sink.got c.write_planned.new.out in
+    let after = g.O.Sink.got c.put_end.new.out in
+    puts_then q (size_line d.head.size) (progress ++ progress_end) r before mid after (c.in_ok-put_size.ensures.ok d at)
+    (puts_then q progress progress_end r mid late after c.in_ok-write_planned.ensures.put
+    (puts_by (spoken q progress_end) r late after c.put_end.ensures.ok c.put_end.ensures.err))
+
+pub returns-clause-changed : goal.returns-clause-changed
+returns-clause-changed g c =
+    let cat = c.args.translation.now.cat in
+    where_failed (λ (f : Fault). f ≡ OutFault) (TellsChangeOf cat) c.put_end.result (out_tells cat) c.put_end.ensures.faults
+
+pub returns-clause-kept : goal.returns-clause-kept
+returns-clause-kept g c = kept_outside c.put_end.result _ (where_failed (λ (f : Fault). f ≡ OutFault) IsOutside c.put_end.result out_outside c.put_end.ensures.faults)

@@ -1,5 +1,8 @@
 use Rattle.std.proofs.Common.{◌≡◌, ap, refl, arith}
 use Rattle.translate_plan.specs.Plan.{Planned}
+use Rattle.error_lines.specs.Faults.{target_fault_of}
+use Rattle.output_copies.specs.Copying.{TellsChangeOf}
+use Rattle.output_copies.proofs.Changes.{handed_on, target_tells}
 use Rattle.output_copies.proofs.Copied.{are_writable, filled_behind, may_come}
 use Rattle.output_copies.proofs.parts.write_part.Goals as goal
 
@@ -29,3 +32,9 @@ returns-clause-filled g c =
     (g.F.Folder.names c.args.folder.now) (g.F.Folder.names c.write_window.new.folder) c.plan.inside.size c.args.target.now c.write_window.new.self c.args.lines.first c.args.lines.end c.args.lines.band c.args.samples.now
     refl put.names size c.requires.lines.order c.requires.lines.end c.requires.lines.band c.requires.filled
     put.target put.output put.fault put.lines put.overlay put.met (λ m told d at. c.requires.read.pixels m d told at)
+
+pub returns-in_err-write_window-clause-changed : goal.returns-in_err-write_window-clause-changed
+returns-in_err-write_window-clause-changed g c =
+    let cat = c.args.translation.now.cat in
+    let t = c.in_err-write_window.field-0.0 in
+    handed_on (TellsChangeOf cat) (target_fault_of t) c.from_residual.result c.from_residual.ensures (target_tells cat t)

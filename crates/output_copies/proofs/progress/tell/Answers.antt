@@ -1,7 +1,9 @@
 use Rattle.std.proofs.Common.{◌≡◌, ◌-◌, ◌≤◌, ap, sym, subst, arith, ℕ, List, take, drop, Result}
 use Rattle.error_lines.specs.declared.faults.Fault.{Fault}
+use Rattle.error_lines.specs.declared.faults.Fault.TheVariants.{OutFault}
 use Rattle.error_lines.specs.Progress.{progress}
 use Rattle.output_copies.specs.Copying.{Tells}
+use Rattle.output_copies.proofs.Changes.{handed_on}
 use Rattle.output_copies.proofs.Ends.{ends_ok, ends_so, err_is}
 use Rattle.output_copies.proofs.Told.{told_more, told_part}
 use Rattle.output_copies.proofs.progress.tell.Goals as goal
@@ -13,6 +15,9 @@ returns-in_err-put_text-clause-told g c = λ before first.
     let part : take (next - c.args.told) (drop c.args.told c.progress_text-text.result.now) ≡ take (next - c.args.told) (drop c.args.told progress) = ap (λ (t : List ℕ). take (next - c.args.told) (drop c.args.told t)) c.progress_text-text.ensures.text in
     subst (λ (r : Result ℕ Fault). Tells c.args.quiet r before (g.O.Sink.got c.put_text.new.out)) (sym (err_is c.from_residual.result c.in_err-put_text.field-0.0 c.from_residual.ensures))
     (told_part c.args.quiet progress _ c.args.told next before (g.O.Sink.got c.args.out.now) (g.O.Sink.got c.put_text.new.out) order part first c.in_err-put_text.ensures.err)
+
+pub returns-in_err-put_text-clause-faults : goal.returns-in_err-put_text-clause-faults
+returns-in_err-put_text-clause-faults g c = handed_on (λ (f : Fault). f ≡ OutFault) c.in_err-put_text.field-0.0 c.from_residual.result c.from_residual.ensures c.in_err-put_text.ensures.faults
 
 pub returns-in_err-put_text-clause-ends : goal.returns-in_err-put_text-clause-ends
 returns-in_err-put_text-clause-ends g c = λ names faults.

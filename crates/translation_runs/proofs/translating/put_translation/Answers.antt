@@ -2,6 +2,7 @@ use Rattle.std.proofs.Common.{◌≡◌, ◌∙◌, ◌⊎◌, ap, refl, sym, su
 use Rattle.std.specs.Prelude.{IfErr}
 use Rattle.std.proofs.lemmas.Option.{slice_get_within}
 use Rattle.outside.specs.Names.{extension_of}
+use Rattle.geotransform.specs.declared.types.Size.{Size}
 use Rattle.catalog.specs.Outcomes as outcomes
 use Rattle.catalog.specs.Drivers.{Dataset}
 use Rattle.catalog.specs.Walk.{walked}
@@ -12,8 +13,11 @@ use Rattle.strip_copies.proofs.Sources.{sources_known}
 use Rattle.error_lines.specs.declared.faults.Fault.{Fault}
 use Rattle.error_lines.specs.Faults.{fault_of}
 use Rattle.error_lines.specs.Steps.{all_done, Goes}
-use Rattle.output_copies.specs.Steps.{translation_steps}
+use Rattle.output_copies.specs.Copying.{spoken}
+use Rattle.output_copies.specs.Steps.{translation_steps, translation_text}
+use Rattle.output_copies.proofs.Changes.{kept_all, kept_behind}
 use Rattle.output_copies.proofs.Ends.{err_is}
+use Rattle.output_copies.proofs.Puts.{puts_none}
 use Rattle.translation_runs.specs.Ends.{MayEnd, RefusesName}
 use Rattle.translation_runs.specs.Judged.{translation_run}
 use Rattle.translation_runs.specs.Published.{names_written}
@@ -21,6 +25,10 @@ use Rattle.translation_runs.proofs.Ended.{behind_walk, has_changed, plan_may, pl
 use Rattle.translation_runs.proofs.Reached.{told_of}
 use Rattle.translation_runs.proofs.Translated.{walked_so, plan_is, planned_so, planned_driver, walk_goes, plan_goes, same_goes, done_goes, goes_unchanged}
 use Rattle.translation_runs.proofs.translating.put_translation.Goals as goal
+
+-- a size of which nothing was told yet
+no_size : Size
+no_size = record { w = 0; h = 0 }
 
 pub head-requires : goal.head-requires
 head-requires g c =
@@ -129,3 +137,29 @@ returns-clause-changed g c =
     let d = found c.open_all.new.cat c.args.src.now c.in_ok-id.id c.in_ok-id.ensures.number in
     has_changed (g.F.Folder.names c.args.folder.now) c.write_output.result c.write_output.ensures.differs (λ m is.
     goes_unchanged _ m c.write_output.result _ _ _ refl (c.write_output.ensures.told m (c.in_ok-id.ensures.names ∙ is) d.dataset d.at))
+
+pub returns-in_err-id-clause-put : goal.returns-in_err-id-clause-put
+returns-in_err-id-clause-put g c = (no_size, puts_none (spoken c.args.way.quiet (translation_text no_size)) (fault_of c.in_err-id.field-0.0) c.from_residual.result (g.O.Sink.got c.args.out.now) c.from_residual.ensures)
+
+pub returns-in_err-id-clause-kept : goal.returns-in_err-id-clause-kept
+returns-in_err-id-clause-kept g c = kept_all c.from_residual.result (g.F.Folder.names c.args.folder.now) (g.F.Folder.names c.open_all.new.folder) c.in_err-id.ensures.names
+
+pub returns-in_err-plan-clause-put : goal.returns-in_err-plan-clause-put
+returns-in_err-plan-clause-put g c = (no_size, puts_none (spoken c.args.way.quiet (translation_text no_size)) c.in_err-plan.field-0.0 c.from_residual-in_err-plan.result (g.O.Sink.got c.args.out.now) c.from_residual-in_err-plan.ensures)
+
+pub returns-in_err-plan-clause-kept : goal.returns-in_err-plan-clause-kept
+returns-in_err-plan-clause-kept g c = kept_all c.from_residual-in_err-plan.result (g.F.Folder.names c.args.folder.now) (g.F.Folder.names c.open_all.new.folder) c.in_ok-id.ensures.names
+
+pub returns-in_err-unless_read-clause-put : goal.returns-in_err-unless_read-clause-put
+returns-in_err-unless_read-clause-put g c = (no_size, puts_none (spoken c.args.way.quiet (translation_text no_size)) c.in_err-unless_read.field-0.0 c.from_residual-in_err-unless_read.result (g.O.Sink.got c.args.out.now) c.from_residual-in_err-unless_read.ensures)
+
+pub returns-in_err-unless_read-clause-kept : goal.returns-in_err-unless_read-clause-kept
+returns-in_err-unless_read-clause-kept g c = kept_all c.from_residual-in_err-unless_read.result (g.F.Folder.names c.args.folder.now) (g.F.Folder.names c.open_all.new.folder) c.in_ok-id.ensures.names
+
+pub returns-clause-put : goal.returns-clause-put
+returns-clause-put g c =
+    let d = found c.open_all.new.cat c.args.src.now c.in_ok-id.id c.in_ok-id.ensures.number in
+    (d.dataset.head.size, c.write_output.ensures.put d.dataset d.at)
+
+pub returns-clause-kept : goal.returns-clause-kept
+returns-clause-kept g c = kept_behind c.write_output.result (g.F.Folder.names c.args.folder.now) (g.F.Folder.names c.open_all.new.folder) (g.F.Folder.names c.write_output.new.folder) c.in_ok-id.ensures.names c.write_output.ensures.kept
