@@ -1,6 +1,5 @@
 -- What is told of a place over every folder, also over one that doesn't tell its files.
-use Rattle.std.proofs.Common.{◌≡◌, ◌∙◌, ap, sym, subst, refl, ◌⊎◌, inl, inr, ◌+◌, ◌-◌, ◌<◌, ℕ, ℤ, pos, negsuc, List, [], ◌++◌, length, set, get_or, get_or-set_same, get_or-set_other, below_more, Bool, true, false, cond, nat_lt, Option, Some, None, arith}
-use Rattle.std.specs.Prelude.{slice_get}
+use Rattle.std.proofs.Common.{◌≡◌, ◌∙◌, ap, sym, subst, refl, ◌+◌, ◌-◌, ◌<◌, ℕ, ℤ, pos, List, [], ◌++◌, length, set, get_or, get_or-set_same, get_or-set_other, below_more, Option, Some, None, arith}
 use Rattle.catalog.specs.Drivers.{Dataset}
 use Rattle.location_report.specs.Covering.{covering_files}
 use Rattle.location_report.specs.Location.{location_text}
@@ -18,15 +17,6 @@ typed_more P bands values i v less here before =
     below_more (λ k. P (get_or bands k 0 - 1) (get_or (set values i v) k (pos 0))) i
     (λ k below. subst (P (get_or bands k 0 - 1)) (sym (get_or-set_other values i k v (pos 0) (λ same. absurd (omega arith)))) (before k below))
     (subst (P (get_or bands i 0 - 1)) (sym (get_or-set_same values i v (pos 0) less)) here)
-
--- a column or a line that a side has
-chosen_is : (b : Bool) (n x : ℕ) → cond b (Some n) None ≡ Some x → n ≡ x
-chosen_is true n x is = cc
-chosen_is false n x is = let no : ⊥ = cc in absurd no
-
-pub within_is : (side : ℕ) (k : ℤ) (x : ℕ) → within side k ≡ Some x → k ≡ pos x
-within_is side (pos n) x is = ap (λ (j : ℕ). pos j) (chosen_is (nat_lt n side) n x is)
-within_is side (negsuc n) x is = let no : ⊥ = cc in absurd no
 
 -- a text without values tells of files alone as one with some does
 without_values : (form : Form) (column line : ℤ) (bands : List ℕ) (values : List ℤ) (files : List (List ℕ)) → form ≡ FilesOnly → location_text form column line None bands files ≡ location_text form column line (Some values) bands files
@@ -47,12 +37,6 @@ module _ (cat : List Dataset) (id : ℕ) (d : Dataset) (asked : Asked) where
   on_raster x y text column line h =
       subst (λ (o : Option ℕ). IsTold cat id d asked (pos x, pos y) o (within d.head.size.h (pos y)) text) (sym (within_side d.head.size.w x column))
       (subst (λ (o : Option ℕ). IsTold cat id d asked (pos x, pos y) (Some x) o text) (sym (within_side d.head.size.h y line)) h)
-
-  off_raster : (place : ℤ × ℤ) (x y : Option ℕ) (text : List ℕ) → (x ≡ None) ⊎ (y ≡ None) → text ≡ location_text asked.form place.0 place.1 None asked.bands [] → IsTold cat id d asked place x y text
-  off_raster place None y text none is = is
-  off_raster place (Some x) None text none is = is
-  off_raster place (Some x) (Some y) text (inl none) is = let no : ⊥ = cc in absurd no
-  off_raster place (Some x) (Some y) text (inr none) is = let no : ⊥ = cc in absurd no
 
 module _ (cat : List Dataset) (id : ℕ) (asked : Asked) where
   -- the text of the names of files, made behind an empty one
@@ -89,15 +73,3 @@ module _ (cat : List Dataset) (id : ℕ) (asked : Asked) where
         at = p.at;
         told = on_raster cat id p.dataset asked x y text p.column p.line (values, (λ _. of_asked), text_is);
       }
-
-  -- off the raster
-  pub off_place : (d : Dataset) (place : ℤ × ℤ) (text old : List ℕ) (bands : List ℕ) (files : List (List ℕ)) → slice_get cat id ≡ Some d → (within d.head.size.w place.0 ≡ None) ⊎ (within d.head.size.h place.1 ≡ None) → text ≡ old ++ location_text asked.form place.0 place.1 None bands files → old ≡ [] → bands ≡ asked.bands → files ≡ [] → TellsPlace cat id asked place text
-  off_place d place text old bands files at off is empty same none = record {
-    dataset = d;
-    at = at;
-    told = off_raster cat id d asked place (within d.head.size.w place.0) (within d.head.size.h place.1) text off
-        (is
-        ∙ ap (λ (o : List ℕ). o ++ location_text asked.form place.0 place.1 None bands files) empty
-        ∙ ap (λ (bs : List ℕ). location_text asked.form place.0 place.1 None bs files) same
-        ∙ ap (location_text asked.form place.0 place.1 None asked.bands) none);
-  }
