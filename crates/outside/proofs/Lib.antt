@@ -8,4 +8,5 @@ pub mod Plain
 pub mod Slashes
 pub mod Puts
 pub mod Sinks
+pub mod Told
 pub mod Walks
