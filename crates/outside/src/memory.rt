@@ -442,6 +442,8 @@ impl<P: Schedule> Folder for MemoryFolder<P> {
         ensures write_calls { writes_of self.new ≡ added (writes_of self.old) (writes_of view) }
         ensures faults { Absorbed (P.faults (schedule_of self.old)) (P.faults (schedule_of view))
             (P.faults (schedule_of self.new)) }
+        ensures counted { P.faults (schedule_of self.new) ≡ added (P.faults (schedule_of self.old))
+            (P.faults (schedule_of view)) }
         ensures schedule { P.moved (schedule_of self.old) (schedule_of view) (schedule_of self.new) }
         ensures drafts { drafts_of self.new ≡ drafts_more (drafts_of self.old) (drafts_of view) }
     {
