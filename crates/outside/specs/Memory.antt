@@ -69,6 +69,10 @@ drafts_more drafts more = min (drafts + more) 4294967295
 abbrev pub input_schedule_of : {P : Type 0} → MemoryInput P → P
 input_schedule_of input = input.schedule
 
+-- how many bytes a call of an input gives at most
+abbrev pub most_of : {P : Type 0} → MemoryInput P → ℕ
+most_of input = input.most
+
 -- which calls of a sink fail, and how many bytes such a call takes before it fails
 abbrev pub sink_schedule_of : MemSink → Listed
 sink_schedule_of sink = sink.schedule
