@@ -1,5 +1,6 @@
 -- What a folder, an input and a sink in memory hold: files, open drafts, schedules.
-use Rattle.std.specs.Prelude.{ℕ, ◌+◌, ◌↔◌, ◌≡◌, min, List, [], ◌∷◌, length, Option, Some, IsSome, Contains}
+use Rattle.std.specs.Prelude.{ℕ, ◌+◌, ◌↔◌, ◌≡◌, ◌≢◌, min, List, [], ◌∷◌, length, Option, Some, IsSome, Contains}
+use Rattle.std.specs.Prelude.{AllPairs}
 use Rattle.std.specs.FinMap.{get, insert, empty}
 use Rattle.outside.specs.Outside.{Files}
 use Rattle.outside.specs.declared.memory.MemDraft.{MemDraft}
@@ -25,6 +26,10 @@ newest ss name = get (files_of ss) name
 -- a list has each name under which a file stands, and no other
 abbrev pub AreNames : List (List ℕ) → Option Files → Type 0
 AreNames names told = (m : Files) → told ≡ Some m → (name : List ℕ) → Contains names name ↔ IsSome (get m name)
+
+-- no name stands twice
+abbrev pub AreApart : List (List ℕ) → Type 0
+AreApart names = AllPairs (λ a b. a ≢ b) names
 
 -- the bytes of an open file
 abbrev pub file_bytes_of : MemFile → Option (List ℕ)

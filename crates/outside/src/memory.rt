@@ -3,9 +3,9 @@ ghost use Rattle.std.specs.Prelude.{◌≡◌, ◌≤◌, ◌+◌, ◌-◌, ◌�
 ghost use Rattle.std.specs.Prelude.{OnErr, IsErr, IsErrOf, IsSome, IsTrue, option_map};
 ghost use Rattle.std.specs.FinMap as map;
 ghost use Rattle.outside.specs.Causes.{HasCause, FailsWith, Absorbed, CountsWhere, one_more, added};
-ghost use Rattle.outside.specs.Memory.{files_of, newest, AreNames, names_of, reads_of, writes_of, schedule_of};
-ghost use Rattle.outside.specs.Memory.{drafts_of, drafts_more, file_bytes_of, file_len_of, draft_name_of};
-ghost use Rattle.outside.specs.Memory.{draft_bytes_of, draft_len_of};
+ghost use Rattle.outside.specs.Memory.{files_of, newest, AreNames, AreApart, names_of, reads_of, writes_of};
+ghost use Rattle.outside.specs.Memory.{schedule_of, drafts_of, drafts_more, file_bytes_of, file_len_of};
+ghost use Rattle.outside.specs.Memory.{draft_name_of, draft_bytes_of, draft_len_of};
 ghost use Rattle.outside.specs.Outside.{Files, WithFile, IsUnder, Opened, IsLong, NotThere, Reads, Created, Grown};
 ghost use Rattle.outside.specs.Outside.{Written, Appended, Published, ChangesOnly, IsView};
 ghost use Rattle.outside.specs.declared.folder.OpenFault.TheVariants as open_fault;
@@ -108,7 +108,8 @@ fn has_name(names: &[Name], name: &Name) -> bool
 // The names of these files, each once.
 #[tactic(auto, using(crate::proofs::Puts::puts))]
 fn names_in(alloc: Global, files: &[Stored]) -> Result<Names, AllocError>
-    ensures { IfOk result (λ names. AreNames names (Some (files_of files.now))) }
+    ensures names { IfOk result (λ names. AreNames names (Some (files_of files.now))) }
+    ensures once { IfOk result (λ names. AreApart names) }
 {
     let mut names = Names::new(alloc);
     for stored in files {
@@ -172,6 +173,7 @@ impl<P: Schedule> MemoryFolder<P> {
     /// The names under which files stand, each once, in the order in which they came. It is no call of the folder.
     pub fn names(&self) -> Result<Names, AllocError>
         ensures names { IfOk result (λ names. AreNames names (⟦<MemoryFolder<P> as Folder>⟧.names self.now)) }
+        ensures once { IfOk result (λ names. AreApart names) }
     {
         names_in(self.alloc, &self.files)
     }
