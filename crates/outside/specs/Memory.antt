@@ -1,12 +1,13 @@
 -- What a folder, an input and a sink in memory hold: files, open drafts, schedules.
 use Rattle.std.specs.Prelude.{ℕ, ◌+◌, ◌↔◌, ◌≡◌, ◌≢◌, min, List, [], ◌∷◌, length, Option, Some, IsSome, Contains}
-use Rattle.std.specs.Prelude.{AllPairs}
+use Rattle.std.specs.Prelude.{AllPairs, Bool}
 use Rattle.std.specs.FinMap.{get, insert, empty}
 use Rattle.outside.specs.Outside.{Files}
 use Rattle.outside.specs.declared.memory.MemDraft.{MemDraft}
 use Rattle.outside.specs.declared.memory.MemFile.{MemFile}
 use Rattle.outside.specs.declared.memory.MemoryFolder.{MemoryFolder}
 use Rattle.outside.specs.declared.memory.Stored.{Stored}
+use Rattle.outside.specs.declared.memory_streams.CalmSink.{CalmSink}
 use Rattle.outside.specs.declared.memory_streams.MemoryInput.{MemoryInput}
 use Rattle.outside.specs.declared.memory_streams.MemSink.{MemSink}
 use Rattle.outside.specs.declared.schedule.Listed.{Listed}
@@ -84,3 +85,7 @@ sink_schedule_of sink = sink.schedule
 
 abbrev pub front_of : MemSink → ℕ
 front_of sink = sink.front
+
+-- whether a sink has all that it got in memory
+abbrev pub is_whole : CalmSink → Bool
+is_whole sink = sink.whole
