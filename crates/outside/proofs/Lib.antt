@@ -2,6 +2,7 @@ pub mod Cuts
 pub mod Headers
 pub mod Listing
 pub mod Normal
+pub mod Orders
 pub mod Parts
 pub mod PathParts
 pub mod Plain
