@@ -75,6 +75,14 @@ warns_of_inputs (Translate src options quiet) = false
 warns_of_inputs (Build inputs list options quiet) = true
 warns_of_inputs (Synth side) = false
 
+-- whether nothing is told of a job's work
+abbrev pub is_quiet : Job → Bool
+is_quiet (Info name) = false
+is_quiet (Locate name point bands form geoloc) = false
+is_quiet (Translate src options quiet) = quiet
+is_quiet (Build inputs list options quiet) = quiet
+is_quiet (Synth side) = false
+
 -- whether a job makes rasters from a number, whose later parts read what the earlier ones published
 abbrev pub makes_rasters : Job → Bool
 makes_rasters (Info name) = false

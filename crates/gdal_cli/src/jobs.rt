@@ -16,7 +16,7 @@ ghost use Rattle.gdal_cli.specs.Location.{answers, point_text};
 ghost use Rattle.gdal_cli.specs.Pixels.{HasBands};
 ghost use Rattle.gdal_cli.specs.Published.{IsNamedJob};
 ghost use Rattle.gdal_cli.specs.Run.{Ends, MayEnd, MayWarn, IsRefusal, name_read, names_published, makes_rasters};
-ghost use Rattle.gdal_cli.specs.Run.{reads_sources, reads_input, warns_of_inputs, RefusesIn, RefusesKind};
+ghost use Rattle.gdal_cli.specs.Run.{is_quiet, reads_sources, reads_input, warns_of_inputs, RefusesIn, RefusesKind};
 ghost use Rattle.error_lines.specs.Steps.{AreWarned, GoesWarning};
 ghost use Rattle.gdal_cli.specs.Work.{info_judged, location_judged, judged_by, carried_out};
 
@@ -220,7 +220,7 @@ fn put_location<F: Folder, I: Input, O: Sink>(
 /// which come at their line of the input, and for the run from a number, whose later parts read what the earlier ones
 /// published: it is refused by nothing over a folder that tells its files. FolderFault, InputFault and OutFault come
 /// only where the count of the folder, of the input and of the output rose, Changed only over a folder that doesn't
-/// tell its names, Memory freely.
+/// tell its names, Memory freely. A quiet job puts nothing on `out`, however it ends.
 pub fn put_job<R: Threads + Sync, F: Folder, I: Input, O: Sink, E: Sink>(
     host: &Host<R>,
     folder: &mut F,
@@ -242,6 +242,7 @@ pub fn put_job<R: Threads + Sync, F: Folder, I: Input, O: Sink, E: Sink>(
         (I.left input.new) (O.got out.old) (O.got out.new) }
     ensures refused { makes_rasters command.job ≡ false → IsRefusal (ended result) → (out.new ≡ out.old) ×
         (input.new ≡ input.old) × (F.names folder.new ≡ F.names folder.old) }
+    ensures quiet { is_quiet command.job ≡ true → out.new ≡ out.old }
     ensures made { makes_rasters command.job ≡ true → (m : Files) → F.names folder.old ≡ Some m →
         IfErr result IsOutside }
     ensures warned { MayWarn (warns_of_inputs command.job) (ended result) failed.new (E.faults err.old)

@@ -17,7 +17,8 @@ use std::alloc::Global;
 /// Makes a mosaic of inputs, warns of those that are skipped, and publishes its document.
 ///
 /// All refusals come before anything is put or published. FolderFault and OutFault come only where the count of the
-/// folder and of the output rose, Memory freely. A failing `err` sets `failed` and ends nothing.
+/// folder and of the output rose, Memory freely. A failing `err` sets `failed` and ends nothing. A quiet making puts
+/// nothing on `out`, however it ends.
 pub fn put_build<F: Folder, O: Sink, E: Sink>(
     alloc: Global,
     folder: &mut F,
@@ -34,6 +35,7 @@ pub fn put_build<F: Folder, O: Sink, E: Sink>(
         (O.got out.new) (λ steps. AreWarned steps failed.new (E.faults err.old) (E.faults err.new) (E.got err.old)
         (E.got err.new)) }
     ensures refused { IsRefusal (ended result) → (out.new ≡ out.old) × (F.names folder.new ≡ F.names folder.old) }
+    ensures quiet { building.entry.quiet ≡ true → out.new ≡ out.old }
     ensures warned { MayWarn true (ended result) failed.new (E.faults err.old) (E.faults err.new) (E.got err.old)
         (E.got err.new) }
     ensures may_end { IfErr result (MayEnd (Job.Build inputs building.entry.list.now building.entry.options.now

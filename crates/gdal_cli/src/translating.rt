@@ -1,5 +1,5 @@
 // Translations, as jobs of a run.
-ghost use Rattle.std.specs.Prelude.{◌≡◌, List, IfErr, Err, Some, false};
+ghost use Rattle.std.specs.Prelude.{◌≡◌, List, IfErr, Err, Some, true, false};
 ghost use Rattle.outside.specs.Outside.{Files};
 ghost use Rattle.input_points.specs.declared.entry.Entry.{Entry};
 ghost use Rattle.error_lines.specs.Faults.{HasCauses, HasChanged, OwnsFault};
@@ -21,7 +21,8 @@ use translation_runs::{Way, put_translation};
 /// read, and then does the work. The extension of the output's name is one of its driver.
 ///
 /// All refusals come before anything is put or published. FolderFault and OutFault come only where the count of the
-/// folder and of the output rose, Changed only over a folder that doesn't tell its names, Memory freely.
+/// folder and of the output rose, Changed only over a folder that doesn't tell its names, Memory freely. A quiet
+/// translation puts nothing, however it ends.
 pub fn put_translated<R: Threads + Sync, F: Folder, O: Sink>(
     rt: &R,
     alloc: Global,
@@ -36,6 +37,7 @@ pub fn put_translated<R: Threads + Sync, F: Folder, O: Sink>(
         Goes (carried_out (translate_judged m way.verify src.now options.now way.quiet) m lines) m result
         (F.names folder.new) (O.got out.old) (O.got out.new) }
     ensures refused { IsRefusal (ended result) → (out.new ≡ out.old) × (F.names folder.new ≡ F.names folder.old) }
+    ensures quiet { way.quiet ≡ true → out.new ≡ out.old }
     ensures may_end { IfErr result (MayEnd (Job.Translate src.now options.now way.quiet)) }
     ensures cause { HasCauses (F.faults folder.old) (F.faults folder.new) (O.faults out.old) (O.faults out.new) result }
     ensures not_input { result ≡ Err Fault.InputFault → ⊥ }

@@ -2,10 +2,12 @@ pub mod Cuts
 pub mod Headers
 pub mod Listing
 pub mod Normal
+pub mod Orders
 pub mod Parts
 pub mod PathParts
 pub mod Plain
 pub mod Slashes
 pub mod Puts
 pub mod Sinks
+pub mod Told
 pub mod Walks

@@ -1,11 +1,12 @@
 -- The names of files that were put one after another.
-use Rattle.std.proofs.Common.{◌≡◌, ℕ, ◌+◌, ◌<◌, ◌⊎◌, ◌↔◌, inl, inr, List, [], ◌∷◌, ◌++◌, length, take, get_or, refl, sym, subst, Option, Some, None, true, false, Bool, Contains, IsSome, arith}
+use Rattle.std.proofs.Common.{◌≡◌, ◌≢◌, ℕ, ◌+◌, ◌<◌, ◌⊎◌, ◌↔◌, inl, inr, List, [], ◌∷◌, ◌++◌, length, take, get_or, refl, sym, subst, Option, Some, true, false, Bool, Contains, IsSome, arith}
 use Rattle.std.specs.FinMap.{get}
 use Rattle.std.specs.Str.{bytes_eq}
 use Rattle.std.proofs.lemmas.Slice.Eq.{bytes_eq-Decides}
-use Rattle.std.proofs.lemmas.List.Elements.{Contains-append_left, Contains-push, Contains-push_cases}
+use Rattle.std.proofs.lemmas.List.Elements.{Contains-append_left, Contains-get_or, Contains-push, Contains-push_cases}
+use Rattle.std.proofs.lemmas.List.Quantifiers.{all_pairs_push}
 use Rattle.outside.specs.Outside.{Files}
-use Rattle.outside.specs.Memory.{files_of, newest, AreNames}
+use Rattle.outside.specs.Memory.{files_of, newest, AreNames, AreApart}
 use Rattle.outside.specs.declared.memory.Stored.{Stored}
 use Rattle.outside.proofs.Puts.{newest-none, newest-same, newest-other}
 
@@ -49,6 +50,15 @@ lists-more names ss i s h is so_far = λ name. elim (same_or_other s.name name) 
         λ some. Contains-append_left names (s.name ∷ []) name ((so_far name).1 (subst (λ x. IsSome x) q some)),
       )
 ]
+
+-- a list of no name has none twice
+pub apart-none : AreApart []
+apart-none i j d less within = absurd (omega (arith, within))
+
+-- a name more, which didn't stand in the list
+pub apart-more : (names : List (List ℕ)) (name : List ℕ) → AreApart names → (Contains names name → ⊥) → AreApart (names ++ name ∷ [])
+apart-more names name apart new =
+    all_pairs_push (λ a b. a ≢ b) names name apart (λ k d within. λ same. new (subst (Contains names) same (Contains-get_or names k d within)))
 
 -- what is told of these files
 pub lists-told : (names : List (List ℕ)) (ss : List Stored) → Lists names ss → AreNames names (Some (files_of ss))

@@ -10,6 +10,7 @@ use Rattle.std.proofs.lemmas.List.{take_more}
 use Rattle.outside.specs.Outside.{Files}
 use Rattle.outside.specs.Memory.{put_all, files_of, newest}
 use Rattle.outside.specs.declared.memory.Stored.{Stored}
+use Rattle.outside.proofs.Orders.{names_with-push}
 
 -- one more is put last
 pub put_all-push : (m : Files) (ss : List Stored) (s : Stored) → put_all m (ss ++ s ∷ []) ≡ insert (put_all m ss) s.name s.bytes.items
@@ -56,4 +57,4 @@ put_alike m n a b x y e f g = cc
 pub newest-none : (name : List ℕ) → newest [] name ≡ None
 newest-none name = get-empty (slice_cmp nat_cmp) name
 
-pub ruleset puts = (files_of-push)
+pub ruleset puts = (files_of-push, names_with-push)

@@ -6,6 +6,7 @@ pub mod Reading
 pub mod Streams
 pub mod Causes
 pub mod Memory
+pub mod Disks
 pub mod Schedules
 pub mod Tallies
 -- What private clauses, views and proofs speak of.

@@ -1,11 +1,13 @@
 -- What a folder, an input and a sink in memory hold: files, open drafts, schedules.
-use Rattle.std.specs.Prelude.{ℕ, ◌+◌, ◌↔◌, ◌≡◌, min, List, [], ◌∷◌, length, Option, Some, IsSome, Contains}
+use Rattle.std.specs.Prelude.{ℕ, ◌+◌, ◌↔◌, ◌≡◌, ◌≢◌, min, List, [], ◌∷◌, length, Option, Some, IsSome, Contains}
+use Rattle.std.specs.Prelude.{AllPairs, Bool, false, ◌||◌, ◌++◌, bytes_eq, if◌then◌else◌}
 use Rattle.std.specs.FinMap.{get, insert, empty}
 use Rattle.outside.specs.Outside.{Files}
 use Rattle.outside.specs.declared.memory.MemDraft.{MemDraft}
 use Rattle.outside.specs.declared.memory.MemFile.{MemFile}
 use Rattle.outside.specs.declared.memory.MemoryFolder.{MemoryFolder}
 use Rattle.outside.specs.declared.memory.Stored.{Stored}
+use Rattle.outside.specs.declared.memory_streams.CalmSink.{CalmSink}
 use Rattle.outside.specs.declared.memory_streams.MemoryInput.{MemoryInput}
 use Rattle.outside.specs.declared.memory_streams.MemSink.{MemSink}
 use Rattle.outside.specs.declared.schedule.Listed.{Listed}
@@ -25,6 +27,28 @@ newest ss name = get (files_of ss) name
 -- a list has each name under which a file stands, and no other
 abbrev pub AreNames : List (List ℕ) → Option Files → Type 0
 AreNames names told = (m : Files) → told ≡ Some m → (name : List ℕ) → Contains names name ↔ IsSome (get m name)
+
+-- no name stands twice
+abbrev pub AreApart : List (List ℕ) → Type 0
+AreApart names = AllPairs (λ a b. a ≢ b) names
+
+-- whether a name stands in a list
+abbrev pub stands : List (List ℕ) → List ℕ → Bool
+stands [] name = false
+stands (n ∷ ns) name = bytes_eq n name || stands ns name
+
+-- a list with a name at its end, unless it stands there already
+abbrev pub with_name : List (List ℕ) → List ℕ → List (List ℕ)
+with_name names name = if stands names name then names else names ++ name ∷ []
+
+-- the names of a list, and then those of files that came one after another
+abbrev pub names_with : List (List ℕ) → List Stored → List (List ℕ)
+names_with names [] = names
+names_with names (s ∷ ss) = names_with (with_name names s.name) ss
+
+-- the names under which files stand in a folder, in the order in which they came
+abbrev pub came_of : {P : Type 0} → MemoryFolder P → List (List ℕ)
+came_of folder = names_with [] folder.files.items
 
 -- the bytes of an open file
 abbrev pub file_bytes_of : MemFile → Option (List ℕ)
@@ -69,9 +93,17 @@ drafts_more drafts more = min (drafts + more) 4294967295
 abbrev pub input_schedule_of : {P : Type 0} → MemoryInput P → P
 input_schedule_of input = input.schedule
 
+-- how many bytes a call of an input gives at most
+abbrev pub most_of : {P : Type 0} → MemoryInput P → ℕ
+most_of input = input.most
+
 -- which calls of a sink fail, and how many bytes such a call takes before it fails
 abbrev pub sink_schedule_of : MemSink → Listed
 sink_schedule_of sink = sink.schedule
 
 abbrev pub front_of : MemSink → ℕ
 front_of sink = sink.front
+
+-- whether a sink has all that it got in memory
+abbrev pub is_whole : CalmSink → Bool
+is_whole sink = sink.whole

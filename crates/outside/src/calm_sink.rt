@@ -1,20 +1,12 @@
 // A sink in memory of which no call fails.
-ghost use Rattle.std.specs.Prelude.{◌≡◌, ◌++◌, [], Some, true, IfSome};
+ghost use Rattle.std.specs.Prelude.{◌≡◌, ◌↔◌, ◌++◌, [], Some, IfSome, IsSome, IsTrue};
 ghost use Rattle.outside.specs.Histories.{bytes_of};
+ghost use Rattle.outside.specs.Memory.{is_whole};
 
 use crate::history::History;
+use crate::memory_streams::CalmSink;
 use crate::{Failed, Sink};
 use std::alloc::Global;
-
-/// A sink of which no call fails: its count of faults is always 0. It tells all that it got, and keeps it in memory as
-/// long as memory isn't refused.
-#[derive(Drop)]
-pub struct CalmSink {
-    bytes: Vec<u8>,
-    whole: bool,
-    history: History<u8, ()>,
-    ghost kept: { whole ≡ true → bytes.items ≡ bytes_of history.items },
-}
 
 // Notes these bytes, one after another.
 fn note(history: &mut History<u8, ()>, bytes: &[u8])
@@ -29,6 +21,7 @@ impl CalmSink {
     /// A sink that got nothing yet.
     pub fn new(alloc: Global) -> Self
         ensures got { ⟦<CalmSink as Sink>⟧.got result ≡ Some [] }
+        ensures whole { IsTrue (is_whole result) }
     {
         CalmSink {
             bytes: Vec::new(alloc),
@@ -40,6 +33,7 @@ impl CalmSink {
     /// All the bytes that it got; None where memory was refused on the way.
     pub fn got(&self) -> Option<&[u8]>
         ensures got { IfSome result (λ bytes. ⟦<CalmSink as Sink>⟧.got self.now ≡ Some bytes.now) }
+        ensures whole { IsSome result ↔ IsTrue (is_whole self.now) }
     {
         if self.whole { Some(&self.bytes) } else { None }
     }

@@ -1,6 +1,9 @@
 // The folder of the system. It tells nothing of what it holds.
-ghost use Rattle.std.specs.Prelude.{None, ◌≡◌, ◌≤◌};
-ghost use Rattle.outside.specs.Causes.{Rose};
+ghost use Rattle.std.specs.Prelude.{None, ◌≡◌, ◌≤◌, ◌+◌, length, IfOk, OnOk, OnErr, IsErr, IsErrOf};
+ghost use Rattle.outside.specs.Causes.{Rose, HasCause, FailsWith, CountsWhere, one_more};
+ghost use Rattle.outside.specs.Disks.{faults_of, reads_of, writes_of, file_len_of, draft_name_of, draft_len_of};
+ghost use Rattle.outside.specs.Outside.{Opened, IsLong, NotThere, Reads, Created, Grown, Written, Appended};
+ghost use Rattle.outside.specs.Outside.{Published, ChangesOnly};
 
 use crate::system::{fill_at, is_absent, make_temporary, may_replace, open_regular, put_at};
 use crate::{Failed, Folder, Name, OpenFault, WriteFault};
@@ -61,6 +64,7 @@ impl<R: Files<File = File> + Clone + Drop + Send> DiskFolder<R> {
 
 impl<R> DiskFolder<R> {
     fn add_fault(&mut self)
+        ensures one { self.new.faults ≡ one_more self.old.faults }
         ensures later { self.old.faults ≤ self.new.faults }
         ensures risen { Rose self.old.faults self.new.faults }
         ensures reads { self.new.reads ≡ self.old.reads }
@@ -93,7 +97,16 @@ impl<R: Files<File = File> + Clone + Drop + Send> Folder for DiskFolder<R> {
 
     ghost draft_len = { λ d. d.len };
 
-    fn open(&mut self, name: &Name) -> Result<DiskFile, OpenFault> {
+    fn open(&mut self, name: &Name) -> Result<DiskFile, OpenFault>
+        ensures ok { IfOk result (λ _. Opened (⟦<DiskFolder<R> as Folder>⟧.names self.old) name.now None) }
+        ensures len { IfOk result (λ file. IsLong None (file_len_of file)) }
+        ensures absent { NotThere (⟦<DiskFolder<R> as Folder>⟧.names self.old) name.now result }
+        ensures names { ⟦<DiskFolder<R> as Folder>⟧.names self.new ≡ ⟦<DiskFolder<R> as Folder>⟧.names self.old }
+        ensures read_calls { reads_of self.new ≡ reads_of self.old }
+        ensures write_calls { writes_of self.new ≡ writes_of self.old }
+        ensures cause { HasCause OpenFault.Failed (faults_of self.old) (faults_of self.new) result }
+        ensures count { CountsWhere (IsErrOf result OpenFault.Failed) (faults_of self.old) (faults_of self.new) }
+    {
         match open_regular(&self.rt, name.as_str()) {
             Ok((file, len)) => Ok(DiskFile { file, len }),
             Err(e) if is_absent(&e) => Err(OpenFault::Absent),
@@ -109,7 +122,18 @@ impl<R: Files<File = File> + Clone + Drop + Send> Folder for DiskFolder<R> {
         file.len
     }
 
-    fn read_at(&mut self, file: &mut DiskFile, pos: u64, out: &mut [u8]) -> Result<(), Failed> {
+    fn read_at(&mut self, file: &mut DiskFile, pos: u64, out: &mut [u8]) -> Result<(), Failed>
+        requires { pos + length out.old ≤ file_len_of file.old }
+        ensures ok { OnOk result (Reads None pos (length out.old) out.new) }
+        ensures bytes { ⟦<DiskFolder<R> as Folder>⟧.file_bytes file.new ≡ ⟦<DiskFolder<R> as Folder>⟧.file_bytes
+            file.old }
+        ensures len { file_len_of file.new ≡ file_len_of file.old }
+        ensures names { ⟦<DiskFolder<R> as Folder>⟧.names self.new ≡ ⟦<DiskFolder<R> as Folder>⟧.names self.old }
+        ensures read_calls { reads_of self.new ≡ one_more (reads_of self.old) }
+        ensures write_calls { writes_of self.new ≡ writes_of self.old }
+        ensures cause { FailsWith (faults_of self.old) (faults_of self.new) result }
+        ensures count { CountsWhere (IsErr result) (faults_of self.old) (faults_of self.new) }
+    {
         self.reads = self.reads.saturating_add(1);
         if fill_at(&file.file, pos, out) {
             Ok(())
@@ -119,7 +143,15 @@ impl<R: Files<File = File> + Clone + Drop + Send> Folder for DiskFolder<R> {
         }
     }
 
-    fn create(&mut self, name: &Name) -> Result<DiskDraft, WriteFault> {
+    fn create(&mut self, name: &Name) -> Result<DiskDraft, WriteFault>
+        ensures ok { IfOk result (λ draft. Created (⟦<DiskFolder<R> as Folder>⟧.names self.old) name.now
+            (draft_name_of draft) None (draft_len_of draft)) }
+        ensures names { ⟦<DiskFolder<R> as Folder>⟧.names self.new ≡ ⟦<DiskFolder<R> as Folder>⟧.names self.old }
+        ensures read_calls { reads_of self.new ≡ reads_of self.old }
+        ensures write_calls { writes_of self.new ≡ writes_of self.old }
+        ensures cause { HasCause WriteFault.Failed (faults_of self.old) (faults_of self.new) result }
+        ensures count { CountsWhere (IsErrOf result WriteFault.Failed) (faults_of self.old) (faults_of self.new) }
+    {
         let path = name.as_str();
         let kept = name.try_clone()?;
         if !may_replace(&self.rt, path) {
@@ -143,7 +175,17 @@ impl<R: Files<File = File> + Clone + Drop + Send> Folder for DiskFolder<R> {
         }
     }
 
-    fn grow(&mut self, draft: &mut DiskDraft, len: u64) -> Result<(), WriteFault> {
+    fn grow(&mut self, draft: &mut DiskDraft, len: u64) -> Result<(), WriteFault>
+        requires { draft_len_of draft.old ≤ len }
+        ensures ok { OnOk result (Grown len None None) }
+        ensures len { OnOk result (draft_len_of draft.new ≡ len) }
+        ensures name { draft_name_of draft.new ≡ draft_name_of draft.old }
+        ensures names { ⟦<DiskFolder<R> as Folder>⟧.names self.new ≡ ⟦<DiskFolder<R> as Folder>⟧.names self.old }
+        ensures read_calls { reads_of self.new ≡ reads_of self.old }
+        ensures write_calls { writes_of self.new ≡ writes_of self.old }
+        ensures cause { HasCause WriteFault.Failed (faults_of self.old) (faults_of self.new) result }
+        ensures count { CountsWhere (IsErrOf result WriteFault.Failed) (faults_of self.old) (faults_of self.new) }
+    {
         match draft.file.set_len(len) {
             Ok(()) => {
                 draft.len = len;
@@ -156,12 +198,17 @@ impl<R: Files<File = File> + Clone + Drop + Send> Folder for DiskFolder<R> {
         }
     }
 
-    fn write_at(
-        &mut self,
-        draft: &mut DiskDraft,
-        pos: u64,
-        bytes: &[u8],
-    ) -> Result<(), WriteFault> {
+    fn write_at(&mut self, draft: &mut DiskDraft, pos: u64, bytes: &[u8]) -> Result<(), WriteFault>
+        requires { pos + length bytes.now ≤ draft_len_of draft.old }
+        ensures ok { OnOk result (Written pos bytes.now None None) }
+        ensures len { OnOk result (draft_len_of draft.new ≡ draft_len_of draft.old) }
+        ensures name { draft_name_of draft.new ≡ draft_name_of draft.old }
+        ensures names { ⟦<DiskFolder<R> as Folder>⟧.names self.new ≡ ⟦<DiskFolder<R> as Folder>⟧.names self.old }
+        ensures read_calls { reads_of self.new ≡ reads_of self.old }
+        ensures write_calls { writes_of self.new ≡ one_more (writes_of self.old) }
+        ensures cause { HasCause WriteFault.Failed (faults_of self.old) (faults_of self.new) result }
+        ensures count { CountsWhere (IsErrOf result WriteFault.Failed) (faults_of self.old) (faults_of self.new) }
+    {
         self.writes = self.writes.saturating_add(1);
         if put_at(&draft.file, pos, bytes) {
             Ok(())
@@ -171,7 +218,16 @@ impl<R: Files<File = File> + Clone + Drop + Send> Folder for DiskFolder<R> {
         }
     }
 
-    fn append(&mut self, draft: &mut DiskDraft, bytes: &[u8]) -> Result<(), WriteFault> {
+    fn append(&mut self, draft: &mut DiskDraft, bytes: &[u8]) -> Result<(), WriteFault>
+        ensures ok { OnOk result (Appended bytes.now None None) }
+        ensures len { OnOk result (draft_len_of draft.new ≡ draft_len_of draft.old + length bytes.now) }
+        ensures name { draft_name_of draft.new ≡ draft_name_of draft.old }
+        ensures names { ⟦<DiskFolder<R> as Folder>⟧.names self.new ≡ ⟦<DiskFolder<R> as Folder>⟧.names self.old }
+        ensures read_calls { reads_of self.new ≡ reads_of self.old }
+        ensures write_calls { writes_of self.new ≡ writes_of self.old }
+        ensures cause { HasCause WriteFault.Failed (faults_of self.old) (faults_of self.new) result }
+        ensures count { CountsWhere (IsErrOf result WriteFault.Failed) (faults_of self.old) (faults_of self.new) }
+    {
         match draft.len.checked_add(bytes.len() as u64) {
             Some(end) if put_at(&draft.file, draft.len, bytes) => {
                 draft.len = end;
@@ -184,12 +240,19 @@ impl<R: Files<File = File> + Clone + Drop + Send> Folder for DiskFolder<R> {
         }
     }
 
-    fn draft_read(
-        &mut self,
-        draft: &mut DiskDraft,
-        pos: u64,
-        out: &mut [u8],
-    ) -> Result<(), Failed> {
+    fn draft_read(&mut self, draft: &mut DiskDraft, pos: u64, out: &mut [u8]) -> Result<(), Failed>
+        requires { pos + length out.old ≤ draft_len_of draft.old }
+        ensures ok { OnOk result (Reads None pos (length out.old) out.new) }
+        ensures bytes { ⟦<DiskFolder<R> as Folder>⟧.draft_bytes draft.new ≡ ⟦<DiskFolder<R> as Folder>⟧.draft_bytes
+            draft.old }
+        ensures len { draft_len_of draft.new ≡ draft_len_of draft.old }
+        ensures name { draft_name_of draft.new ≡ draft_name_of draft.old }
+        ensures names { ⟦<DiskFolder<R> as Folder>⟧.names self.new ≡ ⟦<DiskFolder<R> as Folder>⟧.names self.old }
+        ensures read_calls { reads_of self.new ≡ reads_of self.old }
+        ensures write_calls { writes_of self.new ≡ writes_of self.old }
+        ensures cause { FailsWith (faults_of self.old) (faults_of self.new) result }
+        ensures count { CountsWhere (IsErr result) (faults_of self.old) (faults_of self.new) }
+    {
         if fill_at(&draft.file, pos, out) {
             Ok(())
         } else {
@@ -198,7 +261,18 @@ impl<R: Files<File = File> + Clone + Drop + Send> Folder for DiskFolder<R> {
         }
     }
 
-    fn publish(&mut self, draft: DiskDraft) -> Result<(), WriteFault> {
+    fn publish(&mut self, draft: DiskDraft) -> Result<(), WriteFault>
+        ensures ok { OnOk result (Published (draft_name_of draft) None (⟦<DiskFolder<R> as Folder>⟧.names self.old)
+            (⟦<DiskFolder<R> as Folder>⟧.names self.new)) }
+        ensures others { OnOk result (ChangesOnly (draft_name_of draft) (⟦<DiskFolder<R> as Folder>⟧.names self.old)
+            (⟦<DiskFolder<R> as Folder>⟧.names self.new)) }
+        ensures err { OnErr result (⟦<DiskFolder<R> as Folder>⟧.names self.new ≡ ⟦<DiskFolder<R> as Folder>⟧.names
+            self.old) }
+        ensures read_calls { reads_of self.new ≡ reads_of self.old }
+        ensures write_calls { writes_of self.new ≡ writes_of self.old }
+        ensures cause { HasCause WriteFault.Failed (faults_of self.old) (faults_of self.new) result }
+        ensures count { CountsWhere (IsErrOf result WriteFault.Failed) (faults_of self.old) (faults_of self.new) }
+    {
         let from = draft.temporary.as_str();
         let to = draft.name.as_str();
         if may_replace(&self.rt, to) && fs::rename(&self.rt, from, to).is_ok() {

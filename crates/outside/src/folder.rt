@@ -201,10 +201,11 @@ pub trait Folder: Sized + Send {
         ensures view { IfOk result (λ view. IsView (names self.now) (names view) (faults view) (read_calls view)
             (write_calls view)) };
 
-    /// Ends a view: its calls are added to the folder's, and the count of faults rises where the view's is above 0.
+    /// Ends a view: its calls and its faults are added to the folder's, each count up to 2^64 - 1.
     fn absorb(&mut self, view: Self)
         ensures names { names self.new ≡ names self.old }
         ensures read_calls { read_calls self.new ≡ added (read_calls self.old) (read_calls view) }
         ensures write_calls { write_calls self.new ≡ added (write_calls self.old) (write_calls view) }
-        ensures faults { Absorbed (faults self.old) (faults view) (faults self.new) };
+        ensures faults { Absorbed (faults self.old) (faults view) (faults self.new) }
+        ensures counted { faults self.new ≡ added (faults self.old) (faults view) };
 }

@@ -19,12 +19,11 @@ mod system;
 mod tally;
 mod text;
 
-pub use calm_sink::CalmSink;
 pub use counter::Counter;
 pub use disk::{DiskDraft, DiskFile, DiskFolder};
 pub use folder::{Failed, Folder, OpenFault, WriteFault};
 pub use memory::{CalmFolder, MemDraft, MemFile, MemFolder, MemoryFolder};
-pub use memory_streams::{CalmInput, MemInput, MemSink, MemoryInput};
+pub use memory_streams::{CalmInput, CalmSink, MemInput, MemSink, MemoryInput};
 pub use name::{Ext, LONGEST_NAME, Name, NameFault, Names};
 pub use schedule::{Failing, Listed, Made, Method, Never, Schedule};
 pub use standard::{StdInput, StdSink};

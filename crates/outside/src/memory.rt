@@ -3,9 +3,9 @@ ghost use Rattle.std.specs.Prelude.{◌≡◌, ◌≤◌, ◌+◌, ◌-◌, ◌�
 ghost use Rattle.std.specs.Prelude.{OnErr, IsErr, IsErrOf, IsSome, IsTrue, option_map};
 ghost use Rattle.std.specs.FinMap as map;
 ghost use Rattle.outside.specs.Causes.{HasCause, FailsWith, Absorbed, CountsWhere, one_more, added};
-ghost use Rattle.outside.specs.Memory.{files_of, newest, AreNames, names_of, reads_of, writes_of, schedule_of};
-ghost use Rattle.outside.specs.Memory.{drafts_of, drafts_more, file_bytes_of, file_len_of, draft_name_of};
-ghost use Rattle.outside.specs.Memory.{draft_bytes_of, draft_len_of};
+ghost use Rattle.outside.specs.Memory.{files_of, newest, AreNames, AreApart, names_of, reads_of, writes_of};
+ghost use Rattle.outside.specs.Memory.{schedule_of, drafts_of, drafts_more, file_bytes_of, file_len_of};
+ghost use Rattle.outside.specs.Memory.{draft_name_of, draft_bytes_of, draft_len_of, names_with, with_name, came_of};
 ghost use Rattle.outside.specs.Outside.{Files, WithFile, IsUnder, Opened, IsLong, NotThere, Reads, Created, Grown};
 ghost use Rattle.outside.specs.Outside.{Written, Appended, Published, ChangesOnly, IsView};
 ghost use Rattle.outside.specs.declared.folder.OpenFault.TheVariants as open_fault;
@@ -84,7 +84,8 @@ impl Stored {
 // The same files, with bytes of their own.
 #[tactic(auto, using(crate::proofs::Puts::puts))]
 fn copy_files(alloc: Global, files: &[Stored]) -> Result<Vec<Stored>, AllocError>
-    ensures { IfOk result (λ copy. files_of copy.items ≡ files_of files.now) }
+    ensures files { IfOk result (λ copy. files_of copy.items ≡ files_of files.now) }
+    ensures order { IfOk result (λ copy. names_with [] copy.items ≡ names_with [] files.now) }
 {
     let mut copy = Vec::new(alloc);
     for stored in files {
@@ -108,7 +109,9 @@ fn has_name(names: &[Name], name: &Name) -> bool
 // The names of these files, each once.
 #[tactic(auto, using(crate::proofs::Puts::puts))]
 fn names_in(alloc: Global, files: &[Stored]) -> Result<Names, AllocError>
-    ensures { IfOk result (λ names. AreNames names (Some (files_of files.now))) }
+    ensures names { IfOk result (λ names. AreNames names (Some (files_of files.now))) }
+    ensures once { IfOk result (λ names. AreApart names) }
+    ensures order { IfOk result (λ names. names ≡ names_with [] files.now) }
 {
     let mut names = Names::new(alloc);
     for stored in files {
@@ -128,6 +131,7 @@ impl<P: Schedule> MemoryFolder<P> {
         ensures write_calls { ⟦<MemoryFolder<P> as Folder>⟧.write_calls result ≡ 0 }
         ensures schedule { schedule_of result ≡ schedule }
         ensures drafts { drafts_of result ≡ 0 }
+        ensures order { came_of result ≡ [] }
     {
         MemoryFolder {
             alloc,
@@ -148,10 +152,14 @@ impl<P: Schedule> MemoryFolder<P> {
         ensures err { OnErr result (⟦<MemoryFolder<P> as Folder>⟧.names self.new ≡ ⟦<MemoryFolder<P> as Folder>⟧.names
             self.old) }
         ensures faults { ⟦<MemoryFolder<P> as Folder>⟧.faults self.new ≡ ⟦<MemoryFolder<P> as Folder>⟧.faults self.old }
-        ensures read_calls { ⟦<MemoryFolder<P> as Folder>⟧.read_calls self.new ≡ ⟦<MemoryFolder<P> as Folder>⟧.read_calls self.old }
-        ensures write_calls { ⟦<MemoryFolder<P> as Folder>⟧.write_calls self.new ≡ ⟦<MemoryFolder<P> as Folder>⟧.write_calls self.old }
+        ensures read_calls { ⟦<MemoryFolder<P> as Folder>⟧.read_calls self.new ≡ ⟦<MemoryFolder<P> as
+            Folder>⟧.read_calls self.old }
+        ensures write_calls { ⟦<MemoryFolder<P> as Folder>⟧.write_calls self.new ≡ ⟦<MemoryFolder<P> as
+            Folder>⟧.write_calls self.old }
         ensures schedule { schedule_of self.new ≡ schedule_of self.old }
         ensures drafts { drafts_of self.new ≡ drafts_of self.old }
+        ensures came { OnOk result (came_of self.new ≡ with_name (came_of self.old) name.now) }
+        ensures stays { OnErr result (came_of self.new ≡ came_of self.old) }
     {
         let stored = Stored {
             name: name.try_clone()?,
@@ -172,6 +180,8 @@ impl<P: Schedule> MemoryFolder<P> {
     /// The names under which files stand, each once, in the order in which they came. It is no call of the folder.
     pub fn names(&self) -> Result<Names, AllocError>
         ensures names { IfOk result (λ names. AreNames names (⟦<MemoryFolder<P> as Folder>⟧.names self.now)) }
+        ensures once { IfOk result (λ names. AreApart names) }
+        ensures order { IfOk result (λ names. names ≡ came_of self.now) }
     {
         names_in(self.alloc, &self.files)
     }
@@ -227,6 +237,7 @@ impl<P: Schedule> Folder for MemoryFolder<P> {
         ensures count { CountsWhere (P.plans (schedule_of self.old) method.Open) (P.faults (schedule_of self.old))
             (P.faults (schedule_of self.new)) }
         ensures drafts { drafts_of self.new ≡ drafts_of self.old }
+        ensures order { came_of self.new ≡ came_of self.old }
     {
         if self.schedule.fails(Method::Open) {
             return Err(OpenFault::Failed);
@@ -257,6 +268,7 @@ impl<P: Schedule> Folder for MemoryFolder<P> {
         ensures count { CountsWhere (P.plans (schedule_of self.old) method.ReadAt) (P.faults (schedule_of self.old))
             (P.faults (schedule_of self.new)) }
         ensures drafts { drafts_of self.new ≡ drafts_of self.old }
+        ensures order { came_of self.new ≡ came_of self.old }
     {
         self.reads = self.reads.saturating_add(1);
         if self.schedule.fails(Method::ReadAt) {
@@ -281,6 +293,7 @@ impl<P: Schedule> Folder for MemoryFolder<P> {
             (P.faults (schedule_of self.new)) }
         ensures opened { OnOk result (drafts_of self.new ≡ drafts_more (drafts_of self.old) 1) }
         ensures unopened { OnErr result (drafts_of self.new ≡ drafts_of self.old) }
+        ensures order { came_of self.new ≡ came_of self.old }
     {
         if self.schedule.fails(Method::Create) {
             return Err(WriteFault::Failed);
@@ -307,6 +320,7 @@ impl<P: Schedule> Folder for MemoryFolder<P> {
         ensures count { CountsWhere (P.plans (schedule_of self.old) method.Grow) (P.faults (schedule_of self.old))
             (P.faults (schedule_of self.new)) }
         ensures drafts { drafts_of self.new ≡ drafts_of self.old }
+        ensures order { came_of self.new ≡ came_of self.old }
     {
         if self.schedule.fails(Method::Grow) {
             return Err(WriteFault::Failed);
@@ -329,6 +343,7 @@ impl<P: Schedule> Folder for MemoryFolder<P> {
         ensures count { CountsWhere (P.plans (schedule_of self.old) method.WriteAt) (P.faults (schedule_of self.old))
             (P.faults (schedule_of self.new)) }
         ensures drafts { drafts_of self.new ≡ drafts_of self.old }
+        ensures order { came_of self.new ≡ came_of self.old }
     {
         self.writes = self.writes.saturating_add(1);
         if self.schedule.fails(Method::WriteAt) {
@@ -352,6 +367,7 @@ impl<P: Schedule> Folder for MemoryFolder<P> {
         ensures count { CountsWhere (P.plans (schedule_of self.old) method.Append) (P.faults (schedule_of self.old))
             (P.faults (schedule_of self.new)) }
         ensures drafts { drafts_of self.new ≡ drafts_of self.old }
+        ensures order { came_of self.new ≡ came_of self.old }
     {
         if self.schedule.fails(Method::Append) {
             return Err(WriteFault::Failed);
@@ -374,6 +390,7 @@ impl<P: Schedule> Folder for MemoryFolder<P> {
         ensures count { CountsWhere (P.plans (schedule_of self.old) method.DraftRead) (P.faults (schedule_of self.old))
             (P.faults (schedule_of self.new)) }
         ensures drafts { drafts_of self.new ≡ drafts_of self.old }
+        ensures order { came_of self.new ≡ came_of self.old }
     {
         if self.schedule.fails(Method::DraftRead) {
             return Err(Failed);
@@ -398,6 +415,8 @@ impl<P: Schedule> Folder for MemoryFolder<P> {
         ensures count { CountsWhere (P.plans (schedule_of self.old) method.Publish) (P.faults (schedule_of self.old))
             (P.faults (schedule_of self.new)) }
         ensures drafts { drafts_of self.new ≡ drafts_of self.old - 1 }
+        ensures came { OnOk result (came_of self.new ≡ with_name (came_of self.old) (draft_name_of draft)) }
+        ensures stays { OnErr result (came_of self.new ≡ came_of self.old) }
     {
         self.drafts = self.drafts.saturating_sub(1);
         if self.schedule.fails(Method::Publish) {
@@ -415,6 +434,7 @@ impl<P: Schedule> Folder for MemoryFolder<P> {
         ensures faults { P.faults (schedule_of self.new) ≡ P.faults (schedule_of self.old) }
         ensures schedule { schedule_of self.new ≡ schedule_of self.old }
         ensures drafts { drafts_of self.new ≡ drafts_of self.old - 1 }
+        ensures order { came_of self.new ≡ came_of self.old }
     {
         let _ = draft;
         self.drafts = self.drafts.saturating_sub(1);
@@ -425,6 +445,7 @@ impl<P: Schedule> Folder for MemoryFolder<P> {
             (reads_of view) (writes_of view)) }
         ensures schedule { IfOk result (λ view. P.forked (schedule_of self.now) (schedule_of view)) }
         ensures drafts { IfOk result (λ view. drafts_of view ≡ 0) }
+        ensures order { IfOk result (λ view. came_of view ≡ came_of self.now) }
     {
         Ok(MemoryFolder {
             alloc: self.alloc,
@@ -442,8 +463,11 @@ impl<P: Schedule> Folder for MemoryFolder<P> {
         ensures write_calls { writes_of self.new ≡ added (writes_of self.old) (writes_of view) }
         ensures faults { Absorbed (P.faults (schedule_of self.old)) (P.faults (schedule_of view))
             (P.faults (schedule_of self.new)) }
+        ensures counted { P.faults (schedule_of self.new) ≡ added (P.faults (schedule_of self.old))
+            (P.faults (schedule_of view)) }
         ensures schedule { P.moved (schedule_of self.old) (schedule_of view) (schedule_of self.new) }
         ensures drafts { drafts_of self.new ≡ drafts_more (drafts_of self.old) (drafts_of view) }
+        ensures order { came_of self.new ≡ came_of self.old }
     {
         let MemoryFolder {
             alloc: _,

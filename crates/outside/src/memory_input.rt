@@ -1,8 +1,8 @@
 // What an input in memory gives, and which of its calls fail.
-ghost use Rattle.std.specs.Prelude.{◌≡◌, ◌<◌, ◌≤◌, ◌↔◌, length, Some, drop, IfOk, IsErr};
+ghost use Rattle.std.specs.Prelude.{◌≡◌, ◌<◌, ◌≤◌, ◌↔◌, max, length, Some, drop, IfOk, IsErr};
 ghost use Rattle.outside.specs.Causes.{CountsWhere, FailsWith};
-ghost use Rattle.outside.specs.Memory.{input_schedule_of};
-ghost use Rattle.outside.specs.Streams.{Takes};
+ghost use Rattle.outside.specs.Memory.{input_schedule_of, most_of};
+ghost use Rattle.outside.specs.Streams.{Takes, TakesMost};
 ghost use Rattle.outside.specs.declared.schedule.Method.TheVariants as method;
 
 use crate::memory_streams::MemoryInput;
@@ -15,6 +15,7 @@ impl<P: Schedule> MemoryInput<P> {
         ensures left { ⟦<MemoryInput<P> as Input>⟧.left result ≡ Some bytes.items }
         ensures faults { ⟦<MemoryInput<P> as Input>⟧.faults result ≡ P.faults schedule }
         ensures schedule { input_schedule_of result ≡ schedule }
+        ensures most { most_of result ≡ usize.MAX }
     {
         MemoryInput::in_pieces(bytes, usize::MAX, schedule)
     }
@@ -24,6 +25,7 @@ impl<P: Schedule> MemoryInput<P> {
         ensures left { ⟦<MemoryInput<P> as Input>⟧.left result ≡ Some bytes.items }
         ensures faults { ⟦<MemoryInput<P> as Input>⟧.faults result ≡ P.faults schedule }
         ensures schedule { input_schedule_of result ≡ schedule }
+        ensures most { most_of result ≡ max most 1 }
     {
         MemoryInput {
             bytes,
@@ -58,6 +60,9 @@ impl<P: Schedule> Input for MemoryInput<P> {
         ensures bound { IfOk result (λ n. n ≤ length out.new) }
         ensures told { Takes (⟦<MemoryInput<P> as Input>⟧.left self.old) (⟦<MemoryInput<P> as Input>⟧.left self.new)
             out.new result }
+        ensures most { IfOk result (TakesMost (⟦<MemoryInput<P> as Input>⟧.left self.old) (length out.old)
+            (most_of self.old)) }
+        ensures kept { most_of self.new ≡ most_of self.old }
         ensures cause { FailsWith (P.faults (input_schedule_of self.old)) (P.faults (input_schedule_of self.new))
             result }
         ensures planned { IsErr result ↔ P.plans (input_schedule_of self.old) method.Take }

@@ -1,6 +1,8 @@
-// An input and a sink in memory, whose calls fail where a schedule says so.
-ghost use Rattle.std.specs.Prelude.{◌≤◌, vec_len};
+// An input and two sinks in memory. Their calls fail where a schedule says so, or never.
+ghost use Rattle.std.specs.Prelude.{◌≡◌, ◌≤◌, true, vec_len};
+ghost use Rattle.outside.specs.Histories.{bytes_of};
 
+use crate::history::History;
 use crate::schedule::{Listed, Never};
 
 /// Bytes in memory that are read from front to back. It tells what it has left; which calls fail is its schedule's to
@@ -29,4 +31,15 @@ pub struct MemSink {
     pub(crate) schedule: Listed,
     // how many bytes a planned call takes before it fails
     pub(crate) front: usize,
+}
+
+/// A sink of which no call fails: its count of faults is always 0. It tells all that it got, and keeps it in memory as
+/// long as memory isn't refused.
+#[derive(Drop)]
+pub struct CalmSink {
+    pub(crate) bytes: Vec<u8>,
+    // memory wasn't refused so far
+    pub(crate) whole: bool,
+    pub(crate) history: History<u8, ()>,
+    ghost kept: { whole ≡ true → bytes.items ≡ bytes_of history.items },
 }

@@ -95,6 +95,17 @@ fn behind_last(text: &str, byte: char) -> Option<&str>
     }
 }
 
+// What stands before the last slash of a name.
+#[tactic(auto, unfolding(crate::specs::Names::folder_part))]
+pub(crate) fn folder_of(name: &str) -> Option<&str>
+    ensures { option_map (λ p. p.now) result ≡ folder_part name.now }
+{
+    match cut_last(name, '/') {
+        Some((folder, _)) => Some(folder),
+        None => None,
+    }
+}
+
 // What stands behind the last slash of a name, or all of it where there is none.
 #[tactic(auto, unfolding(crate::specs::Names::last_part))]
 fn last_part_of(name: &str) -> &str
@@ -211,14 +222,10 @@ impl Name {
     }
 
     /// What stands before the last slash. None comes exactly where there is no slash.
-    #[tactic(auto, unfolding(crate::specs::Names::folder_part))]
     pub fn folder_part(&self) -> Option<&str>
         ensures folder_part { option_map (λ p. p.now) result ≡ folder_part self.now }
     {
-        match cut_last(self.text.as_str(), '/') {
-            Some((folder, _)) => Some(folder),
-            None => None,
-        }
+        folder_of(self.text.as_str())
     }
 
     /// What stands behind the last slash, or the whole name where there is none.

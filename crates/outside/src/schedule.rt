@@ -1,6 +1,6 @@
 // Which calls of a folder, an input or a sink in memory fail.
 ghost use Rattle.std.specs.Prelude.{◌≡◌, ◌≤◌, ℕ, ⊤, IsTrue, IfOk, ◌↔◌};
-ghost use Rattle.outside.specs.Causes.{Rose, Absorbed, CountsWhere, one_more};
+ghost use Rattle.outside.specs.Causes.{Rose, Absorbed, CountsWhere, one_more, added};
 ghost use Rattle.outside.specs.Schedules.{number_of, counted, later_of, no_call, Plans, Forked, Moved, failing_of};
 ghost use Rattle.outside.specs.Schedules.{made_of, faults_of, IsPlanned};
 ghost use Rattle.outside.specs.declared.schedule.Method.{Method};
@@ -191,9 +191,10 @@ pub trait Schedule: Sized + Send + Drop {
         ensures view { IfOk result (λ view. faults view ≡ 0) }
         ensures schedule { IfOk result (λ view. forked self.now view) };
 
-    /// Ends a view's schedule.
+    /// Ends a view's schedule: the calls of the view that failed are added, up to 2^64 - 1.
     fn absorb(&mut self, view: Self)
         ensures faults { Absorbed (faults self.old) (faults view) (faults self.new) }
+        ensures counted { faults self.new ≡ added (faults self.old) (faults view) }
         ensures schedule { moved self.old view self.new };
 }
 

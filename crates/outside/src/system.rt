@@ -1,4 +1,8 @@
 // Whole reads and writes of open files, and what stands under a path of the system.
+ghost use Rattle.std.specs.Prelude.{◌≡◌, string_bytes, IfOk, IfSome};
+ghost use Rattle.outside.specs.Names.{temporary_of};
+
+use crate::name::folder_of;
 use std::alloc::{AllocError, Global};
 use std::fs::{self, File, OpenFile};
 use std::io::{self, ErrorKind};
@@ -74,7 +78,7 @@ pub(crate) fn may_replace<R: Files<File = File>>(rt: &R, path: &str) -> bool {
     }
 }
 
-/// A new file under a name that no other run takes.
+/// A new file under a name that no other run takes, with the number in it.
 #[derive(Drop)]
 pub(crate) struct Temporary {
     pub(crate) file: File,
@@ -88,9 +92,11 @@ fn temporary_path(
     name: &str,
     process: u32,
     number: u64,
-) -> Result<String, AllocError> {
-    match name.rsplit_once('/') {
-        Some((folder, _)) => format!(in alloc; "{folder}/.jirovamby.{process}.{number}.tmp"),
+) -> Result<String, AllocError>
+    ensures { IfOk result (λ path. string_bytes path ≡ temporary_of name.now process number) }
+{
+    match folder_of(name) {
+        Some(folder) => format!(in alloc; "{folder}/.jirovamby.{process}.{number}.tmp"),
         None => format!(in alloc; ".jirovamby.{process}.{number}.tmp"),
     }
 }
@@ -103,7 +109,10 @@ pub(crate) fn make_temporary<R: Files<File = File>>(
     name: &str,
     process: u32,
     last: u64,
-) -> Result<Option<Temporary>, AllocError> {
+) -> Result<Option<Temporary>, AllocError>
+    ensures { IfOk result (λ found. IfSome found
+        (λ made. string_bytes made.path ≡ temporary_of name.now process made.number)) }
+{
     let mut number = last;
     for _ in 0..u64::MAX {
         number = number.wrapping_add(1);

@@ -238,6 +238,7 @@ impl<F: Folder> Folder for Tally<F> {
         ensures read_calls { self.new.reads ≡ added self.old.reads view.reads }
         ensures write_calls { self.new.writes ≡ added self.old.writes view.writes }
         ensures faults { Absorbed (F.faults self.old.inner) (F.faults view.inner) (F.faults self.new.inner) }
+        ensures counted { F.faults self.new.inner ≡ added (F.faults self.old.inner) (F.faults view.inner) }
         ensures opens { opens_of self.new ≡ added (opens_of self.old) (opens_of view) }
     {
         let Tally {

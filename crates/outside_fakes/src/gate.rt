@@ -243,6 +243,8 @@ impl<F: Folder> Folder for Gate<F> {
             (F.write_calls view.inner) }
         ensures faults { Absorbed (faults_of F.faults self.old) (faults_of F.faults view)
             (faults_of F.faults self.new) }
+        ensures counted { faults_of F.faults self.new ≡ added (faults_of F.faults self.old)
+            (faults_of F.faults view) }
     {
         let Gate {
             inner,

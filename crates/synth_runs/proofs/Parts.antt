@@ -1,8 +1,10 @@
 -- How far the parts of the run go.
 use Rattle.std.proofs.Common.{◌≡◌, ◌⊎◌, sym, subst, refl, inl, inr, ℕ, false, List, [], ◌∷◌, Result, Ok, Err, Option, Some, None}
+use Rattle.std.specs.Prelude.{OnOk}
+use Rattle.geotransform.specs.declared.types.Size.{Size}
 use Rattle.outside.specs.Names.{extension_of, ending_of, last_part, kind_of}
 use Rattle.outside.specs.Outside.{Files}
-use Rattle.outside.specs.Streams.{GetsPart}
+use Rattle.outside.specs.Streams.{Gets, GetsPart}
 use Rattle.outside.proofs.Sinks.{gets-none}
 use Rattle.vrt_writing.specs.Spelled.{spelled}
 use Rattle.catalog.specs.Drivers.{Dataset}
@@ -12,7 +14,9 @@ use Rattle.error_lines.specs.Steps.{Publishes, Done, all_done, refused, prints, 
 use Rattle.mosaic_builds.specs.Built.{Built, built_in}
 use Rattle.output_copies.proofs.Goes as steps
 use Rattle.synthetic_rasters.specs.Names.{tile_names, inner_name}
+use Rattle.synthetic_rasters.specs.Tally.{Totals, tally_text}
 use Rattle.translation_runs.specs.Published.{IsNamed}
+use Rattle.synth_runs.specs.Ends.{PutsLines}
 use Rattle.synth_runs.specs.Runs.{inner_options, inner_done, inner_run, output_options, copied, tally_done, tally_run}
 
 -- the outside failed before the first step
@@ -42,6 +46,11 @@ inner_made m built r names old is goes = subst (λ (d : Result Built Fault). Goe
 -- a first part of one text is put
 pub text_stops : (text : List ℕ) (m : Files) (f : Fault) (names : Option Files) (before after : Option (List ℕ)) → names ≡ Some m → IsOutside f → GetsPart text before after → Goes (all_done (prints (text ∷ []))) m (Err f) names before after
 text_stops text m f names before after is out part = steps.spoken_stops false text f m names before after is out part
+
+-- or all of the lines on some totals
+pub lines_put : (r : Result (Unit {0}) Fault) (size : Size) (t : Totals) (text : List ℕ) (before after : Option (List ℕ)) → text ≡ tally_text size t → OnOk r (Gets text before after) → OnOk r (PutsLines before after)
+lines_put (Ok done) size t text before after is put = (size, t, subst (λ (l : List ℕ). Gets l before after) is put)
+lines_put (Err f) size t text before after is put = tt
 
 -- the copy isn't found, or the outside failed before it was
 pub tally_refused : (m : Files) (f : Fault) (names : Option Files) (old : Option (List ℕ)) → names ≡ Some m → IsOutside f ⊎ (copied m ≡ Err f) → Goes (tally_run m) m (Err f) names old old

@@ -1,7 +1,9 @@
 -- How the run from a number may end over every folder.
-use Rattle.std.specs.Prelude.{ℕ, ◌≡◌, Contains, List, [], ◌∷◌, ◌++◌, flat_map, Err}
+use Rattle.std.specs.Prelude.{ℕ, ◌≡◌, Contains, List, [], ◌∷◌, ◌++◌, flat_map, Option, Err}
 use Rattle.std.specs.List.{range_with_len}
+use Rattle.geotransform.specs.declared.types.Size.{Size}
 use Rattle.outside.specs.Names.{header_of}
+use Rattle.outside.specs.Streams.{Gets}
 use Rattle.catalog.specs.Heads.{kind_in, IsOwnFault}
 use Rattle.catalog.specs.declared.faults.WalkFault.TheVariants as walk
 use Rattle.buildvrt.specs.declared.faults.BuildFault.TheVariants as build
@@ -11,6 +13,7 @@ use Rattle.error_lines.specs.declared.faults.Fault.TheVariants.{TooDeep, Limit, 
 use Rattle.error_lines.specs.declared.faults.Fault.TheVariants.{BadPoint, Changed, FolderFault, InputFault, OutFault}
 use Rattle.error_lines.specs.declared.faults.Fault.TheVariants.{Memory}
 use Rattle.synthetic_rasters.specs.Names.{tile_name, inner_name, outer_name, output_name}
+use Rattle.synthetic_rasters.specs.Tally.{Totals, tally_text}
 
 -- the names that are published, in order: a raster's data, then its header
 abbrev pub raster_names : List ℕ → List (List ℕ)
@@ -41,3 +44,7 @@ MayEnd FolderFault = Unit {0}
 MayEnd InputFault = ⊥
 MayEnd OutFault = Unit {0}
 MayEnd Memory = Unit {0}
+
+-- five lines on the samples of some raster were put
+abbrev pub PutsLines : Option (List ℕ) → Option (List ℕ) → Type 0
+PutsLines before after = (size : Size) × (totals : Totals) × Gets (tally_text size totals) before after

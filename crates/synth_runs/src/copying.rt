@@ -51,6 +51,7 @@ pub fn put_output<R: Threads + Sync, F: Folder, O: Sink>(
 ) -> Result<(), Fault>
     ensures told { (m : Files) → F.names folder.old ≡ Some m → Goes (output_run m) m result (F.names folder.new)
         (O.got out.old) (O.got out.new) }
+    ensures quiet { out.new ≡ out.old }
     ensures may_end { IfErr result MayEnd }
     ensures changed { HasChanged (F.names folder.old) (ended result) }
     ensures cause { HasCauses (F.faults folder.old) (F.faults folder.new) (O.faults out.old) (O.faults out.new) result }

@@ -1,9 +1,9 @@
 // The run from a number, part by part.
-ghost use Rattle.std.specs.Prelude.{◌≡◌, IfErr, Some};
+ghost use Rattle.std.specs.Prelude.{◌≡◌, IfErr, OnOk, Some};
 ghost use Rattle.outside.specs.Outside.{Files};
 ghost use Rattle.error_lines.specs.Faults.{HasCauses, HasChanged, IsOutside};
 ghost use Rattle.error_lines.specs.Steps.{Goes};
-ghost use Rattle.synth_runs.specs.Ends.{MayEnd};
+ghost use Rattle.synth_runs.specs.Ends.{MayEnd, PutsLines};
 ghost use Rattle.synth_runs.specs.Runs.{copy_run, outer_runs, mosaic_runs, synth_run};
 ghost use Rattle.translation_runs.specs.Ends.{ended};
 
@@ -32,6 +32,8 @@ fn put_copy<R: Threads + Sync, F: Folder, O: Sink>(
 ) -> Result<(), Fault>
     ensures told { (m : Files) → F.names folder.old ≡ Some m → Goes (copy_run m) m result (F.names folder.new)
         (O.got out.old) (O.got out.new) }
+    ensures lines { OnOk result (PutsLines (O.got out.old) (O.got out.new)) }
+    ensures silent { IfErr result (λ f. (f ≡ Fault.OutFault → ⊥) → out.new ≡ out.old) }
     ensures may_end { IfErr result MayEnd }
     ensures changed { HasChanged (F.names folder.old) (ended result) }
     ensures cause { HasCauses (F.faults folder.old) (F.faults folder.new) (O.faults out.old) (O.faults out.new) result }
@@ -54,6 +56,8 @@ fn put_outer<R: Threads + Sync, F: Folder, O: Sink>(
 ) -> Result<(), Fault>
     ensures told { (m : Files) → F.names folder.old ≡ Some m → Goes (outer_runs side m) m result (F.names folder.new)
         (O.got out.old) (O.got out.new) }
+    ensures lines { OnOk result (PutsLines (O.got out.old) (O.got out.new)) }
+    ensures silent { IfErr result (λ f. (f ≡ Fault.OutFault → ⊥) → out.new ≡ out.old) }
     ensures may_end { IfErr result MayEnd }
     ensures changed { HasChanged (F.names folder.old) (ended result) }
     ensures cause { HasCauses (F.faults folder.old) (F.faults folder.new) (O.faults out.old) (O.faults out.new) result }
@@ -76,6 +80,8 @@ fn put_mosaics<R: Threads + Sync, F: Folder, O: Sink>(
 ) -> Result<(), Fault>
     ensures told { (m : Files) → F.names folder.old ≡ Some m → Goes (mosaic_runs side m) m result (F.names folder.new)
         (O.got out.old) (O.got out.new) }
+    ensures lines { OnOk result (PutsLines (O.got out.old) (O.got out.new)) }
+    ensures silent { IfErr result (λ f. (f ≡ Fault.OutFault → ⊥) → out.new ≡ out.old) }
     ensures may_end { IfErr result MayEnd }
     ensures changed { HasChanged (F.names folder.old) (ended result) }
     ensures cause { HasCauses (F.faults folder.old) (F.faults folder.new) (O.faults out.old) (O.faults out.new) result }
@@ -94,7 +100,8 @@ fn put_mosaics<R: Threads + Sync, F: Folder, O: Sink>(
 /// FolderFault and OutFault come only where the count of the folder and of the output rose, Changed only over a folder
 /// that doesn't tell its names, Memory freely. Over a folder that tells its files it is refused by nothing; over others
 /// a later part may read something else than an earlier one published, and is then refused for that. What was published
-/// before a fault stands.
+/// before a fault stands. Over every folder five such lines were put where it ends without a fault, and nothing where
+/// it ends with one, but for OutFault.
 pub fn put_rasters<R: Threads + Sync, F: Folder, O: Sink>(
     rt: &R,
     alloc: Global,
@@ -109,6 +116,9 @@ pub fn put_rasters<R: Threads + Sync, F: Folder, O: Sink>(
         (O.got out.old) (O.got out.new) }
     // and it is refused by nothing
     ensures made { (m : Files) → F.names folder.old ≡ Some m → IfErr result IsOutside }
+    // over every folder: where all went well five lines were put, and else none, unless the output failed
+    ensures lines { OnOk result (PutsLines (O.got out.old) (O.got out.new)) }
+    ensures silent { IfErr result (λ f. (f ≡ Fault.OutFault → ⊥) → out.new ≡ out.old) }
     ensures may_end { IfErr result MayEnd }
     ensures changed { HasChanged (F.names folder.old) (ended result) }
     ensures cause { HasCauses (F.faults folder.old) (F.faults folder.new) (O.faults out.old) (O.faults out.new) result }

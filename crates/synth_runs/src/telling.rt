@@ -1,8 +1,9 @@
 // What is told of the copy.
-ghost use Rattle.std.specs.Prelude.{◌≡◌, ◌⊎◌, ℕ, [], ◌∷◌, Option, Some, Ok, Err, IfOk, IfErr, slice_get};
+ghost use Rattle.std.specs.Prelude.{◌≡◌, ◌⊎◌, ℕ, [], ◌∷◌, Option, Some, Ok, Err, IfOk, IfErr, OnOk, slice_get};
 ghost use Rattle.outside.specs.Causes.{HasCause};
 ghost use Rattle.outside.specs.Outside.{Files};
 ghost use Rattle.outside.specs.Reading.{WhereTold};
+ghost use Rattle.outside.specs.Streams.{Gets};
 ghost use Rattle.catalog.specs.Drivers.{Dataset};
 ghost use Rattle.catalog.specs.Walk.{IsWalked};
 ghost use Rattle.error_lines.specs.Faults.{HasCauses, HasChanged, IsOutside};
@@ -11,7 +12,7 @@ ghost use Rattle.mosaic_builds.specs.Ends.{IsOfMaking};
 ghost use Rattle.output_copies.specs.Copying as copying;
 ghost use Rattle.synthetic_rasters.specs.Names.{output_name};
 ghost use Rattle.translation_runs.specs.Ends.{ended};
-ghost use Rattle.synth_runs.specs.Ends.{MayEnd};
+ghost use Rattle.synth_runs.specs.Ends.{MayEnd, PutsLines};
 ghost use Rattle.synth_runs.specs.Runs.{copied, tally_done, tally_run};
 ghost use Rattle.synth_runs.specs.Tallied.{IsCopied};
 
@@ -29,6 +30,8 @@ use synthetic_rasters::{output_name, tally_text};
 fn put_lines<O: Sink>(out: &mut O, text: &[u8]) -> Result<(), Fault>
     ensures told { (m : Files) (names : Option Files) → names ≡ Some m →
         Goes (all_done (prints (text.now ∷ []))) m result names (O.got out.old) (O.got out.new) }
+    ensures ok { OnOk result (Gets text.now (O.got out.old) (O.got out.new)) }
+    ensures faults { IfErr result (λ f. f ≡ Fault.OutFault) }
     ensures ends { (names : Option Files) (faults : ℕ) → copying.MayEnd names faults faults (O.faults out.old)
         (O.faults out.new) result }
 {
@@ -77,6 +80,8 @@ fn put_told<F: Folder, O: Sink>(
     ensures told { (m : Files) (d : Dataset) → F.names folder.old ≡ Some m →
         slice_get copied.now.cat copied.now.id ≡ Some d → Goes (tally_done m (Ok d)) m result (F.names folder.new)
         (O.got out.old) (O.got out.new) }
+    ensures lines { OnOk result (PutsLines (O.got out.old) (O.got out.new)) }
+    ensures silent { IfErr result (λ f. (f ≡ Fault.OutFault → ⊥) → out.new ≡ out.old) }
     ensures ends { copying.MayEnd (F.names folder.old) (F.faults folder.old) (F.faults folder.new) (O.faults out.old)
         (O.faults out.new) result }
 {
@@ -97,6 +102,8 @@ pub fn put_tally<F: Folder, O: Sink>(
 ) -> Result<(), Fault>
     ensures told { (m : Files) → F.names folder.old ≡ Some m → Goes (tally_run m) m result (F.names folder.new)
         (O.got out.old) (O.got out.new) }
+    ensures lines { OnOk result (PutsLines (O.got out.old) (O.got out.new)) }
+    ensures silent { IfErr result (λ f. (f ≡ Fault.OutFault → ⊥) → out.new ≡ out.old) }
     ensures may_end { IfErr result MayEnd }
     ensures changed { HasChanged (F.names folder.old) (ended result) }
     ensures cause { HasCauses (F.faults folder.old) (F.faults folder.new) (O.faults out.old) (O.faults out.new) result }

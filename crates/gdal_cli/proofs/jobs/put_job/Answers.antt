@@ -1,10 +1,10 @@
-use Rattle.std.proofs.Common.{rules, ◌∙◌, ap, refl, subst, sym, List}
+use Rattle.std.proofs.Common.{rules, ◌∙◌, ap, refl, subst, sym, true≢false, List}
 use Rattle.input_points.specs.Entries.{entries}
 use Rattle.command_words.specs.declared.command.Job.{Job}
 use Rattle.gdal_cli.specs.Published.{IsNamedJob}
 use Rattle.error_lines.specs.Steps.{Step, AreWarned}
 use Rattle.translation_runs.specs.Ends.{ended}
-use Rattle.gdal_cli.specs.Run.{makes_rasters, names_published, warns_of_inputs}
+use Rattle.gdal_cli.specs.Run.{is_quiet, makes_rasters, names_published, warns_of_inputs}
 use Rattle.gdal_cli.specs.Work.{judged_by, carried_out}
 use Rattle.gdal_cli.proofs.Ended.{stops_same}
 use Rattle.gdal_cli.proofs.Printing.{info_prints, location_prints}
@@ -138,3 +138,18 @@ returns-in-Build-clause-made g c = λ rasters m is. absurd (none_made (sym (ap (
 
 pub returns-in-Synth-clause-made : goal.returns-in-Synth-clause-made
 returns-in-Synth-clause-made g c = λ rasters. c.put_rasters.ensures.made
+
+pub returns-in-Info-clause-quiet : goal.returns-in-Info-clause-quiet
+returns-in-Info-clause-quiet g c = λ quiet. absurd (true≢false (sym quiet ∙ ap (λ (j : Job). is_quiet j) c.in-Info.is))
+
+pub returns-in-Locate-clause-quiet : goal.returns-in-Locate-clause-quiet
+returns-in-Locate-clause-quiet g c = λ quiet. absurd (true≢false (sym quiet ∙ ap (λ (j : Job). is_quiet j) c.in-Locate.is))
+
+pub returns-in-Synth-clause-quiet : goal.returns-in-Synth-clause-quiet
+returns-in-Synth-clause-quiet g c = λ quiet. absurd (true≢false (sym quiet ∙ ap (λ (j : Job). is_quiet j) c.in-Synth.is))
+
+pub returns-in-Translate-clause-quiet : goal.returns-in-Translate-clause-quiet
+returns-in-Translate-clause-quiet g c = λ quiet. c.put_translated.ensures.quiet (sym (ap (λ (j : Job). is_quiet j) c.in-Translate.is) ∙ quiet)
+
+pub returns-in-Build-clause-quiet : goal.returns-in-Build-clause-quiet
+returns-in-Build-clause-quiet g c = λ quiet. c.put_build.ensures.quiet (sym (ap (λ (j : Job). is_quiet j) c.in-Build.is) ∙ quiet)

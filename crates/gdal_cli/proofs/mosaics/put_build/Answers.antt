@@ -39,3 +39,6 @@ returns-clause-changed g c = build_unchanged c.args.building.options.now.out c.p
 
 pub returns-clause-own : goal.returns-clause-own
 returns-clause-own g c = build_owns c.args.building.options.now.out c.put_mosaic.result c.put_mosaic.ensures.may_end
+
+pub returns-clause-quiet : goal.returns-clause-quiet
+returns-clause-quiet g c = c.put_mosaic.ensures.quiet

@@ -25,3 +25,6 @@ returns-clause-unknown g c = translate_refuses c.args.options.now c.put_translat
 
 pub returns-clause-own : goal.returns-clause-own
 returns-clause-own g c = translate_owns c.args.options.now c.put_translation.result c.put_translation.ensures.may_end
+
+pub returns-clause-quiet : goal.returns-clause-quiet
+returns-clause-quiet g c = c.put_translation.ensures.quiet

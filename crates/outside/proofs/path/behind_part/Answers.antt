@@ -1,4 +1,4 @@
-use Rattle.std.proofs.Common.{◌≡◌, ◌<◌, ◌∙◌, length, drop, sym, ap, arith}
+use Rattle.std.proofs.Common.{◌∙◌, drop, ap, arith}
 use Rattle.outside.proofs.Slashes.{end_left, more_left}
 use Rattle.outside.proofs.path.behind_part.Goals as goal
 

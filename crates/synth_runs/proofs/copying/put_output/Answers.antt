@@ -1,4 +1,4 @@
-use Rattle.std.proofs.Common.{sym, subst, false, true, ℕ, List}
+use Rattle.std.proofs.Common.{refl, sym, subst, false, true, ℕ, List}
 use Rattle.std.specs.Prelude.{IfErr}
 use Rattle.translate_plan.specs.Options.{Options}
 use Rattle.error_lines.specs.declared.faults.Fault.TheVariants.{Memory}
@@ -39,3 +39,6 @@ pub returns-clause-may_end : goal.returns-clause-may_end
 returns-clause-may_end g c =
     where_failed (translation.MayEnd output_options) MayEnd c.put_translation.result translation_may
     (subst (λ (o : Options). IfErr c.put_translation.result (translation.MayEnd o)) c.in_ok-options.ensures.options c.put_translation.ensures.may_end)
+
+pub returns-clause-quiet : goal.returns-clause-quiet
+returns-clause-quiet g c = c.put_translation.ensures.quiet refl

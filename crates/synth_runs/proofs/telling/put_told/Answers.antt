@@ -1,9 +1,11 @@
-use Rattle.std.proofs.Common.{◌∙◌, arith, subst, ℕ, List, [], ◌∷◌, Ok, Err}
-use Rattle.error_lines.specs.declared.faults.Fault.TheVariants.{Memory}
+use Rattle.std.proofs.Common.{◌≡◌, ◌∙◌, arith, subst, ℕ, List, [], ◌∷◌, Ok, Err}
+use Rattle.error_lines.specs.declared.faults.Fault.{Fault}
+use Rattle.error_lines.specs.declared.faults.Fault.TheVariants.{OutFault, Memory}
 use Rattle.error_lines.specs.Steps.{all_done, prints, Goes}
 use Rattle.output_copies.proofs.Ends.{ends_after, ends_beside, ends_memory, ends_so, err_is}
 use Rattle.synth_runs.specs.Runs.{tally_done}
-use Rattle.synth_runs.proofs.Parts.{none_goes}
+use Rattle.synth_runs.proofs.Ending.{where_failed}
+use Rattle.synth_runs.proofs.Parts.{none_goes, lines_put}
 use Rattle.synth_runs.proofs.Tallying.{told_as}
 use Rattle.synth_runs.proofs.telling.put_told.Goals as goal
 
@@ -39,3 +41,12 @@ returns-clause-ends g c =
     ends_after (g.F.Folder.names c.args.folder.now) (g.F.Folder.names c.tally_copied.new.folder) (g.F.Folder.faults c.args.folder.now) (g.F.Folder.faults c.tally_copied.new.folder) (g.F.Folder.faults c.tally_copied.new.folder) (g.O.Sink.faults c.args.out.now) (g.O.Sink.faults c.args.out.now) (g.O.Sink.faults c.put_lines.new.out) c.put_lines.result
     c.tally_copied.ensures.names c.in_ok-tally.ensures.ends.cause.folder_later (omega arith)
     (c.put_lines.ensures.ends (g.F.Folder.names c.tally_copied.new.folder) (g.F.Folder.faults c.tally_copied.new.folder))
+
+pub returns-clause-lines : goal.returns-clause-lines
+returns-clause-lines g c =
+    lines_put c.put_lines.result c.args.copied.now.size c.in_ok-tally.tally _ (g.O.Sink.got c.args.out.now) (g.O.Sink.got c.put_lines.new.out)
+    (c.deref.ensures.value ∙ c.in_ok-text.ensures.text) c.put_lines.ensures.ok
+
+pub returns-clause-silent : goal.returns-clause-silent
+returns-clause-silent g c =
+    where_failed (λ (f : Fault). f ≡ OutFault) (λ (f : Fault). (f ≡ OutFault → ⊥) → c.put_lines.new.out ≡ c.args.out.now) c.put_lines.result (λ f is other. absurd (other is)) c.put_lines.ensures.faults
