@@ -137,9 +137,13 @@ head_of value = do
   geo ← geo_of value
   Ok (head_from s r geo (value keys.nodata))
 
+-- the greatest length of a header, in bytes
+abbrev pub longest_header : ℕ
+longest_header = 1048576
+
 -- the head that a text gives, or the first fault
 unfoldable pub esri_head : List ℕ → Result Head HdrFault
-esri_head text = if nat_lt 1048576 (length text) then Err Limit else head_of (last_of text)
+esri_head text = if nat_lt longest_header (length text) then Err Limit else head_of (last_of text)
 
 -- the bytes of a sample
 abbrev pub sample_len : PixelType → ℕ
