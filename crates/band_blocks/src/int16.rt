@@ -1,4 +1,5 @@
-// The elevations of records and the samples of tiles, read straight into cells of 16 bits, and samples written from them.
+// The elevations of records and the samples of tiles, read straight into cells of 16 bits, and samples written from
+// them.
 ghost use Rattle.std.specs.Prelude.{◌≡◌, ◌<◌, ◌≤◌, ◌+◌, ◌*◌, ℕ, List, length, map, true};
 ghost use Rattle.std.specs.List.{range_with_len};
 ghost use Rattle.geotransform.specs.Types.{is_in};

@@ -8,7 +8,7 @@ use Rattle.catalog.specs.declared.driver.Content.{Content}
 use Rattle.catalog.specs.declared.driver.Content.TheVariants.{File, Mosaic}
 use Rattle.catalog.specs.Drivers.{Dataset}
 
--- How many bytes of a grid are read at a time.
+-- The most bytes of a grid, a row or a line that are read or written at a time.
 abbrev pub piece_len : ℕ
 piece_len = 65536
 

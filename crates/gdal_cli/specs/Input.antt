@@ -1,11 +1,12 @@
 -- How the lines of an input are answered while it is read.
-use Rattle.std.specs.Prelude.{◌≡◌, ◌⊎◌, ◌≤◌, false, ℕ, ℤ, ◌*◌, ◌-◌, List, [], ◌++◌, length, drop, Option, Some, None}
-use Rattle.std.specs.Prelude.{Result, Ok, Err}
+use Rattle.std.specs.Prelude.{◌≡◌, ◌⊎◌, ◌≤◌, false, ℕ, ℤ, ◌+◌, ◌*◌, ◌-◌, List, [], ◌++◌, length, drop, Option, Some}
+use Rattle.std.specs.Prelude.{None, Result, Ok, Err}
 use Rattle.std.specs.Str.Lines.{lines}
 use Rattle.outside.specs.Streams.{Gets, GetsPart}
 use Rattle.input_points.specs.declared.entry.Entry.{Entry}
 use Rattle.input_points.specs.Lines.{ended_lines}
-use Rattle.input_points.specs.Entries.{entries, ended_entries}
+use Rattle.input_points.specs.Points.{longest_line}
+use Rattle.input_points.specs.Entries.{most_lines, entries, ended_entries}
 use Rattle.input_points.specs.Reading.{Reading, start, coming}
 use Rattle.error_lines.specs.declared.faults.Fault.{Fault}
 use Rattle.error_lines.specs.Faults.{IsOutside}
@@ -15,8 +16,8 @@ use Rattle.error_lines.specs.Steps.{Done, printed}
 -- a reading goes on, within the limits on lines
 pub record IsReading (r : Reading) : Type 0 where
   pub going : r.over ≡ false
-  pub most : r.line ≤ 16777217
-  pub few : length r.held ≤ 4097
+  pub most : r.line ≤ most_lines + 1
+  pub few : length r.held ≤ longest_line + 1
 
 -- how much more a reading can take at the most, of lines that aren't too long
 abbrev pub room_of : Reading → ℕ

@@ -1,6 +1,6 @@
 -- What gdallocationinfo prints of points.
-use Rattle.std.specs.Prelude.{ℕ, ℤ, pos, negsuc, ◌-◌, Bool, true, false, List, [], ◌∷◌, length, map, flat_map, nat_lt}
-use Rattle.std.specs.Prelude.{Option, Some, None, Result, Ok, Err, if◌then◌else◌}
+use Rattle.std.specs.Prelude.{ℕ, ℤ, pos, negsuc, ◌+◌, ◌-◌, Bool, true, false, List, [], ◌∷◌, length, map, flat_map}
+use Rattle.std.specs.Prelude.{nat_lt, Option, Some, None, Result, Ok, Err, if◌then◌else◌}
 use Rattle.std.specs.List.{range_with_len, find}
 use Rattle.lists_and_answers.specs.Answers.{◌>>=◌}
 use Rattle.geotransform.specs.Geo.{Transform, located}
@@ -9,6 +9,7 @@ use Rattle.geotransform.specs.Places.{floor_of}
 use Rattle.geotransform.specs.declared.faults.PlanFault.TheVariants.{NoBand, NoGeo}
 use Rattle.outside.specs.Outside.{Files}
 use Rattle.outside.specs.Streams.{Gets, GetsPart}
+use Rattle.input_points.specs.Entries.{most_lines}
 use Rattle.input_points.specs.declared.entry.Entry.{Entry}
 use Rattle.input_points.specs.declared.entry.LineKind.{LineKind}
 use Rattle.input_points.specs.declared.entry.LineKind.TheVariants.{Blank, Point, Bad, TooMany}
@@ -97,7 +98,7 @@ abbrev pub line_fault : ℕ → LineKind → Option Fault
 line_fault number Blank = None
 line_fault number (Point x y) = None
 line_fault number Bad = Some (BadPoint number)
-line_fault number TooMany = Some (Limit limits.Points 16777217)
+line_fault number TooMany = Some (Limit limits.Points (most_lines + 1))
 
 abbrev pub first_fault : Option Fault → Option Fault → Option Fault
 first_fault None later = later

@@ -5,12 +5,12 @@ ghost use Rattle.std.specs.List.{list_all};
 ghost use Rattle.std.specs.Option.{option_to_list};
 ghost use Rattle.std.specs.Str.Lines.{lines, strip_carriage_return};
 ghost use Rattle.input_points.specs.Lines.{is_inside, ended_lines};
-ghost use Rattle.input_points.specs.Points.{kind_of};
+ghost use Rattle.input_points.specs.Points.{kind_of, longest_line};
 ghost use Rattle.input_points.specs.Entries.{most_lines, ends, entry_of, entries, ended_entries};
 ghost use Rattle.input_points.specs.Reading.{start, kept, behind, coming};
 
 use crate::entry::{Entry, LineKind};
-use crate::words::{kind_of, line_in, without_return};
+use crate::words::{LONGEST, kind_of, line_in, without_return};
 use std::alloc::{AllocError, Global};
 use std::marker::Model;
 
@@ -18,7 +18,7 @@ use std::marker::Model;
 const MOST_LINES: u32 = 16_777_216;
 
 /// The most bytes of a line without its line feed.
-const MOST_BYTES: usize = 4097;
+const MOST_BYTES: usize = LONGEST + 1;
 
 /// Reads an input in pieces, and gives its lines one by one. It keeps the bytes of the line that hasn't ended, and
 /// takes memory for them once. It stands for what is still to come: `coming lines` are the entries of all further
@@ -35,6 +35,7 @@ impl Model for PointLines {
     ghost use Rattle.std.specs.List.{list_all};
     ghost use Rattle.std.specs.Vec.{vec_capacity};
     ghost use Rattle.input_points.specs.Lines.{is_inside};
+    ghost use Rattle.input_points.specs.Points.{longest_line};
     ghost use Rattle.input_points.specs.Entries.{most_lines};
     ghost use Rattle.input_points.specs.Reading.{Reading};
 
@@ -42,7 +43,9 @@ impl Model for PointLines {
 
     ghost view = { λ p. record { line = p.line; held = p.bytes.items; over = p.over } };
 
-    ghost invariant = { λ p. (p.line ≤ most_lines + 1) × (most_lines < p.line → length p.bytes.items ≡ 0) × (length p.bytes.items ≤ 4097) × (4097 ≤ vec_capacity p.bytes) × (list_all is_inside p.bytes.items ≡ true) };
+    ghost invariant = { λ p. (p.line ≤ most_lines + 1) × (most_lines < p.line → length p.bytes.items ≡ 0) ×
+        (length p.bytes.items ≤ longest_line + 1) × (longest_line + 1 ≤ vec_capacity p.bytes) ×
+        (list_all is_inside p.bytes.items ≡ true) };
 }
 
 impl PointLines {
@@ -65,7 +68,7 @@ impl PointLines {
         requires inside { list_all is_inside bytes.now ≡ true }
         requires few { self.old.line ≤ most_lines }
         ensures inside { list_all is_inside self.old.held ≡ true }
-        ensures fits { result ≡ nat_le (length self.old.held + length bytes.now) 4097 }
+        ensures fits { result ≡ nat_le (length self.old.held + length bytes.now) (longest_line + 1) }
         ensures state { self.new ≡ (if result then kept self.old bytes.now else self.old) }
     {
         bytes.len() <= MOST_BYTES - self.bytes.len() && self.bytes.extend_from_slice(bytes).is_ok()
@@ -123,7 +126,7 @@ impl PointLines {
         ensures more { 0 < result.1 }
         ensures rest { result.0 ≡ None → result.1 ≡ length piece.now }
         ensures kept { result.0 ≡ None → self.new ≡ kept self.old piece.now }
-        ensures few { result.0 ≡ None → length self.new.held ≤ 4097 }
+        ensures few { result.0 ≡ None → length self.new.held ≤ longest_line + 1 }
     {
         match line_in(piece) {
             Some(front) => {
@@ -150,7 +153,7 @@ impl PointLines {
         ensures last { IfSome result.0 (λ e. ends e.kind ≡ true → (more : List ℕ) → coming lines self.new more ≡ []) }
         // the next line has the next number, up to one too many
         ensures behind { IfSome result.0 (λ e. self.new ≡ behind self.old.line e.kind) }
-        ensures most { self.new.line ≤ 16777217 }
+        ensures most { self.new.line ≤ most_lines + 1 }
         // no line that has an end is kept back
         ensures given { coming ended_lines self.new [] ≡ [] }
         ensures used { result.1 ≤ length piece.now }
@@ -158,7 +161,7 @@ impl PointLines {
         ensures rest { result.0 ≡ None → result.1 ≡ length piece.now }
         // where no entry comes, all bytes of the line are kept, and they are few
         ensures kept { result.0 ≡ None → self.old.over ≡ false → self.new ≡ kept self.old piece.now }
-        ensures few { result.0 ≡ None → length self.new.held ≤ 4097 }
+        ensures few { result.0 ≡ None → length self.new.held ≤ longest_line + 1 }
     {
         if self.over {
             return (None, piece.len());

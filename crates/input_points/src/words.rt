@@ -11,7 +11,7 @@ use crate::position::Position;
 use lists_and_answers::token_at;
 
 /// The most bytes that a line may have without its end.
-const LONGEST: usize = 4096;
+pub const LONGEST: usize = 4096;
 
 fn point_of(first: &[u8], second: &[u8]) -> LineKind
     ensures { result ≡ point_of (ticks_of first.now) (ticks_of second.now) }

@@ -10,6 +10,10 @@ use Rattle.block_cache.specs.declared.pool.Entry.{Entry}
 use Rattle.block_cache.specs.Entries.{PoolView, pool_view, admitted, held_at, moved_to_front}
 use Rattle.nearest_window.specs.declared.indexes.Kept.{Kept}
 
+-- The most blocks of mosaics that are kept beside a full pool.
+abbrev pub most_made : ℕ
+most_made = 4096
+
 pub record LaneView (File : Type 0) : Type 0 where
   pub pool : PoolView
   pub files : List (ℕ × File)

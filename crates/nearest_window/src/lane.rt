@@ -9,9 +9,8 @@ ghost use Rattle.catalog.specs.Places.{IsWithin};
 ghost use Rattle.band_blocks.specs.Keys.{IsKey};
 ghost use Rattle.band_blocks.specs.Samples.{IsDirect};
 ghost use Rattle.block_cache.specs.Entries.{pool_view, entry_of, held_at, moved_to_front, admitted, IsPool};
-ghost use Rattle.nearest_window.specs.Canvases.{IsCanvas, IsSourceTaken};
 ghost use Rattle.nearest_window.specs.Lanes.{IsHeldWith, IsKept, IsUsed, LaneView, lane_view, held_in, pixel_at};
-ghost use Rattle.nearest_window.specs.Lanes.{room_of};
+ghost use Rattle.nearest_window.specs.Lanes.{most_made, room_of};
 ghost use Rattle.nearest_window.specs.Painted.{IsPainted, in_columns};
 ghost use Rattle.nearest_window.specs.Pictures.{IsPicture, from_block};
 ghost use Rattle.nearest_window.specs.Right.{AreRecalled, IsAnswered, IsFit, IsFresh, IsIndexIn, IsPartBlock};
@@ -121,7 +120,6 @@ fn pixel_at(key: BlockKey, rect: Rect) -> PixelKey
 }
 
 impl<F: Folder> Model for Lane<F> {
-    ghost use Rattle.nearest_window.specs.Canvases.{IsCanvas, IsSourceTaken};
     ghost use Rattle.nearest_window.specs.Lanes.{LaneView, lane_view};
 
     ghost Value = { LaneView F.File };
@@ -134,7 +132,8 @@ impl<F: Folder> Lane<F> {
     pub fn new(alloc: Global, capacity: u32) -> Result<Lane<F>, AllocError>
         requires some { 1 ≤ capacity }
         requires few { capacity ≤ most_blocks }
-        ensures empty { IfOk result (λ lane. lane ≡ lane_view (pool_view [] capacity) [] (pool_view [] 4096) [] []) }
+        ensures empty { IfOk result (λ lane.
+            lane ≡ lane_view (pool_view [] capacity) [] (pool_view [] most_made) [] []) }
         ensures right { IfOk result (λ lane. (told : _) (cat : List Dataset) → IsRightLane F.Folder told cat lane) }
         ensures fresh { IfOk result (λ lane. IsFresh F.Folder lane) }
     {

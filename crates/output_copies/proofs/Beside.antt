@@ -92,13 +92,3 @@ filled_on told cat id p plan t last next part behind filled = elim (cases_lt 0 n
       (filled_next told cat id p plan t last.first last.end next.end part.order
       (subst (λ (n : ℕ). IsFilled told cat id p t last.first last.end n) s.0 filled)))
 ]
-
--- room for so many lines is room for fewer
-pub room_for_fewer : (w first end rows size : ℕ) → end ≤ first + rows → w * rows ≤ size → w * (end - first) ≤ size
-room_for_fewer w first end rows size few room =
-    let n = end - first in
-    let e = rows - n in
-    let whole : rows ≡ n + e = omega arith in
-    let parts : w * (n + e) ≡ w * n + w * e = grind arith in
-    let same : w * rows ≡ w * (n + e) = ap (λ (k : ℕ). w * k) whole in
-    omega (arith, parts, same, room)

@@ -1,5 +1,6 @@
 // Blocks of the type and length of a key's block.
-ghost use Rattle.std.specs.Prelude.{◌≡◌, ◌*◌, ◌<◌, length, IfOk};
+ghost use Rattle.std.specs.Prelude.{◌≡◌, ◌*◌, ◌<◌, IfOk};
+ghost use Rattle.catalog.specs.Dataset.{band_count};
 ghost use Rattle.catalog.specs.Places.{blocks_of, block_rect_of};
 ghost use Rattle.band_blocks.specs.Keys.{IsKey};
 ghost use Rattle.shared_lines.specs.Shapes.{HasShape};
@@ -11,7 +12,7 @@ use std::alloc::{AllocError, Global};
 // The number of the samples of a block.
 #[tactic(auto, using(crate::proofs::Lengths::few_samples))]
 fn samples_in(head: &Head, band: u32, block: u64) -> u32
-    requires band { band < length head.now.bands }
+    requires band { band < band_count head.now }
     requires block { block < blocks_of head.now }
     ensures count { result ≡ (block_rect_of head.now block).w * (block_rect_of head.now block).h }
 {

@@ -3,6 +3,7 @@ use Rattle.std.specs.Prelude.{◌≡◌, ◌<◌, ◌≤◌, ◌+◌, ◌-◌, �
 use Rattle.geotransform.specs.declared.types.Rect.{Rect}
 use Rattle.geotransform.specs.declared.types.Size.{Size}
 use Rattle.outside.specs.Outside.{Files}
+use Rattle.catalog.specs.Dataset.{band_count}
 use Rattle.catalog.specs.Drivers.{Dataset}
 use Rattle.translate_plan.specs.declared.band.OutBand.{OutBand}
 use Rattle.translate_plan.specs.Plan.{Planned, shown_line}
@@ -14,7 +15,7 @@ use Rattle.strip_copies.specs.Rows.{within, AreColumns, AreIn, AreSamples}
 pub record IsTranslation (cat : List Dataset) (id : ℕ) (p : Planned) : Type 0 where
   pub dataset : Dataset
   pub at : slice_get cat id ≡ Some dataset
-  pub sources : All (λ (b : OutBand). b.source < length dataset.head.bands) p.bands
+  pub sources : All (λ (b : OutBand). b.source < band_count dataset.head) p.bands
 
 -- the columns are those of the dataset that the plan shows, and there is room for a line of them
 pub record IsRoomFor (cat : List Dataset) (id : ℕ) (p : Planned) (columns : Columns) (samples : List ℤ) : Type 0 where

@@ -58,33 +58,54 @@ is_tall cat SrtmHgt = has_blocks Columns cat
 is_tall cat AaiGrid = has_blocks Columns cat
 is_tall cat Vrt = has_blocks Columns cat
 
+-- The lines of a square of a mosaic.
+abbrev pub square_lines : ℕ
+square_lines = 128
+
+-- The lines of a file of lines that each of several workers reads, and the most that a single one reads at a time.
+abbrev pub file_lines : ℕ
+file_lines = 32
+
 -- the lines of a strip that each of several workers reads: those of a square where the source is a mosaic, and 32 where
 -- it is a file of lines
 abbrev pub lines_each : List Dataset → ℕ
-lines_each cat = if has_blocks Squares cat then 128 else 32
+lines_each cat = if has_blocks Squares cat then square_lines else file_lines
 
 -- samples are made of others, or of digits: those of a file of bytes are copied
 abbrev pub is_made : List Dataset → Bool
 is_made cat = has_blocks Squares cat || has_blocks Digits cat
 
+-- The fewest samples for which a worker gets a thread, where they are made of others, or of digits.
+abbrev pub fewest_made : ℕ
+fewest_made = 262144
+
+-- The same where they are copied from a file of bytes.
+abbrev pub fewest_copied : ℕ
+fewest_copied = 1000000
+
 -- the fewest samples for which a worker gets a thread
 abbrev pub fewest_read : List Dataset → ℕ
-fewest_read cat = if is_made cat then 262144 else 1000000
+fewest_read cat = if is_made cat then fewest_made else fewest_copied
 
 -- several workers read a strip of a window so wide where each has enough samples for a thread
 abbrev pub is_shared : ℕ → List Dataset → ℕ → Bool
 is_shared workers cat width =
     nat_lt 1 workers && nat_le (fewest_read cat) (min (lines_each cat * width) (most_samples / workers))
 
+-- So many samples stay in a processor's cache: 1 MiB.
+abbrev pub samples_near : ℕ
+samples_near = 65536
+
 -- the lines of so many columns that stay in a processor's cache
 abbrev pub lines_near : ℕ → ℕ
-lines_near width = min (max (65536 / width) 1) 32
+lines_near width = min (max (samples_near / width) 1) file_lines
 
 -- the lines of a strip that one worker reads alone: of a file of bytes those that stay in the cache
 abbrev pub lines_alone : List Dataset → ℕ → ℕ
 lines_alone cat width = if is_made cat then lines_each cat else lines_near width
 
--- the most lines of a strip: so many for each of the workers that share it, or as many as it can have
+-- the most lines of a strip: as many as it can have where strips are tall, else so many for each of the workers that
+-- share it, or those that one worker reads alone
 abbrev pub most_lines : ℕ → List Dataset → Planned → ℕ
 most_lines workers cat p = if is_tall cat p.driver then most_side
     else (if is_shared workers cat p.window.w then lines_each cat * workers else lines_alone cat p.size.w)

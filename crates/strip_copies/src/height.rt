@@ -5,6 +5,7 @@ ghost use Rattle.strip_copies.specs.declared.height.BlockShape.TheVariants.{Squa
 ghost use Rattle.strip_copies.specs.Heights.{fewest_read, has_blocks, is_cell, is_cut_in, is_grid, is_made, is_mosaic};
 ghost use Rattle.strip_copies.specs.Heights.{is_shared, is_tall, is_woven, lines_alone, lines_copied, lines_each};
 ghost use Rattle.strip_copies.specs.Heights.{lines_held, lines_near, most_lines, strip_height, most_samples};
+ghost use Rattle.strip_copies.specs.Heights.{square_lines};
 ghost use Rattle.geotransform.specs.Limits.{most_side};
 
 use crate::making::area;
@@ -33,8 +34,11 @@ const MOST_SAMPLES: u32 = 4_194_304;
 // So many samples stay in a processor's cache: 1 MiB.
 const SAMPLES_NEAR: u32 = 65_536;
 
-// The most lines of a strip whose samples stay there.
-const MOST_NEAR: u32 = 32;
+// The lines of a square of a mosaic.
+const SQUARE_LINES: u32 = 128;
+
+// The lines of a file of lines that each of several workers reads, and the most that a single one reads at a time.
+const FILE_LINES: u32 = 32;
 
 /// The lines of a strip of so many columns, at most so many. It has 4,194,304 samples at most, or one line.
 pub fn height_of(most: u32, width: u32) -> u32
@@ -123,12 +127,12 @@ fn is_tall(translation: &Translation) -> bool
 fn lines_each(cat: &Catalog) -> u32
     ensures lines { result ≡ lines_each cat.now }
     ensures some { 1 ≤ result }
-    ensures few { result ≤ 128 }
+    ensures few { result ≤ square_lines }
 {
     if has_blocks(cat, BlockShape::Squares) {
-        128
+        SQUARE_LINES
     } else {
-        32
+        FILE_LINES
     }
 }
 
@@ -175,7 +179,7 @@ fn lines_near(width: u32) -> u32
     ensures lines { result ≡ lines_near width }
     ensures any { 1 ≤ result }
 {
-    (SAMPLES_NEAR / width).max(1).min(MOST_NEAR)
+    (SAMPLES_NEAR / width).max(1).min(FILE_LINES)
 }
 
 // The lines of a strip that one worker reads alone: of a file of bytes those that stay in the cache.
@@ -195,7 +199,7 @@ fn lines_alone(translation: &Translation) -> u32
 
 // So many lines for each of so many workers.
 fn lines_of_all(each: u32, workers: u32) -> u32
-    requires lines { each ≤ 128 }
+    requires lines { each ≤ square_lines }
     requires workers { workers ≤ 16 }
     requires any { 1 ≤ each }
     requires some { 1 ≤ workers }

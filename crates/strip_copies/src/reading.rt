@@ -6,6 +6,7 @@ ghost use Rattle.outside.specs.Causes.{HasCause};
 ghost use Rattle.outside.specs.Reading.{WhereTold};
 ghost use Rattle.band_blocks.specs.Contents.{most_calls};
 ghost use Rattle.band_blocks.specs.Open.{IsUnchanged};
+ghost use Rattle.catalog.specs.Dataset.{band_count};
 ghost use Rattle.catalog.specs.Drivers.{Dataset};
 ghost use Rattle.catalog.specs.Pixels.{pixel_of_name};
 ghost use Rattle.catalog.specs.Places.{row_by_row};
@@ -239,7 +240,7 @@ fn next_run<S: Scene>(shown: &Shown<S>, rows: u32, lines: Lines) -> Next
 fn kind_of(translation: &Translation, band: u32) -> PixelType
     requires translation { IsTranslation translation.now.cat translation.now.id translation.now.plan }
     requires known { (d : Dataset) → slice_get translation.now.cat translation.now.id ≡ Some d →
-        band < length d.head.bands }
+        band < band_count d.head }
     ensures kind { (d : Dataset) → slice_get translation.now.cat translation.now.id ≡ Some d →
         option_map (λ b. b.kind) (slice_get d.head.bands band) ≡ Some result }
 {

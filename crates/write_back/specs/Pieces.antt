@@ -9,6 +9,7 @@ use Rattle.esri_hdr.specs.Head.{Head, sample_len}
 use Rattle.interleaved_raw.specs.Raw.{position_of, sample_at, stride_of}
 use Rattle.hgt_tiles.specs.Places.{IsSide}
 use Rattle.catalog.specs.Places.{steps_over}
+use Rattle.band_blocks.specs.Contents.{shortest_piece}
 use Rattle.write_back.specs.declared.writer.Lane.{Lane}
 
 -- whether the samples of all bands of a line stand pixel by pixel
@@ -34,6 +35,10 @@ spots_by Bsq width bands = width
 
 abbrev pub spots_of : Head → ℕ
 spots_of h = spots_by h.layout h.size.w h.bands
+
+-- The most samples of such a line: those of 256 bands in 4,194,304 columns.
+abbrev pub most_spots : ℕ
+most_spots = 1073741824
 
 -- where the samples of a band from a column on stand in the line that holds them
 abbrev pub lane_in : Bool → ℕ → ℕ → ℕ → Lane
@@ -80,7 +85,7 @@ span_of h = (h.size.w - 1) * stride_of h + sample_len h.kind
 
 -- the most calls in which a line is written, of a band or of all bands
 abbrev pub line_calls : Head → ℕ
-line_calls h = span_of h / 32768 + 2
+line_calls h = span_of h / shortest_piece + 2
 
 -- room for the bytes of pieces of so many samples of a line
 pub record FitsHead (h : Head) (step bytes : ℕ) : Type 0 where

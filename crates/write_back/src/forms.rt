@@ -4,6 +4,7 @@ ghost use Rattle.outside.specs.Causes.{HasCause};
 ghost use Rattle.write_back.specs.Forms.{bands_in, cut_of, height_of, holds, lane_of, most_calls, needed_of, width_of};
 ghost use Rattle.write_back.specs.Forms.{IsFormed};
 ghost use Rattle.write_back.specs.Overlay.{held_in, line_key, IsBlockWritten, IsLine};
+ghost use Rattle.write_back.specs.Pieces.{most_spots};
 
 use crate::TargetFault;
 use crate::cells::ColumnWriter;
@@ -40,7 +41,7 @@ impl Writer {
     // How the raster is cut.
     pub(crate) fn shape(&self) -> Shape
         ensures shape { result ≡ cut_of self.now }
-        ensures spots { result.spots ≤ 1073741824 }
+        ensures spots { result.spots ≤ most_spots }
         ensures blocks { result.blocks < 2 ^ 32 }
     {
         match self {
