@@ -8,7 +8,7 @@ use Rattle.nearest_window.specs.Right.{TellsChangeIn}
 use Rattle.error_lines.specs.declared.faults.Fault.{Fault}
 use Rattle.error_lines.specs.declared.faults.Fault.TheVariants.{Changed}
 use Rattle.error_lines.specs.Faults.{IsOutside, load_fault_of}
-use Rattle.gdal_cli.specs.Faults.{TellsChange}
+use Rattle.output_copies.specs.Copying.{TellsChange}
 use Rattle.gdal_cli.specs.Location.{PutsText}
 
 -- a call that puts a text, or behind which the outside failed

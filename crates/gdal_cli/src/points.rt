@@ -5,7 +5,7 @@ ghost use Rattle.outside.specs.Causes.{HasCause};
 ghost use Rattle.catalog.specs.Drivers.{Dataset};
 ghost use Rattle.location_report.specs.Covering.{covering_files};
 ghost use Rattle.error_lines.specs.Faults.{IsOutside, Differs, HasCauses, IsOfReading};
-ghost use Rattle.gdal_cli.specs.Faults.{TellsChange};
+ghost use Rattle.output_copies.specs.Copying.{TellsChange};
 ghost use Rattle.gdal_cli.specs.Lanes.{IsReadyWith};
 ghost use Rattle.gdal_cli.specs.Location.{column_and_line, told_text, point_text, PutsText};
 ghost use Rattle.gdal_cli.specs.Pixels.{IsOnRaster, HasBands};

@@ -1,10 +1,8 @@
 -- Windows that are cut among lanes: the lines of two halves make up the whole.
-use Rattle.std.proofs.Common.{◌≡◌, ◌∙◌, sym, ap, ◌+◌, ◌-◌, ◌*◌, ◌/◌, ◌%◌, ◌<◌, ◌≤◌, zero, suc, ℕ, ℤ, pos, List, ◌++◌, length, length-append, get_or, Option, Some, Ok, Err, arith, inl, inr}
+use Rattle.std.proofs.Common.{◌≡◌, ◌∙◌, ap, ◌+◌, ◌-◌, ◌*◌, ◌/◌, ◌<◌, ◌≤◌, ℕ, ℤ, List, ◌++◌, Option, Some, Ok, Err, arith}
 use Rattle.std.specs.Prelude.{slice_get, Result, OnOk}
 use Rattle.std.specs.List.{All}
-use Rattle.std.proofs.lemmas.Bool.{cases_lt}
-use Rattle.std.proofs.lemmas.Nat.{div-mul-add, mod-mul-add, div-add-mod', mod_below, le-div, mul-le}
-use Rattle.std.proofs.lemmas.List.{get_or_append_left, get_or-append_right}
+use Rattle.std.proofs.lemmas.Nat.{div-mul-add, div-add-mod', le-div, mul-le}
 use Rattle.std.proofs.lemmas.List.Elements.{All-append}
 use Rattle.geotransform.specs.Limits.{most_side}
 use Rattle.geotransform.specs.declared.types.Rect.{Rect}
@@ -14,7 +12,7 @@ use Rattle.catalog.specs.Pixels.{pixel_of, pixel_of_name}
 use Rattle.catalog.specs.Places.{row_by_row}
 use Rattle.catalog.specs.Walk.{IsCatalog}
 use Rattle.catalog.proofs.Walked.{dataset_kept}
-use Rattle.band_blocks.proofs.Corners.{length-row_by_row, get_or-row_by_row, filled-row_by_row}
+use Rattle.band_blocks.proofs.Corners.{rect_at, rows_joined}
 use Rattle.band_blocks.specs.declared.fault.LoadFault.{LoadFault}
 use Rattle.nearest_window.specs.declared.window.Window.{Window}
 use Rattle.nearest_window.specs.Shown.{IsInBand, IsWindow}
@@ -34,51 +32,6 @@ before_end lines n some = let e : n * lines ≡ lines * n + 0 = grind arith in a
 
 pub before_below : (lines n k : ℕ) → 0 < n → k ≤ n → lines_before lines n k ≤ lines
 before_below lines n k some order = let e = before_end lines n some in let r = before_rises lines n k n some order in omega arith
-
-abbrev rect_at : ℕ → ℕ → ℕ → ℕ → Rect
-rect_at x y w h = record { x = x; y = y; w = w; h = h }
-
-some_columns : (w n k : ℕ) → k < w * n → 0 < w
-some_columns zero n k h = absurd (let e : 0 * n ≡ 0 = omega arith in omega arith)
-some_columns (suc w) n k h = omega arith
-
--- two rectangles, one below the other
-rows_joined : (f : ℕ → ℕ → ℤ) (x y w a b : ℕ) → row_by_row f (rect_at x y w a) ++ row_by_row f (rect_at x (y + a) w b) ≡ row_by_row f (rect_at x y w (a + b))
-rows_joined f x y w a b = filled-row_by_row f (rect_at x y w (a + b)) (top ++ bottom) (pos 0) size each
-  where
-    top : List ℤ
-    top = row_by_row f (rect_at x y w a)
-
-    bottom : List ℤ
-    bottom = row_by_row f (rect_at x (y + a) w b)
-
-    size_top : length top ≡ w * a
-    size_top = length-row_by_row f (rect_at x y w a)
-
-    sum : w * (a + b) ≡ w * a + w * b
-    sum = grind arith
-
-    size : length (top ++ bottom) ≡ w * (a + b)
-    size = let s = length-append top bottom in let t = size_top in let u = length-row_by_row f (rect_at x (y + a) w b) in let v = sum in omega arith
-
-    below : (k : ℕ) → w * a ≤ k → k < w * (a + b) → f (x + (k - w * a) % w) (y + a + (k - w * a) / w) ≡ f (x + k % w) (y + k / w)
-    below k low high =
-        let some = some_columns w (a + b) k high in
-        let j : ℕ = k - w * a in
-        let rest = mod_below j w some in
-        let split = div-add-mod' j w in
-        let spread : (a + j / w) * w ≡ w * a + j / w * w = grind arith in
-        let whole : (a + j / w) * w + j % w ≡ k = omega arith in
-        let row : a + j / w ≡ k / w = sym (div-mul-add (a + j / w) w (j % w) rest) ∙ ap (λ n. n / w) whole in
-        let column : j % w ≡ k % w = sym (mod-mul-add (a + j / w) w (j % w) rest) ∙ ap (λ n. n % w) whole in
-        let line : y + a + j / w ≡ y + k / w = omega arith in
-        ap (λ n. f (x + n) (y + a + j / w)) column ∙ ap (λ n. f (x + k % w) n) line
-
-    each : (k : ℕ) → k < w * (a + b) → get_or (top ++ bottom) k (pos 0) ≡ f (x + k % w) (y + k / w)
-    each k high = elim (cases_lt k (w * a)) [
-      | inl low ↦ get_or_append_left top bottom (pos 0) k (let t = size_top in omega arith) ∙ get_or-row_by_row f (rect_at x y w a) k (pos 0) low
-      | inr low ↦ get_or-append_right top bottom (w * a) k (pos 0) size_top low ∙ get_or-row_by_row f (rect_at x (y + a) w b) (k - w * a) (pos 0) (let s = sum in omega arith) ∙ below k low high
-    ]
 
 -- the lines of two halves
 lines_joined : (f : ℕ → ℕ → ℤ) (rect : Rect) (n a m b : ℕ) → 0 < n → a ≤ m → m ≤ b → row_by_row f (lines_of rect n a m) ++ row_by_row f (lines_of rect n m b) ≡ row_by_row f (lines_of rect n a b)

@@ -13,7 +13,7 @@ use Rattle.error_lines.specs.declared.faults.Fault.{Fault}
 use Rattle.error_lines.specs.declared.faults.Fault.TheVariants.{Changed, OutFault, Memory}
 use Rattle.error_lines.specs.Faults.{load_fault_of, target_fault_of, IsOutside}
 use Rattle.published_files.specs.Documents.{IsOfFolder}
-use Rattle.output_copies.specs.Copying.{IsChanged, TellsChangeOf}
+use Rattle.output_copies.specs.Copying.{IsChanged, TellsChange}
 use Rattle.output_copies.proofs.Ends.{err_is}
 
 -- what holds of a fault that is handed on
@@ -34,23 +34,23 @@ pub out_outside : (f : Fault) → f ≡ OutFault → IsOutside f
 out_outside f is = subst IsOutside (sym is) tt
 
 module _ (cat : List Dataset) where
-  pub outside_tells : (f : Fault) → IsOutside f → TellsChangeOf cat f
+  pub outside_tells : (f : Fault) → IsOutside f → TellsChange cat f
   outside_tells (Changed name was now) out = absurd out
   outside_tells f out = tt
 
-  pub out_tells : (f : Fault) → f ≡ OutFault → TellsChangeOf cat f
-  out_tells f is = subst (TellsChangeOf cat) (sym is) tt
+  pub out_tells : (f : Fault) → f ≡ OutFault → TellsChange cat f
+  out_tells f is = subst (TellsChange cat) (sym is) tt
 
-  pub memory_tells : (f : Fault) → f ≡ Memory → TellsChangeOf cat f
-  memory_tells f is = subst (TellsChangeOf cat) (sym is) tt
+  pub memory_tells : (f : Fault) → f ≡ Memory → TellsChange cat f
+  memory_tells f is = subst (TellsChange cat) (sym is) tt
 
   -- what reading ends with, and writing
-  pub load_tells : (l : LoadFault) → TellsChangeIn cat l → TellsChangeOf cat (load_fault_of l)
+  pub load_tells : (l : LoadFault) → TellsChangeIn cat l → TellsChange cat (load_fault_of l)
   load_tells load.FolderFault tells = tt
   load_tells (load.Changed name was now) tells = tells
   load_tells load.Memory tells = tt
 
-  pub target_tells : (t : TargetFault) → TellsChangeOf cat (target_fault_of t)
+  pub target_tells : (t : TargetFault) → TellsChange cat (target_fault_of t)
   target_tells target.FolderFault = tt
   target_tells target.Memory = tt
 

@@ -11,7 +11,7 @@ use Rattle.strip_copies.specs.declared.columns.Columns.{Columns}
 use Rattle.strip_copies.specs.declared.reading.Lines.{Lines}
 use Rattle.strip_copies.specs.Copies.{IsRoomFor, IsTranslation}
 use Rattle.error_lines.specs.declared.faults.Fault.{Fault}
-use Rattle.output_copies.specs.Copying.{IsFilled, MayEnd, TellsChangeOf}
+use Rattle.output_copies.specs.Copying.{IsFilled, MayEnd, TellsChange}
 use Rattle.output_copies.specs.Parts.{ArePart, BeginsWith}
 
 module _ {F File Draft : Type 0} (calls : Ghosts F File Draft) (cat : List Dataset) (id : ℕ) (p : Planned)
@@ -34,7 +34,7 @@ module _ {F File Draft : Type 0} (calls : Ghosts F File Draft) (cat : List Datas
     pub size_is : length room ≡ size
     pub read : OnOk answer (BeginsWith (calls.names before) cat id p lines room)
     pub ends : MayEnd (calls.names before) (calls.faults before) (calls.faults view) 0 0 answer
-    pub changed : IfErr answer (TellsChangeOf cat)
+    pub changed : IfErr answer (TellsChange cat)
 
   -- lines that were read may be written next
   pub record MayBeWritten (folder : F) (target : TargetView) (room : List ℤ) : Type 0 where
@@ -48,4 +48,4 @@ module _ {F File Draft : Type 0} (calls : Ghosts F File Draft) (cat : List Datas
     pub name : target.name ≡ was.name
     pub names : calls.names folder ≡ calls.names before
     pub ends : MayEnd (calls.names before) (calls.faults before) (calls.faults folder) 0 0 answer
-    pub changed : IfErr answer (TellsChangeOf cat)
+    pub changed : IfErr answer (TellsChange cat)

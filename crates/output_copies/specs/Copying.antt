@@ -38,9 +38,9 @@ IsChanged fault = ⊥
 
 -- where it does, the file is that of a dataset of the catalog, and the fault says its name, the length that the walk
 -- found, and another length or none
-abbrev pub TellsChangeOf : List Dataset → Fault → Type 0
-TellsChangeOf cat (Changed name was now) = TellsChangeIn cat (load.Changed name was now)
-TellsChangeOf cat fault = Unit {0}
+abbrev pub TellsChange : List Dataset → Fault → Type 0
+TellsChange cat (Changed name was now) = TellsChangeIn cat (load.Changed name was now)
+TellsChange cat fault = Unit {0}
 
 -- How a part of a translation may end: the counts of the folder and of the output rose where their faults are answered,
 -- and where the folder tells its files, what is answered is a fault of the outside.

@@ -9,7 +9,7 @@ ghost use Rattle.lane_teams.specs.Ready.{AreLanesReady};
 ghost use Rattle.strip_copies.specs.Copies.{IsRoomFor, IsTranslation};
 ghost use Rattle.error_lines.specs.Progress.{progress};
 ghost use Rattle.output_copies.specs.Ahead.{MayBeRead, MayBeWritten, WereRead, WereWritten};
-ghost use Rattle.output_copies.specs.Copying.{spoken, IsFilled, MayEnd, Tells, TellsChangeOf};
+ghost use Rattle.output_copies.specs.Copying.{spoken, IsFilled, MayEnd, Tells, TellsChange};
 ghost use Rattle.output_copies.specs.Parts.{AreBehind, ArePart, BeginsWith};
 
 use crate::calls::at_once;
@@ -86,7 +86,7 @@ fn read_front<R: Threads + Sync, F: Folder, L: Ledger, S: Scene>(
         reader.new.samples.items }
     ensures names { F.names view.new ≡ F.names view.old }
     ensures ends { MayEnd (F.names view.old) (F.faults view.old) (F.faults view.new) 0 0 result }
-    ensures changed { IfErr result (TellsChangeOf translation.now.cat) }
+    ensures changed { IfErr result (TellsChange translation.now.cat) }
 {
     let count = area(translation.plan.size.w, lines.end - lines.first);
     let part = &mut room[..count];
@@ -315,7 +315,7 @@ fn write_and_read<R: Threads + Sync, F: Folder, L: Ledger + Send, W: Ledger, S: 
         translation.now.id translation.now.plan pair.next rooms.new.next.items)) }
     ensures read_ends { IfOk result (λ read. MayEnd (F.names folder.old) (F.faults folder.old) (F.faults folder.new) 0 0
         read) }
-    ensures read_changed { IfOk result (λ read. IfErr read (TellsChangeOf translation.now.cat)) }
+    ensures read_changed { IfOk result (λ read. IfErr read (TellsChange translation.now.cat)) }
     ensures kept { length rooms.new.ready.items ≡ length rooms.old.ready.items }
     ensures size { length rooms.new.next.items ≡ length rooms.old.next.items }
     ensures name { target.new.name ≡ target.old.name }
@@ -325,7 +325,7 @@ fn write_and_read<R: Threads + Sync, F: Folder, L: Ledger + Send, W: Ledger, S: 
         copier.new.reader.samples.items }
     ensures names { F.names folder.new ≡ F.names folder.old }
     ensures ends { MayEnd (F.names folder.old) (F.faults folder.old) (F.faults folder.new) 0 0 result }
-    ensures changed { IfErr result (TellsChangeOf translation.now.cat) }
+    ensures changed { IfErr result (TellsChange translation.now.cat) }
 {
     let Ok(mut view) = folder.fork() else {
         return Err(Fault::Memory);
@@ -444,7 +444,7 @@ fn tell_and_answer<O: Sink>(
     ensures quiet { quiet ≡ true → out.new ≡ out.old }
     ensures ends { (names : Option Files) (before now : ℕ) → MayEnd names before now 0 0 read →
         MayEnd names before now (O.faults out.old) (O.faults out.new) result }
-    ensures changed { (cat : List Dataset) → IfErr read (TellsChangeOf cat) → IfErr result (TellsChangeOf cat) }
+    ensures changed { (cat : List Dataset) → IfErr read (TellsChange cat) → IfErr result (TellsChange cat) }
 {
     match tell_behind(out, quiet, told, plan, last) {
         Ok(next) => {
@@ -495,7 +495,7 @@ pub fn copy_ahead<R: Threads + Sync, F: Folder, O: Sink, L: Ledger + Send, W: Le
     ensures quiet { copier.old.quiet ≡ true → out.new ≡ out.old }
     ensures ends { MayEnd (F.names folder.old) (F.faults folder.old) (F.faults folder.new) (O.faults out.old)
         (O.faults out.new) result }
-    ensures changed { IfErr result (TellsChangeOf translation.now.cat) }
+    ensures changed { IfErr result (TellsChange translation.now.cat) }
 {
     let plan = &translation.plan;
     plan.rules();

@@ -6,7 +6,7 @@ ghost use Rattle.outside.specs.Streams.{Gets, GetsPart};
 ghost use Rattle.lane_teams.specs.Ready.{AreLanesReady};
 ghost use Rattle.strip_copies.specs.Copies.{IsRoomFor, IsTranslation};
 ghost use Rattle.error_lines.specs.Progress.{progress};
-ghost use Rattle.output_copies.specs.Copying.{spoken, IsFilled, MayEnd, TellsChangeOf};
+ghost use Rattle.output_copies.specs.Copying.{spoken, IsFilled, MayEnd, TellsChange};
 ghost use Rattle.output_copies.specs.Parts.{ArePart};
 
 use crate::parts::{area, read_part, write_part};
@@ -68,7 +68,7 @@ fn copy_band<R: Threads + Sync, F: Folder, L: Ledger, W: Ledger, S: Scene>(
         copier.new.reader.samples.items }
     ensures names { F.names folder.new ≡ F.names folder.old }
     ensures ends { MayEnd (F.names folder.old) (F.faults folder.old) (F.faults folder.new) 0 0 result }
-    ensures changed { IfErr result (TellsChangeOf translation.now.cat) }
+    ensures changed { IfErr result (TellsChange translation.now.cat) }
 {
     let count = area(translation.plan.size.w, lines.end - lines.first);
     let shared = copier.shared;
@@ -108,7 +108,7 @@ fn copy_strip<R: Threads + Sync, F: Folder, L: Ledger, W: Ledger, S: Scene>(
         copier.new.reader.samples.items }
     ensures names { F.names folder.new ≡ F.names folder.old }
     ensures ends { MayEnd (F.names folder.old) (F.faults folder.old) (F.faults folder.new) 0 0 result }
-    ensures changed { IfErr result (TellsChangeOf translation.now.cat) }
+    ensures changed { IfErr result (TellsChange translation.now.cat) }
 {
     let plan = &translation.plan;
     plan.rules();
@@ -152,7 +152,7 @@ pub fn copy_all<R: Threads + Sync, F: Folder, O: Sink, L: Ledger, W: Ledger, S: 
     ensures quiet { copier.old.quiet ≡ true → out.new ≡ out.old }
     ensures ends { MayEnd (F.names folder.old) (F.faults folder.old) (F.faults folder.new) (O.faults out.old)
         (O.faults out.new) result }
-    ensures changed { IfErr result (TellsChangeOf translation.now.cat) }
+    ensures changed { IfErr result (TellsChange translation.now.cat) }
 {
     let plan = &translation.plan;
     plan.rules();

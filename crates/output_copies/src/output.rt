@@ -14,7 +14,7 @@ ghost use Rattle.strip_copies.specs.Heights.{most_samples};
 ghost use Rattle.error_lines.specs.Faults.{Differs, HasCauses, IsOfReading, IsOutside};
 ghost use Rattle.error_lines.specs.Progress.{progress};
 ghost use Rattle.error_lines.specs.Steps.{all_done, publishes, Goes};
-ghost use Rattle.output_copies.specs.Copying.{spoken, IsChanged, IsFilled, MayEnd, Puts, TellsChangeOf};
+ghost use Rattle.output_copies.specs.Copying.{spoken, IsChanged, IsFilled, MayEnd, Puts, TellsChange};
 ghost use Rattle.output_copies.specs.Steps.{files_by, raster_of, translation_steps, translation_text, unless_quiet};
 ghost use Rattle.output_copies.specs.Steps.{written};
 ghost use Rattle.band_blocks.specs.Blocks.{most_blocks};
@@ -134,7 +134,7 @@ fn copy_lines<R: Threads + Sync, F: Folder, O: Sink, L: Ledger + Send, W: Ledger
     ensures quiet { copier.old.quiet ≡ true → out.new ≡ out.old }
     ensures ends { MayEnd (F.names folder.old) (F.faults folder.old) (F.faults folder.new) (O.faults out.old)
         (O.faults out.new) result }
-    ensures changed { IfErr result (TellsChangeOf translation.now.cat) }
+    ensures changed { IfErr result (TellsChange translation.now.cat) }
 {
     match second_room(translation, copier.ahead, copier.rows) {
         Some(next) => {
@@ -226,7 +226,7 @@ fn write_files<R: Threads + Sync, F: Folder, O: Sink, L: Ledger + Send, W: Ledge
     ensures quiet { writing.now.quiet ≡ true → out.new ≡ out.old }
     ensures ends { MayEnd (F.names folder.old) (F.faults folder.old) (F.faults folder.new) (O.faults out.old)
         (O.faults out.new) result }
-    ensures changed { IfErr result (TellsChangeOf translation.now.cat) }
+    ensures changed { IfErr result (TellsChange translation.now.cat) }
     ensures kept { IfErr result (λ f. IsChanged f → F.names folder.new ≡ F.names folder.old) }
 {
     let alloc = translation.alloc;
@@ -276,7 +276,7 @@ fn write_planned<R: Threads + Sync, F: Folder, O: Sink>(
     ensures quiet { writing.now.quiet ≡ true → out.new ≡ out.old }
     ensures ends { MayEnd (F.names folder.old) (F.faults folder.old) (F.faults folder.new) (O.faults out.old)
         (O.faults out.new) result }
-    ensures changed { IfErr result (TellsChangeOf translation.now.cat) }
+    ensures changed { IfErr result (TellsChange translation.now.cat) }
     ensures kept { IfErr result (λ f. IsChanged f → F.names folder.new ≡ F.names folder.old) }
 {
     translation.plan.rules();
@@ -329,7 +329,7 @@ pub fn write_output<R: Threads + Sync, F: Folder, O: Sink>(
     ensures faults { IfErr result IsOfReading }
     ensures differs { Differs result }
     // over every folder: a length that changed is that of a dataset of the catalog, and then nothing is published
-    ensures changed { IfErr result (TellsChangeOf translation.now.cat) }
+    ensures changed { IfErr result (TellsChange translation.now.cat) }
     ensures kept { IfErr result (λ f. IsChanged f → F.names folder.new ≡ F.names folder.old) }
     ensures cause { HasCauses (F.faults folder.old) (F.faults folder.new) (O.faults out.old) (O.faults out.new) result }
 {

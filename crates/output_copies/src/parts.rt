@@ -2,7 +2,7 @@
 ghost use Rattle.std.specs.Prelude.{◌≡◌, ◌+◌, ◌-◌, ◌*◌, length, IfErr, OnOk};
 ghost use Rattle.lane_teams.specs.Ready.{AreLanesReady};
 ghost use Rattle.strip_copies.specs.Copies.{IsRoomFor, IsTranslation};
-ghost use Rattle.output_copies.specs.Copying.{IsFilled, MayEnd, TellsChangeOf};
+ghost use Rattle.output_copies.specs.Copying.{IsFilled, MayEnd, TellsChange};
 ghost use Rattle.output_copies.specs.Parts.{ArePart, AreRead};
 
 use error_lines::Fault;
@@ -44,7 +44,7 @@ pub fn read_part<R: Threads + Sync, F: Folder, L: Ledger, S: Scene>(
         reader.new.samples.items }
     ensures names { F.names folder.new ≡ F.names folder.old }
     ensures ends { MayEnd (F.names folder.old) (F.faults folder.old) (F.faults folder.new) 0 0 result }
-    ensures changed { IfErr result (TellsChangeOf translation.now.cat) }
+    ensures changed { IfErr result (TellsChange translation.now.cat) }
 {
     read_lines(rt, translation, reader, folder, shared, lines, samples)?;
     Ok(())
@@ -69,7 +69,7 @@ pub fn write_part<F: Folder, W: Ledger>(
     ensures name { target.new.name ≡ target.old.name }
     ensures names { F.names folder.new ≡ F.names folder.old }
     ensures ends { MayEnd (F.names folder.old) (F.faults folder.old) (F.faults folder.new) 0 0 result }
-    ensures changed { IfErr result (TellsChangeOf translation.now.cat) }
+    ensures changed { IfErr result (TellsChange translation.now.cat) }
 {
     let plan = &translation.plan;
     plan.rules();

@@ -1,14 +1,11 @@
 -- Lines that are tallied.
-use Rattle.std.proofs.Common.{◌≡◌, ◌∙◌, ap, sym, refl, inl, inr, arith, ℕ, ℤ, pos, ◌+◌, ◌-◌, ◌*◌, ◌/◌, ◌%◌, ◌^◌, ◌<◌, ◌≤◌, List, [], ◌∷◌, ◌++◌, length, length-append, get_or, Option, Some}
+use Rattle.std.proofs.Common.{◌≡◌, ◌∙◌, ap, sym, refl, arith, ℕ, ℤ, pos, ◌+◌, ◌-◌, ◌*◌, ◌^◌, ◌<◌, ◌≤◌, List, [], ◌∷◌, ◌++◌, length, get_or, Option, Some}
 use Rattle.std.specs.Prelude.{slice_get, unsigned_abs, option_map}
 use Rattle.std.specs.List.{All}
-use Rattle.std.proofs.lemmas.Bool.{cases_lt}
-use Rattle.std.proofs.lemmas.List.{get_or_append_left, get_or-append_right}
-use Rattle.std.proofs.lemmas.Nat.{div-mul-add, mod-mul-add, div-add-mod', mod_below}
 use Rattle.geotransform.proofs.Ranges.{is_near}
 use Rattle.geotransform.specs.declared.types.Size.{Size}
 use Rattle.outside.specs.Outside.{Files}
-use Rattle.band_blocks.proofs.Corners.{length-row_by_row, get_or-row_by_row, filled-row_by_row}
+use Rattle.band_blocks.proofs.Corners.{filled-row_by_row, rect_at, rows_joined}
 use Rattle.catalog.specs.Drivers.{Dataset}
 use Rattle.catalog.proofs.Found.{some_is}
 use Rattle.catalog.specs.Pixels.{pixel_of_name}
@@ -30,21 +27,6 @@ samples_near cat id size samples is typed i d less =
     let first = first_of is.dataset.head.bands is.banded in
     is_near first.0.kind (get_or samples i d) (typed i d less is.dataset first.0.kind is.at (ap (option_map (λ band. band.kind)) first.1))
 
--- a column and a line that lie some lines further
-column_of : (w r k : ℕ) → 0 < w → (r * w + k) % w ≡ k % w
-column_of w r k some =
-    let split = div-add-mod' k w in
-    let turned : (r + k / w) * w ≡ r * w + k / w * w = grind arith in
-    let e : r * w + k ≡ (r + k / w) * w + k % w = omega arith in
-    ap (λ n. n % w) e ∙ mod-mul-add (r + k / w) w (k % w) (mod_below k w some)
-
-row_of : (w r k : ℕ) → 0 < w → (r * w + k) / w ≡ r + k / w
-row_of w r k some =
-    let split = div-add-mod' k w in
-    let turned : (r + k / w) * w ≡ r * w + k / w * w = grind arith in
-    let e : r * w + k ≡ (r + k / w) * w + k % w = omega arith in
-    ap (λ n. n / w) e ∙ div-mul-add (r + k / w) w (k % w) (mod_below k w some)
-
 -- the samples of lines from 0 up to one, and from there up to another
 both_sizes : (w b c : ℕ) → b ≤ c → w * b + w * (c - b) ≡ w * c
 both_sizes w b c low =
@@ -52,54 +34,14 @@ both_sizes w b c low =
     let spread : w * (b + (c - b)) ≡ w * b + w * (c - b) = grind arith in
     sym spread ∙ ap (λ n. w * n) split
 
-module _ (f : ℕ → ℕ → ℤ) (size : Size) (b c : ℕ) (some : 0 < size.w) (low : b ≤ c) where
-  abbrev front : List ℤ
-  front = row_by_row f (lines_rect size 0 b)
-
-  abbrev back : List ℤ
-  back = row_by_row f (lines_rect size b c)
-
-  front_long : length front ≡ size.w * b
-  front_long = length-row_by_row f (lines_rect size 0 b) ∙ ap (λ n. size.w * n) (let e : b - 0 ≡ b = omega arith in e)
-
-  whole_long : length (front ++ back) ≡ size.w * (c - 0)
-  whole_long =
-      let all = length-append front back in
-      let rest : length back ≡ size.w * (c - b) = length-row_by_row f (lines_rect size b c) in
-      let both = both_sizes size.w b c low in
-      let end : size.w * (c - 0) ≡ size.w * c = ap (λ n. size.w * n) (let e : c - 0 ≡ c = omega arith in e) in
-      let head = front_long in
-      omega (arith, all, rest, both, end, head)
-
-  in_front : (k : ℕ) → k < size.w * b → get_or (front ++ back) k (pos 0) ≡ f (0 + k % size.w) (0 + k / size.w)
-  in_front k less =
-      let head = front_long in
-      let same : size.w * (b - 0) ≡ size.w * b = ap (λ n. size.w * n) (let e : b - 0 ≡ b = omega arith in e) in
-      get_or_append_left front back (pos 0) k (omega (arith, head, less)) ∙ get_or-row_by_row f (lines_rect size 0 b) k (pos 0) (omega (arith, same, less))
-
-  in_back : (k : ℕ) → size.w * b ≤ k → k < size.w * (c - 0) → get_or (front ++ back) k (pos 0) ≡ f (0 + k % size.w) (0 + k / size.w)
-  in_back k past less =
-      let j = k - size.w * b in
-      let both = both_sizes size.w b c low in
-      let end : size.w * (c - 0) ≡ size.w * c = ap (λ n. size.w * n) (let e : c - 0 ≡ c = omega arith in e) in
-      let turned : b * size.w ≡ size.w * b = grind arith in
-      let here : b * size.w + j ≡ k = omega (arith, turned, past) in
-      let column : j % size.w ≡ k % size.w = sym (column_of size.w b j some) ∙ ap (λ n. n % size.w) here in
-      let down : b + j / size.w ≡ k / size.w = sym (row_of size.w b j some) ∙ ap (λ n. n / size.w) here in
-      let line : b + j / size.w ≡ 0 + k / size.w = omega (arith, down) in
-      get_or-append_right front back (size.w * b) k (pos 0) front_long past
-      ∙ get_or-row_by_row f (lines_rect size b c) j (pos 0) (omega (arith, both, end, past, less))
-      ∙ ap (λ n. f (0 + n) (b + j / size.w)) column
-      ∙ ap (λ n. f (0 + k % size.w) n) line
-
-  at_place : (k : ℕ) → k < size.w * (c - 0) → get_or (front ++ back) k (pos 0) ≡ f (0 + k % size.w) (0 + k / size.w)
-  at_place k less = elim (cases_lt k (size.w * b)) [
-    | inl before ↦ in_front k before
-    | inr past ↦ in_back k past less
-  ]
-
-  pub lines_joined : front ++ back ≡ row_by_row f (lines_rect size 0 c)
-  lines_joined = filled-row_by_row f (lines_rect size 0 c) (front ++ back) (pos 0) whole_long at_place
+-- lines from 0 up to one, and from there up to another, joined
+lines_joined : (f : ℕ → ℕ → ℤ) (size : Size) (b c : ℕ) → b ≤ c → row_by_row f (lines_rect size 0 b) ++ row_by_row f (lines_rect size b c) ≡ row_by_row f (lines_rect size 0 c)
+lines_joined f size b c low =
+    let line : b ≡ 0 + (b - 0) = omega arith in
+    let all : (b - 0) + (c - b) ≡ c - 0 = omega arith in
+    ap (λ y. row_by_row f (lines_rect size 0 b) ++ row_by_row f (rect_at 0 y size.w (c - b))) line
+    ∙ rows_joined f 0 0 size.w (b - 0) (c - b)
+    ∙ ap (λ h. row_by_row f (rect_at 0 0 size.w h)) all
 
 no_lines : (f : ℕ → ℕ → ℤ) (size : Size) → [] ≡ row_by_row f (lines_rect size 0 0)
 no_lines f size =
@@ -122,18 +64,18 @@ all_lines m d size is =
 
 -- lines behind those that were tallied
 pub tallied_more : (told now : Option Files) (cat : List Dataset) (id : ℕ) (size : Size) (first end : ℕ) (old new : Totals) (samples : List ℤ)
-    → now ≡ told → 0 < size.w → first ≤ end → length samples ≡ size.w * (end - first)
+    → now ≡ told → first ≤ end → length samples ≡ size.w * (end - first)
     → ((m : Files) → told ≡ Some m → (d : Dataset) → slice_get cat id ≡ Some d → samples ≡ lines_of m d.head.name size first end)
     → ((seen : List ℤ) → old ≡ tally_of seen → new ≡ tally_of (seen ++ samples)) → new.count ≤ old.count + length samples
     → AreTallied told cat id size first old → AreTallied now cat id size end new
-tallied_more told now cat id size first end old new samples same some low long are added count before = record {
+tallied_more told now cat id size first end old new samples same low long are added count before = record {
   few = let both = both_sizes size.w first end low in let few = before.few in omega (arith, both, few, count, long);
   tallied = λ m d tells at.
       let here : told ≡ Some m = sym same ∙ tells in
       let f = pixel_of_name m d.head.name 0 in
       added (lines_of m d.head.name size 0 first) (before.tallied m d here at)
       ∙ ap (λ (l : List ℤ). tally_of (lines_of m d.head.name size 0 first ++ l)) (are m here d at)
-      ∙ ap tally_of (lines_joined f size first end some low);
+      ∙ ap tally_of (lines_joined f size first end low);
 }
 
 -- the text that is told of a tally of all lines is that of the dataset

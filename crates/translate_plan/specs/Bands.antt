@@ -1,6 +1,6 @@
 -- The bands of an output.
 use Rattle.std.specs.Prelude.{◌≤◌, ℕ, ℤ, ◌-◌, ◌==◌, slice_index, Bool, true, false, not, List, [], ◌∷◌, length, map}
-use Rattle.std.specs.Prelude.{slice_get, All, Option, Some, None, Result, Ok, Err, nat_lt, if◌then◌else◌}
+use Rattle.std.specs.Prelude.{All, Option, Some, None, Result, Ok, Err, nat_lt, if◌then◌else◌}
 use Rattle.std.specs.Option.{unwrap_or}
 use Rattle.std.specs.List.{range_with_len, list_all}
 use Rattle.geotransform.specs.declared.types.PixelType.{PixelType}
@@ -8,7 +8,7 @@ use Rattle.geotransform.specs.declared.types.PixelType.TheVariants.{Byte, Int16}
 use Rattle.geotransform.specs.declared.faults.PlanFault.{PlanFault}
 use Rattle.geotransform.specs.declared.faults.PlanFault.TheVariants.{NoBand}
 use Rattle.esri_hdr.specs.Head.{when_in}
-use Rattle.catalog.specs.Dataset.{DatasetHead}
+use Rattle.catalog.specs.Dataset.{DatasetHead, band_at}
 use Rattle.catalog.specs.declared.kind.BandHead.{BandHead}
 use Rattle.catalog.specs.declared.nodata.NodataWord.{NodataWord}
 use Rattle.catalog.specs.declared.nodata.NodataWord.TheVariants.{Absent, Remove, Number}
@@ -35,8 +35,8 @@ source_of bands k = if length bands == 0 then k else slice_index bands k - 1
 abbrev pub no_band : BandHead
 no_band = record { kind = Byte; nodata = None; block = record { w = 0; h = 0 } }
 
-abbrev pub band_at : DatasetHead → ℕ → BandHead
-band_at h b = unwrap_or (slice_get h.bands b) no_band
+abbrev pub source_band : DatasetHead → ℕ → BandHead
+source_band h b = unwrap_or (band_at h b) no_band
 
 -- the type of an output's band, by the type that is asked for, that of the first chosen band and that of its own
 abbrev pub kind_by : Driver → PixelType → PixelType → PixelType
@@ -73,7 +73,7 @@ out_band o first source own = record {
 -- output band k
 abbrev pub out_band_at : Options → DatasetHead → ℕ → OutBand
 out_band_at o h k =
-    out_band o (band_at h (source_of o.bands 0)).kind (source_of o.bands k) (band_at h (source_of o.bands k))
+    out_band o (source_band h (source_of o.bands 0)).kind (source_of o.bands k) (source_band h (source_of o.bands k))
 
 -- a band without its NODATA, or with it
 abbrev pub band_by : Bool → OutBand → OutBand

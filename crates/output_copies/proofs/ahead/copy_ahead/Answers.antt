@@ -4,7 +4,7 @@ use Rattle.outside.specs.Outside.{Files}
 use Rattle.outside.specs.Streams.{Gets, GetsPart}
 use Rattle.error_lines.specs.declared.faults.Fault.{Fault}
 use Rattle.error_lines.specs.Progress.{progress}
-use Rattle.output_copies.specs.Copying.{spoken, IsFilled, TellsChangeOf}
+use Rattle.output_copies.specs.Copying.{spoken, IsFilled, TellsChange}
 use Rattle.output_copies.specs.Parts.{BeginsWith}
 use Rattle.output_copies.proofs.Beside.{fewer_left, filled_on}
 use Rattle.output_copies.proofs.Changes.{handed_on, out_tells}
@@ -195,34 +195,34 @@ pub returns-in_err-told-clause-changed : goal.returns-in_err-told-clause-changed
 returns-in_err-told-clause-changed g c =
     let cat = c.args.translation.now.cat in
     let x = c.in_err-told.field-0.0 in
-    handed_on (TellsChangeOf cat) x c.from_residual.result c.from_residual.ensures (out_tells cat x c.in_err-told.ensures.faults)
+    handed_on (TellsChange cat) x c.from_residual.result c.from_residual.ensures (out_tells cat x c.in_err-told.ensures.faults)
 
 pub returns-in_err-read_room-clause-changed : goal.returns-in_err-read_room-clause-changed
 returns-in_err-read_room-clause-changed g c =
     let cat = c.args.translation.now.cat in
     let x = c.in_err-read_room.field-0.0 in
-    handed_on (TellsChangeOf cat) x c.from_residual-in_err-read_room.result c.from_residual-in_err-read_room.ensures c.in_err-read_room.ensures.were.changed
+    handed_on (TellsChange cat) x c.from_residual-in_err-read_room.result c.from_residual-in_err-read_room.ensures c.in_err-read_room.ensures.were.changed
 
 pub returns-in_err-read-clause-changed : goal.returns-in_err-read-clause-changed
 returns-in_err-read-clause-changed g c =
     let cat = c.args.translation.now.cat in
     let x = c.in_err-read.field-0.0 in
-    handed_on (TellsChangeOf cat) x c.from_residual-in_err-read.result c.from_residual-in_err-read.ensures c.in_err-read.ensures.changed
+    handed_on (TellsChange cat) x c.from_residual-in_err-read.result c.from_residual-in_err-read.ensures c.in_err-read.ensures.changed
 
 pub returns-in_err-told-2-clause-changed : goal.returns-in_err-told-2-clause-changed
 returns-in_err-told-2-clause-changed g c =
     let cat = c.args.translation.now.cat in
     let x = c.in_err-told-2.field-0.0 in
-    handed_on (TellsChangeOf cat) x c.from_residual-in_err-told-2.result c.from_residual-in_err-told-2.ensures (c.in_err-told-2.ensures.changed cat c.in_ok-read.ensures.read_changed)
+    handed_on (TellsChange cat) x c.from_residual-in_err-told-2.result c.from_residual-in_err-told-2.ensures (c.in_err-told-2.ensures.changed cat c.in_ok-read.ensures.read_changed)
 
 pub returns-in_err-write_front-clause-changed : goal.returns-in_err-write_front-clause-changed
 returns-in_err-write_front-clause-changed g c =
     let cat = c.args.translation.now.cat in
     let x = c.in_err-write_front.field-0.0 in
-    handed_on (TellsChangeOf cat) x c.from_residual-in_err-write_front.result c.from_residual-in_err-write_front.ensures c.in_err-write_front.ensures.were.changed
+    handed_on (TellsChange cat) x c.from_residual-in_err-write_front.result c.from_residual-in_err-write_front.ensures c.in_err-write_front.ensures.were.changed
 
 pub returns-in_err-tell-clause-changed : goal.returns-in_err-tell-clause-changed
 returns-in_err-tell-clause-changed g c =
     let cat = c.args.translation.now.cat in
     let x = c.in_err-tell.field-0.0 in
-    handed_on (TellsChangeOf cat) x c.from_residual-in_err-tell.result c.from_residual-in_err-tell.ensures (out_tells cat x c.in_err-tell.ensures.faults)
+    handed_on (TellsChange cat) x c.from_residual-in_err-tell.result c.from_residual-in_err-tell.ensures (out_tells cat x c.in_err-tell.ensures.faults)

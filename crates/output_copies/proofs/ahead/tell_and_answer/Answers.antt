@@ -1,7 +1,7 @@
 use Rattle.std.proofs.Common.{ℕ, arith, refl, subst, Err, Result}
 use Rattle.std.specs.Prelude.{IfErr}
 use Rattle.error_lines.specs.declared.faults.Fault.{Fault}
-use Rattle.output_copies.specs.Copying.{MayEnd, TellsChangeOf}
+use Rattle.output_copies.specs.Copying.{MayEnd, TellsChange}
 use Rattle.output_copies.proofs.Beside.{ends_beside_put}
 use Rattle.output_copies.proofs.Changes.{handed_on, out_tells}
 use Rattle.output_copies.proofs.Ends.{ends_after, ends_ok, ends_so, err_is}
@@ -25,7 +25,7 @@ returns-in-Err-clause-ends g c = λ names before now ends.
 
 pub returns-in_err-read-in-Ok-clause-changed : goal.returns-in_err-read-in-Ok-clause-changed
 returns-in_err-read-in-Ok-clause-changed g c = λ cat tells.
-    handed_on (TellsChangeOf cat) c.in_err-read-in-Ok.field-0.0 c.from_residual.result c.from_residual.ensures (subst (λ (r : Result (Unit {0}) Fault). IfErr r (TellsChangeOf cat)) (c.in_err-read-in-Ok.was {u = tt}) tells)
+    handed_on (TellsChange cat) c.in_err-read-in-Ok.field-0.0 c.from_residual.result c.from_residual.ensures (subst (λ (r : Result (Unit {0}) Fault). IfErr r (TellsChange cat)) (c.in_err-read-in-Ok.was {u = tt}) tells)
 
 pub returns-in-Err-clause-changed : goal.returns-in-Err-clause-changed
 returns-in-Err-clause-changed g c = λ cat tells. out_tells cat c.in-Err.fault c.in-Err.ensures.faults

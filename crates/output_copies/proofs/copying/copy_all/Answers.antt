@@ -4,7 +4,7 @@ use Rattle.outside.specs.Outside.{Files}
 use Rattle.outside.specs.Streams.{Gets, GetsPart}
 use Rattle.error_lines.specs.declared.faults.Fault.{Fault}
 use Rattle.error_lines.specs.Progress.{progress}
-use Rattle.output_copies.specs.Copying.{spoken, IsFilled, TellsChangeOf}
+use Rattle.output_copies.specs.Copying.{spoken, IsFilled, TellsChange}
 use Rattle.output_copies.proofs.Changes.{handed_on, out_tells}
 use Rattle.output_copies.proofs.Ends.{ends_after, ends_beside, ends_so, err_is}
 use Rattle.output_copies.proofs.Told.{told_none, told_so_far}
@@ -100,16 +100,16 @@ pub returns-in_err-told-clause-changed : goal.returns-in_err-told-clause-changed
 returns-in_err-told-clause-changed g c =
     let cat = c.args.translation.now.cat in
     let x = c.in_err-told.field-0.0 in
-    handed_on (TellsChangeOf cat) x c.from_residual.result c.from_residual.ensures (out_tells cat x c.in_err-told.ensures.faults)
+    handed_on (TellsChange cat) x c.from_residual.result c.from_residual.ensures (out_tells cat x c.in_err-told.ensures.faults)
 
 pub returns-in_err-copy_strip-clause-changed : goal.returns-in_err-copy_strip-clause-changed
 returns-in_err-copy_strip-clause-changed g c =
     let cat = c.args.translation.now.cat in
     let x = c.in_err-copy_strip.field-0.0 in
-    handed_on (TellsChangeOf cat) x c.from_residual-in_err-copy_strip.result c.from_residual-in_err-copy_strip.ensures c.in_err-copy_strip.ensures.changed
+    handed_on (TellsChange cat) x c.from_residual-in_err-copy_strip.result c.from_residual-in_err-copy_strip.ensures c.in_err-copy_strip.ensures.changed
 
 pub returns-in_err-told-2-clause-changed : goal.returns-in_err-told-2-clause-changed
 returns-in_err-told-2-clause-changed g c =
     let cat = c.args.translation.now.cat in
     let x = c.in_err-told-2.field-0.0 in
-    handed_on (TellsChangeOf cat) x c.from_residual-in_err-told-2.result c.from_residual-in_err-told-2.ensures (out_tells cat x c.in_err-told-2.ensures.faults)
+    handed_on (TellsChange cat) x c.from_residual-in_err-told-2.result c.from_residual-in_err-told-2.ensures (out_tells cat x c.in_err-told-2.ensures.faults)

@@ -1,5 +1,5 @@
 use Rattle.lane_teams.proofs.Lanes.{lanes_kept}
-use Rattle.output_copies.specs.Copying.{TellsChangeOf}
+use Rattle.output_copies.specs.Copying.{TellsChange}
 use Rattle.output_copies.proofs.Changes.{handed_on}
 use Rattle.output_copies.proofs.copying.copy_band.Goals as goal
 
@@ -10,4 +10,4 @@ pub returns-in_err-read_part-clause-changed : goal.returns-in_err-read_part-clau
 returns-in_err-read_part-clause-changed g c =
     let cat = c.args.translation.now.cat in
     let x = c.in_err-read_part.field-0.0 in
-    handed_on (TellsChangeOf cat) x c.from_residual.result c.from_residual.ensures c.in_err-read_part.ensures.changed
+    handed_on (TellsChange cat) x c.from_residual.result c.from_residual.ensures c.in_err-read_part.ensures.changed

@@ -1,6 +1,6 @@
 use Rattle.std.proofs.Common.{◌≡◌, refl, arith, sym, subst, length, ℕ, Option}
 use Rattle.outside.specs.Outside.{Files}
-use Rattle.output_copies.specs.Copying.{IsFilled, TellsChangeOf}
+use Rattle.output_copies.specs.Copying.{IsFilled, TellsChange}
 use Rattle.output_copies.proofs.Changes.{handed_on}
 use Rattle.output_copies.proofs.Copied.{filled_next, filled_to}
 use Rattle.output_copies.proofs.copying.copy_strip.Goals as goal
@@ -28,4 +28,4 @@ pub returns-in_err-copy_band-clause-changed : goal.returns-in_err-copy_band-clau
 returns-in_err-copy_band-clause-changed g c =
     let cat = c.args.translation.now.cat in
     let x = c.in_err-copy_band.field-0.0 in
-    handed_on (TellsChangeOf cat) x c.from_residual.result c.from_residual.ensures c.in_err-copy_band.ensures.changed
+    handed_on (TellsChange cat) x c.from_residual.result c.from_residual.ensures c.in_err-copy_band.ensures.changed

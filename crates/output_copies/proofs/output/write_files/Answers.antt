@@ -5,7 +5,7 @@ use Rattle.error_lines.specs.Progress.{progress}
 use Rattle.error_lines.specs.Steps.{all_done, publishes, Goes}
 use Rattle.write_back.specs.Plans.{output_of}
 use Rattle.lane_teams.proofs.Lanes.{lanes_begin}
-use Rattle.output_copies.specs.Copying.{spoken, MayEnd, TellsChangeOf}
+use Rattle.output_copies.specs.Copying.{spoken, MayEnd, TellsChange}
 use Rattle.output_copies.specs.Steps.{files_by, raster_of, unless_quiet}
 use Rattle.output_copies.proofs.Changes.{handed_on, kept_all, kept_outside, memory_tells, outside_tells, target_tells, where_failed}
 use Rattle.output_copies.proofs.Ends.{ends_after, ends_beside, ends_so, ends_target, err_is, outside_memory, outside_target}
@@ -85,7 +85,7 @@ pub returns-in_err-copier-clause-changed : goal.returns-in_err-copier-clause-cha
 returns-in_err-copier-clause-changed g c =
     let cat = c.args.translation.now.cat in
     let x = c.in_err-copier.field-0.0 in
-    handed_on (TellsChangeOf cat) x c.from_residual.result c.from_residual.ensures (memory_tells cat x c.in_err-copier.ensures.memory)
+    handed_on (TellsChange cat) x c.from_residual.result c.from_residual.ensures (memory_tells cat x c.in_err-copier.ensures.memory)
 
 pub returns-in_err-copier-clause-kept : goal.returns-in_err-copier-clause-kept
 returns-in_err-copier-clause-kept g c = kept_all c.from_residual.result (g.F.Folder.names c.args.folder.now) (g.F.Folder.names c.args.folder.now) refl
@@ -97,7 +97,7 @@ pub returns-in_err-samples-clause-changed : goal.returns-in_err-samples-clause-c
 returns-in_err-samples-clause-changed g c =
     let cat = c.args.translation.now.cat in
     let x = c.in_err-samples.field-0.0 in
-    handed_on (TellsChangeOf cat) x c.from_residual-in_err-samples.result c.from_residual-in_err-samples.ensures (memory_tells cat x c.in_err-samples.ensures.memory)
+    handed_on (TellsChange cat) x c.from_residual-in_err-samples.result c.from_residual-in_err-samples.ensures (memory_tells cat x c.in_err-samples.ensures.memory)
 
 pub returns-in_err-samples-clause-kept : goal.returns-in_err-samples-clause-kept
 returns-in_err-samples-clause-kept g c = kept_all c.from_residual-in_err-samples.result (g.F.Folder.names c.args.folder.now) (g.F.Folder.names c.args.folder.now) refl
@@ -109,7 +109,7 @@ pub returns-in_err-target-clause-changed : goal.returns-in_err-target-clause-cha
 returns-in_err-target-clause-changed g c =
     let cat = c.args.translation.now.cat in
     let x = c.in_err-target.field-0.0 in
-    handed_on (TellsChangeOf cat) (target_fault_of x) c.from_residual-in_err-target.result c.from_residual-in_err-target.ensures (target_tells cat x)
+    handed_on (TellsChange cat) (target_fault_of x) c.from_residual-in_err-target.result c.from_residual-in_err-target.ensures (target_tells cat x)
 
 pub returns-in_err-target-clause-kept : goal.returns-in_err-target-clause-kept
 returns-in_err-target-clause-kept g c = kept_all c.from_residual-in_err-target.result (g.F.Folder.names c.args.folder.now) (g.F.Folder.names c.create.new.folder) c.create.ensures.names
@@ -123,7 +123,7 @@ returns-in-Ok-clause-put g c =
 pub returns-in-Ok-clause-changed : goal.returns-in-Ok-clause-changed
 returns-in-Ok-clause-changed g c =
     let cat = c.args.translation.now.cat in
-    where_failed IsOutside (TellsChangeOf cat) c.publish.result (outside_tells cat) c.publish.ensures.outside
+    where_failed IsOutside (TellsChange cat) c.publish.result (outside_tells cat) c.publish.ensures.outside
 
 pub returns-in-Ok-clause-kept : goal.returns-in-Ok-clause-kept
 returns-in-Ok-clause-kept g c = kept_outside c.publish.result _ c.publish.ensures.outside

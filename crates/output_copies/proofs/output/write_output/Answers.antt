@@ -4,7 +4,7 @@ use Rattle.error_lines.specs.declared.faults.Fault.TheVariants.{OutFault}
 use Rattle.error_lines.specs.Faults.{IsOutside}
 use Rattle.error_lines.specs.Progress.{progress, progress_end}
 use Rattle.error_lines.specs.Steps.{all_done, Goes}
-use Rattle.output_copies.specs.Copying.{spoken, IsChanged, TellsChangeOf}
+use Rattle.output_copies.specs.Copying.{spoken, IsChanged, TellsChange}
 use Rattle.output_copies.specs.Steps.{size_line, translation_steps, translation_text}
 use Rattle.output_copies.proofs.Changes.{handed_on, kept_all, kept_outside, out_outside, out_tells, where_failed}
 use Rattle.output_copies.proofs.Ends.{ends_after, ends_so, err_is}
@@ -94,7 +94,7 @@ pub returns-in_err-put_size-clause-changed : goal.returns-in_err-put_size-clause
 returns-in_err-put_size-clause-changed g c =
     let cat = c.args.translation.now.cat in
     let f = c.in_err-put_size.field-0.0 in
-    handed_on (TellsChangeOf cat) f c.from_residual.result c.from_residual.ensures (out_tells cat f c.in_err-put_size.ensures.faults)
+    handed_on (TellsChange cat) f c.from_residual.result c.from_residual.ensures (out_tells cat f c.in_err-put_size.ensures.faults)
 
 pub returns-in_err-put_size-clause-kept : goal.returns-in_err-put_size-clause-kept
 returns-in_err-put_size-clause-kept g c = kept_all c.from_residual.result (g.F.Folder.names c.args.folder.now) (g.F.Folder.names c.args.folder.now) refl
@@ -114,7 +114,7 @@ pub returns-in_err-write_planned-clause-changed : goal.returns-in_err-write_plan
 returns-in_err-write_planned-clause-changed g c =
     let cat = c.args.translation.now.cat in
     let r = c.from_residual-in_err-write_planned in
-    handed_on (TellsChangeOf cat) c.in_err-write_planned.field-0.0 r.result r.ensures c.in_err-write_planned.ensures.changed
+    handed_on (TellsChange cat) c.in_err-write_planned.field-0.0 r.result r.ensures c.in_err-write_planned.ensures.changed
 
 pub returns-in_err-write_planned-clause-kept : goal.returns-in_err-write_planned-clause-kept
 returns-in_err-write_planned-clause-kept g c =
@@ -136,7 +136,7 @@ returns-clause-put g c = λ d at.
 pub returns-clause-changed : goal.returns-clause-changed
 returns-clause-changed g c =
     let cat = c.args.translation.now.cat in
-    where_failed (λ (f : Fault). f ≡ OutFault) (TellsChangeOf cat) c.put_end.result (out_tells cat) c.put_end.ensures.faults
+    where_failed (λ (f : Fault). f ≡ OutFault) (TellsChange cat) c.put_end.result (out_tells cat) c.put_end.ensures.faults
 
 pub returns-clause-kept : goal.returns-clause-kept
 returns-clause-kept g c = kept_outside c.put_end.result _ (where_failed (λ (f : Fault). f ≡ OutFault) IsOutside c.put_end.result out_outside c.put_end.ensures.faults)

@@ -2,7 +2,7 @@ use Rattle.std.proofs.Common.{◌∙◌, ap, subst, sym, List}
 use Rattle.strip_copies.specs.declared.translation.Translation.{Translation}
 use Rattle.error_lines.specs.Faults.{IsOutside}
 use Rattle.error_lines.specs.Steps.{Step, all_done, Goes}
-use Rattle.output_copies.specs.Copying.{TellsChangeOf}
+use Rattle.output_copies.specs.Copying.{TellsChange}
 use Rattle.output_copies.proofs.Changes.{kept_outside, outside_tells, where_failed}
 use Rattle.output_copies.proofs.Written.{document_middle, samples_middle}
 use Rattle.output_copies.proofs.output.write_planned.Goals as goal
@@ -24,7 +24,7 @@ returns-clause-goes g c = λ m d told at.
 pub returns-in-Vrt-clause-changed : goal.returns-in-Vrt-clause-changed
 returns-in-Vrt-clause-changed g c =
     let cat = c.args.translation.now.cat in
-    where_failed IsOutside (TellsChangeOf cat) c.write_document.result (outside_tells cat) c.write_document.ensures.outside
+    where_failed IsOutside (TellsChange cat) c.write_document.result (outside_tells cat) c.write_document.ensures.outside
 
 pub returns-in-Vrt-clause-kept : goal.returns-in-Vrt-clause-kept
 returns-in-Vrt-clause-kept g c = kept_outside c.write_document.result _ c.write_document.ensures.outside

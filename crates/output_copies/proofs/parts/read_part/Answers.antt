@@ -1,5 +1,5 @@
 use Rattle.error_lines.specs.Faults.{load_fault_of}
-use Rattle.output_copies.specs.Copying.{TellsChangeOf}
+use Rattle.output_copies.specs.Copying.{TellsChange}
 use Rattle.output_copies.proofs.Changes.{handed_on, load_tells}
 use Rattle.output_copies.proofs.parts.read_part.Goals as goal
 
@@ -7,4 +7,4 @@ pub returns-in_err-read_lines-clause-changed : goal.returns-in_err-read_lines-cl
 returns-in_err-read_lines-clause-changed g c =
     let cat = c.args.translation.now.cat in
     let l = c.in_err-read_lines.field-0.0 in
-    handed_on (TellsChangeOf cat) (load_fault_of l) c.from_residual.result c.from_residual.ensures (load_tells cat l c.in_err-read_lines.ensures.changed)
+    handed_on (TellsChange cat) (load_fault_of l) c.from_residual.result c.from_residual.ensures (load_tells cat l c.in_err-read_lines.ensures.changed)

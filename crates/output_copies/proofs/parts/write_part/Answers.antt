@@ -1,7 +1,7 @@
 use Rattle.std.proofs.Common.{◌≡◌, ap, refl, arith}
 use Rattle.translate_plan.specs.Plan.{Planned}
 use Rattle.error_lines.specs.Faults.{target_fault_of}
-use Rattle.output_copies.specs.Copying.{TellsChangeOf}
+use Rattle.output_copies.specs.Copying.{TellsChange}
 use Rattle.output_copies.proofs.Changes.{handed_on, target_tells}
 use Rattle.output_copies.proofs.Copied.{are_writable, filled_behind, may_come}
 use Rattle.output_copies.proofs.parts.write_part.Goals as goal
@@ -37,4 +37,4 @@ pub returns-in_err-write_window-clause-changed : goal.returns-in_err-write_windo
 returns-in_err-write_window-clause-changed g c =
     let cat = c.args.translation.now.cat in
     let t = c.in_err-write_window.field-0.0 in
-    handed_on (TellsChangeOf cat) (target_fault_of t) c.from_residual.result c.from_residual.ensures (target_tells cat t)
+    handed_on (TellsChange cat) (target_fault_of t) c.from_residual.result c.from_residual.ensures (target_tells cat t)
