@@ -1,5 +1,5 @@
 ghost use Rattle.std.specs.Prelude.{◌≡◌, ◌≤◌, ◌<◌, ◌-◌, ◌+◌, ◌*◌, ℕ, [], length, Some, None, true, IfOk, OnOk, OnErr};
-ghost use Rattle.std.specs.Prelude.{IfErr, IfSome, IsSome, IsOk, is_some, option_map, slice_get};
+ghost use Rattle.std.specs.Prelude.{IfErr, IfSome, IsSome, IsOk, is_some, option_map};
 ghost use Rattle.std.specs.Borrow.{sem};
 ghost use Rattle.std.specs.Option.{option_copied};
 ghost use Rattle.band_blocks.specs.Blocks.{AreIn, most_blocks};

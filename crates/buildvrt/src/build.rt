@@ -1,8 +1,7 @@
 // The document of a mosaic.
 ghost use Rattle.std.specs.Prelude.{◌≡◌, ◌<◌, ◌≤◌, true, length, IfOk, Ok};
 ghost use Rattle.lists_and_answers.specs.Answers.{Gives};
-ghost use Rattle.buildvrt.specs.Tiles.{TileValue};
-ghost use Rattle.buildvrt.specs.Judging.{has_bands, reference_of, judged_of};
+ghost use Rattle.buildvrt.specs.Judging.{has_bands, judged_of};
 ghost use Rattle.buildvrt.specs.Mosaic.{IsMemory, document_on, document_by, mosaic_by, mosaic_of, HasReference};
 ghost use Rattle.catalog.specs.Dataset.{most_datasets};
 

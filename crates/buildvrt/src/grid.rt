@@ -1,13 +1,13 @@
 // The grid of a mosaic: the sides of its pixels, its extent, its columns and lines.
 ghost use Rattle.std.specs.Prelude.{◌≡◌, ℕ, ℤ, pos, neg_ℤ, ◌+ℤ◌, ◌-ℤ◌, ◌*ℤ◌, ◌<ℤ◌, ◌≤ℤ◌, ◌<◌, ◌≤◌, ◌+◌, ◌*◌, ◌^◌};
-ghost use Rattle.std.specs.Prelude.{length, IfOk, IfSome, unsigned_abs};
+ghost use Rattle.std.specs.Prelude.{length, IfSome, unsigned_abs};
 ghost use Rattle.vrt_profile.specs.Values.{IsDecimal};
 ghost use Rattle.geotransform.specs.Print.{unit};
 ghost use Rattle.geotransform.specs.Geo.{IsNear};
 ghost use Rattle.geotransform.specs.Places.{rounded_up};
 ghost use Rattle.buildvrt.specs.Grids.{measure, IsMeasure, IsSide, less_of, greater_of, least_from, greatest_from};
 ghost use Rattle.buildvrt.specs.Grids.{least, greatest, mean, sum_from, IsStep, IsSteps, IsReach, IsGrid, steps_of};
-ghost use Rattle.buildvrt.specs.Grids.{union_of, extent_of, some_pixels, side_within, side_of, rounded_transform};
+ghost use Rattle.buildvrt.specs.Grids.{union_of, extent_of, some_pixels, side_of, rounded_transform};
 ghost use Rattle.buildvrt.specs.Grids.{grid_by, grid_of};
 ghost use Rattle.geotransform.specs.Limits.{most_side};
 ghost use Rattle.catalog.specs.Dataset.{most_datasets};

@@ -1,17 +1,17 @@
 // Which inputs are skipped, and why.
-ghost use Rattle.std.specs.Prelude.{◌≡◌, ℕ, ℤ, pos, suc, ◌<ℤ◌, ◌<◌, ◌≤◌, ◌+◌, ◌*◌, ◌^◌, ◌-◌, List, [], ◌∷◌, length};
-ghost use Rattle.std.specs.Prelude.{IfOk, OnOk, IfSome, Option, Some, None, false, true, ◌==◌, IsTrue};
+ghost use Rattle.std.specs.Prelude.{◌≡◌, ℕ, ℤ, pos, suc, ◌<ℤ◌, ◌<◌, ◌≤◌, ◌+◌, ◌*◌, ◌^◌, ◌-◌, [], ◌∷◌, length};
+ghost use Rattle.std.specs.Prelude.{IfOk, OnOk, IfSome, Option, Some, None, false, true, ◌==◌};
 ghost use Rattle.geotransform.specs.Geo.{IsTransform};
 ghost use Rattle.geotransform.specs.Types.{is_same, is_in};
-ghost use Rattle.catalog.specs.Dataset.{DatasetHead, IsDatasetHead, most_datasets};
+ghost use Rattle.catalog.specs.Dataset.{IsDatasetHead, most_datasets};
 ghost use Rattle.std.specs.List.{All, range_with_len};
 ghost use Rattle.lists_and_answers.specs.Answers.{Gives};
 ghost use Rattle.buildvrt.specs.Mosaic.{IsMemory};
 ghost use Rattle.buildvrt.specs.Options.{IsBandNumber};
 ghost use Rattle.buildvrt.specs.Judging.{north_up, north_up_of, same_text, has_bands, band_of, taken_bands};
-ghost use Rattle.buildvrt.specs.Judging.{numbers_or_all, type_number, band_type, same_type, same_types, same_count};
+ghost use Rattle.buildvrt.specs.Judging.{type_number, band_type, same_type, same_types, same_count};
 ghost use Rattle.buildvrt.specs.Judging.{judged_alone, judged_beside, joined, one_judged, none_judged, judged_behind};
-ghost use Rattle.buildvrt.specs.Judging.{judged_from, judged_of, IsOneOf, first_refused, strictly};
+ghost use Rattle.buildvrt.specs.Judging.{judged_of, IsOneOf, first_refused, strictly};
 ghost use Rattle.geotransform.specs.Limits.{most_bands};
 
 use crate::faults::{BuildFault, Reason, SkipList, Skipped};

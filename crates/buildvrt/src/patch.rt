@@ -1,11 +1,11 @@
 // Where the inputs lie in the mosaic.
-ghost use Rattle.std.specs.Prelude.{◌≡◌, ℕ, ℤ, pos, ◌*ℤ◌, ◌<ℤ◌, ◌<◌, ◌≤◌, ◌*◌, ◌^◌, ◌↔◌, IsTrue, IfOk, IfSome};
+ghost use Rattle.std.specs.Prelude.{◌≡◌, ℕ, ℤ, pos, ◌*ℤ◌, ◌<ℤ◌, ◌<◌, ◌≤◌, ◌*◌, ◌^◌, ◌↔◌, IsTrue, IfOk};
 ghost use Rattle.std.specs.Prelude.{unsigned_abs};
 ghost use Rattle.std.specs.List.{All};
 ghost use Rattle.lists_and_answers.specs.Answers.{Gives};
 ghost use Rattle.buildvrt.specs.Mosaic.{IsMemory};
 ghost use Rattle.geotransform.specs.Geo.{IsNear};
-ghost use Rattle.buildvrt.specs.Rectangles.{rectangle_of, meets_side, meets, is_offset, is_within, in_millionths};
+ghost use Rattle.buildvrt.specs.Rectangles.{rectangle_of, meets_side, meets, is_offset};
 ghost use Rattle.buildvrt.specs.Rectangles.{shown_at, patch_of, patches_of, IsPixelRect, IsPatch};
 ghost use Rattle.geotransform.specs.Limits.{farthest, most_side};
 

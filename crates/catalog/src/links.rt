@@ -3,7 +3,6 @@ ghost use Rattle.std.specs.Prelude.{◌≡◌, ◌<◌, ◌≤◌, ◌+◌, ◌-
 ghost use Rattle.std.specs.Prelude.{Option, Some, None, option_map, if◌then◌else◌, IfOk, IfErr, OnOk, OnErr, max};
 ghost use Rattle.std.specs.Option.{option_or};
 ghost use Rattle.std.specs.BTreeMap.{get_by_text};
-ghost use Rattle.vrt_profile.specs.Values.{BandValue};
 ghost use Rattle.lists_and_answers.specs.Answers.{Gives};
 ghost use Rattle.lists_and_answers.specs.Lists.{flattened};
 ghost use Rattle.catalog.specs.Outcomes.{IsMemory};

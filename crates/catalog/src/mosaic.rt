@@ -1,12 +1,10 @@
 // Mosaics, by their documents.
-ghost use Rattle.std.specs.Prelude.{◌≡◌, ◌⊎◌, ◌≤◌, ◌+◌, ◌^◌, ℕ, List, length, Some, Ok, Err, IfOk, IfErr};
+ghost use Rattle.std.specs.Prelude.{◌≡◌, ◌⊎◌, ◌≤◌, ◌+◌, ◌^◌, ℕ, length, Some, Ok, Err, IfOk, IfErr};
 ghost use Rattle.lists_and_answers.specs.Answers.{Gives};
 ghost use Rattle.outside.specs.Outside.{Files};
 ghost use Rattle.outside.specs.Causes.{HasCause};
 ghost use Rattle.catalog.specs.Outcomes.{IsOutside, IsMemory};
-ghost use Rattle.catalog.specs.Dataset.{IsDatasetHead};
 ghost use Rattle.catalog.specs.Drivers.{content_kind, Fits};
-ghost use Rattle.catalog.specs.Mosaics.{mosaic_head};
 ghost use Rattle.catalog.specs.Heads.{file_in, named, vrt_in, IsOfFile};
 ghost use Rattle.vrt_profile.specs.Values.{IsDocument};
 ghost use Rattle.vrt_profile.specs.Document.{document_of};

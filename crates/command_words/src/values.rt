@@ -1,11 +1,10 @@
 // The values of options, and the names of positional words.
-ghost use Rattle.std.specs.Prelude.{◌≡◌, ◌<◌, ◌<ℤ◌, ◌^◌, IfSome, ok_or, map, string_bytes, option_map};
+ghost use Rattle.std.specs.Prelude.{◌≡◌, ◌<◌, ◌<ℤ◌, ◌^◌, IfSome, ok_or};
 ghost use Rattle.lists_and_answers.specs.Answers.{Gives};
 ghost use Rattle.lists_and_answers.specs.Texts.{same_letters};
-ghost use Rattle.geotransform.specs.Decimal.{IsRead};
 ghost use Rattle.translate_plan.specs.Options.{IsWhole};
 ghost use Rattle.command_words.specs.Values.{begins_with_dash, short_of, band_of, blocks_of, integer_of, side_of};
-ghost use Rattle.command_words.specs.Values.{name_of, is_no, format_of, layout_of, nodata_of, wide_number, is_wide};
+ghost use Rattle.command_words.specs.Values.{name_of, is_no, format_of, layout_of, nodata_of, wide_number};
 ghost use Rattle.command_words.specs.Values.{tile_side_of, resolution_named, beyond, workers_of};
 ghost use Rattle.command_words.specs.Words.{IsMemory};
 

@@ -6,7 +6,7 @@ ghost use Rattle.std.specs.Option.{option_to_list};
 ghost use Rattle.std.specs.Str.Lines.{lines, strip_carriage_return};
 ghost use Rattle.input_points.specs.Lines.{is_inside, ended_lines};
 ghost use Rattle.input_points.specs.Points.{kind_of, longest_line};
-ghost use Rattle.input_points.specs.Entries.{most_lines, ends, entry_of, entries, ended_entries};
+ghost use Rattle.input_points.specs.Entries.{most_lines, ends, entries, ended_entries};
 ghost use Rattle.input_points.specs.Reading.{start, kept, behind, coming};
 
 use crate::entry::{Entry, LineKind};

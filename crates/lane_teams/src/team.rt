@@ -13,7 +13,6 @@ ghost use Rattle.band_blocks.specs.Open.{IsUnchanged};
 ghost use Rattle.nearest_window.specs.Lanes.{held_in, room_of};
 ghost use Rattle.nearest_window.specs.Right.{IsFresh, IsReady, slack_of, TellsChangeIn};
 ghost use Rattle.nearest_window.specs.Shown.{IsInBand, IsWindow};
-ghost use Rattle.lane_teams.specs.Parts.{AreOfWindow};
 ghost use Rattle.lane_teams.specs.Turns.{OnlyReadByViews};
 ghost use Rattle.band_blocks.specs.Blocks.{most_blocks};
 

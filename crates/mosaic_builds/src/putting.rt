@@ -1,10 +1,10 @@
 // A mosaic that is made and published.
 ghost use Rattle.std.specs.Prelude.{◌≡◌, ◌≤◌, ◌<◌, ◌++◌, ℕ, true, false, List, [], ◌∷◌, length, Option, Some, Err};
-ghost use Rattle.std.specs.Prelude.{IfErr, OnErr};
+ghost use Rattle.std.specs.Prelude.{IfErr};
 ghost use Rattle.outside.specs.Outside.{Files};
 ghost use Rattle.outside.specs.Causes.{HasCause};
 ghost use Rattle.buildvrt.specs.Judging.{IsOneOf};
-ghost use Rattle.error_lines.specs.Faults.{HasCauses, IsOutside, fault_status};
+ghost use Rattle.error_lines.specs.Faults.{HasCauses, fault_status};
 ghost use Rattle.error_lines.specs.Steps.{Step, Warns, AreWarned, Goes, GoesWarning, all_done};
 ghost use Rattle.mosaic_builds.specs.Built.{built_in, built_by, warning_of, IsMade};
 ghost use Rattle.mosaic_builds.specs.Ends.{MayEnd, IsOfWriting};

@@ -1,5 +1,5 @@
 // Samples of a rectangle of a mosaic, which are filled from the last source to the first.
-ghost use Rattle.std.specs.Prelude.{◌≡◌, ◌⊎◌, ℕ, ◌+◌, ◌*◌, ◌<◌, ◌≤◌, ◌^◌, List, [], None, true, is_some, length, pos};
+ghost use Rattle.std.specs.Prelude.{◌≡◌, ◌⊎◌, ℕ, ◌+◌, ◌*◌, ◌<◌, ◌≤◌, ◌^◌, [], None, true, is_some, length, pos};
 ghost use Rattle.std.specs.Prelude.{slice_index_or, All, IfOk, OnOk, IsTrue};
 ghost use Rattle.nearest_window.specs.Canvases.{IsCanvas, IsInside, IsPackedOf, IsTaken, filled_with, stands};
 ghost use Rattle.nearest_window.specs.Taken.{TakesPixel, is_plain, taken_by};

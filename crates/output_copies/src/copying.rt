@@ -1,7 +1,6 @@
 // Lines of a translation's output, copied into a target.
-ghost use Rattle.std.specs.Prelude.{◌≡◌, ◌<◌, ◌≤◌, ◌+◌, ◌-◌, ◌*◌, ℕ, Option, Some, IfErr, OnOk, OnErr, length};
-ghost use Rattle.std.specs.Prelude.{slice_get, true};
-ghost use Rattle.outside.specs.Outside.{Files};
+ghost use Rattle.std.specs.Prelude.{◌≡◌, ◌<◌, ◌≤◌, ◌+◌, ◌-◌, ◌*◌, ℕ, Option, IfErr, OnOk, OnErr, length};
+ghost use Rattle.std.specs.Prelude.{true};
 ghost use Rattle.outside.specs.Streams.{Gets, GetsPart};
 ghost use Rattle.lane_teams.specs.Ready.{AreLanesReady};
 ghost use Rattle.strip_copies.specs.Copies.{IsRoomFor, IsTranslation};

@@ -1,10 +1,8 @@
 // Lines that are shared. An exchange on a line's word that gets the right to read is a look, and giving that right back
 // leaves the line; one that gets the right to write takes it, and giving that back puts a block into it. A lost try is
 // done. Nothing else is done to a word.
-ghost use Rattle.std.specs.Prelude.{◌≡◌, ℕ, ◌+◌, ◌^◌, ◌%◌, ◌<◌, ◌≤◌, length, Option, List, true, false, IfOk, IfSome};
+ghost use Rattle.std.specs.Prelude.{◌≡◌, ℕ, ◌+◌, ◌^◌, ◌%◌, ◌<◌, ◌≤◌, length, Option, true, false, IfOk, IfSome};
 ghost use Rattle.counted_slot.specs.Counting.{IsTurn, readers};
-ghost use Rattle.outside.specs.Outside.{Files};
-ghost use Rattle.catalog.specs.Drivers.{Dataset};
 ghost use Rattle.band_blocks.specs.Contents.{IsBlock};
 ghost use Rattle.shared_lines.specs.Events.{line_of};
 ghost use Rattle.shared_lines.specs.Shapes.{HasShape};

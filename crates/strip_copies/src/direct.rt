@@ -2,7 +2,7 @@
 ghost use Rattle.std.specs.Prelude.{◌≡◌, ◌<◌, ◌≤◌, ◌+◌, ◌-◌, ℕ, ℤ, pos, true, All, Some, length, get_or};
 ghost use Rattle.geotransform.specs.Types.{is_in};
 ghost use Rattle.translate_plan.specs.Plan.{shown_line};
-ghost use Rattle.strip_copies.specs.Rows.{nearest, within, AreColumns, AreIn};
+ghost use Rattle.strip_copies.specs.Rows.{nearest, within, AreIn};
 ghost use Rattle.strip_copies.specs.Copies.{IsDirect};
 
 use crate::columns::Columns;

@@ -1,13 +1,12 @@
 // What the driver of an output can hold.
-ghost use Rattle.std.specs.Prelude.{◌≡◌, ◌<◌, ◌≤◌, ◌^◌, ◌*◌, ◌≢◌, ◌++◌, pos, neg_ℤ, ◌+ℤ◌, ◌-ℤ◌, ◌*ℤ◌, IfOk, IfSome};
-ghost use Rattle.std.specs.Prelude.{is_some, ◌&&◌, None, unsigned_abs, codes};
+ghost use Rattle.std.specs.Prelude.{◌≡◌, ◌<◌, ◌≤◌, ◌^◌, ◌*◌, ◌≢◌, ◌++◌, pos, neg_ℤ, ◌+ℤ◌, ◌-ℤ◌, ◌*ℤ◌, IfSome};
+ghost use Rattle.std.specs.Prelude.{is_some, ◌&&◌, None, codes};
 ghost use Rattle.geotransform.specs.Geo.{IsRaster, is_north_up, sizes_held};
-ghost use Rattle.hgt_tiles.specs.Names.{IsPlace};
 ghost use Rattle.hgt_tiles.specs.Names as tiles;
 ghost use Rattle.esri_hdr.specs.Head.{GeoFits, raw_geo_of};
 ghost use Rattle.translate_plan.specs.Options.{IsDriver};
 ghost use Rattle.translate_plan.specs.Window.{IsWindow};
-ghost use Rattle.translate_plan.specs.Fits.{is_single, own_nodata, count_in, rounded, rounded_for, or_limit, geo_in};
+ghost use Rattle.translate_plan.specs.Fits.{is_single, own_nodata, count_in, rounded, rounded_for, geo_in};
 ghost use Rattle.translate_plan.specs.Fits.{place_in, raw_in, cell_in, tile_in, holds_geo, is_named, holds_name};
 ghost use Rattle.translate_plan.specs.Fits.{is_int16, is_within_int32, takes_kind, holds_kinds, is_same, takes_number};
 ghost use Rattle.translate_plan.specs.Fits.{takes_nodata};

@@ -1,6 +1,5 @@
 // The document that shows the output of a plan.
 ghost use Rattle.std.specs.Prelude.{◌≡◌, ◌<◌, ◌≤◌, ◌++◌, ◌∷◌, [], Some, length, map, option_map, slice_get, IfOk};
-ghost use Rattle.vrt_profile.specs.Values.{source_count};
 ghost use Rattle.translate_plan.specs.declared.options.Driver.TheVariants.{Vrt};
 ghost use Rattle.translate_plan.specs.Documents.{window_of, shown_source, shown_band, document_by};
 

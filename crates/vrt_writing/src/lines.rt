@@ -1,11 +1,10 @@
 // The lines of a document's elements.
-ghost use Rattle.std.specs.Prelude.{◌≡◌, ℕ, ℤ, pos, ◌<◌, ◌≤◌, ◌^◌, ◌++◌, [], ◌∷◌, codes, List, Option, Some, OnOk};
+ghost use Rattle.std.specs.Prelude.{◌≡◌, ℕ, ℤ, pos, ◌<◌, ◌≤◌, ◌^◌, ◌++◌, [], ◌∷◌, codes, Option, Some, OnOk};
 ghost use Rattle.std.specs.Prelude.{OnErr, unsigned_abs};
 ghost use Rattle.std.specs.Fmt.{decimal, signed_decimal};
 ghost use Rattle.lists_and_answers.specs.Growth.{KeepsFront};
-ghost use Rattle.vrt_profile.specs.Values.{trillion, Rectangle, IsLut};
-ghost use Rattle.vrt_writing.specs.Spelled.{Appends, AppendsPairs, FileOpens, words, indent, escaped, end_text};
-ghost use Rattle.vrt_writing.specs.Spelled.{micro_text, part_text, pair, flag_text, file_markup, source_band_markup};
+ghost use Rattle.vrt_writing.specs.Spelled.{Appends, AppendsPairs, FileOpens, words, indent, escaped};
+ghost use Rattle.vrt_writing.specs.Spelled.{micro_text, part_text, pair, flag_text, file_markup};
 ghost use Rattle.vrt_writing.specs.Spelled.{rectangle_pairs, rectangle_markup, nodata_markup, scale_markup};
 
 use crate::writing::{

@@ -1,14 +1,13 @@
 // The text of a document: its elements, from the dataset to the parts of a source.
-ghost use Rattle.std.specs.Prelude.{◌≡◌, ℕ, ℤ, pos, suc, ◌<◌, ◌≤◌, ◌++◌, ◌∷◌, [], codes, List, Option, Some, None};
+ghost use Rattle.std.specs.Prelude.{◌≡◌, ℕ, ℤ, pos, suc, ◌<◌, ◌≤◌, ◌++◌, ◌∷◌, [], codes, Option, Some, None};
 ghost use Rattle.std.specs.Prelude.{OnOk, OnErr, length, flat_map, option_map};
 ghost use Rattle.std.specs.List.{All};
 ghost use Rattle.lists_and_answers.specs.Growth.{KeepsFront};
-ghost use Rattle.geotransform.specs.Print.{short_text};
-ghost use Rattle.vrt_profile.specs.Values.{trillion, IsLut, IsPair};
+ghost use Rattle.vrt_profile.specs.Values.{IsPair};
 ghost use Rattle.vrt_writing.specs.Spelled.{Appends, AppendsPairs, AppendsTag, joined_text, lut_pair_text};
 ghost use Rattle.vrt_writing.specs.Spelled.{next_pair_text, source_text, band_text, lut_text, lut_markup, place_markup};
-ghost use Rattle.vrt_writing.specs.Spelled.{scaling_markup, source_name, source_markup, sources_markup, band_pairs};
-ghost use Rattle.vrt_writing.specs.Spelled.{band_markup, bands_markup, srs_markup, geo_text, geo_markup, size_pairs};
+ghost use Rattle.vrt_writing.specs.Spelled.{scaling_markup, source_name, sources_markup, band_pairs};
+ghost use Rattle.vrt_writing.specs.Spelled.{bands_markup, srs_markup, geo_text, geo_markup, size_pairs};
 ghost use Rattle.vrt_writing.specs.Spelled.{parts_markup, spelled};
 ghost use Rattle.geotransform.specs.Limits.{most_bands};
 

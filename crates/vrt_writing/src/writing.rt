@@ -1,10 +1,8 @@
 // Writing a document: line by line, each with two spaces in front for each level.
-ghost use Rattle.std.specs.Prelude.{◌≡◌, ℕ, ℤ, pos, suc, ◌<◌, ◌≤◌, ◌*◌, ◌*ℤ◌, ◌^◌, ◌++◌, [], ◌∷◌, codes, flat_map};
-ghost use Rattle.std.specs.Prelude.{List, Option, OnOk, OnErr, unsigned_abs};
+ghost use Rattle.std.specs.Prelude.{◌≡◌, ℕ, ℤ, pos, suc, ◌<◌, ◌≤◌, ◌*◌, ◌*ℤ◌, ◌^◌, ◌++◌, [], ◌∷◌, codes};
+ghost use Rattle.std.specs.Prelude.{OnOk, OnErr, unsigned_abs};
 ghost use Rattle.std.specs.Fmt.{decimal, signed_decimal};
 ghost use Rattle.lists_and_answers.specs.Growth.{KeepsFront};
-ghost use Rattle.geotransform.specs.Print.{short_text};
-ghost use Rattle.vrt_markup.specs.Items.{Pair};
 ghost use Rattle.vrt_writing.specs.Spelled.{indent, escape, escaped, end_text, micro_text, part_text};
 
 use geotransform::{Ticks, print_short};

@@ -1,5 +1,5 @@
 // New drafts, and drafts that are published or given up.
-ghost use Rattle.std.specs.Prelude.{◌≡◌, ◌<◌, ◌≤◌, ◌+◌, ◌-◌, ◌++◌, ℕ, List, length, Some, OnOk, IfOk, IfErr, replicate};
+ghost use Rattle.std.specs.Prelude.{◌≡◌, ◌<◌, ◌≤◌, ◌+◌, ◌-◌, ◌++◌, ℕ, List, length, Some, IfOk, IfErr, replicate};
 ghost use Rattle.outside.specs.Causes.{HasCause, Rose};
 ghost use Rattle.outside.specs.Outside.{Files};
 ghost use Rattle.write_back.specs.Pieces.{AreBytes};

@@ -1,5 +1,5 @@
 // An output that is written: its data, and a draft of its header where it has one.
-ghost use Rattle.std.specs.Prelude.{◌≡◌, ◌<◌, ◌≤◌, ◌+◌, ◌*◌, ◌-◌, [], ℕ, ℤ, pos, Bool, length, Some, None, IsTrue};
+ghost use Rattle.std.specs.Prelude.{◌≡◌, ◌<◌, ◌≤◌, ◌+◌, ◌*◌, ◌-◌, [], ℕ, ℤ, pos, length, Some, None, IsTrue};
 ghost use Rattle.std.specs.Prelude.{IsSome, OnOk, IfOk, IfErr, IfSome, true, min, Err, Option, vec_len, vec_items};
 ghost use Rattle.std.specs.List.{list_all};
 ghost use Rattle.std.specs.Result.{result_err};
