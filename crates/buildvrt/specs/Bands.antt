@@ -2,7 +2,7 @@
 use Rattle.std.specs.Prelude.{ℕ, ℤ, ◌<◌, ◌≤◌, Bool, ◌&&◌, nat_le, List, [], ◌∷◌, length, Option, None, Some, option_map}
 use Rattle.std.specs.Prelude.{Result, Ok, Err, if◌then◌else◌}
 use Rattle.std.specs.List.{filter_map}
-use Rattle.geotransform.specs.Types.{is_in}
+use Rattle.geotransform.specs.Types.{when_in}
 use Rattle.geotransform.specs.declared.types.PixelType.{PixelType}
 use Rattle.vrt_profile.specs.Values.{SourceValue, BandValue, Rectangle, source_count, most_sources}
 use Rattle.vrt_profile.specs.Cover.{whole}
@@ -37,10 +37,6 @@ wanted_nodata (Number n) src own = Some n
 wanted_nodata Remove src own = None
 wanted_nodata Absent src own = wanted_by_source src own
 
-abbrev pub in_type : PixelType → Option ℤ → Option ℤ
-in_type kind None = None
-in_type kind (Some n) = if is_in kind n then Some n else None
-
 -- the NODATA of a dataset's band
 abbrev pub own_nodata : Option BandHead → Option ℤ
 own_nodata None = None
@@ -59,7 +55,7 @@ source_in o number p = option_map (source_of o p.head number) p.shown
 abbrev pub band_from : Options → BandHead → ℕ → List PatchValue → BandValue
 band_from o band number patches = record {
   kind = band.kind;
-  nodata = in_type band.kind (wanted_nodata o.vrt_nodata o.src_nodata band.nodata);
+  nodata = when_in band.kind (wanted_nodata o.vrt_nodata o.src_nodata band.nodata);
   sources = filter_map (source_in o number) patches;
 }
 

@@ -2,13 +2,13 @@
 ghost use Rattle.std.specs.Prelude.{◌≡◌, ℕ, ℤ, pos, ◌<◌, ◌≤◌, ◌*◌, ◌^◌, ◌++◌, ◌∷◌, [], true, length, Some, IfOk};
 ghost use Rattle.std.specs.Prelude.{IfSome, OnOk, unsigned_abs};
 ghost use Rattle.std.specs.List.{All, filter_map};
-ghost use Rattle.geotransform.specs.Types.{is_in};
+ghost use Rattle.geotransform.specs.Types.{is_in, when_in};
 ghost use Rattle.lists_and_answers.specs.Answers.{Gives};
 ghost use Rattle.buildvrt.specs.Options.{IsBandNumber, IsWord};
 ghost use Rattle.buildvrt.specs.Judging.{has_bands, band_of, taken_bands};
 ghost use Rattle.buildvrt.specs.Rectangles.{IsPatch};
 ghost use Rattle.buildvrt.specs.Mosaic.{IsMemory};
-ghost use Rattle.buildvrt.specs.Bands.{source_nodata, wanted_nodata, in_type, own_nodata, source_of};
+ghost use Rattle.buildvrt.specs.Bands.{source_nodata, wanted_nodata, own_nodata, source_of};
 ghost use Rattle.buildvrt.specs.Bands.{source_in, band_from, band_with, common_bands, own_band, separate_bands};
 ghost use Rattle.buildvrt.specs.Bands.{all_bands, bands_within, shown_count, is_few, FitsDocument};
 ghost use Rattle.catalog.specs.Dataset.{most_datasets};
@@ -56,8 +56,8 @@ fn wanted_nodata(mosaic: NodataWord, source: NodataWord, own: Option<Sample>) ->
 }
 
 // The number, where it is one of the type.
-fn in_type(kind: PixelType, nodata: Option<Sample>) -> Option<Sample>
-    ensures nodata { result ≡ in_type kind nodata }
+fn when_in(kind: PixelType, nodata: Option<Sample>) -> Option<Sample>
+    ensures nodata { result ≡ when_in kind nodata }
     ensures rules { IfSome result (λ n. is_in kind n ≡ true) }
 {
     match nodata {
@@ -148,7 +148,7 @@ fn band_from(
 {
     let sources = sources_of(alloc, options, number, patches)?;
     let wanted = wanted_nodata(options.vrt_nodata, options.src_nodata, band.nodata);
-    Ok(sources.into_band(band.kind, in_type(band.kind, wanted)))
+    Ok(sources.into_band(band.kind, when_in(band.kind, wanted)))
 }
 
 // Adds the band that is taken from the band of this number.
@@ -201,7 +201,7 @@ fn own_band(
     let mut sources = SourceList::new(alloc);
     add_source(alloc, options, 1, patch, &mut sources)?;
     let wanted = wanted_nodata(options.vrt_nodata, options.src_nodata, band.nodata);
-    Ok(sources.into_band(band.kind, in_type(band.kind, wanted)))
+    Ok(sources.into_band(band.kind, when_in(band.kind, wanted)))
 }
 
 // Adds the band of its own of an input.

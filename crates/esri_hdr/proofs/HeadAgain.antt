@@ -8,7 +8,7 @@ use Rattle.std.specs.Fmt.{decimal, signed_decimal}
 use mathlib.Core.Path.{fun_ext}
 use Rattle.geotransform.specs.Decimal.{IsRead}
 use Rattle.geotransform.specs.Print.{short_text}
-use Rattle.geotransform.specs.Types.{is_in, is_signed}
+use Rattle.geotransform.specs.Types.{is_in, is_signed, when_in}
 use Rattle.geotransform.proofs.Ranges.{bytes_bounds, is_near}
 use Rattle.geotransform.proofs.RoundTrip.{short_again, whole_again, decimal_word, signed_word, short_word}
 use Rattle.std.proofs.lemmas.Bool.Decides.{nat_tests}
@@ -21,7 +21,7 @@ use Rattle.esri_hdr.specs.Keys as keys
 use Rattle.esri_hdr.specs.Lines.{Values, last_of}
 use Rattle.lists_and_answers.specs.Answers.{◌>>=◌}
 use Rattle.esri_hdr.specs.Values.{or_fault}
-use Rattle.esri_hdr.specs.Head.{place_in, step_in, is_half_near, geo_in, when_in, nodata_in, shape_of, row_len, rows_of, geo_of, Head, head_of, esri_head, sample_len, GeoFits, IsHead, RowsFit}
+use Rattle.esri_hdr.specs.Head.{place_in, step_in, is_half_near, geo_in, nodata_in, shape_of, row_len, rows_of, geo_of, Head, head_of, esri_head, sample_len, GeoFits, IsHead, RowsFit}
 use Rattle.esri_hdr.specs.Text.{order_text, layout_text, sign_text, nodata_fields, geo_fields, fields_of, fields_from, hdr_text}
 use Rattle.esri_hdr.proofs.Again.{IsKey, IsField, last_field, last_text, text_len, key_const, field_const, field_word}
 use Rattle.std.specs.List.{AllByRecursion}

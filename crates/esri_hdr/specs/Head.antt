@@ -6,7 +6,7 @@ use Rattle.std.specs.Option.{option_map}
 use Rattle.lists_and_answers.specs.Answers.{◌>>=◌}
 use Rattle.geotransform.specs.Decimal.{ticks_of, whole_of, IsRead}
 use Rattle.geotransform.specs.Print.{unit}
-use Rattle.geotransform.specs.Types.{is_in, bytes_of}
+use Rattle.geotransform.specs.Types.{is_in, bytes_of, when_in}
 use Rattle.geotransform.specs.Places.{half, sixteen_places}
 use Rattle.geotransform.specs.Geo.{Transform, is_near, is_north_up, sizes_held}
 use Rattle.geotransform.specs.declared.types.Size.{Size}
@@ -49,11 +49,6 @@ geo_in None uly xdim ydim = Ok None
 geo_in (Some ulx) None xdim ydim = Ok None
 geo_in (Some ulx) (Some uly) xdim ydim = if is_half_near (ulx +ℤ ulx -ℤ xdim) && is_half_near (uly +ℤ uly +ℤ ydim)
     then Ok (Some (record { ulx = ulx; uly = uly; xdim = xdim; ydim = ydim })) else Err BadValue
-
--- a number, where there is one and the type has it
-abbrev pub when_in : PixelType → Option ℤ → Option ℤ
-when_in kind None = None
-when_in kind (Some n) = if is_in kind n then Some n else None
 
 -- NODATA, any text
 unfoldable pub nodata_in : PixelType → Option (List ℕ) → Option ℤ

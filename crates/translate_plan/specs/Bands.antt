@@ -3,11 +3,11 @@ use Rattle.std.specs.Prelude.{◌≤◌, ℕ, ℤ, ◌-◌, ◌==◌, slice_inde
 use Rattle.std.specs.Prelude.{All, Option, Some, None, Result, Ok, Err, nat_lt, if◌then◌else◌}
 use Rattle.std.specs.Option.{unwrap_or}
 use Rattle.std.specs.List.{range_with_len, list_all}
+use Rattle.geotransform.specs.Types.{when_in}
 use Rattle.geotransform.specs.declared.types.PixelType.{PixelType}
 use Rattle.geotransform.specs.declared.types.PixelType.TheVariants.{Byte, Int16}
 use Rattle.geotransform.specs.declared.faults.PlanFault.{PlanFault}
 use Rattle.geotransform.specs.declared.faults.PlanFault.TheVariants.{NoBand}
-use Rattle.esri_hdr.specs.Head.{when_in}
 use Rattle.catalog.specs.Dataset.{DatasetHead, band_at}
 use Rattle.catalog.specs.declared.kind.BandHead.{BandHead}
 use Rattle.catalog.specs.declared.nodata.NodataWord.{NodataWord}

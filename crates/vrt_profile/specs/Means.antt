@@ -6,7 +6,7 @@ use Rattle.std.specs.Option.{unwrap_or}
 use Rattle.lists_and_answers.specs.Answers.{◌>>=◌}
 use Rattle.geotransform.specs.Decimal.{whole_of}
 use Rattle.geotransform.specs.Geo.{Transform}
-use Rattle.geotransform.specs.Types.{is_in, is_same, type_named}
+use Rattle.geotransform.specs.Types.{is_same, type_named, when_in}
 use Rattle.geotransform.specs.declared.types.PixelType.{PixelType}
 use Rattle.geotransform.specs.declared.types.PixelType.TheVariants.{Byte}
 use Rattle.vrt_markup.specs.Items.{Tag, is_equal, attribute, is_some}
@@ -306,12 +306,8 @@ is_sourced None = true
 is_sourced (Some text) = is_equal text (codes "VRTSourcedRasterBand")
 
 -- a NODATA that the type doesn't hold is none
-abbrev pub nodata_of : PixelType → Option ℤ → Option ℤ
-nodata_of kind None = None
-nodata_of kind (Some n) = if is_in kind n then Some n else None
-
 abbrev pub band_end : PixelType → BandParts → Result BandValue VrtFault
-band_end kind p = Ok (record { kind = kind; nodata = nodata_of kind (value_in p.nodata); sources = p.sources })
+band_end kind p = Ok (record { kind = kind; nodata = when_in kind (value_in p.nodata); sources = p.sources })
 
 -- in order: its attributes and text in it, its children
 abbrev pub band_of : ℕ → ℕ → Tag → Forest → Result BandValue VrtFault

@@ -2,11 +2,11 @@
 ghost use Rattle.std.specs.Prelude.{◌≡◌, ◌<◌, ◌≤◌, ◌-◌, length, IfOk, IfSome, Result, Ok, Err, Option, None, Some};
 ghost use Rattle.std.specs.Prelude.{true, false, nat_le, ◌+◌};
 ghost use Rattle.std.specs.Option.{option_map};
-ghost use Rattle.geotransform.specs.Types.{is_in};
+ghost use Rattle.geotransform.specs.Types.{is_in, when_in};
 ghost use Rattle.vrt_markup.specs.Forest.{inner, read_as, text_of, child_of};
 ghost use Rattle.vrt_profile.specs.Means as means;
 ghost use Rattle.vrt_profile.specs.Means.{nodata_by, no_band_parts, with_no_data_value, with_source, band_step};
-ghost use Rattle.vrt_profile.specs.Means.{kind_in, is_number, is_placed, is_sourced, nodata_of, value_in, band_end};
+ghost use Rattle.vrt_profile.specs.Means.{kind_in, is_number, is_placed, is_sourced, value_in, band_end};
 ghost use Rattle.vrt_profile.specs.Means.{band_of, source_of};
 ghost use Rattle.vrt_profile.specs.Seen.{band_by};
 ghost use Rattle.vrt_profile.specs.Values.{most_sources};
@@ -181,7 +181,7 @@ fn is_sourced(text: Option<&[u8]>) -> bool
 
 // The NODATA of a band, if its type holds it.
 fn nodata_of(kind: PixelType, nodata: Option<Option<NoData>>) -> Option<i128>
-    ensures value { result ≡ nodata_of kind (value_in nodata) }
+    ensures value { result ≡ when_in kind (value_in nodata) }
     ensures within { IfSome result (λ n. is_in kind n ≡ true) }
 {
     match nodata {

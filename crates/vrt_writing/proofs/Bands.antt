@@ -7,7 +7,7 @@ use Rattle.std.proofs.lemmas.Bool.{eq-eqb}
 use Rattle.std.proofs.lemmas.List.Sums.{sum_by-cons}
 use Rattle.lists_and_answers.specs.Answers.{◌>>=◌}
 use Rattle.geotransform.specs.Geo.{Transform}
-use Rattle.geotransform.specs.Types.{is_in, name_of}
+use Rattle.geotransform.specs.Types.{is_in, name_of, when_in}
 use Rattle.geotransform.specs.declared.types.PixelType.{PixelType}
 use Rattle.geotransform.proofs.Ranges.{is_near}
 use Rattle.geotransform.specs.declared.types.PixelType.TheVariants.{Byte, Int8, UInt16, Int16, UInt32, Int32, UInt64, Int64}
@@ -16,7 +16,7 @@ use Rattle.vrt_markup.specs.Items.{plain_len}
 use Rattle.vrt_profile.specs.Numbers.{or_fault}
 use Rattle.vrt_profile.specs.Values.{SourceValue, IsSource, BandValue, IsBand, source_count}
 use Rattle.vrt_writing.specs.Spelled.{nothing, both, words, group, nodata_markup, source_name, place_markup, scaling_markup, source_markup, sources_markup, band_pairs, band_markup, bands_markup}
-use Rattle.vrt_profile.specs.Means.{BandParts, no_parts, source_step, source_end, with_source, nodata_by, with_no_data_value, band_step, no_band_parts, kind_in, is_number, is_placed, nodata_of, value_in, DatasetParts, with_raster_band, dataset_step}
+use Rattle.vrt_profile.specs.Means.{BandParts, no_parts, source_step, source_end, with_source, nodata_by, with_no_data_value, band_step, no_band_parts, kind_in, is_number, is_placed, value_in, DatasetParts, with_raster_band, dataset_step}
 use Rattle.vrt_profile.specs.Seen.{source_by, band_by}
 use Rattle.vrt_markup.specs.declared.fault.VrtFault.{VrtFault}
 use Rattle.vrt_markup.specs.declared.fault.VrtFault.TheVariants.{Unsupported, Limit}
@@ -100,7 +100,7 @@ band_inside taken b is few =
     (takes_sources taken (with_value b.nodata) [] b.sources is.sources (omega arith))
 
 -- a whole band
-kept_nodata : (kind : PixelType) (o : Option ℤ) → IfSome o (λ n. is_in kind n ≡ true) → nodata_of kind (value_in (with_value o)) ≡ o
+kept_nodata : (kind : PixelType) (o : Option ℤ) → IfSome o (λ n. is_in kind n ≡ true) → when_in kind (value_in (with_value o)) ≡ o
 kept_nodata kind None is = refl
 kept_nodata kind (Some n) is = ap (λ c. cond c (Some n) None) is
 
