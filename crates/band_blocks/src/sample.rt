@@ -9,7 +9,7 @@ ghost use Rattle.catalog.specs.Pixels.{pixel_of};
 ghost use Rattle.catalog.specs.Walk.{IsWalked};
 ghost use Rattle.band_blocks.specs.Contents.{most_calls};
 ghost use Rattle.band_blocks.specs.Keys.{IsPixelKey};
-ghost use Rattle.band_blocks.specs.Open.{AreGood, TellsChange, IsUnchanged};
+ghost use Rattle.band_blocks.specs.Open.{AreGood, TellsChangeOf, IsUnchanged};
 ghost use Rattle.band_blocks.specs.Samples.{HasPlaces, IsDirect, IsOfType};
 
 use crate::{Counter, LoadFault, OpenFiles, PixelKey};
@@ -63,7 +63,7 @@ pub fn load_sample<F: Folder, L: Ledger>(
     ensures told { (m : Files) → F.names folder.old ≡ Some m → IsWalked m cat.now →
         IfOk result (λ v. v ≡ pixel_of m cat.now pixel.dataset pixel.band pixel.x pixel.y) }
     ensures typed { (d : Dataset) → slice_get cat.now pixel.dataset ≡ Some d → IfOk result (IsOfType d pixel.band) }
-    ensures changed { (d : Dataset) → slice_get cat.now pixel.dataset ≡ Some d → IfErr result (TellsChange d) }
+    ensures changed { (d : Dataset) → slice_get cat.now pixel.dataset ≡ Some d → IfErr result (TellsChangeOf d) }
     ensures never { WhereTold F.Folder folder.old (λ m. IsWalked m cat.now → IfErr result IsUnchanged) }
     ensures held { IsSome (lookup (nat_eq pixel.dataset) files.old) → IfErr result IsUnchanged }
     ensures good { AreGood F.file_bytes F.file_len (F.names folder.new) cat.now files.new }

@@ -11,7 +11,7 @@ use Rattle.band_blocks.specs.declared.key.BlockKey.{BlockKey}
 use Rattle.band_blocks.specs.declared.key.PixelKey.{PixelKey}
 use Rattle.band_blocks.specs.Contents.{IsBlock, most_calls}
 use Rattle.band_blocks.specs.Keys.{IsKeyOf}
-use Rattle.band_blocks.specs.Open.{AreGood, IsUnchanged, TellsChange}
+use Rattle.band_blocks.specs.Open.{AreGood, IsUnchanged, TellsChangeOf}
 use Rattle.band_blocks.specs.declared.fault.LoadFault.{LoadFault}
 use Rattle.band_blocks.specs.declared.fault.LoadFault.TheVariants.{FolderFault, Changed, Memory}
 use Rattle.block_cache.specs.declared.pool.Entry.{Entry}
@@ -243,7 +243,7 @@ no_value (Ok x) P e h = absurd h.1
 no_value (Err y) P e h = tt
 
 -- what a fault tells of a dataset it tells of the catalog
-pub tells_in : (cat : List Dataset) (id : ℕ) (d : Dataset) → slice_get cat id ≡ Some d → (f : LoadFault) → TellsChange d f → TellsChangeIn cat f
+pub tells_in : (cat : List Dataset) (id : ℕ) (d : Dataset) → slice_get cat id ≡ Some d → (f : LoadFault) → TellsChangeOf d f → TellsChangeIn cat f
 tells_in cat id d at FolderFault h = tt
 tells_in cat id d at (Changed name was now) h = (id, d, at, h)
 tells_in cat id d at Memory h = tt

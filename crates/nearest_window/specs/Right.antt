@@ -22,7 +22,7 @@ use Rattle.band_blocks.specs.Contents.{IsBlock, IsOfBand, most_calls}
 use Rattle.band_blocks.specs.Keys.{IsKeyOf}
 use Rattle.band_blocks.specs.declared.fault.LoadFault.{LoadFault}
 use Rattle.band_blocks.specs.declared.fault.LoadFault.TheVariants.{FolderFault, Changed, Memory}
-use Rattle.band_blocks.specs.Open.{AreGood, IsUnchanged, TellsChange}
+use Rattle.band_blocks.specs.Open.{AreGood, IsUnchanged, TellsChangeOf}
 use Rattle.block_cache.specs.declared.pool.Entry.{Entry}
 use Rattle.block_cache.specs.Entries.{PoolView, IsPool}
 use Rattle.nearest_window.specs.declared.indexes.Kept.{Kept}
@@ -182,7 +182,7 @@ pub record IsMosaicKey (cat : List Dataset) (key : BlockKey) (band : BandValue) 
 abbrev pub TellsChangeIn : List Dataset → LoadFault → Type 0
 TellsChangeIn cat FolderFault = Unit {0}
 TellsChangeIn cat (Changed name was now) = (id : ℕ) × (d : Dataset) × (slice_get cat id ≡ Some d) ×
-    TellsChange d (Changed name was now)
+    TellsChangeOf d (Changed name was now)
 TellsChangeIn cat Memory = Unit {0}
 
 -- What a call that reads answers, and what it does to a lane, its folder and its count of loads. A fault of the folder

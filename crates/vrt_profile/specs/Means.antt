@@ -305,7 +305,7 @@ abbrev pub is_sourced : Option (List ℕ) → Bool
 is_sourced None = true
 is_sourced (Some text) = is_equal text (codes "VRTSourcedRasterBand")
 
--- a NODATA that the type doesn't hold is none
+-- a band, with its NODATA where its type has it
 abbrev pub band_end : PixelType → BandParts → Result BandValue VrtFault
 band_end kind p = Ok (record { kind = kind; nodata = when_in kind (value_in p.nodata); sources = p.sources })
 
