@@ -1,5 +1,5 @@
 -- What the head of a file says of its dataset.
-use Rattle.std.specs.Prelude.{ℕ, ℤ, ◌≡◌, ◌≤◌, ◌^◌, List, [], ◌∷◌, replicate, true, Option, Some, None, option_map}
+use Rattle.std.specs.Prelude.{ℕ, ℤ, ◌≡◌, ◌≤◌, List, [], ◌∷◌, replicate, true, Option, Some, None, option_map}
 use Rattle.std.specs.Prelude.{negsuc}
 use Rattle.geotransform.specs.declared.types.Size.{Size}
 use Rattle.geotransform.specs.Geo.{Transform}
@@ -12,7 +12,7 @@ use Rattle.dted_records.specs.Places as dted_places
 use Rattle.hgt_tiles.specs.Names as hgt_names
 use Rattle.hgt_tiles.specs.Places as hgt_places
 use Rattle.ascii_grid.specs.Grid as ascii
-use Rattle.vrt_profile.specs.Values.{DocumentValue, IsDocument}
+use Rattle.vrt_profile.specs.Values.{DocumentValue, IsDocument, longest_document}
 use Rattle.catalog.specs.declared.kind.BandHead.{BandHead}
 use Rattle.catalog.specs.declared.kind.Kind.{Kind}
 use Rattle.catalog.specs.declared.kind.Kind.TheVariants as kinds
@@ -173,7 +173,7 @@ pub record FileFits (name : List ℕ) (driver : DriverHead) (len : ℕ) : Type 0
 -- a document keeps its rules, and its length is within the limit
 pub record DocumentFits (d : DocumentValue) (len : ℕ) : Type 0 where
   pub rules : IsDocument d
-  pub within : len ≤ 2 ^ 26
+  pub within : len ≤ longest_document
 
 -- the name and the length of a file are those that its content asks
 abbrev pub Fits : List ℕ → Content → ℕ → Type 0

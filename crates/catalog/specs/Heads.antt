@@ -1,5 +1,5 @@
 -- What the files of a folder say of a dataset, or its first refusal.
-use Rattle.std.specs.Prelude.{ℕ, ◌≡◌, ◌⊎◌, Bool, not, List, [], ◌∷◌, length, ◌^◌, nat_lt, Option, Some, None, Result}
+use Rattle.std.specs.Prelude.{ℕ, ◌≡◌, ◌⊎◌, Bool, not, List, [], ◌∷◌, length, nat_lt, Option, Some, None, Result}
 use Rattle.std.specs.Prelude.{Ok, Err, ok_or, option_and_then, if◌then◌else◌}
 use Rattle.std.specs.List.{range_with_len}
 use Rattle.std.specs.FinMap.{get}
@@ -19,7 +19,7 @@ use Rattle.hgt_tiles.specs.Names as hgt_names
 use Rattle.hgt_tiles.specs.Places as hgt_places
 use Rattle.ascii_grid.specs.Grid as ascii
 use Rattle.ascii_grid.specs.declared.faults.GridFault.TheVariants as grid
-use Rattle.vrt_profile.specs.Values.{DocumentValue, SourceValue}
+use Rattle.vrt_profile.specs.Values.{DocumentValue, SourceValue, longest_document}
 use Rattle.vrt_profile.specs.Resolve.{resolved_text}
 use Rattle.vrt_profile.specs.Document.{document_of}
 use Rattle.vrt_markup.specs.declared.fault.VrtFault.TheVariants as vrt
@@ -137,7 +137,7 @@ ascii_in m name = do
 
 -- the document of the mosaic whose bytes stand under a name, which are at most 67,108,864
 abbrev pub document_in : List ℕ → List ℕ → Result DocumentValue WalkFault
-document_in bytes name = if nat_lt (2 ^ 26) (length bytes) then Err (Malformed name (bad.Vrt vrt.Limit))
+document_in bytes name = if nat_lt longest_document (length bytes) then Err (Malformed name (bad.Vrt vrt.Limit))
     else named (λ f. Malformed name (bad.Vrt f)) (document_of bytes)
 
 -- what is found of the mosaic under a name

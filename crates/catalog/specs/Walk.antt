@@ -66,11 +66,11 @@ room_for (suc room) kind name = Ok tt
 
 -- one more dataset is within the limit
 abbrev pub one_more_in : List Dataset → Result (Unit {0}) WalkFault
-one_more_in cat = if nat_lt (length cat) most_datasets then Ok tt else Err (Limit limits.Files 65537)
+one_more_in cat = if nat_lt (length cat) most_datasets then Ok tt else Err (Limit limits.Files (most_datasets + 1))
 
 -- one more source is within the limit
 abbrev pub one_more_source : ℕ → Result (Unit {0}) WalkFault
-one_more_source sources = if nat_lt sources most_sources then Ok tt else Err (Limit limits.Sources 262145)
+one_more_source sources = if nat_lt sources most_sources then Ok tt else Err (Limit limits.Sources (most_sources + 1))
 
 -- the number of the bands of the dataset of a name
 abbrev pub bands_of : Option Dataset → ℕ

@@ -23,8 +23,8 @@ use std::collections::BTreeMap;
 use std::marker::Model;
 use vrt_profile::{Document, VrtBand};
 
-/// The most sources of all mosaics of a catalog, and so of one mosaic.
-pub const MOST_SOURCES: u32 = 262_144;
+/// The most sources of all mosaics of a catalog: as many as one document has at most.
+pub const MOST_SOURCES: u32 = vrt_profile::MOST_SOURCES as u32;
 
 /// The numbers of the datasets that the sources of a band name, in order.
 pub type Members = Items<u32>;

@@ -1,12 +1,12 @@
 // Mosaics, by their documents.
-ghost use Rattle.std.specs.Prelude.{◌≡◌, ◌⊎◌, ◌≤◌, ◌+◌, ◌^◌, ℕ, length, Some, Ok, Err, IfOk, IfErr};
+ghost use Rattle.std.specs.Prelude.{◌≡◌, ◌⊎◌, ◌≤◌, ◌+◌, ℕ, length, Some, Ok, Err, IfOk, IfErr};
 ghost use Rattle.lists_and_answers.specs.Answers.{Gives};
 ghost use Rattle.outside.specs.Outside.{Files};
 ghost use Rattle.outside.specs.Causes.{HasCause};
 ghost use Rattle.catalog.specs.Outcomes.{IsOutside, IsMemory};
 ghost use Rattle.catalog.specs.Drivers.{content_kind, Fits};
 ghost use Rattle.catalog.specs.Heads.{file_in, named, vrt_in, IsOfFile};
-ghost use Rattle.vrt_profile.specs.Values.{IsDocument};
+ghost use Rattle.vrt_profile.specs.Values.{IsDocument, longest_document};
 ghost use Rattle.vrt_profile.specs.Document.{document_of};
 
 use crate::driver::{Content, Found};
@@ -27,7 +27,7 @@ fn document_bytes<F: Folder>(
     name: &Name,
 ) -> Result<Vec<u8>, WalkFault>
     ensures ok { IfOk result (λ v. (m : Files) → F.names folder.old ≡ Some m → file_in m name.now ≡ Ok v.items) }
-    ensures few { IfOk result (λ v. length v.items ≤ 2 ^ 26) }
+    ensures few { IfOk result (λ v. length v.items ≤ longest_document) }
     ensures err { IfErr result (λ f. (m : Files) → F.names folder.old ≡ Some m →
         IsOutside f ⊎ (vrt_in m name.now ≡ Err f)) }
     ensures names { F.names folder.new ≡ F.names folder.old }

@@ -1,5 +1,5 @@
 -- The names of the inputs of a mosaic: those that are given, then the lines of a list.
-use Rattle.std.specs.Prelude.{ℕ, ◌^◌, List, [], ◌∷◌, ◌++◌, length, nat_lt, Bool, true, false, Option, Some, None}
+use Rattle.std.specs.Prelude.{ℕ, ◌+◌, ◌^◌, List, [], ◌∷◌, ◌++◌, length, nat_lt, Bool, true, false, Option, Some, None}
 use Rattle.std.specs.Prelude.{Result, Ok, Err, ok_or, if◌then◌else◌}
 use Rattle.std.specs.List.{filter}
 use Rattle.std.specs.FinMap.{get}
@@ -18,9 +18,13 @@ use Rattle.catalog.specs.Dataset.{most_datasets}
 abbrev pub list_in : Files → List ℕ → Result (List ℕ) Fault
 list_in m name = ok_or (get m name) (Absent name)
 
--- they are at most 67,108,864
+-- the greatest length of a list, in bytes
+abbrev pub longest_list : ℕ
+longest_list = 2 ^ 26
+
+-- they are so many at most
 abbrev pub within_limit : List ℕ → Result (Unit {0}) Fault
-within_limit bytes = if nat_lt (2 ^ 26) (length bytes) then Err (Limit limits.List (length bytes)) else Ok tt
+within_limit bytes = if nat_lt longest_list (length bytes) then Err (Limit limits.List (length bytes)) else Ok tt
 
 -- and UTF-8
 abbrev pub text_of : List ℕ → List ℕ → Result (List ℕ) Fault
@@ -54,7 +58,7 @@ name_of_line line =
 -- with one more name there are at most 65,536
 abbrev pub with_name : List (List ℕ) → List ℕ → Result (List (List ℕ)) Fault
 with_name names name =
-    if nat_lt (length names) most_datasets then Ok (names ++ name ∷ []) else Err (Limit limits.Files 65537)
+    if nat_lt (length names) most_datasets then Ok (names ++ name ∷ []) else Err (Limit limits.Files (most_datasets + 1))
 
 -- the names of lines behind these names, up to the first that is refused
 abbrev pub with_lines : List (List ℕ) → List (List ℕ) → Result (List (List ℕ)) Fault
@@ -63,7 +67,7 @@ with_lines names (line ∷ more) = name_of_line line >>= λ name. (with_name nam
 
 -- of the names that are given there are as many too
 abbrev pub few_of : List (List ℕ) → Result (Unit {0}) Fault
-few_of names = if nat_lt most_datasets (length names) then Err (Limit limits.Files 65537) else Ok tt
+few_of names = if nat_lt most_datasets (length names) then Err (Limit limits.Files (most_datasets + 1)) else Ok tt
 
 abbrev pub named_behind : List (List ℕ) → List (List ℕ) → Result (List (List ℕ)) Fault
 named_behind names lines = few_of names >>= λ few. with_lines names lines

@@ -1,5 +1,5 @@
 // The names of the inputs of a mosaic.
-ghost use Rattle.std.specs.Prelude.{◌≡◌, ◌⊎◌, ◌≤◌, ◌<◌, ◌^◌, ℕ, List, [], ◌∷◌, length, Some, Err, IfOk, IfErr, OnOk};
+ghost use Rattle.std.specs.Prelude.{◌≡◌, ◌⊎◌, ◌≤◌, ◌<◌, ℕ, List, [], ◌∷◌, length, Some, Err, IfOk, IfErr, OnOk};
 ghost use Rattle.std.specs.FinMap.{get};
 ghost use Rattle.std.specs.Str.Lines.{lines};
 ghost use Rattle.lists_and_answers.specs.Answers.{Gives};
@@ -7,7 +7,7 @@ ghost use Rattle.outside.specs.Outside.{Files, IsLong, Opened};
 ghost use Rattle.outside.specs.Causes.{HasCause};
 ghost use Rattle.error_lines.specs.Faults.{IsOutside};
 ghost use Rattle.mosaic_builds.specs.Ends.{IsOfNames, IsOfMaking};
-ghost use Rattle.mosaic_builds.specs.Inputs.{lines_in, filled, name_of_line, with_lines, named_behind, names_in};
+ghost use Rattle.mosaic_builds.specs.Inputs.{lines_in, filled, longest_list, name_of_line, with_lines, named_behind, names_in};
 ghost use Rattle.catalog.specs.Dataset.{most_datasets};
 
 use crate::empty_lines::drop_empty_lines;
@@ -69,7 +69,7 @@ fn read_whole<F: Folder>(
 // Reads the list of a name, which isn't longer than it may be.
 fn read_list<F: Folder>(alloc: Global, folder: &mut F, name: &Name) -> Result<Vec<u8>, Fault>
     ensures ok { IfOk result (λ v. (m : Files) → F.names folder.old ≡ Some m → get m name.now ≡ Some v.items) }
-    ensures few { IfOk result (λ v. (m : Files) → F.names folder.old ≡ Some m → length v.items ≤ 2 ^ 26) }
+    ensures few { IfOk result (λ v. (m : Files) → F.names folder.old ≡ Some m → length v.items ≤ longest_list) }
     ensures err { IfErr result (λ f. (m : Files) → F.names folder.old ≡ Some m →
         IsOutside f ⊎ (lines_in m name.now ≡ Err f)) }
     ensures names { F.names folder.new ≡ F.names folder.old }

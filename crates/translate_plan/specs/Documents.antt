@@ -1,11 +1,11 @@
 -- The document that shows the output of a plan.
-use Rattle.std.specs.Prelude.{◌≡◌, ℕ, ◌+◌, ◌^◌, ◌≤◌, pos, List, [], ◌∷◌, length, map, false, Some, None, Ok}
+use Rattle.std.specs.Prelude.{◌≡◌, ℕ, ◌+◌, ◌≤◌, pos, List, [], ◌∷◌, length, map, false, Some, None, Ok}
 use Rattle.std.specs.FinMap.{get}
 use Rattle.outside.specs.Names.{extension_of}
 use Rattle.outside.specs.Paths.{IsName}
 use Rattle.outside.specs.declared.name.Ext.TheVariants as ext
 use Rattle.outside.specs.Outside.{Files}
-use Rattle.vrt_profile.specs.Values.{Rectangle, SourceValue, BandValue, DocumentValue, IsDocument}
+use Rattle.vrt_profile.specs.Values.{Rectangle, SourceValue, BandValue, DocumentValue, IsDocument, longest_document}
 use Rattle.vrt_profile.specs.Cover.{whole}
 use Rattle.vrt_profile.specs.Resolve.{related}
 use Rattle.vrt_writing.specs.Spelled.{spelled}
@@ -46,7 +46,7 @@ pub record IsPublished (m : Files) (base : List ℕ) (p : Planned) (h : DatasetH
   pub rules : IsDocument (document_by p base h)
   pub extension : extension_of base ≡ Some ext.Vrt
   pub bytes : get m base ≡ Some (spelled (document_by p base h))
-  pub short : length (spelled (document_by p base h)) ≤ 2 ^ 26
+  pub short : length (spelled (document_by p base h)) ≤ longest_document
   pub name : IsName h.name
   pub source : Dataset
   pub told : dataset_in m false h.name ≡ Ok source

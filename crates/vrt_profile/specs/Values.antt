@@ -9,6 +9,10 @@ use Rattle.geotransform.specs.declared.types.Size.{Size}
 use Rattle.vrt_profile.specs.declared.rectangle.LutPair.{LutPair}
 use Rattle.geotransform.specs.Limits.{farthest, most_bands}
 
+-- The greatest length of a document, in bytes.
+abbrev pub longest_document : ℕ
+longest_document = 2 ^ 26
+
 -- The most sources of all bands of a document, and of all mosaics of a catalog.
 abbrev pub most_sources : ℕ
 most_sources = 262144

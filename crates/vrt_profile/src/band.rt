@@ -28,7 +28,7 @@ use vrt_markup::{
 };
 
 /// The most sources of all bands of a document.
-const MOST_SOURCES: usize = 262_144;
+pub const MOST_SOURCES: usize = 262_144;
 
 /// What is read of a band so far, where so many sources were taken before it.
 #[derive(Drop)]

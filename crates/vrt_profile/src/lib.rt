@@ -19,6 +19,7 @@ pub mod scaling;
 mod source;
 pub mod source_names;
 
+pub use band::MOST_SOURCES;
 pub use building::{BandList, SourceList, pixel_rect, plain_source, whole_rect};
 pub use document::{Document, Source, Sources, VrtBand, VrtBands};
 pub use reader::read;
