@@ -7,7 +7,8 @@ ghost use Rattle.outside.specs.Outside.{Files, IsLong, Opened};
 ghost use Rattle.outside.specs.Causes.{HasCause};
 ghost use Rattle.error_lines.specs.Faults.{IsOutside};
 ghost use Rattle.mosaic_builds.specs.Ends.{IsOfNames, IsOfMaking};
-ghost use Rattle.mosaic_builds.specs.Inputs.{lines_in, filled, longest_list, name_of_line, with_lines, named_behind, names_in};
+ghost use Rattle.mosaic_builds.specs.Inputs.{lines_in, filled, longest_list, name_of_line, with_lines, named_behind};
+ghost use Rattle.mosaic_builds.specs.Inputs.{names_in};
 ghost use Rattle.catalog.specs.Dataset.{most_datasets};
 
 use crate::empty_lines::drop_empty_lines;
