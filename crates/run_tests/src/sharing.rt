@@ -125,26 +125,36 @@ fn reads_so<R: Threads + Sync + Abort>(
     said.prints(values) && least <= reads && reads <= most
 }
 
-// The first of these runs that takes fewer or more reads or prints something else, where each point is asked for ten
-// times, behind all others.
+// The first of these runs over points that takes fewer or more reads or prints something else.
 fn first_unread<R: Threads + Sync + Abort>(
     rt: &R,
     alloc: Global,
+    points: &[u8],
+    values: &[u8],
     rows: &[Reads<'_>],
 ) -> Option<usize> {
-    let points = ten_times(rt, alloc, POINTS);
-    let values = ten_times(rt, alloc, numbers());
     for (at, row) in rows.iter().enumerate() {
-        if !reads_so(rt, alloc, &points, &values, row) {
+        if !reads_so(rt, alloc, points, values, row) {
             return Some(at);
         }
     }
     None
 }
 
+// The same, where each point is asked for ten times, behind all others.
+fn first_unread_again<R: Threads + Sync + Abort>(
+    rt: &R,
+    alloc: Global,
+    rows: &[Reads<'_>],
+) -> Option<usize> {
+    let points = ten_times(rt, alloc, POINTS);
+    let values = ten_times(rt, alloc, numbers());
+    first_unread(rt, alloc, &points, &values, rows)
+}
+
 #[test]
 fn points_are_looked_for_in_lines(rt: HostRuntime) {
-    none_wrong(&rt, first_unread(&rt, rt.alloc(), &READS));
+    none_wrong(&rt, first_unread_again(&rt, rt.alloc(), &READS));
 }
 
 // A pool of 64 blocks lacks each of the 65 lines in each of the 32 squares: 2,080 loads for a band, by one worker or by
@@ -176,21 +186,8 @@ static TRANSLATIONS: [Reads<'static>; 4] = [
     ),
 ];
 
-// The first of these runs that takes fewer or more reads or tells something.
-fn first_remade<R: Threads + Sync + Abort>(
-    rt: &R,
-    alloc: Global,
-    rows: &[Reads<'_>],
-) -> Option<usize> {
-    for (at, row) in rows.iter().enumerate() {
-        if !reads_so(rt, alloc, b"", b"", row) {
-            return Some(at);
-        }
-    }
-    None
-}
-
 #[test]
 fn translations_look_into_lines(rt: HostRuntime) {
-    none_wrong(&rt, first_remade(&rt, rt.alloc(), &TRANSLATIONS));
+    let wrong = first_unread(&rt, rt.alloc(), b"", b"", &TRANSLATIONS);
+    none_wrong(&rt, wrong);
 }
