@@ -1,4 +1,4 @@
-// Points that are read through lines, and how many reads they take.
+// Points and translations that are read through lines, and how many reads they take.
 use crate::trials::{FileOf, Part, folder_of, joined, none_wrong, said_of};
 use outside::{MemFolder, Tally};
 use std::alloc::Global;
@@ -43,13 +43,40 @@ fn grid<R: Abort>(rt: &R, alloc: Global) -> Vec<u8> {
     joined(rt, alloc, &parts)
 }
 
-// A folder with the column as raw data and as a grid, which counts calls.
+// A source that shows the column over the upper or the lower half of a mosaic of 2,048 columns and 256 lines. Each is
+// named twice, so that the mosaic has too many sources for its pixels to be made in lines of the whole width: they are
+// made square by square.
+const UPPER: &[u8] = b"<SimpleSource><SourceFilename>column.bil</SourceFilename>
+<SrcRect xOff='0' yOff='0' xSize='1' ySize='65'/>
+<DstRect xOff='0' yOff='0' xSize='2048' ySize='128'/></SimpleSource>";
+
+const LOWER: &[u8] = b"<SimpleSource><SourceFilename>column.bil</SourceFilename>
+<SrcRect xOff='0' yOff='0' xSize='1' ySize='65'/>
+<DstRect xOff='0' yOff='128' xSize='2048' ySize='128'/></SimpleSource>";
+
+// The mosaic, of which two workers have a half each, and each of a half's 16 squares shows all lines of the column.
+fn mosaic<R: Abort>(rt: &R, alloc: Global) -> Vec<u8> {
+    let parts: [Part<'_>; 4] = [
+        (
+            b"<VRTDataset rasterXSize='2048' rasterYSize='256'><VRTRasterBand dataType='Byte'>",
+            1,
+        ),
+        (UPPER, 2),
+        (LOWER, 2),
+        (b"</VRTRasterBand></VRTDataset>", 1),
+    ];
+    joined(rt, alloc, &parts)
+}
+
+// A folder with the column as raw data and as a grid, and the mosaic of it, which counts calls.
 fn tally<R: Abort>(rt: &R, alloc: Global) -> Tally<MemFolder> {
     let grid = grid(rt, alloc);
-    let files: [FileOf<'_>; 3] = [
+    let mosaic = mosaic(rt, alloc);
+    let files: [FileOf<'_>; 4] = [
         ("column.bil", &COLUMN),
         ("column.hdr", b"NROWS 65\nNCOLS 1\n"),
         ("column.asc", &grid),
+        ("column.vrt", &mosaic),
     ];
     Tally::new(folder_of(rt, alloc, &files, &[]))
 }
@@ -98,24 +125,69 @@ fn reads_so<R: Threads + Sync + Abort>(
     said.prints(values) && least <= reads && reads <= most
 }
 
-// The first of these runs that takes fewer or more reads or prints something else, where each point is asked for ten
-// times, behind all others.
+// The first of these runs over points that takes fewer or more reads or prints something else.
 fn first_unread<R: Threads + Sync + Abort>(
     rt: &R,
     alloc: Global,
+    points: &[u8],
+    values: &[u8],
     rows: &[Reads<'_>],
 ) -> Option<usize> {
-    let points = ten_times(rt, alloc, POINTS);
-    let values = ten_times(rt, alloc, numbers());
     for (at, row) in rows.iter().enumerate() {
-        if !reads_so(rt, alloc, &points, &values, row) {
+        if !reads_so(rt, alloc, points, values, row) {
             return Some(at);
         }
     }
     None
 }
 
+// The same, where each point is asked for ten times, behind all others.
+fn first_unread_again<R: Threads + Sync + Abort>(
+    rt: &R,
+    alloc: Global,
+    rows: &[Reads<'_>],
+) -> Option<usize> {
+    let points = ten_times(rt, alloc, POINTS);
+    let values = ten_times(rt, alloc, numbers());
+    first_unread(rt, alloc, &points, &values, rows)
+}
+
 #[test]
 fn points_are_looked_for_in_lines(rt: HostRuntime) {
-    none_wrong(&rt, first_unread(&rt, rt.alloc(), &READS));
+    none_wrong(&rt, first_unread_again(&rt, rt.alloc(), &READS));
+}
+
+// A pool of 64 blocks lacks each of the 65 lines in each of the 32 squares: 2,080 loads for a band, by one worker or by
+// two of which neither looks into lines. Where both look, and are at one line of the column at the same time, one of
+// them may miss it, but not both, since only what the other one does there keeps a look from its line: so at most 1,040
+// looks for a band fail, in whatever order the two come. Besides, each may load each line once at first, and for a band
+// the first and the last one, which share a line, 32 times. Of three bands two are read while those before them are
+// written; of an output of another size, lines are made of those that are read.
+static TRANSLATIONS: [Reads<'static>; 4] = [
+    (
+        "gdal_translate -q --blocks 64 column.vrt out.bil",
+        2080,
+        2100,
+    ),
+    (
+        "gdal_translate -q --workers 2 --blocks 64 column.vrt out.bil",
+        65,
+        1300,
+    ),
+    (
+        "gdal_translate -q --workers 2 --blocks 64 -b 1 -b 1 -b 1 column.vrt out.bil",
+        65,
+        3500,
+    ),
+    (
+        "gdal_translate -q --workers 2 --blocks 64 -outsize 1024 256 column.vrt out.bil",
+        65,
+        1300,
+    ),
+];
+
+#[test]
+fn translations_look_into_lines(rt: HostRuntime) {
+    let wrong = first_unread(&rt, rt.alloc(), b"", b"", &TRANSLATIONS);
+    none_wrong(&rt, wrong);
 }
