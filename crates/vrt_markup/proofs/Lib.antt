@@ -6,6 +6,7 @@ mod Bare
 mod Behind
 pub mod Reading
 mod Fronts
+mod Rising
 mod Lent
 mod Ordered
 pub mod Utf8

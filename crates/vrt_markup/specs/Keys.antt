@@ -1,6 +1,6 @@
 -- The keys by which the names of a tag's attributes are sorted, and texts that stand in a document as they are.
 use Rattle.std.specs.Prelude.{ℕ, ◌+◌, ◌*◌, ◌%◌, ◌==◌, Bool, true, not, ◌&&◌, List, [], ◌∷◌, Option, Some, None}
-use Rattle.std.specs.Prelude.{if◌then◌else◌}
+use Rattle.std.specs.Prelude.{if◌then◌else◌, nat_lt}
 use Rattle.std.specs.List.{list_any}
 use Rattle.vrt_markup.specs.Items.{Pair}
 
@@ -21,6 +21,11 @@ number_of p = last_bytes 0 p.name
 abbrev pub apart : {X : Type 0} → (X → X → Bool) → List X → Bool
 apart same [] = true
 apart same (x ∷ xs) = not (list_any (same x) xs) && apart same xs
+
+-- whether each number is more than the one in front of it, and the first more than this one
+abbrev pub rises : ℕ → List ℕ → Bool
+rises last [] = true
+rises last (n ∷ ns) = nat_lt last n && rises n ns
 
 -- the first number that is the same as the one in front of it
 abbrev pub double_from : ℕ → List ℕ → Option ℕ
