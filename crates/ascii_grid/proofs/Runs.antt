@@ -102,6 +102,12 @@ whole_part s t bytes n less white is = subst (λ (l : List ℕ). Reaches t (fed 
 pub rest_reaches : (start s t : Scanned) (bytes : List ℕ) (at n : ℕ) → Reaches s (fed start (take at bytes)) → Reaches t (fed s (take n (take (length bytes - at) (drop at bytes)))) → Reaches t (fed start (take (at + n) bytes))
 rest_reaches start s t bytes at n so_far now = part_reaches start s t bytes at n so_far (subst (λ (l : List ℕ). Reaches t (fed s (take n l))) (take_rest bytes at) now)
 
+-- so where no memory is wanted
+pub fed_part : (start s t : Scanned) (bytes : List ℕ) (at n : ℕ) → s ≡ fed start (take at bytes) → t ≡ fed s (take n (take (length bytes - at) (drop at bytes))) → t ≡ fed start (take (at + n) bytes)
+fed_part start s t bytes at n so_far now =
+    now ∙ ap (λ (l : List ℕ). fed s (take n l)) (take_rest bytes at) ∙ ap (λ (x : Scanned). fed x (take n (drop at bytes))) so_far
+    ∙ sym (fed_more start (take at bytes) (take n (drop at bytes))) ∙ ap (fed start) (sym (taken_more bytes at n))
+
 -- a scanner with a fault stays as it is
 pub fault_fed : (fault : Option GridFault) (held : Open) (stage : Stage) (rows : List ℕ) (self : Scanned) (bytes : List ℕ) → is_some fault ≡ true → scanned fault held stage rows ≡ self → Reaches self (fed self bytes)
 fault_fed None held stage rows self bytes some is = absurd (cc)

@@ -53,15 +53,16 @@ fn units(n: u32) -> Ticks
     Ticks::of(n * 180_000_000_000_000_000)
 }
 
-// The ticks of a few digits, or none where the text is another one.
+// How many units a few digits are, or none where the text is another one.
+#[inline(always)]
 #[tactic(auto, using(crate::proofs::Ticks::digits_ticks))]
-fn whole_ticks(text: &[u8]) -> Option<Ticks>
-    ensures value { IfSome result (λ t. ticks_of text.now ≡ Some t) }
-    ensures read { IfSome result IsRead }
+fn units_in(text: &[u8]) -> Option<u32>
+    ensures value { IfSome result (λ n. ticks_of text.now ≡ Some (pos (18 * (n * 10 ^ 16)))) }
+    ensures small { IfSome result (λ n. n ≤ 2000000009) }
 {
     let (n, value) = digits_in(text);
-    if n > 0 && n <= 64 && n == text.len() {
-        Some(units(value))
+    if n == text.len() && n > 0 && n <= 64 {
+        Some(value)
     } else {
         None
     }
@@ -72,8 +73,8 @@ fn ticks_in(text: &[u8]) -> Option<Ticks>
     ensures value { result ≡ ticks_of text.now }
     ensures read { IfSome result IsRead }
 {
-    match whole_ticks(text) {
-        Some(ticks) => Some(ticks),
+    match units_in(text) {
+        Some(n) => Some(units(n)),
         None => read_decimal(text),
     }
 }
@@ -86,17 +87,39 @@ pub fn coordinate_in(at: u64, text: &[u8]) -> Result<Coordinate, GridFault>
     Ok(Coordinate::new(ticks))
 }
 
-/// A size of a pixel.
+// A size of so many units.
+fn units_step(n: u32) -> Step
+    requires some { 0 < n }
+    requires small { n ≤ 2000000009 }
+    ensures { result ≡ 18 * (n * 10 ^ 16) }
+{
+    Step::new(u128::from(n) * 180_000_000_000_000_000)
+}
+
+// A size of a pixel that any text writes, in a function of its own: what powers of ten need on the stack isn't made
+// for digits alone.
+#[inline(never)]
 #[tactic(auto, unfolding(crate::specs::Values::step_in))]
-pub fn step_in(at: u64, text: &[u8]) -> Result<Step, GridFault>
+fn decimal_step(at: u64, text: &[u8]) -> Result<Step, GridFault>
     ensures { result ≡ step_in at text.now }
 {
-    let ticks = ticks_in(text).ok_or(GridFault::BadToken(at))?;
+    let ticks = read_decimal(text).ok_or(GridFault::BadToken(at))?;
     let n = ticks.get();
     if n > 0 {
         Ok(Step::new(n.unsigned_abs()))
     } else {
         Err(GridFault::BadToken(at))
+    }
+}
+
+/// A size of a pixel.
+#[inline(always)]
+pub fn step_in(at: u64, text: &[u8]) -> Result<Step, GridFault>
+    ensures { result ≡ step_in at text.now }
+{
+    match units_in(text) {
+        Some(n) if n > 0 => Ok(units_step(n)),
+        _ => decimal_step(at, text),
     }
 }
 
