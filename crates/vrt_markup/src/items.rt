@@ -536,6 +536,7 @@ fn spread_with(spread: Spread, number: u64) -> Option<Spread>
 /// What stands behind all attributes in front, where the numbers of their names rise, or rise in a few
 /// stretches each of which is below the earlier ones, so that none stands twice.
 #[tactic(auto, using(crate::proofs::Shorter::pairs_next, crate::proofs::Shorter::pairs_none, crate::proofs::Rising::spread_differ))]
+#[inline(never)]
 fn behind_rising(text: &[u8]) -> Option<&[u8]>
     ensures rest { IfSome result (λ r. r.now ≡ (pairs text.now).1) }
     ensures distinct { IfSome result (λ r. is_distinct (pairs text.now).0 ≡ true) }
