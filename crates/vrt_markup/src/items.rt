@@ -7,8 +7,8 @@ ghost use Rattle.vrt_markup.specs.Items.{is_name, is_some, strip, is_white, trim
 ghost use Rattle.vrt_markup.specs.Items.{name_at, byte_at, after_comment, entity_at, ends_at, plain_len, spaces_at};
 ghost use Rattle.vrt_markup.specs.Items.{quote_at, value_at, pair_at, is_equal, begins, pairs, attribute, is_distinct};
 ghost use Rattle.vrt_markup.specs.Items.{tag_end, tag_front, tag_item, tag_at, close_at, run_at, item_at};
-ghost use Rattle.vrt_markup.specs.Keys.{last_bytes, key_of, number_of, apart, double_from, double_of};
-ghost use Rattle.vrt_markup.specs.Views.{pair_view, tag_view, Finds, Shortens};
+ghost use Rattle.vrt_markup.specs.Keys.{last_bytes, key_of, number_of, apart, double_from, double_of, spread_with};
+ghost use Rattle.vrt_markup.specs.Views.{pair_view, spread_view, tag_view, Finds, Shortens};
 
 use crate::tag::Tag;
 use std::alloc::{AllocError, Global};
@@ -34,6 +34,7 @@ pub fn is_white(c: u8) -> bool
     c == b' ' || (9 <= c && c <= 13)
 }
 
+#[inline(never)]
 fn white_len(text: &[u8]) -> usize
     ensures count { result ≡ prefix_len is_white text.now }
     ensures bound { result ≤ length text.now }
@@ -250,6 +251,7 @@ pub struct Pair<'a> {
 
 /// An attribute in front, and what stands behind it.
 #[tactic(auto, unfolding(crate::specs::Items::pair_at))]
+#[inline(always)]
 fn pair_at(text: &[u8]) -> Option<(Pair, &[u8])>
     ensures pair { option_map (λ x. (pair_view x.0, x.1.now)) result ≡ pair_at text.now }
     ensures shorter { IfSome result (λ x. length x.1.now < length text.now) }
@@ -501,22 +503,53 @@ fn tag_front<'a>(
     Ok(Some((tag, rest, numbers)))
 }
 
-/// What stands behind all attributes in front, where the numbers of their names rise from each one to the
-/// next, so that none stands twice.
-#[tactic(auto, using(crate::proofs::Shorter::pairs_next, crate::proofs::Shorter::pairs_none, crate::proofs::Rising::rising_differ))]
+/// What is kept of numbers that differ: each of them is one from `low` to `last`, or one from `top` on.
+#[derive(Clone, Copy)]
+struct Spread {
+    low: u64,
+    last: u64,
+    top: u64,
+}
+
+// The numbers with one more, where it is less than all of them, or more than those up to `last` and less than
+// those from `top` on.
+fn spread_with(spread: Spread, number: u64) -> Option<Spread>
+    ensures spread { option_map spread_view result ≡ spread_with (spread_view spread) number }
+{
+    if number < spread.low {
+        return Some(Spread {
+            low: number,
+            last: number,
+            top: spread.low,
+        });
+    }
+    if number <= spread.last || number >= spread.top {
+        return None;
+    }
+    Some(Spread {
+        low: spread.low,
+        last: number,
+        top: spread.top,
+    })
+}
+
+/// What stands behind all attributes in front, where the numbers of their names rise, or rise in a few
+/// stretches each of which is below the earlier ones, so that none stands twice.
+#[tactic(auto, using(crate::proofs::Shorter::pairs_next, crate::proofs::Shorter::pairs_none, crate::proofs::Rising::spread_differ))]
+#[inline(never)]
 fn behind_rising(text: &[u8]) -> Option<&[u8]>
     ensures rest { IfSome result (λ r. r.now ≡ (pairs text.now).1) }
     ensures distinct { IfSome result (λ r. is_distinct (pairs text.now).0 ≡ true) }
     ensures shorter { IfSome result (λ r. length r.now ≤ length text.now) }
 {
-    let mut last = 0;
+    let mut spread = Spread {
+        low: u64::MAX,
+        last: u64::MAX,
+        top: u64::MAX,
+    };
     let mut rest = text;
     while let Some((pair, more)) = pair_at(rest) {
-        let number = last_bytes(pair.name);
-        if number <= last {
-            return None;
-        }
-        last = number;
+        spread = spread_with(spread, last_bytes(pair.name))?;
         rest = more;
     }
     Some(rest)
