@@ -1,13 +1,10 @@
 -- Powers of ten in a table, and numbers that they scale up to a limit.
-use Rattle.std.proofs.Common.{◌≡◌, ◌≢◌, ℕ, suc, zero, ◌+◌, ◌-◌, ◌*◌, ◌^◌, ◌<◌, ◌≤◌, List, [], ◌∷◌, ◌++◌, length, get_or, take, Bool, true, false, min, arith, refl, ap, ◌∙◌, sym, subst, ⊎_elim}
+use Rattle.std.proofs.Common.{◌≡◌, ◌≢◌, ℕ, suc, zero, ◌+◌, ◌-◌, ◌*◌, ◌^◌, ◌<◌, ◌≤◌, List, [], ◌∷◌, length, get_or, Bool, true, false, min, arith, refl, ap, ◌∙◌, sym, ⊎_elim}
 use Rattle.std.specs.Prelude.{◌&&◌, ◌==◌}
-use Rattle.std.specs.List.{fold}
 use Rattle.std.proofs.Math.Nat.{add-mul, mul-le-mul_right, mul-le-mul_left, pow-le-pow_right, one-le-pow}
 use Rattle.std.proofs.lemmas.Nat.{pow-add}
 use Rattle.std.proofs.lemmas.Bool.{cases_lt}
 use Rattle.std.proofs.lemmas.Bool.Decides.{nat_tests}
-use Rattle.std.proofs.lemmas.List.Sums.{fold-append}
-use Rattle.geotransform.specs.Decimal.{number}
 
 and_left : (a b : Bool) → (a && b) ≡ true → a ≡ true
 and_left true b h = refl
@@ -84,18 +81,3 @@ capped_first m k c =
 
 pub cap_small : (most : ℕ) → most ≤ 28 → 10 ^ most ≤ 10 ^ 30
 cap_small most small = let less : most ≤ 30 = omega arith in pow-le-pow_right (omega arith) less
-
-abbrev step : ℕ → ℕ → ℕ
-step n c = n * 10 + (c - 48)
-
--- numbers that are the same up to a limit stay so with further digits
-fold_capped : (a b c : ℕ) (xs : List ℕ) → min a c ≡ min b c → min (fold step a xs) c ≡ min (fold step b xs) c
-fold_capped a b c [] same = same
-fold_capped a b c (x ∷ xs) same = fold_capped (step a x) (step b x) c xs (omega arith)
-
--- the number of all digits, where it stays below a limit
-pub few_are : (w f : List ℕ) (a r c : ℕ) → min a c ≡ min (number w) c → min r c ≡ min (fold step a f) c → r < c → r ≡ number (w ++ f)
-few_are w f a r c front all less =
-    let same : min r c ≡ min (fold step (number w) f) c = all ∙ fold_capped a (number w) c f front in
-    let is : r ≡ fold step (number w) f = omega arith in
-    is ∙ sym (fold-append step 0 w f)
