@@ -96,9 +96,8 @@ fn units_step(n: u32) -> Step
     Step::new(u128::from(n) * 180_000_000_000_000_000)
 }
 
-// A size of a pixel that any text writes, in a function of its own: what powers of ten need on the stack isn't made
-// for digits alone.
-#[inline(never)]
+// A size of a pixel that any text writes.
+#[inline(always)]
 #[tactic(auto, unfolding(crate::specs::Values::step_in))]
 fn decimal_step(at: u64, text: &[u8]) -> Result<Step, GridFault>
     ensures { result ≡ step_in at text.now }
