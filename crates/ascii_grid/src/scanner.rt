@@ -149,8 +149,8 @@ impl Scanner {
         self.held.pass_white(white.len());
     }
 
-    // Takes a key and its value, with the white space behind them, where that is what stands in front and no token is
-    // open. How many bytes it took, 0 where something else stands there.
+    // Takes a key and its value with a byte of white space behind them, or else the white space in front, where no
+    // token is open. How many bytes it took, 0 where something else stands there.
     fn add_pair(&mut self, bytes: &[u8]) -> usize
         ensures within { result ≤ length bytes.now }
         ensures state { self.new ≡ fed self.old (take result bytes.now) }
@@ -171,11 +171,16 @@ impl Scanner {
                 }
                 return pair.end + 1;
             }
+            let n = white_len(bytes);
+            if n > 0 {
+                self.add_white(&bytes[..n]);
+                return n;
+            }
         }
         0
     }
 
-    // Takes keys and their values, with the white space behind them, as long as they stand in front, in a function of
+    // Takes keys and their values, and all white space behind them, as long as they stand in front, in a function of
     // its own: what they need in registers isn't taken from the body's values. How many bytes it took.
     #[inline(never)]
     fn add_pairs(&mut self, bytes: &[u8]) -> usize

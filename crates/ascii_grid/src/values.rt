@@ -4,7 +4,8 @@ ghost use Rattle.std.specs.Prelude.{◌*◌, ◌==◌, min, Some, None, if◌the
 ghost use Rattle.std.specs.List.{list_all};
 ghost use Rattle.std.specs.Char.{is_ascii_digit};
 ghost use Rattle.geotransform.specs.Decimal.{IsRead, number, signed, ticks_of};
-ghost use Rattle.ascii_grid.specs.Values.{is_body_start, side_in, coordinate_in, step_in, when_value, nodata_in};
+ghost use Rattle.ascii_grid.specs.Values.{is_body_start, side_in, coordinate_in, step_in, when_value};
+ghost use Rattle.ascii_grid.specs.Values.{nodata_in, other_nodata};
 ghost use Rattle.ascii_grid.specs.Values.{is_whole_end, value_in, is_value, has_value};
 ghost use Rattle.ascii_grid.specs.Tokens.{is_white};
 ghost use Rattle.ascii_grid.specs.Row.{value_or_zero};
@@ -96,9 +97,8 @@ fn units_step(n: u32) -> Step
     Step::new(u128::from(n) * 180_000_000_000_000_000)
 }
 
-// A size of a pixel that any text writes, in a function of its own: what powers of ten need on the stack isn't made
-// for digits alone.
-#[inline(never)]
+// A size of a pixel that any text writes.
+#[inline(always)]
 #[tactic(auto, unfolding(crate::specs::Values::step_in))]
 fn decimal_step(at: u64, text: &[u8]) -> Result<Step, GridFault>
     ensures { result ≡ step_in at text.now }
@@ -133,15 +133,25 @@ fn when_value(n: Option<i128>) -> Option<Value>
     }
 }
 
+// A NODATA that is no whole number.
+fn other_nodata(at: u64, text: &[u8]) -> Result<Option<Value>, GridFault>
+    ensures { result ≡ other_nodata at text.now }
+{
+    if is_decimal(text) || same_letters(text, b"nan") {
+        Ok(None)
+    } else {
+        Err(GridFault::BadToken(at))
+    }
+}
+
 /// A NODATA.
-#[tactic(auto, unfolding(crate::specs::Values::nodata_in))]
+#[tactic(auto, using(crate::proofs::NoData::whole_told, crate::proofs::NoData::other_told))]
 pub fn nodata_in(at: u64, text: &[u8]) -> Result<Option<Value>, GridFault>
     ensures { result ≡ nodata_in at text.now }
 {
-    if is_decimal(text) || same_letters(text, b"nan") {
-        Ok(when_value(read_whole(text)))
-    } else {
-        Err(GridFault::BadToken(at))
+    match read_whole(text) {
+        Some(n) => Ok(when_value(Some(n))),
+        None => other_nodata(at, text),
     }
 }
 
