@@ -65,10 +65,6 @@ abbrev pub row_text : List ℤ → List ℕ
 row_text [] = 10 ∷ []
 row_text (x ∷ xs) = signed_decimal x ++ (flat_map more_text xs ++ 10 ∷ [])
 
--- what a call added at the end
-pub record Adds (old new text : List ℕ) : Type 0 where
-  pub all : new ≡ old ++ text
-
 -- rows of values of the band, all of this length
 pub record AreRows (w : ℕ) (rows : List (List ℤ)) : Type 0 where
   pub long : All (λ row. length row ≡ w) rows
