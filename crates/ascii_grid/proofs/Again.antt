@@ -29,8 +29,8 @@ use Rattle.ascii_grid.specs.declared.head_parts.LowerLeft.TheVariants.{Edge}
 use Rattle.ascii_grid.specs.declared.head_parts.Key.{Key}
 use Rattle.ascii_grid.specs.declared.head_parts.Key.TheVariants.{Ncols, Nrows, Xllcorner, Yllcorner, Cellsize, Dx, Dy, Nodata}
 use Rattle.ascii_grid.specs.declared.placing.Placing.{Placing}
-use Rattle.ascii_grid.specs.Tokens.{Token, tokens_from, tokens, token, is_white, is_dark, next}
-use Rattle.lists_and_answers.specs.Texts.{same_letters}
+use Rattle.ascii_grid.specs.Tokens.{Token, tokens_from, tokens, token, is_dark, next}
+use Rattle.lists_and_answers.specs.Texts.{same_letters, is_white}
 use Rattle.lists_and_answers.specs.Lists.{flattened}
 use Rattle.ascii_grid.specs.Values.{side_in, coordinate_in, step_in, nodata_in, when_value, is_body_start, value_in, is_value, is_whole_text, is_whole_end, whole_value}
 use Rattle.ascii_grid.specs.Keys.{key_of, with_value, steps_of, placed, shape_of}
