@@ -5,8 +5,8 @@ use Rattle.std.specs.Str.{bytes_eq}
 use Rattle.std.proofs.lemmas.List.{take_more}
 use Rattle.std.proofs.lemmas.List.Elements.{Contains-append_cases, Contains-append_left, Contains-append_right, Contains-push_cases}
 use Rattle.std.proofs.lemmas.Slice.Eq.{bytes_eq-Decides}
-use Rattle.lists_and_answers.specs.Lists.{is_among}
-use Rattle.outside.specs.Memory.{with_name, names_with}
+use Rattle.lists_and_answers.specs.Lists.{is_among, with_name}
+use Rattle.outside.specs.Memory.{names_with}
 use Rattle.outside.specs.declared.memory.Stored.{Stored}
 
 or_right : (a b : Bool) → b ≡ true → (a || b) ≡ true
