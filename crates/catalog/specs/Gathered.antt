@@ -20,4 +20,5 @@ pub record HasGathered (own : List ℕ) (names : List (List ℕ)) (g : Gathered)
 
 -- the name of a source, if it has one, is that of one of the sources before it
 abbrev pub IsThere : List ℕ → List SourceValue → SourceValue → Type 0
-IsThere base before s = IfSome (source_name base s) (λ name. is_among (filter_map (source_name base) before) name ≡ true)
+IsThere base before s = IfSome (source_name base s)
+    (λ name. is_among (filter_map (source_name base) before) name ≡ true)

@@ -1,6 +1,6 @@
 -- Rasters whose outer pixels have their centres at whole degrees one apart.
-use Rattle.std.specs.Prelude.{ℕ, ℤ, pos, neg_ℤ, ◌+ℤ◌, ◌-ℤ◌, ◌*ℤ◌, ◌-◌, ◌*◌, ◌≤◌, Bool, ◌&&◌, Option, Some, None, Result, Ok, Err, nat_le}
-use Rattle.std.specs.Prelude.{int_lt, int_le, if◌then◌else◌, unsigned_abs}
+use Rattle.std.specs.Prelude.{ℕ, ℤ, pos, neg_ℤ, ◌+ℤ◌, ◌-ℤ◌, ◌*ℤ◌, ◌-◌, ◌*◌, ◌≤◌, Bool, ◌&&◌, Option, Some, None, Result}
+use Rattle.std.specs.Prelude.{Ok, Err, nat_le, int_lt, int_le, if◌then◌else◌, unsigned_abs}
 use Rattle.lists_and_answers.specs.Options.{◌>>=◌}
 use Rattle.geotransform.specs.Print.{unit}
 use Rattle.geotransform.specs.Places.{floor_of}
