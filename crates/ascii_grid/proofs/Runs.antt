@@ -3,11 +3,12 @@ use Rattle.std.proofs.Common.{◌≡◌, ℕ, zero, suc, true, false, List, [], 
 use Rattle.std.proofs.lemmas.Bool.{lt-ltb}
 use Rattle.std.proofs.lemmas.List.{append-nil, take_more, take_all, take_rest}
 use Rattle.lists_and_answers.specs.Answers.{◌>>=◌}
+use Rattle.lists_and_answers.specs.Texts.{is_white}
 use Rattle.std.specs.Prelude.{is_some}
 use Rattle.ascii_grid.specs.declared.faults.GridFault.{GridFault}
 use Rattle.ascii_grid.specs.declared.faults.GridFault.TheVariants.{Memory}
 use Rattle.ascii_grid.specs.declared.head_parts.Stage.{Stage}
-use Rattle.ascii_grid.specs.Tokens.{is_white, next}
+use Rattle.ascii_grid.specs.Tokens.{next}
 use Rattle.ascii_grid.specs.Scan.{Scanned, State, Open, Read, Reaches, fed, add_byte, add_token, is_open, passed_over, scanned, with_read}
 use Rattle.ascii_grid.specs.Row.{Row, Reading, row_byte, row_fed, put}
 use Rattle.std.proofs.lemmas.List.Sums.{fold-append}

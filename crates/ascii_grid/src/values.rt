@@ -3,11 +3,11 @@ ghost use Rattle.std.specs.Prelude.{◌≡◌, ◌≤◌, ◌<◌, ℕ, ℤ, pos
 ghost use Rattle.std.specs.Prelude.{◌*◌, ◌==◌, min, Some, None, if◌then◌else◌};
 ghost use Rattle.std.specs.List.{list_all};
 ghost use Rattle.std.specs.Char.{is_ascii_digit};
+ghost use Rattle.lists_and_answers.specs.Texts.{is_white};
 ghost use Rattle.geotransform.specs.Decimal.{IsRead, number, signed, ticks_of};
 ghost use Rattle.ascii_grid.specs.Values.{is_body_start, side_in, coordinate_in, step_in, when_value};
 ghost use Rattle.ascii_grid.specs.Values.{nodata_in, other_nodata};
 ghost use Rattle.ascii_grid.specs.Values.{is_whole_end, value_in, is_value, has_value};
-ghost use Rattle.ascii_grid.specs.Tokens.{is_white};
 ghost use Rattle.ascii_grid.specs.Row.{value_or_zero};
 
 use crate::faults::GridFault;

@@ -4,6 +4,7 @@ use Rattle.std.specs.Prelude.{◌++◌, length, All, bytes_eq, slice_get, Option
 use Rattle.std.specs.Prelude.{Err, nat_lt, if◌then◌else◌}
 use Rattle.std.specs.List.{sum_by}
 use Rattle.lists_and_answers.specs.Answers.{◌>>=◌}
+use Rattle.lists_and_answers.specs.Lists.{is_among}
 use Rattle.outside.specs.Outside.{Files}
 use Rattle.geotransform.specs.Types.{bytes_of}
 use Rattle.vrt_profile.specs.Value.{is_plain}
@@ -16,7 +17,7 @@ use Rattle.catalog.specs.declared.driver.Content.{Content}
 use Rattle.catalog.specs.declared.driver.Content.TheVariants.{File, Mosaic}
 use Rattle.catalog.specs.Dataset.{IsDatasetHead, band_at, band_count, most_datasets}
 use Rattle.catalog.specs.Drivers.{Dataset, content_head, Fits}
-use Rattle.catalog.specs.Mosaics.{sources_of, is_among}
+use Rattle.catalog.specs.Mosaics.{sources_of}
 use Rattle.catalog.specs.Heads.{kind_in, dataset_by, dataset_in, resolved}
 use Rattle.catalog.specs.declared.faults.Bad.TheVariants as bad
 use Rattle.catalog.specs.declared.faults.LimitKind.TheVariants as limits

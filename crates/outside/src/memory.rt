@@ -2,10 +2,11 @@
 ghost use Rattle.std.specs.Prelude.{◌≡◌, ◌≤◌, ◌+◌, ◌-◌, ◌↔◌, [], length, List, ℕ, Some, None, Contains, IfOk, OnOk};
 ghost use Rattle.std.specs.Prelude.{OnErr, IsErr, IsErrOf, IsSome, IsTrue, option_map};
 ghost use Rattle.std.specs.FinMap as map;
+ghost use Rattle.lists_and_answers.specs.Lists.{with_name};
 ghost use Rattle.outside.specs.Causes.{HasCause, FailsWith, Absorbed, CountsWhere, one_more, added};
 ghost use Rattle.outside.specs.Memory.{files_of, newest, AreNames, AreApart, names_of, reads_of, writes_of};
 ghost use Rattle.outside.specs.Memory.{schedule_of, drafts_of, drafts_more, file_bytes_of, file_len_of};
-ghost use Rattle.outside.specs.Memory.{draft_name_of, draft_bytes_of, draft_len_of, names_with, with_name, came_of};
+ghost use Rattle.outside.specs.Memory.{draft_name_of, draft_bytes_of, draft_len_of, names_with, came_of};
 ghost use Rattle.outside.specs.Outside.{Files, WithFile, IsUnder, Opened, IsLong, NotThere, Reads, Created, Grown};
 ghost use Rattle.outside.specs.Outside.{Written, Appended, Published, ChangesOnly, IsView};
 ghost use Rattle.outside.specs.declared.folder.OpenFault.TheVariants as open_fault;

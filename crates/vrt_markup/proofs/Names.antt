@@ -11,8 +11,9 @@ use Rattle.std.proofs.lemmas.List.{map-append, append_assoc}
 use Rattle.std.proofs.lemmas.List.Kept.{IsStrictlySortedBy-dedup}
 use Rattle.std.proofs.lemmas.List.Sorted.{IsPermutation-sym, length_permutation}
 use Rattle.std.proofs.lemmas.Map.Keys.{IsDistinct-from_sorted, IsDistinct-IsPermutation, IsDistinct-head, IsDistinct-tail, IsDistinct-cons}
-use Rattle.vrt_markup.specs.Items.{Pair, attribute, is_distinct, is_equal, is_some, is_white, spaces_at, pair_at, pairs, name_at, byte_at, value_at, trim_front, tag_end, tag_front, tag_at, Tag}
+use Rattle.vrt_markup.specs.Items.{Pair, attribute, is_distinct, is_equal, is_some, spaces_at, pair_at, pairs, name_at, byte_at, value_at, trim_front, tag_end, tag_front, tag_at, Tag}
 use Rattle.lists_and_answers.specs.Options.{◌>>=◌}
+use Rattle.lists_and_answers.specs.Texts.{is_white}
 use Rattle.vrt_markup.specs.Keys.{key_of, last_bytes, number_of, apart, double_from, double_of}
 use Rattle.vrt_markup.proofs.Shorter.{pairs_next, pairs_none}
 

@@ -2,7 +2,8 @@
 ghost use Rattle.std.specs.Prelude.{◌≡◌, ℕ, true, IfSome, ◌<◌, ◌≤◌, ◌-◌, ◌++◌, [], length, IfOk, OnOk, Result, Ok};
 ghost use Rattle.std.specs.Prelude.{Option, None, Some};
 ghost use Rattle.std.specs.List.{prefix_len};
-ghost use Rattle.vrt_markup.specs.Items.{is_white, is_name};
+ghost use Rattle.lists_and_answers.specs.Texts.{is_white};
+ghost use Rattle.vrt_markup.specs.Items.{is_name};
 ghost use Rattle.vrt_markup.specs.Keys.{is_plain};
 ghost use Rattle.vrt_markup.specs.Forest.{nodes, inner, is_blank, plain_at, decoded, read_as};
 ghost use Rattle.vrt_markup.specs.Views.{tag_view, text_view, plain_text};

@@ -13,9 +13,10 @@ use Rattle.std.proofs.lemmas.Nat.{pow-add}
 use Rattle.std.proofs.Math.Nat.{add-mul, mul_assoc, mul-le-mul_right}
 use Rattle.std.specs.Prelude.{◌+ℤ◌, ◌-ℤ◌}
 use Rattle.lists_and_answers.specs.Options.{◌>>=◌}
+use Rattle.lists_and_answers.specs.Texts.{is_white}
 use Rattle.geotransform.specs.Decimal.{number, scaled, signed, sign_at, digits_at, fraction_at, exponent_of, Decimal, parts_of, places_of, near_at, magnitude, magnitude_at}
 use Rattle.geotransform.proofs.Numbers.{number_short, number-append}
-use Rattle.vrt_markup.specs.Items.{is_white, option_case}
+use Rattle.vrt_markup.specs.Items.{option_case}
 use Rattle.vrt_profile.specs.Fields.{length_before, cut_by, cut_at, first_piece, trim, trim_end, near_by, near_number, pair_of}
 use Rattle.vrt_profile.specs.Fronts.{is_inner, DigitsFront, FractionFront, DecimalFront, MicrosFront, PairFront}
 use Rattle.vrt_profile.specs.declared.rectangle.LutPair.{LutPair}
