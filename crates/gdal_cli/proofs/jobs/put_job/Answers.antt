@@ -149,7 +149,7 @@ pub returns-in-Synth-clause-quiet : goal.returns-in-Synth-clause-quiet
 returns-in-Synth-clause-quiet g c = λ quiet. absurd (true≢false (sym quiet ∙ ap (λ (j : Job). is_quiet j) c.in-Synth.is))
 
 pub returns-in-Translate-clause-quiet : goal.returns-in-Translate-clause-quiet
-returns-in-Translate-clause-quiet g c = λ quiet. c.put_translated.ensures.quiet (sym (ap (λ (j : Job). is_quiet j) c.in-Translate.is) ∙ quiet)
+returns-in-Translate-clause-quiet g c = λ quiet. c.put_translated.ensures.quiet (rw c.in-Translate.is (sym (ap (λ (j : Job). is_quiet j) c.in-Translate.is) ∙ quiet))
 
 pub returns-in-Build-clause-quiet : goal.returns-in-Build-clause-quiet
-returns-in-Build-clause-quiet g c = λ quiet. c.put_build.ensures.quiet (sym (ap (λ (j : Job). is_quiet j) c.in-Build.is) ∙ quiet)
+returns-in-Build-clause-quiet g c = λ quiet. c.put_build.ensures.quiet (rw c.in-Build.is (sym (ap (λ (j : Job). is_quiet j) c.in-Build.is) ∙ quiet))
