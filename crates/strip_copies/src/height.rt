@@ -7,6 +7,7 @@ ghost use Rattle.strip_copies.specs.Heights.{is_shared, is_tall, is_woven, lines
 ghost use Rattle.strip_copies.specs.Heights.{lines_held, lines_near, most_lines, strip_height, most_samples};
 ghost use Rattle.strip_copies.specs.Heights.{square_lines};
 ghost use Rattle.geotransform.specs.Limits.{most_side};
+ghost use Rattle.lane_teams.specs.Workers.{most_workers};
 
 use crate::making::area;
 use crate::shares::{FEWEST_COPIED, FEWEST_MADE};
@@ -200,7 +201,7 @@ fn lines_alone(translation: &Translation) -> u32
 // So many lines for each of so many workers.
 fn lines_of_all(each: u32, workers: u32) -> u32
     requires lines { each ≤ square_lines }
-    requires workers { workers ≤ 16 }
+    requires workers { workers ≤ most_workers }
     requires any { 1 ≤ each }
     requires some { 1 ≤ workers }
     ensures lines { result ≡ each * workers }
