@@ -2,7 +2,7 @@
 ghost use Rattle.std.specs.Prelude.{◌≡◌, ℕ, ◌<◌, ◌≤◌, ◌-◌, length, IfOk, Result, Ok, true};
 ghost use Rattle.vrt_markup.specs.Items as items;
 ghost use Rattle.vrt_markup.specs.Items.{is_name};
-ghost use Rattle.vrt_markup.specs.Forest.{Forest, nodes, inner, read_as};
+ghost use Rattle.vrt_markup.specs.Forest.{Forest, deepest, nodes, inner, read_as};
 ghost use Rattle.vrt_markup.specs.Views.{tag_view};
 ghost use Rattle.vrt_markup.specs.Kept.{Gives, seen, stepped, kept_of};
 ghost use Rattle.vrt_markup.specs.declared.fault.VrtFault.{VrtFault};
@@ -10,7 +10,7 @@ ghost use Rattle.vrt_markup.specs.declared.fault.VrtFault.{VrtFault};
 use crate::ends::own_end;
 use crate::fault::VrtFault;
 use crate::items::{Item, is_equal, item_at};
-use crate::past::past_element;
+use crate::past::{DEEPEST, past_element};
 use crate::tag::Tag;
 use crate::text::is_blank;
 use std::alloc::Global;
@@ -43,7 +43,7 @@ pub trait Parts {
         bytes: &'a [u8],
     ) -> Result<(Result<(), VrtFault>, &'a [u8]), VrtFault>
         requires within { length bytes.now ≤ level.total }
-        requires depth { level.depth < 64 }
+        requires depth { level.depth < deepest }
         ensures child { Gives (λ x. (kept_of (value self.new) x.0, x.1.now)) result
             (read_as (step self.old (value self.old) place (tag_view tag.entry))
             (inner level.total level.depth (tag_view tag.entry) bytes.now)) }
@@ -69,7 +69,7 @@ fn next_child<'a, P: Parts>(
     bytes: &'a [u8],
 ) -> Result<(Result<(), VrtFault>, &'a [u8]), VrtFault>
     requires within { length bytes.now ≤ level.total }
-    requires depth { level.depth < 64 }
+    requires depth { level.depth < deepest }
     ensures child { Gives (λ x. (kept_of (P.value parts.new) x.0, x.1.now)) result
         (read_as (stepped (P.step parts.old) (kept_of (P.value parts.old) kept) place (tag_view tag.entry))
         (inner level.total level.depth (tag_view tag.entry) bytes.now)) }
@@ -95,7 +95,7 @@ fn child_nodes<'a, P: Parts>(
     bytes: &'a [u8],
 ) -> Result<(Seen, &'a [u8]), VrtFault>
     requires within { length bytes.now ≤ level.total }
-    requires depth { level.depth ≤ 64 }
+    requires depth { level.depth ≤ deepest }
     requires named { is_name name.now ≡ true }
     ensures seen { Gives (λ x. ((kept_of (P.value parts.new) x.0.kept, x.0.blank), x.1.now)) result
         (read_as (seen (P.step parts.old) (Ok (P.value parts.old)) true)
@@ -122,7 +122,7 @@ fn child_nodes<'a, P: Parts>(
             Item::Close(other, more) if is_equal(other, name) => return Ok((seen, more)),
             Item::Bad => return Err(VrtFault::BadText(place)),
             Item::Close(_, _) => return Err(VrtFault::BadText(place)),
-            Item::Open(_, _) if level.depth >= 64 => return Err(VrtFault::Limit),
+            Item::Open(_, _) if level.depth >= DEEPEST => return Err(VrtFault::Limit),
             Item::Open(tag, more) => {
                 match next_child(alloc, level, seen.kept, place, parts, tag, more) {
                     Ok((kept, behind)) => {
@@ -146,7 +146,7 @@ pub fn children_of<'a, P: Parts>(
     bytes: &'a [u8],
 ) -> Result<(Seen, &'a [u8]), VrtFault>
     requires within { length bytes.now ≤ level.total }
-    requires depth { level.depth < 64 }
+    requires depth { level.depth < deepest }
     ensures seen { Gives (λ x. ((kept_of (P.value parts.new) x.0.kept, x.0.blank), x.1.now)) result
         (read_as (seen (P.step parts.old) (Ok (P.value parts.old)) true)
         (inner level.total level.depth (tag_view tag.entry) bytes.now)) }
