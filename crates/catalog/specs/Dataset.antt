@@ -12,6 +12,10 @@ use Rattle.geotransform.specs.Limits.{most_bands}
 abbrev pub most_datasets : ℕ
 most_datasets = 65536
 
+-- The most mosaics on a path, on which a source of each names the next.
+abbrev pub most_nestings : ℕ
+most_nestings = 16
+
 -- a dataset: its name and kind, its raster, its bands in order, and the names of its own files
 pub record DatasetHead : Type 0 where
   pub name : List ℕ

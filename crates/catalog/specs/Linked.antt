@@ -10,7 +10,7 @@ use Rattle.catalog.specs.declared.driver.Content.{Content}
 use Rattle.catalog.specs.declared.driver.Content.TheVariants.{File, Mosaic}
 use Rattle.catalog.specs.declared.faults.WalkFault.TheVariants.{TooDeep}
 use Rattle.catalog.specs.declared.links.Link.{Link}
-use Rattle.catalog.specs.Dataset.{band_at, band_count, most_datasets}
+use Rattle.catalog.specs.Dataset.{band_at, band_count, most_datasets, most_nestings}
 use Rattle.catalog.specs.Drivers.{Dataset}
 use Rattle.catalog.specs.Mosaics.{source_name}
 use Rattle.catalog.specs.Walk.{Met, again, is_narrow_band, number_of, sources_among, IsDataset, IsApart, IsCatalog}
@@ -91,7 +91,7 @@ IsLinkOf st name (Mosaic doc) l = IsMosaicLink st name doc l
 -- the link of a dataset
 pub record IsLink (st : State) (d : Dataset) (l : Link) : Type 0 where
   pub content : IsLinkOf st d.head.name d.content l
-  pub shallow : l.height ≤ 16
+  pub shallow : l.height ≤ most_nestings
 
 -- what a walk keeps of what it has met, at any time
 pub record IsLinked (st : State) : Type 0 where

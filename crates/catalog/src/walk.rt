@@ -4,6 +4,7 @@ ghost use Rattle.std.specs.Prelude.{IfOk, IfErr, OnOk};
 ghost use Rattle.lists_and_answers.specs.Answers.{Gives};
 ghost use Rattle.outside.specs.Outside.{Files};
 ghost use Rattle.catalog.specs.Outcomes.{IsMemory};
+ghost use Rattle.catalog.specs.Dataset.{most_nestings};
 ghost use Rattle.catalog.specs.Mosaics.{sources_of};
 ghost use Rattle.catalog.specs.Heads.{kind_in, resolved};
 ghost use Rattle.catalog.specs.Drivers.{Dataset as Known};
@@ -185,7 +186,7 @@ fn meet_first<F: Folder>(
     name: &Name,
 ) -> Result<Meeting, WalkFault>
     requires linked { IsLinked met.old }
-    requires room { room ≤ 16 }
+    requires room { room ≤ most_nestings }
     requires kind { kind_in name.now ≡ Ok kind }
     requires shallow { room_for room kind name.now ≡ Ok tt }
     requires fresh { number_of met.old.datasets name.now ≡ None }
@@ -218,7 +219,7 @@ fn meet<F: Folder>(
     name: &Name,
 ) -> Result<Meeting, WalkFault>
     requires linked { IsLinked met.old }
-    requires room { room ≤ 16 }
+    requires room { room ≤ most_nestings }
     ensures meets { Meets verify room name.now (seen (F.names folder.old) (F.write_calls folder.old)
         (F.read_calls folder.old) (F.faults folder.old)) (seen (F.names folder.new) (F.write_calls folder.new)
         (F.read_calls folder.new) (F.faults folder.new)) met.old met.new result }
@@ -248,7 +249,7 @@ fn visit_source<F: Folder>(
     at: SourceAt,
 ) -> Result<u32, WalkFault>
     requires linked { IsLinked met.old }
-    requires room { room < 16 }
+    requires room { room < most_nestings }
     requires there { HasSource met.old at.id at.band at.source }
     ensures passes { (w : HasSource met.old at.id at.band at.source) → Passes verify room w.of.mosaic.dataset.head.name
         (w.value ∷ []) (seen (F.names folder.old) (F.write_calls folder.old) (F.read_calls folder.old)
@@ -274,7 +275,7 @@ fn visit_band<F: Folder>(
     band: usize,
 ) -> Result<Members, WalkFault>
     requires linked { IsLinked met.old }
-    requires room { room < 16 }
+    requires room { room < most_nestings }
     requires there { HasBand met.old id band }
     ensures passes { (w : HasBand met.old id band) → Passes verify room w.mosaic.dataset.head.name w.value.sources
         (seen (F.names folder.old) (F.write_calls folder.old) (F.read_calls folder.old) (F.faults folder.old))
@@ -302,7 +303,7 @@ fn visit_bands<F: Folder>(
     id: u32,
 ) -> Result<Items<Members>, WalkFault>
     requires linked { IsLinked met.old }
-    requires room { room < 16 }
+    requires room { room < most_nestings }
     requires there { IsMosaicAt met.old id }
     ensures passes { (w : IsMosaicAt met.old id) → Passes verify room w.dataset.head.name (sources_of w.document)
         (seen (F.names folder.old) (F.write_calls folder.old) (F.read_calls folder.old) (F.faults folder.old))
@@ -330,7 +331,7 @@ pub fn visit<F: Folder>(
     name: &Name,
 ) -> Result<u32, WalkFault>
     requires linked { IsLinked met.old }
-    requires room { room ≤ 16 }
+    requires room { room ≤ most_nestings }
     ensures visits { Visits verify room name.now (seen (F.names folder.old) (F.write_calls folder.old)
         (F.read_calls folder.old) (F.faults folder.old)) (seen (F.names folder.new) (F.write_calls folder.new)
         (F.read_calls folder.new) (F.faults folder.new)) met.old met.new result }
