@@ -28,5 +28,6 @@ pub use faults::{Bad, LimitKind, WalkFault};
 pub use head::Head;
 pub use kind::{BandHead, Bands, Kind};
 pub use links::MOST_SOURCES;
+pub use mosaic_head::SQUARE_SIDE;
 pub use nodata::NodataWord;
 pub use own_files::head_of;
