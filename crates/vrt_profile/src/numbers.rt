@@ -15,13 +15,13 @@ ghost use Rattle.geotransform.specs.Limits.{most_side};
 use crate::fields::{Six, six_of, trim, whole_text};
 use crate::fronts::short_micros;
 use geotransform::{
-    BandNumber, GeoTransform, MOST_BANDS, MOST_SIDE, Ticks, read_places, read_whole,
+    BandNumber, FARTHEST, GeoTransform, MOST_BANDS, MOST_SIDE, Ticks, read_places, read_whole,
 };
 use std::marker::Model;
 use vrt_markup::VrtFault;
 
 /// The greatest offset of a rectangle in millionths of a pixel, to either side.
-const FARTHEST_MICROS: u128 = 8_388_608_000_000;
+const FARTHEST_MICROS: u128 = FARTHEST as u128 * 1_000_000;
 
 /// A NODATA, below 10^20 in magnitude.
 #[derive(Clone, Copy)]
