@@ -25,6 +25,7 @@ mod walk;
 pub use catalog::{Catalog, open_all};
 pub use driver::DriverHead;
 pub use faults::{Bad, LimitKind, WalkFault};
+pub use grid::PIECE_LEN;
 pub use head::Head;
 pub use kind::{BandHead, Bands, Kind};
 pub use links::MOST_SOURCES;
