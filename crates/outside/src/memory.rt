@@ -153,8 +153,8 @@ impl<P: Schedule> MemoryFolder<P> {
         ensures err { OnErr result (⟦<MemoryFolder<P> as Folder>⟧.names self.new ≡ ⟦<MemoryFolder<P> as Folder>⟧.names
             self.old) }
         ensures faults { ⟦<MemoryFolder<P> as Folder>⟧.faults self.new ≡ ⟦<MemoryFolder<P> as Folder>⟧.faults self.old }
-        ensures read_calls { ⟦<MemoryFolder<P> as Folder>⟧.read_calls self.new ≡ ⟦<MemoryFolder<P> as Folder>⟧.read_calls self.old }
-        ensures write_calls { ⟦<MemoryFolder<P> as Folder>⟧.write_calls self.new ≡ ⟦<MemoryFolder<P> as Folder>⟧.write_calls self.old }
+        ensures read_calls { reads_of self.new ≡ reads_of self.old }
+        ensures write_calls { writes_of self.new ≡ writes_of self.old }
         ensures schedule { schedule_of self.new ≡ schedule_of self.old }
         ensures drafts { drafts_of self.new ≡ drafts_of self.old }
         ensures came { OnOk result (came_of self.new ≡ with_name (came_of self.old) name.now) }
