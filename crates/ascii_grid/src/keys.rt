@@ -1,8 +1,7 @@
 // The keys of the head, and what they say.
-ghost use Rattle.std.specs.Prelude.{◌≡◌, ℤ, pos, neg_ℤ, ◌+ℤ◌, ◌<◌, ◌≤◌, ◌*◌, ◌/◌, ◌^◌, unsigned_abs, Ok, Err, IfSome};
+ghost use Rattle.std.specs.Prelude.{◌≡◌, ℤ, pos, neg_ℤ, ◌+ℤ◌, ◌<◌, ◌≤◌, ◌*◌, ◌/◌, ◌^◌, unsigned_abs, Ok, Err};
 ghost use Rattle.std.specs.Prelude.{IfErr, OnOk, ◌≢◌, length};
 ghost use Rattle.lists_and_answers.specs.Texts.{same_letters};
-ghost use Rattle.geotransform.specs.Geo.{IsTransform};
 ghost use Rattle.ascii_grid.specs.Keys.{key_of, with_value, edge_of, steps_of, placed, shape_of};
 ghost use Rattle.geotransform.specs.Limits.{most_side};
 

@@ -1,5 +1,5 @@
 // The token that is open while bytes come in pieces.
-ghost use Rattle.std.specs.Prelude.{◌≡◌, ℕ, ◌≤◌, ◌+◌, length, Bool, [], min};
+ghost use Rattle.std.specs.Prelude.{◌≡◌, ℕ, ◌≤◌, ◌+◌, [], min};
 ghost use Rattle.ascii_grid.specs.Scan.{Open, opened, passed, passed_over, is_open};
 
 use crate::tokens::next;

@@ -1,6 +1,6 @@
 // A folder in memory, whose calls fail where a schedule says so.
-ghost use Rattle.std.specs.Prelude.{◌≡◌, ◌≤◌, ◌+◌, ◌-◌, ◌↔◌, [], length, List, ℕ, Some, None, Contains, IfOk, OnOk};
-ghost use Rattle.std.specs.Prelude.{OnErr, IsErr, IsErrOf, IsSome, IsTrue, option_map};
+ghost use Rattle.std.specs.Prelude.{◌≡◌, ◌≤◌, ◌+◌, ◌-◌, ◌↔◌, [], length, ℕ, Some, None, Contains, IfOk, OnOk};
+ghost use Rattle.std.specs.Prelude.{OnErr, IsErr, IsErrOf, IsTrue, option_map};
 ghost use Rattle.std.specs.FinMap as map;
 ghost use Rattle.lists_and_answers.specs.Lists.{with_name};
 ghost use Rattle.outside.specs.Causes.{HasCause, FailsWith, Absorbed, CountsWhere, one_more, added};
