@@ -32,3 +32,4 @@ pub use links::MOST_SOURCES;
 pub use mosaic_head::SQUARE_SIDE;
 pub use nodata::NodataWord;
 pub use own_files::head_of;
+pub use walk::MOST_DATASETS;

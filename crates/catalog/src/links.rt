@@ -26,6 +26,9 @@ use vrt_profile::{Document, VrtBand};
 /// The most sources of all mosaics of a catalog: as many as one document has at most.
 pub const MOST_SOURCES: u32 = vrt_profile::MOST_SOURCES as u32;
 
+/// The number of the first source that is one too many.
+const TOO_MANY: u64 = MOST_SOURCES as u64 + 1;
+
 /// The numbers of the datasets that the sources of a band name, in order.
 pub type Members = Items<u32>;
 
@@ -241,7 +244,7 @@ impl Met {
         if self.sources >= MOST_SOURCES {
             return Err(WalkFault::Limit {
                 what: LimitKind::Sources,
-                value: 262_145,
+                value: TOO_MANY,
             });
         }
         self.sources += 1;

@@ -25,7 +25,10 @@ use std::alloc::Global;
 use vrt_profile::{VrtFault, resolve, resolved_len};
 
 /// The most datasets of a catalog.
-const MOST_DATASETS: u32 = 65_536;
+pub const MOST_DATASETS: u32 = 65_536;
+
+/// The number of the first dataset that is one too many.
+const TOO_MANY: u64 = MOST_DATASETS as u64 + 1;
 
 // How the visit of a name goes on: the dataset of this number was met whole, or it is a mosaic that was
 // met for the first time, and the walk goes through its sources.
@@ -197,7 +200,7 @@ fn meet_first<F: Folder>(
     if met.count() >= MOST_DATASETS {
         return Err(WalkFault::Limit {
             what: LimitKind::Files,
-            value: 65_537,
+            value: TOO_MANY,
         });
     }
     let dataset = read_dataset(alloc, folder, kind, name, verify)?;
