@@ -1,4 +1,5 @@
 pub mod Shorter
+pub mod StartTags
 pub mod Names
 pub mod Next
 pub mod EndTags

@@ -1,13 +1,13 @@
 // Elements that hold elements alone: what their children make of them, one after the other.
 ghost use Rattle.std.specs.Prelude.{◌≡◌, ℕ, ◌<◌, ◌≤◌, ◌-◌, length, IfOk, Result, Ok, true};
 ghost use Rattle.vrt_markup.specs.Items as items;
-ghost use Rattle.vrt_markup.specs.Items.{is_name};
+ghost use Rattle.vrt_markup.specs.Items.{is_name, item_at};
 ghost use Rattle.vrt_markup.specs.Forest.{Forest, deepest, nodes, inner, read_as};
-ghost use Rattle.vrt_markup.specs.Views.{tag_view};
+ghost use Rattle.vrt_markup.specs.Views.{tag_view, Finds, Shortens};
 ghost use Rattle.vrt_markup.specs.Kept.{Gives, seen, stepped, kept_of};
 ghost use Rattle.vrt_markup.specs.declared.fault.VrtFault.{VrtFault};
 
-use crate::ends::own_end;
+use crate::ends::{own_end, own_start};
 use crate::fault::VrtFault;
 use crate::items::{Item, is_equal, item_at};
 use crate::past::{DEEPEST, past_element};
@@ -31,6 +31,10 @@ pub trait Parts {
 
     /// What an element in it makes of it, by its place, its tag and what stands in it.
     ghost step: { Self → Value → ℕ → items.Tag → Forest → Result Value VrtFault };
+
+    /// The name of an element that may well be the next one in it, if its name begins with this byte.
+    fn usual(&self, first: u8) -> &'static [u8]
+        ensures named { is_name result.now ≡ true };
 
     /// Takes the element that begins with this tag, and lends what stands behind it. After its fault the parts are
     /// unknown.
@@ -85,6 +89,35 @@ fn next_child<'a, P: Parts>(
     }
 }
 
+// The byte behind the first one, or 0 where there is none.
+fn second(text: &[u8]) -> u8 {
+    match text {
+        [_, c, ..] => *c,
+        _ => 0,
+    }
+}
+
+// The item in front of a text, where the start tag of this name may well stand.
+#[tactic(auto, using(crate::proofs::StartTags::start_item))]
+fn likely_item<'a>(alloc: Global, text: &'a [u8], name: &'a [u8]) -> Item<'a>
+    requires named { is_name name.now ≡ true }
+    ensures item { Finds result (item_at text.now) }
+    ensures shorter { Shortens result text.now }
+{
+    match own_start(text, name) {
+        Some(rest) => {
+            let attributes: &'a [u8] = &[];
+            let tag = Tag {
+                name,
+                attributes,
+                empty: false,
+            };
+            Item::Open(tag, rest)
+        }
+        None => item_at(alloc, text),
+    }
+}
+
 // What the elements in an element of this name make of its parts, behind its start tag.
 #[tactic(auto, using(crate::proofs::Reading::seen_close, crate::proofs::Reading::seen_end))]
 fn child_nodes<'a, P: Parts>(
@@ -112,7 +145,8 @@ fn child_nodes<'a, P: Parts>(
             return Ok((seen, behind));
         }
         let place = (level.total - rest.len()) as u64;
-        match item_at(alloc, rest) {
+        let usual = parts.usual(second(rest));
+        match likely_item(alloc, rest, usual) {
             Item::NoMemory => return Err(VrtFault::Memory),
             Item::Comment(more) => rest = more,
             Item::Run(raw, more) => {

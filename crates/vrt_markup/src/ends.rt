@@ -1,4 +1,4 @@
-// End tags of a name that is known.
+// Tags of a name that is known.
 ghost use Rattle.std.specs.Prelude.{◌≡◌, ◌<◌, ◌++◌, ◌∷◌, length, IfSome};
 
 use crate::items::{byte_at, strip, two_at};
@@ -10,7 +10,26 @@ pub fn own_end<'a>(text: &'a [u8], name: &[u8]) -> Option<&'a [u8]>
     ensures shorter { IfSome result (λ r. length r.now < length text.now) }
 {
     let rest = two_at(text, b'<', b'/')?;
-    let rest = strip(rest, name)?;
-    let rest = byte_at(rest, b'>')?;
-    Some(rest)
+    name_end(rest, name)
+}
+
+// What stands behind this name and a `>`, where the text begins with them.
+#[inline(never)]
+#[tactic(auto, using(crate::proofs::EndTags::named_whole))]
+fn name_end<'a>(text: &'a [u8], name: &[u8]) -> Option<&'a [u8]>
+    ensures whole { IfSome result (λ r. text.now ≡ name.now ++ 62 ∷ r.now) }
+    ensures shorter { IfSome result (λ r. length r.now < length text.now) }
+{
+    let rest = strip(text, name)?;
+    byte_at(rest, b'>')
+}
+
+/// What stands behind the start tag of this name, where the text begins with it, without white space in it.
+#[tactic(auto, using(crate::proofs::EndTags::start_whole))]
+pub fn own_start<'a>(text: &'a [u8], name: &[u8]) -> Option<&'a [u8]>
+    ensures whole { IfSome result (λ r. text.now ≡ 60 ∷ name.now ++ 62 ∷ r.now) }
+    ensures shorter { IfSome result (λ r. length r.now < length text.now) }
+{
+    let rest = byte_at(text, b'<')?;
+    name_end(rest, name)
 }

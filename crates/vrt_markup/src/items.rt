@@ -265,6 +265,7 @@ fn pair_at(text: &[u8]) -> Option<(Pair, &[u8])>
 }
 
 /// The value of the first attribute with this name, in a text in which attributes may stand.
+#[inline(never)]
 #[tactic(auto, using(crate::proofs::Shorter::pairs_next, crate::proofs::Shorter::pairs_none))]
 fn attribute_in<'a>(text: &'a [u8], name: &[u8]) -> Option<&'a [u8]>
     ensures value { option_map (λ v. v.now) result ≡ attribute name.now (pairs text.now).0 }

@@ -99,6 +99,17 @@ table_last pairs last t p pair h found =
     ap (λ ps. Left (length pairs) last ps pairs) (first_last t p (cut_at 44 t) refl h)
     ∙ ap (After pairs last []) (sym found)
 
+ok_end : {A : Type 0} (x : Result A VrtFault) → (x >>= λ a. Ok a) ≡ x
+ok_end (Ok a) = refl
+ok_end (Err e) = refl
+
+-- a table that is one piece
+pub one_pair : (t : List ℕ) (pair : LutPair) → pair_of (first_piece t).0 ≡ Some pair → None ≡ (first_piece t).1 → Ok (pair ∷ []) ≡ lut_of t
+one_pair t pair is last =
+    let whole : ◌≡◌ {A = List ℕ × Option (List ℕ)} ((first_piece t).0, None) (first_piece t) = ap (λ o. ((first_piece t).0, o)) last in
+    let found : Ok pair ≡ next_pair 0 None (first_piece t).0 = ap (λ o. or_fault BadNumber o >>= rising_pair None) (sym is) in
+    sym (table_last [] None t (first_piece t).0 pair whole found) ∙ ok_end (lut_of t)
+
 abbrev pub left_after : List LutPair → LutPair → List ℕ → Result (List LutPair) VrtFault
 left_after xs pair rest = Left (length xs) (Some pair) (pieces 44 rest) xs
 

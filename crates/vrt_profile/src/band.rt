@@ -119,6 +119,13 @@ impl Parts for BandParts {
 
     ghost step = { λ _. band_step };
 
+    fn usual(&self, first: u8) -> &'static [u8] {
+        match first {
+            b'C' => b"ComplexSource",
+            _ => b"SimpleSource",
+        }
+    }
+
     fn child<'a>(
         &mut self,
         alloc: Global,

@@ -190,6 +190,10 @@ impl Parts for DatasetParts {
 
     ghost step = { λ _. dataset_step };
 
+    fn usual(&self, _first: u8) -> &'static [u8] {
+        b"VRTRasterBand"
+    }
+
     fn child<'a>(
         &mut self,
         alloc: Global,

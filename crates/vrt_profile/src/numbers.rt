@@ -13,7 +13,7 @@ ghost use Rattle.vrt_profile.specs.NumberViews.{six_view, IsReadSix};
 ghost use Rattle.geotransform.specs.Limits.{most_side};
 
 use crate::fields::{Six, six_of, trim, whole_text};
-use crate::fronts::short_micros;
+use crate::fronts::{short_micros, short_whole};
 use geotransform::{
     BandNumber, FARTHEST, GeoTransform, MOST_BANDS, MOST_SIDE, Ticks, read_places, read_whole,
 };
@@ -206,6 +206,9 @@ pub fn band_number(text: &[u8]) -> Result<BandNumber, VrtFault>
 pub fn nodata_in(text: &[u8]) -> Option<NoData>
     ensures number { result ≡ whole_of text.now }
 {
+    if let Some(n) = short_whole(text) {
+        return Some(NoData { value: n as i128 });
+    }
     match read_whole(text) {
         Some(value) => Some(NoData { value }),
         None => None,

@@ -26,6 +26,11 @@ impl Parts for Bare {
 
     ghost step = { λ _. no_child };
 
+    // No element may stand in it.
+    fn usual(&self, _first: u8) -> &'static [u8] {
+        b"none"
+    }
+
     fn child<'a>(
         &mut self,
         alloc: Global,

@@ -263,6 +263,15 @@ impl Parts for SourceParts {
 
     ghost step = { λ p. source_step p.complex };
 
+    fn usual(&self, first: u8) -> &'static [u8] {
+        match first {
+            b'N' => b"NODATA",
+            b'L' => b"LUT",
+            _ if self.file.is_some() => b"SourceBand",
+            _ => b"SourceFilename",
+        }
+    }
+
     fn child<'a>(
         &mut self,
         alloc: Global,
