@@ -107,7 +107,7 @@ ok_end (Err e) = refl
 pub one_pair : (t : List ℕ) (pair : LutPair) → pair_of (first_piece t).0 ≡ Some pair → None ≡ (first_piece t).1 → Ok (pair ∷ []) ≡ lut_of t
 one_pair t pair is last =
     let whole : ◌≡◌ {A = List ℕ × Option (List ℕ)} ((first_piece t).0, None) (first_piece t) = ap (λ o. ((first_piece t).0, o)) last in
-    let found : Ok pair ≡ next_pair 0 None (first_piece t).0 = ap (λ o. or_fault BadNumber o >>= rising_pair None) (sym is) in
+    let found : Ok pair ≡ next_pair 0 None (first_piece t).0 = ap (λ o. ok_or o BadNumber >>= rising_pair None) (sym is) in
     sym (table_last [] None t (first_piece t).0 pair whole found) ∙ ok_end (lut_of t)
 
 abbrev pub left_after : List LutPair → LutPair → List ℕ → Result (List LutPair) VrtFault
