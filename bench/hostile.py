@@ -34,8 +34,8 @@ class Text:
     def pieces(self):
         for part, times in self.parts:
             if isinstance(times, range):
-                for at in range(times.start, times.stop, 4096):
-                    some = range(at, min(at + 4096, times.stop))
+                for at in range(0, len(times), 4096):
+                    some = times[at : at + 4096]
                     yield b"".join(part.replace(b"{}", b"%d" % number) for number in some)
             else:
                 many = max(1, CHUNK // max(1, len(part)))
@@ -118,6 +118,11 @@ def grid(what, columns, lines, *parts, number, place=None):
     row(f"grid: {what}", {"x.asc": Text((head, 1), *parts)}, "gdalinfo {}", 1, line)
 
 
+def head(what, unit):
+    """A grid of keys alone."""
+    row(f"grid: {what}", {"x.asc": filled(b"", unit)}, "gdalinfo {}", 1, "ERROR 4: x.asc: malformed grid (1)")
+
+
 def grids():
     size = 64 * MIB
     grid("one value without end", 1, 1, (b"0", size), number=2, place=0)
@@ -130,8 +135,11 @@ def grids():
     grid("values of 64 bytes, too few", 4_194_304, 4_194_304, (b"0" * 63 + b"1 ", size // 65), number=4)
     grid("values with zeros behind the point, too few", 4_194_304, 4_194_304, (b"1.000000 ", size // 9), number=4)
     grid("the most rows, of one value, one too few", 1, 4_194_304, (b"0\n", 4_194_303), number=4)
-    keys = {"x.asc": Text((b"dx 1\n", size // 5))}
-    row("grid: a key again and again", keys, "gdalinfo {}", 1, "ERROR 4: x.asc: malformed grid (1)")
+    head("a key again and again", b"dx 1\n")
+    head("a key with a fraction again and again", b"dx .1\n")
+    head("a key with an exponent again and again", b"dx 1e0\n")
+    head("a key with a zero of the greatest exponent", b"xllcorner 0e999\n")
+    head("a key with two line ends", b"dx 1\r\n")
     key = {"x.asc": Text((b"a", size))}
     row("grid: a key without end", key, "gdalinfo {}", 1, "ERROR 4: x.asc: malformed grid (2) at 0")
 
@@ -177,6 +185,10 @@ def placed(unit):
 
 def tags():
     document("a tag of 5,600,000 attributes", Text((ROOT, 1), (b' a{}=""', range(5_600_000)), (b">" + BAND + END, 1)))
+    falling = Text((ROOT, 1), (b' a{}=""', range(9_999_999, 4_499_999, -1)), (b">" + BAND + END, 1))
+    document("a tag of 5,500,000 attributes whose names fall", falling)
+    rising = Text((ROOT, 1), (b' a{}=""', range(1_000_000, 6_500_000)), (b' a=""', 1), (b">" + BAND + END, 1))
+    document("a tag of 5,500,001 attributes whose names rise but for the last", rising)
     document("a tag of 1,000,000 attributes", Text((ROOT, 1), (b' a{}=""', range(1_000_000)), (b">" + BAND + END, 1)))
     broken("a tag of one attribute again and again", filled(ROOT, b' a=""', b">" + BAND + END), 1, 0)
     document("tags of ten attributes", filled(
@@ -213,9 +225,10 @@ def sources():
     document("the most sources, each with a NODATA", Text((SOURCES, 1), (nodata, MOST), (SOURCES_END, 1)))
     one_pair = front + b"0:0" + back
     document("the most sources, each with a table of one pair", Text((SOURCES, 1), (one_pair, MOST), (SOURCES_END, 1)))
-    table = Text((b"{}:0,", range(65_535)), (b"65535:0", 1))
-    lookup = front + b"".join(table.pieces()) + back
-    document("tables of 65,536 pairs", filled(SOURCES, lookup, SOURCES_END))
+    for what, unit in ("", b"0"), (" with zeros of the greatest exponent", b"0e999"):
+        table = Text((b"{}:" + unit + b",", range(65_535)), (b"65535:" + unit, 1))
+        lookup = front + b"".join(table.pieces()) + back
+        document(f"tables of 65,536 pairs{what}", filled(SOURCES, lookup, SOURCES_END))
     more = Text((SOURCES + front, 1), (b"{}:0,", range(65_536)), (b"65536:0" + back + SOURCES_END, 1))
     broken("a table of one pair more", more, 6)
     broken("a table of one pair again and again", filled(SOURCES + front, b"0:0,", b"1:0" + back + SOURCES_END), 4)

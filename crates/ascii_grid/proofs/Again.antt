@@ -15,7 +15,7 @@ use lib.Dec.{eqb}
 use Rattle.lists_and_answers.specs.Answers.{◌>>=◌}
 use Rattle.geotransform.specs.Decimal.{sign_at, digits_at, number, signed, is_decimal, number_of, whole_of, parts_of, Decimal}
 use Rattle.geotransform.specs.Print.{unit, short_text}
-use Rattle.geotransform.specs.Places.{half, sixteen_places}
+use Rattle.geotransform.specs.Places.{half, sixteen_places, are_same}
 use Rattle.geotransform.specs.Geo.{Transform, IsRaster, along}
 use Rattle.geotransform.specs.declared.types.Size.{Size}
 use Rattle.geotransform.proofs.Numbers.{own}
@@ -29,13 +29,13 @@ use Rattle.ascii_grid.specs.declared.head_parts.LowerLeft.TheVariants.{Edge}
 use Rattle.ascii_grid.specs.declared.head_parts.Key.{Key}
 use Rattle.ascii_grid.specs.declared.head_parts.Key.TheVariants.{Ncols, Nrows, Xllcorner, Yllcorner, Cellsize, Dx, Dy, Nodata}
 use Rattle.ascii_grid.specs.declared.placing.Placing.{Placing}
-use Rattle.ascii_grid.specs.Tokens.{Token, tokens_from, tokens, token, is_white, is_dark, next}
-use Rattle.lists_and_answers.specs.Texts.{same_letters}
+use Rattle.ascii_grid.specs.Tokens.{Token, tokens_from, tokens, token, is_dark, next}
+use Rattle.lists_and_answers.specs.Texts.{same_letters, is_white}
 use Rattle.lists_and_answers.specs.Lists.{flattened}
 use Rattle.ascii_grid.specs.Values.{side_in, coordinate_in, step_in, nodata_in, when_value, is_body_start, value_in, is_value, is_whole_text, is_whole_end, whole_value}
 use Rattle.ascii_grid.specs.Keys.{key_of, with_value, steps_of, placed, shape_of}
 use Rattle.ascii_grid.specs.Grid.{head_of, body_of, rows_of, nothing, grid_in, grid_of}
-use Rattle.ascii_grid.specs.Text.{more_text, row_text, line, placing_of, size_lines, edge_lines, are_same, step_lines, nodata_line, head_lines, head_text, AreRows, IsReadAgain, IsGridOf}
+use Rattle.ascii_grid.specs.Text.{more_text, row_text, line, placing_of, size_lines, edge_lines, step_lines, nodata_line, head_lines, head_text, AreRows, IsReadAgain, IsGridOf}
 use Rattle.ascii_grid.proofs.Places.{tok_white, tok_inside, tok_begins}
 
 -- words

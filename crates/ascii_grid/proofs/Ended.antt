@@ -3,7 +3,8 @@ use Rattle.std.proofs.Common.{◌≡◌, ℕ, Bool, true, false, List, [], ◌�
 use Rattle.std.specs.List.{take_while, slice_get}
 use Rattle.std.proofs.lemmas.Bool.{cases_Bool}
 use Rattle.std.proofs.lemmas.List.{take-append-drop, append-nil}
-use Rattle.ascii_grid.specs.Tokens.{Token, tokens_from, tokens, is_white, is_dark, token, next}
+use Rattle.lists_and_answers.specs.Texts.{is_white}
+use Rattle.ascii_grid.specs.Tokens.{Token, tokens_from, tokens, is_dark, token, next}
 use Rattle.ascii_grid.specs.Row.{ended_from, ended_in}
 use Rattle.ascii_grid.proofs.Places.{tok_white, tok_inside, tok_begins}
 use Rattle.ascii_grid.proofs.Rows.{ended_white, ended_dark}

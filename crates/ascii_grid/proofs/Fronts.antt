@@ -6,13 +6,13 @@ use Rattle.std.proofs.lemmas.Bool.{ne_eqb}
 use Rattle.std.proofs.lemmas.Bool.Decides.{nat_tests}
 use Rattle.std.proofs.lemmas.Int.{ints}
 use Rattle.std.proofs.lemmas.List.{append-nil, get_or-take, length-take-le, take_all}
+use Rattle.lists_and_answers.specs.Texts.{is_white}
 use lib.Dec.{eqb}
 use Rattle.geotransform.specs.Decimal.{sign_at, number, is_decimal}
 use Rattle.geotransform.proofs.RoundTrip.{AreDigits, digits-cons, sign_none}
 use Rattle.ascii_grid.specs.declared.faults.GridFault.{GridFault}
 use Rattle.ascii_grid.specs.declared.head_parts.Shape.{Shape}
 use Rattle.ascii_grid.specs.declared.head_parts.Stage.TheVariants.{InBody}
-use Rattle.ascii_grid.specs.Tokens.{is_white}
 use Rattle.ascii_grid.specs.Values.{value_in, is_value, is_whole_text, whole_value, has_value}
 use Rattle.ascii_grid.specs.Scan.{add_token, body_step, step}
 use Rattle.ascii_grid.specs.Row.{value_or_zero, or_zero}

@@ -3,12 +3,13 @@ use Rattle.std.proofs.Common.{◌≡◌, ℕ, Bool, true, false, List, [], ◌�
 use Rattle.std.proofs.lemmas.List.{get_or-drop, get_or-take, length-drop, length-take-le, take_more}
 use Rattle.std.specs.Prelude.{is_some}
 use Rattle.lists_and_answers.specs.Answers.{◌>>=◌}
+use Rattle.lists_and_answers.specs.Texts.{is_white}
 use Rattle.ascii_grid.specs.declared.faults.GridFault.{GridFault}
 use Rattle.ascii_grid.specs.declared.head_parts.Found.{Found}
 use Rattle.ascii_grid.specs.declared.head_parts.Key.{Key}
 use Rattle.ascii_grid.specs.declared.head_parts.Stage.{Stage}
 use Rattle.ascii_grid.specs.declared.head_parts.Stage.TheVariants.{AtKey, AtValue}
-use Rattle.ascii_grid.specs.Tokens.{Token, is_white, next}
+use Rattle.ascii_grid.specs.Tokens.{Token, next}
 use Rattle.ascii_grid.specs.Values.{is_body_start}
 use Rattle.ascii_grid.specs.Keys.{key_of, with_value}
 use Rattle.ascii_grid.specs.Scan.{Scanned, State, Open, Read, fed, add_token, passed_over, scanned, step}

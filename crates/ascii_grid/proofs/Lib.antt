@@ -17,3 +17,4 @@ pub mod Whites
 pub mod Ticks
 pub mod KeyValues
 pub mod Names
+pub mod NoData

@@ -6,10 +6,11 @@ use Rattle.std.proofs.lemmas.List.Folds.{fold_stays}
 use Rattle.std.proofs.lemmas.Bool.{cases_Bool, cases_lt, lt-ltb, le-ltb}
 use Rattle.std.proofs.lemmas.Bool.Decides.{nat_tests}
 use Rattle.lists_and_answers.specs.Answers.{◌>>=◌}
+use Rattle.lists_and_answers.specs.Texts.{is_white}
 use Rattle.std.proofs.lemmas.List.{append-nil, take_all, append_assoc}
 use Rattle.std.proofs.Math.Seq.{take-append_seam}
 use Rattle.ascii_grid.specs.declared.faults.GridFault.{GridFault}
-use Rattle.ascii_grid.specs.Tokens.{Token, tokens_from, is_white, is_dark, token, next}
+use Rattle.ascii_grid.specs.Tokens.{Token, tokens_from, is_dark, token, next}
 use Rattle.ascii_grid.specs.Scan.{Scanned, Open, Read, Reaches, then_byte, fed, add_byte, add_token, add_tokens, ended, is_open, push}
 
 -- a step after a piece

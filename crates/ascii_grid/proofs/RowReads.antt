@@ -14,8 +14,9 @@ use Rattle.ascii_grid.specs.declared.faults.GridFault.TheVariants.{BadToken}
 use Rattle.ascii_grid.specs.declared.head_parts.Found.{Found}
 use Rattle.ascii_grid.specs.declared.head_parts.Shape.{Shape}
 use Rattle.ascii_grid.specs.declared.head_parts.Key.{Key}
-use Rattle.ascii_grid.specs.Tokens.{Token, tokens_from, tokens, is_white, next}
+use Rattle.ascii_grid.specs.Tokens.{Token, tokens_from, tokens, next}
 use Rattle.lists_and_answers.specs.Answers.{◌>>=◌}
+use Rattle.lists_and_answers.specs.Texts.{is_white}
 use Rattle.ascii_grid.specs.Values.{is_body_start, value_in}
 use Rattle.ascii_grid.specs.Keys.{key_of, with_value, shape_of}
 use Rattle.ascii_grid.specs.Grid.{Head, Grid, IsHead, head_with, head_of, body_of, rows_of, nothing, grid_in, grid_of, grid_head, ascii_in, ascii_at, line_of, AreRising}

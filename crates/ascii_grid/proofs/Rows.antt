@@ -7,7 +7,8 @@ use Rattle.std.specs.List.{fold, take_while}
 use Rattle.std.proofs.lemmas.List.Sums.{take_while-cons, fold-append}
 use Rattle.std.proofs.lemmas.Bool.{cases_Bool, cases_lt, lt-ltb, le-ltb}
 use Rattle.std.proofs.lemmas.Bool.Decides.{nat_tests}
-use Rattle.ascii_grid.specs.Tokens.{Token, tokens_from, tokens, is_white, is_dark, token, next}
+use Rattle.lists_and_answers.specs.Texts.{is_white}
+use Rattle.ascii_grid.specs.Tokens.{Token, tokens_from, tokens, is_dark, token, next}
 use Rattle.ascii_grid.specs.Scan.{is_open, opened, passed, push}
 use Rattle.ascii_grid.specs.Row.{Row, Reading, put, row_ended, row_byte, row_fed, padded, row_of, value_or_zero, RowNow, Fills, reading, fresh, ended_from, ended_in}
 use Rattle.ascii_grid.proofs.Pieces.{rest_of, open_at, push_then, push_small, push_open, whole_token}

@@ -3,11 +3,12 @@ use Rattle.std.proofs.Common.{◌≡◌, ℕ, zero, suc, true, false, List, [], 
 use Rattle.std.proofs.lemmas.Bool.{lt-ltb}
 use Rattle.std.proofs.lemmas.List.{append-nil, take_more, take_all, take_rest}
 use Rattle.lists_and_answers.specs.Answers.{◌>>=◌}
+use Rattle.lists_and_answers.specs.Texts.{is_white}
 use Rattle.std.specs.Prelude.{is_some}
 use Rattle.ascii_grid.specs.declared.faults.GridFault.{GridFault}
 use Rattle.ascii_grid.specs.declared.faults.GridFault.TheVariants.{Memory}
 use Rattle.ascii_grid.specs.declared.head_parts.Stage.{Stage}
-use Rattle.ascii_grid.specs.Tokens.{is_white, next}
+use Rattle.ascii_grid.specs.Tokens.{next}
 use Rattle.ascii_grid.specs.Scan.{Scanned, State, Open, Read, Reaches, fed, add_byte, add_token, is_open, passed_over, scanned, with_read}
 use Rattle.ascii_grid.specs.Row.{Row, Reading, row_byte, row_fed, put}
 use Rattle.std.proofs.lemmas.List.Sums.{fold-append}
@@ -101,6 +102,12 @@ whole_part s t bytes n less white is = subst (λ (l : List ℕ). Reaches t (fed 
 -- the rest of the bytes
 pub rest_reaches : (start s t : Scanned) (bytes : List ℕ) (at n : ℕ) → Reaches s (fed start (take at bytes)) → Reaches t (fed s (take n (take (length bytes - at) (drop at bytes)))) → Reaches t (fed start (take (at + n) bytes))
 rest_reaches start s t bytes at n so_far now = part_reaches start s t bytes at n so_far (subst (λ (l : List ℕ). Reaches t (fed s (take n l))) (take_rest bytes at) now)
+
+-- so where no memory is wanted
+pub fed_part : (start s t : Scanned) (bytes : List ℕ) (at n : ℕ) → s ≡ fed start (take at bytes) → t ≡ fed s (take n (take (length bytes - at) (drop at bytes))) → t ≡ fed start (take (at + n) bytes)
+fed_part start s t bytes at n so_far now =
+    now ∙ ap (λ (l : List ℕ). fed s (take n l)) (take_rest bytes at) ∙ ap (λ (x : Scanned). fed x (take n (drop at bytes))) so_far
+    ∙ sym (fed_more start (take at bytes) (take n (drop at bytes))) ∙ ap (fed start) (sym (taken_more bytes at n))
 
 -- a scanner with a fault stays as it is
 pub fault_fed : (fault : Option GridFault) (held : Open) (stage : Stage) (rows : List ℕ) (self : Scanned) (bytes : List ℕ) → is_some fault ≡ true → scanned fault held stage rows ≡ self → Reaches self (fed self bytes)

@@ -1,10 +1,11 @@
 -- The ticks of digits alone.
-use Rattle.std.proofs.Common.{◌≡◌, ℕ, ℤ, pos, Bool, true, false, List, [], ◌++◌, refl, sym, ap, ◌∙◌, subst, take, length, ◌≤◌, ◌<◌, ◌*◌, ◌^◌, arith, cond, Option, Some, None}
+use Rattle.std.proofs.Common.{◌≡◌, ℕ, ℤ, pos, Bool, true, false, List, [], ◌++◌, refl, sym, ap, ◌∙◌, subst, take, length, ◌≤◌, ◌<◌, ◌*◌, ◌^◌, arith, cond, Option, Some, None, Ok}
 use Rattle.std.specs.Prelude.{◌==◌, nat_lt, ◌+◌}
 use Rattle.std.proofs.lemmas.Bool.Decides.{nat_tests}
 use Rattle.std.proofs.lemmas.List.{append-nil, take_all}
 use Rattle.lists_and_answers.specs.Options.{◌>>=◌}
 use Rattle.geotransform.specs.Decimal.{Decimal, IsRead, sign_at, digits_at, fraction_at, exponent_of, parts_of, magnitude, number, signed, ticks_of}
+use Rattle.ascii_grid.specs.Values.{step_in}
 use Rattle.geotransform.proofs.RoundTrip.{AreDigits, digits_again, sign_none}
 
 abbrev behind_digits : ℕ → Bool → List ℕ × List ℕ → Option Decimal
@@ -49,3 +50,10 @@ digits_ticks text n v digits all some few is small =
 
 pub units_read : (n : ℕ) → n < 10 ^ 12 → IsRead (pos (18 * (n * 10 ^ 16)))
 units_read n small = record { multiple = omega arith; near = omega arith }
+
+-- a size of so many units
+pub units_stepped : (at : ℕ) (text : List ℕ) (n : ℕ) → ticks_of text ≡ Some (pos (18 * (n * 10 ^ 16))) → 0 < n → step_in at text ≡ Ok (18 * (n * 10 ^ 16))
+unfolding step_in
+units_stepped at text n is some =
+    let above : nat_lt 0 (18 * (n * 10 ^ 16)) ≡ true = grind (arith, nat_tests) in
+    rw (is, above) refl

@@ -1,8 +1,9 @@
 -- White space that is passed at once.
 use Rattle.std.proofs.Common.{◌≡◌, ℕ, suc, true, List, [], ◌∷◌, refl, sym, ap, ◌∙◌, Ok, length, ◌<◌, ◌+◌, min, arith, get_or, Option, Some, None}
+use Rattle.lists_and_answers.specs.Texts.{is_white}
 use Rattle.ascii_grid.specs.declared.faults.GridFault.{GridFault}
 use Rattle.ascii_grid.specs.declared.head_parts.Stage.{Stage}
-use Rattle.ascii_grid.specs.Tokens.{is_white, next}
+use Rattle.ascii_grid.specs.Tokens.{next}
 use Rattle.ascii_grid.specs.Scan.{Scanned, State, Open, Read, fed, add_byte, scanned}
 use Rattle.ascii_grid.specs.Row.{Row, Reading, row_byte, row_fed}
 use Rattle.ascii_grid.proofs.Pieces.{open_at, stuck_bytes}

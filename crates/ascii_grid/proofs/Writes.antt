@@ -4,9 +4,9 @@ use Rattle.std.proofs.lemmas.List.{append-nil, take_more}
 use Rattle.std.proofs.lemmas.Grind.{flat_map-append}
 use Rattle.std.specs.List.{flat_map}
 use Rattle.std.specs.Fmt.{signed_decimal}
-use Rattle.lists_and_answers.specs.Growth.{KeepsFront}
+use Rattle.lists_and_answers.specs.Growth.{Adds, KeepsFront}
 use Rattle.geotransform.proofs.Written as written
-use Rattle.ascii_grid.specs.Text.{more_text, row_text, Adds, placing_of, size_lines, edge_lines, step_lines, nodata_line, head_lines, head_text}
+use Rattle.ascii_grid.specs.Text.{more_text, row_text, placing_of, size_lines, edge_lines, step_lines, nodata_line, head_lines, head_text}
 use Rattle.ascii_grid.specs.declared.placing.Placing.{Placing}
 use Rattle.geotransform.specs.Geo.{Transform}
 use Rattle.geotransform.specs.declared.types.Size.{Size}

@@ -2,8 +2,9 @@
 use Rattle.std.specs.Prelude.{ℕ, ℤ, pos, Bool, true, false, ◌+◌, ◌-◌, List, [], ◌∷◌, ◌++◌, length, take, drop, map}
 use Rattle.std.specs.Prelude.{Result, Ok, Err, nat_lt, if◌then◌else◌, slice_set, ◌≡◌, ◌≤◌, replicate}
 use Rattle.std.specs.List.{fold}
+use Rattle.lists_and_answers.specs.Texts.{is_white}
 use Rattle.ascii_grid.specs.declared.faults.GridFault.{GridFault}
-use Rattle.ascii_grid.specs.Tokens.{tokens, is_white}
+use Rattle.ascii_grid.specs.Tokens.{tokens}
 use Rattle.ascii_grid.specs.Values.{value_in}
 use Rattle.ascii_grid.specs.Scan.{Open, opened, passed, is_open}
 

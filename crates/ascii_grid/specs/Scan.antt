@@ -3,12 +3,13 @@ use Rattle.std.specs.Prelude.{ℕ, Bool, true, false, ◌+◌, ◌-◌, ◌*◌,
 use Rattle.std.specs.Prelude.{None, Result, Ok, Err, ok_or, nat_lt, ◌<◌, ◌≤◌, ◌≡◌, ◌⊎◌, ◌==◌, if◌then◌else◌, min}
 use Rattle.std.specs.List.{fold}
 use Rattle.lists_and_answers.specs.Answers.{◌>>=◌}
+use Rattle.lists_and_answers.specs.Texts.{is_white}
 use Rattle.ascii_grid.specs.declared.faults.GridFault.{GridFault}
 use Rattle.ascii_grid.specs.declared.faults.GridFault.TheVariants.{BadToken, TooFew, TooMany, Memory}
 use Rattle.ascii_grid.specs.declared.head_parts.Shape.{Shape}
 use Rattle.ascii_grid.specs.declared.head_parts.Stage.{Stage}
 use Rattle.ascii_grid.specs.declared.head_parts.Stage.TheVariants.{AtKey, AtValue, InBody}
-use Rattle.ascii_grid.specs.Tokens.{Token, is_white, next}
+use Rattle.ascii_grid.specs.Tokens.{Token, next}
 use Rattle.ascii_grid.specs.Values.{is_body_start, value_in}
 use Rattle.ascii_grid.specs.Keys.{key_of, with_value, shape_of}
 use Rattle.ascii_grid.specs.Grid.{Head, head_with, nothing, grid_head}

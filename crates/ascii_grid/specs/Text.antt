@@ -1,10 +1,10 @@
 -- The text that is written of a grid.
-use Rattle.std.specs.Prelude.{◌≡◌, ◌-◌, ◌<ℤ◌, ℕ, ℤ, Bool, pos, neg_ℤ, true, int_le, ◌&&◌, unsigned_abs, List, [], ◌∷◌}
+use Rattle.std.specs.Prelude.{◌≡◌, ◌-◌, ◌<ℤ◌, ℕ, ℤ, pos, neg_ℤ, true, unsigned_abs, List, [], ◌∷◌}
 use Rattle.std.specs.Prelude.{◌++◌, length, replicate, Option, Some, None, Ok, codes, if◌then◌else◌}
 use Rattle.std.specs.List.{flat_map, All}
 use Rattle.std.specs.Fmt.{decimal, signed_decimal}
 use Rattle.geotransform.specs.Print.{short_text, unit}
-use Rattle.geotransform.specs.Places.{sixteen_places}
+use Rattle.geotransform.specs.Places.{sixteen_places, are_same}
 use Rattle.geotransform.specs.Geo.{Transform, IsNear, along}
 use Rattle.geotransform.specs.declared.types.Size.{Size}
 use Rattle.ascii_grid.specs.declared.placing.Placing.{Placing}
@@ -38,9 +38,6 @@ abbrev pub edge_lines : Placing → List ℕ
 edge_lines p = line (codes "xllcorner") (short_text p.left) ++ line (codes "yllcorner") (short_text p.bottom)
 
 -- one size where the two agree
-abbrev pub are_same : ℤ → ℤ → Bool
-are_same a b = int_le a b && int_le b a
-
 abbrev pub step_lines : Placing → List ℕ
 step_lines p = if are_same p.width p.height then line (codes "cellsize") (short_text p.width)
     else (line (codes "dx") (short_text p.width) ++ line (codes "dy") (short_text p.height))
@@ -64,10 +61,6 @@ more_text x = 32 ∷ signed_decimal x
 abbrev pub row_text : List ℤ → List ℕ
 row_text [] = 10 ∷ []
 row_text (x ∷ xs) = signed_decimal x ++ (flat_map more_text xs ++ 10 ∷ [])
-
--- what a call added at the end
-pub record Adds (old new text : List ℕ) : Type 0 where
-  pub all : new ≡ old ++ text
 
 -- rows of values of the band, all of this length
 pub record AreRows (w : ℕ) (rows : List (List ℤ)) : Type 0 where

@@ -36,6 +36,10 @@ abbrev pub when_value : Option ℤ → Option ℤ
 when_value None = None
 when_value (Some n) = if is_value n then Some n else None
 
+-- a NODATA that is no whole number
+abbrev pub other_nodata : ℕ → List ℕ → Result (Option ℤ) GridFault
+other_nodata at text = if is_decimal text || same_letters text (codes "nan") then Ok None else Err (BadToken at)
+
 -- a NODATA: none where the number isn't whole or isn't of the band
 unfoldable pub nodata_in : ℕ → List ℕ → Result (Option ℤ) GridFault
 nodata_in at text = if is_decimal text || same_letters text (codes "nan") then Ok (when_value (whole_of text))

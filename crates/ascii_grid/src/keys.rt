@@ -1,8 +1,7 @@
 // The keys of the head, and what they say.
-ghost use Rattle.std.specs.Prelude.{◌≡◌, ℤ, pos, neg_ℤ, ◌+ℤ◌, ◌<◌, ◌≤◌, ◌*◌, ◌/◌, ◌^◌, unsigned_abs, Ok, Err, IfSome};
-ghost use Rattle.std.specs.Prelude.{IfErr, OnOk};
+ghost use Rattle.std.specs.Prelude.{◌≡◌, ℤ, pos, neg_ℤ, ◌+ℤ◌, ◌<◌, ◌≤◌, ◌*◌, ◌/◌, ◌^◌, unsigned_abs, Ok, Err};
+ghost use Rattle.std.specs.Prelude.{IfErr, OnOk, ◌≢◌, length};
 ghost use Rattle.lists_and_answers.specs.Texts.{same_letters};
-ghost use Rattle.geotransform.specs.Geo.{IsTransform};
 ghost use Rattle.ascii_grid.specs.Keys.{key_of, with_value, edge_of, steps_of, placed, shape_of};
 ghost use Rattle.geotransform.specs.Limits.{most_side};
 
@@ -20,8 +19,26 @@ fn is_name(text: &[u8], name: &[u8]) -> bool
     text.len() == name.len() && same_letters(text, name)
 }
 
-/// The key that a token names.
-pub fn key_of(text: &[u8]) -> Option<Key>
+// The key that two letters name.
+#[tactic(auto, using(crate::proofs::Names::short_names))]
+fn short_key(text: &[u8]) -> Option<Key>
+    requires { length text.now ≡ 2 }
+    ensures { result ≡ key_of text.now }
+{
+    if is_name(text, b"dx") {
+        Some(Key::Dx)
+    } else if is_name(text, b"dy") {
+        Some(Key::Dy)
+    } else {
+        None
+    }
+}
+
+// The key that a token of another length names.
+#[inline(never)]
+#[tactic(auto, using(crate::proofs::Names::not_dx, crate::proofs::Names::not_dy))]
+fn long_key(text: &[u8]) -> Option<Key>
+    requires { length text.now ≢ 2 }
     ensures { result ≡ key_of text.now }
 {
     if is_name(text, b"ncols") {
@@ -38,10 +55,6 @@ pub fn key_of(text: &[u8]) -> Option<Key>
         Some(Key::Yllcenter)
     } else if is_name(text, b"cellsize") {
         Some(Key::Cellsize)
-    } else if is_name(text, b"dx") {
-        Some(Key::Dx)
-    } else if is_name(text, b"dy") {
-        Some(Key::Dy)
     } else if is_name(text, b"NODATA_value") {
         Some(Key::Nodata)
     } else {
@@ -49,9 +62,21 @@ pub fn key_of(text: &[u8]) -> Option<Key>
     }
 }
 
-/// Keeps a key's value that is found now.
+/// The key that a token names.
+pub fn key_of(text: &[u8]) -> Option<Key>
+    ensures { result ≡ key_of text.now }
+{
+    if text.len() == 2 {
+        short_key(text)
+    } else {
+        long_key(text)
+    }
+}
+
+// Keeps any key's value, in a function of its own: what most keys need on the stack isn't made for a size of a pixel.
+#[inline(never)]
 #[tactic(auto, unfolding(crate::specs::Keys::with_value))]
-pub fn set_value(found: &mut Found, key: Key, at: u64, text: &[u8]) -> Result<(), GridFault>
+fn set_any(found: &mut Found, key: Key, at: u64, text: &[u8]) -> Result<(), GridFault>
     ensures ok { OnOk result (with_value found.old key (record { at = at; text = text.now }) ≡ Ok found.new) }
     ensures err { IfErr result (λ f. with_value found.old key (record { at = at; text = text.now }) ≡ Err f) }
 {
@@ -66,6 +91,21 @@ pub fn set_value(found: &mut Found, key: Key, at: u64, text: &[u8]) -> Result<()
         Key::Dx => found.dx = Some(step_in(at, text)?),
         Key::Dy => found.dy = Some(step_in(at, text)?),
         Key::Nodata => found.nodata = nodata_in(at, text)?,
+    }
+    Ok(())
+}
+
+/// Keeps a key's value that is found now.
+#[inline(always)]
+#[tactic(auto, unfolding(crate::specs::Keys::with_value))]
+pub fn set_value(found: &mut Found, key: Key, at: u64, text: &[u8]) -> Result<(), GridFault>
+    ensures ok { OnOk result (with_value found.old key (record { at = at; text = text.now }) ≡ Ok found.new) }
+    ensures err { IfErr result (λ f. with_value found.old key (record { at = at; text = text.now }) ≡ Err f) }
+{
+    match key {
+        Key::Dx => found.dx = Some(step_in(at, text)?),
+        Key::Dy => found.dy = Some(step_in(at, text)?),
+        _ => return set_any(found, key, at, text),
     }
     Ok(())
 }

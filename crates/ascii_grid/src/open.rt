@@ -1,5 +1,5 @@
 // The token that is open while bytes come in pieces.
-ghost use Rattle.std.specs.Prelude.{◌≡◌, ℕ, ◌≤◌, ◌+◌, length, Bool, [], min};
+ghost use Rattle.std.specs.Prelude.{◌≡◌, ℕ, ◌≤◌, ◌+◌, [], min};
 ghost use Rattle.ascii_grid.specs.Scan.{Open, opened, passed, passed_over, is_open};
 
 use crate::tokens::next;
@@ -67,13 +67,27 @@ impl Open {
         self.at
     }
 
+    /// Where the text stands behind so many bytes more.
+    pub fn place_behind(&self, len: usize) -> u64
+        ensures { result ≡ min (self.now.at + len) 18446744073709551615 }
+    {
+        self.at.saturating_add(len as u64)
+    }
+
+    /// Takes all up to a whole token of so many bytes, which begins at a place, and the white space behind it.
+    pub fn pass_token_at(&mut self, at: u64, len: usize)
+        ensures { self.new ≡ passed_over at len }
+    {
+        self.begun = at;
+        self.len = 0;
+        self.at = at.saturating_add(len as u64).saturating_add(1);
+    }
+
     /// Takes a whole token of so many bytes, where none is open, and the white space behind it.
     pub fn pass_token(&mut self, len: usize)
         ensures { self.new ≡ passed_over self.old.at len }
     {
-        self.begun = self.at;
-        self.len = 0;
-        self.at = self.at.saturating_add(len as u64).saturating_add(1);
+        self.pass_token_at(self.at, len);
     }
 
     /// Takes so many bytes of white space, where no token is open.

@@ -1,7 +1,7 @@
 // The edges and the sizes that a grid's head gives.
 ghost use Rattle.std.specs.Prelude.{◌≡◌, ◌≤◌, ◌^◌, ◌*◌, ◌*ℤ◌, neg_ℤ, unsigned_abs, pos, Some};
 ghost use Rattle.std.specs.Option.{option_map};
-ghost use Rattle.geotransform.specs.Geo.{IsRaster, IsNear, along};
+ghost use Rattle.geotransform.specs.Geo.{IsNear, along};
 ghost use Rattle.ascii_grid.specs.Text.{placing_of};
 ghost use Rattle.geotransform.specs.Limits.{most_side};
 

@@ -1,8 +1,8 @@
 // The samples of a row, read in pieces.
 ghost use Rattle.std.specs.Prelude.{◌≡◌, ℕ, ℤ, ◌≤◌, ◌<◌, ◌+◌, length, take, get_or, true, false, [], ◌∷◌, ◌++◌, List};
 ghost use Rattle.std.specs.Prelude.{◌||◌, ◌==◌, nat_le, min, drop};
-ghost use Rattle.ascii_grid.specs.Tokens.{is_white};
 ghost use Rattle.lists_and_answers.specs.Places.{StandsAt};
+ghost use Rattle.lists_and_answers.specs.Texts.{is_white};
 ghost use Rattle.ascii_grid.specs.Scan.{is_open};
 ghost use Rattle.ascii_grid.specs.Row.{value_or_zero, put, reading, row_ended, row_byte, row_fed, padded, Fills};
 ghost use Rattle.ascii_grid.specs.Row.{row_of, ended_in, ended_from, fresh, HasRead};

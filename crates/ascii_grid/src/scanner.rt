@@ -2,9 +2,9 @@
 ghost use Rattle.std.specs.Prelude.{◌≡◌, ℕ, [], ◌∷◌, ◌++◌, List, Ok, Err, IfOk, length, take, get_or, true, false, ◌<◌};
 ghost use Rattle.std.specs.Prelude.{◌≤◌, ◌+◌, ◌*◌};
 ghost use Rattle.lists_and_answers.specs.Answers.{Gives};
+ghost use Rattle.lists_and_answers.specs.Texts.{is_white};
 ghost use Rattle.ascii_grid.specs.Faults.{IsMemory};
 ghost use Rattle.ascii_grid.specs.Grid.{grid_head, head_with, IsHead};
-ghost use Rattle.ascii_grid.specs.Tokens.{is_white};
 ghost use Rattle.ascii_grid.specs.Values.{has_value};
 ghost use Rattle.ascii_grid.specs.declared.head_parts.Stage.TheVariants.{AtKey};
 ghost use Rattle.lists_and_answers.specs.Places.{StandsAt};
@@ -149,14 +149,9 @@ impl Scanner {
         self.held.pass_white(white.len());
     }
 
-    // Takes a key of `n` bytes and its value, with the white space behind them, where that is what stands in front
-    // and no token is open. How many bytes it took, 0 where something else stands there.
-    fn add_pair(&mut self, bytes: &[u8], n: usize) -> usize
-        requires some { 0 < n }
-        requires few { n ≤ 64 }
-        requires within { n < length bytes.now }
-        requires dark { (k : ℕ) → k < n → is_white (get_or bytes.now k 0) ≡ false }
-        requires closed { (s : State) → self.old ≡ Ok s → s.held.text ≡ [] }
+    // Takes a key and its value with a byte of white space behind them, or else the white space in front, where no
+    // token is open. How many bytes it took, 0 where something else stands there.
+    fn add_pair(&mut self, bytes: &[u8]) -> usize
         ensures within { result ≤ length bytes.now }
         ensures state { self.new ≡ fed self.old (take result bytes.now) }
         ensures stays { (f : GridFault) → self.old ≡ Err f → self.new ≡ Err f }
@@ -164,22 +159,56 @@ impl Scanner {
         if self.fault.is_some() {
             return 0;
         }
+        if self.held.is_open() {
+            return 0;
+        }
         if let Stage::AtKey(found) = &mut self.stage {
-            if let Some(pair) = pair_at(bytes, n) {
-                self.held.pass_white(pair.from);
-                match set_value(
-                    found,
-                    pair.key,
-                    self.held.place(),
-                    &bytes[pair.from..pair.end],
-                ) {
-                    Ok(()) => self.held.pass_token(pair.end - pair.from),
+            if let Some(pair) = pair_at(bytes) {
+                let at = self.held.place_behind(pair.from);
+                match set_value(found, pair.key, at, &bytes[pair.from..pair.end]) {
+                    Ok(()) => self.held.pass_token_at(at, pair.end - pair.from),
                     Err(fault) => self.fault = Some(fault),
                 }
                 return pair.end + 1;
             }
+            let n = white_len(bytes);
+            if n > 0 {
+                self.add_white(&bytes[..n]);
+                return n;
+            }
         }
         0
+    }
+
+    // Takes keys and their values, and all white space behind them, as long as they stand in front, in a function of
+    // its own: what they need in registers isn't taken from the body's values. How many bytes it took.
+    #[inline(never)]
+    fn add_pairs(&mut self, bytes: &[u8]) -> usize
+        ensures within { result ≤ length bytes.now }
+        ensures state { self.new ≡ fed self.old (take result bytes.now) }
+        ensures stays { (f : GridFault) → self.old ≡ Err f → self.new ≡ Err f }
+    {
+        let mut at = 0;
+        while at < bytes.len() {
+            let taken = self.add_pair(&bytes[at..]);
+            if taken == 0 {
+                return at;
+            }
+            at += taken;
+        }
+        at
+    }
+
+    // So where the head isn't at its end.
+    fn add_head(&mut self, bytes: &[u8]) -> usize
+        ensures within { result ≤ length bytes.now }
+        ensures state { self.new ≡ fed self.old (take result bytes.now) }
+        ensures stays { (f : GridFault) → self.old ≡ Err f → self.new ≡ Err f }
+    {
+        match &self.stage {
+            Stage::AtKey(_) => self.add_pairs(bytes),
+            _ => 0,
+        }
     }
 
     // Takes the first of these bytes: white space, or a whole token with the white space behind it, where
@@ -201,12 +230,12 @@ impl Scanner {
                 self.add_white(&bytes[..n]);
                 return n;
             }
+            let taken = self.add_head(bytes);
+            if taken > 0 {
+                return taken;
+            }
             let n = dark_len(bytes);
             if n > 0 && n <= 64 && n < bytes.len() {
-                let taken = self.add_pair(bytes, n);
-                if taken > 0 {
-                    return taken;
-                }
                 self.add_whole(&bytes[..n]);
                 return n + 1;
             }

@@ -1,7 +1,6 @@
 // What a token changes.
 ghost use Rattle.std.specs.Prelude.{◌≡◌, ℕ, true, List, ◌≤◌, ◌<◌, ◌+◌, ◌*◌, ◌^◌, ◌++◌, ◌==◌, [], ◌∷◌, if◌then◌else◌};
 ghost use Rattle.std.specs.Prelude.{IfOk, IfErr, OnOk, OnErr};
-ghost use Rattle.ascii_grid.specs.Tokens.{Token};
 ghost use Rattle.ascii_grid.specs.Values.{has_value};
 ghost use Rattle.ascii_grid.specs.Faults.{IsMemory};
 ghost use Rattle.ascii_grid.specs.declared.head_parts.Stage.TheVariants.{AtKey, InBody};

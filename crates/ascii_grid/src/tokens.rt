@@ -1,12 +1,13 @@
 // Bytes between tokens, and their places.
 ghost use Rattle.std.specs.Prelude.{◌≡◌, ◌≤◌, ◌<◌, ℕ, length, get_or, true, false};
-ghost use Rattle.ascii_grid.specs.Tokens.{is_white, next};
+ghost use Rattle.lists_and_answers.specs.Texts.{is_white};
+ghost use Rattle.ascii_grid.specs.Tokens.{next};
 
 /// Whether the byte is white space.
 pub fn is_white(c: u8) -> bool
     ensures { result ≡ is_white c }
 {
-    (c >= 9 && c <= 13) || c == 32
+    c == b' ' || (9 <= c && c <= 13)
 }
 
 /// The place of the next byte.

@@ -3,10 +3,11 @@ ghost use Rattle.std.specs.Prelude.{◌≡◌, ◌≤◌, ◌<◌, ℕ, ℤ, pos
 ghost use Rattle.std.specs.Prelude.{◌*◌, ◌==◌, min, Some, None, if◌then◌else◌};
 ghost use Rattle.std.specs.List.{list_all};
 ghost use Rattle.std.specs.Char.{is_ascii_digit};
+ghost use Rattle.lists_and_answers.specs.Texts.{is_white};
 ghost use Rattle.geotransform.specs.Decimal.{IsRead, number, signed, ticks_of};
-ghost use Rattle.ascii_grid.specs.Values.{is_body_start, side_in, coordinate_in, step_in, when_value, nodata_in};
+ghost use Rattle.ascii_grid.specs.Values.{is_body_start, side_in, coordinate_in, step_in, when_value};
+ghost use Rattle.ascii_grid.specs.Values.{nodata_in, other_nodata};
 ghost use Rattle.ascii_grid.specs.Values.{is_whole_end, value_in, is_value, has_value};
-ghost use Rattle.ascii_grid.specs.Tokens.{is_white};
 ghost use Rattle.ascii_grid.specs.Row.{value_or_zero};
 
 use crate::faults::GridFault;
@@ -53,15 +54,16 @@ fn units(n: u32) -> Ticks
     Ticks::of(n * 180_000_000_000_000_000)
 }
 
-// The ticks of a few digits, or none where the text is another one.
+// How many units a few digits are, or none where the text is another one.
+#[inline(always)]
 #[tactic(auto, using(crate::proofs::Ticks::digits_ticks))]
-fn whole_ticks(text: &[u8]) -> Option<Ticks>
-    ensures value { IfSome result (λ t. ticks_of text.now ≡ Some t) }
-    ensures read { IfSome result IsRead }
+fn units_in(text: &[u8]) -> Option<u32>
+    ensures value { IfSome result (λ n. ticks_of text.now ≡ Some (pos (18 * (n * 10 ^ 16)))) }
+    ensures small { IfSome result (λ n. n ≤ 2000000009) }
 {
     let (n, value) = digits_in(text);
-    if n > 0 && n <= 64 && n == text.len() {
-        Some(units(value))
+    if n == text.len() && n > 0 && n <= 64 {
+        Some(value)
     } else {
         None
     }
@@ -72,8 +74,8 @@ fn ticks_in(text: &[u8]) -> Option<Ticks>
     ensures value { result ≡ ticks_of text.now }
     ensures read { IfSome result IsRead }
 {
-    match whole_ticks(text) {
-        Some(ticks) => Some(ticks),
+    match units_in(text) {
+        Some(n) => Some(units(n)),
         None => read_decimal(text),
     }
 }
@@ -86,17 +88,38 @@ pub fn coordinate_in(at: u64, text: &[u8]) -> Result<Coordinate, GridFault>
     Ok(Coordinate::new(ticks))
 }
 
-/// A size of a pixel.
+// A size of so many units.
+fn units_step(n: u32) -> Step
+    requires some { 0 < n }
+    requires small { n ≤ 2000000009 }
+    ensures { result ≡ 18 * (n * 10 ^ 16) }
+{
+    Step::new(u128::from(n) * 180_000_000_000_000_000)
+}
+
+// A size of a pixel that any text writes.
+#[inline(always)]
 #[tactic(auto, unfolding(crate::specs::Values::step_in))]
-pub fn step_in(at: u64, text: &[u8]) -> Result<Step, GridFault>
+fn decimal_step(at: u64, text: &[u8]) -> Result<Step, GridFault>
     ensures { result ≡ step_in at text.now }
 {
-    let ticks = ticks_in(text).ok_or(GridFault::BadToken(at))?;
+    let ticks = read_decimal(text).ok_or(GridFault::BadToken(at))?;
     let n = ticks.get();
     if n > 0 {
         Ok(Step::new(n.unsigned_abs()))
     } else {
         Err(GridFault::BadToken(at))
+    }
+}
+
+/// A size of a pixel.
+#[inline(always)]
+pub fn step_in(at: u64, text: &[u8]) -> Result<Step, GridFault>
+    ensures { result ≡ step_in at text.now }
+{
+    match units_in(text) {
+        Some(n) if n > 0 => Ok(units_step(n)),
+        _ => decimal_step(at, text),
     }
 }
 
@@ -110,15 +133,25 @@ fn when_value(n: Option<i128>) -> Option<Value>
     }
 }
 
+// A NODATA that is no whole number.
+fn other_nodata(at: u64, text: &[u8]) -> Result<Option<Value>, GridFault>
+    ensures { result ≡ other_nodata at text.now }
+{
+    if is_decimal(text) || same_letters(text, b"nan") {
+        Ok(None)
+    } else {
+        Err(GridFault::BadToken(at))
+    }
+}
+
 /// A NODATA.
-#[tactic(auto, unfolding(crate::specs::Values::nodata_in))]
+#[tactic(auto, using(crate::proofs::NoData::whole_told, crate::proofs::NoData::other_told))]
 pub fn nodata_in(at: u64, text: &[u8]) -> Result<Option<Value>, GridFault>
     ensures { result ≡ nodata_in at text.now }
 {
-    if is_decimal(text) || same_letters(text, b"nan") {
-        Ok(when_value(read_whole(text)))
-    } else {
-        Err(GridFault::BadToken(at))
+    match read_whole(text) {
+        Some(n) => Ok(when_value(Some(n))),
+        None => other_nodata(at, text),
     }
 }
 

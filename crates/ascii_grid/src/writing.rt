@@ -3,10 +3,10 @@ ghost use Rattle.std.specs.Prelude.{◌≡◌, ◌≤◌, ◌++◌, ◌∷◌, [
 ghost use Rattle.std.specs.List.{flat_map};
 ghost use Rattle.std.specs.Option.{option_map};
 ghost use Rattle.std.specs.Fmt.{decimal, signed_decimal};
-ghost use Rattle.lists_and_answers.specs.Growth.{KeepsFront};
+ghost use Rattle.lists_and_answers.specs.Growth.{Adds, KeepsFront};
 ghost use Rattle.geotransform.specs.Geo.{IsRaster};
 ghost use Rattle.geotransform.specs.Print.{short_text};
-ghost use Rattle.ascii_grid.specs.Text.{Adds, more_text, row_text, line, size_lines, edge_lines, step_lines};
+ghost use Rattle.ascii_grid.specs.Text.{more_text, row_text, line, size_lines, edge_lines, step_lines};
 ghost use Rattle.ascii_grid.specs.Text.{nodata_line, head_text};
 
 use crate::placing::{Placing, placing_of};

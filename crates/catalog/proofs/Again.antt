@@ -4,7 +4,7 @@ use Rattle.std.specs.Prelude.{All, slice_get, nat_lt, ok_or, ◌||◌}
 use Rattle.std.proofs.lemmas.Bool.Decides.{nat_tests}
 use Rattle.std.proofs.lemmas.Slice.Eq.{bytes_eq-Decides}
 use Rattle.lists_and_answers.specs.Answers.{◌>>=◌}
-use Rattle.lists_and_answers.specs.Lists.{flattened}
+use Rattle.lists_and_answers.specs.Lists.{flattened, is_among}
 use Rattle.vrt_profile.specs.Values.{SourceValue}
 use Rattle.vrt_profile.specs.Resolve.{resolved_text}
 use Rattle.catalog.specs.declared.kind.Kind.{Kind}
@@ -17,7 +17,7 @@ use Rattle.catalog.specs.declared.faults.WalkFault.{WalkFault}
 use Rattle.catalog.specs.declared.faults.WalkFault.TheVariants.{Cycle, TooDeep, Limit}
 use Rattle.catalog.specs.declared.links.Link.{Link}
 use Rattle.catalog.specs.Drivers.{Dataset, content_head, content_kind, driver_kind}
-use Rattle.catalog.specs.Mosaics.{sources_of, source_name, is_among}
+use Rattle.catalog.specs.Mosaics.{sources_of, source_name}
 use Rattle.catalog.specs.Heads.{kind_in, resolved}
 use Rattle.catalog.specs.Walk.{number_of, dataset_named, sources_in, unless_on, room_for, again_sources, again_below, again_step, again, IsDataset}
 use Rattle.catalog.specs.Linked.{State, IsLinked, IsLinkOf, IsMet, IsHigh, IsOff, IsDeep, IsMember, Each, height_in, height_at, most, first_above}

@@ -5,11 +5,12 @@ use Rattle.std.specs.List.{filter, list_any}
 use Rattle.std.proofs.lemmas.Bool.Decides.{nat_tests}
 use Rattle.std.proofs.lemmas.List.{map-append}
 use Rattle.std.proofs.lemmas.Slice.Eq.{bytes_eq-Decides}
+use Rattle.lists_and_answers.specs.Lists.{is_among, with_name}
 use Rattle.vrt_markup.specs.Keys.{apart}
 use Rattle.catalog.specs.declared.gathered.Gathered.{Gathered}
-use Rattle.catalog.specs.Mosaics.{is_among, distinct}
+use Rattle.catalog.specs.Mosaics.{distinct}
 use Rattle.catalog.specs.Gathered.{HasGathered, text_number}
-use Rattle.catalog.proofs.Mosaics.{with_name, distinct_with, among_distinct}
+use Rattle.catalog.proofs.Mosaics.{distinct_with, among_distinct}
 
 -- no name yet
 pub gathered_none : (own : List ℕ) (g : Gathered) → g.files ≡ own ∷ [] → g.numbers.items ≡ [] → HasGathered own [] g

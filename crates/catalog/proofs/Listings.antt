@@ -10,6 +10,7 @@ use Rattle.std.proofs.lemmas.List.Elements.{filter_map-append}
 use Rattle.std.proofs.lemmas.Grind.{flat_map-append}
 use Rattle.std.proofs.lemmas.Slice.Eq.{bytes_eq-Decides}
 use Rattle.lists_and_answers.specs.Answers.{◌>>=◌}
+use Rattle.lists_and_answers.specs.Lists.{is_among}
 use Rattle.outside.specs.Paths.{normal}
 use Rattle.outside.specs.Causes.{HasCause}
 use Rattle.vrt_profile.specs.Values.{BandValue, SourceValue}
@@ -22,7 +23,7 @@ use Rattle.catalog.specs.declared.kind.Kind.{Kind}
 use Rattle.catalog.specs.declared.driver.Content.{Content}
 use Rattle.catalog.specs.declared.driver.Content.TheVariants.{File, Mosaic}
 use Rattle.catalog.specs.declared.mosaic_head.Listing.{Listing}
-use Rattle.catalog.specs.Mosaics.{source_name, is_among, distinct, sources_of}
+use Rattle.catalog.specs.Mosaics.{source_name, distinct, sources_of}
 use Rattle.catalog.specs.Listed.{HasListed}
 use Rattle.catalog.specs.Heads.{kind_in, resolved, all_resolved, names_within, IsOfHead, RefusesUnknown, OwnsFaults}
 use Rattle.catalog.proofs.Mosaics.{distinct_with, among_with}

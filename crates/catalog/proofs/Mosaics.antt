@@ -5,6 +5,7 @@ use Rattle.std.specs.List.{filter}
 use Rattle.std.proofs.lemmas.List.{append-nil, length-map}
 use Rattle.std.proofs.lemmas.List.Elements.{All-map, All-weaker, filter-append}
 use Rattle.std.proofs.lemmas.Slice.Eq.{bytes_eq-Decides}
+use Rattle.lists_and_answers.specs.Lists.{is_among, with_name}
 use Rattle.vrt_profile.specs.Values.{DocumentValue, IsDocument, IsBand}
 use Rattle.geotransform.specs.Geo.{IsRaster}
 use Rattle.geotransform.specs.declared.types.Size.{Size}
@@ -12,15 +13,11 @@ use Rattle.catalog.specs.declared.kind.BandHead.{BandHead}
 use Rattle.catalog.specs.declared.kind.Kind.{Kind}
 use Rattle.catalog.specs.declared.kind.Kind.TheVariants.{Vrt}
 use Rattle.catalog.specs.Dataset.{DatasetHead, IsDatasetHead, IsBandHead}
-use Rattle.catalog.specs.Mosaics.{is_among, distinct, mosaic_band}
+use Rattle.catalog.specs.Mosaics.{distinct, mosaic_band}
 
 -- the names other than n
 abbrev without : List ℕ → List (List ℕ) → List (List ℕ)
 without n ns = filter (λ k. not (bytes_eq n k)) ns
-
--- a name behind others, unless it is among them
-abbrev pub with_name : List (List ℕ) → List ℕ → List (List ℕ)
-with_name ns x = cond (is_among ns x) ns (ns ++ x ∷ [])
 
 -- a name that isn't n is among those other than n where it is among all
 same_as_first : (n d x : List ℕ) → bytes_eq n d ≡ true → bytes_eq n x ≡ false → bytes_eq d x ≡ false

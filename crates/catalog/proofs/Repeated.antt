@@ -2,12 +2,13 @@
 use Rattle.std.proofs.Common.{◌≡◌, ◌∙◌, ap, ap₂, sym, subst, refl, true, not, ◌||◌, ◌&&◌, ◌<◌, ◌+◌, ℕ, Bool, List, [], ◌∷◌, ◌++◌, take, get_or, length, Option, Some, None, bytes_eq, IfSome, if◌then◌else◌}
 use Rattle.std.specs.List.{filter_map, cons_option}
 use Rattle.std.proofs.lemmas.Slice.Eq.{bytes_eq-Decides}
+use Rattle.lists_and_answers.specs.Lists.{is_among}
 use Rattle.outside.specs.Names.{folder_part}
 use Rattle.outside.specs.Paths.{is_absolute}
 use Rattle.vrt_profile.specs.Values.{SourceValue}
 use Rattle.vrt_profile.specs.Resolve.{in_folder}
 use Rattle.catalog.specs.declared.gathered.Gathered.{Gathered}
-use Rattle.catalog.specs.Mosaics.{name_of_text, source_name, is_among, distinct}
+use Rattle.catalog.specs.Mosaics.{name_of_text, source_name, distinct}
 use Rattle.catalog.specs.Gathered.{HasGathered, IsThere}
 use Rattle.catalog.proofs.Mosaics.{among_distinct}
 use Rattle.catalog.proofs.Listings.{named_behind, named_next, unnamed_next}

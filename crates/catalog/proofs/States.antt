@@ -6,12 +6,11 @@ use Rattle.std.proofs.lemmas.List.Elements.{All-append, All-cons, All-nil}
 use Rattle.std.proofs.lemmas.List.Sums.{sum_by-append}
 use Rattle.std.proofs.lemmas.Option.{slice_get_within}
 use Rattle.std.proofs.lemmas.Slice.Eq.{bytes_eq-Decides}
-use Rattle.lists_and_answers.specs.Lists.{flattened}
+use Rattle.lists_and_answers.specs.Lists.{flattened, is_among}
 use Rattle.catalog.specs.declared.driver.Content.{Content}
 use Rattle.catalog.specs.declared.driver.Content.TheVariants.{File, Mosaic}
 use Rattle.catalog.specs.declared.links.Link.{Link}
 use Rattle.catalog.specs.Drivers.{Dataset}
-use Rattle.catalog.specs.Mosaics.{is_among}
 use Rattle.catalog.specs.Walk.{number_of, sources_in, sources_among, IsDataset, IsApart}
 use Rattle.catalog.specs.Linked.{State, is_waiting, is_open, IsLinkOf, IsLink, IsMet, IsLinked, IsOff, Grows, Goes, IsPath, pushed, closed, one_counted}
 use Rattle.catalog.proofs.Found.{some_is, found, flat_rows, rows_stay, most_stays}

@@ -3,6 +3,7 @@ use Rattle.std.proofs.Common.{◌≡◌, ◌∙◌, ◌⊎◌, inl, inr, ◌+◌
 use Rattle.std.specs.Prelude.{nat_lt}
 use Rattle.std.proofs.lemmas.Bool.Decides.{nat_tests}
 use Rattle.lists_and_answers.specs.Answers.{◌>>=◌}
+use Rattle.lists_and_answers.specs.Lists.{is_among}
 use Rattle.outside.specs.Outside.{Files}
 use Rattle.vrt_profile.specs.Value.{is_plain}
 use Rattle.vrt_profile.specs.Values.{SourceValue}
@@ -13,7 +14,6 @@ use Rattle.catalog.specs.declared.faults.WalkFault.{WalkFault}
 use Rattle.catalog.specs.declared.faults.WalkFault.TheVariants.{Cycle, TooDeep, Limit}
 use Rattle.catalog.specs.Outcomes.{IsOutside}
 use Rattle.catalog.specs.Drivers.{Dataset}
-use Rattle.catalog.specs.Mosaics.{is_among}
 use Rattle.catalog.specs.Heads.{kind_in, dataset_by, resolved}
 use Rattle.catalog.specs.Walk.{Met, number_of, dataset_named, sources_in, unless_on, room_for, one_more_source, has_samples, again_below, again_step, again, visit_source, visit_sources, first_met, met_or_first, visit_step, visit}
 use Rattle.catalog.proofs.Again.{again_begins}

@@ -12,6 +12,14 @@ use Rattle.geotransform.specs.Limits.{most_bands}
 abbrev pub most_datasets : ℕ
 most_datasets = 65536
 
+-- The most mosaics on a path, on which a source of each names the next.
+abbrev pub most_nestings : ℕ
+most_nestings = 16
+
+-- The side of a square of a mosaic, in pixels.
+abbrev pub square_side : ℕ
+square_side = 128
+
 -- a dataset: its name and kind, its raster, its bands in order, and the names of its own files
 pub record DatasetHead : Type 0 where
   pub name : List ℕ
@@ -35,7 +43,7 @@ block_of kinds.Raw size = record { w = size.w; h = 1 }
 block_of kinds.Dted size = record { w = 1; h = size.h }
 block_of kinds.Hgt size = record { w = size.w; h = 1 }
 block_of kinds.Ascii size = record { w = size.w; h = 1 }
-block_of kinds.Vrt size = record { w = 128; h = 128 }
+block_of kinds.Vrt size = record { w = square_side; h = square_side }
 
 -- a band has the blocks of its dataset, and a NODATA of its own type
 pub record IsBandHead (kind : Kind) (size : Size) (band : BandHead) : Type 0 where

@@ -3,16 +3,16 @@
 use Rattle.std.specs.Prelude.{◌≡◌, ◌<◌, ◌≤◌, ◌+◌, ◌-◌, ℕ, suc, max, Bool, true, false, ◌||◌, List, [], ◌∷◌, length, All}
 use Rattle.std.specs.Prelude.{slice_get, ◌++◌, take, set, Option, Some, None, option_and_then, Err, nat_lt}
 use Rattle.std.specs.Prelude.{if◌then◌else◌}
-use Rattle.lists_and_answers.specs.Lists.{flattened}
+use Rattle.lists_and_answers.specs.Lists.{flattened, is_among}
 use Rattle.vrt_profile.specs.Value.{is_plain}
 use Rattle.vrt_profile.specs.Values.{DocumentValue, BandValue, SourceValue, most_sources}
 use Rattle.catalog.specs.declared.driver.Content.{Content}
 use Rattle.catalog.specs.declared.driver.Content.TheVariants.{File, Mosaic}
 use Rattle.catalog.specs.declared.faults.WalkFault.TheVariants.{TooDeep}
 use Rattle.catalog.specs.declared.links.Link.{Link}
-use Rattle.catalog.specs.Dataset.{band_at, band_count, most_datasets}
+use Rattle.catalog.specs.Dataset.{band_at, band_count, most_datasets, most_nestings}
 use Rattle.catalog.specs.Drivers.{Dataset}
-use Rattle.catalog.specs.Mosaics.{source_name, is_among}
+use Rattle.catalog.specs.Mosaics.{source_name}
 use Rattle.catalog.specs.Walk.{Met, again, is_narrow_band, number_of, sources_among, IsDataset, IsApart, IsCatalog}
 
 -- the datasets in the order in which they were met, the link of each that was met whole, and the number of their
@@ -91,7 +91,7 @@ IsLinkOf st name (Mosaic doc) l = IsMosaicLink st name doc l
 -- the link of a dataset
 pub record IsLink (st : State) (d : Dataset) (l : Link) : Type 0 where
   pub content : IsLinkOf st d.head.name d.content l
-  pub shallow : l.height ≤ 16
+  pub shallow : l.height ≤ most_nestings
 
 -- what a walk keeps of what it has met, at any time
 pub record IsLinked (st : State) : Type 0 where

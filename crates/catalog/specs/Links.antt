@@ -5,6 +5,7 @@ use Rattle.lists_and_answers.specs.Options.{◌>>=◌}
 use Rattle.vrt_profile.specs.Values.{SourceValue}
 use Rattle.catalog.specs.declared.driver.Content.{Content}
 use Rattle.catalog.specs.declared.driver.Content.TheVariants.{File, Mosaic}
+use Rattle.catalog.specs.Dataset.{most_nestings}
 use Rattle.catalog.specs.Drivers.{Dataset, document_of}
 use Rattle.catalog.specs.Mosaics.{sources_of, source_name}
 use Rattle.catalog.specs.Walk.{number_of, dataset_named}
@@ -39,4 +40,4 @@ height_within (suc room) cat d = height_step (λ t. height_within room cat t) ca
 
 -- the height of a dataset of a catalog, whose mosaics are nested at most 16 deep
 unfoldable pub height_of : List Dataset → Dataset → ℕ
-height_of cat d = height_within 16 cat d
+height_of cat d = height_within most_nestings cat d

@@ -1,5 +1,5 @@
 -- What the document of a mosaic says of its dataset.
-use Rattle.std.specs.Prelude.{ℕ, Bool, false, not, ◌||◌, List, [], ◌∷◌, length, map, flat_map, nat_lt, bytes_eq, Option}
+use Rattle.std.specs.Prelude.{ℕ, not, List, [], ◌∷◌, length, map, flat_map, nat_lt, bytes_eq, Option}
 use Rattle.std.specs.Prelude.{Some, None, if◌then◌else◌}
 use Rattle.std.specs.List.{filter, filter_map}
 use Rattle.geotransform.specs.declared.types.Size.{Size}
@@ -21,11 +21,6 @@ name_of_text text = if nat_lt longest_name (length text) then None else Some (no
 -- the name of a source of the mosaic with the name `base`, if it is within the limit
 abbrev pub source_name : List ℕ → SourceValue → Option (List ℕ)
 source_name base s = name_of_text (resolved_text base s)
-
--- whether a name is among others
-abbrev pub is_among : List (List ℕ) → List ℕ → Bool
-is_among [] name = false
-is_among (n ∷ ns) name = bytes_eq n name || is_among ns name
 
 -- each name where it first stands
 abbrev pub distinct : List (List ℕ) → List (List ℕ)

@@ -12,7 +12,7 @@ use Rattle.hgt_tiles.specs.Samples.{hgt_at}
 use Rattle.ascii_grid.specs.Grid.{ascii_at, grid_head}
 use Rattle.vrt_profile.specs.Values.{BandValue, SourceValue}
 use Rattle.vrt_profile.specs.Value.{is_plain, given_of, mosaic_pixel}
-use Rattle.catalog.specs.Dataset.{band_at, band_count}
+use Rattle.catalog.specs.Dataset.{band_at, band_count, most_nestings}
 use Rattle.catalog.specs.Drivers.{Dataset}
 use Rattle.catalog.specs.Mosaics.{source_name}
 use Rattle.catalog.specs.Heads.{dataset_in}
@@ -95,12 +95,12 @@ found_in_folder m name = told (dataset_in m false name)
 -- The pixel of the dataset of a name, by the files of a folder alone. A walk accepts at most 16 mosaics on a path,
 -- below which a file stands.
 unfoldable pub pixel_of_name : Files → Images
-pixel_of_name m name band x y = pixel_within (found_in_folder m) m 17 name band x y
+pixel_of_name m name band x y = pixel_within (found_in_folder m) m (suc most_nestings) name band x y
 
 -- The pixel of the dataset of a number in a catalog.
 unfoldable pub pixel_of : Files → List Dataset → ℕ → ℕ → ℕ → ℕ → ℤ
 pixel_of m cat id band x y =
-    pixel_step (dataset_named cat) (pixel_within (dataset_named cat) m 16) m (slice_get cat id) band x y
+    pixel_step (dataset_named cat) (pixel_within (dataset_named cat) m most_nestings) m (slice_get cat id) band x y
 
 -- The size of the dataset of a catalog that a source of a dataset names.
 abbrev pub member_size : List Dataset → Dataset → SourceValue → Size

@@ -30,13 +30,6 @@ rect_in block size n = record {
 abbrev pub number_in : Size → Size → ℕ → ℕ → ℕ
 number_in block size x y = y / block.h * across block size + x / block.w
 
--- the pixel lies in the rectangle
-pub record IsInside (rect : Rect) (x y : ℕ) : Type 0 where
-  pub left : rect.x ≤ x
-  pub right : x < rect.x + rect.w
-  pub top : rect.y ≤ y
-  pub bottom : y < rect.y + rect.h
-
 -- the rectangle has pixels, and all of them lie in the raster
 pub record IsWithin (rect : Rect) (size : Size) : Type 0 where
   pub columns : 0 < rect.w

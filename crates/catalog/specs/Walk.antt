@@ -4,6 +4,7 @@ use Rattle.std.specs.Prelude.{◌++◌, length, All, bytes_eq, slice_get, Option
 use Rattle.std.specs.Prelude.{Err, nat_lt, if◌then◌else◌}
 use Rattle.std.specs.List.{sum_by}
 use Rattle.lists_and_answers.specs.Answers.{◌>>=◌}
+use Rattle.lists_and_answers.specs.Lists.{is_among}
 use Rattle.outside.specs.Outside.{Files}
 use Rattle.geotransform.specs.Types.{bytes_of}
 use Rattle.vrt_profile.specs.Value.{is_plain}
@@ -14,9 +15,9 @@ use Rattle.catalog.specs.declared.kind.Kind.{Kind}
 use Rattle.catalog.specs.declared.kind.Kind.TheVariants as kinds
 use Rattle.catalog.specs.declared.driver.Content.{Content}
 use Rattle.catalog.specs.declared.driver.Content.TheVariants.{File, Mosaic}
-use Rattle.catalog.specs.Dataset.{IsDatasetHead, band_at, band_count, most_datasets}
+use Rattle.catalog.specs.Dataset.{IsDatasetHead, band_at, band_count, most_datasets, most_nestings}
 use Rattle.catalog.specs.Drivers.{Dataset, content_head, Fits}
-use Rattle.catalog.specs.Mosaics.{sources_of, is_among}
+use Rattle.catalog.specs.Mosaics.{sources_of}
 use Rattle.catalog.specs.Heads.{kind_in, dataset_by, dataset_in, resolved}
 use Rattle.catalog.specs.declared.faults.Bad.TheVariants as bad
 use Rattle.catalog.specs.declared.faults.LimitKind.TheVariants as limits
@@ -183,7 +184,7 @@ met_in cat = record { datasets = cat; sources = sources_among cat }
 -- The walk from a name, where the datasets of a catalog were met earlier: the first refusal, or the datasets in the
 -- order in which they are first met.
 unfoldable pub walked : Files → Bool → List Dataset → List ℕ → Result (List Dataset) WalkFault
-walked m verify cat name = visit m verify 16 [] (met_in cat) name >>= λ met. Ok met.datasets
+walked m verify cat name = visit m verify most_nestings [] (met_in cat) name >>= λ met. Ok met.datasets
 
 -- a dataset's name is of its kind, and its head is what its content says
 pub record IsDataset (d : Dataset) : Type 0 where
@@ -223,7 +224,7 @@ pub record IsCatalog (cat : List Dataset) : Type 0 where
   pub few : length cat ≤ most_datasets
   pub sources : sources_among cat ≤ most_sources
   pub apart : IsApart cat
-  pub nested : All (λ d. IsNested 16 cat d) cat
+  pub nested : All (λ d. IsNested most_nestings cat d) cat
 
 -- the datasets are what the files of a folder say
 abbrev pub IsWalked : Files → List Dataset → Type 0

@@ -5,6 +5,7 @@ ghost use Rattle.lists_and_answers.specs.Answers.{Gives};
 ghost use Rattle.outside.specs.Outside.{Files};
 ghost use Rattle.outside.specs.Causes.{HasCause};
 ghost use Rattle.catalog.specs.Outcomes.{IsOutside};
+ghost use Rattle.catalog.specs.Dataset.{most_nestings};
 ghost use Rattle.catalog.specs.Drivers.{driver_of, document_of};
 ghost use Rattle.catalog.specs.Heads.{OwnsFaults};
 ghost use Rattle.catalog.specs.Drivers.{Dataset as Known};
@@ -23,7 +24,7 @@ use std::marker::Model;
 use vrt_profile::Document;
 
 /// The most mosaics on a path.
-const DEEPEST: u32 = 16;
+const MOST_NESTINGS: u32 = 16;
 
 /// Datasets by number, counted from 0 in the order in which they were met. No name stands twice, and of
 /// each source of a mosaic the catalog has the dataset that it names.
@@ -126,7 +127,7 @@ impl Catalog {
     pub fn height(&self, id: u32) -> u32
         requires known { id < length self.now }
         ensures height { option_map (λ d. height_of self.now d) (slice_get self.now id) ≡ Some result }
-        ensures low { result ≤ 16 }
+        ensures low { result ≤ most_nestings }
     {
         self.met.height(id)
     }
@@ -173,7 +174,7 @@ pub fn open_all<F: Folder>(
 {
     let count = cat.met.count();
     let sources = cat.met.sources();
-    match visit(alloc, &mut cat.met, folder, verify, DEEPEST, name) {
+    match visit(alloc, &mut cat.met, folder, verify, MOST_NESTINGS, name) {
         Ok(id) => Ok(id),
         Err(fault) => {
             cat.met.cut(count, sources);

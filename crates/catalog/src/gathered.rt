@@ -1,7 +1,8 @@
 // The names of a mosaic's sources, gathered with numbers by which they differ as a rule.
 ghost use Rattle.std.specs.Prelude.{◌≡◌, ◌==◌, ◌++◌, ◌∷◌, [], true, List, ℕ, drop, IfOk, OnOk};
+ghost use Rattle.lists_and_answers.specs.Lists.{is_among};
 ghost use Rattle.vrt_markup.specs.Keys.{apart};
-ghost use Rattle.catalog.specs.Mosaics.{distinct, is_among};
+ghost use Rattle.catalog.specs.Mosaics.{distinct};
 ghost use Rattle.catalog.specs.Gathered.{HasGathered, text_number};
 
 use lists_and_answers::Items;

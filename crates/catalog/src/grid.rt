@@ -22,8 +22,8 @@ use ascii_grid::{GridFault, GridHead, Scanner};
 use outside::{Failed, Folder, Name};
 use std::alloc::{AllocError, Global};
 
-/// The most bytes that are read at once.
-const PIECE: usize = 65_536;
+/// The most bytes of a grid, a row or a line that are read or written at a time.
+pub const PIECE_LEN: usize = 65_536;
 
 // Why a scan ends early: a call of the folder failed, or the scanner refused the bytes.
 pub enum ScanFault {
@@ -156,7 +156,7 @@ fn scan<F: Folder>(alloc: Global, folder: &mut F, mut file: F::File) -> Result<G
     ensures write_calls { F.write_calls folder.new ≡ F.write_calls folder.old }
     ensures cause { HasCause ScanFault.Failed (F.faults folder.old) (F.faults folder.new) result }
 {
-    let mut buffer = vec![in alloc; 0u8; PIECE]?;
+    let mut buffer = vec![in alloc; 0u8; PIECE_LEN]?;
     let scanner = Scanner::new(alloc);
     scan_file(folder, &mut file, &mut buffer, scanner)
 }

@@ -8,7 +8,7 @@ ghost use Rattle.lists_and_answers.specs.Lists.{flattened};
 ghost use Rattle.catalog.specs.Outcomes.{IsMemory};
 ghost use Rattle.catalog.specs.Drivers.{Dataset as Known};
 ghost use Rattle.catalog.specs.Walking.{IsPlain};
-ghost use Rattle.catalog.specs.Dataset.{band_at, most_datasets};
+ghost use Rattle.catalog.specs.Dataset.{band_at, most_datasets, most_nestings};
 ghost use Rattle.catalog.specs.Walk.{is_narrow_band, number_of, one_more_source};
 ghost use Rattle.catalog.specs.Linked.{State, IsLinked, IsHigh, IsDeep, Grows, HasBand, IsMosaicAt, pushed, closed};
 ghost use Rattle.catalog.specs.Linked.{one_counted, cut_to, height_at, most, first_above};
@@ -25,6 +25,9 @@ use vrt_profile::{Document, VrtBand};
 
 /// The most sources of all mosaics of a catalog: as many as one document has at most.
 pub const MOST_SOURCES: u32 = vrt_profile::MOST_SOURCES as u32;
+
+/// The number of the first source that is one too many.
+const TOO_MANY: u64 = MOST_SOURCES as u64 + 1;
 
 /// The numbers of the datasets that the sources of a band name, in order.
 pub type Members = Items<u32>;
@@ -213,7 +216,7 @@ impl Met {
     pub fn close(&mut self, id: u32, members: Items<Members>)
         requires known { id < length self.old.links }
         requires rows { All (λ row. All (λ id. id < length self.old.links) row) members }
-        requires low { most self.old.links (flattened members) < 16 }
+        requires low { most self.old.links (flattened members) < most_nestings }
         ensures closed { self.new ≡ closed self.old id
             (record { height = suc (most self.old.links (flattened members)); members = members }) }
     {
@@ -241,7 +244,7 @@ impl Met {
         if self.sources >= MOST_SOURCES {
             return Err(WalkFault::Limit {
                 what: LimitKind::Sources,
-                value: 262_145,
+                value: TOO_MANY,
             });
         }
         self.sources += 1;

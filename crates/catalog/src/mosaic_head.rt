@@ -19,8 +19,8 @@ use std::alloc::{AllocError, Global};
 use std::collections::BTreeSet;
 use vrt_profile::{Document, Source, VrtBand, resolve, resolved_len};
 
-/// The sides of a mosaic's blocks, in pixels.
-const SIDE: u32 = 128;
+/// The side of a square of a mosaic, in pixels.
+pub const SQUARE_SIDE: u32 = 128;
 
 /// The greatest length of a text that is normalised to a name, in bytes.
 const LONGEST_NAME: u64 = outside::LONGEST_NAME as u64;
@@ -176,7 +176,10 @@ fn mosaic_band(size: Size, band: &VrtBand) -> BandHead
     BandHead {
         kind: band.kind,
         nodata: band.nodata,
-        block: Size { w: SIDE, h: SIDE },
+        block: Size {
+            w: SQUARE_SIDE,
+            h: SQUARE_SIDE,
+        },
     }
 }
 

@@ -4,6 +4,7 @@ ghost use Rattle.std.specs.Prelude.{IfOk, IfErr, OnOk};
 ghost use Rattle.lists_and_answers.specs.Answers.{Gives};
 ghost use Rattle.outside.specs.Outside.{Files};
 ghost use Rattle.catalog.specs.Outcomes.{IsMemory};
+ghost use Rattle.catalog.specs.Dataset.{most_nestings};
 ghost use Rattle.catalog.specs.Mosaics.{sources_of};
 ghost use Rattle.catalog.specs.Heads.{kind_in, resolved};
 ghost use Rattle.catalog.specs.Drivers.{Dataset as Known};
@@ -24,7 +25,10 @@ use std::alloc::Global;
 use vrt_profile::{VrtFault, resolve, resolved_len};
 
 /// The most datasets of a catalog.
-const MOST_DATASETS: u32 = 65_536;
+pub const MOST_DATASETS: u32 = 65_536;
+
+/// The number of the first dataset that is one too many.
+const TOO_MANY: u64 = MOST_DATASETS as u64 + 1;
 
 // How the visit of a name goes on: the dataset of this number was met whole, or it is a mosaic that was
 // met for the first time, and the walk goes through its sources.
@@ -185,7 +189,7 @@ fn meet_first<F: Folder>(
     name: &Name,
 ) -> Result<Meeting, WalkFault>
     requires linked { IsLinked met.old }
-    requires room { room ≤ 16 }
+    requires room { room ≤ most_nestings }
     requires kind { kind_in name.now ≡ Ok kind }
     requires shallow { room_for room kind name.now ≡ Ok tt }
     requires fresh { number_of met.old.datasets name.now ≡ None }
@@ -196,7 +200,7 @@ fn meet_first<F: Folder>(
     if met.count() >= MOST_DATASETS {
         return Err(WalkFault::Limit {
             what: LimitKind::Files,
-            value: 65_537,
+            value: TOO_MANY,
         });
     }
     let dataset = read_dataset(alloc, folder, kind, name, verify)?;
@@ -218,7 +222,7 @@ fn meet<F: Folder>(
     name: &Name,
 ) -> Result<Meeting, WalkFault>
     requires linked { IsLinked met.old }
-    requires room { room ≤ 16 }
+    requires room { room ≤ most_nestings }
     ensures meets { Meets verify room name.now (seen (F.names folder.old) (F.write_calls folder.old)
         (F.read_calls folder.old) (F.faults folder.old)) (seen (F.names folder.new) (F.write_calls folder.new)
         (F.read_calls folder.new) (F.faults folder.new)) met.old met.new result }
@@ -248,7 +252,7 @@ fn visit_source<F: Folder>(
     at: SourceAt,
 ) -> Result<u32, WalkFault>
     requires linked { IsLinked met.old }
-    requires room { room < 16 }
+    requires room { room < most_nestings }
     requires there { HasSource met.old at.id at.band at.source }
     ensures passes { (w : HasSource met.old at.id at.band at.source) → Passes verify room w.of.mosaic.dataset.head.name
         (w.value ∷ []) (seen (F.names folder.old) (F.write_calls folder.old) (F.read_calls folder.old)
@@ -274,7 +278,7 @@ fn visit_band<F: Folder>(
     band: usize,
 ) -> Result<Members, WalkFault>
     requires linked { IsLinked met.old }
-    requires room { room < 16 }
+    requires room { room < most_nestings }
     requires there { HasBand met.old id band }
     ensures passes { (w : HasBand met.old id band) → Passes verify room w.mosaic.dataset.head.name w.value.sources
         (seen (F.names folder.old) (F.write_calls folder.old) (F.read_calls folder.old) (F.faults folder.old))
@@ -302,7 +306,7 @@ fn visit_bands<F: Folder>(
     id: u32,
 ) -> Result<Items<Members>, WalkFault>
     requires linked { IsLinked met.old }
-    requires room { room < 16 }
+    requires room { room < most_nestings }
     requires there { IsMosaicAt met.old id }
     ensures passes { (w : IsMosaicAt met.old id) → Passes verify room w.dataset.head.name (sources_of w.document)
         (seen (F.names folder.old) (F.write_calls folder.old) (F.read_calls folder.old) (F.faults folder.old))
@@ -330,7 +334,7 @@ pub fn visit<F: Folder>(
     name: &Name,
 ) -> Result<u32, WalkFault>
     requires linked { IsLinked met.old }
-    requires room { room ≤ 16 }
+    requires room { room ≤ most_nestings }
     ensures visits { Visits verify room name.now (seen (F.names folder.old) (F.write_calls folder.old)
         (F.read_calls folder.old) (F.faults folder.old)) (seen (F.names folder.new) (F.write_calls folder.new)
         (F.read_calls folder.new) (F.faults folder.new)) met.old met.new result }

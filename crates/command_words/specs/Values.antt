@@ -17,6 +17,7 @@ use Rattle.command_words.specs.declared.spoken.ResolutionWord.{ResolutionWord}
 use Rattle.command_words.specs.declared.spoken.ResolutionWord.TheVariants.{Highest, Lowest, Average, User}
 use Rattle.geotransform.specs.Limits.{most_bands}
 use Rattle.band_blocks.specs.Blocks.{most_blocks}
+use Rattle.lane_teams.specs.Workers.{most_workers}
 use Rattle.synthetic_rasters.specs.Tiles.{most_tile_side}
 
 abbrev pub begins_with_dash : List ℕ → Bool
@@ -39,7 +40,7 @@ abbrev pub blocks_of : List ℕ → Option ℕ
 blocks_of word = number_within most_blocks (short_of word)
 
 abbrev pub workers_of : List ℕ → Option ℕ
-workers_of word = number_within 16 (short_of word)
+workers_of word = number_within most_workers (short_of word)
 
 -- the side of a tile that synth makes
 abbrev pub tile_side_of : List ℕ → Option ℕ

@@ -1,12 +1,11 @@
 -- The cells that rasters are.
 use Rattle.std.specs.Prelude.{◌≡◌, ◌⊎◌, ◌<ℤ◌, ◌≤ℤ◌, ◌≤◌, ℕ, ℤ, pos, negsuc, ◌+ℤ◌, ◌*ℤ◌, ◌+◌, ◌-◌, ◌*◌, ◌/◌, ◌%◌, Bool}
-use Rattle.std.specs.Prelude.{Option, Some, None, Result, Ok, Err, nat_lt, ◌==◌, if◌then◌else◌, unsigned_abs}
+use Rattle.std.specs.Prelude.{Option, Some, None, nat_lt, ◌==◌, if◌then◌else◌, unsigned_abs}
 use Rattle.lists_and_answers.specs.Options.{◌>>=◌}
 use Rattle.geotransform.specs.Geo.{Transform, is_north_up}
 use Rattle.geotransform.specs.Degrees.{degree_near, twice_west, twice_east, twice_south, twice_north, lon_of, lat_of}
 use Rattle.geotransform.specs.Degrees.{IsAt}
 use Rattle.geotransform.specs.declared.types.Size.{Size}
-use Rattle.geotransform.specs.declared.faults.Unfit.{Unfit}
 use Rattle.dted_records.specs.Head.{Head}
 use Rattle.dted_records.specs.Places.{spacing}
 
@@ -58,11 +57,6 @@ cell_of level size g = do
   lat ← lat_of (spacing (step_of level)) size.h g
   lon ← lon_of (spacing (step_of level * factor)) size.w g
   Some (cell_head level factor lat lon)
-
--- what is found, or that the raster doesn't fit
-abbrev pub or_unfit : Option Head → Result Head Unfit
-or_unfit None = Err (record {})
-or_unfit (Some h) = Ok h
 
 -- the points that the levels have
 abbrev pub IsLevelled : ℕ → Type 0

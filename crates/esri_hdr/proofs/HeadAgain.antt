@@ -2,7 +2,7 @@
 use Rattle.std.proofs.Common.{◌≡◌, ℕ, ℤ, pos, ◌*◌, ◌^◌, ◌<◌, ◌≤◌, Bool, true, false, cond, ◌++◌, length, Option, Some, None, Ok, Err, refl, ap, ◌∙◌, sym, subst, arith}
 use Rattle.std.proofs.Math.Nat.{mul-div_cancel_left}
 use Rattle.std.proofs.lemmas.Nat.{mul-le}
-use Rattle.std.specs.Prelude.{codes, nat_lt, ◌&&◌, int_lt, IfSome, ◌+ℤ◌}
+use Rattle.std.specs.Prelude.{codes, nat_lt, ◌&&◌, int_lt, IfSome, ◌+ℤ◌, ok_or}
 use Rattle.std.specs.Option.{option_map}
 use Rattle.std.specs.Fmt.{decimal, signed_decimal}
 use mathlib.Core.Path.{fun_ext}
@@ -20,7 +20,6 @@ use Rattle.esri_hdr.specs.declared.header_parts.Rows.{Rows}
 use Rattle.esri_hdr.specs.Keys as keys
 use Rattle.esri_hdr.specs.Lines.{Values, last_of}
 use Rattle.lists_and_answers.specs.Answers.{◌>>=◌}
-use Rattle.esri_hdr.specs.Values.{or_fault}
 use Rattle.esri_hdr.specs.Head.{place_in, step_in, is_half_near, geo_in, nodata_in, shape_of, row_len, rows_of, geo_of, Head, head_of, esri_head, sample_len, GeoFits, IsHead, RowsFit}
 use Rattle.esri_hdr.specs.Text.{order_text, layout_text, sign_text, nodata_fields, geo_fields, fields_of, fields_from, hdr_text}
 use Rattle.esri_hdr.proofs.Again.{IsKey, IsField, last_field, last_text, text_len, key_const, field_const, field_word}
@@ -31,11 +30,11 @@ use Rattle.esri_hdr.proofs.ValuesAgain.{side_again, bands_again, bits_again, big
 
 place_again : (v : ℤ) → IsRead v → place_in (Some (short_text v)) ≡ Ok (Some v)
 unfolding place_in
-place_again v h = ap (λ (x : Option ℤ). or_fault BadValue x >>= λ v. Ok (Some v)) (short_again v h.multiple h.near)
+place_again v h = ap (λ (x : Option ℤ). ok_or x BadValue >>= λ v. Ok (Some v)) (short_again v h.multiple h.near)
 
 step_again : (v : ℤ) → IsRead v → int_lt (pos 0) v ≡ true → step_in (Some (short_text v)) ≡ Ok v
 unfolding step_in
-step_again v h some = ap (λ (x : Option ℤ). or_fault BadValue x >>= λ v. cond (int_lt (pos 0) v) (Ok v) (Err BadValue)) (short_again v h.multiple h.near) ∙ ap (λ b. cond b (Ok v) (Err BadValue)) some
+step_again v h some = ap (λ (x : Option ℤ). ok_or x BadValue >>= λ v. cond (int_lt (pos 0) v) (Ok v) (Err BadValue)) (short_again v h.multiple h.near) ∙ ap (λ b. cond b (Ok v) (Err BadValue)) some
 
 geo_again : (g : RawGeo) → GeoFits g → geo_in (Some g.ulx) (Some g.uly) g.xdim g.ydim ≡ Ok (Some g)
 unfolding geo_in

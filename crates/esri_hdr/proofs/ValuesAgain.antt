@@ -1,6 +1,6 @@
 -- Each written value is read as the same.
 use Rattle.std.proofs.Common.{◌≡◌, ℕ, ◌*◌, ◌^◌, ◌<◌, ◌≤◌, Bool, true, false, cond, List, length, Option, Some, None, Result, Ok, Err, refl, ap, ◌∙◌, sym, arith}
-use Rattle.std.specs.Prelude.{nat_lt, nat_le, ◌==◌, ◌&&◌, ◌||◌}
+use Rattle.std.specs.Prelude.{nat_lt, nat_le, ◌==◌, ◌&&◌, ◌||◌, ok_or}
 use Rattle.std.specs.List.{list_all}
 use Rattle.std.specs.Char.{is_ascii_digit}
 use Rattle.std.specs.Fmt.{decimal}
@@ -16,7 +16,7 @@ use Rattle.esri_hdr.specs.declared.header_parts.HdrFault.TheVariants.{BadValue, 
 use Rattle.esri_hdr.specs.declared.header_parts.Layout.{Layout}
 use Rattle.esri_hdr.specs.declared.header_parts.Layout.TheVariants.{Bil, Bip, Bsq}
 use Rattle.lists_and_answers.specs.Answers.{◌>>=◌}
-use Rattle.esri_hdr.specs.Values.{or_fault, at_most, counted, number_in, side_in, bands_in, bits_in, big_in, layout_in, skip_in, signed_in, kind_of, row_in, band_row_in, total_row_in, gap_in, BandRowFits, TotalRowFits, GapFits}
+use Rattle.esri_hdr.specs.Values.{at_most, counted, number_in, side_in, bands_in, bits_in, big_in, layout_in, skip_in, signed_in, kind_of, row_in, band_row_in, total_row_in, gap_in, BandRowFits, TotalRowFits, GapFits}
 use Rattle.esri_hdr.specs.Head.{sample_len, IsSide}
 use Rattle.esri_hdr.specs.Text.{order_text, layout_text, sign_text}
 
@@ -33,7 +33,7 @@ number_of_again n small =
     ap (λ b. cond b (Some (number (decimal n))) None) all ∙ ap Some (digits_value-decimal own n less)
 
 number_again : (n : ℕ) → n < 10 ^ 18 → number_in (decimal n) ≡ Ok n
-number_again n small = ap (or_fault BadValue) (number_of_again n small)
+number_again n small = ap (λ o. ok_or o BadValue) (number_of_again n small)
 
 at_most_again : (limit n : ℕ) → n ≤ limit → at_most limit n ≡ Ok n
 at_most_again limit n h = let no : nat_lt limit n ≡ false = grind (arith, nat_tests) in ap (λ b. cond b (Err Limit) (Ok n)) no

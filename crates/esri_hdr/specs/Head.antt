@@ -1,7 +1,7 @@
 -- The head that a header's text gives, or its first fault.
 use Rattle.std.specs.Prelude.{◌≡◌, ◌<◌, ◌≤◌, ◌⊎◌, IfSome, ℕ, ℤ, pos, neg_ℤ, ◌+ℤ◌, ◌-ℤ◌, ◌*ℤ◌, ◌*◌, ◌/◌, ◌^◌, Bool, true}
-use Rattle.std.specs.Prelude.{false, ◌&&◌, List, length, Option, Some, None, Result, Ok, Err, nat_lt, if◌then◌else◌}
-use Rattle.std.specs.Prelude.{unsigned_abs, int_lt}
+use Rattle.std.specs.Prelude.{ok_or, false, ◌&&◌, List, length, Option, Some, None, Result, Ok, Err, nat_lt}
+use Rattle.std.specs.Prelude.{if◌then◌else◌, unsigned_abs, int_lt}
 use Rattle.std.specs.Option.{option_map}
 use Rattle.lists_and_answers.specs.Answers.{◌>>=◌}
 use Rattle.geotransform.specs.Decimal.{ticks_of, whole_of, IsRead}
@@ -19,7 +19,7 @@ use Rattle.esri_hdr.specs.declared.header_parts.RawGeo.{RawGeo}
 use Rattle.esri_hdr.specs.declared.header_parts.Shape.{Shape}
 use Rattle.esri_hdr.specs.declared.header_parts.Rows.{Rows}
 use Rattle.esri_hdr.specs.Lines.{Values, last_of}
-use Rattle.esri_hdr.specs.Values.{or_fault, side_in, bands_in, bits_in, big_in, layout_in, skip_in, signed_in, kind_of}
+use Rattle.esri_hdr.specs.Values.{side_in, bands_in, bits_in, big_in, layout_in, skip_in, signed_in, kind_of}
 use Rattle.esri_hdr.specs.Values.{band_row_in, total_row_in, gap_in, BandRowFits, TotalRowFits, GapFits}
 use Rattle.esri_hdr.specs.Keys as keys
 use Rattle.geotransform.specs.Limits.{most_bands, most_side}
@@ -28,14 +28,14 @@ use Rattle.geotransform.specs.Limits.{most_bands, most_side}
 unfoldable pub place_in : Option (List ℕ) → Result (Option ℤ) HdrFault
 place_in None = Ok None
 place_in (Some text) = do
-  v ← or_fault BadValue (ticks_of text)
+  v ← ok_or (ticks_of text) BadValue
   Ok (Some v)
 
 -- XDIM, YDIM
 unfoldable pub step_in : Option (List ℕ) → Result ℤ HdrFault
 step_in None = Ok (pos unit)
 step_in (Some text) = do
-  v ← or_fault BadValue (ticks_of text)
+  v ← ok_or (ticks_of text) BadValue
   if int_lt (pos 0) v then Ok v else Err BadValue
 
 -- whether the half of so many ticks is below 10^12 units in magnitude
@@ -58,8 +58,8 @@ nodata_in kind (Some text) = when_in kind (whole_of text)
 -- the keys from NROWS to PIXELTYPE
 unfoldable pub shape_of : Values → Result Shape HdrFault
 shape_of value = do
-  rows ← or_fault MissingKey (value keys.nrows)
-  cols ← or_fault MissingKey (value keys.ncols)
+  rows ← ok_or (value keys.nrows) MissingKey
+  cols ← ok_or (value keys.ncols) MissingKey
   h ← side_in rows
   w ← side_in cols
   bands ← bands_in (value keys.nbands)

@@ -1,6 +1,6 @@
 -- What the value of a key means, key by key. A key without a value has its default.
 use Rattle.std.specs.Prelude.{◌≡◌, ◌≤◌, ℕ, ◌*◌, ◌^◌, Bool, true, false, ◌&&◌, ◌||◌, List, Option, Some, None, Result}
-use Rattle.std.specs.Prelude.{Ok, Err, nat_lt, ◌==◌, if◌then◌else◌, codes, slice_index}
+use Rattle.std.specs.Prelude.{ok_or, Ok, Err, nat_lt, ◌==◌, if◌then◌else◌, codes, slice_index}
 use Rattle.std.specs.Char.{to_ascii_lowercase}
 use Rattle.lists_and_answers.specs.Answers.{◌>>=◌}
 use Rattle.lists_and_answers.specs.Texts.{same_letters}
@@ -14,11 +14,6 @@ use Rattle.esri_hdr.specs.declared.header_parts.Layout.{Layout}
 use Rattle.esri_hdr.specs.declared.header_parts.Layout.TheVariants.{Bil, Bip, Bsq}
 use Rattle.geotransform.specs.Limits.{most_bands, most_side}
 
--- what is found, or the fault
-abbrev pub or_fault : {A : Type 0} → HdrFault → Option A → Result A HdrFault
-or_fault fault None = Err fault
-or_fault fault (Some x) = Ok x
-
 -- a number up to the limit
 abbrev pub at_most : ℕ → ℕ → Result ℕ HdrFault
 at_most limit n = if nat_lt limit n then Err Limit else Ok n
@@ -29,7 +24,7 @@ counted limit n = if n == 0 then Err BadValue else at_most limit n
 
 -- one to 18 digits
 abbrev pub number_in : List ℕ → Result ℕ HdrFault
-number_in text = or_fault BadValue (number_of text)
+number_in text = ok_or (number_of text) BadValue
 
 -- a number, or its default where the key is absent
 abbrev pub number_or : ℕ → Option (List ℕ) → Result ℕ HdrFault

@@ -1,7 +1,7 @@
 // The centre and the sizes of the first pixel, as a header has them.
 ghost use Rattle.std.specs.Prelude.{◌≡◌, ◌<◌, ◌≤◌, ◌*◌, ◌^◌, ℤ, pos, neg_ℤ, ◌+ℤ◌, ◌-ℤ◌, ◌*ℤ◌, ◌&&◌, IfSome};
 ghost use Rattle.std.specs.Prelude.{unsigned_abs};
-ghost use Rattle.geotransform.specs.Places.{half, sixteen_places};
+ghost use Rattle.geotransform.specs.Places.{half};
 ghost use Rattle.geotransform.specs.Geo.{IsNear, is_near};
 ghost use Rattle.esri_hdr.specs.Head.{is_half_near, GeoFits, raw_geo, is_origin, raw_geo_of};
 

@@ -1,5 +1,5 @@
 // The lines of a header, their keys and values.
-ghost use Rattle.std.specs.Prelude.{slice_index_or, ◌≡◌, ℕ, ◌<◌, ◌≤◌, ◌+◌, length, IfSome, List, Option, map};
+ghost use Rattle.std.specs.Prelude.{slice_index_or, ◌≡◌, ℕ, ◌<◌, ◌≤◌, ◌+◌, length, IfSome, Option};
 ghost use Rattle.std.specs.Option.{option_map};
 ghost use Rattle.std.specs.List.{before_first, after_first, position_or_len, position};
 ghost use Rattle.lists_and_answers.specs.Texts.{same_letters};

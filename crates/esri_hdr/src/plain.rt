@@ -1,5 +1,5 @@
 // The head of a raster whose file has its samples alone.
-ghost use Rattle.std.specs.Prelude.{◌≡◌, ◌<◌, ◌≤◌, ◌*◌, ◌^◌, IfSome, true, ℕ, unsigned_abs};
+ghost use Rattle.std.specs.Prelude.{◌≡◌, ◌<◌, ◌≤◌, ◌*◌, ◌^◌, IfSome, true, ℕ};
 ghost use Rattle.geotransform.specs.Types.{is_in};
 ghost use Rattle.geotransform.specs.Geo.{IsRaster};
 ghost use Rattle.esri_hdr.specs.Head.{IsHead, GeoFits, sample_len, plain_row, plain_head};

@@ -1,11 +1,11 @@
 // Reading a header: the values of its keys, and the head that they give.
 ghost use Rattle.std.specs.Prelude.{IfSome, true, int_lt, pos, ◌+ℤ◌, ◌-ℤ◌, ◌≡◌, ℕ, ◌<◌, ◌≤◌, ◌+◌, ◌*◌, ◌/◌, ◌^◌};
-ghost use Rattle.std.specs.Prelude.{length, IfOk, List, Option};
+ghost use Rattle.std.specs.Prelude.{length, IfOk, Option};
 ghost use Rattle.std.specs.Option.{option_map};
 ghost use Rattle.esri_hdr.specs.Lines.{lookup};
 ghost use Rattle.geotransform.specs.Decimal.{IsRead};
 ghost use Rattle.geotransform.specs.Types.{is_in, when_in};
-ghost use Rattle.esri_hdr.specs.Head.{IsShape, RowsFit, GeoFits, place_in, step_in, geo_in, is_half_near};
+ghost use Rattle.esri_hdr.specs.Head.{IsShape, RowsFit, GeoFits, place_in, step_in, geo_in};
 ghost use Rattle.esri_hdr.specs.Head.{nodata_in, shape_of, row_len, rows_of, geo_of, head_from, head_of, esri_head};
 ghost use Rattle.esri_hdr.specs.Head.{IsHead};
 

@@ -1,11 +1,10 @@
 // Writing a header.
-ghost use Rattle.std.specs.Prelude.{◌≡◌, ℕ, ◌<◌, ◌≤◌, ◌+◌, ◌-◌, ◌*◌, ◌++◌, [], ◌∷◌, length, List, Option, OnOk, OnErr};
-ghost use Rattle.std.specs.Prelude.{replicate};
-ghost use Rattle.std.specs.Fmt.{decimal, signed_decimal};
+ghost use Rattle.std.specs.Prelude.{◌≡◌, ℕ, ◌<◌, ◌≤◌, ◌+◌, ◌-◌, ◌*◌, ◌++◌, [], ◌∷◌, Option, OnOk, OnErr};
+ghost use Rattle.std.specs.Fmt.{decimal};
 ghost use Rattle.lists_and_answers.specs.Growth.{KeepsFront};
 ghost use Rattle.geotransform.specs.Print.{short_text};
 ghost use Rattle.esri_hdr.specs.Text.{AppendsLines, order_text, layout_text, sign_text, nodata_fields, geo_fields};
-ghost use Rattle.esri_hdr.specs.Text.{layout_fields, sample_fields, row_fields, fields_of, hdr_text};
+ghost use Rattle.esri_hdr.specs.Text.{layout_fields, sample_fields, row_fields, hdr_text};
 
 use crate::head::{RawHead, sample_len};
 use crate::header_parts::{Layout, RawGeo};

@@ -4,6 +4,7 @@ use Rattle.std.specs.Prelude.{slice_get}
 use Rattle.std.proofs.lemmas.Bool.{cond-true, lt-ltb}
 use Rattle.std.proofs.lemmas.List.{map-append, take_more}
 use Rattle.std.proofs.Math.Seq.{take-suc-set, take-append_seam}
+use Rattle.geotransform.specs.Pixels.{within}
 use Rattle.outside.specs.Outside.{Files}
 use Rattle.catalog.specs.Drivers.{Dataset}
 use Rattle.catalog.specs.Walk.{IsCatalog, IsWalked}
@@ -15,7 +16,7 @@ use Rattle.location_report.specs.Location.{location_text}
 use Rattle.location_report.specs.declared.report.Form.{Form}
 use Rattle.location_report.specs.declared.report.Form.TheVariants.{Report, ValuesOnly, FilesOnly}
 use Rattle.gdal_cli.specs.declared.asked.Asked.{Asked}
-use Rattle.gdal_cli.specs.Location.{within, values_at, files_at, told_text}
+use Rattle.gdal_cli.specs.Location.{values_at, files_at, told_text}
 use Rattle.gdal_cli.specs.Pixels.{IsOnRaster}
 use Rattle.gdal_cli.proofs.Reached.{one_dataset}
 

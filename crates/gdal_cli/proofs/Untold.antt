@@ -1,12 +1,12 @@
 -- What is told of a place over every folder, also over one that doesn't tell its files.
 use Rattle.std.proofs.Common.{◌≡◌, ◌∙◌, ap, sym, subst, refl, ◌+◌, ◌-◌, ◌<◌, ℕ, ℤ, pos, List, [], ◌++◌, length, set, get_or, get_or-set_same, get_or-set_other, below_more, Option, Some, None, arith}
+use Rattle.geotransform.specs.Pixels.{within}
 use Rattle.catalog.specs.Drivers.{Dataset}
 use Rattle.location_report.specs.Covering.{covering_files}
 use Rattle.location_report.specs.Location.{location_text}
 use Rattle.location_report.specs.declared.report.Form.{Form}
 use Rattle.location_report.specs.declared.report.Form.TheVariants.{Report, ValuesOnly, FilesOnly}
 use Rattle.gdal_cli.specs.declared.asked.Asked.{Asked}
-use Rattle.gdal_cli.specs.Location.{within}
 use Rattle.gdal_cli.specs.Pixels.{IsOnRaster, AreOfBands}
 use Rattle.gdal_cli.specs.Untold.{IsTold, TellsPlace}
 use Rattle.gdal_cli.proofs.Told.{within_side}

@@ -1,12 +1,13 @@
 -- What gdallocationinfo prints of points.
-use Rattle.std.specs.Prelude.{ℕ, ℤ, pos, negsuc, ◌+◌, ◌-◌, Bool, true, false, List, [], ◌∷◌, length, map, flat_map}
-use Rattle.std.specs.Prelude.{nat_lt, Option, Some, None, Result, Ok, Err, if◌then◌else◌}
+use Rattle.std.specs.Prelude.{ℕ, ℤ, pos, ◌+◌, ◌-◌, Bool, true, false, List, [], ◌∷◌, length, map, flat_map}
+use Rattle.std.specs.Prelude.{nat_lt, Option, Some, None, Result, Ok, Err}
 use Rattle.std.specs.List.{range_with_len, find}
 use Rattle.lists_and_answers.specs.Answers.{◌>>=◌}
 use Rattle.geotransform.specs.Geo.{Transform, located}
 use Rattle.geotransform.specs.Print.{unit}
 use Rattle.geotransform.specs.Places.{floor_of}
 use Rattle.geotransform.specs.declared.faults.PlanFault.TheVariants.{NoBand, NoGeo}
+use Rattle.geotransform.specs.Pixels.{within}
 use Rattle.outside.specs.Outside.{Files}
 use Rattle.outside.specs.Streams.{Gets, GetsPart}
 use Rattle.input_points.specs.Entries.{most_lines}
@@ -25,11 +26,6 @@ use Rattle.error_lines.specs.declared.faults.Fault.{Fault}
 use Rattle.error_lines.specs.declared.faults.Fault.TheVariants.{Plan, Limit, BadPoint}
 use Rattle.error_lines.specs.Faults.{IsOutside}
 use Rattle.error_lines.specs.Steps.{Done, all_done, prints}
-
--- a whole number as a column or a line of a side
-abbrev pub within : ℕ → ℤ → Option ℕ
-within side (pos n) = if nat_lt n side then Some n else None
-within side (negsuc n) = None
 
 -- the bands that are chosen by their numbers from 1, or all
 abbrev pub chosen_of : ℕ → List ℕ → List ℕ

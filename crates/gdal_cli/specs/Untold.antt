@@ -1,12 +1,12 @@
 -- What is told of a place over every folder, also over one that doesn't tell its files.
 use Rattle.std.specs.Prelude.{◌≡◌, ℕ, ℤ, List, [], Option, Some, None, slice_get}
+use Rattle.geotransform.specs.Pixels.{within}
 use Rattle.outside.specs.Streams.{Gets}
 use Rattle.catalog.specs.Drivers.{Dataset}
 use Rattle.location_report.specs.Covering.{covering_files}
 use Rattle.location_report.specs.Location.{location_text}
 use Rattle.location_report.specs.declared.report.Form.TheVariants.{FilesOnly}
 use Rattle.gdal_cli.specs.declared.asked.Asked.{Asked}
-use Rattle.gdal_cli.specs.Location.{within}
 use Rattle.gdal_cli.specs.Pixels.{AreOfBands}
 
 -- The text is what is told of a place that has this column and this line of the raster: with some value of each band,

@@ -20,7 +20,7 @@ use crate::points::put_point;
 use crate::reader::{PointReader, Question};
 use catalog::LimitKind;
 use error_lines::Fault;
-use input_points::{Entry, LineKind, PointLines};
+use input_points::{Entry, LineKind, MOST_LINES, PointLines};
 use outside::{Failed, Folder, Input, Sink};
 use shared_lines::Scene;
 use std::sync::ledger::Ledger;
@@ -29,7 +29,7 @@ use std::sync::ledger::Ledger;
 const PIECE: usize = 65_536;
 
 /// The number of the first line that is one too many.
-const TOO_MANY: u64 = 16_777_217;
+const TOO_MANY: u64 = MOST_LINES as u64 + 1;
 
 // Answers a line that has this number and says this.
 fn answer_line<F: Folder, O: Sink, L: Ledger, S: Scene>(

@@ -2,7 +2,8 @@
 ghost use Rattle.std.specs.Prelude.{◌≡◌, ◌<◌, IfSome, pos};
 ghost use Rattle.geotransform.specs.Print.{unit};
 ghost use Rattle.geotransform.specs.Places.{floor_of};
-ghost use Rattle.gdal_cli.specs.Location.{within, column_and_line};
+ghost use Rattle.geotransform.specs.Pixels.{within};
+ghost use Rattle.gdal_cli.specs.Location.{column_and_line};
 
 use geotransform::{GeoTransform, Ticks, floor_of};
 use input_points::Position;

@@ -1,10 +1,11 @@
 -- Rasters whose outer pixels have their centres at whole degrees one apart.
-use Rattle.std.specs.Prelude.{ℕ, ℤ, pos, neg_ℤ, ◌+ℤ◌, ◌-ℤ◌, ◌*ℤ◌, ◌-◌, ◌*◌, ◌≤◌, Bool, ◌&&◌, Option, Some, None, nat_le}
-use Rattle.std.specs.Prelude.{int_lt, int_le, if◌then◌else◌, unsigned_abs}
+use Rattle.std.specs.Prelude.{ℕ, ℤ, pos, neg_ℤ, ◌+ℤ◌, ◌-ℤ◌, ◌*ℤ◌, ◌-◌, ◌*◌, ◌≤◌, Bool, ◌&&◌, Option, Some, None, Result}
+use Rattle.std.specs.Prelude.{Ok, Err, nat_le, int_lt, int_le, if◌then◌else◌, unsigned_abs}
 use Rattle.lists_and_answers.specs.Options.{◌>>=◌}
 use Rattle.geotransform.specs.Print.{unit}
 use Rattle.geotransform.specs.Places.{floor_of}
 use Rattle.geotransform.specs.Geo.{Transform, along}
+use Rattle.geotransform.specs.declared.faults.Unfit.{Unfit}
 
 -- so many whole degrees in ticks
 abbrev pub degrees : ℤ → ℤ
@@ -59,6 +60,11 @@ lon_of spacing columns g = degree_between spacing 180 (twice_west g) (twice_east
 -- the latitude of the last of so many lines, where the outer ones are at whole degrees one apart
 abbrev pub lat_of : ℕ → ℕ → Transform → Option ℤ
 lat_of spacing lines g = degree_between spacing 90 (twice_south g lines) (twice_north g)
+
+-- what is found, or that the raster doesn't fit
+abbrev pub or_unfit : {A : Type 0} → Option A → Result A Unfit
+or_unfit None = Err (record {})
+or_unfit (Some x) = Ok x
 
 -- half of so many ticks is within a thousandth of a spacing of a whole degree
 abbrev pub IsAt : ℕ → ℤ → ℤ → Type 0

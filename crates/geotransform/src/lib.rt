@@ -7,6 +7,7 @@ mod decimal_parts;
 mod faults;
 mod geo;
 mod limits;
+mod powers;
 pub mod print;
 mod rounding;
 mod sizes;

@@ -1,5 +1,5 @@
 // Rasters that run from west to east and from north to south.
-ghost use Rattle.std.specs.Prelude.{◌≡◌, ◌<◌, ◌≤◌, ◌^◌, ◌*◌, ℤ, neg_ℤ, ◌&&◌, unsigned_abs};
+ghost use Rattle.std.specs.Prelude.{◌≡◌, ◌<◌, ◌≤◌, ◌^◌, ◌*◌, ℤ, neg_ℤ, ◌&&◌};
 ghost use Rattle.geotransform.specs.Geo.{IsNear, is_near, is_north_up, is_size, sizes_held};
 
 use crate::geo::GeoTransform;

@@ -1,13 +1,12 @@
 -- Where the pixels of a tile lie, and which rasters are tiles.
 use Rattle.std.specs.Prelude.{◌≡◌, ◌⊎◌, ◌<ℤ◌, ◌≤ℤ◌, ◌≤◌, ℕ, ℤ, pos, negsuc, neg_ℤ, ◌+ℤ◌, ◌-ℤ◌, ◌*ℤ◌, ◌-◌, ◌*◌, ◌/◌}
-use Rattle.std.specs.Prelude.{Bool, ◌&&◌, ◌||◌, Option, Some, None, Result, Ok, Err, nat_le, int_lt, int_le, ◌==◌}
+use Rattle.std.specs.Prelude.{Bool, ◌&&◌, ◌||◌, Option, Some, None, nat_le, int_lt, int_le, ◌==◌}
 use Rattle.std.specs.Prelude.{if◌then◌else◌, unsigned_abs}
 use Rattle.lists_and_answers.specs.Options.{◌>>=◌}
 use Rattle.geotransform.specs.Print.{unit}
 use Rattle.geotransform.specs.Geo.{Transform, is_north_up}
 use Rattle.geotransform.specs.Degrees.{degrees, twice_west, twice_east, twice_south, twice_north, lon_of, lat_of, IsAt}
 use Rattle.geotransform.specs.declared.types.Size.{Size}
-use Rattle.geotransform.specs.declared.faults.Unfit.{Unfit}
 use Rattle.hgt_tiles.specs.Names.{Place}
 
 -- the columns, and lines, of a tile whose file has so many bytes
@@ -42,11 +41,6 @@ tile_of size g = do
   lon ← lon_of (spacing side) side g
   lat ← lat_of (spacing side) side g
   if is_north_up g then Some (record { lat = lat; lon = lon }) else None
-
--- what is found, or that the raster doesn't fit
-abbrev pub or_unfit : Option Place → Result Place Unfit
-or_unfit None = Err (record {})
-or_unfit (Some p) = Ok p
 
 -- a raster is the tile of a corner: as many columns and lines as a tile, from north to south, the centres of the outer
 -- pixels at whole degrees one apart

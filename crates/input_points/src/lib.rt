@@ -10,4 +10,4 @@ mod words;
 pub use entry::{Entry, LineKind};
 pub use laws::entries_of;
 pub use position::Position;
-pub use reading::PointLines;
+pub use reading::{MOST_LINES, PointLines};

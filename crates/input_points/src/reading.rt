@@ -15,7 +15,7 @@ use std::alloc::{AllocError, Global};
 use std::marker::Model;
 
 /// The most lines that an input may have.
-const MOST_LINES: u32 = 16_777_216;
+pub const MOST_LINES: u32 = 16_777_216;
 
 /// The most bytes of a line without its line feed.
 const MOST_BYTES: usize = LONGEST + 1;

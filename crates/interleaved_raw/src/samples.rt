@@ -1,12 +1,12 @@
 // Samples and their bytes.
-ghost use Rattle.std.specs.Prelude.{◌≡◌, ◌<◌, ◌≤◌, ◌⊎◌, ℕ, ◌+◌, ◌-◌, ◌*◌, ◌/◌, ◌%◌, ◌^◌, List, length, take, drop, map};
+ghost use Rattle.std.specs.Prelude.{◌≡◌, ◌<◌, ◌≤◌, ◌⊎◌, ℕ, ◌+◌, ◌-◌, ◌*◌, ◌/◌, ◌%◌, ◌^◌, List, length, map};
 ghost use Rattle.std.specs.Prelude.{true, pos, get_or};
 ghost use Rattle.std.specs.List.{range_with_len, All};
 ghost use Rattle.std.specs.Int.{w16, w32, cast_signed, cast_unsigned};
 ghost use Rattle.geotransform.specs.Types.{is_in};
-ghost use Rattle.esri_hdr.specs.Head.{Head, sample_len};
+ghost use Rattle.esri_hdr.specs.Head.{sample_len};
 ghost use Rattle.lists_and_answers.specs.Places.{StandsAt};
-ghost use Rattle.interleaved_raw.specs.Raw.{position_of, stride_of, value_of, bits_of, number_in, sample_at, raw_at};
+ghost use Rattle.interleaved_raw.specs.Raw.{position_of, value_of, bits_of, number_in, sample_at, raw_at};
 ghost use Rattle.interleaved_raw.specs.Raw.{row_of, Holds, run_of, bytes_at, sample_bytes, IsBetween};
 
 use crate::sample_places::stride;

@@ -2,3 +2,4 @@
 pub mod Parts
 pub mod Ready
 pub mod Turns
+pub mod Workers

@@ -1,7 +1,11 @@
 // How many lanes read beside each other.
 ghost use Rattle.std.specs.Prelude.{◌≡◌, ◌≤◌, ◌&&◌, nat_le, if◌then◌else◌, Some, None};
+ghost use Rattle.lane_teams.specs.Workers.{most_workers};
 
 use std::marker::Model;
+
+/// The most workers.
+const MOST_WORKERS: u32 = 16;
 
 /// How many workers read beside each other, from 1 to 16.
 #[derive(Clone, Copy)]
@@ -11,12 +15,13 @@ pub struct WorkerCount {
 
 impl Model for WorkerCount {
     ghost use Rattle.std.specs.Prelude.{ℕ, ◌≤◌};
+    ghost use Rattle.lane_teams.specs.Workers.{most_workers};
 
     ghost Value = { ℕ };
 
     ghost view = { λ w. w.number };
 
-    ghost invariant = { λ w. (1 ≤ w.number) × (w.number ≤ 16) };
+    ghost invariant = { λ w. (1 ≤ w.number) × (w.number ≤ most_workers) };
 
     ghost inverse = { λ n. record { number = n } };
 }
@@ -27,9 +32,9 @@ impl WorkerCount {
 
     /// The number where it is from 1 to 16, else none.
     pub fn new(number: u32) -> Option<WorkerCount>
-        ensures exact { result ≡ (if nat_le 1 number && nat_le number 16 then Some number else None) }
+        ensures exact { result ≡ (if nat_le 1 number && nat_le number most_workers then Some number else None) }
     {
-        if number >= 1 && number <= 16 {
+        if number >= 1 && number <= MOST_WORKERS {
             Some(WorkerCount { number })
         } else {
             None
@@ -40,7 +45,7 @@ impl WorkerCount {
     pub fn get(self) -> u32
         ensures value { result ≡ self }
         ensures some { 1 ≤ result }
-        ensures few { result ≤ 16 }
+        ensures few { result ≤ most_workers }
     {
         self.number
     }

@@ -1,5 +1,5 @@
 -- Texts: their parts, their letters, and tokens between blanks.
-use Rattle.std.specs.Prelude.{ℕ, ◌==◌, ◌||◌, Bool, not, List, drop, map, flat_map, take_while, bytes_eq}
+use Rattle.std.specs.Prelude.{ℕ, ◌==◌, ◌&&◌, ◌||◌, nat_le, Bool, not, List, drop, map, flat_map, take_while, bytes_eq}
 use Rattle.std.specs.List.{prefix_len}
 use Rattle.std.specs.Char.{to_ascii_lowercase}
 use Rattle.lists_and_answers.specs.Lists.{flattened}
@@ -16,6 +16,10 @@ joined parts = flat_map (λ part. part.now) parts
 -- the same texts but for the case of ASCII letters
 abbrev pub same_letters : List ℕ → List ℕ → Bool
 same_letters a b = bytes_eq (map to_ascii_lowercase a) (map to_ascii_lowercase b)
+
+-- a space, or a byte from 9 to 13
+abbrev pub is_white : ℕ → Bool
+is_white byte = (byte == 32) || (nat_le 9 byte && nat_le byte 13)
 
 -- a space or a tab
 abbrev pub is_blank : ℕ → Bool

@@ -3,10 +3,11 @@ use Rattle.std.proofs.Common.{◌≡◌, ap, ℕ, Bool, List, IsTrue, ◌↔◌,
 use Rattle.std.specs.Prelude.{option_map}
 use Rattle.std.proofs.lemmas.Slice.Eq.{bytes_eq-Decides}
 use Rattle.std.proofs.lemmas.Bool.Decides.{same_from_decides}
+use Rattle.lists_and_answers.specs.Lists.{with_name}
 use Rattle.geotransform.specs.declared.types.Size.{Size}
 use Rattle.vrt_profile.specs.Values.{SourceValue}
 use Rattle.vrt_profile.specs.Cover.{cover_of}
-use Rattle.location_report.specs.Covering.{with_name, with_found, covering_name}
+use Rattle.location_report.specs.Covering.{with_found, covering_name}
 
 -- a test that decides whether two texts are the same
 pub same_bytes : (a b : List ℕ) (r : Bool) → (IsTrue r ↔ (a ≡ b)) → r ≡ bytes_eq a b

@@ -1,19 +1,15 @@
 -- The names of the files that a mosaic's pixel is covered by.
-use Rattle.std.specs.Prelude.{ℕ, ◌-◌, List, [], ◌∷◌, ◌++◌, bytes_eq, fold, slice_get, unwrap_or, Option, Some, None}
-use Rattle.std.specs.Prelude.{option_map, option_and_then, if◌then◌else◌}
-use Rattle.std.specs.List.{list_any}
+use Rattle.std.specs.Prelude.{ℕ, ◌-◌, List, [], fold, slice_get, unwrap_or, Option, Some, None}
+use Rattle.std.specs.Prelude.{option_map, option_and_then}
 use Rattle.lists_and_answers.specs.Options.{◌>>=◌}
+use Rattle.lists_and_answers.specs.Lists.{with_name}
 use Rattle.geotransform.specs.declared.types.Size.{Size}
 use Rattle.vrt_profile.specs.Values.{BandValue, SourceValue}
 use Rattle.vrt_profile.specs.Cover.{cover_of}
 use Rattle.catalog.specs.Drivers.{Dataset, document_of}
 use Rattle.catalog.specs.Links.{member_of}
 
--- a name behind others, where it isn't among them
-abbrev pub with_name : List (List ℕ) → List ℕ → List (List ℕ)
-with_name names name = if list_any (λ n. bytes_eq n name) names then names else names ++ name ∷ []
-
--- the same of a name that was found
+-- a name that was found, behind others, unless it is among them
 abbrev pub with_found : List (List ℕ) → Option (List ℕ) → List (List ℕ)
 with_found names None = names
 with_found names (Some name) = with_name names name

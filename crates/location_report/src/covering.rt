@@ -1,10 +1,10 @@
 // The names of the files that a mosaic's pixel is covered by.
 ghost use Rattle.std.specs.Prelude.{◌≡◌, ◌<◌, bytes_eq, length, take, slice_get, OnOk, OnErr, Some};
-ghost use Rattle.std.specs.List.{list_any};
+ghost use Rattle.lists_and_answers.specs.Lists.{with_name, is_among};
 ghost use Rattle.catalog.specs.Dataset.{band_count};
 ghost use Rattle.catalog.specs.Drivers.{Dataset};
 ghost use Rattle.catalog.specs.Links.{source_at};
-ghost use Rattle.location_report.specs.Covering.{covering_name, with_name, with_found, covered_by, with_covering};
+ghost use Rattle.location_report.specs.Covering.{covering_name, with_found, covered_by, with_covering};
 
 use catalog::Catalog;
 use geotransform::Size;
@@ -23,7 +23,7 @@ fn is_same(a: &Name, b: &Name) -> bool
 
 // Whether a name is among others.
 fn is_listed(names: &[Name], name: &Name) -> bool
-    ensures { result ≡ list_any (λ n. bytes_eq n name.now) names.now }
+    ensures { result ≡ is_among names.now name.now }
 {
     names.iter().any(|n| is_same(n, name))
 }

@@ -21,8 +21,11 @@ use std::str;
 /// The greatest length of a list of inputs, in bytes.
 const LONGEST_LIST: u64 = 67_108_864;
 
-/// The most inputs.
-const MOST_INPUTS: usize = 65_536;
+/// The most inputs: as many as a catalog has datasets at most.
+const MOST_INPUTS: usize = catalog::MOST_DATASETS as usize;
+
+/// The number of the first input that is one too many.
+const TOO_MANY: u64 = MOST_INPUTS as u64 + 1;
 
 // Opens the list of a name.
 #[tactic(auto, using(crate::proofs::Listed::absent_list), unfolding(crate::specs::Inputs::lines_in))]
@@ -126,7 +129,7 @@ fn add_name(alloc: Global, line: &str, names: &mut Names) -> Result<(), Fault>
     if names.len() >= MOST_INPUTS {
         return Err(Fault::Limit {
             what: LimitKind::Files,
-            value: 65_537,
+            value: TOO_MANY,
         });
     }
     match names.push(name) {
@@ -178,7 +181,7 @@ fn with_text(alloc: Global, mut names: Names, text: &str) -> Result<Names, Fault
     if names.len() > MOST_INPUTS {
         return Err(Fault::Limit {
             what: LimitKind::Files,
-            value: 65_537,
+            value: TOO_MANY,
         });
     }
     match add_lines(alloc, text, &mut names) {

@@ -2,8 +2,9 @@
 use Rattle.std.proofs.Common.{◌≡◌, ℕ, ℤ, ◌+ℤ◌, ◌<ℤ◌, ◌≤ℤ◌, Bool, true, false, ◌&&◌, ap, ◌∙◌, refl, Option, Some, None, cond, int_le, int_lt}
 use Rattle.lists_and_answers.specs.Options.{◌>>=◌}
 use Rattle.geotransform.specs.declared.types.Size.{Size}
+use Rattle.geotransform.specs.Pixels.{within}
 use Rattle.vrt_profile.specs.Values.{SourceValue, Rectangle}
-use Rattle.vrt_profile.specs.Cover.{centre, counted, dataset_at, axis_at, columns_by, lines_by, columns_of, lines_of, part_of, cover_of}
+use Rattle.vrt_profile.specs.Cover.{centre, dataset_at, axis_at, columns_by, lines_by, columns_of, lines_of, part_of, cover_of}
 use Rattle.mosaic_sources.proofs.Tables.{false_at_most, false_below}
 
 and_none : (b : Bool) → (b && false) ≡ false
@@ -31,11 +32,11 @@ module _ (s : SourceValue) (part : Rectangle) (is : s.dst ≡ Some part) (mosaic
   unfolding cover_of
   no_column h =
       ap (λ (r : Rectangle). axis_at (columns_by r (part_of s.src size)) size.w x >>= λ column. axis_at (lines_of s mosaic size) size.h y >>= λ line. Some (column, line)) part_is
-      ∙ ap (λ b. (cond b (counted size.w (dataset_at (columns_by part (part_of s.src size)) (centre x))) None) >>= λ column. axis_at (lines_of s mosaic size) size.h y >>= λ line. Some (column, line)) h
+      ∙ ap (λ b. (cond b (within size.w (dataset_at (columns_by part (part_of s.src size)) (centre x))) None) >>= λ column. axis_at (lines_of s mosaic size) size.h y >>= λ line. Some (column, line)) h
 
   pub no_line : (int_le part.y (centre y) && int_lt (centre y) (part.y +ℤ part.h)) ≡ false → cover_of s mosaic size x y ≡ None
   unfolding cover_of
   no_line h =
       ap (λ (r : Rectangle). axis_at (columns_of s mosaic size) size.w x >>= λ column. axis_at (lines_by r (part_of s.src size)) size.h y >>= λ line. Some (column, line)) part_is
-      ∙ ap (λ b. axis_at (columns_of s mosaic size) size.w x >>= λ column. (cond b (counted size.h (dataset_at (lines_by part (part_of s.src size)) (centre y))) None) >>= λ line. Some (column, line)) h
+      ∙ ap (λ b. axis_at (columns_of s mosaic size) size.w x >>= λ column. (cond b (within size.h (dataset_at (lines_by part (part_of s.src size)) (centre y))) None) >>= λ line. Some (column, line)) h
       ∙ nothing (axis_at (columns_of s mosaic size) size.w x)

@@ -4,6 +4,7 @@ use Rattle.std.specs.Prelude.{slice_get}
 use Rattle.std.proofs.lemmas.Bool.{cases_lt}
 use Rattle.geotransform.specs.declared.types.Rect.{Rect}
 use Rattle.geotransform.specs.declared.types.Size.{Size}
+use Rattle.geotransform.specs.Pixels.{IsInside}
 use Rattle.vrt_profile.specs.Values.{SourceValue}
 use Rattle.vrt_profile.specs.Cover.{axis_at, columns_of, lines_of, cover_of}
 use Rattle.catalog.specs.Drivers.{Dataset}
@@ -16,7 +17,7 @@ use Rattle.nearest_window.specs.declared.asking.Asked.{Asked}
 use Rattle.nearest_window.specs.declared.canvas.Canvas.{Canvas}
 use Rattle.nearest_window.specs.declared.picture.Picture.{Picture}
 use Rattle.nearest_window.specs.declared.taking.Taking.TheVariants.{All}
-use Rattle.nearest_window.specs.Canvases.{IsAsked, IsIn, IsUnasked}
+use Rattle.nearest_window.specs.Canvases.{IsAsked, IsUnasked}
 use Rattle.nearest_window.specs.Heights.{height_at}
 use Rattle.nearest_window.specs.Shown.{IsPictureOf, IsSeenBy, IsUnseen, IsSourceOf, TakesBand}
 use Rattle.nearest_window.specs.Taken.{place_at, IsLongAs}
@@ -38,7 +39,7 @@ ends_below cat id d rect valid at within =
 module _ (cat : List Dataset) (key : BlockKey) (number : ℕ) (s : SourceValue) (c : Canvas) (p q : Picture) (a : Asked) (of : IsSourceOf cat key number s) (seen : IsSeenBy cat key s c.rect p) (known : IsPictureOf cat p)
     (takes : TakesBand cat s p) (falls : height_at cat p.dataset < height_at cat key.dataset) (dataset : q.dataset ≡ p.dataset) (band : q.band ≡ p.band) (taking : q.taking ≡ All) (width : q.width ≡ p.width) (columns : q.columns ≡ p.columns) (height : q.height ≡ p.height) (lines : q.lines ≡ p.lines)
     (to : q.to ≡ 0) (stride : q.stride ≡ p.width) (picture : a.picture ≡ q) (left : a.part.x ≡ c.rect.x + p.to) (top : a.part.y ≡ c.rect.y + p.top) (wide : a.part.w ≡ p.width) (high : a.part.h ≡ p.height) (room : length a.pixels.items ≡ a.part.w * a.part.h) where
-  cut : (d : Dataset) → slice_get cat key.dataset ≡ Some d → (x y : ℕ) → IsIn c.rect x y → (IsIn a.part x y → ⊥) → cover_of s d.head.size (member_size cat d s) x y ≡ None
+  cut : (d : Dataset) → slice_get cat key.dataset ≡ Some d → (x y : ℕ) → IsInside c.rect x y → (IsInside a.part x y → ⊥) → cover_of s d.head.size (member_size cat d s) x y ≡ None
   cut d at x y there out =
       let part = seen.seen d at in
       let l = there.left in let r = there.right in let t = there.top in let b = there.bottom in

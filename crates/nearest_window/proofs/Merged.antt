@@ -7,11 +7,12 @@ use Rattle.std.proofs.lemmas.Nat.{div-add-mod', mod_below, mul-add-lt}
 use Rattle.geotransform.specs.Types.{clamp}
 use Rattle.geotransform.specs.declared.types.PixelType.{PixelType}
 use Rattle.geotransform.specs.declared.types.Rect.{Rect}
+use Rattle.geotransform.specs.Pixels.{IsInside}
 use Rattle.band_blocks.specs.Blocks.{BlockView, block_view}
 use Rattle.nearest_window.specs.declared.canvas.Canvas.{Canvas}
 use Rattle.nearest_window.specs.declared.merging.Place.{Place}
 use Rattle.nearest_window.specs.declared.taking.Taking.{Taking}
-use Rattle.nearest_window.specs.Canvases.{filled_with, stands, stands_at, IsSame, IsCanvas, IsIn, IsInside, IsAt, IsMerged, IsTaken, IsPackedOf}
+use Rattle.nearest_window.specs.Canvases.{filled_with, stands, stands_at, IsSame, IsCanvas, HoldsPart, IsAt, IsMerged, IsTaken, IsPackedOf}
 use Rattle.nearest_window.specs.Taken.{taken_by}
 use Rattle.nearest_window.proofs.Canvases.{stands_there, open_replicate}
 
@@ -29,7 +30,7 @@ still_some kind a b g h s = sym (some_mapped kind a) ∙ ap is_some h ∙ some_m
 abbrev pub part_place : Rect → Rect → Place
 part_place rect part = record { to = part.x - rect.x; top = part.y - rect.y; columns = part.w; rows = part.h; stride = rect.w }
 
-module _ (c c' : Canvas) (taking : Taking) (pixels : List ℤ) (part : Rect) (canvas : IsCanvas c) (size : length c.samples.items ≡ c.rect.w * c.rect.h) (inside : IsInside c.rect part)
+module _ (c c' : Canvas) (taking : Taking) (pixels : List ℤ) (part : Rect) (canvas : IsCanvas c) (size : length c.samples.items ≡ c.rect.w * c.rect.h) (inside : HoldsPart c.rect part)
     (merged : IsMerged taking c.kind pixels (part_place c.rect part) part.h c.samples.items c'.samples.items) (same_rect : c'.rect ≡ c.rect) (same_kind : c'.kind ≡ c.kind) where
   new_size : length c'.samples.items ≡ c.rect.w * c.rect.h
   new_size = merged.size ∙ size
@@ -74,13 +75,13 @@ module _ (c c' : Canvas) (taking : Taking) (pixels : List ℤ) (part : Rect) (ca
     ];
   }
 
-  spot_below : (x y : ℕ) → IsIn c.rect x y → (y - c.rect.y) * c.rect.w + (x - c.rect.x) < c.rect.w * c.rect.h
+  spot_below : (x y : ℕ) → IsInside c.rect x y → (y - c.rect.y) * c.rect.w + (x - c.rect.x) < c.rect.w * c.rect.h
   spot_below x y at = let l = at.left in let r = at.right in let t = at.top in let b = at.bottom in mul-add-lt (y - c.rect.y) c.rect.w (x - c.rect.x) c.rect.h (omega arith) (omega arith)
 
-  stands_old : (x y : ℕ) → IsIn c.rect x y → stands_at c x y ≡ filled_with (get_or c.samples.items ((y - c.rect.y) * c.rect.w + (x - c.rect.x)) (pos 0))
+  stands_old : (x y : ℕ) → IsInside c.rect x y → stands_at c x y ≡ filled_with (get_or c.samples.items ((y - c.rect.y) * c.rect.w + (x - c.rect.x)) (pos 0))
   stands_old x y at = stands_there c.samples.items ((y - c.rect.y) * c.rect.w + (x - c.rect.x)) (subst (λ n. (y - c.rect.y) * c.rect.w + (x - c.rect.x) < n) (sym size) (spot_below x y at))
 
-  stands_new : (x y : ℕ) → IsIn c.rect x y → stands_at c' x y ≡ filled_with (get_or c'.samples.items ((y - c.rect.y) * c.rect.w + (x - c.rect.x)) (pos 0))
+  stands_new : (x y : ℕ) → IsInside c.rect x y → stands_at c' x y ≡ filled_with (get_or c'.samples.items ((y - c.rect.y) * c.rect.w + (x - c.rect.x)) (pos 0))
   stands_new x y at =
       ap (λ (r : Rect). stands c'.samples.items ((y - r.y) * r.w + (x - r.x))) same_rect
       ∙ stands_there c'.samples.items ((y - c.rect.y) * c.rect.w + (x - c.rect.x)) (subst (λ n. (y - c.rect.y) * c.rect.w + (x - c.rect.x) < n) (sym new_size) (spot_below x y at))
@@ -92,7 +93,7 @@ module _ (c c' : Canvas) (taking : Taking) (pixels : List ℤ) (part : Rect) (ca
     inside = λ x y at.
         let a = inside.left in let b = inside.right in let e = inside.top in let f = inside.bottom in
         let l = at.left in let r = at.right in let t = at.top in let z = at.bottom in
-        let there : IsIn c.rect x y = record { left = omega arith; right = omega arith; top = omega arith; bottom = omega arith } in
+        let there : IsInside c.rect x y = record { left = omega arith; right = omega arith; top = omega arith; bottom = omega arith } in
         let i : x - c.rect.x - (part.x - c.rect.x) ≡ x - part.x = omega arith in
         let j : y - c.rect.y - (part.y - c.rect.y) ≡ y - part.y = omega arith in
         ap (option_map (clamp c.kind)) (stands_new x y there)
@@ -121,7 +122,7 @@ packed_of c value began xs kind same size stood kept closed b packed = record {
 
 -- a canvas on which nothing was filled, and whose samples then were made of pixels
 
-module _ (c c' : Canvas) (taking : Taking) (pixels : List ℤ) (part : Rect) (canvas : IsCanvas c) (inside : IsInside c.rect part) (size : length pixels ≡ part.w * part.h) (none : c.samples.items ≡ []) (wide : part.w ≡ c.rect.w) (high : part.h ≡ c.rect.h)
+module _ (c c' : Canvas) (taking : Taking) (pixels : List ℤ) (part : Rect) (canvas : IsCanvas c) (inside : HoldsPart c.rect part) (size : length pixels ≡ part.w * part.h) (none : c.samples.items ≡ []) (wide : part.w ≡ c.rect.w) (high : part.h ≡ c.rect.h)
     (same_rect : c'.rect ≡ c.rect) (same_kind : c'.kind ≡ c.kind) (kept : length c'.samples.items ≡ length pixels) where
   all_size : length pixels ≡ c.rect.w * c.rect.h
   all_size = size ∙ ap (λ n. n * part.h) wide ∙ ap (λ n. c.rect.w * n) high

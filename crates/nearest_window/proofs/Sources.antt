@@ -10,6 +10,7 @@ use Rattle.geotransform.specs.Types.{clamp}
 use Rattle.geotransform.specs.declared.types.PixelType.{PixelType}
 use Rattle.geotransform.specs.declared.types.Rect.{Rect}
 use Rattle.geotransform.specs.declared.types.Size.{Size}
+use Rattle.geotransform.specs.Pixels.{IsInside}
 use Rattle.outside.specs.Outside.{Files}
 use Rattle.vrt_profile.specs.Values.{SourceValue, BandValue, IsBand}
 use Rattle.vrt_profile.specs.Cover.{axis_at, columns_of, lines_of}
@@ -23,7 +24,7 @@ use Rattle.band_blocks.specs.Blocks.{BlockView, IsPacked}
 use Rattle.nearest_window.specs.declared.asking.Asked.{Asked}
 use Rattle.nearest_window.specs.declared.canvas.Canvas.{Canvas}
 use Rattle.nearest_window.specs.declared.taking.Taking.{Taking}
-use Rattle.nearest_window.specs.Canvases.{stands, stands_at, source_given, IsSame, IsIn, IsTaken, IsUnasked, IsAsked, IsSourceTaken, AreTaken, IsPackedOf}
+use Rattle.nearest_window.specs.Canvases.{stands, stands_at, source_given, IsSame, IsTaken, IsUnasked, IsAsked, IsSourceTaken, AreTaken, IsPackedOf}
 use Rattle.nearest_window.specs.Painted.{IsPainted, in_columns}
 use Rattle.nearest_window.specs.Right.{IsPartBlock, IsMosaicKey}
 use Rattle.nearest_window.specs.Shown.{shown, IsShown}
@@ -81,7 +82,7 @@ module _ (told : Option Files) (cat : List Dataset) (d : Dataset) (ss : List Sou
   -- one source more
   pub taken_more : (told' : Option Files) (k : ℕ) (s : SourceValue) (c c' : Canvas) → told' ≡ told → slice_get ss k ≡ Some s → AreTaken told cat d (k + 1) ss c → IsSourceTaken told' cat d s c c' → AreTaken told' cat d k ss c'
   taken_more told' k s c c' same at before here m e x y in_new =
-      let in_old : IsIn c.rect x y = subst (λ r. IsIn r x y) here.rect in_new in
+      let in_old : IsInside c.rect x y = subst (λ r. IsInside r x y) here.rect in_new in
       ap (λ t. option_map (clamp t) (stands_at c' x y)) here.kind
       ∙ here.given m e x y in_old
       ∙ same_under c.kind (stands_at c x y) (last_given (λ s. source_given m cat d s x y) (drop (k + 1) ss)) (source_given m cat d s x y) (before m (sym same ∙ e) x y in_old)
@@ -138,7 +139,7 @@ module _ (told : Option Files) (cat : List Dataset) (key : BlockKey) (s : Source
       ∙ ap (λ n. Some (pixel_of m cat a.picture.dataset a.picture.band (place_at a.picture.columns n) (place_at a.picture.lines (0 + j)))) column
       ∙ ap (λ n. Some (pixel_of m cat a.picture.dataset a.picture.band (place_at a.picture.columns i) (place_at a.picture.lines n))) line)
 
-  given_there : (m : Files) (x y : ℕ) → IsIn a.part x y → given_of s d.head.size dataset_size (member_pixel m cat d s) x y ≡ value_of s (pixel_of m cat a.picture.dataset a.picture.band (place_at a.picture.columns (x - a.part.x)) (place_at a.picture.lines (y - a.part.y)))
+  given_there : (m : Files) (x y : ℕ) → IsInside a.part x y → given_of s d.head.size dataset_size (member_pixel m cat d s) x y ≡ value_of s (pixel_of m cat a.picture.dataset a.picture.band (place_at a.picture.columns (x - a.part.x)) (place_at a.picture.lines (y - a.part.y)))
   given_there m x y p =
       let l = p.left in let r = p.right in let t = p.top in let b = p.bottom in
       let across : a.part.x + (x - a.part.x) ≡ x = omega arith in
@@ -149,7 +150,7 @@ module _ (told : Option Files) (cat : List Dataset) (key : BlockKey) (s : Source
       (seen_there s d.head.size dataset_size x y (place_at a.picture.columns (x - a.part.x)) (place_at a.picture.lines (y - a.part.y)) column line)
       ∙ ap (value_of s) (asked.pixels m d at (place_at a.picture.columns (x - a.part.x)) (place_at a.picture.lines (y - a.part.y)))
 
-  in_or_out : (x y : ℕ) → IsIn a.part x y ⊎ (IsIn a.part x y → ⊥)
+  in_or_out : (x y : ℕ) → IsInside a.part x y ⊎ (IsInside a.part x y → ⊥)
   in_or_out x y = elim (cases_lt x a.part.x) [
     | inl p ↦ inr (λ i. let q = i.left in absurd (omega arith))
     | inr p ↦ elim (cases_lt x (a.part.x + a.part.w)) [
@@ -247,10 +248,10 @@ packed_part told cat key b mosaic rect c block valid rules some same_rect same_k
         let q : k < length packed.samples = subst (λ n. k < n) (sym size) p in
         let column = mod_below k rect.w some in
         let line = div_below k rect.w rect.h some (let f = mul_comm rect.w rect.h in omega arith) in
-        let inside : IsIn rect (rect.x + k % rect.w) (rect.y + k / rect.w) = record { left = omega arith; right = omega arith; top = omega arith; bottom = omega arith } in
+        let inside : IsInside rect (rect.x + k % rect.w) (rect.y + k / rect.w) = record { left = omega arith; right = omega arith; top = omega arith; bottom = omega arith } in
         let back : (rect.y + k / rect.w - rect.y) * rect.w + (rect.x + k % rect.w - rect.x) ≡ k = (let i : rect.y + k / rect.w - rect.y ≡ k / rect.w = omega arith in let j : rect.x + k % rect.w - rect.x ≡ k % rect.w = omega arith in ap (λ n. n * rect.w + (rect.x + k % rect.w - rect.x)) i ∙ ap (λ n. k / rect.w * rect.w + n) j ∙ div-add-mod' k rect.w) in
         let there = subst (λ r. IsSame c.kind (stands c.samples.items ((rect.y + k / rect.w - r.y) * r.w + (rect.x + k % rect.w - r.x))) (last_given (λ s. source_given m cat mosaic.dataset s (rect.x + k % rect.w) (rect.y + k / rect.w)) b.sources)) same_rect
-        (taken m e (rect.x + k % rect.w) (rect.y + k / rect.w) (subst (λ r. IsIn r (rect.x + k % rect.w) (rect.y + k / rect.w)) (sym same_rect) inside)) in
+        (taken m e (rect.x + k % rect.w) (rect.y + k / rect.w) (subst (λ r. IsInside r (rect.x + k % rect.w) (rect.y + k / rect.w)) (sym same_rect) inside)) in
         ap (λ l. get_or l k (pos 0)) made
         ∙ get_or-map (clamp c.kind) packed.samples k (pos 0) (pos 0) q
         ∙ ap (clamp c.kind) (packed.each k (subst (λ (r : Rect). k < r.w * r.h) (sym same_rect) p) ∙ ap (λ n. unwrap_or (stands c.samples.items n) (unwrap_or b.nodata (pos 0))) (sym back))

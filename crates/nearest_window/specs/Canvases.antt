@@ -8,6 +8,7 @@ use Rattle.geotransform.specs.Types.{clamp}
 use Rattle.geotransform.specs.declared.types.PixelType.{PixelType}
 use Rattle.geotransform.specs.declared.types.Rect.{Rect}
 use Rattle.geotransform.specs.declared.types.Size.{Size}
+use Rattle.geotransform.specs.Pixels.{IsInside}
 use Rattle.outside.specs.Outside.{Files}
 use Rattle.vrt_profile.specs.Values.{SourceValue}
 use Rattle.vrt_profile.specs.Cover.{axis_at, columns_of, lines_of, cover_of}
@@ -49,8 +50,8 @@ pub record IsCanvas (c : Canvas) : Type 0 where
   pub within : c.filled ≤ c.rect.w * c.rect.h
   pub filled : (k : ℕ) → k < c.filled → is_some (stands c.samples.items k) ≡ true
 
--- the part, which has a column, lies in the rectangle
-pub record IsInside (rect part : Rect) : Type 0 where
+-- the rectangle holds the part, which has a column
+pub record HoldsPart (rect part : Rect) : Type 0 where
   pub left : rect.x ≤ part.x
   pub right : part.x + part.w ≤ rect.x + rect.w
   pub top : rect.y ≤ part.y
@@ -83,13 +84,6 @@ pub record IsMerged (taking : Taking) (kind : PixelType) (pixels : List ℤ) (pl
   pub outside : (x y : ℕ) → x < place.stride → y * place.stride + x < length old → (IsAt place rows x y → ⊥) →
       slice_index_or new (y * place.stride + x) (pos 0) ≡ slice_index_or old (y * place.stride + x) (pos 0)
 
--- the column and the line of a mosaic lie in a rectangle
-pub record IsIn (rect : Rect) (x y : ℕ) : Type 0 where
-  pub left : rect.x ≤ x
-  pub right : x < rect.x + rect.w
-  pub top : rect.y ≤ y
-  pub bottom : y < rect.y + rect.h
-
 -- what stands on a canvas at a column and a line of its mosaic
 abbrev pub stands_at : Canvas → ℕ → ℕ → Option ℤ
 stands_at c x y = stands c.samples.items ((y - c.rect.y) * c.rect.w + (x - c.rect.x))
@@ -98,10 +92,10 @@ stands_at c x y = stands c.samples.items ((y - c.rect.y) * c.rect.w + (x - c.rec
 pub record IsTaken (taking : Taking) (pixels : List ℤ) (part : Rect) (old new : Canvas) : Type 0 where
   pub rect : new.rect ≡ old.rect
   pub kind : new.kind ≡ old.kind
-  pub inside : (x y : ℕ) → IsIn part x y →
+  pub inside : (x y : ℕ) → IsInside part x y →
       IsSame old.kind (stands_at new x y) (option_or (stands_at old x y)
       (taken_by taking (slice_index_or pixels ((y - part.y) * part.w + (x - part.x)) (pos 0))))
-  pub outside : (x y : ℕ) → IsIn old.rect x y → (IsIn part x y → ⊥) → stands_at new x y ≡ stands_at old x y
+  pub outside : (x y : ℕ) → IsInside old.rect x y → (IsInside part x y → ⊥) → stands_at new x y ≡ stands_at old x y
 
 -- the block has the canvas's samples, with a value for those that are open
 pub record IsPackedOf (c : Canvas) (value : ℤ) (block : BlockView) : Type 0 where
@@ -114,14 +108,14 @@ pub record IsPackedOf (c : Canvas) (value : ℤ) (block : BlockView) : Type 0 wh
 -- at each pixel of a canvas something stands, or a source covers nothing
 abbrev pub IsUnasked : SourceValue → Size → Size → Canvas → Type 0
 IsUnasked s mosaic size c =
-    (x y : ℕ) → IsIn c.rect x y → (is_some (stands_at c x y) ≡ true) ⊎ (cover_of s mosaic size x y ≡ None)
+    (x y : ℕ) → IsInside c.rect x y → (is_some (stands_at c x y) ≡ true) ⊎ (cover_of s mosaic size x y ≡ None)
 
 -- pixels of the dataset that a source of the mosaic that a key is of names: those of a part of a canvas, all of which
 -- the source covers; beside the part something stands, or the source covers nothing
 pub record IsAsked (cat : List Dataset) (key : BlockKey) (s : SourceValue) (c : Canvas) (a : Asked) : Type 0 where
   pub picture : IsPictureOf cat a.picture
   pub falls : height_at cat a.picture.dataset < height_at cat key.dataset
-  pub inside : IsInside c.rect a.part
+  pub inside : HoldsPart c.rect a.part
   pub width : a.picture.width ≡ a.part.w
   pub height : a.picture.height ≡ a.part.h
   pub to : a.picture.to ≡ 0
@@ -137,8 +131,8 @@ pub record IsAsked (cat : List Dataset) (key : BlockKey) (s : SourceValue) (c : 
   pub down : (d : Dataset) → slice_get cat key.dataset ≡ Some d → (k : ℕ) → k < a.part.h →
       axis_at (lines_of s d.head.size (member_size cat d s)) (member_size cat d s).h (a.part.y + k) ≡ Some
       (place_at a.picture.lines k)
-  pub outside : (d : Dataset) → slice_get cat key.dataset ≡ Some d → (x y : ℕ) → IsIn c.rect x y →
-      (IsIn a.part x y → ⊥) → (is_some (stands_at c x y) ≡ true)
+  pub outside : (d : Dataset) → slice_get cat key.dataset ≡ Some d → (x y : ℕ) → IsInside c.rect x y →
+      (IsInside a.part x y → ⊥) → (is_some (stands_at c x y) ≡ true)
       ⊎ (cover_of s d.head.size (member_size cat d s) x y ≡ None)
 
 -- what a source of a dataset gives at a pixel, of the dataset of the catalog that it names
@@ -150,10 +144,10 @@ pub record IsSourceTaken (told : Option Files) (cat : List Dataset) (d : Dataset
     : Type 0 where
   pub rect : new.rect ≡ old.rect
   pub kind : new.kind ≡ old.kind
-  pub given : (m : Files) → told ≡ Some m → (x y : ℕ) → IsIn old.rect x y →
+  pub given : (m : Files) → told ≡ Some m → (x y : ℕ) → IsInside old.rect x y →
       IsSame old.kind (stands_at new x y) (option_or (stands_at old x y) (source_given m cat d s x y))
 
 -- on a canvas stands what the sources of a band of a dataset give from this number on
 abbrev pub AreTaken : Option Files → List Dataset → Dataset → ℕ → List SourceValue → Canvas → Type 0
-AreTaken told cat d number sources c = (m : Files) → told ≡ Some m → (x y : ℕ) → IsIn c.rect x y →
+AreTaken told cat d number sources c = (m : Files) → told ≡ Some m → (x y : ℕ) → IsInside c.rect x y →
     IsSame c.kind (stands_at c x y) (last_given (λ s. source_given m cat d s x y) (drop number sources))

@@ -1,7 +1,7 @@
 // Samples of a rectangle of a mosaic, which are filled from the last source to the first.
 ghost use Rattle.std.specs.Prelude.{◌≡◌, ◌⊎◌, ℕ, ◌+◌, ◌*◌, ◌<◌, ◌≤◌, ◌^◌, [], None, true, is_some, length, pos};
 ghost use Rattle.std.specs.Prelude.{slice_index_or, All, IfOk, OnOk, IsTrue};
-ghost use Rattle.nearest_window.specs.Canvases.{IsCanvas, IsInside, IsPackedOf, IsTaken, filled_with, stands};
+ghost use Rattle.nearest_window.specs.Canvases.{IsCanvas, HoldsPart, IsPackedOf, IsTaken, filled_with, stands};
 ghost use Rattle.nearest_window.specs.Taken.{TakesPixel, is_plain, taken_by};
 
 use crate::merging::{Place, close, filled_from, make_samples, take_rows};
@@ -77,7 +77,7 @@ impl Canvas {
     fn merge(&mut self, taking: &Taking, part: Rect, pixels: &[Sample])
         requires canvas { IsCanvas self.old }
         requires size { length self.old.samples.items ≡ self.old.rect.w * self.old.rect.h }
-        requires part { IsInside self.old.rect part }
+        requires part { HoldsPart self.old.rect part }
         requires pixels { length pixels.now ≡ part.w * part.h }
         requires near { All (TakesPixel taking.now) pixels.now }
         ensures canvas { IsCanvas self.new }
@@ -152,7 +152,7 @@ impl Canvas {
         pixels: Vec<Sample>,
     ) -> Result<(), AllocError>
         requires canvas { IsCanvas self.old }
-        requires part { IsInside self.old.rect part }
+        requires part { HoldsPart self.old.rect part }
         requires pixels { length pixels.items ≡ part.w * part.h }
         requires near { All (TakesPixel taking.now) pixels.items }
         ensures canvas { OnOk result (IsCanvas self.new) }

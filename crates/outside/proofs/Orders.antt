@@ -5,7 +5,8 @@ use Rattle.std.specs.Str.{bytes_eq}
 use Rattle.std.proofs.lemmas.List.{take_more}
 use Rattle.std.proofs.lemmas.List.Elements.{Contains-append_cases, Contains-append_left, Contains-append_right, Contains-push_cases}
 use Rattle.std.proofs.lemmas.Slice.Eq.{bytes_eq-Decides}
-use Rattle.outside.specs.Memory.{stands, with_name, names_with}
+use Rattle.lists_and_answers.specs.Lists.{is_among, with_name}
+use Rattle.outside.specs.Memory.{names_with}
 use Rattle.outside.specs.declared.memory.Stored.{Stored}
 
 or_right : (a b : Bool) → b ≡ true → (a || b) ≡ true
@@ -24,33 +25,33 @@ differs : (r : Bool) → (r ≡ true → ⊥) → r ≡ false
 differs true h = absurd (h refl)
 differs false h = refl
 
--- a name that a list has stands in it
-pub stands-there : (names : List (List ℕ)) (name : List ℕ) → Contains names name → stands names name ≡ true
-stands-there [] name has = absurd (omega (arith, has.1))
-stands-there (n ∷ ns) name has = elim (Contains-append_cases (n ∷ []) ns name has) [
+-- a name that a list has is among its names
+pub is_among-there : (names : List (List ℕ)) (name : List ℕ) → Contains names name → is_among names name ≡ true
+is_among-there [] name has = absurd (omega (arith, has.1))
+is_among-there (n ∷ ns) name has = elim (Contains-append_cases (n ∷ []) ns name has) [
   | inl first ↦
       elim (Contains-push_cases [] n name first) [
         | inl none ↦ absurd (omega (arith, none.1))
-        | inr same ↦ or_left (bytes_eq n name) (stands ns name) ((bytes_eq-Decides n name).1 same)
+        | inr same ↦ or_left (bytes_eq n name) (is_among ns name) ((bytes_eq-Decides n name).1 same)
       ]
-  | inr later ↦ or_right (bytes_eq n name) (stands ns name) (stands-there ns name later)
+  | inr later ↦ or_right (bytes_eq n name) (is_among ns name) (is_among-there ns name later)
 ]
 
--- a name that a list lacks doesn't
-pub stands-not : (names : List (List ℕ)) (name : List ℕ) → (Contains names name → ⊥) → stands names name ≡ false
-stands-not [] name lacks = refl
-stands-not (n ∷ ns) name lacks =
+-- a name that a list lacks isn't
+pub is_among-not : (names : List (List ℕ)) (name : List ℕ) → (Contains names name → ⊥) → is_among names name ≡ false
+is_among-not [] name lacks = refl
+is_among-not (n ∷ ns) name lacks =
     let other : bytes_eq n name ≡ false = differs (bytes_eq n name) (λ e. lacks (Contains-append_left (n ∷ []) ns name (first n name ((bytes_eq-Decides n name).0 e)))) in
-    or_not (bytes_eq n name) (stands ns name) other (stands-not ns name (λ later. lacks (Contains-append_right (n ∷ []) ns name later)))
+    or_not (bytes_eq n name) (is_among ns name) other (is_among-not ns name (λ later. lacks (Contains-append_right (n ∷ []) ns name later)))
   where
     first : (n name : List ℕ) → n ≡ name → Contains (n ∷ []) name
     first n name same = (0, omega arith, same)
 
 pub with_name-there : (names : List (List ℕ)) (name : List ℕ) → Contains names name → with_name names name ≡ names
-with_name-there names name has = ap (λ b. if b then names else names ++ name ∷ []) (stands-there names name has)
+with_name-there names name has = ap (λ b. if b then names else names ++ name ∷ []) (is_among-there names name has)
 
 pub with_name-more : (names : List (List ℕ)) (name : List ℕ) → (Contains names name → ⊥) → with_name names name ≡ names ++ name ∷ []
-with_name-more names name lacks = ap (λ b. if b then names else names ++ name ∷ []) (stands-not names name lacks)
+with_name-more names name lacks = ap (λ b. if b then names else names ++ name ∷ []) (is_among-not names name lacks)
 
 -- one file more is put last
 pub names_with-push : (names : List (List ℕ)) (ss : List Stored) (s : Stored) → names_with names (ss ++ s ∷ []) ≡ with_name (names_with names ss) s.name

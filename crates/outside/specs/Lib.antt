@@ -10,5 +10,6 @@ pub mod Disks
 pub mod Schedules
 pub mod Tallies
 -- What private clauses, views and proofs speak of.
+pub mod Held
 pub mod Histories
 pub mod Plain

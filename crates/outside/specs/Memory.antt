@@ -1,7 +1,8 @@
 -- What a folder, an input and a sink in memory hold: files, open drafts, schedules.
 use Rattle.std.specs.Prelude.{ℕ, ◌+◌, ◌↔◌, ◌≡◌, ◌≢◌, min, List, [], ◌∷◌, length, Option, Some, IsSome, Contains}
-use Rattle.std.specs.Prelude.{AllPairs, Bool, false, ◌||◌, ◌++◌, bytes_eq, if◌then◌else◌}
+use Rattle.std.specs.Prelude.{AllPairs, Bool}
 use Rattle.std.specs.FinMap.{get, insert, empty}
+use Rattle.lists_and_answers.specs.Lists.{with_name}
 use Rattle.outside.specs.Outside.{Files}
 use Rattle.outside.specs.declared.memory.MemDraft.{MemDraft}
 use Rattle.outside.specs.declared.memory.MemFile.{MemFile}
@@ -31,15 +32,6 @@ AreNames names told = (m : Files) → told ≡ Some m → (name : List ℕ) → 
 -- no name stands twice
 abbrev pub AreApart : List (List ℕ) → Type 0
 AreApart names = AllPairs (λ a b. a ≢ b) names
-
--- whether a name stands in a list
-abbrev pub stands : List (List ℕ) → List ℕ → Bool
-stands [] name = false
-stands (n ∷ ns) name = bytes_eq n name || stands ns name
-
--- a list with a name at its end, unless it stands there already
-abbrev pub with_name : List (List ℕ) → List ℕ → List (List ℕ)
-with_name names name = if stands names name then names else names ++ name ∷ []
 
 -- the names of a list, and then those of files that came one after another
 abbrev pub names_with : List (List ℕ) → List Stored → List (List ℕ)

@@ -1,5 +1,5 @@
 // Files by name, as the program sees them.
-ghost use Rattle.std.specs.Prelude.{◌≡◌, ◌+◌, ◌-◌, ◌≤◌, List, [], ℕ, Option, Some, length, OnOk, OnErr, IfOk, IfSome};
+ghost use Rattle.std.specs.Prelude.{◌≡◌, ◌+◌, ◌-◌, ◌≤◌, List, [], ℕ, Option, length, OnOk, OnErr, IfOk};
 ghost use Rattle.outside.specs.Outside.{Files, Opened, IsLong, NotThere, Reads, Grown, Written, Appended, Created};
 ghost use Rattle.outside.specs.Outside.{Published, ChangesOnly, IsView};
 ghost use Rattle.outside.specs.Causes.{HasCause, FailsWith, Absorbed, one_more, added};

@@ -1,11 +1,12 @@
 // A folder in memory, whose calls fail where a schedule says so.
-ghost use Rattle.std.specs.Prelude.{◌≡◌, ◌≤◌, ◌+◌, ◌-◌, ◌↔◌, [], length, List, ℕ, Some, None, Contains, IfOk, OnOk};
-ghost use Rattle.std.specs.Prelude.{OnErr, IsErr, IsErrOf, IsSome, IsTrue, option_map};
+ghost use Rattle.std.specs.Prelude.{◌≡◌, ◌≤◌, ◌+◌, ◌-◌, ◌↔◌, [], length, ℕ, Some, None, Contains, IfOk, OnOk};
+ghost use Rattle.std.specs.Prelude.{OnErr, IsErr, IsErrOf, IsTrue, option_map};
 ghost use Rattle.std.specs.FinMap as map;
+ghost use Rattle.lists_and_answers.specs.Lists.{with_name};
 ghost use Rattle.outside.specs.Causes.{HasCause, FailsWith, Absorbed, CountsWhere, one_more, added};
 ghost use Rattle.outside.specs.Memory.{files_of, newest, AreNames, AreApart, names_of, reads_of, writes_of};
 ghost use Rattle.outside.specs.Memory.{schedule_of, drafts_of, drafts_more, file_bytes_of, file_len_of};
-ghost use Rattle.outside.specs.Memory.{draft_name_of, draft_bytes_of, draft_len_of, names_with, with_name, came_of};
+ghost use Rattle.outside.specs.Memory.{draft_name_of, draft_bytes_of, draft_len_of, names_with, came_of};
 ghost use Rattle.outside.specs.Outside.{Files, WithFile, IsUnder, Opened, IsLong, NotThere, Reads, Created, Grown};
 ghost use Rattle.outside.specs.Outside.{Written, Appended, Published, ChangesOnly, IsView};
 ghost use Rattle.outside.specs.declared.folder.OpenFault.TheVariants as open_fault;
@@ -152,8 +153,8 @@ impl<P: Schedule> MemoryFolder<P> {
         ensures err { OnErr result (⟦<MemoryFolder<P> as Folder>⟧.names self.new ≡ ⟦<MemoryFolder<P> as Folder>⟧.names
             self.old) }
         ensures faults { ⟦<MemoryFolder<P> as Folder>⟧.faults self.new ≡ ⟦<MemoryFolder<P> as Folder>⟧.faults self.old }
-        ensures read_calls { ⟦<MemoryFolder<P> as Folder>⟧.read_calls self.new ≡ ⟦<MemoryFolder<P> as Folder>⟧.read_calls self.old }
-        ensures write_calls { ⟦<MemoryFolder<P> as Folder>⟧.write_calls self.new ≡ ⟦<MemoryFolder<P> as Folder>⟧.write_calls self.old }
+        ensures read_calls { reads_of self.new ≡ reads_of self.old }
+        ensures write_calls { writes_of self.new ≡ writes_of self.old }
         ensures schedule { schedule_of self.new ≡ schedule_of self.old }
         ensures drafts { drafts_of self.new ≡ drafts_of self.old }
         ensures came { OnOk result (came_of self.new ≡ with_name (came_of self.old) name.now) }

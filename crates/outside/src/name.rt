@@ -7,6 +7,7 @@ ghost use Rattle.outside.specs.Names.{cut_last, behind_last, folder_part, last_p
 ghost use Rattle.outside.specs.Names.{is_raw, has_no_lower, header_ending, header_of};
 ghost use Rattle.outside.specs.declared.name.NameFault.TheVariants as name_fault;
 
+use crate::Text;
 use crate::path::normalise;
 use lists_and_answers::Items;
 use std::alloc::{AllocError, Global};
@@ -59,18 +60,18 @@ pub enum Ext {
 /// A path in its normal form, of 1 to 4,096 bytes.
 #[derive(Drop)]
 pub struct Name {
-    text: String,
+    text: Text,
 }
 
 impl Model for Name {
-    ghost use Rattle.std.specs.Prelude.{List, ℕ, string_bytes};
+    ghost use Rattle.std.specs.Prelude.{List, ℕ};
     ghost use Rattle.outside.specs.Paths.{IsName};
 
     ghost Value = { List ℕ };
 
-    ghost view = { λ a. string_bytes a.text };
+    ghost view = { λ a. a.text };
 
-    ghost invariant = { λ a. IsName (string_bytes a.text) };
+    ghost invariant = { λ a. IsName a.text };
 }
 
 /// A list of names.
@@ -218,7 +219,9 @@ impl Name {
         let (stem, ending) = cut_ending(self.text.as_str());
         let mut text = String::from_str(alloc, stem)?;
         text.push_str(header_ending(ending))?;
-        Ok(Name { text })
+        Ok(Name {
+            text: Text::of(text),
+        })
     }
 
     /// What stands before the last slash. None comes exactly where there is no slash.
@@ -255,7 +258,7 @@ impl Name {
         ensures same { IfOk result (λ name. name ≡ self.now) }
     {
         Ok(Name {
-            text: self.text.clone()?,
+            text: self.text.try_clone()?,
         })
     }
 }

@@ -5,6 +5,7 @@ ghost use Rattle.std.specs.List.{prefix_len};
 ghost use Rattle.outside.specs.Paths.{seen, with_part, parts_of, pieces, joined, normal, is_kept};
 ghost use Rattle.outside.specs.Plain.{are_plain, are_plain_behind, behind_slash, is_inside};
 
+use crate::Text;
 use memchr::memchr;
 use std::alloc::{AllocError, Global};
 
@@ -137,28 +138,28 @@ fn is_plain(text: &[u8]) -> bool
 
 // The normal form of a path, from its parts.
 #[tactic(auto, unfolding(crate::specs::Paths::normal))]
-fn rebuilt(alloc: Global, text: &str) -> Result<String, AllocError>
-    ensures { IfOk result (λ path. string_bytes path ≡ normal text.now) }
+fn rebuilt(alloc: Global, text: &str) -> Result<Text, AllocError>
+    ensures { IfOk result (λ path. path ≡ normal text.now) }
 {
     let absolute = text.as_bytes().first() == Some(&b'/');
     let parts = normal_parts(alloc, absolute, text)?;
     if parts.is_empty() {
-        return String::from_str(alloc, if absolute { "/" } else { "." });
+        return Text::new(alloc, if absolute { "/" } else { "." });
     }
     let slashed = join(alloc, &parts)?;
     if absolute {
-        return Ok(slashed);
+        return Ok(Text::of(slashed));
     }
     let (_, rest) = slashed.as_str().split_at(1);
-    String::from_str(alloc, rest)
+    Text::new(alloc, rest)
 }
 
 /// The normal form of a path.
-pub fn normalise(alloc: Global, text: &str) -> Result<String, AllocError>
-    ensures { IfOk result (λ path. string_bytes path ≡ normal text.now) }
+pub fn normalise(alloc: Global, text: &str) -> Result<Text, AllocError>
+    ensures { IfOk result (λ path. path ≡ normal text.now) }
 {
     if is_plain(text.as_bytes()) {
-        return String::from_str(alloc, text);
+        return Text::new(alloc, text);
     }
     rebuilt(alloc, text)
 }

@@ -6,13 +6,14 @@ use Rattle.std.proofs.lemmas.Int.{ints}
 use Rattle.std.proofs.lemmas.Bool.Decides.{nat_tests}
 use Rattle.std.proofs.lemmas.Option.{slice_get-get_or, slice_get_past}
 use Rattle.geotransform.specs.declared.types.Size.{Size}
+use Rattle.geotransform.specs.Pixels.{within}
 use Rattle.outside.specs.Outside.{Files}
 use Rattle.catalog.specs.Pixels.{pixel_of_name}
 use Rattle.translate_plan.specs.declared.band.OutBand.{OutBand}
 use Rattle.translate_plan.specs.Plan.{Planned, held, is_inside, pixel_in, out_pixel, shown_column, shown_line}
 use Rattle.strip_copies.specs.declared.columns.Columns.{Columns}
 use Rattle.strip_copies.specs.declared.holding.Holding.{Holding}
-use Rattle.strip_copies.specs.Rows.{within, held_to, column_at, made_found, made_of, nearest, AreColumns, IsHolding, IsSample}
+use Rattle.strip_copies.specs.Rows.{held_to, column_at, made_found, made_of, nearest, AreColumns, IsHolding, IsSample}
 
 -- a number held to a side is within it
 pub held_within : (side : ℕ) (a : ℤ) → held_to side a ≤ side

@@ -6,6 +6,7 @@ use Rattle.std.proofs.lemmas.Bool.Decides.{nat_tests}
 use Rattle.std.proofs.lemmas.Int.{ints}
 use Rattle.std.proofs.lemmas.Nat.{div-mul-add}
 use Rattle.geotransform.specs.declared.types.Size.{Size}
+use Rattle.geotransform.specs.Pixels.{within}
 use Rattle.outside.specs.Outside.{Files}
 use Rattle.band_blocks.proofs.Corners.{get_or-row_by_row}
 use Rattle.catalog.specs.Pixels.{pixel_of_name}
@@ -14,7 +15,7 @@ use Rattle.strip_copies.specs.declared.columns.Columns.{Columns}
 use Rattle.strip_copies.specs.declared.holding.Holding.{Holding}
 use Rattle.strip_copies.specs.declared.spans.Run.{Run}
 use Rattle.strip_copies.specs.Copies.{IsDirect}
-use Rattle.strip_copies.specs.Rows.{within, column_at, nearest, strip_rect, AreColumns, AreSamples, IsHolding, IsSample, IsStrip}
+use Rattle.strip_copies.specs.Rows.{column_at, nearest, strip_rect, AreColumns, AreSamples, IsHolding, IsSample, IsStrip}
 use Rattle.strip_copies.proofs.Samples.{held_sample}
 
 -- of as many lines as there are, each shows itself

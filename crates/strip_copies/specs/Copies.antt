@@ -2,6 +2,7 @@
 use Rattle.std.specs.Prelude.{◌≡◌, ◌<◌, ◌≤◌, ◌+◌, ◌-◌, ℕ, ℤ, List, length, All, Option, Some, slice_get, get_or}
 use Rattle.geotransform.specs.declared.types.Rect.{Rect}
 use Rattle.geotransform.specs.declared.types.Size.{Size}
+use Rattle.geotransform.specs.Pixels.{within}
 use Rattle.outside.specs.Outside.{Files}
 use Rattle.catalog.specs.Dataset.{band_count}
 use Rattle.catalog.specs.Drivers.{Dataset}
@@ -9,7 +10,7 @@ use Rattle.translate_plan.specs.declared.band.OutBand.{OutBand}
 use Rattle.translate_plan.specs.Plan.{Planned, shown_line}
 use Rattle.strip_copies.specs.declared.columns.Columns.{Columns}
 use Rattle.strip_copies.specs.declared.spans.Run.{Run}
-use Rattle.strip_copies.specs.Rows.{within, AreColumns, AreIn, AreSamples}
+use Rattle.strip_copies.specs.Rows.{AreColumns, AreIn, AreSamples}
 
 -- the catalog has the dataset of this number, which has the bands that the plan shows
 pub record IsTranslation (cat : List Dataset) (id : ℕ) (p : Planned) : Type 0 where

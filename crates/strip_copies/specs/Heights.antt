@@ -4,6 +4,7 @@ use Rattle.std.specs.Prelude.{if◌then◌else◌}
 use Rattle.std.specs.List.{list_any}
 use Rattle.esri_hdr.specs.declared.header_parts.Layout.{Layout}
 use Rattle.esri_hdr.specs.declared.header_parts.Layout.TheVariants.{Bil, Bip, Bsq}
+use Rattle.catalog.specs.Dataset.{square_side}
 use Rattle.catalog.specs.Drivers.{Dataset}
 use Rattle.catalog.specs.declared.kind.Kind.{Kind}
 use Rattle.catalog.specs.declared.kind.Kind.TheVariants as kinds
@@ -58,10 +59,6 @@ is_tall cat SrtmHgt = has_blocks Columns cat
 is_tall cat AaiGrid = has_blocks Columns cat
 is_tall cat Vrt = has_blocks Columns cat
 
--- The lines of a square of a mosaic.
-abbrev pub square_lines : ℕ
-square_lines = 128
-
 -- The lines of a file of lines that each of several workers reads, and the most that a single one reads at a time.
 abbrev pub file_lines : ℕ
 file_lines = 32
@@ -69,7 +66,7 @@ file_lines = 32
 -- the lines of a strip that each of several workers reads: those of a square where the source is a mosaic, and 32 where
 -- it is a file of lines
 abbrev pub lines_each : List Dataset → ℕ
-lines_each cat = if has_blocks Squares cat then square_lines else file_lines
+lines_each cat = if has_blocks Squares cat then square_side else file_lines
 
 -- samples are made of others, or of digits: those of a file of bytes are copied
 abbrev pub is_made : List Dataset → Bool

@@ -6,6 +6,7 @@ use Rattle.geotransform.specs.Types.{is_in, lowest}
 use Rattle.geotransform.specs.declared.types.PixelType.{PixelType}
 use Rattle.geotransform.specs.declared.types.Rect.{Rect}
 use Rattle.geotransform.specs.declared.types.Size.{Size}
+use Rattle.geotransform.specs.Pixels.{within}
 use Rattle.outside.specs.Outside.{Files}
 use Rattle.dted_records.specs.Written.{IsElevation}
 use Rattle.catalog.specs.Pixels.{pixel_of_name}
@@ -18,11 +19,6 @@ use Rattle.strip_copies.specs.declared.columns.Columns.{Columns}
 use Rattle.strip_copies.specs.declared.holding.Holding.{Holding}
 use Rattle.strip_copies.specs.declared.making.Making.{Making}
 use Rattle.strip_copies.specs.declared.spans.Span.{Span}
-
--- a whole number as a column or a line of a side
-abbrev pub within : ℕ → ℤ → Option ℕ
-within side (pos n) = if nat_lt n side then Some n else None
-within side (negsuc n) = None
 
 -- the column at a place among n columns from `first` on
 abbrev pub column_at : ℕ → ℕ → ℕ → Option ℕ

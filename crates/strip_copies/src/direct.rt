@@ -1,8 +1,9 @@
 // Runs whose samples are those of their part of the source, one for one.
 ghost use Rattle.std.specs.Prelude.{◌≡◌, ◌<◌, ◌≤◌, ◌+◌, ◌-◌, ℕ, ℤ, pos, true, All, Some, length, get_or};
 ghost use Rattle.geotransform.specs.Types.{is_in};
+ghost use Rattle.geotransform.specs.Pixels.{within};
 ghost use Rattle.translate_plan.specs.Plan.{shown_line};
-ghost use Rattle.strip_copies.specs.Rows.{nearest, within, AreIn};
+ghost use Rattle.strip_copies.specs.Rows.{nearest, AreIn};
 ghost use Rattle.strip_copies.specs.Copies.{IsDirect};
 
 use crate::columns::Columns;

@@ -5,13 +5,14 @@ ghost use Rattle.strip_copies.specs.declared.height.BlockShape.TheVariants.{Squa
 ghost use Rattle.strip_copies.specs.Heights.{fewest_read, has_blocks, is_cell, is_cut_in, is_grid, is_made, is_mosaic};
 ghost use Rattle.strip_copies.specs.Heights.{is_shared, is_tall, is_woven, lines_alone, lines_copied, lines_each};
 ghost use Rattle.strip_copies.specs.Heights.{lines_held, lines_near, most_lines, strip_height, most_samples};
-ghost use Rattle.strip_copies.specs.Heights.{square_lines};
+ghost use Rattle.catalog.specs.Dataset.{square_side};
 ghost use Rattle.geotransform.specs.Limits.{most_side};
+ghost use Rattle.lane_teams.specs.Workers.{most_workers};
 
 use crate::making::area;
 use crate::shares::{FEWEST_COPIED, FEWEST_MADE};
 use crate::translation::Translation;
-use catalog::{Catalog, Kind};
+use catalog::{Catalog, Kind, SQUARE_SIDE};
 use esri_hdr::Layout;
 use geotransform::MOST_SIDE;
 use lane_teams::WorkerCount;
@@ -33,9 +34,6 @@ const MOST_SAMPLES: u32 = 4_194_304;
 
 // So many samples stay in a processor's cache: 1 MiB.
 const SAMPLES_NEAR: u32 = 65_536;
-
-// The lines of a square of a mosaic.
-const SQUARE_LINES: u32 = 128;
 
 // The lines of a file of lines that each of several workers reads, and the most that a single one reads at a time.
 const FILE_LINES: u32 = 32;
@@ -127,10 +125,10 @@ fn is_tall(translation: &Translation) -> bool
 fn lines_each(cat: &Catalog) -> u32
     ensures lines { result ≡ lines_each cat.now }
     ensures some { 1 ≤ result }
-    ensures few { result ≤ square_lines }
+    ensures few { result ≤ square_side }
 {
     if has_blocks(cat, BlockShape::Squares) {
-        SQUARE_LINES
+        SQUARE_SIDE
     } else {
         FILE_LINES
     }
@@ -199,8 +197,8 @@ fn lines_alone(translation: &Translation) -> u32
 
 // So many lines for each of so many workers.
 fn lines_of_all(each: u32, workers: u32) -> u32
-    requires lines { each ≤ square_lines }
-    requires workers { workers ≤ 16 }
+    requires lines { each ≤ square_side }
+    requires workers { workers ≤ most_workers }
     requires any { 1 ≤ each }
     requires some { 1 ≤ workers }
     ensures lines { result ≡ each * workers }

@@ -1,8 +1,8 @@
 // Which columns and lines of the source an output shows.
 ghost use Rattle.std.specs.Prelude.{◌≡◌, ◌<◌, ◌≤◌, ◌+◌, ◌*◌, ◌+ℤ◌, pos, unsigned_abs, IfSome};
 ghost use Rattle.translate_plan.specs.Plan.{shown, shown_line};
-ghost use Rattle.strip_copies.specs.Rows.{within};
 ghost use Rattle.geotransform.specs.Limits.{most_side, farthest};
+ghost use Rattle.geotransform.specs.Pixels.{within};
 
 use translate_plan::{Plan, windows_are_shown};
 

@@ -3,6 +3,7 @@ use Rattle.std.proofs.Common.{◌≡◌, ◌∙◌, ap, sym, refl, cond, ℕ, ze
 use Rattle.std.specs.Prelude.{◌||◌, ok_or, nat_lt}
 use Rattle.std.specs.FinMap.{get}
 use Rattle.lists_and_answers.specs.Answers.{◌>>=◌}
+use Rattle.lists_and_answers.specs.Lists.{is_among}
 use Rattle.outside.specs.Names.{extension_of, ending_of, last_part, kind_of, folder_part}
 use Rattle.outside.specs.Outside.{Files}
 use Rattle.outside.specs.Paths.{normal}
@@ -12,7 +13,6 @@ use Rattle.vrt_writing.specs.Spelled.{spelled}
 use Rattle.catalog.specs.Dataset.{band_at, band_count}
 use Rattle.catalog.specs.Drivers.{Dataset, dataset_of}
 use Rattle.catalog.specs.Heads.{kind_in, document_in, vrt_in, dataset_by, dataset_in, resolved}
-use Rattle.catalog.specs.Mosaics.{is_among}
 use Rattle.catalog.specs.Walk.{Met, number_of, dataset_named, sources_in, one_more_source, bands_of, band_named, is_narrow_band, has_band, has_samples, unless_wide, again_below, again_sources, again, visit_source, visit_sources, visit, met_in, walked}
 use Rattle.catalog.specs.declared.driver.Content.TheVariants.{Mosaic}
 use Rattle.catalog.specs.declared.driver.Found.{Found}

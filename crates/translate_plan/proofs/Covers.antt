@@ -8,8 +8,9 @@ use Rattle.std.proofs.lemmas.Bool.Decides.{nat_tests}
 use Rattle.lists_and_answers.specs.Options.{◌>>=◌}
 use Rattle.geotransform.specs.Places.{floor_of}
 use Rattle.geotransform.proofs.Floors.{floor_only}
+use Rattle.geotransform.specs.Pixels.{within}
 use Rattle.vrt_profile.specs.Values.{million}
-use Rattle.vrt_profile.specs.Cover.{Axis, centre, is_covered, dataset_at, counted, axis_at}
+use Rattle.vrt_profile.specs.Cover.{Axis, centre, is_covered, dataset_at, axis_at}
 
 not_zero : (b : ℕ) → 0 < b → pos b ≢ pos 0
 not_zero b h = λ e. absurd (omega (arith, ints, e))
@@ -98,11 +99,11 @@ is_in_side z count = int_le (pos 0) z && int_lt z (pos count)
 from_zero : (n : ℕ) → nat_le 0 n ≡ true
 from_zero n = grind (arith, nat_tests)
 
-counted_is : (count : ℕ) (z : ℤ) → counted count z ≡ cond (is_in_side z count) (Some (unsigned_abs z)) None
+counted_is : (count : ℕ) (z : ℤ) → within count z ≡ cond (is_in_side z count) (Some (unsigned_abs z)) None
 counted_is count (pos n) = ap (λ (b : Bool). cond (b && nat_lt n count) (Some n) None) (sym (from_zero n))
 counted_is count (negsuc n) = refl
 
 pub axis_is : (start : ℤ) (from to count i : ℕ) → i < to → axis_at (shown_on start from to) count i ≡ cond (is_in_side (start +ℤ pos ((2 * i + 1) * from / (2 * to))) count) (Some (unsigned_abs (start +ℤ pos ((2 * i + 1) * from / (2 * to))))) None
 axis_is start from to count i h =
-    ap (λ (b : Bool). cond b (counted count (dataset_at (shown_on start from to) (centre i))) None) (covered start from to i h)
-    ∙ (ap (counted count) (place_in start from to i (omega arith)) ∙ counted_is count (start +ℤ pos ((2 * i + 1) * from / (2 * to))))
+    ap (λ (b : Bool). cond b (within count (dataset_at (shown_on start from to) (centre i))) None) (covered start from to i h)
+    ∙ (ap (within count) (place_in start from to i (omega arith)) ∙ counted_is count (start +ℤ pos ((2 * i + 1) * from / (2 * to))))

@@ -13,6 +13,7 @@ use Rattle.geotransform.specs.declared.types.Size.{Size}
 use Rattle.geotransform.specs.declared.types.PixelType.{PixelType}
 use Rattle.geotransform.specs.declared.types.PixelType.TheVariants.{Byte, Int8, UInt16, Int16, UInt32, Int32, UInt64, Int64}
 use Rattle.geotransform.specs.declared.faults.PlanFault.{PlanFault}
+use Rattle.geotransform.specs.Places.{are_same}
 use Rattle.esri_hdr.specs.declared.header_parts.Layout.{Layout}
 use Rattle.catalog.specs.Dataset.{DatasetHead, IsDatasetHead}
 use Rattle.catalog.specs.declared.nodata.NodataWord.{NodataWord}
@@ -25,7 +26,7 @@ use Rattle.translate_plan.specs.declared.window.Window.{Window}
 use Rattle.translate_plan.specs.Options.{Options, IsOptions}
 use Rattle.translate_plan.specs.Window.{asked_in, is_empty, is_large, is_far, window_in, inside_in, sides_of, size_in, IsWindow}
 use Rattle.geotransform.specs.Limits.{farthest}
-use Rattle.translate_plan.specs.Fits.{own_nodata, is_single, count_in, geo_in, place_in, holds_geo, holds_name, takes_kind, is_int16, holds_kinds, is_same, takes_number, takes_nodata}
+use Rattle.translate_plan.specs.Fits.{own_nodata, is_single, count_in, geo_in, place_in, holds_geo, holds_name, takes_kind, is_int16, holds_kinds, takes_number, takes_nodata}
 use Rattle.translate_plan.specs.Bands.{all_known, AreKnown, count_of, kind_of, nodata_of, out_band_at, band_by, bands_by, same_nodata, agree, is_bare, asked_bands, out_bands, source_band, source_of}
 use Rattle.translate_plan.proofs.Rounded.{places_kept}
 use Rattle.translate_plan.specs.Plan.{Planned, fits, fits_in, plan_of, planned_by, IsOutBand, IsAlike, BandsHold, IsPlan}
@@ -197,7 +198,7 @@ same_is None (Some b) e = absurd cc
 same_is (Some a) None e = absurd cc
 same_is (Some a) (Some b) e = ap Some (number_is a b e)
   where
-    number_is : (a b : ℤ) → is_same a b ≡ true → a ≡ b
+    number_is : (a b : ℤ) → are_same a b ≡ true → a ≡ b
     number_is a b e = grind (arith, nat_tests, ints)
 
 agreed : (bs : List OutBand) → agree bs ≡ true → (k : ℕ) (d : OutBand) → k < length bs → (get_or bs 0 d).nodata ≡ (get_or bs k d).nodata

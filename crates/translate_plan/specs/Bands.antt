@@ -8,6 +8,7 @@ use Rattle.geotransform.specs.declared.types.PixelType.{PixelType}
 use Rattle.geotransform.specs.declared.types.PixelType.TheVariants.{Byte, Int16}
 use Rattle.geotransform.specs.declared.faults.PlanFault.{PlanFault}
 use Rattle.geotransform.specs.declared.faults.PlanFault.TheVariants.{NoBand}
+use Rattle.geotransform.specs.Places.{are_same}
 use Rattle.catalog.specs.Dataset.{DatasetHead, band_at}
 use Rattle.catalog.specs.declared.kind.BandHead.{BandHead}
 use Rattle.catalog.specs.declared.nodata.NodataWord.{NodataWord}
@@ -16,7 +17,7 @@ use Rattle.translate_plan.specs.declared.options.Driver.{Driver}
 use Rattle.translate_plan.specs.declared.options.Driver.TheVariants.{EHdr, Dted, SrtmHgt, AaiGrid, Vrt}
 use Rattle.translate_plan.specs.declared.band.OutBand.{OutBand}
 use Rattle.translate_plan.specs.Options.{Options}
-use Rattle.translate_plan.specs.Fits.{own_nodata, is_same}
+use Rattle.translate_plan.specs.Fits.{own_nodata}
 
 -- each band, counted from 1, is one of the source, else the first that isn't is named
 abbrev pub all_known : List ℕ → ℕ → Result (Unit {0}) PlanFault
@@ -89,7 +90,7 @@ abbrev pub same_nodata : Option ℤ → Option ℤ → Bool
 same_nodata None None = true
 same_nodata None (Some b) = false
 same_nodata (Some a) None = false
-same_nodata (Some a) (Some b) = is_same a b
+same_nodata (Some a) (Some b) = are_same a b
 
 abbrev pub agree : List OutBand → Bool
 agree [] = true

@@ -1,10 +1,10 @@
 -- What the driver of an output can hold.
 use Rattle.std.specs.Prelude.{ℕ, ℤ, negsuc, Bool, true, false, not, ◌&&◌, ◌||◌, ◌==◌, List, ◌++◌, codes, Option, Some}
-use Rattle.std.specs.Prelude.{None, is_some, Result, Ok, Err, nat_lt, int_le, if◌then◌else◌}
+use Rattle.std.specs.Prelude.{None, is_some, Result, Ok, Err, nat_lt, if◌then◌else◌}
 use Rattle.std.specs.List.{list_all}
 use Rattle.lists_and_answers.specs.Options.{◌>>=◌}
 use Rattle.geotransform.specs.Types.{bytes_of, highest, is_in, is_signed, lowest}
-use Rattle.geotransform.specs.Places.{sixteen_places}
+use Rattle.geotransform.specs.Places.{sixteen_places, are_same}
 use Rattle.geotransform.specs.Geo.{Transform, is_north_up, sizes_held, transform_of, cut_of}
 use Rattle.geotransform.specs.declared.types.Size.{Size}
 use Rattle.geotransform.specs.declared.types.PixelType.{PixelType}
@@ -131,13 +131,9 @@ holds_kinds SrtmHgt bands = true
 holds_kinds AaiGrid bands = list_all (λ b. is_within_int32 b.kind) bands
 holds_kinds Vrt bands = true
 
--- two numbers are the same
-abbrev pub is_same : ℤ → ℤ → Bool
-is_same a b = int_le a b && int_le b a
-
 -- a number that is asked for: that of the format, or one of all types
 abbrev pub takes_number : Option ℤ → ℤ → List OutBand → Bool
-takes_number (Some own) n bands = is_same n own
+takes_number (Some own) n bands = are_same n own
 takes_number None n bands = list_all (λ b. is_in b.kind n) bands
 
 -- the NODATA that is asked for

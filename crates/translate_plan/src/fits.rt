@@ -2,13 +2,14 @@
 ghost use Rattle.std.specs.Prelude.{◌≡◌, ◌<◌, ◌≤◌, ◌^◌, ◌*◌, ◌≢◌, ◌++◌, pos, neg_ℤ, ◌+ℤ◌, ◌-ℤ◌, ◌*ℤ◌, IfSome};
 ghost use Rattle.std.specs.Prelude.{is_some, ◌&&◌, None, codes};
 ghost use Rattle.geotransform.specs.Geo.{IsRaster, is_north_up, sizes_held};
+ghost use Rattle.geotransform.specs.Places.{are_same};
 ghost use Rattle.hgt_tiles.specs.Names as tiles;
 ghost use Rattle.esri_hdr.specs.Head.{GeoFits, raw_geo_of};
 ghost use Rattle.translate_plan.specs.Options.{IsDriver};
 ghost use Rattle.translate_plan.specs.Window.{IsWindow};
 ghost use Rattle.translate_plan.specs.Fits.{is_single, own_nodata, count_in, rounded, rounded_for, geo_in};
 ghost use Rattle.translate_plan.specs.Fits.{place_in, raw_in, cell_in, tile_in, holds_geo, is_named, holds_name};
-ghost use Rattle.translate_plan.specs.Fits.{is_int16, is_within_int32, takes_kind, holds_kinds, is_same, takes_number};
+ghost use Rattle.translate_plan.specs.Fits.{is_int16, is_within_int32, takes_kind, holds_kinds, takes_number};
 ghost use Rattle.translate_plan.specs.Fits.{takes_nodata};
 
 use crate::band::{MOST_BANDS, OutBand};
@@ -255,8 +256,8 @@ pub fn holds_kinds(driver: Driver, bands: &[OutBand]) -> bool
 }
 
 /// Whether two numbers are the same.
-pub fn is_same(a: Sample, b: Sample) -> bool
-    ensures { result ≡ is_same a b }
+pub fn are_same(a: Sample, b: Sample) -> bool
+    ensures { result ≡ are_same a b }
 {
     a <= b && b <= a
 }
@@ -277,7 +278,7 @@ fn takes_number(own: Option<Sample>, n: Sample, bands: &[OutBand]) -> bool
     ensures { result ≡ takes_number own n bands.now }
 {
     match own {
-        Some(own) => is_same(n, own),
+        Some(own) => are_same(n, own),
         None => all_hold(n, bands),
     }
 }

@@ -1,13 +1,14 @@
 -- Tags without attributes.
-use Rattle.std.proofs.Common.{◌≡◌, ℕ, zero, suc, Bool, true, false, cond, List, [], ◌∷◌, drop, Option, Some, None, refl, sym, ap, ◌∙◌, ◌==◌, true≢false, arith}
+use Rattle.std.proofs.Common.{◌≡◌, ℕ, zero, suc, Bool, false, cond, List, drop, Some, None, refl, sym, ap, ◌∙◌, ◌==◌, true≢false, arith}
 use Rattle.std.proofs.lemmas.Bool.Decides.{nat_tests}
 use Rattle.std.specs.List.{prefix_len}
 use Rattle.lists_and_answers.specs.Options.{◌>>=◌}
-use Rattle.vrt_markup.specs.Items.{Pair, is_some, option_case, is_white, spaces_at, trim_front, name_at, pairs, is_distinct, tag_end, tag_at, tag_item, bad, open_tag}
+use Rattle.lists_and_answers.specs.Texts.{is_white}
+use Rattle.vrt_markup.specs.Items.{Pair, is_some, option_case, spaces_at, trim_front, name_at, pairs, is_distinct, tag_end, tag_at, tag_item, bad, open_tag}
 use Rattle.vrt_markup.proofs.Names.{spaceless, tag_nameless, tag_endless, front_by, tag_by, by_tag}
 
 -- what has no white space in front stays
-untrimmed : (a : List ℕ) → is_some (spaces_at a) ≡ false → trim_front a ≡ a
+pub untrimmed : (a : List ℕ) → is_some (spaces_at a) ≡ false → trim_front a ≡ a
 untrimmed a h = by_count (prefix_len is_white a) h
   where
     by_count : (n : ℕ) → is_some (cond (n == 0) None (Some (trim_front a))) ≡ false → drop n a ≡ a

@@ -1,5 +1,5 @@
--- End tags of a name that is known.
-use Rattle.std.proofs.Common.{◌≡◌, ℕ, suc, ◌+◌, Bool, true, false, cond, ◌||◌, ◌&&◌, List, [], ◌∷◌, ◌++◌, length, drop, take, Option, Some, None, refl, sym, ap, ◌∙◌, arith, ◌==◌, nat_le}
+-- Tags of a name that is known.
+use Rattle.std.proofs.Common.{◌≡◌, ℕ, suc, ◌+◌, Bool, true, false, cond, ◌||◌, ◌&&◌, List, [], ◌∷◌, ◌++◌, length, drop, take, Some, None, refl, sym, ap, ◌∙◌, arith, ◌==◌, nat_le}
 use Rattle.std.specs.List.{prefix_len, list_all}
 use Rattle.std.specs.Cmp.Lexicographic.{same_text}
 use Rattle.std.proofs.Math.Seq.{drop-append_seam, take-append_seam}
@@ -32,11 +32,14 @@ byte_whole b (c ∷ cs) r h =
     let same : c ≡ b = grind (arith, nat_tests, both.0) in
     ap (λ x. x ∷ cs) same ∙ ap (λ x. b ∷ x) (sym both.1)
 
-pub end_whole : (t n a b r : List ℕ) → Some a ≡ strip (60 ∷ 47 ∷ []) t → Some b ≡ strip n a → Some r ≡ byte_at 62 b → t ≡ 60 ∷ 47 ∷ n ++ 62 ∷ r
-end_whole t n a b r front name end =
-    strip_whole (60 ∷ 47 ∷ []) t a front
-    ∙ ap (λ x. 60 ∷ 47 ∷ x) (strip_whole n a b name)
-    ∙ ap (λ x. 60 ∷ 47 ∷ n ++ x) (byte_whole 62 b r end)
+pub named_whole : (t n b r : List ℕ) → Some b ≡ strip n t → Some r ≡ byte_at 62 b → t ≡ n ++ 62 ∷ r
+named_whole t n b r name end = strip_whole n t b name ∙ ap (λ x. n ++ x) (byte_whole 62 b r end)
+
+pub end_whole : (t n a r : List ℕ) → Some a ≡ strip (60 ∷ 47 ∷ []) t → a ≡ n ++ 62 ∷ r → t ≡ 60 ∷ 47 ∷ n ++ 62 ∷ r
+end_whole t n a r front name = strip_whole (60 ∷ 47 ∷ []) t a front ∙ ap (λ x. 60 ∷ 47 ∷ x) name
+
+pub start_whole : (t n a r : List ℕ) → Some a ≡ byte_at 60 t → a ≡ n ++ 62 ∷ r → t ≡ 60 ∷ n ++ 62 ∷ r
+start_whole t n a r front name = byte_whole 60 t a front ∙ ap (λ x. 60 ∷ x) name
 
 one_more : (n : ℕ) → 1 + n ≡ suc n
 one_more n = omega arith
@@ -72,7 +75,7 @@ all_later (c ∷ cs) r h =
     let later = all_later cs r both.1 in
     ap (λ b. cond b (1 + prefix_len is_later (cs ++ 62 ∷ r)) 0) both.0 ∙ omega (arith, later)
 
-name_whole : (n r : List ℕ) → is_name n ≡ true → name_at (n ++ 62 ∷ r) ≡ Some (n, 62 ∷ r)
+pub name_whole : (n r : List ℕ) → is_name n ≡ true → name_at (n ++ 62 ∷ r) ≡ Some (n, 62 ∷ r)
 name_whole [] r h = absurd cc
 name_whole (c ∷ cs) r h =
     let t = (c ∷ cs) ++ 62 ∷ r in

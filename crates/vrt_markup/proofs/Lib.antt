@@ -1,4 +1,5 @@
 pub mod Shorter
+pub mod StartTags
 pub mod Names
 pub mod Next
 pub mod EndTags
@@ -6,6 +7,7 @@ mod Bare
 mod Behind
 pub mod Reading
 mod Fronts
+mod Rising
 mod Lent
 mod Ordered
 pub mod Utf8

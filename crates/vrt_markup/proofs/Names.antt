@@ -1,5 +1,5 @@
 -- Names in order, each one once, are as many as before just where no attribute stands twice.
-use Rattle.std.proofs.Common.{◌≡◌, ℕ, ◌+◌, ◌<◌, ◌≤◌, Bool, true, false, cond, not, ◌||◌, ◌&&◌, List, [], ◌∷◌, ◌++◌, map, length, drop, Option, Some, None, refl, sym, ap, ◌∙◌, subst, arith, ◌==◌, IsPermutation, IsSorted}
+use Rattle.std.proofs.Common.{◌≡◌, ℕ, suc, ◌+◌, ◌<◌, ◌≤◌, Bool, true, false, cond, not, ◌||◌, ◌&&◌, List, [], ◌∷◌, ◌++◌, map, length, drop, Option, Some, None, refl, sym, ap, ◌∙◌, subst, arith, ◌==◌, IsPermutation, IsSorted}
 use Rattle.std.specs.declared.cmp.Ordering.{Ordering}
 use Rattle.std.specs.Ordering.{nat_cmp, eq_by_cmp, ordering_then}
 use Rattle.std.specs.List.{prefix_len, list_any, AllByRecursion, IsDistinct, dedup, dedup_from}
@@ -11,8 +11,9 @@ use Rattle.std.proofs.lemmas.List.{map-append, append_assoc}
 use Rattle.std.proofs.lemmas.List.Kept.{IsStrictlySortedBy-dedup}
 use Rattle.std.proofs.lemmas.List.Sorted.{IsPermutation-sym, length_permutation}
 use Rattle.std.proofs.lemmas.Map.Keys.{IsDistinct-from_sorted, IsDistinct-IsPermutation, IsDistinct-head, IsDistinct-tail, IsDistinct-cons}
-use Rattle.vrt_markup.specs.Items.{Pair, attribute, is_distinct, is_equal, is_some, is_white, spaces_at, pair_at, pairs, name_at, byte_at, value_at, trim_front, tag_end, tag_front, tag_at, Tag}
+use Rattle.vrt_markup.specs.Items.{Pair, attribute, is_distinct, is_equal, is_some, spaces_at, pair_at, pairs, name_at, byte_at, value_at, trim_front, tag_end, tag_front, tag_at, Tag}
 use Rattle.lists_and_answers.specs.Options.{◌>>=◌}
+use Rattle.lists_and_answers.specs.Texts.{is_white}
 use Rattle.vrt_markup.specs.Keys.{key_of, last_bytes, number_of, apart, double_from, double_of}
 use Rattle.vrt_markup.proofs.Shorter.{pairs_next, pairs_none}
 
@@ -276,7 +277,18 @@ space_tells c cs = by_case (is_white c) (prefix_len is_white cs)
         sym (ap (λ b. is_some (cond b None (Some (drop (1 + n) (c ∷ cs))))) some)
     by_case false n = refl
 
-none_of : {A : Type 0} (o : Option A) → is_some o ≡ false → o ≡ None
+-- without the first white space the rest is trimmed
+pub spaces_next : (c : ℕ) (cs : List ℕ) → is_some (spaces_at (c ∷ cs)) ≡ true → spaces_at (c ∷ cs) ≡ Some (trim_front cs)
+spaces_next c cs h = by_case (is_white c) (prefix_len is_white cs) h
+  where
+    by_case : (b : Bool) (n : ℕ) → is_some (cond (cond b (1 + n) 0 == 0) None (Some (drop (cond b (1 + n) 0) (c ∷ cs)))) ≡ true → cond (cond b (1 + n) 0 == 0) None (Some (drop (cond b (1 + n) 0) (c ∷ cs))) ≡ Some (drop n cs)
+    by_case true n h =
+        let some : (1 + n == 0) ≡ false = grind (arith, nat_tests) in
+        let one : 1 + n ≡ suc n = omega arith in
+        ap (λ b. cond b None (Some (drop (1 + n) (c ∷ cs)))) some ∙ ap (λ k. Some (drop k (c ∷ cs))) one
+    by_case false n h = absurd cc
+
+pub none_of : {A : Type 0} (o : Option A) → is_some o ≡ false → o ≡ None
 none_of None h = refl
 none_of (Some x) h = absurd cc
 

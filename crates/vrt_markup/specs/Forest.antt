@@ -3,10 +3,15 @@ use Rattle.std.specs.Prelude.{ℕ, zero, suc, ◌-◌, Bool, true, ◌&&◌, Lis
 use Rattle.std.specs.Prelude.{Option, Some, None, ◌==◌, if◌then◌else◌}
 use Rattle.std.specs.List.{list_all}
 use Rattle.lists_and_answers.specs.Answers.{◌>>=◌}
-use Rattle.vrt_markup.specs.Items.{Item, bad, comment, run, open_tag, close_tag, Tag, item_at, is_equal, is_white}
+use Rattle.lists_and_answers.specs.Texts.{is_white}
+use Rattle.vrt_markup.specs.Items.{Item, bad, comment, run, open_tag, close_tag, Tag, item_at, is_equal}
 use Rattle.vrt_markup.specs.Items.{option_case, entity_at}
 use Rattle.vrt_markup.specs.declared.fault.VrtFault.{VrtFault}
 use Rattle.vrt_markup.specs.declared.fault.VrtFault.TheVariants.{BadText, Limit}
+
+-- How deep an element stands at most, where the root stands at 1.
+abbrev pub deepest : ℕ
+deepest = 64
 
 -- What stands in an element, in order: a run of text and what follows; an element with its place, its tag and what
 -- stands in it, and what follows.
@@ -37,7 +42,7 @@ nodes_step more total depth name bytes (run raw rest) = more depth name rest >>=
 nodes_step more total depth name bytes (close_tag other rest) = if is_equal other name then Ok (stop, rest)
     else Err (BadText (total - length bytes))
 nodes_step more total depth name bytes (open_tag tag rest) =
-    if nat_le 64 depth then Err Limit else
+    if nat_le deepest depth then Err Limit else
     (inner_by more depth tag rest >>= λ x. more depth name x.1 >>= with_element (total - length bytes) tag x.0)
 
 -- Each item takes a byte at least.

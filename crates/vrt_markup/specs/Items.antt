@@ -4,6 +4,7 @@ use Rattle.std.specs.Prelude.{codes, Option, Some, None, ◌==◌, nat_le, if◌
 use Rattle.std.specs.List.{prefix_len, list_all}
 use Rattle.std.specs.Cmp.Lexicographic.{pointwise}
 use Rattle.lists_and_answers.specs.Options.{◌>>=◌}
+use Rattle.lists_and_answers.specs.Texts.{is_white}
 
 abbrev pub is_equal : List ℕ → List ℕ → Bool
 is_equal a b = pointwise (λ x y. x == y) a b
@@ -23,10 +24,7 @@ begins front text = pointwise (λ x y. x == y) (take (length front) text) front
 abbrev pub strip : List ℕ → List ℕ → Option (List ℕ)
 strip front text = if begins front text then Some (drop (length front) text) else None
 
--- white space, and the text without it in front
-abbrev pub is_white : ℕ → Bool
-is_white c = (c == 32) || (nat_le 9 c && nat_le c 13)
-
+-- the text without the white space in front
 abbrev pub trim_front : List ℕ → List ℕ
 trim_front text = drop (prefix_len is_white text) text
 

@@ -1,8 +1,8 @@
 -- The keys by which the names of a tag's attributes are sorted, and texts that stand in a document as they are.
-use Rattle.std.specs.Prelude.{ℕ, ◌+◌, ◌*◌, ◌%◌, ◌==◌, Bool, true, not, ◌&&◌, List, [], ◌∷◌, Option, Some, None}
-use Rattle.std.specs.Prelude.{if◌then◌else◌}
+use Rattle.std.specs.Prelude.{ℕ, ◌+◌, ◌*◌, ◌%◌, ◌==◌, Bool, true, false, not, ◌&&◌, List, [], ◌∷◌, Option, Some, None}
+use Rattle.std.specs.Prelude.{if◌then◌else◌, nat_lt}
 use Rattle.std.specs.List.{list_any}
-use Rattle.vrt_markup.specs.Items.{Pair}
+use Rattle.vrt_markup.specs.Items.{Pair, option_case}
 
 -- the number that the last eight bytes of a text make, behind those of a word
 abbrev pub last_bytes : ℕ → List ℕ → ℕ
@@ -21,6 +21,22 @@ number_of p = last_bytes 0 p.name
 abbrev pub apart : {X : Type 0} → (X → X → Bool) → List X → Bool
 apart same [] = true
 apart same (x ∷ xs) = not (list_any (same x) xs) && apart same xs
+
+-- Numbers so far: each is one from low to last, or one from top on. With one more they are so again, where it is less
+-- than all of them, or between last and top.
+pub record Spread : Type 0 where
+  pub low : ℕ
+  pub last : ℕ
+  pub top : ℕ
+
+abbrev pub spread_with : Spread → ℕ → Option Spread
+spread_with s n = if nat_lt n s.low then Some (record { low = n; last = n; top = s.low }) else
+    (if nat_lt s.last n && nat_lt n s.top then Some (record { low = s.low; last = n; top = s.top }) else None)
+
+-- whether they are so with each of a list
+abbrev pub spreads : Spread → List ℕ → Bool
+spreads s [] = true
+spreads s (n ∷ ns) = option_case (spread_with s n) false (λ t. spreads t ns)
 
 -- the first number that is the same as the one in front of it
 abbrev pub double_from : ℕ → List ℕ → Option ℕ

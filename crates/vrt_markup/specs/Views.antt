@@ -9,13 +9,18 @@ use Rattle.vrt_markup.specs.Tree as tree
 use Rattle.vrt_markup.specs.declared.root.Root.{Root}
 use Rattle.vrt_markup.specs.Items as items
 use Rattle.vrt_markup.specs.Items.{pairs, bad, comment, run, open_tag, close_tag}
+use Rattle.vrt_markup.specs.Keys as keys
 use Rattle.vrt_markup.specs.declared.items.Pair.{Pair}
+use Rattle.vrt_markup.specs.declared.items.Spread.{Spread}
 use Rattle.vrt_markup.specs.declared.tag.Tag.{Tag}
 use Rattle.vrt_markup.specs.declared.items.Item.{Item}
 use Rattle.vrt_markup.specs.declared.items.Item.TheVariants.{NoMemory, Bad, Comment, Run, Open, Close}
 
 abbrev pub pair_view : Pair → items.Pair
 pair_view p = record { name = p.name.now; value = p.value.now }
+
+abbrev pub spread_view : Spread → keys.Spread
+spread_view s = record { low = s.low; last = s.last; top = s.top }
 
 abbrev pub tag_view : Tag → items.Tag
 tag_view t = record { name = t.name.now; pairs = (pairs t.attributes.now).0; empty = t.empty }

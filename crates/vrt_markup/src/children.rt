@@ -1,16 +1,16 @@
 // Elements that hold elements alone: what their children make of them, one after the other.
 ghost use Rattle.std.specs.Prelude.{◌≡◌, ℕ, ◌<◌, ◌≤◌, ◌-◌, length, IfOk, Result, Ok, true};
 ghost use Rattle.vrt_markup.specs.Items as items;
-ghost use Rattle.vrt_markup.specs.Items.{is_name};
-ghost use Rattle.vrt_markup.specs.Forest.{Forest, nodes, inner, read_as};
-ghost use Rattle.vrt_markup.specs.Views.{tag_view};
+ghost use Rattle.vrt_markup.specs.Items.{is_name, item_at};
+ghost use Rattle.vrt_markup.specs.Forest.{Forest, deepest, nodes, inner, read_as};
+ghost use Rattle.vrt_markup.specs.Views.{tag_view, Finds, Shortens};
 ghost use Rattle.vrt_markup.specs.Kept.{Gives, seen, stepped, kept_of};
 ghost use Rattle.vrt_markup.specs.declared.fault.VrtFault.{VrtFault};
 
-use crate::ends::own_end;
+use crate::ends::{own_end, own_start};
 use crate::fault::VrtFault;
 use crate::items::{Item, is_equal, item_at};
-use crate::past::past_element;
+use crate::past::{DEEPEST, past_element};
 use crate::tag::Tag;
 use crate::text::is_blank;
 use std::alloc::Global;
@@ -32,6 +32,10 @@ pub trait Parts {
     /// What an element in it makes of it, by its place, its tag and what stands in it.
     ghost step: { Self → Value → ℕ → items.Tag → Forest → Result Value VrtFault };
 
+    /// The name of an element that may well be the next one in it, if its name begins with this byte.
+    fn usual(&self, first: u8) -> &'static [u8]
+        ensures named { is_name result.now ≡ true };
+
     /// Takes the element that begins with this tag, and lends what stands behind it. After its fault the parts are
     /// unknown.
     fn child<'a>(
@@ -43,7 +47,7 @@ pub trait Parts {
         bytes: &'a [u8],
     ) -> Result<(Result<(), VrtFault>, &'a [u8]), VrtFault>
         requires within { length bytes.now ≤ level.total }
-        requires depth { level.depth < 64 }
+        requires depth { level.depth < deepest }
         ensures child { Gives (λ x. (kept_of (value self.new) x.0, x.1.now)) result
             (read_as (step self.old (value self.old) place (tag_view tag.entry))
             (inner level.total level.depth (tag_view tag.entry) bytes.now)) }
@@ -69,7 +73,7 @@ fn next_child<'a, P: Parts>(
     bytes: &'a [u8],
 ) -> Result<(Result<(), VrtFault>, &'a [u8]), VrtFault>
     requires within { length bytes.now ≤ level.total }
-    requires depth { level.depth < 64 }
+    requires depth { level.depth < deepest }
     ensures child { Gives (λ x. (kept_of (P.value parts.new) x.0, x.1.now)) result
         (read_as (stepped (P.step parts.old) (kept_of (P.value parts.old) kept) place (tag_view tag.entry))
         (inner level.total level.depth (tag_view tag.entry) bytes.now)) }
@@ -85,6 +89,35 @@ fn next_child<'a, P: Parts>(
     }
 }
 
+// The byte behind the first one, or 0 where there is none.
+fn second(text: &[u8]) -> u8 {
+    match text {
+        [_, c, ..] => *c,
+        _ => 0,
+    }
+}
+
+// The item in front of a text, where the start tag of this name may well stand.
+#[tactic(auto, using(crate::proofs::StartTags::start_item))]
+fn likely_item<'a>(alloc: Global, text: &'a [u8], name: &'a [u8]) -> Item<'a>
+    requires named { is_name name.now ≡ true }
+    ensures item { Finds result (item_at text.now) }
+    ensures shorter { Shortens result text.now }
+{
+    match own_start(text, name) {
+        Some(rest) => {
+            let attributes: &'a [u8] = &[];
+            let tag = Tag {
+                name,
+                attributes,
+                empty: false,
+            };
+            Item::Open(tag, rest)
+        }
+        None => item_at(alloc, text),
+    }
+}
+
 // What the elements in an element of this name make of its parts, behind its start tag.
 #[tactic(auto, using(crate::proofs::Reading::seen_close, crate::proofs::Reading::seen_end))]
 fn child_nodes<'a, P: Parts>(
@@ -95,7 +128,7 @@ fn child_nodes<'a, P: Parts>(
     bytes: &'a [u8],
 ) -> Result<(Seen, &'a [u8]), VrtFault>
     requires within { length bytes.now ≤ level.total }
-    requires depth { level.depth ≤ 64 }
+    requires depth { level.depth ≤ deepest }
     requires named { is_name name.now ≡ true }
     ensures seen { Gives (λ x. ((kept_of (P.value parts.new) x.0.kept, x.0.blank), x.1.now)) result
         (read_as (seen (P.step parts.old) (Ok (P.value parts.old)) true)
@@ -112,7 +145,8 @@ fn child_nodes<'a, P: Parts>(
             return Ok((seen, behind));
         }
         let place = (level.total - rest.len()) as u64;
-        match item_at(alloc, rest) {
+        let usual = parts.usual(second(rest));
+        match likely_item(alloc, rest, usual) {
             Item::NoMemory => return Err(VrtFault::Memory),
             Item::Comment(more) => rest = more,
             Item::Run(raw, more) => {
@@ -122,7 +156,7 @@ fn child_nodes<'a, P: Parts>(
             Item::Close(other, more) if is_equal(other, name) => return Ok((seen, more)),
             Item::Bad => return Err(VrtFault::BadText(place)),
             Item::Close(_, _) => return Err(VrtFault::BadText(place)),
-            Item::Open(_, _) if level.depth >= 64 => return Err(VrtFault::Limit),
+            Item::Open(_, _) if level.depth >= DEEPEST => return Err(VrtFault::Limit),
             Item::Open(tag, more) => {
                 match next_child(alloc, level, seen.kept, place, parts, tag, more) {
                     Ok((kept, behind)) => {
@@ -146,7 +180,7 @@ pub fn children_of<'a, P: Parts>(
     bytes: &'a [u8],
 ) -> Result<(Seen, &'a [u8]), VrtFault>
     requires within { length bytes.now ≤ level.total }
-    requires depth { level.depth < 64 }
+    requires depth { level.depth < deepest }
     ensures seen { Gives (λ x. ((kept_of (P.value parts.new) x.0.kept, x.0.blank), x.1.now)) result
         (read_as (seen (P.step parts.old) (Ok (P.value parts.old)) true)
         (inner level.total level.depth (tag_view tag.entry) bytes.now)) }

@@ -1,7 +1,7 @@
-// End tags of a name that is known.
+// Tags of a name that is known.
 ghost use Rattle.std.specs.Prelude.{◌≡◌, ◌<◌, ◌++◌, ◌∷◌, length, IfSome};
 
-use crate::items::{byte_at, strip};
+use crate::items::{byte_at, strip, two_at};
 
 /// What stands behind the end tag of this name, where the text begins with it, without white space in it.
 #[tactic(auto, using(crate::proofs::EndTags::end_whole))]
@@ -9,8 +9,27 @@ pub fn own_end<'a>(text: &'a [u8], name: &[u8]) -> Option<&'a [u8]>
     ensures whole { IfSome result (λ r. text.now ≡ 60 ∷ 47 ∷ name.now ++ 62 ∷ r.now) }
     ensures shorter { IfSome result (λ r. length r.now < length text.now) }
 {
-    let rest = strip(text, b"</")?;
-    let rest = strip(rest, name)?;
-    let rest = byte_at(rest, b'>')?;
-    Some(rest)
+    let rest = two_at(text, b'<', b'/')?;
+    name_end(rest, name)
+}
+
+// What stands behind this name and a `>`, where the text begins with them.
+#[inline(never)]
+#[tactic(auto, using(crate::proofs::EndTags::named_whole))]
+fn name_end<'a>(text: &'a [u8], name: &[u8]) -> Option<&'a [u8]>
+    ensures whole { IfSome result (λ r. text.now ≡ name.now ++ 62 ∷ r.now) }
+    ensures shorter { IfSome result (λ r. length r.now < length text.now) }
+{
+    let rest = strip(text, name)?;
+    byte_at(rest, b'>')
+}
+
+/// What stands behind the start tag of this name, where the text begins with it, without white space in it.
+#[tactic(auto, using(crate::proofs::EndTags::start_whole))]
+pub fn own_start<'a>(text: &'a [u8], name: &[u8]) -> Option<&'a [u8]>
+    ensures whole { IfSome result (λ r. text.now ≡ 60 ∷ name.now ++ 62 ∷ r.now) }
+    ensures shorter { IfSome result (λ r. length r.now < length text.now) }
+{
+    let rest = byte_at(text, b'<')?;
+    name_end(rest, name)
 }

@@ -1,14 +1,15 @@
 // The items of a document: comments, tags and runs of text.
 ghost use Rattle.std.specs.Prelude.{◌≡◌, ◌<◌, ◌≤◌, ◌+◌, ◌==◌, ℕ, List, length, map, true, false, IfSome, IfOk, Option};
-ghost use Rattle.std.specs.Prelude.{Some, None, []};
+ghost use Rattle.std.specs.Prelude.{Some, None, [], ◌∷◌, codes};
 ghost use Rattle.std.specs.Option.{option_map};
 ghost use Rattle.std.specs.List.{prefix_len};
-ghost use Rattle.vrt_markup.specs.Items.{is_name, is_some, strip, is_white, trim_front, is_first, is_later, has_first};
+ghost use Rattle.lists_and_answers.specs.Texts.{is_white};
+ghost use Rattle.vrt_markup.specs.Items.{is_name, is_some, strip, trim_front, is_first, is_later, has_first};
 ghost use Rattle.vrt_markup.specs.Items.{name_at, byte_at, after_comment, entity_at, ends_at, plain_len, spaces_at};
 ghost use Rattle.vrt_markup.specs.Items.{quote_at, value_at, pair_at, is_equal, begins, pairs, attribute, is_distinct};
 ghost use Rattle.vrt_markup.specs.Items.{tag_end, tag_front, tag_item, tag_at, close_at, run_at, item_at};
-ghost use Rattle.vrt_markup.specs.Keys.{last_bytes, key_of, number_of, apart, double_from, double_of};
-ghost use Rattle.vrt_markup.specs.Views.{pair_view, tag_view, Finds, Shortens};
+ghost use Rattle.vrt_markup.specs.Keys.{last_bytes, key_of, number_of, apart, double_from, double_of, spread_with};
+ghost use Rattle.vrt_markup.specs.Views.{pair_view, spread_view, tag_view, Finds, Shortens};
 
 use crate::tag::Tag;
 use std::alloc::{AllocError, Global};
@@ -34,6 +35,7 @@ pub fn is_white(c: u8) -> bool
     c == b' ' || (9 <= c && c <= 13)
 }
 
+#[inline(never)]
 fn white_len(text: &[u8]) -> usize
     ensures count { result ≡ prefix_len is_white text.now }
     ensures bound { result ≤ length text.now }
@@ -41,11 +43,26 @@ fn white_len(text: &[u8]) -> usize
     text.iter().take_while(|c| is_white(**c)).count()
 }
 
+/// Whether white space stands in front.
+#[tactic(auto, using(crate::proofs::Names::space_tells))]
+fn has_space(text: &[u8]) -> bool
+    ensures space { result ≡ is_some (spaces_at text.now) }
+{
+    match text {
+        [c, ..] => is_white(*c),
+        [] => false,
+    }
+}
+
 /// A text without the white space in front.
+#[tactic(auto, using(crate::proofs::Bare::untrimmed))]
 pub fn trim_front(text: &[u8]) -> &[u8]
     ensures rest { result.now ≡ trim_front text.now }
     ensures shorter { length result.now ≤ length text.now }
 {
+    if !has_space(text) {
+        return text;
+    }
     let (_, rest) = text.split_at(white_len(text));
     rest
 }
@@ -112,6 +129,26 @@ pub(crate) fn byte_at(text: &[u8], byte: u8) -> Option<&[u8]>
     }
 }
 
+/// What stands behind these two bytes, where the text begins with them.
+#[tactic(auto, using(crate::proofs::Fronts::two_none, crate::proofs::Fronts::two_some))]
+pub(crate) fn two_at(text: &[u8], first: u8, second: u8) -> Option<&[u8]>
+    ensures rest { option_map (λ r. r.now) result ≡ strip (first ∷ second ∷ []) text.now }
+    ensures shorter { IfSome result (λ r. length r.now < length text.now) }
+{
+    let rest = byte_at(text, first)?;
+    byte_at(rest, second)
+}
+
+/// What stands behind the front of a comment.
+#[tactic(auto, using(crate::proofs::Fronts::four_none, crate::proofs::Fronts::four_some))]
+fn comment_front(text: &[u8]) -> Option<&[u8]>
+    ensures rest { option_map (λ r. r.now) result ≡ strip (codes "<!--") text.now }
+    ensures shorter { IfSome result (λ r. length r.now < length text.now) }
+{
+    let rest = two_at(text, b'<', b'!')?;
+    two_at(rest, b'-', b'-')
+}
+
 /// What stands behind the first end of a comment.
 fn after_comment(text: &[u8]) -> Option<&[u8]>
     ensures rest { option_map (λ r. r.now) result ≡ after_comment text.now }
@@ -128,6 +165,7 @@ fn after_comment(text: &[u8]) -> Option<&[u8]>
 }
 
 /// The byte that an entity stands for, and its length behind the `&`.
+#[inline(never)]
 pub(crate) fn entity_at(text: &[u8]) -> Option<(u8, u8)>
     ensures { result ≡ entity_at text.now }
 {
@@ -170,16 +208,18 @@ fn plain_len(text: &[u8], end: u8) -> usize
 }
 
 /// What stands behind white space, where there is some.
+#[tactic(auto, using(crate::proofs::Names::none_of, crate::proofs::Names::spaces_next))]
 fn spaces_at(text: &[u8]) -> Option<&[u8]>
     ensures rest { option_map (λ r. r.now) result ≡ spaces_at text.now }
     ensures shorter { IfSome result (λ r. length r.now < length text.now) }
 {
-    let count = white_len(text);
-    if count == 0 {
+    if !has_space(text) {
         return None;
     }
-    let (_, rest) = text.split_at(count);
-    Some(rest)
+    match text {
+        [_, rest @ ..] => Some(trim_front(rest)),
+        [] => None,
+    }
 }
 
 fn quote_at(text: &[u8]) -> Option<(u8, &[u8])>
@@ -212,6 +252,7 @@ pub struct Pair<'a> {
 
 /// An attribute in front, and what stands behind it.
 #[tactic(auto, unfolding(crate::specs::Items::pair_at))]
+#[inline(always)]
 fn pair_at(text: &[u8]) -> Option<(Pair, &[u8])>
     ensures pair { option_map (λ x. (pair_view x.0, x.1.now)) result ≡ pair_at text.now }
     ensures shorter { IfSome result (λ x. length x.1.now < length text.now) }
@@ -224,6 +265,7 @@ fn pair_at(text: &[u8]) -> Option<(Pair, &[u8])>
 }
 
 /// The value of the first attribute with this name, in a text in which attributes may stand.
+#[inline(never)]
 #[tactic(auto, using(crate::proofs::Shorter::pairs_next, crate::proofs::Shorter::pairs_none))]
 fn attribute_in<'a>(text: &'a [u8], name: &[u8]) -> Option<&'a [u8]>
     ensures value { option_map (λ v. v.now) result ≡ attribute name.now (pairs text.now).0 }
@@ -328,12 +370,13 @@ fn double_of(numbers: &[u64]) -> Option<u64>
     }
 }
 
-/// The least number that stands twice.
-fn double_in(mut numbers: Vec<u64>) -> Option<u64>
-    ensures none { result ≡ None → apart (λ x y. x == y) numbers.items ≡ true }
+/// The least number that stands twice. Numbers often stand in a few stretches that rise, and this sort
+/// keeps such stretches.
+fn double_in(mut numbers: Vec<u64>) -> Result<Option<u64>, AllocError>
+    ensures none { IfOk result (λ o. o ≡ None → apart (λ x y. x == y) numbers.items ≡ true) }
 {
-    numbers.sort_unstable();
-    double_of(&numbers)
+    numbers.sort()?;
+    Ok(double_of(&numbers))
 }
 
 fn has_attribute(text: &[u8], name: &[u8]) -> bool
@@ -365,20 +408,9 @@ fn stands_twice_early(alloc: Global, text: &[u8], numbers: &[u64]) -> Result<boo
     if numbers.len() != 64 {
         return Ok(false);
     }
-    match double_in(Vec::from_slice(alloc, numbers)?) {
+    match double_in(Vec::from_slice(alloc, numbers)?)? {
         None => Ok(false),
         Some(number) => Ok(stands_twice(text, number)),
-    }
-}
-
-/// Whether an attribute may stand in front.
-#[tactic(auto, using(crate::proofs::Names::space_tells))]
-fn has_space(text: &[u8]) -> bool
-    ensures space { result ≡ is_some (spaces_at text.now) }
-{
-    match text {
-        [c, ..] => is_white(*c),
-        [] => false,
     }
 }
 
@@ -416,7 +448,7 @@ fn is_distinct(alloc: Global, text: &[u8], numbers: Vec<u64>) -> Result<bool, Al
     if numbers.len() < 2 {
         return Ok(true);
     }
-    match double_in(numbers) {
+    match double_in(numbers)? {
         None => Ok(true),
         Some(number) => {
             if stands_twice(text, number) {
@@ -473,9 +505,110 @@ fn tag_front<'a>(
     Ok(Some((tag, rest, numbers)))
 }
 
-// The item of a tag of this name that may have attributes.
-#[tactic(auto, unfolding(crate::specs::Items::tag_at))]
+/// What is kept of numbers that differ: each of them is one from `low` to `last`, or one from `top` on.
+#[derive(Clone, Copy)]
+struct Spread {
+    low: u64,
+    last: u64,
+    top: u64,
+}
+
+// The numbers with one more, where it is less than all of them, or more than those up to `last` and less than
+// those from `top` on.
+fn spread_with(spread: Spread, number: u64) -> Option<Spread>
+    ensures spread { option_map spread_view result ≡ spread_with (spread_view spread) number }
+{
+    if number < spread.low {
+        return Some(Spread {
+            low: number,
+            last: number,
+            top: spread.low,
+        });
+    }
+    if number <= spread.last || number >= spread.top {
+        return None;
+    }
+    Some(Spread {
+        low: spread.low,
+        last: number,
+        top: spread.top,
+    })
+}
+
+/// What stands behind all attributes in front, where the numbers of their names rise, or rise in a few
+/// stretches each of which is below the earlier ones, so that none stands twice.
+#[tactic(auto, using(crate::proofs::Shorter::pairs_next, crate::proofs::Shorter::pairs_none, crate::proofs::Rising::spread_differ))]
+#[inline(never)]
+fn behind_rising(text: &[u8]) -> Option<&[u8]>
+    ensures rest { IfSome result (λ r. r.now ≡ (pairs text.now).1) }
+    ensures distinct { IfSome result (λ r. is_distinct (pairs text.now).0 ≡ true) }
+    ensures shorter { IfSome result (λ r. length r.now ≤ length text.now) }
+{
+    let mut spread = Spread {
+        low: u64::MAX,
+        last: u64::MAX,
+        top: u64::MAX,
+    };
+    let mut rest = text;
+    while let Some((pair, more)) = pair_at(rest) {
+        spread = spread_with(spread, last_bytes(pair.name))?;
+        rest = more;
+    }
+    Some(rest)
+}
+
+// The item of a tag of this name, none of whose attributes stands twice, by what stands behind them.
+#[tactic(auto, using(crate::proofs::Rising::ended_tag, crate::proofs::Rising::ended_none))]
+fn ended_item<'a>(
+    text: &'a [u8],
+    name: &'a [u8],
+    attributes: &'a [u8],
+    behind: &'a [u8],
+) -> Item<'a>
+    requires front { Some (name.now, attributes.now) ≡ name_at text.now }
+    requires named { is_name name.now ≡ true }
+    requires rest { behind.now ≡ (pairs attributes.now).1 }
+    requires distinct { is_distinct (pairs attributes.now).0 ≡ true }
+    requires behind { length behind.now ≤ length text.now }
+    ensures item { Finds result (tag_item text.now) }
+    ensures shorter { Shortens result text.now }
+{
+    match tag_end(trim_front(behind)) {
+        Some((empty, rest)) => {
+            let tag = Tag {
+                name,
+                attributes,
+                empty,
+            };
+            Item::Open(tag, rest)
+        }
+        None => Item::Bad,
+    }
+}
+
+// The item of a tag of this name that may have attributes. In most tags the numbers of the names rise, and
+// then none has to be kept.
 fn full_item<'a>(alloc: Global, text: &'a [u8], name: &'a [u8], attributes: &'a [u8]) -> Item<'a>
+    requires front { Some (name.now, attributes.now) ≡ name_at text.now }
+    requires named { is_name name.now ≡ true }
+    requires behind { length attributes.now ≤ length text.now }
+    ensures item { Finds result (tag_item text.now) }
+    ensures shorter { Shortens result text.now }
+{
+    match behind_rising(attributes) {
+        Some(behind) => ended_item(text, name, attributes, behind),
+        None => unordered_item(alloc, text, name, attributes),
+    }
+}
+
+// The item of a tag of this name whose attributes may stand in any order.
+#[tactic(auto, unfolding(crate::specs::Items::tag_at))]
+fn unordered_item<'a>(
+    alloc: Global,
+    text: &'a [u8],
+    name: &'a [u8],
+    attributes: &'a [u8],
+) -> Item<'a>
     requires front { Some (name.now, attributes.now) ≡ name_at text.now }
     requires named { is_name name.now ≡ true }
     requires behind { length attributes.now ≤ length text.now }
@@ -573,13 +706,13 @@ pub fn item_at(alloc: Global, text: &[u8]) -> Item
     ensures item { Finds result (item_at text.now) }
     ensures shorter { Shortens result text.now }
 {
-    if let Some(rest) = strip(text, b"<!--") {
+    if let Some(rest) = comment_front(text) {
         return match after_comment(rest) {
             Some(rest) => Item::Comment(rest),
             None => Item::Bad,
         };
     }
-    if let Some(rest) = strip(text, b"</") {
+    if let Some(rest) = two_at(text, b'<', b'/') {
         return match close_at(rest) {
             Some((name, rest)) => Item::Close(name, rest),
             None => Item::Bad,

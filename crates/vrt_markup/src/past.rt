@@ -1,7 +1,7 @@
 // Elements that are read past, with all that they hold.
 ghost use Rattle.std.specs.Prelude.{◌≡◌, true, ◌<◌, ◌≤◌, ◌+◌, length, IfOk, Result, Ok, Err};
 ghost use Rattle.vrt_markup.specs.Items.{is_name};
-ghost use Rattle.vrt_markup.specs.Forest.{nodes, inner};
+ghost use Rattle.vrt_markup.specs.Forest.{deepest, nodes, inner};
 ghost use Rattle.vrt_markup.specs.Views.{tag_view, past};
 ghost use Rattle.vrt_markup.specs.Kept.{Gives};
 
@@ -10,6 +10,9 @@ use crate::fault::VrtFault;
 use crate::items::{Item, item_at};
 use crate::tag::Tag;
 use std::alloc::Global;
+
+/// How deep an element stands at most, where the root stands at 1.
+pub const DEEPEST: usize = 64;
 
 #[tactic(auto, using(crate::proofs::Behind::past_bad, crate::proofs::Behind::past_comment, crate::proofs::Behind::past_run, crate::proofs::Behind::past_close, crate::proofs::Behind::past_end, crate::proofs::Behind::past_other, crate::proofs::Behind::past_deep, crate::proofs::Behind::past_open, crate::proofs::Behind::past_fails))]
 #[cycle(past)]
@@ -22,7 +25,7 @@ fn past_nodes<'a>(
     text: &'a [u8],
 ) -> Result<&'a [u8], VrtFault>
     requires within { length text.now ≤ total }
-    requires depth { depth ≤ 64 }
+    requires depth { depth ≤ deepest }
     requires named { is_name name.now ≡ true }
     ensures rest { Gives (λ r. r.now) result (past (nodes total depth name.now text.now)) }
     ensures shorter { IfOk result (λ r. length r.now < length text.now) }
@@ -44,7 +47,7 @@ fn past_nodes<'a>(
                 return Err(VrtFault::BadText((total - rest.len()) as u64));
             }
             Item::Open(tag, more) => {
-                if depth >= 64 {
+                if depth >= DEEPEST {
                     return Err(VrtFault::Limit);
                 }
                 match past_element(alloc, total, depth, tag, more) {
@@ -66,7 +69,7 @@ pub fn past_element<'a>(
     text: &'a [u8],
 ) -> Result<&'a [u8], VrtFault>
     requires within { length text.now ≤ total }
-    requires depth { depth < 64 }
+    requires depth { depth < deepest }
     ensures rest { Gives (λ r. r.now) result (past (inner total depth (tag_view tag.entry) text.now)) }
     ensures shorter { IfOk result (λ r. length r.now ≤ length text.now) }
 {

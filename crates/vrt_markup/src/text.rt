@@ -2,16 +2,17 @@
 ghost use Rattle.std.specs.Prelude.{◌≡◌, ℕ, true, IfSome, ◌<◌, ◌≤◌, ◌-◌, ◌++◌, [], length, IfOk, OnOk, Result, Ok};
 ghost use Rattle.std.specs.Prelude.{Option, None, Some};
 ghost use Rattle.std.specs.List.{prefix_len};
-ghost use Rattle.vrt_markup.specs.Items.{is_white, is_name};
+ghost use Rattle.lists_and_answers.specs.Texts.{is_white};
+ghost use Rattle.vrt_markup.specs.Items.{is_name};
 ghost use Rattle.vrt_markup.specs.Keys.{is_plain};
-ghost use Rattle.vrt_markup.specs.Forest.{nodes, inner, is_blank, plain_at, decoded, read_as};
+ghost use Rattle.vrt_markup.specs.Forest.{deepest, nodes, inner, is_blank, plain_at, decoded, read_as};
 ghost use Rattle.vrt_markup.specs.Views.{tag_view, text_view, plain_text};
 ghost use Rattle.vrt_markup.specs.Kept.{Gives, worded, first_child};
 
 use crate::ends::own_end;
 use crate::fault::VrtFault;
 use crate::items::{Item, entity_at, is_equal, is_white, item_at};
-use crate::past::past_element;
+use crate::past::{DEEPEST, past_element};
 use crate::tag::Tag;
 use memchr::memchr2;
 use std::alloc::{AllocError, Global};
@@ -102,7 +103,7 @@ fn text_nodes<'a>(
     bytes: &'a [u8],
 ) -> Result<(Words<'a>, &'a [u8]), VrtFault>
     requires within { length bytes.now ≤ total }
-    requires depth { depth ≤ 64 }
+    requires depth { depth ≤ deepest }
     ensures text { Gives (λ x. (text_view x.0, x.1.now)) result (read_as (worded [] None)
         (nodes total depth name.now bytes.now)) }
     ensures shorter { IfOk result (λ x. length x.1.now < length bytes.now) }
@@ -127,7 +128,7 @@ fn text_nodes<'a>(
                 more,
             )),
             Item::Bad | Item::Close(_, _) => return Err(VrtFault::BadText(place)),
-            Item::Open(_, _) if depth >= 64 => return Err(VrtFault::Limit),
+            Item::Open(_, _) if depth >= DEEPEST => return Err(VrtFault::Limit),
             Item::Open(tag, more) => {
                 match past_element(alloc, total, depth, tag, more) {
                     Ok(behind) => {
@@ -172,7 +173,7 @@ pub fn text_element<'a>(
     bytes: &'a [u8],
 ) -> Result<(Words<'a>, &'a [u8]), VrtFault>
     requires within { length bytes.now ≤ total }
-    requires depth { depth < 64 }
+    requires depth { depth < deepest }
     ensures text { Gives (λ x. (text_view x.0, x.1.now)) result (read_as (worded [] None)
         (inner total depth (tag_view tag.entry) bytes.now)) }
     ensures shorter { IfOk result (λ x. length x.1.now ≤ length bytes.now) }

@@ -13,9 +13,10 @@ use Rattle.std.proofs.lemmas.Nat.{pow-add}
 use Rattle.std.proofs.Math.Nat.{add-mul, mul_assoc, mul-le-mul_right}
 use Rattle.std.specs.Prelude.{◌+ℤ◌, ◌-ℤ◌}
 use Rattle.lists_and_answers.specs.Options.{◌>>=◌}
-use Rattle.geotransform.specs.Decimal.{number, scaled, signed, sign_at, digits_at, fraction_at, exponent_of, Decimal, parts_of, places_of, near_at, magnitude, magnitude_at}
+use Rattle.lists_and_answers.specs.Texts.{is_white}
+use Rattle.geotransform.specs.Decimal.{number, scaled, signed, sign_at, digits_at, fraction_at, exponent_of, Decimal, parts_of, places_of, exact, whole_of, near_at, magnitude, magnitude_at}
 use Rattle.geotransform.proofs.Numbers.{number_short, number-append}
-use Rattle.vrt_markup.specs.Items.{is_white, option_case}
+use Rattle.vrt_markup.specs.Items.{option_case}
 use Rattle.vrt_profile.specs.Fields.{length_before, cut_by, cut_at, first_piece, trim, trim_end, near_by, near_number, pair_of}
 use Rattle.vrt_profile.specs.Fronts.{is_inner, DigitsFront, FractionFront, DecimalFront, MicrosFront, PairFront}
 use Rattle.vrt_profile.specs.declared.rectangle.LutPair.{LutPair}
@@ -366,3 +367,28 @@ last_behind text rest p f end = sym (ap (λ (x : List ℕ × Option (List ℕ)).
 -- a text that is one number
 pub whole_micros : (text rest : List ℕ) (v : ℤ) → MicrosFront text v rest → rest ≡ [] → Some v ≡ places_of 6 text
 whole_micros text rest v f end = sym (ap (places_of 6) (f.whole ∙ ap (λ t. f.front ++ t) end ∙ append-nil f.front) ∙ f.places)
+
+-- a text of digits alone
+unsigned : (digits : List ℕ) → list_all is_ascii_digit digits ≡ true → sign_at digits ≡ (false, digits)
+unsigned [] all = refl
+unsigned (c ∷ cs) all =
+    let digit = and_left (is_ascii_digit c) (list_all is_ascii_digit cs) all in
+    let minus : (c == 45) ≡ false = grind (arith, nat_tests, digit) in
+    let plus : (c == 43) ≡ false = grind (arith, nat_tests, digit) in
+    ap (λ b. cond b (true, cs) (cond (c == 43) (false, cs) (false, c ∷ cs))) minus
+    ∙ ap (λ b. cond b (false, cs) (false, c ∷ cs)) plus
+
+pub whole_digits : (text rest : List ℕ) (n : ℕ) → DigitsFront text n rest → rest ≡ [] → Some (pos n) ≡ whole_of text
+unfolding whole_of
+whole_digits text rest n d end =
+    let is : text ≡ d.digits = d.whole ∙ ap (λ t. d.digits ++ t) end ∙ append-nil d.digits in
+    let parts : parts_of d.digits ≡ Some (decimal false d.digits []) = parts_at d.digits d.digits d.digits [] [] false (unsigned d.digits d.all) (digits_all d.digits d.all) refl (omega (arith, d.few)) d.some in
+    let power : pos 0 -ℤ pos 0 ≡ pos 0 = omega (arith, ints) in
+    let size : number (d.digits ++ []) ≡ n = ap number (append-nil d.digits) ∙ sym d.value in
+    let small : number d.digits < 10 ^ 9 = number_short d.digits 9 d.all d.few in
+    let low : nat_lt n (10 ^ 20) ≡ true = grind (arith, nat_tests, small, d.value) in
+    sym (ap whole_of is
+    ∙ ap (λ p. p >>= λ x. exact (number (x.whole ++ x.fraction)) (x.exponent -ℤ pos (length x.fraction)) >>= λ m. if nat_lt m (10 ^ 20) then Some (signed x.negative m) else None) parts
+    ∙ ap (λ e. exact (number (d.digits ++ [])) e >>= λ m. if nat_lt m (10 ^ 20) then Some (pos m) else None) power
+    ∙ ap (λ m. if nat_lt m (10 ^ 20) then Some (pos m) else None) (omega (arith, size))
+    ∙ guard (nat_lt n (10 ^ 20)) (pos n) low)

@@ -1,5 +1,5 @@
 -- Lookup tables, pair by pair, and the rules that they keep.
-use Rattle.std.proofs.Common.{◌≡◌, ℕ, ℤ, suc, ◌+◌, ◌*◌, ◌<◌, ◌≤◌, Bool, true, false, cond, not, ◌==◌, ◌&&◌, List, [], ◌∷◌, ◌++◌, length, take, drop, Option, Some, None, Result, Ok, Err, refl, sym, ap, ◌∙◌, arith, subst, nat_le, nat_lt, unsigned_abs, append_assoc}
+use Rattle.std.proofs.Common.{◌≡◌, ℕ, ℤ, suc, ◌+◌, ◌*◌, ◌<◌, ◌≤◌, Bool, true, false, cond, not, ◌==◌, ◌&&◌, List, [], ◌∷◌, ◌++◌, length, take, drop, Option, Some, None, Result, Ok, Err, refl, sym, ap, ◌∙◌, arith, subst, nat_le, nat_lt, unsigned_abs, append_assoc, ok_or}
 use Rattle.std.specs.List.{All}
 use Rattle.std.proofs.lemmas.Bool.Decides.{nat_tests}
 use Rattle.std.proofs.lemmas.List.Elements.{All-nil, All-cons}
@@ -9,7 +9,7 @@ use Rattle.vrt_profile.specs.Fields.{length_before, cut_by, cut_at, pieces, onto
 use Rattle.geotransform.specs.Decimal.{places_of}
 use Rattle.vrt_markup.proofs.Shorter.{bind_some}
 use Rattle.vrt_profile.proofs.Rules.{guard_true}
-use Rattle.vrt_profile.specs.Numbers.{or_fault, is_above, rising_pair, next_pair, lut_from, lut_of}
+use Rattle.vrt_profile.specs.Numbers.{is_above, rising_pair, next_pair, lut_from, lut_of}
 use Rattle.vrt_profile.specs.Values.{million, is_below, is_rising, IsPair, IsLut}
 use Rattle.vrt_profile.specs.declared.rectangle.LutPair.{LutPair}
 use Rattle.vrt_markup.specs.declared.fault.VrtFault.{VrtFault}
@@ -99,6 +99,17 @@ table_last pairs last t p pair h found =
     ap (λ ps. Left (length pairs) last ps pairs) (first_last t p (cut_at 44 t) refl h)
     ∙ ap (After pairs last []) (sym found)
 
+ok_end : {A : Type 0} (x : Result A VrtFault) → (x >>= λ a. Ok a) ≡ x
+ok_end (Ok a) = refl
+ok_end (Err e) = refl
+
+-- a table that is one piece
+pub one_pair : (t : List ℕ) (pair : LutPair) → pair_of (first_piece t).0 ≡ Some pair → None ≡ (first_piece t).1 → Ok (pair ∷ []) ≡ lut_of t
+one_pair t pair is last =
+    let whole : ◌≡◌ {A = List ℕ × Option (List ℕ)} ((first_piece t).0, None) (first_piece t) = ap (λ o. ((first_piece t).0, o)) last in
+    let found : Ok pair ≡ next_pair 0 None (first_piece t).0 = ap (λ o. ok_or o BadNumber >>= rising_pair None) (sym is) in
+    sym (table_last [] None t (first_piece t).0 pair whole found) ∙ ok_end (lut_of t)
+
 abbrev pub left_after : List LutPair → LutPair → List ℕ → Result (List LutPair) VrtFault
 left_after xs pair rest = Left (length xs) (Some pair) (pieces 44 rest) xs
 
@@ -144,7 +155,7 @@ pub cond_err : {A : Type 0} (b : Bool) (e : VrtFault) (r : Result A VrtFault) (y
 cond_err true e r y h = absurd cc
 cond_err false e r y h = (refl, h)
 
-or_ok : {A : Type 0} (e : VrtFault) (o : Option A) (y : A) → or_fault e o ≡ Ok y → Some y ≡ o
+or_ok : {A : Type 0} (e : VrtFault) (o : Option A) (y : A) → ok_or o e ≡ Ok y → Some y ≡ o
 or_ok e None y h = absurd cc
 or_ok e (Some x) y h = cc
 
@@ -155,8 +166,8 @@ pub record Next (n : ℕ) (last : Option LutPair) (pair : LutPair) : Type 0 wher
 
 next_rules : (n : ℕ) (last : Option LutPair) (p : List ℕ) (pair : LutPair) → ((x : LutPair) → Some x ≡ pair_of p → IsPair x) → next_pair n last p ≡ Ok pair → Next n last pair
 next_rules n last p pair near h =
-    let a = cond_err (nat_le 65536 n) Limit (or_fault BadNumber (pair_of p) >>= rising_pair last) pair h in
-    let b = bind_ok (or_fault BadNumber (pair_of p)) (rising_pair last) pair a.1 in
+    let a = cond_err (nat_le 65536 n) Limit (ok_or (pair_of p) BadNumber >>= rising_pair last) pair h in
+    let b = bind_ok (ok_or (pair_of p) BadNumber) (rising_pair last) pair a.1 in
     let c = cond_ok (is_above last b.0) b.0 pair BadNumber b.2 in
     record {
       few = grind (arith, nat_tests, a.0);

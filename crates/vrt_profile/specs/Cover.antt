@@ -1,9 +1,10 @@
 -- Which pixel of its dataset a source puts at a pixel of the mosaic.
-use Rattle.std.specs.Prelude.{ℕ, ℤ, pos, negsuc, ◌+ℤ◌, ◌-ℤ◌, ◌*ℤ◌, ◌+◌, ◌*◌, Bool, ◌&&◌, Option, Some, None, nat_lt}
+use Rattle.std.specs.Prelude.{ℕ, ℤ, pos, ◌+ℤ◌, ◌-ℤ◌, ◌*ℤ◌, ◌+◌, ◌*◌, Bool, ◌&&◌, Option, Some, None}
 use Rattle.std.specs.Prelude.{int_lt, int_le, if◌then◌else◌, unwrap_or}
 use Rattle.lists_and_answers.specs.Options.{◌>>=◌}
 use Rattle.geotransform.specs.Places.{floor_of}
 use Rattle.geotransform.specs.declared.types.Size.{Size}
+use Rattle.geotransform.specs.Pixels.{within}
 use Rattle.vrt_profile.specs.Values.{million, Rectangle, SourceValue}
 
 -- A source along one axis, in millionths of a pixel: so much of the mosaic from here on is made of so much of the
@@ -27,14 +28,9 @@ abbrev pub dataset_at : Axis → ℤ → ℤ
 dataset_at a place = floor_of (a.dataset_start *ℤ a.mosaic_length +ℤ (place -ℤ a.mosaic_start) *ℤ a.dataset_length)
     (a.mosaic_length *ℤ pos million)
 
--- a number from 0 up to a count
-abbrev pub counted : ℕ → ℤ → Option ℕ
-counted count (pos n) = if nat_lt n count then Some n else None
-counted count (negsuc n) = None
-
 -- At a column of the mosaic, the column of a dataset that has `count` columns; the same for lines.
 abbrev pub axis_at : Axis → ℕ → ℕ → Option ℕ
-axis_at a count x = if is_covered a (centre x) then counted count (dataset_at a (centre x)) else None
+axis_at a count x = if is_covered a (centre x) then within count (dataset_at a (centre x)) else None
 
 -- the rectangle, or the whole raster where there is none
 abbrev pub whole : Size → Rectangle

@@ -3,8 +3,9 @@ use Rattle.std.specs.Prelude.{ℕ, ℤ, ◌-◌, ◌*◌, not, List, [], ◌∷�
 use Rattle.std.specs.Prelude.{nat_le, ◌==◌, if◌then◌else◌, unsigned_abs}
 use Rattle.std.specs.List.{prefix_len, suffix_len}
 use Rattle.lists_and_answers.specs.Options.{◌>>=◌}
+use Rattle.lists_and_answers.specs.Texts.{is_white}
 use Rattle.geotransform.specs.Decimal.{number_of, places_of, ticks_of}
-use Rattle.vrt_markup.specs.Items.{is_white, trim_front, option_case}
+use Rattle.vrt_markup.specs.Items.{trim_front, option_case}
 use Rattle.vrt_profile.specs.Values.{million}
 use Rattle.vrt_profile.specs.declared.rectangle.LutPair.{LutPair}
 

@@ -3,8 +3,8 @@ use Rattle.std.specs.Prelude.{◌≡◌, ℕ, ℤ, ◌<◌, ◌≤◌, ◌+◌, 
 use Rattle.std.specs.Prelude.{length, Some}
 use Rattle.std.specs.List.{list_all}
 use Rattle.std.specs.Char.{is_ascii_digit}
+use Rattle.lists_and_answers.specs.Texts.{is_white}
 use Rattle.geotransform.specs.Decimal.{number, digits_at, fraction_at, places_of}
-use Rattle.vrt_markup.specs.Items.{is_white}
 use Rattle.vrt_profile.specs.Fields.{near_number, pair_of}
 use Rattle.vrt_profile.specs.declared.rectangle.LutPair.{LutPair}
 

@@ -14,5 +14,6 @@ pub mod Fronts
 pub mod NumberViews
 pub mod Parts
 pub mod Seen
+pub mod PairViews
 pub mod ScalingViews
 pub mod SourceViews

@@ -1,6 +1,6 @@
 -- What document a tree means: element by element, in their order.
 use Rattle.std.specs.Prelude.{ℕ, ℤ, pos, suc, ◌+◌, Bool, true, false, not, ◌&&◌, ◌||◌, List, [], ◌∷◌, ◌++◌, length}
-use Rattle.std.specs.Prelude.{Option, Some, None, Result, Ok, Err, ◌==◌, nat_le, if◌then◌else◌, codes}
+use Rattle.std.specs.Prelude.{ok_or, Option, Some, None, Result, Ok, Err, ◌==◌, nat_le, if◌then◌else◌, codes}
 use Rattle.std.specs.Str.{is_utf8}
 use Rattle.std.specs.Option.{unwrap_or}
 use Rattle.lists_and_answers.specs.Answers.{◌>>=◌}
@@ -11,7 +11,7 @@ use Rattle.geotransform.specs.declared.types.PixelType.{PixelType}
 use Rattle.geotransform.specs.declared.types.PixelType.TheVariants.{Byte}
 use Rattle.vrt_markup.specs.Items.{Tag, is_equal, attribute, is_some}
 use Rattle.vrt_profile.specs.Fields.{trim, whole_text}
-use Rattle.vrt_profile.specs.Numbers.{or_fault, side_in, offset_in, size_in, band_number, scale_of, lut_of, geo_of}
+use Rattle.vrt_profile.specs.Numbers.{side_in, offset_in, size_in, band_number, scale_of, lut_of, geo_of}
 use Rattle.vrt_markup.specs.Forest.{Forest, over, all_blank, text_of, child_of}
 use Rattle.vrt_markup.specs.Kept.{no_child}
 use Rattle.vrt_profile.specs.Values.{trillion, Rectangle, SourceValue, BandValue, DocumentValue, most_sources}
@@ -290,7 +290,7 @@ band_step s place tag inside = band_parts s place tag inside (band_part_of tag.n
 
 abbrev pub kind_in : Option (List ℕ) → Result PixelType VrtFault
 kind_in None = Ok Byte
-kind_in (Some text) = or_fault Unsupported (type_named false text)
+kind_in (Some text) = ok_or (type_named false text) Unsupported
 
 -- `band`, where it stands, is the band's place, from 1
 abbrev pub is_number : ℕ → Option ℕ → Bool

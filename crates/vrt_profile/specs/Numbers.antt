@@ -1,6 +1,6 @@
 -- The numbers of a document, each in a text.
 use Rattle.std.specs.Prelude.{ℕ, ℤ, pos, suc, ◌*◌, ◌^◌, Bool, true, ◌&&◌, List, [], ◌∷◌, take, map, codes, Option, Some}
-use Rattle.std.specs.Prelude.{None, Result, Ok, Err, nat_lt, nat_le, int_lt, ◌==◌, if◌then◌else◌, unsigned_abs}
+use Rattle.std.specs.Prelude.{ok_or, None, Result, Ok, Err, nat_lt, nat_le, int_lt, ◌==◌, if◌then◌else◌, unsigned_abs}
 use Rattle.std.specs.Char.{to_ascii_lowercase}
 use Rattle.lists_and_answers.specs.Answers.{◌>>=◌}
 use Rattle.geotransform.specs.Decimal.{places_of}
@@ -12,11 +12,6 @@ use Rattle.vrt_profile.specs.declared.rectangle.LutPair.{LutPair}
 use Rattle.vrt_markup.specs.declared.fault.VrtFault.{VrtFault}
 use Rattle.vrt_markup.specs.declared.fault.VrtFault.TheVariants.{MissingPart, BadNumber, Unsupported, Limit}
 use Rattle.geotransform.specs.Limits.{farthest, most_bands, most_side}
-
--- what is found, or this fault
-abbrev pub or_fault : {A : Type 0} → VrtFault → Option A → Result A VrtFault
-or_fault fault None = Err fault
-or_fault fault (Some x) = Ok x
 
 -- A side of the raster: a whole text above 0, up to a limit.
 abbrev pub side_by : Option ℕ → Result ℕ VrtFault
@@ -30,7 +25,7 @@ side_in (Some text) = side_by (whole_text text)
 -- A number of a rectangle, in millionths of a pixel, half away from zero.
 abbrev pub micro_in : Option (List ℕ) → Result ℤ VrtFault
 micro_in None = Err MissingPart
-micro_in (Some text) = or_fault BadNumber (places_of 6 text)
+micro_in (Some text) = ok_or (places_of 6 text) BadNumber
 
 abbrev pub within_limit : ℤ → Result ℤ VrtFault
 within_limit v = if nat_lt (farthest * million) (unsigned_abs v) then Err Limit else Ok v
@@ -77,7 +72,7 @@ rising_pair last pair = if is_above last pair then Ok pair else Err BadNumber
 
 abbrev pub next_pair : ℕ → Option LutPair → List ℕ → Result LutPair VrtFault
 next_pair n last piece =
-    if nat_le most_pairs n then Err Limit else (or_fault BadNumber (pair_of piece) >>= rising_pair last)
+    if nat_le most_pairs n then Err Limit else (ok_or (pair_of piece) BadNumber >>= rising_pair last)
 
 abbrev pub lut_from : ℕ → Option LutPair → List (List ℕ) → Result (List LutPair) VrtFault
 lut_from n last [] = Ok []
@@ -90,7 +85,7 @@ lut_of text = lut_from 0 None (pieces 44 text)
 -- without a rotation
 abbrev pub north_up : Six → Result Transform VrtFault
 north_up s = if (unsigned_abs s.rx == 0) && (unsigned_abs s.ry == 0)
-    then or_fault BadNumber (transform_of s.ox s.oy s.dx s.dy) else Err Unsupported
+    then ok_or (transform_of s.ox s.oy s.dx s.dy) BadNumber else Err Unsupported
 
 abbrev pub geo_of : List ℕ → Result Transform VrtFault
-geo_of text = or_fault BadNumber (six_of text) >>= north_up
+geo_of text = ok_or (six_of text) BadNumber >>= north_up

@@ -3,7 +3,7 @@ ghost use Rattle.std.specs.Prelude.{◌≡◌, ◌<◌, ◌≤◌, ◌-◌, leng
 ghost use Rattle.std.specs.Prelude.{true, false, nat_le, ◌+◌};
 ghost use Rattle.std.specs.Option.{option_map};
 ghost use Rattle.geotransform.specs.Types.{is_in, when_in};
-ghost use Rattle.vrt_markup.specs.Forest.{inner, read_as, text_of, child_of};
+ghost use Rattle.vrt_markup.specs.Forest.{deepest, inner, read_as, text_of, child_of};
 ghost use Rattle.vrt_profile.specs.Means as means;
 ghost use Rattle.vrt_profile.specs.Means.{nodata_by, no_band_parts, with_no_data_value, with_source, band_step};
 ghost use Rattle.vrt_profile.specs.Means.{kind_in, is_number, is_placed, is_sourced, value_in, band_end};
@@ -77,7 +77,7 @@ impl BandParts {
         bytes: &'a [u8],
     ) -> Result<(Result<(), VrtFault>, &'a [u8]), VrtFault>
         requires within { length bytes.now ≤ level.total }
-        requires depth { level.depth < 64 }
+        requires depth { level.depth < deepest }
         ensures child { Gives (λ x. (kept_of self.new x.0, x.1.now)) result
             (read_as (λ f. with_no_data_value self.old (nodata_by (text_of f) (child_of f)))
             (inner level.total level.depth (tag_view tag.entry) bytes.now)) }
@@ -99,7 +99,7 @@ impl BandParts {
         bytes: &'a [u8],
     ) -> Result<(Result<(), VrtFault>, &'a [u8]), VrtFault>
         requires within { length bytes.now ≤ level.total }
-        requires depth { level.depth < 64 }
+        requires depth { level.depth < deepest }
         ensures child { Gives (λ x. (kept_of self.new x.0, x.1.now)) result
             (read_as (λ f. with_source self.old (source_of complex (tag_view tag.entry) f))
             (inner level.total level.depth (tag_view tag.entry) bytes.now)) }
@@ -118,6 +118,13 @@ impl Parts for BandParts {
     ghost value = { λ p. p };
 
     ghost step = { λ _. band_step };
+
+    fn usual(&self, first: u8) -> &'static [u8] {
+        match first {
+            b'C' => b"ComplexSource",
+            _ => b"SimpleSource",
+        }
+    }
 
     fn child<'a>(
         &mut self,
@@ -245,7 +252,7 @@ pub fn band_element<'a>(
     bytes: &'a [u8],
 ) -> Result<(Result<VrtBand, VrtFault>, &'a [u8]), VrtFault>
     requires within { length bytes.now ≤ level.total }
-    requires depth { level.depth < 64 }
+    requires depth { level.depth < deepest }
     ensures band { Gives (λ x. (x.0, x.1.now)) result (read_as (band_of number taken (tag_view tag.entry))
         (inner level.total level.depth (tag_view tag.entry) bytes.now)) }
     ensures shorter { IfOk result (λ x. length x.1.now ≤ length bytes.now) }

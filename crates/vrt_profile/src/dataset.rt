@@ -4,7 +4,7 @@ ghost use Rattle.std.specs.Prelude.{true};
 ghost use Rattle.std.specs.Option.{option_map};
 ghost use Rattle.vrt_markup.specs.Items.{is_some};
 ghost use Rattle.vrt_profile.specs.Values.{IsDecimal, most_sources};
-ghost use Rattle.vrt_markup.specs.Forest.{inner, read_as, text_of, child_of};
+ghost use Rattle.vrt_markup.specs.Forest.{deepest, inner, read_as, text_of, child_of};
 ghost use Rattle.vrt_profile.specs.Means as means;
 ghost use Rattle.vrt_profile.specs.Means.{no_dataset_parts, with_srs, with_geo, with_raster_band, srs_by, geo_by};
 ghost use Rattle.vrt_profile.specs.Means.{dataset_step, dataset_end, dataset_of, root_of, band_of};
@@ -94,7 +94,7 @@ impl DatasetParts {
         bytes: &'a [u8],
     ) -> Result<(Result<(), VrtFault>, &'a [u8]), VrtFault>
         requires within { length bytes.now ≤ level.total }
-        requires depth { level.depth < 64 }
+        requires depth { level.depth < deepest }
         ensures child { Gives (λ x. (kept_of self.new x.0, x.1.now)) result
             (read_as (λ f. with_srs self.old (srs_by (text_of f) (child_of f)))
             (inner level.total level.depth (tag_view tag.entry) bytes.now)) }
@@ -118,7 +118,7 @@ impl DatasetParts {
         bytes: &'a [u8],
     ) -> Result<(Result<(), VrtFault>, &'a [u8]), VrtFault>
         requires within { length bytes.now ≤ level.total }
-        requires depth { level.depth < 64 }
+        requires depth { level.depth < deepest }
         ensures child { Gives (λ x. (kept_of self.new x.0, x.1.now)) result
             (read_as (λ f. with_geo self.old (geo_by (text_of f) (child_of f)))
             (inner level.total level.depth (tag_view tag.entry) bytes.now)) }
@@ -166,7 +166,7 @@ impl DatasetParts {
         bytes: &'a [u8],
     ) -> Result<(Result<(), VrtFault>, &'a [u8]), VrtFault>
         requires within { length bytes.now ≤ level.total }
-        requires depth { level.depth < 64 }
+        requires depth { level.depth < deepest }
         ensures child { Gives (λ x. (kept_of self.new x.0, x.1.now)) result
             (read_as (λ f. with_raster_band self.old (band_of (suc (length self.old.bands)) self.old.taken
             (tag_view tag.entry) f)) (inner level.total level.depth (tag_view tag.entry) bytes.now)) }
@@ -189,6 +189,10 @@ impl Parts for DatasetParts {
     ghost value = { λ p. p };
 
     ghost step = { λ _. dataset_step };
+
+    fn usual(&self, _first: u8) -> &'static [u8] {
+        b"VRTRasterBand"
+    }
 
     fn child<'a>(
         &mut self,
@@ -273,7 +277,7 @@ fn dataset_element<'a>(
     bytes: &'a [u8],
 ) -> Result<(Result<Document, VrtFault>, &'a [u8]), VrtFault>
     requires within { length bytes.now ≤ level.total }
-    requires depth { level.depth < 64 }
+    requires depth { level.depth < deepest }
     ensures dataset { Gives (λ x. (x.0, x.1.now)) result (read_as (dataset_of (tag_view tag.entry))
         (inner level.total level.depth (tag_view tag.entry) bytes.now)) }
     ensures shorter { IfOk result (λ x. length x.1.now ≤ length bytes.now) }

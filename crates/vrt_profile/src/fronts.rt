@@ -1,7 +1,7 @@
 // Short numbers, as most of a document's are, read in one pass.
-ghost use Rattle.std.specs.Prelude.{◌≡◌, ◌<◌, ◌≤◌, ◌*◌, ◌-◌, ◌^◌, ◌∷◌, Some, length, IfSome};
+ghost use Rattle.std.specs.Prelude.{◌≡◌, ◌<◌, ◌≤◌, ◌*◌, ◌-◌, ◌^◌, ◌∷◌, Some, pos, length, IfSome};
 ghost use Rattle.std.specs.Option.{option_map};
-ghost use Rattle.geotransform.specs.Decimal.{places_of, signed};
+ghost use Rattle.geotransform.specs.Decimal.{places_of, whole_of, signed};
 ghost use Rattle.vrt_profile.specs.Fronts.{IsDigitFront, DigitRun, DigitsFront, FractionFront, DecimalFront};
 ghost use Rattle.vrt_profile.specs.Fronts.{MicrosFront, PairFront};
 ghost use Rattle.vrt_profile.specs.Fields.{first_piece, pair_of};
@@ -135,6 +135,18 @@ pub fn short_micros(text: &[u8]) -> Option<i64>
     let (value, rest) = micros_front(text)?;
     match rest {
         [] => Some(value),
+        _ => None,
+    }
+}
+
+/// The whole number that a text of one to nine digits writes.
+pub fn short_whole(text: &[u8]) -> Option<u64>
+    ensures number { IfSome result (λ n. Some (pos n) ≡ whole_of text.now) }
+    ensures bound { IfSome result (λ n. n < 1000000000) }
+{
+    let (n, rest) = few_digits(text)?;
+    match rest {
+        [] => Some(n),
         _ => None,
     }
 }

@@ -116,13 +116,36 @@ fn pairs_of(alloc: Global, text: &[u8]) -> Result<Result<Items<LutPair>, VrtFaul
     }
 }
 
-/// A lookup table: pairs with commas between them.
-pub fn lut_of(alloc: Global, text: &[u8]) -> Result<Result<Lut, VrtFault>, VrtFault>
+// The one pair of a table of a short pair.
+#[tactic(auto, using(crate::proofs::Tables::one_pair))]
+fn one_pair(text: &[u8]) -> Option<LutPair>
+    ensures pair { IfSome result (λ pair. Ok (pair ∷ []) ≡ lut_of text.now) }
+{
+    let (pair, behind) = short_pair(text)?;
+    match behind {
+        None => Some(pair),
+        Some(_) => None,
+    }
+}
+
+// The table of one pair or more.
+fn table_of(alloc: Global, text: &[u8]) -> Result<Result<Lut, VrtFault>, VrtFault>
     ensures table { Gives (λ x. x) result (Ok (lut_of text.now)) }
 {
     match pairs_of(alloc, text) {
         Ok(Ok(pairs)) => Ok(Ok(Lut::of(pairs))),
         Ok(Err(fault)) => Ok(Err(fault)),
         Err(error) => Err(error),
+    }
+}
+
+/// A lookup table: pairs with commas between them.
+#[tactic(auto, using(crate::proofs::Tables::lut_rules))]
+pub fn lut_of(alloc: Global, text: &[u8]) -> Result<Result<Lut, VrtFault>, VrtFault>
+    ensures table { Gives (λ x. x) result (Ok (lut_of text.now)) }
+{
+    match one_pair(text) {
+        Some(pair) => Ok(Ok(Lut::one(pair))),
+        None => table_of(alloc, text),
     }
 }

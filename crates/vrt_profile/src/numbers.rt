@@ -1,27 +1,27 @@
 // The numbers of a document, each with the rule that it keeps.
 ghost use Rattle.std.specs.Prelude.{◌≡◌, ℤ, ◌≤◌, ◌<◌, ◌*◌, ◌^◌, pos, ◌<ℤ◌, Some, None, IfOk, IfSome, unsigned_abs};
+ghost use Rattle.std.specs.Prelude.{ok_or};
 ghost use Rattle.std.specs.Option.{option_map};
 ghost use Rattle.geotransform.specs.Decimal.{whole_of, places_of, IsRead};
 ghost use Rattle.geotransform.specs.Geo.{transform_of};
 ghost use Rattle.vrt_profile.specs.Fields.{trim};
 ghost use Rattle.vrt_profile.specs.Values.{IsOffset, IsDecimal};
 ghost use Rattle.vrt_profile.specs.Numbers.{side_by, side_in, micro_in, within_limit, offset_in, some_size, size_in};
-ghost use Rattle.vrt_profile.specs.Numbers.{is_mask, no_band_fault, band_by, band_number, scale_of, or_fault, north_up};
-ghost use Rattle.vrt_profile.specs.Numbers.{geo_of};
+ghost use Rattle.vrt_profile.specs.Numbers.{is_mask, no_band_fault, band_by, band_number, scale_of, north_up, geo_of};
 ghost use Rattle.vrt_markup.specs.declared.fault.VrtFault.TheVariants.{BadNumber};
 ghost use Rattle.vrt_profile.specs.NumberViews.{six_view, IsReadSix};
 ghost use Rattle.geotransform.specs.Limits.{most_side};
 
 use crate::fields::{Six, six_of, trim, whole_text};
-use crate::fronts::short_micros;
+use crate::fronts::{short_micros, short_whole};
 use geotransform::{
-    BandNumber, GeoTransform, MOST_BANDS, MOST_SIDE, Ticks, read_places, read_whole,
+    BandNumber, FARTHEST, GeoTransform, MOST_BANDS, MOST_SIDE, Ticks, read_places, read_whole,
 };
 use std::marker::Model;
 use vrt_markup::VrtFault;
 
 /// The greatest offset of a rectangle in millionths of a pixel, to either side.
-const FARTHEST_MICROS: u128 = 8_388_608_000_000;
+const FARTHEST_MICROS: u128 = FARTHEST as u128 * 1_000_000;
 
 /// A NODATA, below 10^20 in magnitude.
 #[derive(Clone, Copy)]
@@ -206,6 +206,9 @@ pub fn band_number(text: &[u8]) -> Result<BandNumber, VrtFault>
 pub fn nodata_in(text: &[u8]) -> Option<NoData>
     ensures number { result ≡ whole_of text.now }
 {
+    if let Some(n) = short_whole(text) {
+        return Some(NoData { value: n as i128 });
+    }
     match read_whole(text) {
         Some(value) => Some(NoData { value }),
         None => None,
@@ -240,7 +243,7 @@ fn geo_from(ox: Ticks, oy: Ticks, dx: Ticks, dy: Ticks) -> Option<GeoTransform>
 // The geotransform of six numbers, two of which are 0.
 fn straight(six: Six) -> Result<GeoTransform, VrtFault>
     requires read { IsReadSix six }
-    ensures geo { result ≡ or_fault BadNumber (transform_of six.ox six.oy six.dx six.dy) }
+    ensures geo { result ≡ ok_or (transform_of six.ox six.oy six.dx six.dy) BadNumber }
     ensures decimal { IfOk result IsDecimal }
 {
     let (ox, oy) = (Ticks::of(six.ox), Ticks::of(six.oy));

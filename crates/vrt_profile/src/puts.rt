@@ -1,6 +1,6 @@
 // Parts of an element put in their places.
 ghost use Rattle.std.specs.Prelude.{◌≡◌, ◌<◌, ◌≤◌, length, IfOk, OnErr, Option, Some};
-ghost use Rattle.vrt_markup.specs.Forest.{inner, read_as};
+ghost use Rattle.vrt_markup.specs.Forest.{deepest, inner, read_as};
 ghost use Rattle.vrt_markup.specs.Views.{tag_view};
 ghost use Rattle.vrt_markup.specs.Kept.{Gives, kept_of};
 ghost use Rattle.vrt_profile.specs.Means.{once};
@@ -29,7 +29,7 @@ pub fn past_child<'a>(
     bytes: &'a [u8],
 ) -> Result<(Result<(), VrtFault>, &'a [u8]), VrtFault>
     requires within { length bytes.now ≤ level.total }
-    requires depth { level.depth < 64 }
+    requires depth { level.depth < deepest }
     ensures child { Gives (λ x. (x.0, x.1.now)) result (read_as (λ f. kept)
         (inner level.total level.depth (tag_view tag.entry) bytes.now)) }
     ensures shorter { IfOk result (λ x. length x.1.now ≤ length bytes.now) }

@@ -3,7 +3,7 @@ ghost use Rattle.std.specs.Prelude.{◌≡◌, ◌<◌, ◌≤◌, ◌<ℤ◌, p
 ghost use Rattle.std.specs.Option.{option_map};
 ghost use Rattle.vrt_markup.specs.Items.{attribute, pairs};
 ghost use Rattle.vrt_profile.specs.Values.{IsOffset};
-ghost use Rattle.vrt_markup.specs.Forest.{inner, read_as};
+ghost use Rattle.vrt_markup.specs.Forest.{deepest, inner, read_as};
 ghost use Rattle.vrt_profile.specs.Means.{once, rect_of};
 ghost use Rattle.vrt_profile.specs.Seen.{rect_end, rect_by};
 ghost use Rattle.vrt_markup.specs.Views.{tag_view};
@@ -25,6 +25,11 @@ impl Parts for Bare {
     ghost value = { λ _. true };
 
     ghost step = { λ _. no_child };
+
+    // No element may stand in it.
+    fn usual(&self, _first: u8) -> &'static [u8] {
+        b"none"
+    }
 
     fn child<'a>(
         &mut self,
@@ -106,7 +111,7 @@ fn rect_element<'a>(
     bytes: &'a [u8],
 ) -> Result<(Result<MicroRect, VrtFault>, &'a [u8]), VrtFault>
     requires within { length bytes.now ≤ level.total }
-    requires depth { level.depth < 64 }
+    requires depth { level.depth < deepest }
     ensures rect { Gives (λ x. (x.0, x.1.now)) result (read_as (rect_of (tag_view tag.entry))
         (inner level.total level.depth (tag_view tag.entry) bytes.now)) }
     ensures shorter { IfOk result (λ x. length x.1.now ≤ length bytes.now) }
@@ -131,7 +136,7 @@ pub fn rect_child<'a>(
     bytes: &'a [u8],
 ) -> Result<(Result<(), VrtFault>, &'a [u8]), VrtFault>
     requires within { length bytes.now ≤ level.total }
-    requires depth { level.depth < 64 }
+    requires depth { level.depth < deepest }
     ensures child { Gives (λ x. (kept_of place.new x.0, x.1.now)) result
         (read_as (λ f. once place.old (rect_of (tag_view tag.entry) f) Some)
         (inner level.total level.depth (tag_view tag.entry) bytes.now)) }

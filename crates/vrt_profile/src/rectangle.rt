@@ -1,9 +1,10 @@
 // The parts of a source that are numbers: rectangles and lookup tables.
-ghost use Rattle.std.specs.Prelude.{◌≡◌, List};
+ghost use Rattle.std.specs.Prelude.{◌≡◌, List, [], ◌∷◌};
 ghost use Rattle.vrt_profile.specs.Values.{IsLut};
 
 use lists_and_answers::Items;
 use std::marker::Model;
+use std::slice;
 
 /// A rectangle in millionths of a pixel. Its offsets are from -8,388,608 to 8,388,608 pixels, its
 /// sizes above 0 and at most 8,388,608 pixels.
@@ -34,23 +35,31 @@ pub struct LutPair {
     pub output: i64,
 }
 
+/// Where a table's pairs stand: one in the value itself, more of them apart.
+#[derive(Drop)]
+enum Pairs {
+    One(LutPair),
+    Many(Items<LutPair>),
+}
+
 /// A lookup table: 1 to 65,536 pairs whose inputs rise strictly, each number below 5,000,000,000 in
 /// magnitude.
 #[derive(Drop)]
 pub struct Lut {
-    pairs: Items<LutPair>,
+    held: Pairs,
 }
 
 impl Model for Lut {
     ghost use Rattle.std.specs.Prelude.{List};
     ghost use Rattle.vrt_profile.specs.Values.{IsLut};
+    ghost use Rattle.vrt_profile.specs.PairViews.{pairs_in};
     ghost use Rattle.vrt_profile.specs.declared.rectangle.LutPair.{LutPair};
 
     ghost Value = { List LutPair };
 
-    ghost view = { λ t. t.pairs };
+    ghost view = { λ t. pairs_in t.held };
 
-    ghost invariant = { λ t. IsLut t.pairs };
+    ghost invariant = { λ t. IsLut (pairs_in t.held) };
 }
 
 impl Lut {
@@ -59,7 +68,19 @@ impl Lut {
         requires rules { IsLut pairs }
         ensures pairs { result ≡ pairs }
     {
-        Lut { pairs }
+        Lut {
+            held: Pairs::Many(pairs),
+        }
+    }
+
+    // The table of this pair alone, which takes no memory.
+    pub(crate) fn one(pair: LutPair) -> Lut
+        requires rules { IsLut (pair ∷ []) }
+        ensures pairs { result ≡ pair ∷ [] }
+    {
+        Lut {
+            held: Pairs::One(pair),
+        }
     }
 
     /// Lends its pairs, in order.
@@ -67,6 +88,9 @@ impl Lut {
         ensures pairs { result.now ≡ self.now }
         ensures rules { IsLut self.now }
     {
-        self.pairs.as_slice()
+        match &self.held {
+            Pairs::One(pair) => slice::from_ref(pair),
+            Pairs::Many(pairs) => pairs.as_slice(),
+        }
     }
 }

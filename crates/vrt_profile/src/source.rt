@@ -3,7 +3,7 @@ ghost use Rattle.std.specs.Prelude.{◌≡◌, ◌<◌, ◌≤◌, ◌-◌, ◌^
 ghost use Rattle.std.specs.Prelude.{Result, Ok, Err, Option, None, Some, true};
 ghost use Rattle.std.specs.Option.{option_map, unwrap_or};
 ghost use Rattle.std.specs.List.{All};
-ghost use Rattle.vrt_markup.specs.Forest.{inner, read_as, text_of, child_of};
+ghost use Rattle.vrt_markup.specs.Forest.{deepest, inner, read_as, text_of, child_of};
 ghost use Rattle.vrt_profile.specs.Means as means;
 ghost use Rattle.vrt_profile.specs.Means.{flag_in, flag_by, file_of, source_band_by, nodata_by, scale_text, lut_by};
 ghost use Rattle.vrt_profile.specs.Means.{with_file, number_parts, source_step, no_parts, is_like, is_near, source_end};
@@ -95,7 +95,7 @@ fn file_element<'a>(
     bytes: &'a [u8],
 ) -> Result<(Result<File, VrtFault>, &'a [u8]), VrtFault>
     requires within { length bytes.now ≤ level.total }
-    requires depth { level.depth < 64 }
+    requires depth { level.depth < deepest }
     ensures file { Gives (λ x. (x.0, x.1.now)) result (read_as (file_of (tag_view tag.entry))
         (inner level.total level.depth (tag_view tag.entry) bytes.now)) }
     ensures shorter { IfOk result (λ x. length x.1.now ≤ length bytes.now) }
@@ -217,7 +217,7 @@ impl SourceParts {
         bytes: &'a [u8],
     ) -> Result<(Result<(), VrtFault>, &'a [u8]), VrtFault>
         requires within { length bytes.now ≤ level.total }
-        requires depth { level.depth < 64 }
+        requires depth { level.depth < deepest }
         ensures child { Gives (λ x. (kept_of (source_view self.new) x.0, x.1.now)) result
             (read_as (λ f. number_parts (source_view self.old) (text_of f) (child_of f) part)
             (inner level.total level.depth (tag_view tag.entry) bytes.now)) }
@@ -242,7 +242,7 @@ impl SourceParts {
         bytes: &'a [u8],
     ) -> Result<(Result<(), VrtFault>, &'a [u8]), VrtFault>
         requires within { length bytes.now ≤ level.total }
-        requires depth { level.depth < 64 }
+        requires depth { level.depth < deepest }
         ensures child { Gives (λ x. (kept_of (source_view self.new) x.0, x.1.now)) result
             (read_as (λ f. with_file (source_view self.old) (file_of (tag_view tag.entry) f))
             (inner level.total level.depth (tag_view tag.entry) bytes.now)) }
@@ -262,6 +262,15 @@ impl Parts for SourceParts {
     ghost value = { source_view };
 
     ghost step = { λ p. source_step p.complex };
+
+    fn usual(&self, first: u8) -> &'static [u8] {
+        match first {
+            b'N' => b"NODATA",
+            b'L' => b"LUT",
+            _ if self.file.is_some() => b"SourceBand",
+            _ => b"SourceFilename",
+        }
+    }
 
     fn child<'a>(
         &mut self,
@@ -463,7 +472,7 @@ pub fn source_element<'a>(
     bytes: &'a [u8],
 ) -> Result<(Result<(), VrtFault>, &'a [u8]), VrtFault>
     requires within { length bytes.now ≤ level.total }
-    requires depth { level.depth < 64 }
+    requires depth { level.depth < deepest }
     ensures source { Gives (λ x. (kept_of sources.new x.0, x.1.now)) result
         (read_as (λ f. one_more sources.old (source_of complex (tag_view tag.entry) f))
         (inner level.total level.depth (tag_view tag.entry) bytes.now)) }

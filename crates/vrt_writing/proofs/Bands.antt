@@ -1,5 +1,5 @@
 -- Bands that are written are read again, with all of their sources.
-use Rattle.std.proofs.Common.{◌≡◌, ℕ, ℤ, suc, ◌+◌, ◌^◌, ◌<◌, ◌≤◌, Bool, true, false, cond, List, [], ◌∷◌, ◌++◌, length, map, Option, Some, None, Result, Ok, Err, refl, sym, ap, ◌∙◌, arith, append_assoc, append-nil, unsigned_abs, IfSome, nat_le, codes}
+use Rattle.std.proofs.Common.{◌≡◌, ℕ, ℤ, suc, ◌+◌, ◌^◌, ◌<◌, ◌≤◌, Bool, true, false, cond, List, [], ◌∷◌, ◌++◌, length, map, Option, Some, None, Result, Ok, Err, refl, sym, ap, ◌∙◌, arith, append_assoc, append-nil, unsigned_abs, IfSome, nat_le, codes, ok_or}
 use Rattle.std.specs.List.{All}
 use Rattle.std.specs.Fmt.{decimal, signed_decimal}
 use Rattle.std.proofs.lemmas.Bool.Decides.{nat_tests}
@@ -13,7 +13,6 @@ use Rattle.geotransform.proofs.Ranges.{is_near}
 use Rattle.geotransform.specs.declared.types.PixelType.TheVariants.{Byte, Int8, UInt16, Int16, UInt32, Int32, UInt64, Int64}
 use Rattle.geotransform.proofs.Named.{named_again}
 use Rattle.vrt_markup.specs.Items.{plain_len}
-use Rattle.vrt_profile.specs.Numbers.{or_fault}
 use Rattle.vrt_profile.specs.Values.{SourceValue, IsSource, BandValue, IsBand, source_count}
 use Rattle.vrt_writing.specs.Spelled.{nothing, both, words, group, nodata_markup, source_name, place_markup, scaling_markup, source_markup, sources_markup, band_pairs, band_markup, bands_markup}
 use Rattle.vrt_profile.specs.Means.{BandParts, no_parts, source_step, source_end, with_source, nodata_by, with_no_data_value, band_step, no_band_parts, kind_in, is_number, is_placed, value_in, DatasetParts, with_raster_band, dataset_step}
@@ -133,7 +132,7 @@ placed_again n few = ap (is_number n) (count_again n (omega arith)) ∙ eq-eqb n
 band_again : (n taken : ℕ) (b : BandValue) → IsBand b → n ≤ 256 → band_by (kind_in (Some (name_of b.kind))) (is_placed n (Some (decimal n))) true true (Ok (band_of taken (with_value b.nodata) b.sources)) ≡ Ok b
 band_again n taken b is few =
     let parts : Result BandParts VrtFault = Ok (band_of taken (with_value b.nodata) b.sources) in
-    ap (λ o. band_by (or_fault Unsupported o) (is_placed n (Some (decimal n))) true true parts) (named_again b.kind false)
+    ap (λ o. band_by (ok_or o Unsupported) (is_placed n (Some (decimal n))) true true parts) (named_again b.kind false)
     ∙ ap (λ c. band_by (Ok b.kind) c true true parts) (placed_again n few)
     ∙ ap (λ o. Ok (as_band b.kind o b.sources)) (kept_nodata b.kind b.nodata is.nodata)
 

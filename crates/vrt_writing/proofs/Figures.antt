@@ -10,11 +10,12 @@ use Rattle.std.proofs.lemmas.List.Sums.{AllPass-from_list_all, suffix_len-take_n
 use Rattle.std.proofs.lemmas.Bool.{ne_eqb, eq-eqb}
 use Rattle.std.proofs.lemmas.Bool.Decides.{nat_tests}
 use Rattle.std.proofs.lemmas.Fmt.{decimal_by_steps_wide}
+use Rattle.lists_and_answers.specs.Texts.{is_white}
 use Rattle.geotransform.specs.Print.{rounded_to, minus, with_point, short_text}
 use Rattle.geotransform.proofs.Numbers.{product_bound}
 use Rattle.geotransform.proofs.RoundTrip.{AreDigits, digits-cons, fraction_of, fraction_digits}
 use Rattle.geotransform.proofs.Written.{rounded_is}
-use Rattle.vrt_markup.specs.Items.{is_white, plain_len}
+use Rattle.vrt_markup.specs.Items.{plain_len}
 use Rattle.vrt_profile.specs.Fields.{trim, trim_end, length_before, cut_by, cut_at}
 use Rattle.vrt_writing.specs.Spelled.{escaped, micro_text, part_text}
 use Rattle.vrt_writing.specs.Reread.{IsValue}

@@ -3,7 +3,8 @@ use Rattle.std.proofs.Common.{◌≡◌, ℕ, Bool, true, false, cond, ◌&&◌,
 use Rattle.std.specs.List.{prefix_len}
 use Rattle.std.proofs.lemmas.Bool.Decides.{nat_tests}
 use Rattle.lists_and_answers.specs.Options.{◌>>=◌}
-use Rattle.vrt_markup.specs.Items.{is_white, is_first, is_later, has_first, name_at, trim_front, pair_at, Pair, pairs, with_pair, is_distinct, Tag, tag_end, tag_front, tag_at, Item, bad, open_tag, close_tag, comment, close_at, after_comment, item_at, option_case, begins}
+use Rattle.lists_and_answers.specs.Texts.{is_white}
+use Rattle.vrt_markup.specs.Items.{is_first, is_later, has_first, name_at, trim_front, pair_at, Pair, pairs, with_pair, is_distinct, Tag, tag_end, tag_front, tag_at, Item, bad, open_tag, close_tag, comment, close_at, after_comment, item_at, option_case, begins}
 use Rattle.vrt_writing.specs.Spelled.{pair_text}
 use Rattle.vrt_writing.specs.Reread.{IsTagName, IsValue}
 use Rattle.vrt_markup.proofs.Shorter.{pairs_next, pairs_none}

@@ -1,5 +1,5 @@
 -- Lookup tables and geotransforms that are written are read again.
-use Rattle.std.proofs.Common.{◌≡◌, ◌≢◌, ℕ, ℤ, suc, ◌+◌, ◌*◌, ◌^◌, ◌%◌, ◌<◌, ◌≤◌, true, false, cond, ◌&&◌, List, [], ◌∷◌, ◌++◌, length, map, flat_map, Option, Some, None, Result, Ok, Err, refl, ap, ◌∙◌, arith, append_assoc, append-nil, unsigned_abs, pos, nat_le, nat_lt, codes}
+use Rattle.std.proofs.Common.{◌≡◌, ◌≢◌, ℕ, ℤ, suc, ◌+◌, ◌*◌, ◌^◌, ◌%◌, ◌<◌, ◌≤◌, true, false, cond, ◌&&◌, List, [], ◌∷◌, ◌++◌, length, map, flat_map, Option, Some, None, Result, Ok, Err, refl, ap, ◌∙◌, arith, append_assoc, append-nil, unsigned_abs, pos, nat_le, nat_lt, codes, ok_or}
 use Rattle.std.specs.List.{All}
 use Rattle.std.proofs.lemmas.Bool.Decides.{nat_tests}
 use Rattle.std.proofs.lemmas.Int.{ints}
@@ -10,7 +10,7 @@ use Rattle.geotransform.specs.Geo.{Transform, IsTransform, transform_of, is_near
 use Rattle.geotransform.specs.Print.{short_text, unit}
 use Rattle.geotransform.proofs.RoundTrip.{short_again}
 use Rattle.vrt_profile.specs.Fields.{trim, cut_at, near_by, near_number, pair_of, pieces, Six, ticks_then, six_of}
-use Rattle.vrt_profile.specs.Numbers.{or_fault, is_above, rising_pair, next_pair, lut_from, lut_of, north_up, geo_of}
+use Rattle.vrt_profile.specs.Numbers.{is_above, rising_pair, next_pair, lut_from, lut_of, north_up, geo_of}
 use Rattle.vrt_profile.specs.Values.{million, is_below, is_rising, IsPair, IsLut, IsDecimal}
 use Rattle.vrt_writing.specs.Spelled.{micro_text, lut_pair_text, next_pair_text, lut_text, joined_text, geo_text}
 use Rattle.vrt_profile.specs.declared.rectangle.LutPair.{LutPair}
@@ -87,8 +87,8 @@ above_again (Some q) p ps h = h
 next_again : (n : ℕ) (last : Option LutPair) (p : LutPair) (ps : List LutPair) → n < 65536 → IsPair p → Follows last (p ∷ ps) → next_pair n last (lut_pair_text p) ≡ Ok p
 next_again n last p ps few is follows =
     let low : nat_le 65536 n ≡ false = grind (arith, nat_tests) in
-    ap (λ b. cond b (Err Limit) (or_fault BadNumber (pair_of (lut_pair_text p)) >>=> rising_pair last)) low
-    ∙ ap (λ (o : Option LutPair). or_fault BadNumber o >>=> rising_pair last) (pair_again p is)
+    ap (λ b. cond b (Err Limit) (ok_or (pair_of (lut_pair_text p)) BadNumber >>=> rising_pair last)) low
+    ∙ ap (λ (o : Option LutPair). ok_or o BadNumber >>=> rising_pair last) (pair_again p is)
     ∙ ap (λ b. cond b (Ok p) (Err BadNumber)) (above_again last p ps follows)
 
 abbrev then_more : ℕ → List (List ℕ) → Result LutPair VrtFault → Result (List LutPair) VrtFault
@@ -189,9 +189,9 @@ pub geo_again : (g : Transform) → IsDecimal g → geo_of (geo_text g) ≡ Ok g
 geo_again g is =
     let t = is.transform in
     ap geo_of (geo_whole g)
-    ∙ ap (λ (o : Option Six). or_fault BadNumber o >>=> north_up)
+    ∙ ap (λ (o : Option Six). ok_or o BadNumber >>=> north_up)
     (six_again g.ox g.dx g.oy g.dy (record { places = is.ox; near = t.ox_near }) (record { places = is.dx; near = t.dx_near }) (record { places = is.oy; near = t.oy_near }) (record { places = is.dy; near = t.dy_near }))
-    ∙ ap (or_fault BadNumber) (transform_again g t)
+    ∙ ap (λ o. ok_or o BadNumber) (transform_again g t)
 
 pub geo_marks : (g : Transform) → IsDecimal g → AreMarks (geo_text g)
 unfolding joined_text

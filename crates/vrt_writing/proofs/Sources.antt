@@ -1,6 +1,6 @@
 -- A source that is written is read again, part by part.
 use Rattle.std.proofs.Common.{◌≡◌, ℕ, ℤ, ◌*◌, ◌^◌, ◌<◌, ◌≤◌, Bool, true, false, cond, ◌&&◌, ◌==◌, List, [], ◌∷◌, length, Option, Some, None, Result, Ok, Err, refl, sym, ap, ◌∙◌, arith, subst, unsigned_abs, pos, IfSome, IsUtf8, nat_lt, nat_le, codes}
-use Rattle.std.specs.Prelude.{◌-ℤ◌, int_lt, ◌<ℤ◌}
+use Rattle.std.specs.Prelude.{◌-ℤ◌, int_lt, ◌<ℤ◌, ok_or}
 use Rattle.std.specs.Option.{unwrap_or}
 use Rattle.std.specs.Fmt.{decimal, signed_decimal}
 use Rattle.std.proofs.lemmas.Bool.Decides.{nat_tests}
@@ -10,7 +10,7 @@ use Rattle.geotransform.specs.Decimal.{places_of, whole_of}
 use Rattle.vrt_markup.specs.Items.{Pair, attribute}
 use Rattle.vrt_markup.specs.Forest.{Forest, stop, text_of, child_of}
 use Rattle.vrt_markup.specs.Kept.{stepped}
-use Rattle.vrt_profile.specs.Numbers.{or_fault, within_limit, some_size, offset_in, size_in, band_by, band_number, no_band_fault, scale_by}
+use Rattle.vrt_profile.specs.Numbers.{within_limit, some_size, offset_in, size_in, band_by, band_number, no_band_fault, scale_by}
 use Rattle.vrt_profile.specs.Values.{million, trillion, Rectangle, IsOffset, IsRectangle, IsLut, SourceValue, IsSource, IsSimple}
 use Rattle.vrt_writing.specs.Spelled.{Markup, nothing, both, words, pair, flag_text, micro_text, part_text, lut_text, file_markup, source_band_markup, rectangle_pairs, rectangle_markup, nodata_markup, scale_markup, lut_markup, place_markup, scaling_markup}
 use Rattle.vrt_profile.specs.Means.{File, SourceParts, no_parts, source_step, flag_in, childless, rect_of, with_file, with_band, with_src, with_dst, with_nodata, with_offset, with_ratio, with_lut, source_band_by, nodata_by, scale_text, lut_by, value_in, source_from, source_named, source_end}
@@ -94,14 +94,14 @@ limit_is v small =
     ap (λ b. cond b (Err Limit) (Ok v)) low
 
 offset_is : (v : ℤ) → IsOffset v → offset_in (Some (micro_text v)) ≡ Ok v
-offset_is v small = ap (λ o. or_fault BadNumber o >>= within_limit) (micro_again v (omega (arith, small))) ∙ limit_is v small
+offset_is v small = ap (λ o. ok_or o BadNumber >>= within_limit) (micro_again v (omega (arith, small))) ∙ limit_is v small
 
 above_zero : (v : ℤ) → pos 0 <ℤ v → int_lt (pos 0) v ≡ true
 above_zero v some = grind (arith, nat_tests, ints)
 
 size_is : (v : ℤ) → pos 0 <ℤ v → IsOffset v → size_in (Some (micro_text v)) ≡ Ok v
 size_is v some small =
-    ap (λ o. or_fault BadNumber o >>= some_size) (micro_again v (omega (arith, small)))
+    ap (λ o. ok_or o BadNumber >>= some_size) (micro_again v (omega (arith, small)))
     ∙ ap (λ b. cond b (within_limit v) (Err BadNumber)) (above_zero v some)
     ∙ limit_is v small
 

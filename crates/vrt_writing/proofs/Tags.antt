@@ -4,7 +4,8 @@ use Rattle.std.specs.List.{prefix_len}
 use Rattle.std.proofs.lemmas.Bool.Decides.{nat_tests}
 use Rattle.std.proofs.lemmas.List.{take_at, drop_at}
 use Rattle.lists_and_answers.specs.Options.{◌>>=◌}
-use Rattle.vrt_markup.specs.Items.{is_white, is_first, has_first, name_at, byte_at, trim_front, spaces_at, value_at, Pair, pair_at}
+use Rattle.lists_and_answers.specs.Texts.{is_white}
+use Rattle.vrt_markup.specs.Items.{is_first, has_first, name_at, byte_at, trim_front, spaces_at, value_at, Pair, pair_at}
 use Rattle.vrt_writing.specs.Reread.{IsTagName, IsValue}
 use Rattle.vrt_writing.proofs.Reread.{name_again}
 

@@ -5,8 +5,9 @@ use Rattle.std.proofs.lemmas.List.{length-drop}
 use Rattle.std.specs.Str.{IsCharBoundary}
 use Rattle.std.proofs.lemmas.Str.{IsUtf8-drop, IsUtf8-take, IsUtf8-nil, IsCharBoundary-after_ascii, IsUtf8-append}
 use Rattle.std.proofs.lemmas.Bool.Decides.{nat_tests}
-use Rattle.vrt_markup.specs.Items.{is_white, is_later, has_first, trim_front, name_at, byte_at, spaces_at, quote_at, plain_len, ends_at, entity_at, option_case, value_at, pair_at, Pair, pairs_by, pairs, with_pair, Tag, tag_end, tag_front, tag_at, is_distinct, close_at, strip, begins, is_equal, after_comment, run_at, item_at, Item, bad, comment, run, open_tag, close_tag}
+use Rattle.vrt_markup.specs.Items.{is_later, has_first, trim_front, name_at, byte_at, spaces_at, quote_at, plain_len, ends_at, entity_at, option_case, value_at, pair_at, Pair, pairs_by, pairs, with_pair, Tag, tag_end, tag_front, tag_at, is_distinct, close_at, strip, begins, is_equal, after_comment, run_at, item_at, Item, bad, comment, run, open_tag, close_tag}
 use Rattle.lists_and_answers.specs.Answers.{◌>>=◌}
+use Rattle.lists_and_answers.specs.Texts.{is_white}
 use Rattle.vrt_markup.specs.Forest.{Forest, stop, text, element, Read, with_text, with_element, inner_by, nodes_step, nodes_by, plain_at, decoded_from, text_of}
 use Rattle.vrt_markup.specs.declared.fault.VrtFault.TheVariants.{BadText, Limit}
 use Rattle.vrt_markup.proofs.Shorter.{guard_some, bind_some}

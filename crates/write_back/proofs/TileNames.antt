@@ -7,7 +7,8 @@ use Rattle.std.proofs.lemmas.Slice.Eq.{bytes_eq-Decides}
 use Rattle.std.proofs.lemmas.List.{length-map}
 use Rattle.lists_and_answers.specs.Options.{◌>>=◌}
 use Rattle.lists_and_answers.specs.Texts.{same_letters}
-use Rattle.hgt_tiles.specs.Names.{Place, IsPlace, side_of, degrees_in, corner_of, letter_of, two_digits, three_digits, name_of}
+use Rattle.geotransform.specs.Print.{letter_of, two_digits, three_digits}
+use Rattle.hgt_tiles.specs.Names.{Place, IsPlace, side_of, degrees_in, corner_of, name_of}
 use Rattle.hgt_tiles.proofs.Named.{name_again}
 
 -- a character that differs from a digit at most by its case is the digit

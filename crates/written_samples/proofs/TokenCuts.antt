@@ -6,12 +6,14 @@ use Rattle.std.specs.Prelude.{ℤ, codes}
 use Rattle.std.proofs.lemmas.Bool.{cases_Bool}
 use Rattle.std.proofs.lemmas.List.{append-nil}
 use Rattle.std.proofs.lemmas.List.Sums.{take_while-cons}
+use Rattle.lists_and_answers.specs.Texts.{is_white}
 use Rattle.geotransform.specs.Geo.{Transform}
 use Rattle.geotransform.specs.Print.{short_text}
 use Rattle.geotransform.specs.declared.types.Size.{Size}
+use Rattle.geotransform.specs.Places.{are_same}
 use Rattle.ascii_grid.specs.declared.placing.Placing.{Placing}
-use Rattle.ascii_grid.specs.Tokens.{tokens_from, token, is_white, is_dark, next}
-use Rattle.ascii_grid.specs.Text.{label, line, placing_of, size_lines, edge_lines, are_same, step_lines, nodata_line, head_text, more_text, row_text}
+use Rattle.ascii_grid.specs.Tokens.{tokens_from, token, is_dark, next}
+use Rattle.ascii_grid.specs.Text.{label, line, placing_of, size_lines, edge_lines, step_lines, nodata_line, head_text, more_text, row_text}
 use Rattle.ascii_grid.proofs.Places.{tok_white, tok_inside, tok_begins}
 
 -- a text whose last byte is white space

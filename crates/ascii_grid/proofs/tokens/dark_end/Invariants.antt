@@ -1,5 +1,5 @@
 use Rattle.std.proofs.Common.{◌≡◌, ◌<◌, ◌≤◌, ℕ, get_or, false}
-use Rattle.ascii_grid.specs.Tokens.{is_white}
+use Rattle.lists_and_answers.specs.Texts.{is_white}
 use Rattle.ascii_grid.proofs.tokens.dark_end.Given as goal
 
 abbrev pub invariant-loop-i : goal.invariant-loop-i

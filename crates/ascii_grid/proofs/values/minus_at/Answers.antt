@@ -1,8 +1,8 @@
 use Rattle.std.proofs.Common.{◌≡◌, ◌∙◌, ◌<◌, ◌+◌, ◌-◌, ap, sym, arith, rules, pos, ℕ, List, length, take, drop, get_or, to_z, of_z}
 use Rattle.std.specs.Prelude.{neg_ℤ}
+use Rattle.lists_and_answers.specs.Texts.{is_white}
 use mir.Syntax.{w32}
 use Rattle.geotransform.specs.Decimal.{number}
-use Rattle.ascii_grid.specs.Tokens.{is_white}
 use Rattle.ascii_grid.specs.Values.{has_value}
 use Rattle.ascii_grid.specs.Row.{value_or_zero}
 use Rattle.ascii_grid.proofs.Fronts.{behind_minus, minus_dark, minus_has, minus_value}

@@ -1,5 +1,6 @@
 use Rattle.std.proofs.Common.{[], ap, ap₂, ◌∙◌, sym}
-use Rattle.outside.specs.Memory.{files_of, with_name, names_with}
+use Rattle.lists_and_answers.specs.Lists.{with_name}
+use Rattle.outside.specs.Memory.{files_of, names_with}
 use Rattle.outside.proofs.Puts.{files_of-push, files_of-more, put_alike}
 use Rattle.outside.proofs.Orders.{names_with-push, names_with-more}
 use Rattle.outside.proofs.memory.copy_files.Goals as goal

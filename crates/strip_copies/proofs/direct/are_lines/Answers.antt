@@ -1,7 +1,7 @@
 use Rattle.std.proofs.Common.{◌≡◌, ◌∙◌, ◌<◌, Some, ap, sym, arith}
 use Rattle.std.proofs.lemmas.Bool.Decides.{nat_tests}
+use Rattle.geotransform.specs.Pixels.{within}
 use Rattle.translate_plan.specs.Plan.{Planned, shown_line}
-use Rattle.strip_copies.specs.Rows.{within}
 use Rattle.strip_copies.proofs.Straight.{lines_own}
 use Rattle.strip_copies.proofs.direct.are_lines.Goals as goal
 

@@ -1,7 +1,8 @@
 use Rattle.std.proofs.Common.{◌≡◌, ◌∙◌, ◌+◌, ◌-◌, pos, Some, get_or, subst, sym, ap, arith}
+use Rattle.geotransform.specs.Pixels.{within}
 use Rattle.catalog.specs.Pixels.{pixel_of_name}
 use Rattle.translate_plan.specs.Plan.{shown_line}
-use Rattle.strip_copies.specs.Rows.{made_of, strip_rect, within, IsSample, IsIn}
+use Rattle.strip_copies.specs.Rows.{made_of, strip_rect, IsSample, IsIn}
 use Rattle.strip_copies.proofs.Strips.{strip_pixel}
 use Rattle.strip_copies.proofs.Samples.{fill_sample, made_sample}
 use Rattle.strip_copies.proofs.making.make_row.Goals as goal

@@ -1,7 +1,7 @@
 use Rattle.std.proofs.Common.{◌≡◌, ◌∙◌, arith, inl, inr, Some, subst}
 use Rattle.std.proofs.lemmas.Bool.{cases_lt}
+use Rattle.geotransform.specs.Pixels.{within}
 use Rattle.translate_plan.specs.Plan.{shown_line}
-use Rattle.strip_copies.specs.Rows.{within}
 use Rattle.strip_copies.proofs.spans.run_from.Goals as goal
 
 pub loop-line-init : goal.loop-line-init

@@ -37,7 +37,7 @@ items-preserved g c =
     let more = c.in-Open.field-1.now in
     let child = c.in-Ok.ensures.child ∙ ap (λ s. read_as (stepped s kept (total - length c.items.rest.now) tag) (inner total depth tag more)) c.items.invariant.same in
     record {
-      left = sym (seen_open step kept c.items.seen.blank total depth c.args.name.now c.items.rest.now tag more now c.in-Ok.behind.now c.in-Open.ensures.item c.if-level-ge64.false child) ∙ c.items.invariant.left;
+      left = sym (seen_open step kept c.items.seen.blank total depth c.args.name.now c.items.rest.now tag more now c.in-Ok.behind.now c.in-Open.ensures.item c.if-level-ge-DEEPEST.false child) ∙ c.items.invariant.left;
       same = c.next_child.ensures.same ∙ c.items.invariant.same;
       shorter = omega (arith, c.in-Ok.ensures.shorter, c.in-Open.ensures.shorter, c.items.invariant.shorter);
     }
@@ -51,11 +51,11 @@ returns-in-Err-clause-seen g c =
     let place = total - length c.items.rest.now in
     let tag = tag_view c.in-Open.field-0 in
     let more = c.in-Open.field-1.now in
-    child_fails (seen step kept c.items.seen.blank) (stepped step kept place tag) total depth c.args.name.now c.items.rest.now tag more _ c.in-Err.error c.in-Open.ensures.item c.if-level-ge64.false c.items.invariant.left
+    child_fails (seen step kept c.items.seen.blank) (stepped step kept place tag) total depth c.args.name.now c.items.rest.now tag more _ c.in-Err.error c.in-Open.ensures.item c.if-level-ge-DEEPEST.false c.items.invariant.left
     (subst (λ s. Fails c.in-Err.error (read_as (stepped s kept place tag) (inner total depth tag more))) c.items.invariant.same c.in-Err.ensures.child)
 
 pub returns-in-Open-clause-seen : goal.returns-in-Open-clause-seen
 returns-in-Open-clause-seen g c =
     let so_far = seen (g.P.Parts.step c.args.parts.now) (kept_of (g.P.Parts.value c.items.parts) c.items.seen.kept) c.items.seen.blank in
-    sym (read_deep so_far c.args.level.total c.args.level.depth c.args.name.now c.items.rest.now (tag_view c.in-Open.field-0) c.in-Open.field-1.now c.in-Open.ensures.item c.if-level-ge64.true)
+    sym (read_deep so_far c.args.level.total c.args.level.depth c.args.name.now c.items.rest.now (tag_view c.in-Open.field-0) c.in-Open.field-1.now c.in-Open.ensures.item c.if-level-ge-DEEPEST.true)
     ∙ c.items.invariant.left

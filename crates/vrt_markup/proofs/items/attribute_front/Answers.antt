@@ -1,5 +1,4 @@
 use Rattle.std.proofs.Common.{sym}
-use Rattle.vrt_markup.specs.Items.{is_equal}
 use Rattle.vrt_markup.specs.Views.{pair_view}
 use Rattle.vrt_markup.proofs.Ordered.{front_others}
 use Rattle.vrt_markup.proofs.items.attribute_front.Goals as goal

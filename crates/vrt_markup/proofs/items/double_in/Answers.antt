@@ -6,6 +6,6 @@ use Rattle.vrt_markup.proofs.items.double_in.Goals as goal
 pub returns : goal.returns
 returns c = record {
   none = λ none.
-      let same : double_of c.sort_unstable.new.self.items ≡ None = grind (arith, c.deref.ensures, c.double_of.ensures.double, none) in
-      no_double _ _ c.sort_unstable.ensures.permutation c.sort_unstable.ensures.sorted same;
+      let same : double_of c.sort.new.self.items ≡ None = grind (arith, c.deref.ensures, c.double_of.ensures.double, none) in
+      no_double _ _ c.sort.ensures.permutation c.in_ok-sort.ensures.sorted same;
 }

@@ -1,6 +1,6 @@
 use Rattle.std.proofs.Common.{◌≡◌, ◌≤◌, ◌+◌, take, length}
 use Rattle.std.specs.List.{suffix_len}
-use Rattle.vrt_markup.specs.Items.{is_white}
+use Rattle.lists_and_answers.specs.Texts.{is_white}
 use Rattle.vrt_profile.proofs.fields.trim_end.Given as goal
 
 abbrev pub invariant-loop-count : goal.invariant-loop-count

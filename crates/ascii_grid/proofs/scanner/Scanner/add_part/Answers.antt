@@ -1,4 +1,4 @@
-use Rattle.std.proofs.Common.{◌∙◌, ap, sym, subst, get_or, List, ℕ, inr}
+use Rattle.std.proofs.Common.{sym, subst, get_or, List, ℕ, inr}
 use Rattle.std.proofs.lemmas.List.{take_more}
 use Rattle.ascii_grid.specs.Scan.{Reaches, fed}
 use Rattle.ascii_grid.proofs.scanner.Scanner.add_part.Goals as goal

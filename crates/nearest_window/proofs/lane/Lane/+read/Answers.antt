@@ -38,8 +38,8 @@ use Rattle.nearest_window.proofs.lane.Lane.+read.Goals as goal
 
 pub hold-fill-requires-clause-few : goal.hold-fill-requires-clause-few
 hold-fill-requires-clause-few g t c κs within =
-    let narrow = c.mosaic_rect-rect.ensures.narrow in
-    let low = c.mosaic_rect-rect.ensures.low in
+    let narrow : c.mosaic_rect-rect.result.w ≤ 128 = c.mosaic_rect-rect.ensures.narrow in
+    let low : c.mosaic_rect-rect.result.h ≤ 128 = c.mosaic_rect-rect.ensures.low in
     let big : c.mosaic_rect-rect.result.w * c.mosaic_rect-rect.result.h ≤ 128 * 128 = mul-le-mul narrow low in
     omega arith
 

@@ -1,0 +1,166 @@
+-- Decimal texts of few digits, whose number is known at once.
+use Rattle.std.proofs.Common.{◌≡◌, ◌≢◌, ℕ, ℤ, pos, suc, zero, ◌+◌, ◌-◌, ◌*◌, ◌^◌, ◌<◌, ◌≤◌, List, [], ◌∷◌, ◌++◌, length, get_or, take, drop, Bool, true, false, cond, Option, Some, None, min, arith, refl, ap, ◌∙◌, sym, subst, ◌+ℤ◌, length-take}
+use Rattle.std.specs.Prelude.{◌==◌, ◌-ℤ◌, nat_lt, if◌then◌else◌}
+use Rattle.std.specs.List.{fold, list_all, prefix_len}
+use Rattle.std.specs.Option.{option_map}
+use Rattle.std.specs.Char.{is_ascii_digit}
+use Rattle.std.proofs.Math.Nat.{pow-le-pow_right, one-le-pow, div-eq_of_lt}
+use Rattle.std.proofs.lemmas.Bool.Decides.{nat_tests}
+use Rattle.std.proofs.lemmas.Int.{ints}
+use Rattle.std.proofs.lemmas.List.Sums.{fold-append}
+use Rattle.lists_and_answers.specs.Options.{◌>>=◌}
+use Rattle.geotransform.specs.Decimal.{number, half_up, scaled, signed, Decimal, sign_at, digits_at, fraction_at, exponent_of, with_digits, parts_of, magnitude, magnitude_at, near_at, ticks_of, places_of}
+use Rattle.geotransform.specs.Parts.{brief, limited, counted}
+use Rattle.geotransform.proofs.Numbers.{half_le}
+use Rattle.geotransform.proofs.RoundTrip.{digits-cons}
+use Rattle.geotransform.proofs.Fewer.{scaled_le}
+
+pub prefix_is : (xs : List ℕ) (i : ℕ) → list_all is_ascii_digit (take i xs) ≡ true → i < length xs → is_ascii_digit (get_or xs i 0) ≡ false → i ≡ prefix_len is_ascii_digit xs
+prefix_is [] i all less stop = absurd (omega arith)
+prefix_is (x ∷ xs) zero all less stop = sym (ap (λ b. cond b (1 + prefix_len is_ascii_digit xs) 0) stop)
+prefix_is (x ∷ xs) (suc i) all less stop =
+    let parts = digits-cons x (take i xs) all in
+    let rest : i ≡ prefix_len is_ascii_digit xs = prefix_is xs i parts.1 (omega arith) stop in
+    let more : suc i ≡ 1 + prefix_len is_ascii_digit xs = omega arith in
+    more ∙ sym (ap (λ b. cond b (1 + prefix_len is_ascii_digit xs) 0) parts.0)
+
+pub prefix_whole : (xs : List ℕ) → list_all is_ascii_digit (take (length xs) xs) ≡ true → length xs ≡ prefix_len is_ascii_digit xs
+prefix_whole [] all = refl
+prefix_whole (x ∷ xs) all =
+    let parts = digits-cons x (take (length xs) xs) all in
+    let more : suc (length xs) ≡ 1 + prefix_len is_ascii_digit xs = omega (arith, prefix_whole xs parts.1) in
+    more ∙ sym (ap (λ b. cond b (1 + prefix_len is_ascii_digit xs) 0) parts.0)
+
+abbrev step : ℕ → ℕ → ℕ
+step n c = n * 10 + (c - 48)
+
+pub fraction_is : (digits : List ℕ) (front k : ℕ) → k ≡ prefix_len is_ascii_digit digits → k ≢ 0 → k ≤ length digits → option_map (counted front) (fraction_at (46 ∷ digits)) ≡ Some (k, (fold step front (take k digits), drop k digits))
+fraction_is digits front k is some within =
+    let more : (prefix_len is_ascii_digit digits == 0) ≡ false = grind (arith, nat_tests, is) in
+    let count : length (take k digits) ≡ k = omega (arith, length-take k digits) in
+    ap (λ b. option_map (counted front) (cond b None (Some (digits_at digits)))) more
+    ∙ ap (λ j. Some (counted front (take j digits, drop j digits))) (sym is)
+    ∙ ap (λ n. Some (n, (fold step front (take k digits), drop k digits))) count
+
+few_behind : (o : Option (List ℕ × List ℕ)) (negative : Bool) (whole : List ℕ) (k m : ℕ) (rest : List ℕ) (e : ℤ) → option_map (counted (number whole)) o ≡ Some (k, (m, rest)) → exponent_of rest ≡ Some e → length whole + k ≢ 0 → option_map brief (o >>= λ f. exponent_of f.1 >>= λ e. with_digits negative whole f.0 e) ≡ Some (negative, (m, e -ℤ pos k))
+few_behind None negative whole k m rest e h is some = absurd (cc)
+few_behind (Some f) negative whole k m rest e h is some =
+    let same : counted (number whole) f ≡ (k, (m, rest)) = cc in
+    let a : length f.0 ≡ k = ap (λ (t : ℕ × (ℕ × List ℕ)). t.0) same in
+    let b : fold step (number whole) f.0 ≡ m = ap (λ (t : ℕ × (ℕ × List ℕ)). t.1.0) same in
+    let c : f.1 ≡ rest = ap (λ (t : ℕ × (ℕ × List ℕ)). t.1.1) same in
+    let exponent : exponent_of f.1 ≡ Some e = ap exponent_of c ∙ is in
+    let digit : (length whole + length f.0 == 0) ≡ false = grind (arith, nat_tests, a, some) in
+    let all : number (whole ++ f.0) ≡ m = fold-append step 0 whole f.0 ∙ b in
+    ap (λ (x : Option ℤ). option_map brief (x >>= λ e. with_digits negative whole f.0 e)) exponent
+    ∙ ap (λ t. option_map brief (cond t None (Some (record { negative = negative; whole = whole; fraction = f.0; exponent = e })))) digit
+    ∙ ap (λ n. Some (negative, (n, e -ℤ pos (length f.0)))) all
+    ∙ ap (λ j. Some (negative, (m, e -ℤ pos j))) a
+
+abbrev behind_sign : ℕ → Bool → List ℕ × List ℕ → Option Decimal
+behind_sign n negative w = cond (nat_lt 64 n) None (fraction_at w.1 >>= λ f. exponent_of f.1 >>= λ e. with_digits negative w.0 f.0 e)
+
+starts : (text : List ℕ) → parts_of text ≡ behind_sign (length text) (sign_at text).0 (digits_at (sign_at text).1)
+unfolding parts_of
+starts text = refl
+
+-- the parts of a text whose digits were read
+pub few_are : (text : List ℕ) (s : Bool × List ℕ) (w n k m : ℕ) (rest : List ℕ) (e : ℤ) → s ≡ sign_at text → length text ≤ 64 → w ≡ prefix_len is_ascii_digit s.1 → w ≤ length s.1 → n ≡ fold step 0 (take w s.1) → option_map (counted n) (fraction_at (drop w s.1)) ≡ Some (k, (m, rest)) → exponent_of rest ≡ Some e → w + k ≢ 0 → option_map brief (parts_of text) ≡ Some (s.0, (m, e -ℤ pos k))
+few_are text s w n k m rest e sign short count within is fraction exponent some =
+    let small : nat_lt 64 (length text) ≡ false = grind (arith, nat_tests) in
+    let whole : List ℕ = take w s.1 in
+    let long : length whole ≡ w = omega (arith, length-take w s.1) in
+    let front : option_map (counted (number whole)) (fraction_at (drop w s.1)) ≡ Some (k, (m, rest)) = subst (λ x. option_map (counted x) (fraction_at (drop w s.1)) ≡ Some (k, (m, rest))) is fraction in
+    ap (option_map brief) (starts text
+    ∙ ap (λ (t : Bool × List ℕ). behind_sign (length text) t.0 (digits_at t.1)) (sym sign)
+    ∙ ap (λ j. behind_sign (length text) s.0 (take j s.1, drop j s.1)) (sym count)
+    ∙ ap (λ b. cond b None (fraction_at (drop w s.1) >>= λ f. exponent_of f.1 >>= λ e. with_digits s.0 whole f.0 e)) small)
+    ∙ few_behind (fraction_at (drop w s.1)) s.0 whole k m rest e front exponent (λ none. some (omega (arith, none, long)))
+
+pub few_limited : (o : Option Decimal) (b : Bool) (m : ℕ) (p : ℤ) → option_map brief o ≡ Some (b, (m, p)) → min (scaled m (p +ℤ pos 16)) (10 ^ 28) ≡ limited o
+few_limited None b m p h = absurd (cc)
+few_limited (Some d) b m p h =
+    let same : brief d ≡ (b, (m, p)) = cc in
+    sym (ap (λ (t : Bool × (ℕ × ℤ)). min (scaled t.1.0 (t.1.1 +ℤ pos 16)) (10 ^ 28)) same)
+
+kept_with : (none : Bool) (negative : Bool) (w f : List ℕ) (e : ℤ) (d : Decimal) → cond none None (Some (record { negative = negative; whole = w; fraction = f; exponent = e })) ≡ Some d → d.negative ≡ negative
+kept_with true negative w f e d h = absurd (cc)
+kept_with false negative w f e d h =
+    let all : Decimal = record { negative = negative; whole = w; fraction = f; exponent = e } in
+    let same : all ≡ d = cc in
+    sym (ap (λ (x : Decimal). x.negative) same)
+
+kept_exponent : (o : Option ℤ) (negative : Bool) (w f : List ℕ) (d : Decimal) → (o >>= λ e. with_digits negative w f e) ≡ Some d → d.negative ≡ negative
+kept_exponent None negative w f d h = absurd (cc)
+kept_exponent (Some e) negative w f d h = kept_with (length w + length f == 0) negative w f e d h
+
+kept_fraction : (o : Option (List ℕ × List ℕ)) (negative : Bool) (w : List ℕ) (d : Decimal) → (o >>= λ f. exponent_of f.1 >>= λ e. with_digits negative w f.0 e) ≡ Some d → d.negative ≡ negative
+kept_fraction None negative w d h = absurd (cc)
+kept_fraction (Some f) negative w d h = kept_exponent (exponent_of f.1) negative w f.0 d h
+
+kept_sign : (long : Bool) (negative : Bool) (w : List ℕ × List ℕ) (d : Decimal) → cond long None (fraction_at w.1 >>= λ f. exponent_of f.1 >>= λ e. with_digits negative w.0 f.0 e) ≡ Some d → d.negative ≡ negative
+kept_sign true negative w d h = absurd (cc)
+kept_sign false negative w d h = kept_fraction (fraction_at w.1) negative w.0 d h
+
+-- the ticks of what has parts or not, where the sign is known
+ticks_from : (o : Option Decimal) (v : ℕ) (b : Bool) → ((d : Decimal) → o ≡ Some d → d.negative ≡ b) → v ≡ limited o → v < 10 ^ 28 → (o >>= λ d. cond (nat_lt (magnitude d) (10 ^ 28)) (Some (signed d.negative (18 * magnitude d))) None) ≡ Some (signed b (18 * v))
+ticks_from None v b sign is less = absurd (omega arith)
+ticks_from (Some d) v b sign is less =
+    let low : nat_lt (magnitude d) (10 ^ 28) ≡ true = grind (arith, nat_tests, is, less) in
+    let same : magnitude d ≡ v = omega arith in
+    ap (λ t. cond t (Some (signed d.negative (18 * magnitude d))) None) low ∙ ap (λ k. Some (signed d.negative (18 * k))) same ∙ ap (λ n. Some (signed n (18 * v))) (sign d refl)
+
+none_from : (o : Option Decimal) (v : ℕ) → v ≡ limited o → 10 ^ 28 ≤ v → (o >>= λ d. cond (nat_lt (magnitude d) (10 ^ 28)) (Some (signed d.negative (18 * magnitude d))) None) ≡ None
+none_from None v is more = refl
+none_from (Some d) v is more =
+    let high : nat_lt (magnitude d) (10 ^ 28) ≡ false = grind (arith, nat_tests, is, more) in
+    ap (λ t. cond t (Some (signed d.negative (18 * magnitude d))) None) high
+
+pub ticks_below : (text : List ℕ) (s : Bool × List ℕ) (v : ℕ) → s ≡ sign_at text → v ≡ limited (parts_of text) → v < 10 ^ 28 → ticks_of text ≡ Some (signed s.0 (18 * v))
+unfolding ticks_of
+ticks_below text s v sign is less =
+    ticks_from (parts_of text) v s.0 (λ d has. kept_sign (nat_lt 64 (length text)) (sign_at text).0 (digits_at (sign_at text).1) d (sym (starts text) ∙ has) ∙ ap (λ (t : Bool × List ℕ). t.0) (sym sign)) is less
+
+pub no_ticks : (text : List ℕ) (v : ℕ) → v ≡ limited (parts_of text) → 10 ^ 28 ≤ v → ticks_of text ≡ None
+unfolding ticks_of
+no_ticks text v is more = none_from (parts_of text) v is more
+
+bound : (t : Bool) (y : ℕ) (b : Bool) → (cond t (Some y) None >>= λ n. Some (signed b n)) ≡ cond t (Some (signed b y)) None
+bound true y b = refl
+bound false y b = refl
+
+places_from : (k : ℕ) (o : Option Decimal) (b : Bool) (m : ℕ) (p : ℤ) → option_map brief o ≡ Some (b, (m, p)) → (o >>= λ d. near_at k d >>= λ n. Some (signed d.negative n)) ≡ cond (nat_lt (scaled m (p +ℤ pos 16)) (10 ^ 28)) (Some (signed b (scaled m (p +ℤ pos k)))) None
+places_from k None b m p h = absurd (cc)
+places_from k (Some d) b m p h =
+    let same : brief d ≡ (b, (m, p)) = cc in
+    bound (nat_lt (magnitude d) (10 ^ 28)) (magnitude_at k d) d.negative
+    ∙ ap (λ (t : Bool × (ℕ × ℤ)). cond (nat_lt (scaled t.1.0 (t.1.1 +ℤ pos 16)) (10 ^ 28)) (Some (signed t.0 (scaled t.1.0 (t.1.1 +ℤ pos k)))) None) same
+
+pub places_few : (k : ℕ) (text : List ℕ) (b : Bool) (m : ℕ) (p : ℤ) → option_map brief (parts_of text) ≡ Some (b, (m, p)) → places_of k text ≡ (if nat_lt (scaled m (p +ℤ pos 16)) (10 ^ 28) then Some (signed b (scaled m (p +ℤ pos k))) else None)
+unfolding places_of
+places_few k text b m p h = places_from k (parts_of text) b m p h
+
+pub near_few : (k m a v : ℕ) (p : ℤ) (b : Bool) → k ≤ 16 → a ≡ min (scaled m (p +ℤ pos 16)) (10 ^ 28) → a < 10 ^ 28 → v ≡ min (scaled m (p +ℤ pos k)) (10 ^ 28) → Some (signed b v) ≡ (if nat_lt (scaled m (p +ℤ pos 16)) (10 ^ 28) then Some (signed b (scaled m (p +ℤ pos k))) else None)
+near_few k m a v p b le is less at =
+    let low : nat_lt (scaled m (p +ℤ pos 16)) (10 ^ 28) ≡ true = grind (arith, nat_tests, is, less) in
+    let fewer : scaled m (p +ℤ pos k) ≤ scaled m (p +ℤ pos 16) = scaled_le m (p +ℤ pos k) (p +ℤ pos 16) (omega (arith, ints, le)) in
+    let same : v ≡ scaled m (p +ℤ pos k) = omega (arith, fewer, is, less, at) in
+    ap (λ x. Some (signed b x)) same ∙ ap (λ t. cond t (Some (signed b (scaled m (p +ℤ pos k)))) None) (sym low)
+
+pub far_few : (m a : ℕ) (p : ℤ) (x : Option ℤ) → a ≡ min (scaled m (p +ℤ pos 16)) (10 ^ 28) → 10 ^ 28 ≤ a → None ≡ (if nat_lt (scaled m (p +ℤ pos 16)) (10 ^ 28) then x else None)
+far_few m a p x is more =
+    let high : nat_lt (scaled m (p +ℤ pos 16)) (10 ^ 28) ≡ false = grind (arith, nat_tests, is, more) in
+    ap (λ t. cond t x None) (sym high)
+
+pub few_rounded : (n k : ℕ) → n < 10 ^ 18 → half_up n (10 ^ k) ≡ min (half_up n (10 ^ k)) (10 ^ 28)
+few_rounded n k few = let less : half_up n (10 ^ k) ≤ n = half_le n (10 ^ k) (one-le-pow k 10 (omega arith)) in omega arith
+
+pub none_rounded : (n k : ℕ) → n < 10 ^ 18 → 18 < k → 0 ≡ min (half_up n (10 ^ k)) (10 ^ 28)
+none_rounded n k few more =
+    let nineteen : 19 ≤ k = omega arith in
+    let top : 10 ^ 19 ≤ 10 ^ k = pow-le-pow_right (omega arith) nineteen in
+    let none : half_up n (10 ^ k) ≡ 0 = div-eq_of_lt {n = 2 * n + 10 ^ k} {m = 2 * 10 ^ k} (omega arith) in
+    omega arith
+
+pub ten_small : (k : ℕ) → k ≤ 18 → 10 ^ k ≤ 10 ^ 18
+ten_small k small = pow-le-pow_right (omega arith) small
