@@ -65,6 +65,7 @@ impl<T: Cell> Packed<T> {
         ensures kind { result ≡ T.kind }
         ensures valid { IsPacked (block_view T.kind self.now) }
     {
+        // They are read for the proof: what holds of every block is known then.
         let _ = &self.cells;
         T::kind()
     }
@@ -109,6 +110,7 @@ impl<T: Cell> Packed<T> {
         ensures samples { out.new ≡ run_of at (length out.old) self.now }
         ensures range { AreIn T.kind out.new }
     {
+        // They are read for the proof: what holds of every block is known then.
         let _ = &self.cells;
         let end = at + out.len();
         copy_cells(&self.cells[at..end], out);
@@ -170,6 +172,7 @@ impl<T: Cell> Packed<T> {
         ensures samples { map (sample_of head.now bytes.new) (range_with_len 0 count) ≡ run_of at count self.now }
         ensures others { (j : ℕ) → IsBetween head.now count j → get_or bytes.new j 0 ≡ get_or bytes.old j 0 }
     {
+        // They are read for the proof: what holds of every block is known then.
         let _ = &self.cells;
         let end = at + count;
         encode_cells(head, &self.cells[at..end], bytes);

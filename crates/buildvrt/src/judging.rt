@@ -28,6 +28,7 @@ use std::marker::Model;
 pub fn head_rules(head: &Head)
     ensures rules { IsDatasetHead head.now }
 {
+    // The head is read for the proof: what holds of every head is known then.
     let _size = &head.size;
 }
 

@@ -81,6 +81,7 @@ impl BuildOptions {
     pub fn rules(&self)
         ensures rules { IsOptions self.now }
     {
+        // The options are read for the proof: what holds of all of them is known then.
         let _out = &self.out;
     }
 }

@@ -227,11 +227,11 @@ fn meet<F: Folder>(
         (F.read_calls folder.old) (F.faults folder.old)) (seen (F.names folder.new) (F.write_calls folder.new)
         (F.read_calls folder.new) (F.faults folder.new)) met.old met.new result }
 {
-    let kind = kind_of(name)?;
     if let Some(id) = met.number(name) {
         check_again(met, id, room, name)?;
         return Ok(Meeting::Whole(id));
     }
+    let kind = kind_of(name)?;
     if room == 0 && kind == Kind::Vrt {
         return Err(WalkFault::TooDeep {
             name: name.try_clone()?,

@@ -199,6 +199,7 @@ fn read_views<R: Threads + Sync, F: Folder, S: Scene>(
     ensures read { HaveRead F.Folder (F.names folder.now) supply.now.cat.now job.now 0 lanes.old lanes.new turns.new
         out.new }
 {
+    // The clauses name it.
     let _ = folder;
     read_all::<R, F, S>(rt, supply, job, 0, lanes, turns, out);
 }

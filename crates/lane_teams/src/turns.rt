@@ -50,6 +50,7 @@ pub fn collect<F: Folder>(
     ensures changed { IfErr result (TellsChangeIn cat.now) }
     ensures never { WhereTold F.Folder folder.old (λ _. IfErr result IsUnchanged) }
 {
+    // The clauses name it.
     let _ = cat;
     let mut turns = turns;
     let mut answer = Ok(());

@@ -58,7 +58,8 @@ name_of_line line =
 -- with one more name there are at most 65,536
 abbrev pub with_name : List (List ℕ) → List ℕ → Result (List (List ℕ)) Fault
 with_name names name =
-    if nat_lt (length names) most_datasets then Ok (names ++ name ∷ []) else Err (Limit limits.Files (most_datasets + 1))
+    if nat_lt (length names) most_datasets then Ok (names ++ name ∷ [])
+    else Err (Limit limits.Files (most_datasets + 1))
 
 -- the names of lines behind these names, up to the first that is refused
 abbrev pub with_lines : List (List ℕ) → List (List ℕ) → Result (List (List ℕ)) Fault

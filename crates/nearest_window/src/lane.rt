@@ -313,6 +313,7 @@ impl<F: Folder> Lane<F> {
         ensures held { result ≡ true → IsHeldWith key self.new (λ _. ⊤) }
         ensures same { result ≡ false → self.new ≡ self.old }
     {
+        // The clauses name it.
         let _ = folder;
         let Some(block) = shown_in(supply, key) else {
             return false;

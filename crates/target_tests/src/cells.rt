@@ -11,7 +11,8 @@ use std::test::*;
 /// The cell between the equator and one degree north, and the meridian and one degree east.
 pub const CELL: Asked = Asked {
     text: "<VRTDataset rasterXSize=\"121\" rasterYSize=\"121\">\
-        <GeoTransform>-0.0041666666666667, 0.0083333333333333, 0, 1.0041666666666667, 0, -0.0083333333333333</GeoTransform>\
+        <GeoTransform>-0.0041666666666667, 0.0083333333333333, 0, \
+        1.0041666666666667, 0, -0.0083333333333333</GeoTransform>\
         <VRTRasterBand dataType=\"Int16\"></VRTRasterBand></VRTDataset>",
     form: Form::Cell(0),
     name: "out.dt0",
@@ -35,7 +36,8 @@ pub const CELL_ONE: Asked = Asked {
 /// The cell of level 2 between 80 and 81 degrees south, and the meridian and one degree west.
 pub const CELL_TWO: Asked = Asked {
     text: "<VRTDataset rasterXSize=\"601\" rasterYSize=\"3601\">\
-        <GeoTransform>-1.0008333333333333, 0.0016666666666667, 0, -79.9998611111111111, 0, -0.0002777777777778</GeoTransform>\
+        <GeoTransform>-1.0008333333333333, 0.0016666666666667, 0, \
+        -79.9998611111111111, 0, -0.0002777777777778</GeoTransform>\
         <VRTRasterBand dataType=\"Int16\"></VRTRasterBand></VRTDataset>",
     form: Form::Cell(2),
     name: "out.dt2",

@@ -9,7 +9,8 @@ use std::test::*;
 /// The tile north and east of where the equator and the meridian meet.
 pub const TILE: Asked = Asked {
     text: "<VRTDataset rasterXSize=\"1201\" rasterYSize=\"1201\">\
-        <GeoTransform>-0.0004166666666667, 0.0008333333333333, 0, 1.0004166666666667, 0, -0.0008333333333333</GeoTransform>\
+        <GeoTransform>-0.0004166666666667, 0.0008333333333333, 0, \
+        1.0004166666666667, 0, -0.0008333333333333</GeoTransform>\
         <VRTRasterBand dataType=\"Int16\"></VRTRasterBand></VRTDataset>",
     form: Form::Tile,
     name: "N00E000.hgt",
