@@ -4,9 +4,10 @@ use Rattle.command_words.specs.declared.command.Job.{Job}
 use Rattle.gdal_cli.specs.Published.{IsNamedJob}
 use Rattle.error_lines.specs.Steps.{Step, AreWarned}
 use Rattle.translation_runs.specs.Ends.{ended}
-use Rattle.gdal_cli.specs.Run.{is_quiet, makes_rasters, names_published, warns_of_inputs}
+use Rattle.gdal_cli.specs.Run.{is_quiet, makes_rasters, names_published, reads_input, warns_of_inputs}
 use Rattle.gdal_cli.specs.Work.{judged_by, carried_out}
 use Rattle.gdal_cli.proofs.Ended.{stops_same}
+use Rattle.gdal_cli.proofs.Pieces.{always_ok}
 use Rattle.gdal_cli.proofs.Printing.{info_prints, location_prints}
 use Rattle.gdal_cli.proofs.TranslationEnds.{translate_silent}
 use Rattle.gdal_cli.proofs.SynthEnds.{no_rasters, none_made, synth_made, synth_may, synth_owns, synth_reads_no_input, synth_refuses, synth_silent}
@@ -70,6 +71,9 @@ returns-in-Locate-clause-warned g c = silent_may (warns_of_inputs c.args.command
 
 pub returns-in-Locate-clause-unknown : goal.returns-in-Locate-clause-unknown
 returns-in-Locate-clause-unknown g c = rw c.in-Locate.is (rw c.in-Locate.is at c.put_location.ensures.unknown)
+
+pub returns-in-Translate-clause-read : goal.returns-in-Translate-clause-read
+returns-in-Translate-clause-read g c = always_ok c.put_translated.result _ (λ reads. absurd (true≢false (sym reads ∙ ap (λ (j : Job). reads_input j) c.in-Translate.is)))
 
 pub returns-in-Translate-clause-warned : goal.returns-in-Translate-clause-warned
 returns-in-Translate-clause-warned g c = silent_may (warns_of_inputs c.args.command.job) (ended c.put_translated.result) c.args.failed.now (g.E.Sink.faults c.args.err.now) (g.E.Sink.got c.args.err.now) c.requires.fresh
