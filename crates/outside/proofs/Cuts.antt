@@ -9,7 +9,7 @@ use Rattle.std.proofs.lemmas.Str.Pattern.{NoCharPasses-char, drop_at_char}
 use Rattle.outside.specs.Names.{cut_behind, cut_last, last_part, ending_of}
 use Rattle.outside.proofs.Normal.{Free}
 
-free-from : (c : ℕ) (bs : List ℕ) → ((i : ℕ) → i < length bs → get_or bs i 0 ≢ c) → Free c bs
+pub free-from : (c : ℕ) (bs : List ℕ) → ((i : ℕ) → i < length bs → get_or bs i 0 ≢ c) → Free c bs
 free-from c [] h = tt
 free-from c (b ∷ bs) h = (ne_eqb b c (h 0 (omega arith)), free-from c bs (λ i l. h (suc i) (omega arith)))
 

@@ -5,9 +5,11 @@ pub mod Normal
 pub mod Orders
 pub mod Parts
 pub mod PathParts
+pub mod PieceCuts
 pub mod Plain
 pub mod Slashes
 pub mod Puts
 pub mod Sinks
 pub mod Told
 pub mod Walks
+pub mod Trims

@@ -1,7 +1,6 @@
-use Rattle.std.proofs.Common.{◌≡◌, ℕ, zero, suc, ◌-◌, ◌+◌, ◌<◌, Bool, List, [], ◌∷◌, ◌++◌, length, take, get_or, ap, refl, sym, ◌∙◌, Bor, subst, arith, lit<}
+use Rattle.std.proofs.Common.{◌≡◌, ℕ, zero, suc, ◌-◌, ◌<◌, Bool, List, [], ◌∷◌, ◌++◌, length, take, get_or, ap, refl, sym, ◌∙◌, Bor, subst, arith, lit<}
 use Rattle.std.specs.Prelude.{slice_get, option_map, Option, ◌==◌, false}
 use Rattle.outside.specs.Paths.{is_kept, is_other, seen, with_part, parts_of, joined}
-use Rattle.std.proofs.lemmas.List.{take_more}
 use Rattle.std.proofs.lemmas.Str.{IsCharBoundary-after_ascii}
 use Rattle.std.specs.Str.{IsUtf8, IsCharBoundary}
 
@@ -31,12 +30,6 @@ pub kept-seen : (parts : List (Bor (List ℕ))) (last : Option (Bor (List ℕ)))
 kept-seen parts last e = ap is_other (e ∙ sym (get-seen parts (length parts - 1)) ∙ ap (λ n. slice_get (seen parts) (n - 1)) (sym (length-seen parts)))
 
 pub ruleset parts = (seen-append, seen-take, length-seen)
-
-pub parts_of-more : (absolute : Bool) (all : List (Bor (List ℕ))) (i : ℕ) (d : Bor (List ℕ)) → i < length all → parts_of absolute [] (seen (take (i + 1) all)) ≡ with_part absolute (parts_of absolute [] (seen (take i all))) (get_or all i d).now
-parts_of-more absolute all i d h =
-    ap (λ (ps : List (Bor (List ℕ))). parts_of absolute [] (seen ps)) (take_more all i d h)
-    ∙ ap (parts_of absolute []) (seen-append (take i all) (get_or all i d ∷ []))
-    ∙ parts_of-push absolute [] (seen (take i all)) (get_or all i d).now
 
 -- behind the slash that stands first
 pub after_slash : (text : List ℕ) (parts : List (Bor (List ℕ))) (n : ℕ) → IsUtf8 text → text ≡ joined (seen parts) → length parts ≡ n → false ≡ (n == 0) → IsCharBoundary text 1

@@ -1,6 +1,7 @@
 -- Paths that are their own normal form, by the first bytes of their parts.
 use Rattle.std.specs.Prelude.{◌≡◌, ℕ, ◌==◌, Bool, true, false, not, ◌||◌, ◌&&◌, if◌then◌else◌}
 use Rattle.std.specs.Prelude.{List, Option, Some, None, [], ◌∷◌}
+use Rattle.outside.specs.Paths.{parts_of, pieces}
 
 -- whether a byte isn't a slash
 abbrev pub is_inside : ℕ → Bool
@@ -25,3 +26,8 @@ behind_slash (c ∷ cs) = if c == 47 then cs else c ∷ cs
 abbrev pub are_plain_behind : List ℕ → Option (List ℕ) → Type 0
 are_plain_behind text None = are_plain false text ≡ true
 are_plain_behind text (Some rest) = are_plain false text ≡ are_plain true rest
+
+-- two texts add the same parts to any that stand before them
+abbrev pub add_the_same : List ℕ → List ℕ → Type 0
+add_the_same text other =
+    (absolute : Bool) (before : List (List ℕ)) → parts_of absolute before (pieces text) ≡ parts_of absolute before (pieces other)

@@ -1,9 +1,9 @@
 // Normal forms of paths.
 ghost use Rattle.std.specs.Prelude.{◌≡◌, ◌<◌, ◌≤◌, true, false, length, option_map, string_bytes, []};
-ghost use Rattle.std.specs.Prelude.{IfOk, IfSome, OnOk};
+ghost use Rattle.std.specs.Prelude.{◌-◌, if◌then◌else◌, drop, slice_index, IfOk, IfSome, OnOk};
 ghost use Rattle.std.specs.List.{prefix_len};
-ghost use Rattle.outside.specs.Paths.{seen, with_part, parts_of, pieces, joined, normal, is_kept};
-ghost use Rattle.outside.specs.Plain.{are_plain, are_plain_behind, behind_slash, is_inside};
+ghost use Rattle.outside.specs.Paths.{seen, with_part, parts_of, pieces, joined, normal, is_kept, is_absolute};
+ghost use Rattle.outside.specs.Plain.{are_plain, are_plain_behind, behind_slash, is_inside, add_the_same};
 
 use crate::Text;
 use memchr::memchr;
@@ -41,23 +41,24 @@ fn take_part<'a>(absolute: bool, parts: &mut Vec<&'a str>, part: &'a str) -> Res
     Ok(())
 }
 
-// The parts between slashes.
-fn cut(alloc: Global, text: &str) -> Result<Vec<&str>, AllocError>
-    ensures { IfOk result (λ parts. seen parts.items ≡ pieces text.now) }
-{
-    text.split('/').collect(alloc)
-}
-
 // The parts that stay.
 fn normal_parts(alloc: Global, absolute: bool, text: &str) -> Result<Vec<&str>, AllocError>
     ensures { IfOk result (λ parts. seen parts.items ≡ parts_of absolute [] (pieces text.now)) }
 {
-    let all = cut(alloc, text)?;
     let mut parts = Vec::new(alloc);
-    for part in &all {
-        take_part(absolute, &mut parts, part)?;
+    let mut rest = behind_dropped(text);
+    loop {
+        match rest.split_once('/') {
+            Some((part, more)) => {
+                take_part(absolute, &mut parts, part)?;
+                rest = behind_dropped(more);
+            }
+            None => {
+                take_part(absolute, &mut parts, rest)?;
+                return Ok(parts);
+            }
+        }
     }
-    Ok(parts)
 }
 
 // The parts with a slash before each.
@@ -136,6 +137,80 @@ fn is_plain(text: &[u8]) -> bool
     are_plain(behind_slash(text))
 }
 
+// Whether a path begins with a slash.
+fn is_absolute(text: &[u8]) -> bool
+    ensures { result ≡ is_absolute text.now }
+{
+    match text {
+        [c, ..] => *c == b'/',
+        [] => false,
+    }
+}
+
+// How many bytes an empty part or a point in front has, with the slash behind it: none where there is no such part.
+#[tactic(auto, using(crate::proofs::Trims::falls))]
+fn dropped_part_len(text: &[u8]) -> usize
+    ensures parts { add_the_same text.now (drop result text.now) }
+    ensures bound { result ≤ length text.now }
+    ensures slash { 0 < result → slice_index text.now (result - 1) ≡ 47 }
+    ensures none { result ≡ 0 → is_absolute text.now ≡ false }
+{
+    match text {
+        [c, ..] if *c == b'/' => 1,
+        [c, d, ..] if *c == b'.' && *d == b'/' => 2,
+        _ => 0,
+    }
+}
+
+// How many bytes the empty parts and the points in front have, with the slashes behind them.
+fn dropped_len(text: &[u8]) -> usize
+    ensures parts { add_the_same text.now (drop result text.now) }
+    ensures bound { result ≤ length text.now }
+    ensures slash { 0 < result → slice_index text.now (result - 1) ≡ 47 }
+    ensures none { is_absolute (drop result text.now) ≡ false }
+{
+    let mut count = 0;
+    loop {
+        let more = dropped_part_len(&text[count..]);
+        if more == 0 {
+            return count;
+        }
+        count += more;
+    }
+}
+
+// What stands behind the parts in front that fall away.
+fn behind_dropped(text: &str) -> &str
+    ensures parts { add_the_same text.now result.now }
+    ensures bound { length result.now ≤ length text.now }
+{
+    let (_, rest) = text.split_at(dropped_len(text.as_bytes()));
+    rest
+}
+
+// Where a path is cut so that the slash in front of an absolute one stays.
+fn kept_at(absolute: bool, dropped: usize) -> usize
+    ensures { result ≡ if absolute then dropped - 1 else dropped }
+{
+    if absolute {
+        dropped.saturating_sub(1)
+    } else {
+        dropped
+    }
+}
+
+// A path with the same normal form, without the parts in front that fall away.
+fn trimmed(text: &str) -> &str
+    ensures { normal result.now ≡ normal text.now }
+{
+    if begins_plainly(behind_slash(text.as_bytes())) {
+        return text;
+    }
+    let at = kept_at(is_absolute(text.as_bytes()), dropped_len(text.as_bytes()));
+    let (_, rest) = text.split_at(at);
+    rest
+}
+
 // The normal form of a path, from its parts.
 #[tactic(auto, unfolding(crate::specs::Paths::normal))]
 fn rebuilt(alloc: Global, text: &str) -> Result<Text, AllocError>
@@ -158,6 +233,7 @@ fn rebuilt(alloc: Global, text: &str) -> Result<Text, AllocError>
 pub fn normalise(alloc: Global, text: &str) -> Result<Text, AllocError>
     ensures { IfOk result (λ path. path ≡ normal text.now) }
 {
+    let text = trimmed(text);
     if is_plain(text.as_bytes()) {
         return Text::new(alloc, text);
     }
