@@ -1,5 +1,5 @@
 -- Short numbers of a lookup table: what is read of their digits alone is what the whole pieces say.
-use Rattle.std.proofs.Common.{◌≡◌, ℕ, ℤ, pos, ◌+◌, ◌*◌, ◌^◌, ◌<◌, ◌≤◌, ◌-◌, Bool, true, false, cond, not, ◌==◌, ◌&&◌, List, [], ◌∷◌, ◌++◌, length, take, drop, get_or, Option, Some, None, refl, sym, ap, ◌∙◌, arith, if◌then◌else◌, subst, nat_lt, unsigned_abs, append_assoc, append-nil}
+use Rattle.std.proofs.Common.{◌≡◌, ℕ, ℤ, pos, suc, ◌+◌, ◌*◌, ◌^◌, ◌<◌, ◌≤◌, ◌-◌, Bool, true, false, cond, not, ◌==◌, ◌&&◌, List, [], ◌∷◌, ◌++◌, length, take, drop, get_or, Option, Some, None, refl, sym, ap, ◌∙◌, arith, if◌then◌else◌, subst, nat_lt, unsigned_abs, append_assoc, append-nil}
 use Rattle.std.specs.List.{list_all, prefix_len, suffix_len}
 use Rattle.std.specs.Char.{is_ascii_digit}
 use Rattle.std.proofs.Math.Seq.{take-append_seam, drop-append_seam, take-length, drop-length}
@@ -18,7 +18,7 @@ use Rattle.geotransform.specs.Decimal.{number, scaled, signed, sign_at, digits_a
 use Rattle.geotransform.proofs.Numbers.{number_short, number-append}
 use Rattle.vrt_markup.specs.Items.{option_case}
 use Rattle.vrt_profile.specs.Fields.{length_before, cut_by, cut_at, first_piece, trim, trim_end, near_by, near_number, pair_of}
-use Rattle.vrt_profile.specs.Fronts.{is_inner, DigitsFront, FractionFront, DecimalFront, MicrosFront, PairFront}
+use Rattle.vrt_profile.specs.Fronts.{is_inner, DigitsFront, FractionFront, DecimalFront, MicrosFront, pair_with, PairFront}
 use Rattle.vrt_profile.specs.declared.rectangle.LutPair.{LutPair}
 use Rattle.vrt_profile.specs.Values.{million}
 use Rattle.vrt_profile.proofs.Rules.{signed_size}
@@ -310,59 +310,81 @@ cut_front b front rest same h =
     ∙ ap (λ t. cut_by t (drop (length front) (front ++ b ∷ rest))) (take-append_seam front (b ∷ rest))
     ∙ ap (λ d. cut_by front d) (drop-append_seam front (b ∷ rest))
 
-pair_text : (f g : List ℕ) (v w : ℤ) → list_all (λ c. not (c == 58)) f ≡ true → near_number f ≡ Some v → near_number g ≡ Some w → pair_of (f ++ 58 ∷ g) ≡ Some (record { input = v; output = w })
+mapped : (v : ℤ) (o : Option ℤ) → (o >>= λ output. Some (record { input = v; output = output })) ≡ pair_with v o
+mapped v None = refl
+mapped v (Some w) = refl
+
+key_text : (f g : List ℕ) (v : ℤ) → list_all (λ c. not (c == 58)) f ≡ true → near_number f ≡ Some v → pair_of (f ++ 58 ∷ g) ≡ pair_with v (near_number g)
 unfolding pair_of
-pair_text f g v w plain first second =
+key_text f g v plain first =
     ap (λ o. o >>= λ x. near_number x.0 >>= λ input. near_number x.1 >>= λ output. Some (record { input = input; output = output })) (cut_front 58 f g refl plain)
     ∙ ap (λ o. o >>= λ input. near_number g >>= λ output. Some (record { input = input; output = output })) first
-    ∙ ap (λ o. o >>= λ output. Some (record { input = v; output = output })) second
+    ∙ mapped v (near_number g)
 
-pub front_pair : (text rest second last : List ℕ) (v w : ℤ) → MicrosFront text v rest → rest ≡ 58 ∷ second → MicrosFront second w last → PairFront text (record { input = v; output = w }) last
-front_pair text rest second last v w a colon b = record {
+pub front_pair : (text second last : List ℕ) (v w : ℤ) → MicrosFront text v (58 ∷ second) → MicrosFront second w last → PairFront text (record { input = v; output = w }) last
+front_pair text second last v w a b = record {
   front = a.front ++ 58 ∷ b.front;
-  whole = a.whole ∙ ap (λ t. a.front ++ t) colon ∙ ap (λ t. a.front ++ 58 ∷ t) b.whole ∙ sym (append_assoc a.front (58 ∷ b.front) last);
+  whole = a.whole ∙ ap (λ t. a.front ++ 58 ∷ t) b.whole ∙ sym (append_assoc a.front (58 ∷ b.front) last);
   commas = all_joined (λ c. not (c == 44)) a.front (58 ∷ b.front) a.commas b.commas;
-  value = pair_text a.front b.front v w a.colons a.value b.value;
+  value = key_text a.front b.front v a.colons a.value ∙ ap (pair_with v) b.value;
 }
 
--- the first piece of a text that begins with a pair and a comma
-piece_comma : (text rest behind : List ℕ) (p : LutPair) (f : PairFront text p rest) → rest ≡ 44 ∷ behind → first_piece text ≡ (f.front, Some behind)
-piece_comma text rest behind p f comma =
-    ap first_piece (f.whole ∙ ap (λ t. f.front ++ t) comma)
-    ∙ ap (λ o. option_case o (f.front ++ 44 ∷ behind, None) (λ x. (x.0, Some x.1))) (cut_front 44 f.front behind refl f.commas)
+-- what is no comma stays in front of the first piece
+abbrev piece_by : List ℕ → Option (List ℕ × List ℕ) → List ℕ × Option (List ℕ)
+piece_by text cut = option_case cut (text, None) (λ x. (x.0, Some x.1))
 
-pub comma_pair : (text rest behind : List ℕ) (p : LutPair) → PairFront text p rest → rest ≡ 44 ∷ behind → pair_of (first_piece text).0 ≡ Some p
-comma_pair text rest behind p f comma = ap (λ (x : List ℕ × Option (List ℕ)). pair_of x.0) (piece_comma text rest behind p f comma) ∙ f.value
+one_front : (c : ℕ) (front text rest : List ℕ) → piece_by (c ∷ text) (cut_by (c ∷ front) rest) ≡ (c ∷ (piece_by text (cut_by front rest)).0, (piece_by text (cut_by front rest)).1)
+one_front c front text [] = refl
+one_front c front text (x ∷ xs) = refl
 
-pub comma_behind : (text rest behind : List ℕ) (p : LutPair) → PairFront text p rest → rest ≡ 44 ∷ behind → Some behind ≡ (first_piece text).1
-comma_behind text rest behind p f comma = sym (ap (λ (x : List ℕ × Option (List ℕ)). x.1) (piece_comma text rest behind p f comma))
+one_more : (n : ℕ) → 1 + n ≡ suc n
+one_more n = omega arith
 
--- the first piece of a text that is a pair
-none_before : (b : ℕ) (front : List ℕ) → list_all (λ c. not (c == b)) front ≡ true → length_before b front ≡ length front
-none_before b [] h = refl
-none_before b (c ∷ cs) h =
-    ap (λ x. cond x (1 + length_before b cs) 0) (and_left (not (c == b)) (list_all (λ c. not (c == b)) cs) h)
-    ∙ ap (λ n. 1 + n) (none_before b cs (and_right (not (c == b)) (list_all (λ c. not (c == b)) cs) h))
-    ∙ omega arith
+piece_one : (c : ℕ) (text : List ℕ) → not (c == 44) ≡ true → first_piece (c ∷ text) ≡ (c ∷ (first_piece text).0, (first_piece text).1)
+piece_one c text other =
+    let n : ℕ = length_before 44 text in
+    ap (λ b. piece_by (c ∷ text) (cut_by (take (cond b (1 + n) 0) (c ∷ text)) (drop (cond b (1 + n) 0) (c ∷ text)))) other
+    ∙ ap (λ k. piece_by (c ∷ text) (cut_by (take k (c ∷ text)) (drop k (c ∷ text)))) (one_more n)
+    ∙ one_front c (take n text) text (drop n text)
 
-whole_dropped : (front : List ℕ) → drop (length front) front ≡ []
-whole_dropped front = ap (drop (length front)) (sym (append-nil front)) ∙ drop-append_seam front []
+piece_front : (front rest : List ℕ) → list_all (λ c. not (c == 44)) front ≡ true → first_piece (front ++ rest) ≡ (front ++ (first_piece rest).0, (first_piece rest).1)
+piece_front [] rest h = refl
+piece_front (c ∷ cs) rest h =
+    piece_one c (cs ++ rest) (and_left (not (c == 44)) (list_all (λ c. not (c == 44)) cs) h)
+    ∙ ap (λ (x : List ℕ × Option (List ℕ)). (c ∷ x.0, x.1)) (piece_front cs rest (and_right (not (c == 44)) (list_all (λ c. not (c == 44)) cs) h))
 
-no_cut : (b : ℕ) (front : List ℕ) → list_all (λ c. not (c == b)) front ≡ true → cut_at b front ≡ None
-no_cut b front h =
-    ap (λ n. cut_by (take n front) (drop n front)) (none_before b front h)
-    ∙ ap (cut_by (take (length front) front)) (whole_dropped front)
+-- the first piece of a text whose front ends at a comma, or with the text
+piece_whole : (text front rest : List ℕ) (o : Option (List ℕ)) → text ≡ front ++ rest → list_all (λ c. not (c == 44)) front ≡ true → first_piece rest ≡ ([], o) → first_piece text ≡ (front, o)
+piece_whole text front rest o whole commas end =
+    ap first_piece whole
+    ∙ piece_front front rest commas
+    ∙ ap (λ (x : List ℕ × Option (List ℕ)). (front ++ x.0, x.1)) end
+    ∙ ap (λ (t : List ℕ). (t, o)) (append-nil front)
 
-piece_last : (text rest : List ℕ) (p : LutPair) (f : PairFront text p rest) → rest ≡ [] → first_piece text ≡ (f.front, None)
-piece_last text rest p f end =
-    ap first_piece (f.whole ∙ ap (λ t. f.front ++ t) end ∙ append-nil f.front)
-    ∙ ap (λ o. option_case o (f.front, None) (λ x. (x.0, Some x.1))) (no_cut 44 f.front f.commas)
+pub piece_value : (text rest : List ℕ) (v : ℤ) (o : Option (List ℕ)) → MicrosFront text v rest → first_piece rest ≡ ([], o) → near_number (first_piece text).0 ≡ Some v
+piece_value text rest v o f end = ap (λ (x : List ℕ × Option (List ℕ)). near_number x.0) (piece_whole text f.front rest o f.whole f.commas end) ∙ f.value
 
-pub last_pair : (text rest : List ℕ) (p : LutPair) → PairFront text p rest → rest ≡ [] → pair_of (first_piece text).0 ≡ Some p
-last_pair text rest p f end = ap (λ (x : List ℕ × Option (List ℕ)). pair_of x.0) (piece_last text rest p f end) ∙ f.value
+pub piece_behind : (text rest : List ℕ) (v : ℤ) (o : Option (List ℕ)) → MicrosFront text v rest → first_piece rest ≡ ([], o) → o ≡ (first_piece text).1
+piece_behind text rest v o f end = sym (ap (λ (x : List ℕ × Option (List ℕ)). x.1) (piece_whole text f.front rest o f.whole f.commas end))
 
-pub last_behind : (text rest : List ℕ) (p : LutPair) → PairFront text p rest → rest ≡ [] → None ≡ (first_piece text).1
-last_behind text rest p f end = sym (ap (λ (x : List ℕ × Option (List ℕ)). x.1) (piece_last text rest p f end))
+pub piece_pair : (text rest : List ℕ) (p : LutPair) (o : Option (List ℕ)) → PairFront text p rest → first_piece rest ≡ ([], o) → pair_of (first_piece text).0 ≡ Some p
+piece_pair text rest p o f end = ap (λ (x : List ℕ × Option (List ℕ)). pair_of x.0) (piece_whole text f.front rest o f.whole f.commas end) ∙ f.value
+
+pub pair_behind : (text rest : List ℕ) (p : LutPair) (o : Option (List ℕ)) → PairFront text p rest → first_piece rest ≡ ([], o) → o ≡ (first_piece text).1
+pair_behind text rest p o f end = sym (ap (λ (x : List ℕ × Option (List ℕ)). x.1) (piece_whole text f.front rest o f.whole f.commas end))
+
+-- the first piece of a text that begins with a number and a colon
+piece_key : (text second : List ℕ) (v : ℤ) (f : MicrosFront text v (58 ∷ second)) → first_piece text ≡ (f.front ++ 58 ∷ (first_piece second).0, (first_piece second).1)
+piece_key text second v f =
+    ap first_piece f.whole
+    ∙ piece_front f.front (58 ∷ second) f.commas
+    ∙ ap (λ (x : List ℕ × Option (List ℕ)). (f.front ++ x.0, x.1)) (piece_one 58 second refl)
+
+pub key_pair : (text second : List ℕ) (v : ℤ) → MicrosFront text v (58 ∷ second) → pair_of (first_piece text).0 ≡ pair_with v (near_number (first_piece second).0)
+key_pair text second v f = ap (λ (x : List ℕ × Option (List ℕ)). pair_of x.0) (piece_key text second v f) ∙ key_text f.front (first_piece second).0 v f.colons f.value
+
+pub key_behind : (text second : List ℕ) (v : ℤ) → MicrosFront text v (58 ∷ second) → (first_piece second).1 ≡ (first_piece text).1
+key_behind text second v f = sym (ap (λ (x : List ℕ × Option (List ℕ)). x.1) (piece_key text second v f))
 
 -- a text that is one number
 pub whole_micros : (text rest : List ℕ) (v : ℤ) → MicrosFront text v rest → rest ≡ [] → Some v ≡ places_of 6 text

@@ -1,12 +1,13 @@
 // Lookup tables.
 ghost use Rattle.std.specs.Prelude.{◌≡◌, ℕ, ◌<◌, ◌++◌, [], ◌∷◌, Ok, List, length, IfSome};
 ghost use Rattle.std.specs.Option.{option_map};
-ghost use Rattle.vrt_profile.specs.Fields.{pieces, first_piece, pair_of};
+ghost use Rattle.vrt_profile.specs.Fields.{pieces, first_piece, near_number, pair_of};
 ghost use Rattle.vrt_profile.specs.Numbers.{is_above, rising_pair, next_pair, lut_of};
+ghost use Rattle.vrt_profile.specs.Fronts.{pair_with};
 ghost use Rattle.vrt_markup.specs.Kept.{Gives};
 
-use crate::fields::{cut_at, pair_of};
-use crate::fronts::short_pair;
+use crate::fields::{cut_at, near_number, pair_of};
+use crate::fronts::{key_front, short_pair, short_value};
 use crate::rectangle::{Lut, LutPair};
 use lists_and_answers::Items;
 use std::alloc::Global;
@@ -74,14 +75,42 @@ fn first_piece(text: &[u8]) -> (&[u8], Option<&[u8]>)
     }
 }
 
+// The number of the first piece, and what stands behind its comma.
+fn value_at(text: &[u8]) -> (Option<i64>, Option<&[u8]>)
+    ensures value { result.0 ≡ near_number (first_piece text.now).0 }
+    ensures behind { option_map (λ r. r.now) result.1 ≡ (first_piece text.now).1 }
+    ensures shorter { IfSome result.1 (λ r. length r.now < length text.now) }
+{
+    match short_value(text) {
+        Some((value, behind)) => (Some(value), behind),
+        None => {
+            let (piece, more) = first_piece(text);
+            (near_number(piece), more)
+        }
+    }
+}
+
+fn pair_with(input: i64, output: Option<i64>) -> Option<LutPair>
+    ensures pair { result ≡ pair_with input output }
+{
+    match output {
+        Some(output) => Some(LutPair { input, output }),
+        None => None,
+    }
+}
+
 // The pair of the first piece, and what stands behind its comma.
+#[tactic(auto, using(crate::proofs::ShortNumbers::key_pair, crate::proofs::ShortNumbers::key_behind))]
 fn pair_at(text: &[u8]) -> (Option<LutPair>, Option<&[u8]>)
     ensures pair { result.0 ≡ pair_of (first_piece text.now).0 }
     ensures behind { option_map (λ r. r.now) result.1 ≡ (first_piece text.now).1 }
     ensures shorter { IfSome result.1 (λ r. length r.now < length text.now) }
 {
-    match short_pair(text) {
-        Some((pair, behind)) => (Some(pair), behind),
+    match key_front(text) {
+        Some((input, second)) => {
+            let (output, more) = value_at(second);
+            (pair_with(input, output), more)
+        }
         None => {
             let (piece, more) = first_piece(text);
             (pair_of(piece), more)
