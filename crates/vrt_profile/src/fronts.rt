@@ -77,6 +77,7 @@ fn product(a: u64, b: u64) -> u64
 }
 
 // The fraction of the one to six digits in front, in millionths, and what stands behind them.
+#[inline(never)]
 #[tactic(auto, using(crate::proofs::DigitRuns::run_fraction, crate::proofs::DigitRuns::run_small))]
 fn fraction_front(text: &[u8]) -> Option<(u64, &[u8])>
     ensures digits { IfSome result (λ x. FractionFront text.now x.0 x.1.now) }
@@ -117,6 +118,7 @@ fn with_sign(negative: bool, size: u64) -> i64
 }
 
 // The number in front, in millionths, and what stands behind it. `None` where it isn't short, or none.
+#[inline(always)]
 #[tactic(auto, using(crate::proofs::ShortNumbers::micros_at))]
 fn micros_front(text: &[u8]) -> Option<(i64, &[u8])>
     ensures front { IfSome result (λ x. MicrosFront text.now x.0 x.1.now) }
@@ -164,6 +166,7 @@ fn behind_byte(text: &[u8], byte: u8) -> Option<&[u8]>
 }
 
 /// The short number in front, where a colon stands behind it, and what stands behind that colon.
+#[inline(always)]
 pub fn key_front(text: &[u8]) -> Option<(i64, &[u8])>
     ensures key { IfSome result (λ x. MicrosFront text.now x.0 (58 ∷ x.1.now)) }
     ensures shorter { IfSome result (λ x. length x.1.now < length text.now) }
@@ -197,6 +200,7 @@ fn behind_comma(text: &[u8]) -> Option<Option<&[u8]>>
 
 /// The number in front, where it has up to nine digits, and up to six behind a point, and a comma stands behind it, or
 /// nothing; and what stands behind that comma.
+#[inline(always)]
 pub fn short_value(text: &[u8]) -> Option<(i64, Option<&[u8]>)>
     ensures value { IfSome result (λ x. near_number (first_piece text.now).0 ≡ Some x.0) }
     ensures behind { IfSome result (λ x. option_map (λ r. r.now) x.1 ≡ (first_piece text.now).1) }

@@ -76,7 +76,19 @@ fn first_piece(text: &[u8]) -> (&[u8], Option<&[u8]>)
     }
 }
 
+// The number of the first piece, which may have any form, and what stands behind its comma.
+#[inline(never)]
+fn any_value_at(text: &[u8]) -> (Option<i64>, Option<&[u8]>)
+    ensures value { result.0 ≡ near_number (first_piece text.now).0 }
+    ensures behind { option_map (λ r. r.now) result.1 ≡ (first_piece text.now).1 }
+    ensures shorter { IfSome result.1 (λ r. length r.now < length text.now) }
+{
+    let (piece, more) = first_piece(text);
+    (near_number(piece), more)
+}
+
 // The number of the first piece, and what stands behind its comma.
+#[inline(always)]
 fn value_at(text: &[u8]) -> (Option<i64>, Option<&[u8]>)
     ensures value { result.0 ≡ near_number (first_piece text.now).0 }
     ensures behind { option_map (λ r. r.now) result.1 ≡ (first_piece text.now).1 }
@@ -84,10 +96,7 @@ fn value_at(text: &[u8]) -> (Option<i64>, Option<&[u8]>)
 {
     match short_value(text) {
         Some((value, behind)) => (Some(value), behind),
-        None => {
-            let (piece, more) = first_piece(text);
-            (near_number(piece), more)
-        }
+        None => any_value_at(text),
     }
 }
 
@@ -138,6 +147,7 @@ fn keyed_pair<'a>(key: &[u8], text: &'a [u8]) -> (Option<LutPair>, Option<&'a [u
 }
 
 // The pair of the first piece, whose key may have any form, and what stands behind its comma.
+#[inline(never)]
 fn any_pair_at(text: &[u8]) -> (Option<LutPair>, Option<&[u8]>)
     ensures pair { result.0 ≡ pair_of (first_piece text.now).0 }
     ensures behind { option_map (λ r. r.now) result.1 ≡ (first_piece text.now).1 }
