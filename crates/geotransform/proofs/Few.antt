@@ -1,19 +1,23 @@
 -- Decimal texts of few digits, whose number is known at once.
-use Rattle.std.proofs.Common.{◌≡◌, ◌≢◌, ℕ, ℤ, pos, suc, zero, ◌+◌, ◌-◌, ◌*◌, ◌^◌, ◌<◌, ◌≤◌, List, [], ◌∷◌, ◌++◌, length, get_or, take, drop, Bool, true, false, cond, Option, Some, None, min, arith, refl, ap, ◌∙◌, sym, subst, ◌+ℤ◌, length-take}
-use Rattle.std.specs.Prelude.{◌==◌, ◌-ℤ◌, nat_lt, if◌then◌else◌}
+use Rattle.std.proofs.Common.{◌≡◌, ◌≢◌, ℕ, ℤ, pos, negsuc, ◌≤ℤ◌, ◌<ℤ◌, ⊎_elim, suc, zero, ◌+◌, ◌-◌, ◌*◌, ◌^◌, ◌<◌, ◌≤◌, List, [], ◌∷◌, ◌++◌, length, get_or, take, drop, Bool, true, false, cond, Option, Some, None, min, arith, refl, ap, ◌∙◌, sym, subst, ◌+ℤ◌, length-take}
+use Rattle.std.specs.Prelude.{◌==◌, ◌&&◌, ◌-ℤ◌, nat_lt, nat_le, if◌then◌else◌}
 use Rattle.std.specs.List.{fold, list_all, prefix_len}
 use Rattle.std.specs.Option.{option_map}
 use Rattle.std.specs.Char.{is_ascii_digit}
-use Rattle.std.proofs.Math.Nat.{pow-le-pow_right, one-le-pow, div-eq_of_lt}
+use Rattle.std.proofs.Math.Nat.{pow-le-pow_right, pow-succ', one-le-pow, div-eq_of_lt, mul-le-mul_left, mul-le-mul_right, mul_assoc}
+use Rattle.std.proofs.lemmas.Bool.{cases_lt}
+use Rattle.std.proofs.lemmas.List.{take_all}
+use Rattle.std.proofs.lemmas.List.Folds.{list_all_at}
 use Rattle.std.proofs.lemmas.Bool.Decides.{nat_tests}
 use Rattle.std.proofs.lemmas.Int.{ints}
-use Rattle.std.proofs.lemmas.List.Sums.{fold-append}
+use Rattle.std.proofs.lemmas.List.Sums.{fold-append, prefix_len_stops}
 use Rattle.lists_and_answers.specs.Options.{◌>>=◌}
-use Rattle.geotransform.specs.Decimal.{number, half_up, scaled, signed, Decimal, sign_at, digits_at, fraction_at, exponent_of, with_digits, parts_of, magnitude, magnitude_at, near_at, ticks_of, places_of}
+use Rattle.geotransform.specs.Decimal.{number, half_up, scaled, signed, short_number, Decimal, sign_at, digits_at, fraction_at, exponent_of, with_digits, parts_of, magnitude, magnitude_at, near_at, ticks_of, places_of}
 use Rattle.geotransform.specs.Parts.{brief, limited, counted}
-use Rattle.geotransform.proofs.Numbers.{half_le}
+use Rattle.geotransform.proofs.Numbers.{half_le, number_short, all_taken}
 use Rattle.geotransform.proofs.RoundTrip.{digits-cons}
 use Rattle.geotransform.proofs.Fewer.{scaled_le}
+use Rattle.geotransform.proofs.Tens.{within, reached, past}
 
 pub prefix_is : (xs : List ℕ) (i : ℕ) → list_all is_ascii_digit (take i xs) ≡ true → i < length xs → is_ascii_digit (get_or xs i 0) ≡ false → i ≡ prefix_len is_ascii_digit xs
 prefix_is [] i all less stop = absurd (omega arith)
@@ -33,6 +37,60 @@ prefix_whole (x ∷ xs) all =
 
 abbrev step : ℕ → ℕ → ℕ
 step n c = n * 10 + (c - 48)
+
+-- a number that leaves room for so many digits more has room for one, and then for the others
+pub room_one : (n m i : ℕ) → i < m → (n + 1) * 10 ^ (m - i) ≤ 10 ^ 19 → n * 10 + 10 ≤ 10 ^ 19
+room_one n m i less room =
+    let one : 1 ≤ m - i = omega arith in
+    let ten : 10 ^ 1 ≤ 10 ^ (m - i) = pow-le-pow_right (omega arith) one in
+    let wide : (n + 1) * 10 ^ 1 ≤ (n + 1) * 10 ^ (m - i) = mul-le-mul_left (n + 1) ten in
+    omega (arith, wide, room)
+
+pub room_left : (n d m i : ℕ) → d ≤ 9 → i < m → (n + 1) * 10 ^ (m - i) ≤ 10 ^ 19 → (n * 10 + d + 1) * 10 ^ (m - (i + 1)) ≤ 10 ^ 19
+room_left n d m i digit less room =
+    let k : ℕ = m - (i + 1) in
+    let next : m - i ≡ suc k = omega arith in
+    let all : 10 ^ (m - i) ≡ 10 * 10 ^ k = ap (λ j. 10 ^ j) next ∙ pow-succ' 10 k in
+    let more : (n * 10 + d + 1) * 10 ^ k ≤ (n + 1) * 10 * 10 ^ k = mul-le-mul_right (10 ^ k) (omega arith) in
+    let same : (n + 1) * 10 * 10 ^ k ≡ (n + 1) * 10 ^ (m - i) = mul_assoc (n + 1) 10 (10 ^ k) ∙ ap (λ x. (n + 1) * x) (sym all) in
+    omega (arith, more, same, room)
+
+-- and for fewer
+pub room_behind : (n k m : ℕ) → k ≤ m → (n + 1) * 10 ^ m ≤ 10 ^ 19 → (n + 1) * 10 ^ k ≤ 10 ^ 19
+room_behind n k m le room =
+    let less : (n + 1) * 10 ^ k ≤ (n + 1) * 10 ^ m = mul-le-mul_left (n + 1) (pow-le-pow_right (omega arith) le) in
+    omega (arith, less, room)
+
+pub room_first : (m : ℕ) → m ≤ 19 → (0 + 1) * 10 ^ m ≤ 10 ^ 19
+room_first m le = let less : 10 ^ m ≤ 10 ^ 19 = pow-le-pow_right (omega arith) le in omega (arith, less)
+
+-- all bytes are digits where as many stand in front as there are
+all_digits : (digits : List ℕ) → length digits ≤ prefix_len is_ascii_digit digits → list_all is_ascii_digit digits ≡ true
+all_digits digits all = ap (list_all is_ascii_digit) (sym (take_all (prefix_len is_ascii_digit digits) digits all)) ∙ all_taken is_ascii_digit digits
+
+number_whole : (digits : List ℕ) (k n : ℕ) → length digits ≤ k → n ≡ fold step 0 (take k digits) → n ≡ number digits
+number_whole digits k n all is = is ∙ ap (fold step 0) (take_all k digits all)
+
+pub short_is : (digits : List ℕ) (k n : ℕ) → k ≡ prefix_len is_ascii_digit digits → n ≡ fold step 0 (take k digits) → length digits ≤ k → length digits ≢ 0 → length digits ≤ 3 → Some (pos n) ≡ short_number digits
+short_is digits k n count is all some few =
+    let lower : nat_lt 0 (length digits) ≡ true = grind (arith, nat_tests, some) in
+    let upper : nat_le (length digits) 3 ≡ true = grind (arith, nat_tests, few) in
+    let passed : list_all is_ascii_digit digits ≡ true = all_digits digits (omega (arith, all, count)) in
+    ap (λ x. Some (pos x)) (number_whole digits k n all is)
+    ∙ sym (ap (λ b. cond (b && (nat_le (length digits) 3 && list_all is_ascii_digit digits)) (Some (pos (number digits))) None) lower
+    ∙ ap (λ b. cond (b && list_all is_ascii_digit digits) (Some (pos (number digits))) None) upper
+    ∙ ap (λ b. cond b (Some (pos (number digits))) None) passed)
+
+pub short_below : (digits : List ℕ) (k n : ℕ) → k ≡ prefix_len is_ascii_digit digits → n ≡ fold step 0 (take k digits) → length digits ≤ k → length digits ≤ 3 → n < 1000
+short_below digits k n count is all few =
+    let below : number digits < 10 ^ 3 = number_short digits 3 (all_digits digits (omega (arith, all, count))) few in
+    omega (arith, number_whole digits k n all is, below)
+
+pub no_short : (digits : List ℕ) → prefix_len is_ascii_digit digits < length digits → None ≡ short_number digits
+no_short digits less =
+    let stop : list_all is_ascii_digit digits ≡ false = list_all_at is_ascii_digit digits (prefix_len is_ascii_digit digits) 0 less (prefix_len_stops is_ascii_digit digits 0 less) in
+    let none : (nat_lt 0 (length digits) && (nat_le (length digits) 3 && list_all is_ascii_digit digits)) ≡ false = grind (arith, stop) in
+    ap (λ b. cond b (Some (pos (number digits))) None) (sym none)
 
 pub fraction_is : (digits : List ℕ) (front k : ℕ) → k ≡ prefix_len is_ascii_digit digits → k ≢ 0 → k ≤ length digits → option_map (counted front) (fraction_at (46 ∷ digits)) ≡ Some (k, (fold step front (take k digits), drop k digits))
 fraction_is digits front k is some within =
@@ -140,17 +198,37 @@ pub places_few : (k : ℕ) (text : List ℕ) (b : Bool) (m : ℕ) (p : ℤ) → 
 unfolding places_of
 places_few k text b m p h = places_from k (parts_of text) b m p h
 
-pub near_few : (k m a v : ℕ) (p : ℤ) (b : Bool) → k ≤ 16 → a ≡ min (scaled m (p +ℤ pos 16)) (10 ^ 28) → a < 10 ^ 28 → v ≡ min (scaled m (p +ℤ pos k)) (10 ^ 28) → Some (signed b v) ≡ (if nat_lt (scaled m (p +ℤ pos 16)) (10 ^ 28) then Some (signed b (scaled m (p +ℤ pos k))) else None)
-near_few k m a v p b le is less at =
-    let low : nat_lt (scaled m (p +ℤ pos 16)) (10 ^ 28) ≡ true = grind (arith, nat_tests, is, less) in
+pub near_few : (k m v : ℕ) (p : ℤ) (b : Bool) → k ≤ 16 → nat_lt (scaled m (p +ℤ pos 16)) (10 ^ 28) ≡ true → v ≡ min (scaled m (p +ℤ pos k)) (10 ^ 28) → Some (signed b v) ≡ (if nat_lt (scaled m (p +ℤ pos 16)) (10 ^ 28) then Some (signed b (scaled m (p +ℤ pos k))) else None)
+near_few k m v p b le low at =
+    let less : scaled m (p +ℤ pos 16) < 10 ^ 28 = grind (arith, nat_tests, low) in
     let fewer : scaled m (p +ℤ pos k) ≤ scaled m (p +ℤ pos 16) = scaled_le m (p +ℤ pos k) (p +ℤ pos 16) (omega (arith, ints, le)) in
-    let same : v ≡ scaled m (p +ℤ pos k) = omega (arith, fewer, is, less, at) in
+    let same : v ≡ scaled m (p +ℤ pos k) = omega (arith, fewer, less, at) in
     ap (λ x. Some (signed b x)) same ∙ ap (λ t. cond t (Some (signed b (scaled m (p +ℤ pos k)))) None) (sym low)
 
-pub far_few : (m a : ℕ) (p : ℤ) (x : Option ℤ) → a ≡ min (scaled m (p +ℤ pos 16)) (10 ^ 28) → 10 ^ 28 ≤ a → None ≡ (if nat_lt (scaled m (p +ℤ pos 16)) (10 ^ 28) then x else None)
-far_few m a p x is more =
-    let high : nat_lt (scaled m (p +ℤ pos 16)) (10 ^ 28) ≡ false = grind (arith, nat_tests, is, more) in
-    ap (λ t. cond t x None) (sym high)
+-- a number of at most 18 digits times a power of ten below 1
+pub low_power : (m : ℕ) (q : ℤ) → m < 10 ^ 18 → q <ℤ pos 0 → true ≡ nat_lt (scaled m q) (10 ^ 28)
+low_power m q few less =
+    let le : scaled m q ≤ m * 10 ^ 0 = scaled_le m q (pos 0) (omega (arith, ints, less)) in
+    grind (arith, nat_tests, le, few)
+
+-- times one above ten to the 28th
+pub high_power : (m : ℕ) (q : ℤ) → pos 28 <ℤ q → (m == 0) ≡ nat_lt (scaled m q) (10 ^ 28)
+high_power m (pos k) more =
+    let above : 28 < k = omega (arith, ints, more) in
+    ⊎_elim (λ (none : m < 1). let zero : m ≡ 0 = omega arith in rw zero (grind (arith, nat_tests)))
+    (λ (some : 1 ≤ m). let past_it : 10 ^ 28 ≤ m * 10 ^ k = past m k 28 above (λ zero. omega (arith, zero, some)) in grind (arith, nat_tests, past_it, some))
+    (cases_lt m 1)
+high_power m (negsuc k) more = absurd (omega (arith, ints, more))
+
+-- and times one between
+pub mid_power : (m j : ℕ) (q : ℤ) → pos 0 ≤ℤ q → q +ℤ pos j ≡ pos 28 → nat_lt m (10 ^ j) ≡ nat_lt (scaled m q) (10 ^ 28)
+mid_power m j (pos k) low is =
+    let rest : j ≡ 28 - k = omega (arith, ints, is) in
+    let le : k ≤ 28 = omega (arith, ints, is) in
+    rw rest (⊎_elim (λ (less : m < 10 ^ (28 - k)). let below = within m k 28 le less in grind (arith, nat_tests, less, below))
+    (λ (more : 10 ^ (28 - k) ≤ m). let above = reached m k 28 le more in grind (arith, nat_tests, more, above))
+    (cases_lt m (10 ^ (28 - k))))
+mid_power m j (negsuc k) low is = absurd (omega (arith, ints, low))
 
 pub few_rounded : (n k : ℕ) → n < 10 ^ 18 → half_up n (10 ^ k) ≡ min (half_up n (10 ^ k)) (10 ^ 28)
 few_rounded n k few = let less : half_up n (10 ^ k) ≤ n = half_le n (10 ^ k) (one-le-pow k 10 (omega arith)) in omega arith

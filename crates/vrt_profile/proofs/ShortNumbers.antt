@@ -1,11 +1,11 @@
 -- Short numbers of a lookup table: what is read of their digits alone is what the whole pieces say.
-use Rattle.std.proofs.Common.{◌≡◌, ℕ, ℤ, pos, ◌+◌, ◌*◌, ◌^◌, ◌<◌, ◌≤◌, ◌-◌, Bool, true, false, cond, not, ◌==◌, ◌&&◌, List, [], ◌∷◌, ◌++◌, length, take, drop, get_or, Option, Some, None, refl, sym, ap, ◌∙◌, arith, if◌then◌else◌, subst, nat_lt, unsigned_abs, append_assoc, append-nil}
+use Rattle.std.proofs.Common.{◌≡◌, ◌≢◌, ℕ, ℤ, pos, suc, ◌+◌, ◌*◌, ◌^◌, ◌<◌, ◌≤◌, ◌-◌, Bool, true, false, cond, not, ◌==◌, ◌&&◌, List, [], ◌∷◌, ◌++◌, length, take, drop, get_or, Option, Some, None, refl, sym, ap, ◌∙◌, arith, if◌then◌else◌, subst, nat_lt, unsigned_abs, append_assoc, append-nil}
 use Rattle.std.specs.List.{list_all, prefix_len, suffix_len}
 use Rattle.std.specs.Char.{is_ascii_digit}
 use Rattle.std.proofs.Math.Seq.{take-append_seam, drop-append_seam, take-length, drop-length}
-use Rattle.std.proofs.lemmas.List.{length-append}
+use Rattle.std.proofs.lemmas.List.{length-append, length-drop, take-append-drop, drop_more}
 use Rattle.std.proofs.lemmas.List.Folds.{list_all-append}
-use Rattle.std.proofs.lemmas.List.Sums.{AllPass-from_list_all, suffix_len-take_no}
+use Rattle.std.proofs.lemmas.List.Sums.{AllPass-from_list_all, suffix_len-take_no, prefix_len_stops}
 use Rattle.std.proofs.lemmas.List.Elements.{All-get_or}
 use Rattle.std.proofs.lemmas.Bool.Decides.{nat_tests}
 use Rattle.std.proofs.lemmas.Int.{ints}
@@ -15,10 +15,10 @@ use Rattle.std.specs.Prelude.{◌+ℤ◌, ◌-ℤ◌}
 use Rattle.lists_and_answers.specs.Options.{◌>>=◌}
 use Rattle.lists_and_answers.specs.Texts.{is_white}
 use Rattle.geotransform.specs.Decimal.{number, scaled, signed, sign_at, digits_at, fraction_at, exponent_of, Decimal, parts_of, places_of, exact, whole_of, near_at, magnitude, magnitude_at}
-use Rattle.geotransform.proofs.Numbers.{number_short, number-append}
+use Rattle.geotransform.proofs.Numbers.{number_short, number-append, all_taken}
 use Rattle.vrt_markup.specs.Items.{option_case}
 use Rattle.vrt_profile.specs.Fields.{length_before, cut_by, cut_at, first_piece, trim, trim_end, near_by, near_number, pair_of}
-use Rattle.vrt_profile.specs.Fronts.{is_inner, DigitsFront, FractionFront, DecimalFront, MicrosFront, PairFront}
+use Rattle.vrt_profile.specs.Fronts.{is_inner, is_key, DigitsFront, FractionFront, DecimalFront, MicrosFront, pair_with, PairFront}
 use Rattle.vrt_profile.specs.declared.rectangle.LutPair.{LutPair}
 use Rattle.vrt_profile.specs.Values.{million}
 use Rattle.vrt_profile.proofs.Rules.{signed_size}
@@ -310,34 +310,121 @@ cut_front b front rest same h =
     ∙ ap (λ t. cut_by t (drop (length front) (front ++ b ∷ rest))) (take-append_seam front (b ∷ rest))
     ∙ ap (λ d. cut_by front d) (drop-append_seam front (b ∷ rest))
 
-pair_text : (f g : List ℕ) (v w : ℤ) → list_all (λ c. not (c == 58)) f ≡ true → near_number f ≡ Some v → near_number g ≡ Some w → pair_of (f ++ 58 ∷ g) ≡ Some (record { input = v; output = w })
+mapped : (v : ℤ) (o : Option ℤ) → (o >>= λ output. Some (record { input = v; output = output })) ≡ pair_with v o
+mapped v None = refl
+mapped v (Some w) = refl
+
+key_text : (f g : List ℕ) (v : ℤ) → list_all (λ c. not (c == 58)) f ≡ true → near_number f ≡ Some v → pair_of (f ++ 58 ∷ g) ≡ pair_with v (near_number g)
 unfolding pair_of
-pair_text f g v w plain first second =
+key_text f g v plain first =
     ap (λ o. o >>= λ x. near_number x.0 >>= λ input. near_number x.1 >>= λ output. Some (record { input = input; output = output })) (cut_front 58 f g refl plain)
     ∙ ap (λ o. o >>= λ input. near_number g >>= λ output. Some (record { input = input; output = output })) first
-    ∙ ap (λ o. o >>= λ output. Some (record { input = v; output = output })) second
+    ∙ mapped v (near_number g)
 
-pub front_pair : (text rest second last : List ℕ) (v w : ℤ) → MicrosFront text v rest → rest ≡ 58 ∷ second → MicrosFront second w last → PairFront text (record { input = v; output = w }) last
-front_pair text rest second last v w a colon b = record {
+pub front_pair : (text second last : List ℕ) (v w : ℤ) → MicrosFront text v (58 ∷ second) → MicrosFront second w last → PairFront text (record { input = v; output = w }) last
+front_pair text second last v w a b = record {
   front = a.front ++ 58 ∷ b.front;
-  whole = a.whole ∙ ap (λ t. a.front ++ t) colon ∙ ap (λ t. a.front ++ 58 ∷ t) b.whole ∙ sym (append_assoc a.front (58 ∷ b.front) last);
+  whole = a.whole ∙ ap (λ t. a.front ++ 58 ∷ t) b.whole ∙ sym (append_assoc a.front (58 ∷ b.front) last);
   commas = all_joined (λ c. not (c == 44)) a.front (58 ∷ b.front) a.commas b.commas;
-  value = pair_text a.front b.front v w a.colons a.value b.value;
+  value = key_text a.front b.front v a.colons a.value ∙ ap (pair_with v) b.value;
 }
 
--- the first piece of a text that begins with a pair and a comma
-piece_comma : (text rest behind : List ℕ) (p : LutPair) (f : PairFront text p rest) → rest ≡ 44 ∷ behind → first_piece text ≡ (f.front, Some behind)
-piece_comma text rest behind p f comma =
-    ap first_piece (f.whole ∙ ap (λ t. f.front ++ t) comma)
-    ∙ ap (λ o. option_case o (f.front ++ 44 ∷ behind, None) (λ x. (x.0, Some x.1))) (cut_front 44 f.front behind refl f.commas)
+-- what is no comma stays in front of the first piece
+abbrev piece_by : List ℕ → Option (List ℕ × List ℕ) → List ℕ × Option (List ℕ)
+piece_by text cut = option_case cut (text, None) (λ x. (x.0, Some x.1))
 
-pub comma_pair : (text rest behind : List ℕ) (p : LutPair) → PairFront text p rest → rest ≡ 44 ∷ behind → pair_of (first_piece text).0 ≡ Some p
-comma_pair text rest behind p f comma = ap (λ (x : List ℕ × Option (List ℕ)). pair_of x.0) (piece_comma text rest behind p f comma) ∙ f.value
+one_front : (c : ℕ) (front text rest : List ℕ) → piece_by (c ∷ text) (cut_by (c ∷ front) rest) ≡ (c ∷ (piece_by text (cut_by front rest)).0, (piece_by text (cut_by front rest)).1)
+one_front c front text [] = refl
+one_front c front text (x ∷ xs) = refl
 
-pub comma_behind : (text rest behind : List ℕ) (p : LutPair) → PairFront text p rest → rest ≡ 44 ∷ behind → Some behind ≡ (first_piece text).1
-comma_behind text rest behind p f comma = sym (ap (λ (x : List ℕ × Option (List ℕ)). x.1) (piece_comma text rest behind p f comma))
+one_more : (n : ℕ) → 1 + n ≡ suc n
+one_more n = omega arith
 
--- the first piece of a text that is a pair
+piece_one : (c : ℕ) (text : List ℕ) → not (c == 44) ≡ true → first_piece (c ∷ text) ≡ (c ∷ (first_piece text).0, (first_piece text).1)
+piece_one c text other =
+    let n : ℕ = length_before 44 text in
+    ap (λ b. piece_by (c ∷ text) (cut_by (take (cond b (1 + n) 0) (c ∷ text)) (drop (cond b (1 + n) 0) (c ∷ text)))) other
+    ∙ ap (λ k. piece_by (c ∷ text) (cut_by (take k (c ∷ text)) (drop k (c ∷ text)))) (one_more n)
+    ∙ one_front c (take n text) text (drop n text)
+
+piece_front : (front rest : List ℕ) → list_all (λ c. not (c == 44)) front ≡ true → first_piece (front ++ rest) ≡ (front ++ (first_piece rest).0, (first_piece rest).1)
+piece_front [] rest h = refl
+piece_front (c ∷ cs) rest h =
+    piece_one c (cs ++ rest) (and_left (not (c == 44)) (list_all (λ c. not (c == 44)) cs) h)
+    ∙ ap (λ (x : List ℕ × Option (List ℕ)). (c ∷ x.0, x.1)) (piece_front cs rest (and_right (not (c == 44)) (list_all (λ c. not (c == 44)) cs) h))
+
+-- the first piece of a text whose front ends at a comma, or with the text
+piece_whole : (text front rest : List ℕ) (o : Option (List ℕ)) → text ≡ front ++ rest → list_all (λ c. not (c == 44)) front ≡ true → first_piece rest ≡ ([], o) → first_piece text ≡ (front, o)
+piece_whole text front rest o whole commas end =
+    ap first_piece whole
+    ∙ piece_front front rest commas
+    ∙ ap (λ (x : List ℕ × Option (List ℕ)). (front ++ x.0, x.1)) end
+    ∙ ap (λ (t : List ℕ). (t, o)) (append-nil front)
+
+pub piece_value : (text rest : List ℕ) (v : ℤ) (o : Option (List ℕ)) → MicrosFront text v rest → first_piece rest ≡ ([], o) → near_number (first_piece text).0 ≡ Some v
+piece_value text rest v o f end = ap (λ (x : List ℕ × Option (List ℕ)). near_number x.0) (piece_whole text f.front rest o f.whole f.commas end) ∙ f.value
+
+pub piece_behind : (text rest : List ℕ) (v : ℤ) (o : Option (List ℕ)) → MicrosFront text v rest → first_piece rest ≡ ([], o) → o ≡ (first_piece text).1
+piece_behind text rest v o f end = sym (ap (λ (x : List ℕ × Option (List ℕ)). x.1) (piece_whole text f.front rest o f.whole f.commas end))
+
+pub piece_pair : (text rest : List ℕ) (p : LutPair) (o : Option (List ℕ)) → PairFront text p rest → first_piece rest ≡ ([], o) → pair_of (first_piece text).0 ≡ Some p
+piece_pair text rest p o f end = ap (λ (x : List ℕ × Option (List ℕ)). pair_of x.0) (piece_whole text f.front rest o f.whole f.commas end) ∙ f.value
+
+pub pair_behind : (text rest : List ℕ) (p : LutPair) (o : Option (List ℕ)) → PairFront text p rest → first_piece rest ≡ ([], o) → o ≡ (first_piece text).1
+pair_behind text rest p o f end = sym (ap (λ (x : List ℕ × Option (List ℕ)). x.1) (piece_whole text f.front rest o f.whole f.commas end))
+
+-- the first piece of a text that begins with a number and a colon
+piece_key : (text second : List ℕ) (v : ℤ) (f : MicrosFront text v (58 ∷ second)) → first_piece text ≡ (f.front ++ 58 ∷ (first_piece second).0, (first_piece second).1)
+piece_key text second v f =
+    ap first_piece f.whole
+    ∙ piece_front f.front (58 ∷ second) f.commas
+    ∙ ap (λ (x : List ℕ × Option (List ℕ)). (f.front ++ x.0, x.1)) (piece_one 58 second refl)
+
+pub key_pair : (text second : List ℕ) (v : ℤ) → MicrosFront text v (58 ∷ second) → pair_of (first_piece text).0 ≡ pair_with v (near_number (first_piece second).0)
+key_pair text second v f = ap (λ (x : List ℕ × Option (List ℕ)). pair_of x.0) (piece_key text second v f) ∙ key_text f.front (first_piece second).0 v f.colons f.value
+
+pub key_behind : (text second : List ℕ) (v : ℤ) → MicrosFront text v (58 ∷ second) → (first_piece second).1 ≡ (first_piece text).1
+key_behind text second v f = sym (ap (λ (x : List ℕ × Option (List ℕ)). x.1) (piece_key text second v f))
+
+-- a key of any form
+key_all : (q : ℕ → Bool) (text : List ℕ) (n : ℕ) → ((c : ℕ) → is_key c ≡ true → q c ≡ true) → n ≡ prefix_len is_key text → list_all q (take n text) ≡ true
+key_all q text n f is = ap (λ k. list_all q (take k text)) is ∙ all_by is_key q (take (prefix_len is_key text) text) f (all_taken is_key text)
+
+pub key_taken : (text : List ℕ) (n : ℕ) → n ≡ prefix_len is_key text → list_all is_key (take n text) ≡ true
+key_taken text n is = key_all is_key text n (λ c h. h) is
+
+key_colon : (c : ℕ) → is_key c ≡ true → not (c == 58) ≡ true
+key_colon c h = and_left (not (c == 58)) (not (c == 44)) h
+
+key_comma : (c : ℕ) → is_key c ≡ true → not (c == 44) ≡ true
+key_comma c h = and_right (not (c == 58)) (not (c == 44)) h
+
+pub any_key : (f g : List ℕ) (v : ℤ) (o : Option ℤ) → list_all is_key f ≡ true → Some v ≡ near_number f → o ≡ near_number g → pair_with v o ≡ pair_of (f ++ 58 ∷ g)
+any_key f g v o plain first second =
+    ap (pair_with v) second ∙ sym (key_text f g v (all_by is_key (λ c. not (c == 58)) f key_colon plain) (sym first))
+
+pub bad_key : (f g : List ℕ) → list_all is_key f ≡ true → None ≡ near_number f → None ≡ pair_of (f ++ 58 ∷ g)
+unfolding pair_of
+bad_key f g plain first = sym (
+    ap (λ o. o >>= λ x. near_number x.0 >>= λ input. near_number x.1 >>= λ output. Some (record { input = input; output = output })) (cut_front 58 f g refl (all_by is_key (λ c. not (c == 58)) f key_colon plain))
+    ∙ ap (λ o. o >>= λ input. near_number g >>= λ output. Some (record { input = input; output = output })) (sym first))
+
+long_piece : (text rest : List ℕ) (n : ℕ) → n ≡ prefix_len is_key text → drop n text ≡ rest → first_piece text ≡ (take n text ++ (first_piece rest).0, (first_piece rest).1)
+long_piece text rest n is behind =
+    ap first_piece (sym (take-append-drop n text) ∙ ap (λ t. take n text ++ t) behind)
+    ∙ piece_front (take n text) rest (key_all (λ c. not (c == 44)) text n key_comma is)
+
+colon_piece : (text second : List ℕ) (n : ℕ) → n ≡ prefix_len is_key text → drop n text ≡ 58 ∷ second → first_piece text ≡ (take n text ++ 58 ∷ (first_piece second).0, (first_piece second).1)
+colon_piece text second n is behind =
+    long_piece text (58 ∷ second) n is behind ∙ ap (λ (x : List ℕ × Option (List ℕ)). (take n text ++ x.0, x.1)) (piece_one 58 second refl)
+
+pub long_pair : (text second : List ℕ) (n : ℕ) → n ≡ prefix_len is_key text → drop n text ≡ 58 ∷ second → pair_of (take n text ++ 58 ∷ (first_piece second).0) ≡ pair_of (first_piece text).0
+long_pair text second n is behind = sym (ap (λ (x : List ℕ × Option (List ℕ)). pair_of x.0) (colon_piece text second n is behind))
+
+pub long_behind : (text second : List ℕ) (n : ℕ) → n ≡ prefix_len is_key text → drop n text ≡ 58 ∷ second → (first_piece second).1 ≡ (first_piece text).1
+long_behind text second n is behind = sym (ap (λ (x : List ℕ × Option (List ℕ)). x.1) (colon_piece text second n is behind))
+
+-- a piece without a colon
 none_before : (b : ℕ) (front : List ℕ) → list_all (λ c. not (c == b)) front ≡ true → length_before b front ≡ length front
 none_before b [] h = refl
 none_before b (c ∷ cs) h =
@@ -345,24 +432,36 @@ none_before b (c ∷ cs) h =
     ∙ ap (λ n. 1 + n) (none_before b cs (and_right (not (c == b)) (list_all (λ c. not (c == b)) cs) h))
     ∙ omega arith
 
-whole_dropped : (front : List ℕ) → drop (length front) front ≡ []
-whole_dropped front = ap (drop (length front)) (sym (append-nil front)) ∙ drop-append_seam front []
-
 no_cut : (b : ℕ) (front : List ℕ) → list_all (λ c. not (c == b)) front ≡ true → cut_at b front ≡ None
 no_cut b front h =
     ap (λ n. cut_by (take n front) (drop n front)) (none_before b front h)
-    ∙ ap (cut_by (take (length front) front)) (whole_dropped front)
+    ∙ ap (cut_by (take (length front) front)) (drop-length front)
 
-piece_last : (text rest : List ℕ) (p : LutPair) (f : PairFront text p rest) → rest ≡ [] → first_piece text ≡ (f.front, None)
-piece_last text rest p f end =
-    ap first_piece (f.whole ∙ ap (λ t. f.front ++ t) end ∙ append-nil f.front)
-    ∙ ap (λ o. option_case o (f.front, None) (λ x. (x.0, Some x.1))) (no_cut 44 f.front f.commas)
+no_pair : (front : List ℕ) → list_all (λ c. not (c == 58)) front ≡ true → pair_of front ≡ None
+unfolding pair_of
+no_pair front plain =
+    ap (λ o. o >>= λ x. near_number x.0 >>= λ input. near_number x.1 >>= λ output. Some (record { input = input; output = output })) (no_cut 58 front plain)
 
-pub last_pair : (text rest : List ℕ) (p : LutPair) → PairFront text p rest → rest ≡ [] → pair_of (first_piece text).0 ≡ Some p
-last_pair text rest p f end = ap (λ (x : List ℕ × Option (List ℕ)). pair_of x.0) (piece_last text rest p f end) ∙ f.value
+lone_piece : (text rest : List ℕ) (n : ℕ) (o : Option (List ℕ)) → n ≡ prefix_len is_key text → drop n text ≡ rest → first_piece rest ≡ ([], o) → first_piece text ≡ (take n text, o)
+lone_piece text rest n o is behind end =
+    piece_whole text (take n text) rest o (sym (take-append-drop n text) ∙ ap (λ t. take n text ++ t) behind) (key_all (λ c. not (c == 44)) text n key_comma is) end
 
-pub last_behind : (text rest : List ℕ) (p : LutPair) → PairFront text p rest → rest ≡ [] → None ≡ (first_piece text).1
-last_behind text rest p f end = sym (ap (λ (x : List ℕ × Option (List ℕ)). x.1) (piece_last text rest p f end))
+pub lone_pair : (text rest : List ℕ) (n : ℕ) (o : Option (List ℕ)) → n ≡ prefix_len is_key text → drop n text ≡ rest → first_piece rest ≡ ([], o) → None ≡ pair_of (first_piece text).0
+lone_pair text rest n o is behind end =
+    sym (ap (λ (x : List ℕ × Option (List ℕ)). pair_of x.0) (lone_piece text rest n o is behind end) ∙ no_pair (take n text) (key_all (λ c. not (c == 58)) text n key_colon is))
+
+pub lone_behind : (text rest : List ℕ) (n : ℕ) (o : Option (List ℕ)) → n ≡ prefix_len is_key text → drop n text ≡ rest → first_piece rest ≡ ([], o) → o ≡ (first_piece text).1
+lone_behind text rest n o is behind end = sym (ap (λ (x : List ℕ × Option (List ℕ)). x.1) (lone_piece text rest n o is behind end))
+
+-- behind a key stands a comma where no colon does
+pub comma_behind : (text behind : List ℕ) (n c : ℕ) → n ≡ prefix_len is_key text → drop n text ≡ c ∷ behind → c ≢ 58 → first_piece (c ∷ behind) ≡ ([], Some behind)
+comma_behind text behind n c is at other =
+    let less : n < length text = omega (arith, length-drop n text, ap length at) in
+    let first : get_or text n 0 ≡ c = sym (ap (λ (t : List ℕ). get_or t 0 0) (drop_more text n 0 less)) ∙ ap (λ (t : List ℕ). get_or t 0 0) at in
+    let stop : is_key (get_or text (prefix_len is_key text) 0) ≡ false = prefix_len_stops is_key text 0 (omega (arith, is, less)) in
+    let same : is_key c ≡ false = ap is_key (sym first ∙ ap (λ k. get_or text k 0) is) ∙ stop in
+    let comma : c ≡ 44 = grind (arith, nat_tests, same, other) in
+    ap (λ x. first_piece (x ∷ behind)) comma
 
 -- a text that is one number
 pub whole_micros : (text rest : List ℕ) (v : ℤ) → MicrosFront text v rest → rest ≡ [] → Some v ≡ places_of 6 text

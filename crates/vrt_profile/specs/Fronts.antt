@@ -1,6 +1,7 @@
 -- Short numbers in front of a text, and what stands behind them.
 use Rattle.std.specs.Prelude.{◌≡◌, ℕ, ℤ, ◌<◌, ◌≤◌, ◌+◌, ◌-◌, ◌*◌, ◌^◌, ◌==◌, ◌&&◌, not, Bool, true, List, [], ◌∷◌, ◌++◌}
-use Rattle.std.specs.Prelude.{length, Some}
+use Rattle.std.specs.Prelude.{length, Option, Some}
+use Rattle.std.specs.Option.{option_map}
 use Rattle.std.specs.List.{list_all}
 use Rattle.std.specs.Char.{is_ascii_digit}
 use Rattle.lists_and_answers.specs.Texts.{is_white}
@@ -11,6 +12,10 @@ use Rattle.vrt_profile.specs.declared.rectangle.LutPair.{LutPair}
 -- a byte that neither parts nor is white space
 abbrev pub is_inner : ℕ → Bool
 is_inner c = not (c == 58) && (not (c == 44) && not (is_white c))
+
+-- a byte before the first colon or comma
+abbrev pub is_key : ℕ → Bool
+is_key c = not (c == 58) && not (c == 44)
 
 -- a digit, which writes n
 abbrev pub IsDigitFront : List ℕ → ℕ → List ℕ → Type 0
@@ -69,6 +74,10 @@ pub record MicrosFront (text : List ℕ) (v : ℤ) (rest : List ℕ) : Type 0 wh
   pub commas : list_all (λ c. not (c == 44)) front ≡ true
   pub value : near_number front ≡ Some v
   pub places : places_of 6 front ≡ Some v
+
+-- the pair of an input and what may be an output
+abbrev pub pair_with : ℤ → Option ℤ → Option LutPair
+pair_with input output = option_map (λ w. record { input = input; output = w }) output
 
 -- a pair of such numbers with a colon between them
 pub record PairFront (text : List ℕ) (pair : LutPair) (rest : List ℕ) : Type 0 where

@@ -2,12 +2,11 @@
 ghost use Rattle.std.specs.Prelude.{◌≡◌, ◌≤◌, ◌<◌, ◌*◌, length, IfSome, unsigned_abs};
 ghost use Rattle.std.specs.Option.{option_map};
 ghost use Rattle.geotransform.specs.Decimal.{IsRead};
-ghost use Rattle.vrt_profile.specs.Values.{million, IsPair};
-ghost use Rattle.vrt_profile.specs.Fields.{trim, trim_end, whole_text, length_before, cut_at, near_number, pair_of};
+ghost use Rattle.vrt_profile.specs.Values.{million};
+ghost use Rattle.vrt_profile.specs.Fields.{trim, trim_end, whole_text, length_before, cut_at, near_number};
 ghost use Rattle.vrt_profile.specs.Fields.{ticks_then, six_of, Six};
 ghost use Rattle.vrt_profile.specs.NumberViews.{six_view, IsReadSix};
 
-use crate::rectangle::LutPair;
 use geotransform::{read_decimal, read_number, read_places};
 use vrt_markup::{is_white, trim_front};
 
@@ -59,8 +58,8 @@ pub fn cut_at(text: &[u8], byte: u8) -> Option<(&[u8], &[u8])>
     }
 }
 
-// A number in millionths below 5,000,000,000.
-fn near_number(text: &[u8]) -> Option<i64>
+/// A number in millionths below 5,000,000,000.
+pub fn near_number(text: &[u8]) -> Option<i64>
     ensures number { result ≡ near_number text.now }
     ensures near { IfSome result (λ v. unsigned_abs v < 5000000000 * million) }
 {
@@ -68,19 +67,6 @@ fn near_number(text: &[u8]) -> Option<i64>
         Some(value) if value.unsigned_abs() < 5_000_000_000_000_000 => Some(value as i64),
         _ => None,
     }
-}
-
-/// A pair of a lookup table: two numbers with a colon between them, each rounded half away from zero
-/// to millionths. `None` where a number isn't of this form or reaches 5,000,000,000 in magnitude.
-#[tactic(auto, unfolding(crate::specs::Fields::pair_of))]
-pub fn pair_of(text: &[u8]) -> Option<LutPair>
-    ensures pair { result ≡ pair_of text.now }
-    ensures near { IfSome result IsPair }
-{
-    let (front, behind) = cut_at(text, b':')?;
-    let input = near_number(front)?;
-    let output = near_number(behind)?;
-    Some(LutPair { input, output })
 }
 
 /// Six numbers in ticks, multiples of 18, in the order in which they stand.

@@ -1,10 +1,10 @@
 // Short numbers, as most of a document's are, read in one pass.
-ghost use Rattle.std.specs.Prelude.{◌≡◌, ◌<◌, ◌≤◌, ◌*◌, ◌-◌, ◌^◌, ◌∷◌, Some, pos, length, IfSome};
+ghost use Rattle.std.specs.Prelude.{◌≡◌, ◌<◌, ◌≤◌, ◌*◌, ◌-◌, ◌^◌, [], ◌∷◌, Some, pos, length, IfSome};
 ghost use Rattle.std.specs.Option.{option_map};
 ghost use Rattle.geotransform.specs.Decimal.{places_of, whole_of, signed};
 ghost use Rattle.vrt_profile.specs.Fronts.{IsDigitFront, DigitRun, DigitsFront, FractionFront, DecimalFront};
 ghost use Rattle.vrt_profile.specs.Fronts.{MicrosFront, PairFront};
-ghost use Rattle.vrt_profile.specs.Fields.{first_piece, pair_of};
+ghost use Rattle.vrt_profile.specs.Fields.{first_piece, near_number, pair_of};
 
 use crate::rectangle::LutPair;
 use geotransform::decimal::sign_at;
@@ -24,6 +24,7 @@ fn digit_front(text: &[u8]) -> Option<(u64, &[u8])>
 
 // The number of the digits in front, which are nine at most, how many they are, and what stands behind
 // them.
+#[inline(always)]
 #[tactic(auto, using(crate::proofs::DigitRuns::run_none))]
 fn digit_run(text: &[u8]) -> Option<(u64, usize, &[u8])>
     ensures digits { IfSome result (λ x. DigitRun text.now x.0 x.1 x.2.now) }
@@ -76,6 +77,7 @@ fn product(a: u64, b: u64) -> u64
 }
 
 // The fraction of the one to six digits in front, in millionths, and what stands behind them.
+#[inline(never)]
 #[tactic(auto, using(crate::proofs::DigitRuns::run_fraction, crate::proofs::DigitRuns::run_small))]
 fn fraction_front(text: &[u8]) -> Option<(u64, &[u8])>
     ensures digits { IfSome result (λ x. FractionFront text.now x.0 x.1.now) }
@@ -116,6 +118,7 @@ fn with_sign(negative: bool, size: u64) -> i64
 }
 
 // The number in front, in millionths, and what stands behind it. `None` where it isn't short, or none.
+#[inline(always)]
 #[tactic(auto, using(crate::proofs::ShortNumbers::micros_at))]
 fn micros_front(text: &[u8]) -> Option<(i64, &[u8])>
     ensures front { IfSome result (λ x. MicrosFront text.now x.0 x.1.now) }
@@ -162,15 +165,50 @@ fn behind_byte(text: &[u8], byte: u8) -> Option<&[u8]>
     }
 }
 
+/// The short number in front, where a colon stands behind it, and what stands behind that colon.
+#[inline(always)]
+pub fn key_front(text: &[u8]) -> Option<(i64, &[u8])>
+    ensures key { IfSome result (λ x. MicrosFront text.now x.0 (58 ∷ x.1.now)) }
+    ensures shorter { IfSome result (λ x. length x.1.now < length text.now) }
+{
+    let (input, rest) = micros_front(text)?;
+    let second = behind_byte(rest, b':')?;
+    Some((input, second))
+}
+
 // Two short numbers in front with a colon between them, and what stands behind them.
 fn pair_front(text: &[u8]) -> Option<(LutPair, &[u8])>
     ensures pair { IfSome result (λ x. PairFront text.now x.0 x.1.now) }
     ensures shorter { IfSome result (λ x. length x.1.now < length text.now) }
 {
-    let (input, rest) = micros_front(text)?;
-    let second = behind_byte(rest, b':')?;
+    let (input, second) = key_front(text)?;
     let (output, rest) = micros_front(second)?;
     Some((LutPair { input, output }, rest))
+}
+
+// What stands behind a comma in front, where there is one, or nothing where the text is empty.
+fn behind_comma(text: &[u8]) -> Option<Option<&[u8]>>
+    ensures behind { IfSome result (λ o. first_piece text.now ≡ ([], option_map (λ r. r.now) o)) }
+    ensures shorter { IfSome result (λ o. IfSome o (λ r. length r.now < length text.now)) }
+{
+    match text {
+        [] => Some(None),
+        [b',', behind @ ..] => Some(Some(behind)),
+        _ => None,
+    }
+}
+
+/// The number in front, where it has up to nine digits, and up to six behind a point, and a comma stands behind it, or
+/// nothing; and what stands behind that comma.
+#[inline(always)]
+pub fn short_value(text: &[u8]) -> Option<(i64, Option<&[u8]>)>
+    ensures value { IfSome result (λ x. near_number (first_piece text.now).0 ≡ Some x.0) }
+    ensures behind { IfSome result (λ x. option_map (λ r. r.now) x.1 ≡ (first_piece text.now).1) }
+    ensures shorter { IfSome result (λ x. IfSome x.1 (λ r. length r.now < length text.now)) }
+{
+    let (value, rest) = micros_front(text)?;
+    let behind = behind_comma(rest)?;
+    Some((value, behind))
 }
 
 /// The pair of a lookup table in front, where its numbers have up to nine digits, and up to six behind a
@@ -181,11 +219,6 @@ pub fn short_pair(text: &[u8]) -> Option<(LutPair, Option<&[u8]>)>
     ensures shorter { IfSome result (λ x. IfSome x.1 (λ r. length r.now < length text.now)) }
 {
     let (pair, rest) = pair_front(text)?;
-    match rest {
-        [] => Some((pair, None)),
-        _ => {
-            let behind = behind_byte(rest, b',')?;
-            Some((pair, Some(behind)))
-        }
-    }
+    let behind = behind_comma(rest)?;
+    Some((pair, behind))
 }

@@ -1,12 +1,14 @@
 // Lookup tables.
-ghost use Rattle.std.specs.Prelude.{◌≡◌, ℕ, ◌<◌, ◌++◌, [], ◌∷◌, Ok, List, length, IfSome};
+ghost use Rattle.std.specs.Prelude.{◌≡◌, ℕ, ◌<◌, ◌≤◌, ◌++◌, [], ◌∷◌, Ok, None, List, length, IfSome, true};
+ghost use Rattle.std.specs.List.{list_all, prefix_len};
 ghost use Rattle.std.specs.Option.{option_map};
-ghost use Rattle.vrt_profile.specs.Fields.{pieces, first_piece, pair_of};
+ghost use Rattle.vrt_profile.specs.Fields.{pieces, first_piece, near_number, pair_of};
 ghost use Rattle.vrt_profile.specs.Numbers.{is_above, rising_pair, next_pair, lut_of};
+ghost use Rattle.vrt_profile.specs.Fronts.{is_key, pair_with};
 ghost use Rattle.vrt_markup.specs.Kept.{Gives};
 
-use crate::fields::{cut_at, pair_of};
-use crate::fronts::short_pair;
+use crate::fields::{cut_at, near_number};
+use crate::fronts::{key_front, short_pair, short_value};
 use crate::rectangle::{Lut, LutPair};
 use lists_and_answers::Items;
 use std::alloc::Global;
@@ -74,18 +76,109 @@ fn first_piece(text: &[u8]) -> (&[u8], Option<&[u8]>)
     }
 }
 
+// The number of the first piece, which may have any form, and what stands behind its comma.
+#[inline(never)]
+fn any_value_at(text: &[u8]) -> (Option<i64>, Option<&[u8]>)
+    ensures value { result.0 ≡ near_number (first_piece text.now).0 }
+    ensures behind { option_map (λ r. r.now) result.1 ≡ (first_piece text.now).1 }
+    ensures shorter { IfSome result.1 (λ r. length r.now < length text.now) }
+{
+    let (piece, more) = first_piece(text);
+    (near_number(piece), more)
+}
+
+// The number of the first piece, and what stands behind its comma.
+#[inline(always)]
+fn value_at(text: &[u8]) -> (Option<i64>, Option<&[u8]>)
+    ensures value { result.0 ≡ near_number (first_piece text.now).0 }
+    ensures behind { option_map (λ r. r.now) result.1 ≡ (first_piece text.now).1 }
+    ensures shorter { IfSome result.1 (λ r. length r.now < length text.now) }
+{
+    match short_value(text) {
+        Some((value, behind)) => (Some(value), behind),
+        None => any_value_at(text),
+    }
+}
+
+fn pair_with(input: i64, output: Option<i64>) -> Option<LutPair>
+    ensures pair { result ≡ pair_with input output }
+{
+    match output {
+        Some(output) => Some(LutPair { input, output }),
+        None => None,
+    }
+}
+
+// How many bytes stand before the first colon or comma.
+fn key_length(text: &[u8]) -> usize
+    ensures count { result ≡ prefix_len is_key text.now }
+    ensures bound { result ≤ length text.now }
+{
+    text.iter()
+        .take_while(|c| **c != b':' && **c != b',')
+        .count()
+}
+
+// The byte in front, and what stands behind it.
+fn first_byte(text: &[u8]) -> Option<(u8, &[u8])>
+    ensures first { IfSome result (λ x. text.now ≡ x.0 ∷ x.1.now) }
+    ensures none { result ≡ None → text.now ≡ [] }
+    ensures shorter { IfSome result (λ x. length x.1.now < length text.now) }
+{
+    match text {
+        [byte, behind @ ..] => Some((*byte, behind)),
+        [] => None,
+    }
+}
+
+// The pair of a key and the first piece behind its colon, and what stands behind that piece's comma.
+#[tactic(auto, using(crate::proofs::ShortNumbers::any_key, crate::proofs::ShortNumbers::bad_key))]
+fn keyed_pair<'a>(key: &[u8], text: &'a [u8]) -> (Option<LutPair>, Option<&'a [u8]>)
+    requires key { list_all is_key key.now ≡ true }
+    ensures pair { result.0 ≡ pair_of (key.now ++ 58 ∷ (first_piece text.now).0) }
+    ensures behind { option_map (λ r. r.now) result.1 ≡ (first_piece text.now).1 }
+    ensures shorter { IfSome result.1 (λ r. length r.now < length text.now) }
+{
+    let (output, more) = value_at(text);
+    match near_number(key) {
+        Some(input) => (pair_with(input, output), more),
+        None => (None, more),
+    }
+}
+
+// The pair of the first piece, whose key may have any form, and what stands behind its comma.
+#[inline(never)]
+fn any_pair_at(text: &[u8]) -> (Option<LutPair>, Option<&[u8]>)
+    ensures pair { result.0 ≡ pair_of (first_piece text.now).0 }
+    ensures behind { option_map (λ r. r.now) result.1 ≡ (first_piece text.now).1 }
+    ensures shorter { IfSome result.1 (λ r. length r.now < length text.now) }
+{
+    let (key, rest) = text.split_at(key_length(text));
+    match first_byte(rest) {
+        Some((mark, behind)) => {
+            if mark == b':' {
+                keyed_pair(key, behind)
+            } else {
+                (None, Some(behind))
+            }
+        }
+        None => (None, None),
+    }
+}
+
 // The pair of the first piece, and what stands behind its comma.
+#[tactic(auto, using(crate::proofs::ShortNumbers::key_pair, crate::proofs::ShortNumbers::key_behind))]
 fn pair_at(text: &[u8]) -> (Option<LutPair>, Option<&[u8]>)
     ensures pair { result.0 ≡ pair_of (first_piece text.now).0 }
     ensures behind { option_map (λ r. r.now) result.1 ≡ (first_piece text.now).1 }
     ensures shorter { IfSome result.1 (λ r. length r.now < length text.now) }
 {
-    match short_pair(text) {
-        Some((pair, behind)) => (Some(pair), behind),
-        None => {
-            let (piece, more) = first_piece(text);
-            (pair_of(piece), more)
+    match key_front(text) {
+        Some((input, second)) => {
+            let (output, more) = value_at(second);
+            (pair_with(input, output), more)
         }
+        None => any_pair_at(text),
     }
 }
 

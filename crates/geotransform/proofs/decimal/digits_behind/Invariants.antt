@@ -1,4 +1,4 @@
-use Rattle.std.proofs.Common.{◌≡◌, ◌<◌, ◌+◌, ◌-◌, ◌*◌, ◌^◌, take, true}
+use Rattle.std.proofs.Common.{◌≡◌, ◌≤◌, ◌+◌, ◌-◌, ◌*◌, ◌^◌, take, length, true}
 use Rattle.std.specs.List.{fold, list_all}
 use Rattle.std.specs.Char.{is_ascii_digit}
 use Rattle.geotransform.proofs.decimal.digits_behind.Given as goal
@@ -7,5 +7,5 @@ abbrev pub invariant-loop-i : goal.invariant-loop-i
 invariant-loop-i l = record {
   digits : list_all is_ascii_digit (take l.i l.text) ≡ true;
   number : l.n ≡ fold (λ n c. n * 10 + (c - 48)) l.front (take l.i l.text);
-  few : l.n < 10 ^ 18;
+  room : (l.n + 1) * 10 ^ (length l.text - l.i) ≤ 10 ^ 19;
 }

@@ -17,4 +17,4 @@ returns-clause-pair c =
     let output : to_z w64 (of_z w64 w) ≡ w = search rules in
     subst (λ (z : ℤ). PairFront text (pair z (to_z w64 (of_z w64 w))) rest) (sym input)
     (subst (λ (z : ℤ). PairFront text (pair v z) rest) (sym output)
-    (front_pair text c.in_ok-input.rest.now c.in_ok-second.second.now rest v w c.in_ok-input.ensures.front c.in_ok-second.ensures.behind c.in_ok-output.ensures.front))
+    (front_pair text c.in_ok-input.second.now rest v w c.in_ok-input.ensures.key c.in_ok-output.ensures.front))
