@@ -106,6 +106,16 @@ fn has_first(text: &[u8]) -> bool
     }
 }
 
+/// The name in front, where one stands there, and what stands behind it.
+fn name_front(text: &[u8]) -> (&[u8], &[u8])
+    requires first { has_first text.now ≡ true }
+    ensures name { Some (result.0.now, result.1.now) ≡ name_at text.now }
+    ensures named { is_name result.0.now ≡ true }
+    ensures shorter { length result.1.now ≤ length text.now }
+{
+    text.split_at(later_len(text))
+}
+
 /// The name in front, and what stands behind it.
 fn name_at(text: &[u8]) -> Option<(&[u8], &[u8])>
     ensures name { option_map (λ x. (x.0.now, x.1.now)) result ≡ name_at text.now }
@@ -115,7 +125,7 @@ fn name_at(text: &[u8]) -> Option<(&[u8], &[u8])>
     if !has_first(text) {
         return None;
     }
-    Some(text.split_at(later_len(text)))
+    Some(name_front(text))
 }
 
 /// What stands behind the byte in front.
@@ -588,6 +598,7 @@ fn ended_item<'a>(
 
 // The item of a tag of this name that may have attributes. In most tags the numbers of the names rise, and
 // then none has to be kept.
+#[inline(never)]
 fn full_item<'a>(alloc: Global, text: &'a [u8], name: &'a [u8], attributes: &'a [u8]) -> Item<'a>
     requires front { Some (name.now, attributes.now) ≡ name_at text.now }
     requires named { is_name name.now ≡ true }
@@ -626,13 +637,13 @@ fn unordered_item<'a>(
     }
 }
 
-// The item of a tag of this name without white space behind the name, and so without attributes.
-#[tactic(auto, using(crate::proofs::Bare::bare_tag, crate::proofs::Bare::bare_none))]
-fn bare_item<'a>(text: &'a [u8], name: &'a [u8], attributes: &'a [u8]) -> Item<'a>
+// The item of a tag of this name. One that ends behind its name has no attributes.
+#[tactic(auto, using(crate::proofs::Bare::whole_tag))]
+#[inline(always)]
+fn named_item<'a>(alloc: Global, text: &'a [u8], name: &'a [u8], attributes: &'a [u8]) -> Item<'a>
     requires front { Some (name.now, attributes.now) ≡ name_at text.now }
     requires named { is_name name.now ≡ true }
     requires behind { length attributes.now ≤ length text.now }
-    requires bare { is_some (spaces_at attributes.now) ≡ false }
     ensures item { Finds result (tag_item text.now) }
     ensures shorter { Shortens result text.now }
 {
@@ -645,7 +656,7 @@ fn bare_item<'a>(text: &'a [u8], name: &'a [u8], attributes: &'a [u8]) -> Item<'
             };
             Item::Open(tag, rest)
         }
-        None => Item::Bad,
+        None => full_item(alloc, text, name, attributes),
     }
 }
 
@@ -657,13 +668,7 @@ fn tag_item(alloc: Global, text: &[u8]) -> Item
 {
     match name_at(text) {
         None => Item::Bad,
-        Some((name, attributes)) => {
-            if has_space(attributes) {
-                full_item(alloc, text, name, attributes)
-            } else {
-                bare_item(text, name, attributes)
-            }
-        }
+        Some((name, attributes)) => named_item(alloc, text, name, attributes),
     }
 }
 
@@ -700,9 +705,10 @@ fn run_at(text: &[u8]) -> Item
     Item::Run(run, rest)
 }
 
-/// The item in front of a text.
+// The item in front of a text that may begin with anything.
 #[tactic(auto, unfolding(crate::specs::Items::item_at))]
-pub fn item_at(alloc: Global, text: &[u8]) -> Item
+#[inline(never)]
+fn any_item(alloc: Global, text: &[u8]) -> Item
     ensures item { Finds result (item_at text.now) }
     ensures shorter { Shortens result text.now }
 {
@@ -722,6 +728,35 @@ pub fn item_at(alloc: Global, text: &[u8]) -> Item
         return tag_item(alloc, rest);
     }
     run_at(text)
+}
+
+// What stands behind the `<` in front, where a name begins there.
+#[tactic(auto, using(crate::proofs::StartTags::first_item))]
+fn named_front(text: &[u8]) -> Option<&[u8]>
+    ensures first { IfSome result (λ r. has_first r.now ≡ true) }
+    ensures item { IfSome result (λ r. tag_item r.now ≡ item_at text.now) }
+    ensures shorter { IfSome result (λ r. length r.now < length text.now) }
+{
+    let rest = byte_at(text, b'<')?;
+    if !has_first(rest) {
+        return None;
+    }
+    Some(rest)
+}
+
+/// The item in front of a text.
+#[inline(always)]
+pub fn item_at(alloc: Global, text: &[u8]) -> Item
+    ensures item { Finds result (item_at text.now) }
+    ensures shorter { Shortens result text.now }
+{
+    match named_front(text) {
+        Some(rest) => {
+            let (name, attributes) = name_front(rest);
+            named_item(alloc, rest, name, attributes)
+        }
+        None => any_item(alloc, text),
+    }
 }
 
 /// Whether two texts are the same.
