@@ -90,11 +90,37 @@ fn is_later(c: u8) -> bool
     LATER[c as usize] != b','
 }
 
-fn later_len(text: &[u8]) -> usize
+fn later_by_one(text: &[u8]) -> usize
     ensures count { result ≡ prefix_len is_later text.now }
     ensures bound { result ≤ length text.now }
 {
     text.iter().take_while(|c| is_later(**c)).count()
+}
+
+// How many bytes in front may stand in a name, asked four at a time.
+fn later_len(text: &[u8]) -> usize
+    ensures count { result ≡ prefix_len is_later text.now }
+    ensures bound { result ≤ length text.now }
+{
+    let mut rest = text;
+    let mut count = 0;
+    while let [a, b, c, d, more @ ..] = rest {
+        if !is_later(*a) {
+            return count;
+        }
+        if !is_later(*b) {
+            return count + 1;
+        }
+        if !is_later(*c) {
+            return count + 2;
+        }
+        if !is_later(*d) {
+            return count + 3;
+        }
+        rest = more;
+        count += 4;
+    }
+    count + later_by_one(rest)
 }
 
 fn has_first(text: &[u8]) -> bool
