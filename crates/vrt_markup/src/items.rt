@@ -663,29 +663,6 @@ fn unordered_item<'a>(
     }
 }
 
-// The item of a tag of this name. One that ends behind its name has no attributes.
-#[tactic(auto, using(crate::proofs::Bare::whole_tag))]
-#[inline(always)]
-fn named_item<'a>(alloc: Global, text: &'a [u8], name: &'a [u8], attributes: &'a [u8]) -> Item<'a>
-    requires front { Some (name.now, attributes.now) ≡ name_at text.now }
-    requires named { is_name name.now ≡ true }
-    requires behind { length attributes.now ≤ length text.now }
-    ensures item { Finds result (tag_item text.now) }
-    ensures shorter { Shortens result text.now }
-{
-    match tag_end(attributes) {
-        Some((empty, rest)) => {
-            let tag = Tag {
-                name,
-                attributes,
-                empty,
-            };
-            Item::Open(tag, rest)
-        }
-        None => full_item(alloc, text, name, attributes),
-    }
-}
-
 // The item of a tag behind its `<`.
 #[tactic(auto, using(crate::proofs::Bare::no_tag))]
 fn tag_item(alloc: Global, text: &[u8]) -> Item
@@ -694,7 +671,7 @@ fn tag_item(alloc: Global, text: &[u8]) -> Item
 {
     match name_at(text) {
         None => Item::Bad,
-        Some((name, attributes)) => named_item(alloc, text, name, attributes),
+        Some((name, attributes)) => full_item(alloc, text, name, attributes),
     }
 }
 
@@ -770,18 +747,26 @@ fn named_front(text: &[u8]) -> Option<&[u8]>
     Some(rest)
 }
 
-/// The item in front of a text.
+/// The item in front of a text. A tag that ends behind its name has no attributes.
 #[inline(always)]
 pub fn item_at(alloc: Global, text: &[u8]) -> Item
     ensures item { Finds result (item_at text.now) }
     ensures shorter { Shortens result text.now }
 {
-    match named_front(text) {
-        Some(rest) => {
-            let (name, attributes) = name_front(rest);
-            named_item(alloc, rest, name, attributes)
+    let Some(front) = named_front(text) else {
+        return any_item(alloc, text);
+    };
+    let (name, attributes) = name_front(front);
+    match tag_end(attributes) {
+        Some((empty, rest)) => {
+            let tag = Tag {
+                name,
+                attributes,
+                empty,
+            };
+            Item::Open(tag, rest)
         }
-        None => any_item(alloc, text),
+        None => full_item(alloc, front, name, attributes),
     }
 }
 
