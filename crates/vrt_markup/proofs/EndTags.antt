@@ -25,7 +25,7 @@ strip_whole front t r h =
     ∙ ap (λ x. x ++ drop (length front) t) (same_text (take (length front) t) front (sym both.0))
     ∙ ap (λ x. front ++ x) (sym both.1)
 
-byte_whole : (b : ℕ) (t r : List ℕ) → Some r ≡ byte_at b t → t ≡ b ∷ r
+pub byte_whole : (b : ℕ) (t r : List ℕ) → Some r ≡ byte_at b t → t ≡ b ∷ r
 byte_whole b [] r h = absurd cc
 byte_whole b (c ∷ cs) r h =
     let both = guard (c == b) cs r h in

@@ -90,11 +90,37 @@ fn is_later(c: u8) -> bool
     LATER[c as usize] != b','
 }
 
-fn later_len(text: &[u8]) -> usize
+fn later_by_one(text: &[u8]) -> usize
     ensures count { result ≡ prefix_len is_later text.now }
     ensures bound { result ≤ length text.now }
 {
     text.iter().take_while(|c| is_later(**c)).count()
+}
+
+// How many bytes in front may stand in a name, asked four at a time.
+fn later_len(text: &[u8]) -> usize
+    ensures count { result ≡ prefix_len is_later text.now }
+    ensures bound { result ≤ length text.now }
+{
+    let mut rest = text;
+    let mut count = 0;
+    while let [a, b, c, d, more @ ..] = rest {
+        if !is_later(*a) {
+            return count;
+        }
+        if !is_later(*b) {
+            return count + 1;
+        }
+        if !is_later(*c) {
+            return count + 2;
+        }
+        if !is_later(*d) {
+            return count + 3;
+        }
+        rest = more;
+        count += 4;
+    }
+    count + later_by_one(rest)
 }
 
 fn has_first(text: &[u8]) -> bool
@@ -106,6 +132,16 @@ fn has_first(text: &[u8]) -> bool
     }
 }
 
+/// The name in front, where one stands there, and what stands behind it.
+fn name_front(text: &[u8]) -> (&[u8], &[u8])
+    requires first { has_first text.now ≡ true }
+    ensures name { Some (result.0.now, result.1.now) ≡ name_at text.now }
+    ensures named { is_name result.0.now ≡ true }
+    ensures shorter { length result.1.now ≤ length text.now }
+{
+    text.split_at(later_len(text))
+}
+
 /// The name in front, and what stands behind it.
 fn name_at(text: &[u8]) -> Option<(&[u8], &[u8])>
     ensures name { option_map (λ x. (x.0.now, x.1.now)) result ≡ name_at text.now }
@@ -115,7 +151,7 @@ fn name_at(text: &[u8]) -> Option<(&[u8], &[u8])>
     if !has_first(text) {
         return None;
     }
-    Some(text.split_at(later_len(text)))
+    Some(name_front(text))
 }
 
 /// What stands behind the byte in front.
@@ -588,6 +624,7 @@ fn ended_item<'a>(
 
 // The item of a tag of this name that may have attributes. In most tags the numbers of the names rise, and
 // then none has to be kept.
+#[inline(never)]
 fn full_item<'a>(alloc: Global, text: &'a [u8], name: &'a [u8], attributes: &'a [u8]) -> Item<'a>
     requires front { Some (name.now, attributes.now) ≡ name_at text.now }
     requires named { is_name name.now ≡ true }
@@ -626,29 +663,6 @@ fn unordered_item<'a>(
     }
 }
 
-// The item of a tag of this name without white space behind the name, and so without attributes.
-#[tactic(auto, using(crate::proofs::Bare::bare_tag, crate::proofs::Bare::bare_none))]
-fn bare_item<'a>(text: &'a [u8], name: &'a [u8], attributes: &'a [u8]) -> Item<'a>
-    requires front { Some (name.now, attributes.now) ≡ name_at text.now }
-    requires named { is_name name.now ≡ true }
-    requires behind { length attributes.now ≤ length text.now }
-    requires bare { is_some (spaces_at attributes.now) ≡ false }
-    ensures item { Finds result (tag_item text.now) }
-    ensures shorter { Shortens result text.now }
-{
-    match tag_end(attributes) {
-        Some((empty, rest)) => {
-            let tag = Tag {
-                name,
-                attributes,
-                empty,
-            };
-            Item::Open(tag, rest)
-        }
-        None => Item::Bad,
-    }
-}
-
 // The item of a tag behind its `<`.
 #[tactic(auto, using(crate::proofs::Bare::no_tag))]
 fn tag_item(alloc: Global, text: &[u8]) -> Item
@@ -657,13 +671,7 @@ fn tag_item(alloc: Global, text: &[u8]) -> Item
 {
     match name_at(text) {
         None => Item::Bad,
-        Some((name, attributes)) => {
-            if has_space(attributes) {
-                full_item(alloc, text, name, attributes)
-            } else {
-                bare_item(text, name, attributes)
-            }
-        }
+        Some((name, attributes)) => full_item(alloc, text, name, attributes),
     }
 }
 
@@ -700,9 +708,10 @@ fn run_at(text: &[u8]) -> Item
     Item::Run(run, rest)
 }
 
-/// The item in front of a text.
+// The item in front of a text that may begin with anything.
 #[tactic(auto, unfolding(crate::specs::Items::item_at))]
-pub fn item_at(alloc: Global, text: &[u8]) -> Item
+#[inline(never)]
+fn any_item(alloc: Global, text: &[u8]) -> Item
     ensures item { Finds result (item_at text.now) }
     ensures shorter { Shortens result text.now }
 {
@@ -724,9 +733,54 @@ pub fn item_at(alloc: Global, text: &[u8]) -> Item
     run_at(text)
 }
 
-/// Whether two texts are the same.
+// What stands behind the `<` in front, where a name begins there.
+#[tactic(auto, using(crate::proofs::StartTags::first_item))]
+fn named_front(text: &[u8]) -> Option<&[u8]>
+    ensures first { IfSome result (λ r. has_first r.now ≡ true) }
+    ensures item { IfSome result (λ r. tag_item r.now ≡ item_at text.now) }
+    ensures shorter { IfSome result (λ r. length r.now < length text.now) }
+{
+    let rest = byte_at(text, b'<')?;
+    if !has_first(rest) {
+        return None;
+    }
+    Some(rest)
+}
+
+/// The item in front of a text. A tag that ends behind its name has no attributes.
+#[inline(always)]
+pub fn item_at(alloc: Global, text: &[u8]) -> Item
+    ensures item { Finds result (item_at text.now) }
+    ensures shorter { Shortens result text.now }
+{
+    let Some(front) = named_front(text) else {
+        return any_item(alloc, text);
+    };
+    let (name, attributes) = name_front(front);
+    match tag_end(attributes) {
+        Some((empty, rest)) => {
+            let tag = Tag {
+                name,
+                attributes,
+                empty,
+            };
+            Item::Open(tag, rest)
+        }
+        None => full_item(alloc, front, name, attributes),
+    }
+}
+
+/// Whether two texts are the same. Short ones are told as fronts are.
+#[inline(always)]
+#[tactic(auto, using(crate::proofs::Fronts::unlike, crate::proofs::Fronts::whole_front))]
 pub fn is_equal(a: &[u8], b: &[u8]) -> bool
     ensures same { result ≡ is_equal a.now b.now }
 {
-    a == b
+    if b.len() > 8 {
+        return a == b;
+    }
+    if a.len() != b.len() {
+        return false;
+    }
+    begins(a, b)
 }

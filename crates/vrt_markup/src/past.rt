@@ -16,6 +16,7 @@ pub const DEEPEST: usize = 64;
 
 #[tactic(auto, using(crate::proofs::Behind::past_bad, crate::proofs::Behind::past_comment, crate::proofs::Behind::past_run, crate::proofs::Behind::past_close, crate::proofs::Behind::past_end, crate::proofs::Behind::past_other, crate::proofs::Behind::past_deep, crate::proofs::Behind::past_open, crate::proofs::Behind::past_fails))]
 #[cycle(past)]
+#[inline(never)]
 // What stands behind the end of an element.
 fn past_nodes<'a>(
     alloc: Global,
