@@ -26,7 +26,8 @@ pub fn is_blank(raw: &[u8]) -> bool
 
 // The byte that stands here, and how many bytes behind it belong to it.
 fn plain_at(c: u8, rest: &[u8]) -> (u8, u8)
-    ensures { result ≡ plain_at c rest.now }
+    ensures plain { result ≡ plain_at c rest.now }
+    ensures within { result.1 ≤ length rest.now }
 {
     if c == b'&' {
         match entity_at(rest) {
@@ -39,20 +40,16 @@ fn plain_at(c: u8, rest: &[u8]) -> (u8, u8)
 }
 
 // Adds the text, entities read.
+#[tactic(auto, using(crate::proofs::Entities::skips))]
 fn push_decoded(out: &mut Vec<u8>, raw: &[u8]) -> Result<(), AllocError>
     ensures ok { OnOk result (out.new.items ≡ out.old.items ++ decoded raw.now) }
 {
     let mut rest = raw;
-    let mut skip = 0;
     while let [c, more @ ..] = rest {
-        if skip > 0 {
-            skip -= 1;
-        } else {
-            let (byte, behind) = plain_at(*c, more);
-            out.push(byte)?;
-            skip = behind;
-        }
-        rest = more;
+        let (byte, count) = plain_at(*c, more);
+        out.push(byte)?;
+        let (_, behind) = more.split_at(count as usize);
+        rest = behind;
     }
     Ok(())
 }
