@@ -50,3 +50,7 @@ double_of (n ∷ ns) = double_from n ns
 -- a byte that begins neither a tag nor an entity
 abbrev pub is_plain : ℕ → Bool
 is_plain c = not (c == 60) && not (c == 38)
+
+-- a byte that begins no entity
+abbrev pub is_whole : ℕ → Bool
+is_whole c = not (c == 38)

@@ -1,12 +1,12 @@
 // The items of a document: comments, tags and runs of text.
 ghost use Rattle.std.specs.Prelude.{◌≡◌, ◌<◌, ◌≤◌, ◌+◌, ◌==◌, ℕ, List, length, map, true, false, IfSome, IfOk, Option};
-ghost use Rattle.std.specs.Prelude.{Some, None, [], ◌∷◌, codes};
+ghost use Rattle.std.specs.Prelude.{Some, None, [], ◌∷◌, drop, codes};
 ghost use Rattle.std.specs.Option.{option_map};
 ghost use Rattle.std.specs.List.{prefix_len};
 ghost use Rattle.lists_and_answers.specs.Texts.{is_white};
 ghost use Rattle.vrt_markup.specs.Items.{is_name, is_some, strip, trim_front, is_first, is_later, has_first};
 ghost use Rattle.vrt_markup.specs.Items.{name_at, byte_at, after_comment, entity_at, ends_at, plain_len, spaces_at};
-ghost use Rattle.vrt_markup.specs.Items.{quote_at, value_at, pair_at, is_equal, begins, pairs, attribute, is_distinct};
+ghost use Rattle.vrt_markup.specs.Items.{quote_at, value_at, pair_at, is_equal, pairs, attribute, is_distinct};
 ghost use Rattle.vrt_markup.specs.Items.{tag_end, tag_front, tag_item, tag_at, close_at, run_at, item_at};
 ghost use Rattle.vrt_markup.specs.Keys.{last_bytes, key_of, number_of, apart, double_from, double_of, spread_with};
 ghost use Rattle.vrt_markup.specs.Views.{pair_view, spread_view, tag_view, Finds, Shortens};
@@ -20,12 +20,6 @@ pub(crate) fn strip<'a>(text: &'a [u8], front: &[u8]) -> Option<&'a [u8]>
     ensures shorter { IfSome result (λ r. length r.now + length front.now ≤ length text.now) }
 {
     text.strip_prefix(front)
-}
-
-fn begins(text: &[u8], front: &[u8]) -> bool
-    ensures { result ≡ begins front.now text.now }
-{
-    strip(text, front).is_some()
 }
 
 /// Whether it is a space, or a byte from 9 to 13.
@@ -201,29 +195,33 @@ fn after_comment(text: &[u8]) -> Option<&[u8]>
 }
 
 /// The byte that an entity stands for, and its length behind the `&`.
-#[inline(never)]
+#[inline(always)]
 pub(crate) fn entity_at(text: &[u8]) -> Option<(u8, u8)>
-    ensures { result ≡ entity_at text.now }
+    ensures entity { result ≡ entity_at text.now }
+    ensures within { IfSome result (λ x. x.1 ≤ length text.now) }
+    ensures plain { IfSome result (λ x. plain_len 60 text.now ≡ x.1 + plain_len 60 (drop x.1 text.now)) }
 {
-    if begins(text, b"lt;") {
-        Some((b'<', 3))
-    } else if begins(text, b"gt;") {
-        Some((b'>', 3))
-    } else if begins(text, b"amp;") {
-        Some((b'&', 4))
-    } else if begins(text, b"quot;") {
-        Some((b'"', 5))
-    } else if begins(text, b"apos;") {
-        Some((b'\'', 5))
-    } else {
-        None
+    match text {
+        [b'a', b'm', b'p', b';', ..] => Some((b'&', 4)),
+        [b'l', b't', b';', ..] => Some((b'<', 3)),
+        [b'g', b't', b';', ..] => Some((b'>', 3)),
+        [b'q', b'u', b'o', b't', b';', ..] => Some((b'"', 5)),
+        [b'a', b'p', b'o', b's', b';', ..] => Some((b'\'', 5)),
+        _ => None,
     }
+}
+
+#[inline(never)]
+fn is_entity(text: &[u8]) -> bool
+    ensures { result ≡ is_some (entity_at text.now) }
+{
+    entity_at(text).is_some()
 }
 
 fn ends_at(end: u8, c: u8, rest: &[u8]) -> bool
     ensures { result ≡ ends_at end c rest.now }
 {
-    c == b'<' || c == end || (c == b'&' && entity_at(rest).is_none())
+    c == b'<' || c == end || (c == b'&' && !is_entity(rest))
 }
 
 /// How many bytes of plain text stand in front.
@@ -241,6 +239,36 @@ fn plain_len(text: &[u8], end: u8) -> usize
         count += 1;
     }
     count
+}
+
+/// What stands behind the byte or the entity in front, where plain text does not end there.
+#[tactic(auto, using(crate::proofs::Entities::entity_next, crate::proofs::Entities::entity_none, crate::proofs::Entities::byte_next))]
+fn behind_plain(text: &[u8]) -> Option<&[u8]>
+    ensures none { result ≡ None → plain_len 60 text.now ≡ 0 }
+    ensures plain { IfSome result (λ r. plain_len 60 text.now + length r.now ≡ plain_len 60 r.now + length text.now) }
+    ensures shorter { IfSome result (λ r. length r.now < length text.now) }
+{
+    match text {
+        [b'&', rest @ ..] => {
+            let (_, count) = entity_at(rest)?;
+            let (_, behind) = rest.split_at(count as usize);
+            Some(behind)
+        }
+        [c, rest @ ..] if *c != b'<' => Some(rest),
+        _ => None,
+    }
+}
+
+/// How many bytes of plain text stand in front of a tag.
+fn run_len(text: &[u8]) -> usize
+    ensures count { result ≡ plain_len 60 text.now }
+    ensures bound { result ≤ length text.now }
+{
+    let mut rest = text;
+    while let Some(more) = behind_plain(rest) {
+        rest = more;
+    }
+    text.len() - rest.len()
 }
 
 /// What stands behind white space, where there is some.
@@ -700,7 +728,7 @@ fn run_at(text: &[u8]) -> Item
     ensures item { Finds result (run_at text.now) }
     ensures shorter { Shortens result text.now }
 {
-    let count = plain_len(text, b'<');
+    let count = run_len(text);
     if count == 0 {
         return Item::Bad;
     }
