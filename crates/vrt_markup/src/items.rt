@@ -6,7 +6,7 @@ ghost use Rattle.std.specs.List.{prefix_len};
 ghost use Rattle.lists_and_answers.specs.Texts.{is_white};
 ghost use Rattle.vrt_markup.specs.Items.{is_name, is_some, strip, trim_front, is_first, is_later, has_first};
 ghost use Rattle.vrt_markup.specs.Items.{name_at, byte_at, after_comment, entity_at, ends_at, plain_len, spaces_at};
-ghost use Rattle.vrt_markup.specs.Items.{quote_at, value_at, pair_at, is_equal, pairs, attribute, is_distinct};
+ghost use Rattle.vrt_markup.specs.Items.{quote_at, value_at, pair_at, is_equal, begins, pairs, attribute, is_distinct};
 ghost use Rattle.vrt_markup.specs.Items.{tag_end, tag_front, tag_item, tag_at, close_at, run_at, item_at};
 ghost use Rattle.vrt_markup.specs.Keys.{last_bytes, key_of, number_of, apart, double_from, double_of, spread_with};
 ghost use Rattle.vrt_markup.specs.Views.{pair_view, spread_view, tag_view, Finds, Shortens};
@@ -20,6 +20,12 @@ pub(crate) fn strip<'a>(text: &'a [u8], front: &[u8]) -> Option<&'a [u8]>
     ensures shorter { IfSome result (λ r. length r.now + length front.now ≤ length text.now) }
 {
     text.strip_prefix(front)
+}
+
+fn begins(text: &[u8], front: &[u8]) -> bool
+    ensures { result ≡ begins front.now text.now }
+{
+    strip(text, front).is_some()
 }
 
 /// Whether it is a space, or a byte from 9 to 13.
