@@ -35,7 +35,7 @@ and_right : (a b : Bool) → a && b ≡ true → b ≡ true
 and_right true b h = h
 and_right false b h = absurd cc
 
-pub and_both : (a b : Bool) → a ≡ true → b ≡ true → a && b ≡ true
+and_both : (a b : Bool) → a ≡ true → b ≡ true → a && b ≡ true
 and_both true b g h = h
 and_both false b g h = absurd cc
 
