@@ -1,8 +1,8 @@
 -- Digits in front of a text, one by one.
-use Rattle.std.proofs.Common.{◌≡◌, ℕ, ◌+◌, ◌*◌, ◌^◌, ◌<◌, ◌≤◌, ◌-◌, Bool, true, false, ◌&&◌, List, [], ◌∷◌, ◌++◌, refl, sym, ap, ◌∙◌, arith, append_assoc}
-use Rattle.std.specs.List.{list_all}
+use Rattle.std.proofs.Common.{◌≡◌, ℕ, ◌+◌, ◌*◌, ◌^◌, ◌<◌, ◌≤◌, ◌-◌, Bool, true, false, ◌&&◌, List, [], ◌∷◌, ◌++◌, take, drop, length, refl, sym, ap, ◌∙◌, arith, append_assoc}
+use Rattle.std.specs.List.{list_all, fold}
 use Rattle.std.specs.Char.{is_ascii_digit}
-use Rattle.std.proofs.lemmas.List.{length-append}
+use Rattle.std.proofs.lemmas.List.{length-append, length-take, take-append-drop}
 use Rattle.std.proofs.lemmas.List.Folds.{list_all-append}
 use Rattle.std.proofs.lemmas.List.Sums.{fold-append}
 use Rattle.std.proofs.lemmas.Bool.Decides.{nat_tests}
@@ -53,4 +53,15 @@ run_fraction text rest n count m p d some few power value = record {
   some = omega (arith, some, d.size);
   few = omega (arith, few, d.size);
   value = value ∙ ap (λ k. k * p) d.value ∙ ap (λ k. number d.digits * k) power ∙ ap (λ k. number d.digits * 10 ^ (6 - k)) (sym d.size);
+}
+
+-- the digits in front, so many
+pub run_at : (text : List ℕ) (n count : ℕ) → list_all is_ascii_digit (take count text) ≡ true → n ≡ fold (λ m c. m * 10 + (c - 48)) 0 (take count text) → count ≤ 9 → count ≤ length text → DigitRun text n count (drop count text)
+run_at text n count all value few within = record {
+  digits = take count text;
+  whole = sym (take-append-drop count text);
+  all = all;
+  size = omega (arith, within, length-take count text);
+  few = few;
+  value = value;
 }

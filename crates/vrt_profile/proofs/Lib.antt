@@ -9,3 +9,4 @@ mod Related
 mod Built
 mod DigitRuns
 mod ShortNumbers
+mod ZeroFronts

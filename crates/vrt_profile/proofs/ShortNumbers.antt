@@ -18,12 +18,13 @@ use Rattle.geotransform.specs.Decimal.{number, scaled, signed, sign_at, digits_a
 use Rattle.geotransform.proofs.Numbers.{number_short, number-append, all_taken}
 use Rattle.vrt_markup.specs.Items.{option_case}
 use Rattle.vrt_profile.specs.Fields.{length_before, cut_by, cut_at, first_piece, trim, trim_end, near_by, near_number, pair_of}
-use Rattle.vrt_profile.specs.Fronts.{is_inner, is_key, DigitsFront, FractionFront, DecimalFront, MicrosFront, pair_with, PairFront}
+use Rattle.vrt_profile.specs.Fronts.{is_inner, is_key, DigitRun, DigitsFront, FractionFront, DecimalFront, MicrosFront, pair_with, PairFront}
 use Rattle.vrt_profile.specs.declared.rectangle.LutPair.{LutPair}
 use Rattle.vrt_profile.specs.Values.{million}
 use Rattle.vrt_profile.proofs.Rules.{signed_size}
+use Rattle.vrt_profile.proofs.DigitRuns.{run_digits}
 
-digit_inner : (c : ℕ) → is_ascii_digit c ≡ true → is_inner c ≡ true
+pub digit_inner : (c : ℕ) → is_ascii_digit c ≡ true → is_inner c ≡ true
 digit_inner c h = grind (arith, nat_tests, h)
 
 and_left : (a b : Bool) → a && b ≡ true → a ≡ true
@@ -38,14 +39,14 @@ and_both : (a b : Bool) → a ≡ true → b ≡ true → a && b ≡ true
 and_both true b g h = h
 and_both false b g h = absurd cc
 
-all_by : (p q : ℕ → Bool) (xs : List ℕ) → ((c : ℕ) → p c ≡ true → q c ≡ true) → list_all p xs ≡ true → list_all q xs ≡ true
+pub all_by : (p q : ℕ → Bool) (xs : List ℕ) → ((c : ℕ) → p c ≡ true → q c ≡ true) → list_all p xs ≡ true → list_all q xs ≡ true
 all_by p q [] f h = refl
 all_by p q (x ∷ xs) f h = and_both (q x) (list_all q xs) (f x (and_left (p x) (list_all p xs) h)) (all_by p q xs f (and_right (p x) (list_all p xs) h))
 
-not_colon : (c : ℕ) → is_inner c ≡ true → not (c == 58) ≡ true
+pub not_colon : (c : ℕ) → is_inner c ≡ true → not (c == 58) ≡ true
 not_colon c h = and_left (not (c == 58)) _ h
 
-not_comma : (c : ℕ) → is_inner c ≡ true → not (c == 44) ≡ true
+pub not_comma : (c : ℕ) → is_inner c ≡ true → not (c == 44) ≡ true
 not_comma c h = and_left (not (c == 44)) (not (is_white c)) (and_right (not (c == 58)) _ h)
 
 not_true : (b : Bool) → not b ≡ true → b ≡ false
@@ -65,7 +66,7 @@ end_bare x xs h =
     let last : is_inner (get_or (x ∷ xs) (length (x ∷ xs) - 1) 0) ≡ true = All-get_or (λ c. is_inner c ≡ true) (x ∷ xs) (length (x ∷ xs) - 1) 0 (omega arith) (AllPass-from_list_all is_inner (x ∷ xs) h) in
     ap (suffix_len is_white) (sym (take-length (x ∷ xs))) ∙ suffix_len-take_no is_white (x ∷ xs) (length (x ∷ xs)) 0 (omega arith) (omega arith) (not_white (get_or (x ∷ xs) (length (x ∷ xs) - 1) 0) last)
 
-trim_inner : (xs : List ℕ) → list_all is_inner xs ≡ true → trim xs ≡ xs
+pub trim_inner : (xs : List ℕ) → list_all is_inner xs ≡ true → trim xs ≡ xs
 trim_inner [] h = refl
 trim_inner (x ∷ xs) h =
     let whole : length (x ∷ xs) - 0 ≡ length (x ∷ xs) = omega arith in
@@ -82,7 +83,7 @@ prefix_all (x ∷ xs) h =
     ∙ ap (λ n. 1 + n) (prefix_all xs (and_right (is_ascii_digit x) (list_all is_ascii_digit xs) h))
     ∙ omega arith
 
-digits_all : (xs : List ℕ) → list_all is_ascii_digit xs ≡ true → digits_at xs ≡ (xs, [])
+pub digits_all : (xs : List ℕ) → list_all is_ascii_digit xs ≡ true → digits_at xs ≡ (xs, [])
 digits_all xs h =
     ap (λ n. (take n xs, drop n xs)) (prefix_all xs h)
     ∙ ap (λ d. (take (length xs) xs, d)) (drop-length xs)
@@ -117,7 +118,7 @@ parts_at text body digits tail fraction negative sign cut behind short some =
     ∙ ap (parts_then text negative digits) behind
     ∙ guards (nat_lt 64 (length text)) (length digits + length fraction == 0) (Some (decimal negative digits fraction)) (grind (arith, nat_tests, short)) (grind (arith, nat_tests, some))
 
-guard : {A : Type 0} (b : Bool) (x : A) → b ≡ true → cond b (Some x) None ≡ Some x
+pub guard : {A : Type 0} (b : Bool) (x : A) → b ≡ true → cond b (Some x) None ≡ Some x
 guard true x h = refl
 guard false x h = absurd cc
 
@@ -244,7 +245,7 @@ first_digit c cs digits tail false e cut some =
     let none : [] ≡ digits = ap (λ (x : List ℕ × List ℕ). x.0) cut in
     absurd (omega (arith, some, ap length none))
 
-plain_digits : (ds digits tail : List ℕ) → digits_at ds ≡ (digits, tail) → 0 < length digits → sign_at ds ≡ (false, ds)
+pub plain_digits : (ds digits tail : List ℕ) → digits_at ds ≡ (digits, tail) → 0 < length digits → sign_at ds ≡ (false, ds)
 plain_digits [] digits tail cut some =
     let none : [] ≡ digits = ap (λ (x : List ℕ × List ℕ). x.0) cut in
     absurd (omega (arith, some, ap length none))
@@ -295,6 +296,11 @@ pub micros_at : (text : List ℕ) (negative : Bool) (behind : List ℕ) (m : ℕ
 micros_at text negative behind m rest v sign value digits =
     let from : Signed text negative behind = subst (λ (s : Bool × List ℕ). Signed text s.0 s.1) (sym sign) (signed_at text) in
     subst (λ u. MicrosFront text u rest) (sym value) (front_of text negative behind m rest from digits)
+
+pub whole_at : (text rest : List ℕ) (n count m : ℕ) → DigitRun text n count rest → 0 < count → m ≡ n * 1000000 → MicrosFront text (pos m) rest
+whole_at text rest n count m d some value =
+    let plain : Signed text false text = record { sign = []; whole = refl; inner = refl; short = omega arith; same = plain_digits } in
+    subst (λ k. MicrosFront text (pos k) rest) (sym value) (front_of text false text (n * 1000000) rest plain (whole_front text rest n (run_digits text rest n count d some)))
 
 -- what stands before the first separator
 before_first : (b : ℕ) (front rest : List ℕ) → (b == b) ≡ true → list_all (λ c. not (c == b)) front ≡ true → length_before b (front ++ b ∷ rest) ≡ length front

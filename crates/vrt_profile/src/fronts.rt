@@ -1,5 +1,5 @@
 // Short numbers, as most of a document's are, read in one pass.
-ghost use Rattle.std.specs.Prelude.{◌≡◌, ◌<◌, ◌≤◌, ◌*◌, ◌-◌, ◌^◌, [], ◌∷◌, Some, pos, length, IfSome};
+ghost use Rattle.std.specs.Prelude.{◌≡◌, ◌<◌, ◌≤◌, ◌*◌, ◌-◌, ◌^◌, [], ◌∷◌, Some, pos, length, drop, IfSome};
 ghost use Rattle.std.specs.Option.{option_map};
 ghost use Rattle.geotransform.specs.Decimal.{places_of, whole_of, signed};
 ghost use Rattle.vrt_profile.specs.Fronts.{IsDigitFront, DigitRun, DigitsFront, FractionFront, DecimalFront};
@@ -165,9 +165,87 @@ fn behind_byte(text: &[u8], byte: u8) -> Option<&[u8]>
     }
 }
 
+// The number of the digits in front of ten bytes, which are nine at most, and how many they are.
+#[inline(always)]
+#[tactic(auto, using(crate::proofs::DigitRuns::run_at))]
+fn run_in_ten(text: &[u8]) -> Option<(u64, usize)>
+    requires ten { 10 ≤ length text.now }
+    ensures digits { IfSome result (λ x. DigitRun text.now x.0 x.1 (drop x.1 text.now)) }
+    ensures few { IfSome result (λ x. x.1 ≤ 9) }
+{
+    let mut n = 0u64;
+    for count in 0..10 {
+        let c = text[count];
+        if !c.is_ascii_digit() {
+            return Some((n, count));
+        }
+        n = n * 10 + (u64::from(c) - 48);
+    }
+    None
+}
+
+// The number of the one to nine digits in front, how many they are, and what stands behind this byte, which stands
+// behind them. `None` also where the text is short.
+#[inline(always)]
+fn run_before(text: &[u8], byte: u8) -> Option<(u64, usize, &[u8])>
+    ensures digits { IfSome result (λ x. DigitRun text.now x.0 x.1 (byte ∷ x.2.now)) }
+    ensures some { IfSome result (λ x. 0 < x.1) }
+    ensures shorter { IfSome result (λ x. length x.2.now < length text.now) }
+{
+    if text.len() < 10 {
+        return None;
+    }
+    let (n, count) = run_in_ten(text)?;
+    let (_, rest) = text.split_at(count);
+    let behind = behind_byte(rest, byte)?;
+    if count == 0 {
+        return None;
+    }
+    Some((n, count, behind))
+}
+
+/// The whole number of the one to nine digits in front, in millionths, and what stands behind this byte, which stands
+/// behind them. `None` also where the text is short.
+#[inline(always)]
+#[tactic(auto, using(crate::proofs::DigitRuns::run_small, crate::proofs::ShortNumbers::whole_at))]
+pub fn whole_before(text: &[u8], byte: u8) -> Option<(i64, &[u8])>
+    ensures front { IfSome result (λ x. MicrosFront text.now x.0 (byte ∷ x.1.now)) }
+    ensures shorter { IfSome result (λ x. length x.1.now < length text.now) }
+{
+    let (n, _, behind) = run_before(text, byte)?;
+    let size = product(n, 1_000_000);
+    Some((size as i64, behind))
+}
+
+/// What stands behind a zero with an exponent without a sign in front and the comma behind it. `None` also where the
+/// text is short.
+pub fn zero_before(text: &[u8]) -> Option<&[u8]>
+    ensures front { IfSome result (λ r. MicrosFront text.now (pos 0) (44 ∷ r.now)) }
+    ensures shorter { IfSome result (λ r. length r.now < length text.now) }
+{
+    let exponent = behind_byte(behind_byte(text, b'0')?, b'e')?;
+    let (_, count, behind) = run_before(exponent, b',')?;
+    if count > 3 {
+        return None;
+    }
+    Some(behind)
+}
+
 /// The short number in front, where a colon stands behind it, and what stands behind that colon.
 #[inline(always)]
 pub fn key_front(text: &[u8]) -> Option<(i64, &[u8])>
+    ensures key { IfSome result (λ x. MicrosFront text.now x.0 (58 ∷ x.1.now)) }
+    ensures shorter { IfSome result (λ x. length x.1.now < length text.now) }
+{
+    match whole_before(text, b':') {
+        Some(key) => Some(key),
+        None => signed_key(text),
+    }
+}
+
+// The same of a number with a sign or a fraction, or in a short text.
+#[inline(never)]
+fn signed_key(text: &[u8]) -> Option<(i64, &[u8])>
     ensures key { IfSome result (λ x. MicrosFront text.now x.0 (58 ∷ x.1.now)) }
     ensures shorter { IfSome result (λ x. length x.1.now < length text.now) }
 {
@@ -181,7 +259,7 @@ fn pair_front(text: &[u8]) -> Option<(LutPair, &[u8])>
     ensures pair { IfSome result (λ x. PairFront text.now x.0 x.1.now) }
     ensures shorter { IfSome result (λ x. length x.1.now < length text.now) }
 {
-    let (input, second) = key_front(text)?;
+    let (input, second) = signed_key(text)?;
     let (output, rest) = micros_front(second)?;
     Some((LutPair { input, output }, rest))
 }

@@ -4,11 +4,11 @@ ghost use Rattle.std.specs.List.{list_all, prefix_len};
 ghost use Rattle.std.specs.Option.{option_map};
 ghost use Rattle.vrt_profile.specs.Fields.{pieces, first_piece, near_number, pair_of};
 ghost use Rattle.vrt_profile.specs.Numbers.{is_above, rising_pair, next_pair, lut_of};
-ghost use Rattle.vrt_profile.specs.Fronts.{is_key, pair_with};
+ghost use Rattle.vrt_profile.specs.Fronts.{is_key, pair_with, MicrosFront};
 ghost use Rattle.vrt_markup.specs.Kept.{Gives};
 
 use crate::fields::{cut_at, near_number};
-use crate::fronts::{key_front, short_pair, short_value};
+use crate::fronts::{key_front, short_pair, short_value, whole_before, zero_before};
 use crate::rectangle::{Lut, LutPair};
 use lists_and_answers::Items;
 use std::alloc::Global;
@@ -166,18 +166,55 @@ fn any_pair_at(text: &[u8]) -> (Option<LutPair>, Option<&[u8]>)
     }
 }
 
+// The pair of this input and the number of the first piece, which may have any form, and what stands behind its comma.
+#[inline(never)]
+fn any_pair_behind(input: i64, text: &[u8]) -> (Option<LutPair>, Option<&[u8]>)
+    ensures pair { result.0 ≡ pair_with input (near_number (first_piece text.now).0) }
+    ensures behind { option_map (λ r. r.now) result.1 ≡ (first_piece text.now).1 }
+    ensures shorter { IfSome result.1 (λ r. length r.now < length text.now) }
+{
+    let (output, more) = value_at(text);
+    (pair_with(input, output), more)
+}
+
+// The whole number in front, or a zero with an exponent, and what stands behind the comma behind it. `None` also where
+// the text is short.
+#[inline(always)]
+fn plain_value(text: &[u8]) -> Option<(i64, &[u8])>
+    ensures front { IfSome result (λ x. MicrosFront text.now x.0 (44 ∷ x.1.now)) }
+    ensures shorter { IfSome result (λ x. length x.1.now < length text.now) }
+{
+    match whole_before(text, b',') {
+        Some(value) => Some(value),
+        None => {
+            let behind = zero_before(text)?;
+            Some((0, behind))
+        }
+    }
+}
+
+// The pair of this input and the number of the first piece, and what stands behind its comma.
+#[inline(always)]
+fn pair_behind(input: i64, text: &[u8]) -> (Option<LutPair>, Option<&[u8]>)
+    ensures pair { result.0 ≡ pair_with input (near_number (first_piece text.now).0) }
+    ensures behind { option_map (λ r. r.now) result.1 ≡ (first_piece text.now).1 }
+    ensures shorter { IfSome result.1 (λ r. length r.now < length text.now) }
+{
+    match plain_value(text) {
+        Some((output, behind)) => (Some(LutPair { input, output }), Some(behind)),
+        None => any_pair_behind(input, text),
+    }
+}
+
 // The pair of the first piece, and what stands behind its comma.
-#[tactic(auto, using(crate::proofs::ShortNumbers::key_pair, crate::proofs::ShortNumbers::key_behind))]
+#[tactic(auto, using(crate::proofs::ShortNumbers::key_behind))]
 fn pair_at(text: &[u8]) -> (Option<LutPair>, Option<&[u8]>)
     ensures pair { result.0 ≡ pair_of (first_piece text.now).0 }
     ensures behind { option_map (λ r. r.now) result.1 ≡ (first_piece text.now).1 }
     ensures shorter { IfSome result.1 (λ r. length r.now < length text.now) }
 {
     match key_front(text) {
-        Some((input, second)) => {
-            let (output, more) = value_at(second);
-            (pair_with(input, output), more)
-        }
+        Some((input, second)) => pair_behind(input, second),
         None => any_pair_at(text),
     }
 }
