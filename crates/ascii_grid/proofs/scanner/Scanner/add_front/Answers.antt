@@ -1,7 +1,7 @@
 use Rattle.std.proofs.Common.{sym, subst, get_or, List, ℕ, inr}
 use Rattle.std.proofs.lemmas.List.{take_more}
 use Rattle.ascii_grid.specs.Scan.{Reaches, fed}
-use Rattle.ascii_grid.proofs.scanner.Scanner.add_part.Goals as goal
+use Rattle.ascii_grid.proofs.scanner.Scanner.add_front.Goals as goal
 
 pub returns-in-Some-clause-state : goal.returns-in-Some-clause-state
 returns-in-Some-clause-state c =
