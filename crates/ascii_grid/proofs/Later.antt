@@ -1,5 +1,5 @@
 -- A value that isn't the first of its row.
-use Rattle.std.proofs.Common.{◌≡◌, ℕ, true, false, List, [], ◌∷◌, sym, ap, ◌∙◌, Ok, Result, Some, None, Option, take, drop, length, ◌≤◌, ◌<◌, ◌+◌, arith, get_or}
+use Rattle.std.proofs.Common.{◌≡◌, ℕ, true, false, List, [], sym, ap, ◌∙◌, Ok, Result, Some, None, Option, take, length, ◌≤◌, ◌<◌, ◌+◌, arith, get_or}
 use Rattle.std.specs.Prelude.{is_some}
 use Rattle.lists_and_answers.specs.Answers.{◌>>=◌}
 use Rattle.lists_and_answers.specs.Texts.{is_white}

@@ -273,8 +273,8 @@ impl Scanner {
     }
 
     // Takes the first of these bytes: white space, or a whole token with the white space behind it, where
-    // none is open, else one byte. How many it took.
-    fn add_front(&mut self, bytes: &[u8]) -> usize
+    // none is open, else one byte. Behind a value it takes those of its row, too. How many it took.
+    fn add_part(&mut self, bytes: &[u8]) -> usize
         requires { 0 < length bytes.now }
         ensures some { 0 < result }
         ensures within { result ≤ length bytes.now }
@@ -284,7 +284,7 @@ impl Scanner {
         if self.fault.is_none() && !self.held.is_open() {
             if let Some((n, _)) = value_at(bytes) {
                 self.add_number(&bytes[..n]);
-                return n + 1;
+                return n + 1 + self.add_rest(&bytes[n + 1..]);
             }
             let n = white_len(bytes);
             if n > 0 {
@@ -303,22 +303,6 @@ impl Scanner {
         }
         self.add(bytes[0]);
         1
-    }
-
-    // Takes the first of these bytes: all values of a row that was begun, where they stand in front, else less. How many
-    // it took.
-    fn add_part(&mut self, bytes: &[u8]) -> usize
-        requires { 0 < length bytes.now }
-        ensures some { 0 < result }
-        ensures within { result ≤ length bytes.now }
-        ensures state { Reaches self.new (fed self.old (take result bytes.now)) }
-        ensures stays { (f : GridFault) → self.old ≡ Err f → self.new ≡ Err f }
-    {
-        let rest = self.add_rest(bytes);
-        if rest > 0 {
-            return rest;
-        }
-        self.add_front(bytes)
     }
 
     // Takes the bytes of a piece.
