@@ -1,8 +1,7 @@
 -- Names of another length.
-use Rattle.std.proofs.Common.{◌≡◌, ◌≢◌, ℕ, Bool, true, false, List, [], ◌∷◌, refl, ap, ◌∙◌, length, ◌<◌, arith, suc, zero, get_or, take, ◌+◌, ◌≤◌, ⊎_elim}
+use Rattle.std.proofs.Common.{◌≡◌, ◌≢◌, ℕ, Bool, true, false, List, [], ◌∷◌, refl, ap, ◌∙◌, length, ◌<◌, arith, suc, zero, get_or, take}
 use Rattle.std.specs.Prelude.{◌&&◌, nat_eq, codes, Some, None, if◌then◌else◌}
 use Rattle.std.specs.Char.{to_ascii_lowercase}
-use Rattle.std.proofs.lemmas.Bool.{cases_eq}
 use Rattle.std.proofs.lemmas.Bool.Decides.{nat_tests}
 use Rattle.lists_and_answers.specs.Texts.{same_letters, is_white}
 use Rattle.ascii_grid.specs.Values.{is_body_start}
@@ -61,11 +60,3 @@ two_dark bytes (suc (suc k)) first second less = absurd (omega arith)
 pub two_head : (bytes : List ℕ) → 64 < get_or bytes 0 0 → is_body_start (take 2 bytes) ≡ false
 two_head [] first = refl
 two_head (c ∷ cs) first = high_head c (take 1 cs) first
-
--- a white byte and those behind it
-pub one_more_white : (bytes : List ℕ) (n from k : ℕ) → is_white (get_or bytes n 0) ≡ true → ((j : ℕ) → n + 1 ≤ j → j < from → is_white (get_or bytes j 0) ≡ true) → n ≤ k → k < from → is_white (get_or bytes k 0) ≡ true
-one_more_white bytes n from k first more least less =
-    ⊎_elim
-    (λ (same : k ≡ n). ap (λ j. is_white (get_or bytes j 0)) same ∙ first)
-    (λ (other : k ≢ n). more k (omega arith) less)
-    (cases_eq k n)

@@ -18,29 +18,26 @@ pub struct Pair {
     pub end: usize,
 }
 
-// How many bytes the token in front has, 0 where it is no key's name or no white space stands behind it. Names of two
-// letters are told at once.
+// How many bytes the token in front has, 0 where it is no key's name. Names of two letters are told at once.
 #[inline(always)]
 #[tactic(auto, using(crate::proofs::Names::two_dark, crate::proofs::Names::two_head))]
 fn name_len(bytes: &[u8]) -> usize
     ensures short { result ≤ 64 }
-    ensures within { 0 < result → result < length bytes.now }
+    ensures within { result ≤ length bytes.now }
     ensures dark { (k : ℕ) → k < result → is_white (get_or bytes.now k 0) ≡ false }
-    ensures white { 0 < result → is_white (get_or bytes.now result 0) ≡ true }
-    ensures head { 0 < result → is_body_start (take result bytes.now) ≡ false }
+    ensures head { is_body_start (take result bytes.now) ≡ false }
 {
     if bytes.len() > 2 && bytes[0] > b'@' && bytes[1] > b' ' && is_white(bytes[2]) {
         return 2;
     }
     let len = dark_len(bytes);
-    if len > 64 || len == bytes.len() || is_body_start(&bytes[..len]) {
+    if len > 64 || is_body_start(&bytes[..len]) {
         return 0;
     }
     len
 }
 
 /// The key and its value that stand in front, where white space stands behind both.
-#[tactic(auto, using(crate::proofs::Names::one_more_white))]
 pub fn pair_at(bytes: &[u8]) -> Option<Pair>
     ensures named { IfSome result (λ p. 0 < p.len) }
     ensures short { IfSome result (λ p. p.len ≤ 64) }
@@ -60,9 +57,9 @@ pub fn pair_at(bytes: &[u8]) -> Option<Pair>
         return None;
     }
     let key = key_of(&bytes[..len])?;
-    let from = white_end(bytes, len + 1);
+    let from = white_end(bytes, len);
     let end = dark_end(bytes, from);
-    if from < end && end - from <= 64 && end < bytes.len() {
+    if len < from && from < end && end - from <= 64 && end < bytes.len() {
         Some(Pair {
             key,
             len,
