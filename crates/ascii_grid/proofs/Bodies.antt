@@ -50,6 +50,10 @@ count_more w n x y rows new at x_in is new_is y_is =
 pub body_next : (s : Shape) (n x y at needed : ℕ) (rows new : List ℕ) → IsBody s n x rows → n ≢ needed → needed ≡ s.w * s.h → new ≡ cond (eqb x 0) (rows ++ at ∷ []) rows → y ≡ cond (eqb (x + 1) s.w) 0 (x + 1) → y < s.w → IsBody s (n + 1) y new
 body_next s n x y at needed rows new b more is new_is y_is y_in = record { few = omega (arith, b.few, more, is); column = y_in; begun = count_more s.w n x y rows new at b.column b.begun new_is y_is }
 
+-- one that isn't the first of its row
+pub body_later : (s : Shape) (n x y needed : ℕ) (rows : List ℕ) → IsBody s n x rows → x ≢ 0 → n < needed → needed ≡ s.w * s.h → y ≡ cond (eqb (x + 1) s.w) 0 (x + 1) → y < s.w → IsBody s (n + 1) y rows
+body_later s n x y needed rows b later more is y_is y_in = body_next s n x y 0 needed rows rows b (omega (arith, more)) is (rw (ne_eqb x 0 later) refl) y_is y_in
+
 -- no value yet
 pub body_begins : (s : Shape) (rows : List ℕ) → 0 < s.w → rows ≡ [] → IsBody s 0 0 rows
 body_begins s rows wide none = record { few = omega arith; column = wide; begun = ap (λ (r : List ℕ). length r * s.w) none ∙ omega arith }

@@ -69,33 +69,33 @@ small_minus : (n : ℕ) → n < 2147483648 → is_value (neg_ℤ (pos n)) ≡ tr
 small_minus zero small = refl
 small_minus (suc n) small = grind (arith, nat_tests, ints)
 
-plain_in : (bytes : List ℕ) (n : ℕ) → AreDigits (take n bytes) → 0 < n → n ≤ 60 → n ≤ length bytes → number (take n bytes) < 2147483648 → value_in 0 (take n bytes) ≡ Ok (pos (number (take n bytes)))
+plain_in : (bytes : List ℕ) (n : ℕ) → AreDigits (take n bytes) → 0 < n → n ≤ 64 → n ≤ length bytes → number (take n bytes) < 2147483648 → value_in 0 (take n bytes) ≡ Ok (pos (number (take n bytes)))
 plain_in bytes n d some few within small =
     let text : List ℕ = take n bytes in
     let count : length text ≡ n = length-take-le n bytes within in
     let sign : sign_at text ≡ (false, text) = ap sign_at (sym (append-nil text)) ∙ sign_none text [] d (omega (arith, count)) ∙ ap (λ (x : List ℕ). (false, x)) (append-nil text) in
     value_from 0 text text false sign d (omega (arith, count)) (omega (arith, count)) (small_value (number text) small)
 
-minus_in : (rest : List ℕ) (n : ℕ) → AreDigits (take n rest) → 0 < n → n ≤ 60 → n ≤ length rest → number (take n rest) < 2147483648 → value_in 0 (45 ∷ take n rest) ≡ Ok (neg_ℤ (pos (number (take n rest))))
+minus_in : (rest : List ℕ) (n : ℕ) → AreDigits (take n rest) → 0 < n → n ≤ 63 → n ≤ length rest → number (take n rest) < 2147483648 → value_in 0 (45 ∷ take n rest) ≡ Ok (neg_ℤ (pos (number (take n rest))))
 minus_in rest n d some few within small =
     let text : List ℕ = take n rest in
     let count : length text ≡ n = length-take-le n rest within in
     value_from 0 (45 ∷ text) text true refl d (omega (arith, count)) (omega (arith, count)) (small_minus (number text) small)
 
 -- the digits in front have a value, and which
-pub plain_has : (bytes : List ℕ) (n : ℕ) → AreDigits (take n bytes) → 0 < n → n ≤ 60 → n ≤ length bytes → number (take n bytes) < 2147483648 → has_value (take n bytes) ≡ true
+pub plain_has : (bytes : List ℕ) (n : ℕ) → AreDigits (take n bytes) → 0 < n → n ≤ 64 → n ≤ length bytes → number (take n bytes) < 2147483648 → has_value (take n bytes) ≡ true
 plain_has bytes n d some few within small = has_from (take n bytes) _ (plain_in bytes n d some few within small)
 
-pub plain_value : (bytes : List ℕ) (n : ℕ) → AreDigits (take n bytes) → 0 < n → n ≤ 60 → n ≤ length bytes → number (take n bytes) < 2147483648 → value_or_zero (take n bytes) ≡ pos (number (take n bytes))
+pub plain_value : (bytes : List ℕ) (n : ℕ) → AreDigits (take n bytes) → 0 < n → n ≤ 64 → n ≤ length bytes → number (take n bytes) < 2147483648 → value_or_zero (take n bytes) ≡ pos (number (take n bytes))
 plain_value bytes n d some few within small = ap or_zero (plain_in bytes n d some few within small)
 
 -- so behind a minus
-pub minus_has : (rest : List ℕ) (n : ℕ) → AreDigits (take n rest) → 0 < n → n ≤ 60 → n ≤ length rest → number (take n rest) < 2147483648 → has_value (take (n + 1) (45 ∷ rest)) ≡ true
+pub minus_has : (rest : List ℕ) (n : ℕ) → AreDigits (take n rest) → 0 < n → n ≤ 63 → n ≤ length rest → number (take n rest) < 2147483648 → has_value (take (n + 1) (45 ∷ rest)) ≡ true
 minus_has rest n d some few within small =
     let e : n + 1 ≡ suc n = omega arith in
     ap (λ k. has_value (take k (45 ∷ rest))) e ∙ has_from (45 ∷ take n rest) _ (minus_in rest n d some few within small)
 
-pub minus_value : (rest : List ℕ) (n : ℕ) → AreDigits (take n rest) → 0 < n → n ≤ 60 → n ≤ length rest → number (take n rest) < 2147483648 → value_or_zero (take (n + 1) (45 ∷ rest)) ≡ neg_ℤ (pos (number (take n rest)))
+pub minus_value : (rest : List ℕ) (n : ℕ) → AreDigits (take n rest) → 0 < n → n ≤ 63 → n ≤ length rest → number (take n rest) < 2147483648 → value_or_zero (take (n + 1) (45 ∷ rest)) ≡ neg_ℤ (pos (number (take n rest)))
 minus_value rest n d some few within small =
     let e : n + 1 ≡ suc n = omega arith in
     ap (λ k. value_or_zero (take k (45 ∷ rest))) e ∙ ap or_zero (minus_in rest n d some few within small)
@@ -107,3 +107,8 @@ unfolding step body_step
 counted s n x y at needed rows new text has is more new_is y_is =
     let other : n ≢ s.w * s.h = λ e. more (e ∙ sym is) in
     rw (ne_eqb n (s.w * s.h) other, has_is at text has, new_is, y_is) refl
+
+-- so where it isn't the first of its row
+pub counted_later : (s : Shape) (n x y needed : ℕ) → x ≢ 0 → n < needed → needed ≡ s.w * s.h → y ≡ cond (eqb (x + 1) s.w) 0 (x + 1)
+    → (rows : List ℕ) (at : ℕ) (text : List ℕ) → has_value text ≡ true → add_token (record { stage = InBody s n x; rows = rows }) (record { at = at; text = text }) ≡ Ok (record { stage = InBody s (n + 1) y; rows = rows })
+counted_later s n x y needed later more is y_is rows at text has = counted s n x y at needed rows rows text has is (omega (arith, more)) (rw (ne_eqb x 0 later) refl) y_is

@@ -28,7 +28,7 @@ part_at : (bytes : List ℕ) (a m k : ℕ) → k < m → get_or (part bytes a m)
 part_at bytes a m k less = get_or-take m (drop a bytes) k 0 less ∙ get_or-drop a bytes k 0
 
 -- a token from a place on, and the white byte behind it
-token_at : (bytes : List ℕ) (a m at begun : ℕ) (r : Read) → 0 < m → m ≤ 64 → a + m < length bytes → ((k : ℕ) → a ≤ k → k < a + m → is_white (get_or bytes k 0) ≡ false) → is_white (get_or bytes (a + m) 0) ≡ true
+pub token_at : (bytes : List ℕ) (a m at begun : ℕ) (r : Read) → 0 < m → m ≤ 64 → a + m < length bytes → ((k : ℕ) → a ≤ k → k < a + m → is_white (get_or bytes k 0) ≡ false) → is_white (get_or bytes (a + m) 0) ≡ true
     → fed (Ok (record { held = open_at at begun []; read = r })) (part bytes a (m + 1)) ≡ (add_token r (record { at = at; text = part bytes a m }) >>= λ q. Ok (record { held = passed_over at m; read = q }))
 token_at bytes a m at begun r some few within dark white =
     let run : List ℕ = part bytes a m in

@@ -16,5 +16,6 @@ pub mod Runs
 pub mod Whites
 pub mod Ticks
 pub mod KeyValues
+pub mod Later
 pub mod Names
 pub mod NoData

@@ -1,8 +1,10 @@
 -- Names of another length.
-use Rattle.std.proofs.Common.{◌≡◌, ◌≢◌, ℕ, Bool, true, false, List, [], ◌∷◌, refl, ap, ◌∙◌, length, ◌<◌, arith}
+use Rattle.std.proofs.Common.{◌≡◌, ◌≢◌, ℕ, Bool, true, false, List, [], ◌∷◌, refl, ap, ◌∙◌, length, ◌<◌, arith, suc, zero, get_or, take}
 use Rattle.std.specs.Prelude.{◌&&◌, nat_eq, codes, Some, None, if◌then◌else◌}
 use Rattle.std.specs.Char.{to_ascii_lowercase}
-use Rattle.lists_and_answers.specs.Texts.{same_letters}
+use Rattle.std.proofs.lemmas.Bool.Decides.{nat_tests}
+use Rattle.lists_and_answers.specs.Texts.{same_letters, is_white}
+use Rattle.ascii_grid.specs.Values.{is_body_start}
 use Rattle.ascii_grid.specs.declared.head_parts.Key.TheVariants.{Dx, Dy}
 use Rattle.ascii_grid.specs.Keys.{key_of}
 
@@ -41,3 +43,20 @@ not_dx text other = other_length text (codes "dx") other
 
 pub not_dy : (text : List ℕ) → length text ≢ 2 → same_letters text (codes "dy") ≡ false
 not_dy text other = other_length text (codes "dy") other
+
+high_dark : (c : ℕ) → 32 < c → is_white c ≡ false
+high_dark c high = grind (arith, nat_tests)
+
+high_head : (c : ℕ) (cs : List ℕ) → 64 < c → is_body_start (c ∷ cs) ≡ false
+high_head c cs high = grind (arith, nat_tests)
+
+-- two bytes of which neither is white
+pub two_dark : (bytes : List ℕ) (k : ℕ) → 64 < get_or bytes 0 0 → 32 < get_or bytes 1 0 → k < 2 → is_white (get_or bytes k 0) ≡ false
+two_dark bytes zero first second less = high_dark (get_or bytes 0 0) (omega (arith, first))
+two_dark bytes (suc zero) first second less = high_dark (get_or bytes 1 0) second
+two_dark bytes (suc (suc k)) first second less = absurd (omega arith)
+
+-- and of which the first is a letter
+pub two_head : (bytes : List ℕ) → 64 < get_or bytes 0 0 → is_body_start (take 2 bytes) ≡ false
+two_head [] first = refl
+two_head (c ∷ cs) first = high_head c (take 1 cs) first

@@ -6,7 +6,7 @@ ghost use Rattle.ascii_grid.specs.Keys.{key_of};
 
 use crate::head_parts::Key;
 use crate::keys::key_of;
-use crate::tokens::{dark_end, dark_len, white_end};
+use crate::tokens::{dark_end, dark_len, is_white, white_end};
 use crate::values::is_body_start;
 
 /// A key, how many bytes it has, and where its value begins and ends.
@@ -16,6 +16,25 @@ pub struct Pair {
     pub len: usize,
     pub from: usize,
     pub end: usize,
+}
+
+// How many bytes the token in front has, 0 where it is no key's name. Names of two letters are told at once.
+#[inline(always)]
+#[tactic(auto, using(crate::proofs::Names::two_dark, crate::proofs::Names::two_head))]
+fn name_len(bytes: &[u8]) -> usize
+    ensures short { result ≤ 64 }
+    ensures within { result ≤ length bytes.now }
+    ensures dark { (k : ℕ) → k < result → is_white (get_or bytes.now k 0) ≡ false }
+    ensures head { is_body_start (take result bytes.now) ≡ false }
+{
+    if bytes.len() > 2 && bytes[0] > b'@' && bytes[1] > b' ' && is_white(bytes[2]) {
+        return 2;
+    }
+    let len = dark_len(bytes);
+    if len > 64 || is_body_start(&bytes[..len]) {
+        return 0;
+    }
+    len
 }
 
 /// The key and its value that stand in front, where white space stands behind both.
@@ -33,8 +52,8 @@ pub fn pair_at(bytes: &[u8]) -> Option<Pair>
     ensures dark { IfSome result (λ p. (k : ℕ) → p.from ≤ k → k < p.end → is_white (get_or bytes.now k 0) ≡ false) }
     ensures last { IfSome result (λ p. is_white (get_or bytes.now p.end 0) ≡ true) }
 {
-    let len = dark_len(bytes);
-    if len == 0 || len > 64 || is_body_start(&bytes[..len]) {
+    let len = name_len(bytes);
+    if len == 0 {
         return None;
     }
     let key = key_of(&bytes[..len])?;

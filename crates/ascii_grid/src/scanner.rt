@@ -18,7 +18,7 @@ use crate::keys::{set_value, shape_of};
 use crate::open::Open;
 use crate::pairs::pair_at;
 use crate::starts::Starts;
-use crate::steps::{add_number, add_token, needed};
+use crate::steps::{add_number, add_token, count_later, needed};
 use crate::tokens::{dark_len, is_white, white_len};
 use crate::values::value_at;
 use geotransform::Size;
@@ -211,8 +211,69 @@ impl Scanner {
         }
     }
 
+    // Takes a value that isn't the first of its row, with a byte of white space behind it, or else the white space in
+    // front, where no token is open. How many bytes it took, 0 where something else stands there.
+    fn add_later(&mut self, bytes: &[u8]) -> usize
+        ensures within { result ≤ length bytes.now }
+        ensures state { self.new ≡ fed self.old (take result bytes.now) }
+        ensures stays { (f : GridFault) → self.old ≡ Err f → self.new ≡ Err f }
+    {
+        if self.fault.is_some() {
+            return 0;
+        }
+        if self.held.is_open() {
+            return 0;
+        }
+        if let Stage::InBody(shape, n, x) = &mut self.stage {
+            if let Some((len, _)) = value_at(bytes) {
+                if count_later(shape, n, x) {
+                    self.held.pass_token(len);
+                    return len + 1;
+                }
+                return 0;
+            }
+            let white = white_len(bytes);
+            if white > 0 {
+                self.add_white(&bytes[..white]);
+                return white;
+            }
+        }
+        0
+    }
+
+    // Takes the values of a row behind its first one, as long as they stand in front, in a function of its own: they
+    // need little on the stack. How many bytes it took.
+    #[inline(never)]
+    fn add_values(&mut self, bytes: &[u8]) -> usize
+        ensures within { result ≤ length bytes.now }
+        ensures state { self.new ≡ fed self.old (take result bytes.now) }
+        ensures stays { (f : GridFault) → self.old ≡ Err f → self.new ≡ Err f }
+    {
+        let mut at = 0;
+        while at < bytes.len() {
+            let taken = self.add_later(&bytes[at..]);
+            if taken == 0 {
+                return at;
+            }
+            at += taken;
+        }
+        at
+    }
+
+    // So where a row was begun and isn't at its end.
+    fn add_rest(&mut self, bytes: &[u8]) -> usize
+        ensures within { result ≤ length bytes.now }
+        ensures state { self.new ≡ fed self.old (take result bytes.now) }
+        ensures stays { (f : GridFault) → self.old ≡ Err f → self.new ≡ Err f }
+    {
+        match &self.stage {
+            Stage::InBody(_, _, x) if *x > 0 => self.add_values(bytes),
+            _ => 0,
+        }
+    }
+
     // Takes the first of these bytes: white space, or a whole token with the white space behind it, where
-    // none is open, else one byte. How many it took.
+    // none is open, else one byte. Behind a value it takes those of its row, too. How many it took.
     fn add_part(&mut self, bytes: &[u8]) -> usize
         requires { 0 < length bytes.now }
         ensures some { 0 < result }
@@ -223,7 +284,7 @@ impl Scanner {
         if self.fault.is_none() && !self.held.is_open() {
             if let Some((n, _)) = value_at(bytes) {
                 self.add_number(&bytes[..n]);
-                return n + 1;
+                return n + 1 + self.add_rest(&bytes[n + 1..]);
             }
             let n = white_len(bytes);
             if n > 0 {

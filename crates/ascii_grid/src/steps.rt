@@ -1,6 +1,6 @@
 // What a token changes.
 ghost use Rattle.std.specs.Prelude.{◌≡◌, ℕ, true, List, ◌≤◌, ◌<◌, ◌+◌, ◌*◌, ◌^◌, ◌++◌, ◌==◌, [], ◌∷◌, if◌then◌else◌};
-ghost use Rattle.std.specs.Prelude.{IfOk, IfErr, OnOk, OnErr};
+ghost use Rattle.std.specs.Prelude.{IfOk, IfErr, OnOk, OnErr, Ok, false};
 ghost use Rattle.ascii_grid.specs.Values.{has_value};
 ghost use Rattle.ascii_grid.specs.Faults.{IsMemory};
 ghost use Rattle.ascii_grid.specs.declared.head_parts.Stage.TheVariants.{AtKey, InBody};
@@ -95,6 +95,26 @@ fn count_value(
     *n += 1;
     *x = column_after(shape, *x);
     Ok(())
+}
+
+/// Counts a value of the body that isn't the first of its row, where one is to come. Whether it did.
+#[tactic(auto, using(crate::proofs::Fronts::counted_later, crate::proofs::Bodies::body_later))]
+pub fn count_later(shape: &Shape, n: &mut u64, x: &mut u32) -> bool
+    requires { x.old < shape.now.w }
+    ensures read { result ≡ true → (rows : List ℕ) (at : ℕ) (text : List ℕ) → has_value text ≡ true →
+        add_token (record { stage = InBody shape.now n.old x.old; rows = rows }) (record { at = at; text = text })
+        ≡ Ok (record { stage = InBody shape.now n.new x.new; rows = rows }) }
+    ensures keeps { result ≡ true → (rows : List ℕ) → IsBody shape.now n.old x.old rows →
+        IsBody shape.now n.new x.new rows }
+    ensures count { result ≡ false → n.new ≡ n.old }
+    ensures column { result ≡ false → x.new ≡ x.old }
+{
+    if *x == 0 || *n >= needed(shape) {
+        return false;
+    }
+    *n += 1;
+    *x = column_after(shape, *x);
+    true
 }
 
 // What a token in a key's place says: a key, or the first value of the body.

@@ -245,11 +245,11 @@ fn digits_in(bytes: &[u8]) -> (usize, u32)
     (bytes.len(), n)
 }
 
-// The digits in front, where they are a number below 2^31 and white space stands behind them: how many they
-// are, and the number.
-fn number_at(bytes: &[u8]) -> Option<(usize, u32)>
+// The digits in front, where they are a number below 2^31, at most so many, and white space stands behind them: how
+// many they are, and the number.
+fn number_at(bytes: &[u8], most: usize) -> Option<(usize, u32)>
     ensures some { IfSome result (λ r. 0 < r.0) }
-    ensures few { IfSome result (λ r. r.0 ≤ 60) }
+    ensures few { IfSome result (λ r. r.0 ≤ most) }
     ensures within { IfSome result (λ r. r.0 < length bytes.now) }
     ensures digits { IfSome result (λ r. list_all is_ascii_digit (take r.0 bytes.now) ≡ true) }
     ensures value { IfSome result (λ r. r.1 ≡ number (take r.0 bytes.now)) }
@@ -257,7 +257,7 @@ fn number_at(bytes: &[u8]) -> Option<(usize, u32)>
     ensures white { IfSome result (λ r. is_white (get_or bytes.now r.0 0) ≡ true) }
 {
     let (n, value) = digits_in(bytes);
-    if n > 0 && n <= 60 && n < bytes.len() && is_white(bytes[n]) {
+    if n > 0 && n <= most && n < bytes.len() && is_white(bytes[n]) {
         Some((n, value))
     } else {
         None
@@ -285,7 +285,7 @@ fn minus_at(bytes: &[u8]) -> Option<(usize, i32)>
     ensures has { IfSome result (λ r. has_value (take r.0 bytes.now) ≡ true) }
     ensures value { IfSome result (λ r. r.1 ≡ value_or_zero (take r.0 bytes.now)) }
 {
-    match number_at(&bytes[1..]) {
+    match number_at(&bytes[1..], 63) {
         Some((n, value)) => Some((n + 1, signed_number(true, value))),
         None => None,
     }
@@ -306,7 +306,7 @@ pub fn value_at(bytes: &[u8]) -> Option<(usize, i32)>
     if bytes.len() > 0 && bytes[0] == b'-' {
         return minus_at(bytes);
     }
-    match number_at(bytes) {
+    match number_at(bytes, 64) {
         Some((n, value)) => Some((n, signed_number(false, value))),
         None => None,
     }
