@@ -94,8 +94,8 @@ fn source_name(alloc: Global, base: &Name, source: &Source) -> Result<Option<Nam
     }
 }
 
-// Whether two sources name the same file by the same text.
-fn is_same_file(last: &Source, source: &Source) -> bool
+/// Whether two sources name the same file by the same text.
+pub fn is_same_file(last: &Source, source: &Source) -> bool
     ensures relative { result ≡ true → source.now.relative ≡ last.now.relative }
     ensures file { result ≡ true → source.now.file ≡ last.now.file }
 {
