@@ -1,36 +1,25 @@
 -- The names of a mosaic's sources, gathered with their numbers.
-use Rattle.std.proofs.Common.{◌≡◌, ◌∙◌, ap, sym, refl, true, false, cond, not, ◌||◌, ◌&&◌, zero, suc, ◌<◌, ◌==◌, ℕ, Bool, List, [], ◌∷◌, ◌++◌, map, drop, Some, bytes_eq, arith}
+use Rattle.std.proofs.Common.{◌≡◌, ◌∙◌, ap, sym, refl, true, false, cond, not, ◌||◌, ◌&&◌, zero, suc, ◌<◌, ◌==◌, ℕ, Bool, List, [], ◌∷◌, ◌++◌, map, drop, length, Some, bytes_eq, arith}
 use Rattle.std.specs.Prelude.{slice_get}
+use Rattle.std.specs.declared.cmp.Ordering.{Ordering}
+use Rattle.std.specs.declared.cmp.Ordering.TheVariants.{Less, Equal, Greater}
+use Rattle.std.specs.Ordering.{is_eq, is_gt, nat_cmp, ordering_reverse}
+use Rattle.std.specs.Cmp.Lexicographic.{slice_cmp, nat_list_cmp_total}
 use Rattle.std.specs.List.{filter, list_any}
 use Rattle.std.proofs.lemmas.Bool.Decides.{nat_tests}
-use Rattle.std.proofs.lemmas.List.{map-append}
+use Rattle.std.proofs.lemmas.Map.Text.{is_eq-slice_cmp}
 use Rattle.std.proofs.lemmas.Slice.Eq.{bytes_eq-Decides}
 use Rattle.lists_and_answers.specs.Lists.{is_among, with_name}
 use Rattle.vrt_markup.specs.Keys.{apart}
 use Rattle.catalog.specs.declared.gathered.Gathered.{Gathered}
 use Rattle.catalog.specs.Mosaics.{distinct}
-use Rattle.catalog.specs.Gathered.{HasGathered, text_number}
+use Rattle.catalog.specs.Gathered.{HasGathered, text_number, last_order, order_behind, rises, is_rising}
 use Rattle.catalog.proofs.Mosaics.{distinct_with, among_distinct}
 
 -- no name yet
-pub gathered_none : (own : List ℕ) (g : Gathered) → g.files ≡ own ∷ [] → g.numbers.items ≡ [] → HasGathered own [] g
-gathered_none own g files numbers = record { kept = []; files = files; numbers = numbers; same = refl }
+pub gathered_none : (own : List ℕ) (g : Gathered) → g.files ≡ own ∷ [] → g.rising ≡ true → HasGathered own [] g
+gathered_none own g files rising = record { kept = []; files = files; rising = rising; same = refl }
 
--- a name that is the last one already, and a new one
-pub gathered_again : (own : List ℕ) (names : List (List ℕ)) (g : Gathered) (x : List ℕ) → is_among (distinct names) x ≡ true → HasGathered own names g → HasGathered own (names ++ x ∷ []) g
-gathered_again own names g x among h =
-    record { kept = h.kept; files = h.files; numbers = h.numbers; same = h.same ∙ sym (distinct_with names x ∙ ap (λ b. cond b (distinct names) (distinct names ++ x ∷ [])) among) }
-
-pub gathered_more : (own : List ℕ) (names : List (List ℕ)) (old new : Gathered) (x : List ℕ) (n : ℕ) → n ≡ text_number 0 x → new.numbers.items ≡ old.numbers.items ++ n ∷ [] → new.files ≡ old.files ++ x ∷ [] → HasGathered own names old → HasGathered own (names ++ x ∷ []) new
-gathered_more own names old new x n is numbers files h =
-    record {
-      kept = h.kept ++ x ∷ [];
-      files = files ∙ ap (λ l. l ++ x ∷ []) h.files;
-      numbers = numbers ∙ ap (λ l. l ++ n ∷ []) h.numbers ∙ ap (λ k. map (text_number 0) h.kept ++ k ∷ []) is ∙ sym (map-append (text_number 0) h.kept (x ∷ []));
-      same = distinct_with h.kept x ∙ ap (λ l. with_name l x) h.same ∙ sym (distinct_with names x);
-    }
-
--- the name at a place is among the names
 pub or_true : (a : Bool) → (a || true) ≡ true
 or_true true = refl
 or_true false = refl
@@ -38,20 +27,99 @@ or_true false = refl
 some_same : {X : Type 0} (x y : X) → Some x ≡ Some y → x ≡ y
 some_same x y e = cc
 
-get_among : (ns : List (List ℕ)) (at : ℕ) (x : List ℕ) → slice_get ns at ≡ Some x → is_among ns x ≡ true
-get_among [] at x e = absurd cc
-get_among (n ∷ ns) zero x e = ap (λ b. b || is_among ns x) ((bytes_eq-Decides n x).1 (some_same n x e))
-get_among (n ∷ ns) (suc at) x e = ap (λ b. bytes_eq n x || b) (get_among ns at x e) ∙ or_true (bytes_eq n x)
+-- the order behind some names
+pub order_one : (own x : List ℕ) (kept : List (List ℕ)) (at : ℕ) (y : List ℕ) → slice_get (own ∷ kept) at ≡ Some y → length kept ≡ at → last_order own kept x ≡ slice_cmp nat_cmp x y
+order_one own x [] zero y e l = ap (slice_cmp nat_cmp x) (some_same own y e)
+order_one own x [] (suc at) y e l = absurd (omega (arith, l))
+order_one own x (n ∷ ns) zero y e l = absurd (omega (arith, l))
+order_one own x (n ∷ ns) (suc at) y e l = order_one n x ns at y e (omega (arith, l))
 
-behind_own : (own x : List ℕ) (kept : List (List ℕ)) (at : ℕ) → 0 < at → slice_get (own ∷ kept) at ≡ Some x → is_among kept x ≡ true
-behind_own own x kept zero some e = absurd (omega (arith, some))
-behind_own own x kept (suc at) some e = get_among kept at x e
+pub order_at : (files : List (List ℕ)) (x : List ℕ) (at : ℕ) (y : List ℕ) → 0 < at → slice_get files at ≡ Some y → length files ≡ suc at → slice_cmp nat_cmp x y ≡ order_behind files x
+order_at [] x at y some e l = absurd (omega (arith, l))
+order_at (own ∷ []) x at y some e l = absurd (omega (arith, some, l))
+order_at (own ∷ n ∷ ns) x zero y some e l = absurd (omega (arith, some))
+order_at (own ∷ n ∷ ns) x (suc at) y some e l = sym (order_one n x ns at y e (omega (arith, l)))
 
-pub last_among : (own : List ℕ) (names : List (List ℕ)) (g : Gathered) (at : ℕ) (x : List ℕ) → 0 < at → slice_get g.files at ≡ Some x → HasGathered own names g → is_among (distinct names) x ≡ true
-last_among own names g at x some e h =
-    ap (λ l. is_among l x) (sym h.same)
-    ∙ among_distinct h.kept x
-    ∙ behind_own own x h.kept at some (ap (λ l. slice_get l at) (sym h.files) ∙ e)
+-- a name that is the last one already
+same_order : (n x : List ℕ) → is_eq (slice_cmp nat_cmp x n) ≡ true → bytes_eq n x ≡ true
+same_order n x e = (bytes_eq-Decides n x).1 (sym ((bytes_eq-Decides x n).0 (sym (is_eq-slice_cmp x n) ∙ e)))
+
+last_order_among : (n : List ℕ) (ns : List (List ℕ)) (x : List ℕ) → is_eq (last_order n ns x) ≡ true → is_among (n ∷ ns) x ≡ true
+last_order_among n [] x e = ap (λ b. b || is_among [] x) (same_order n x e)
+last_order_among n (m ∷ ms) x e = ap (λ b. bytes_eq n x || b) (last_order_among m ms x e) ∙ or_true (bytes_eq n x)
+
+order_among : (own : List ℕ) (kept : List (List ℕ)) (x : List ℕ) → is_eq (order_behind (own ∷ kept) x) ≡ true → is_among kept x ≡ true
+order_among own [] x e = absurd cc
+order_among own (n ∷ ns) x e = last_order_among n ns x e
+
+pub gathered_again : (own : List ℕ) (names : List (List ℕ)) (g : Gathered) (x : List ℕ) → is_among (distinct names) x ≡ true → HasGathered own names g → HasGathered own (names ++ x ∷ []) g
+gathered_again own names g x among h =
+    record { kept = h.kept; files = h.files; rising = h.rising; same = h.same ∙ sym (distinct_with names x ∙ ap (λ b. cond b (distinct names) (distinct names ++ x ∷ [])) among) }
+
+pub gathered_last : (own : List ℕ) (names : List (List ℕ)) (g : Gathered) (x : List ℕ) → is_eq (order_behind g.files x) ≡ true → HasGathered own names g → HasGathered own (names ++ x ∷ []) g
+gathered_last own names g x last h =
+    let among : is_among (distinct names) x ≡ true = ap (λ l. is_among l x) (sym h.same) ∙ among_distinct h.kept x ∙ order_among own h.kept x (ap (λ l. is_eq (order_behind l x)) (sym h.files) ∙ last) in
+    gathered_again own names g x among h
+
+-- a new name
+and_none : (b : Bool) → (b && true) ≡ b
+and_none true = refl
+and_none false = refl
+
+and_moved : (a b c : Bool) → (a && (b && c)) ≡ ((a && b) && c)
+and_moved true b c = refl
+and_moved false b c = refl
+
+rises_more : (n : List ℕ) (ns : List (List ℕ)) (x : List ℕ) → rises n (ns ++ x ∷ []) ≡ (rises n ns && is_gt (last_order n ns x))
+rises_more n [] x = and_none (is_gt (slice_cmp nat_cmp x n))
+rises_more n (m ∷ ms) x = ap (λ b. is_gt (slice_cmp nat_cmp m n) && b) (rises_more m ms x) ∙ and_moved (is_gt (slice_cmp nat_cmp m n)) (rises m ms) (is_gt (last_order m ms x))
+
+rising_more : (own : List ℕ) (kept : List (List ℕ)) (x : List ℕ) → is_rising (kept ++ x ∷ []) ≡ (is_rising kept && is_gt (order_behind (own ∷ kept) x))
+rising_more own [] x = refl
+rising_more own (n ∷ ns) x = rises_more n ns x
+
+pub gathered_more : (own : List ℕ) (names : List (List ℕ)) (old new : Gathered) (x : List ℕ) → new.rising ≡ (old.rising && is_gt (order_behind old.files x)) → new.files ≡ old.files ++ x ∷ [] → HasGathered own names old → HasGathered own (names ++ x ∷ []) new
+gathered_more own names old new x rising files h =
+    record {
+      kept = h.kept ++ x ∷ [];
+      files = files ∙ ap (λ l. l ++ x ∷ []) h.files;
+      rising = rising ∙ ap (λ b. b && is_gt (order_behind old.files x)) h.rising ∙ ap (λ l. is_rising h.kept && is_gt (order_behind l x)) h.files ∙ sym (rising_more own h.kept x);
+      same = distinct_with h.kept x ∙ ap (λ l. with_name l x) h.same ∙ sym (distinct_with names x);
+    }
+
+-- names that rise are distinct
+and_true : (a b : Bool) → (a && b) ≡ true → (a ≡ true) × (b ≡ true)
+and_true true true h = (refl, refl)
+and_true true false h = absurd cc
+and_true false b h = absurd cc
+
+turned_less : (r : Ordering) → is_gt r ≡ true → ordering_reverse r ≡ Less
+turned_less Less e = absurd cc
+turned_less Equal e = absurd cc
+turned_less Greater e = refl
+
+below : (x y : List ℕ) → is_gt (slice_cmp nat_cmp y x) ≡ true → slice_cmp nat_cmp x y ≡ Less
+below x y e = nat_list_cmp_total.antisymm x y ∙ turned_less (slice_cmp nat_cmp y x) e
+
+less_differs : (x y : List ℕ) → slice_cmp nat_cmp x y ≡ Less → bytes_eq x y ≡ false
+less_differs x y e = sym (is_eq-slice_cmp x y) ∙ ap is_eq e
+
+rises_stay : (l n : List ℕ) (ns : List (List ℕ)) → slice_cmp nat_cmp l n ≡ Less → rises n ns ≡ true → filter (λ k. not (bytes_eq l k)) (n ∷ ns) ≡ n ∷ ns
+rises_stay l n [] less h = ap (λ b. cond (not b) (n ∷ []) []) (less_differs l n less)
+rises_stay l n (m ∷ ms) less h =
+    let both = and_true (is_gt (slice_cmp nat_cmp m n)) (rises m ms) h in
+    ap (λ b. cond (not b) (n ∷ filter (λ k. not (bytes_eq l k)) (m ∷ ms)) (filter (λ k. not (bytes_eq l k)) (m ∷ ms))) (less_differs l n less)
+    ∙ ap (λ k. n ∷ k) (rises_stay l m ms (nat_list_cmp_total.trans l n m less (below n m both.0)) both.1)
+
+rises_distinct : (n : List ℕ) (ns : List (List ℕ)) → rises n ns ≡ true → distinct (n ∷ ns) ≡ n ∷ ns
+rises_distinct n [] h = refl
+rises_distinct n (m ∷ ms) h =
+    let both = and_true (is_gt (slice_cmp nat_cmp m n)) (rises m ms) h in
+    ap (λ l. n ∷ filter (λ k. not (bytes_eq n k)) l) (rises_distinct m ms both.1) ∙ ap (λ l. n ∷ l) (rises_stay n m ms (below n m both.0) both.1)
+
+pub rising_distinct : (ns : List (List ℕ)) → is_rising ns ≡ true → distinct ns ≡ ns
+rising_distinct [] h = refl
+rising_distinct (n ∷ ns) h = rises_distinct n ns h
 
 -- names whose numbers differ are distinct
 or_none : (a b : Bool) → (a || b) ≡ false → (a ≡ false) × (b ≡ false)
@@ -83,16 +151,17 @@ all_stay n (k ∷ ks) h =
     ap (λ b. cond (not b) (k ∷ filter (λ k. not (bytes_eq n k)) ks) (filter (λ k. not (bytes_eq n k)) ks)) (other_name n k (bytes_eq n k) refl both.0)
     ∙ ap (λ l. k ∷ l) (all_stay n ks both.1)
 
-apart_distinct : (ns : List (List ℕ)) → apart (λ x y. x == y) (map (text_number 0) ns) ≡ true → distinct ns ≡ ns
+pub apart_distinct : (ns : List (List ℕ)) → apart (λ x y. x == y) (map (text_number 0) ns) ≡ true → distinct ns ≡ ns
 apart_distinct [] h = refl
 apart_distinct (n ∷ ns) h =
     let both = and_both (list_any (λ m. text_number 0 n == m) (map (text_number 0) ns)) (apart (λ x y. x == y) (map (text_number 0) ns)) h in
     ap (λ l. n ∷ filter (λ k. not (bytes_eq n k)) l) (apart_distinct ns both.1) ∙ ap (λ l. n ∷ l) (all_stay n ns both.0)
 
 -- what was gathered, each name once
-pub listed_apart : (own : List ℕ) (names : List (List ℕ)) (g : Gathered) → apart (λ x y. x == y) g.numbers.items ≡ true → HasGathered own names g → g.files ≡ own ∷ distinct names
-listed_apart own names g differ h =
-    let kept = apart_distinct h.kept (ap (apart (λ x y. x == y)) (sym h.numbers) ∙ differ) in
+pub listed_apart : (own : List ℕ) (names : List (List ℕ)) (g : Gathered) → ((g.rising ≡ true → is_rising (drop 1 g.files) ≡ true) → distinct (drop 1 g.files) ≡ drop 1 g.files) → HasGathered own names g → g.files ≡ own ∷ distinct names
+listed_apart own names g told h =
+    let behind : drop 1 g.files ≡ h.kept = ap (drop 1) h.files in
+    let kept : distinct h.kept ≡ h.kept = ap distinct (sym behind) ∙ told (λ rising. ap is_rising behind ∙ sym h.rising ∙ rising) ∙ behind in
     h.files ∙ ap (λ l. own ∷ l) (sym kept ∙ h.same)
 
 pub listed_once : (own : List ℕ) (names files : List (List ℕ)) (g : Gathered) → files ≡ own ∷ distinct (drop 1 g.files) → HasGathered own names g → files ≡ own ∷ distinct names

@@ -26,6 +26,7 @@ pub mod Readings
 pub mod Records
 pub mod Repeated
 pub mod Rows
+pub mod Same
 pub mod Scans
 pub mod States
 pub mod Visits

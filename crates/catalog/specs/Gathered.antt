@@ -1,5 +1,9 @@
 -- The files of a mosaic while the names of its sources are gathered.
-use Rattle.std.specs.Prelude.{◌≡◌, ℕ, ◌+◌, ◌*◌, ◌%◌, true, List, [], ◌∷◌, map, IfSome}
+use Rattle.std.specs.Prelude.{◌≡◌, ℕ, ◌+◌, ◌*◌, ◌%◌, ◌&&◌, Bool, true, List, [], ◌∷◌, IfSome}
+use Rattle.std.specs.declared.cmp.Ordering.{Ordering}
+use Rattle.std.specs.declared.cmp.Ordering.TheVariants.{Greater}
+use Rattle.std.specs.Ordering.{is_gt, nat_cmp}
+use Rattle.std.specs.Cmp.Lexicographic.{slice_cmp}
 use Rattle.std.specs.List.{filter_map}
 use Rattle.lists_and_answers.specs.Lists.{is_among}
 use Rattle.vrt_profile.specs.Values.{SourceValue}
@@ -11,11 +15,31 @@ abbrev pub text_number : ℕ → List ℕ → ℕ
 text_number number [] = number
 text_number number (c ∷ cs) = text_number (number % 36028797018963968 * 257 + c) cs
 
--- behind the own name there are names of which some may stand again, with their numbers
+-- how a name compares with the last of some names
+abbrev pub last_order : List ℕ → List (List ℕ) → List ℕ → Ordering
+last_order n [] x = slice_cmp nat_cmp x n
+last_order n (m ∷ ms) x = last_order m ms x
+
+-- how a name compares with the last of those behind the first one: it is greater where there is none
+abbrev pub order_behind : List (List ℕ) → List ℕ → Ordering
+order_behind [] x = Greater
+order_behind (own ∷ []) x = Greater
+order_behind (own ∷ n ∷ ns) x = last_order n ns x
+
+-- whether each name is greater than the one before it
+abbrev pub rises : List ℕ → List (List ℕ) → Bool
+rises n [] = true
+rises n (m ∷ ms) = is_gt (slice_cmp nat_cmp m n) && rises m ms
+
+abbrev pub is_rising : List (List ℕ) → Bool
+is_rising [] = true
+is_rising (n ∷ ns) = rises n ns
+
+-- behind the own name there are names of which some may stand again, and it is known whether they rise
 pub record HasGathered (own : List ℕ) (names : List (List ℕ)) (g : Gathered) : Type 0 where
   pub kept : List (List ℕ)
   pub files : g.files ≡ own ∷ kept
-  pub numbers : g.numbers.items ≡ map (text_number 0) kept
+  pub rising : g.rising ≡ is_rising kept
   pub same : distinct kept ≡ distinct names
 
 -- the name of a source, if it has one, is that of one of the sources before it

@@ -1,6 +1,6 @@
 -- What each call of a walk ensures.
 use Rattle.std.specs.Prelude.{◌≡◌, ◌<◌, ◌≤◌, ◌+◌, ◌-◌, ℕ, Bool, List, ◌∷◌, length, Option, Some, None, is_some, IsTrue}
-use Rattle.std.specs.Prelude.{Result, Ok, Err, IfOk, OnOk, IfErr}
+use Rattle.std.specs.Prelude.{Result, Ok, Err, IfOk, OnOk, IfErr, take}
 use Rattle.lists_and_answers.specs.Answers.{Gives, ◌>>=◌}
 use Rattle.lists_and_answers.specs.Lists.{flattened}
 use Rattle.outside.specs.Outside.{Files}
@@ -22,7 +22,7 @@ use Rattle.catalog.specs.Heads.{kind_in, resolved, IsOwnFault, OwnsFaults}
 use Rattle.catalog.specs.Walk.{number_of, one_more_source, visit, visit_sources, IsWalked, TellsKinds, WalksUnknown}
 use Rattle.catalog.specs.Readings.{calls_to_open_all}
 use Rattle.catalog.specs.Linked.{State, met_of, most, IsLinked, IsMember, Each, AreRows, IsPath, IsLow, Grows, Goes}
-use Rattle.catalog.specs.Linked.{pushed, one_counted}
+use Rattle.catalog.specs.Linked.{pushed, one_counted, HasSource, height_at}
 
 -- what a folder tells, and how often it was written, was read and has failed
 pub record Seen : Type 0 where
@@ -123,6 +123,16 @@ pub record ReachesRows (st : State) (room : ℕ) (base : List ℕ) (bands : List
   where
     pub members : AreRows st base bands rows
     pub low : most st.links (flattened rows) ≤ room
+
+-- the walk went through the sources of a band before one of them
+pub record IsGoneTo (st : State) (room id band source : ℕ) (row : List ℕ) : Type 0 where
+  pub there : HasSource st id band source
+  pub reached : Reaches st room there.of.mosaic.dataset.head.name (take source there.of.value.sources) row
+
+-- a source of the mosaic with the name `base` names a dataset that was met whole, and isn't higher than this
+pub record IsAgain (st : State) (room : ℕ) (base : List ℕ) (s : SourceValue) (id : ℕ) : Type 0 where
+  pub member : IsMember st base s id
+  pub low : height_at st.links id ≤ room
 
 -- a walk through sources of the mosaic with the name `base`, in order
 pub record Passes {T : Type 0} (verify : Bool) (room : ℕ) (base : List ℕ) (ss : List SourceValue) (before after : Seen)

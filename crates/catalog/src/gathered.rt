@@ -1,20 +1,21 @@
-// The names of a mosaic's sources, gathered with numbers by which they differ as a rule.
-ghost use Rattle.std.specs.Prelude.{◌≡◌, ◌==◌, ◌++◌, ◌∷◌, [], true, List, ℕ, drop, IfOk, OnOk};
-ghost use Rattle.lists_and_answers.specs.Lists.{is_among};
+// The names of a mosaic's sources, which are distinct where they rise or where their numbers differ.
+ghost use Rattle.std.specs.Prelude.{◌≡◌, ◌==◌, ◌++◌, ◌∷◌, ◌&&◌, [], true, List, ℕ, drop, map, IfOk, OnOk};
+ghost use Rattle.std.specs.Ordering.{is_gt};
 ghost use Rattle.vrt_markup.specs.Keys.{apart};
 ghost use Rattle.catalog.specs.Mosaics.{distinct};
-ghost use Rattle.catalog.specs.Gathered.{HasGathered, text_number};
+ghost use Rattle.catalog.specs.Gathered.{HasGathered, text_number, is_rising, order_behind};
 
 use lists_and_answers::Items;
 use outside::{Name, Names};
 use std::alloc::{AllocError, Global};
+use std::cmp::Ordering;
 
 /// The files of a mosaic so far: its own name and then names of sources, of which later ones may be
-/// earlier ones again; and the number of each name behind the own one.
+/// earlier ones again; and whether each name of a source is greater than the one before it.
 #[derive(Drop)]
 pub struct Gathered {
     pub files: Names,
-    pub numbers: Vec<u64>,
+    pub rising: bool,
 }
 
 // The number that the bytes of a text make.
@@ -30,6 +31,13 @@ fn text_number(text: &[u8]) -> u64
     number
 }
 
+// Whether names rise that rose before, and of which the last one is followed in this order.
+fn rises(before: bool, order: Ordering) -> bool
+    ensures rises { result ≡ (before && is_gt order) }
+{
+    before && order.is_gt()
+}
+
 impl Gathered {
     /// The own name alone.
     #[tactic(auto, using(crate::proofs::Gatherings::gathered_none))]
@@ -40,46 +48,68 @@ impl Gathered {
         files.push(own.try_clone()?)?;
         Ok(Gathered {
             files,
-            numbers: Vec::new(alloc),
+            rising: true,
         })
     }
 
-    // Whether the last name of a source is this one.
-    #[tactic(auto, using(crate::proofs::Gatherings::last_among))]
-    fn ends_with(&self, name: &Name) -> bool
-        ensures among { result ≡ true → ((own : List ℕ) (names : List (List ℕ)) → HasGathered own names self.now →
-            is_among (distinct names) name.now ≡ true) }
+    // How a name compares with that of the last source, by their bytes: it is greater where there is none.
+    fn order(&self, name: &Name) -> Ordering
+        ensures order { result ≡ order_behind self.now.files name.now }
     {
         let count = self.files.len();
         if count < 2 {
-            return false;
+            return Ordering::Greater;
         }
-        self.files.get(count - 1).is(name)
+        name.as_str().cmp(self.files.get(count - 1).as_str())
     }
 
     /// Adds the name of a source, unless it is that of the last one.
-    #[tactic(auto, using(crate::proofs::Gatherings::gathered_again, crate::proofs::Gatherings::gathered_more))]
+    #[tactic(auto, using(crate::proofs::Gatherings::gathered_last, crate::proofs::Gatherings::gathered_more))]
     pub fn add(&mut self, name: Name) -> Result<(), AllocError>
         ensures gathered { OnOk result ((own : List ℕ) (names : List (List ℕ)) → HasGathered own names self.old →
             HasGathered own (names ++ name ∷ []) self.new) }
     {
-        if self.ends_with(&name) {
+        let order = self.order(&name);
+        if order.is_eq() {
             return Ok(());
         }
-        let number = text_number(name.as_str().as_bytes());
-        self.numbers.push(number)?;
+        self.rising = rises(self.rising, order);
         self.files.push(name)
     }
 }
 
-/// Whether no two of the numbers are the same: those that are stand side by side once they are sorted.
-pub fn differ(mut numbers: Vec<u64>) -> bool
+// Whether no two of the numbers are the same: those that are stand side by side once they are sorted.
+fn differ(mut numbers: Vec<u64>) -> bool
     ensures { result ≡ apart (λ x y. x == y) numbers.items }
 {
     let count = numbers.len();
     numbers.sort_unstable();
     numbers.dedup();
     numbers.len() == count
+}
+
+// The number of each name.
+fn numbers_of(alloc: Global, names: &[Name]) -> Result<Vec<u64>, AllocError>
+    ensures numbers { IfOk result (λ numbers. numbers.items ≡ map (text_number 0) names.now) }
+{
+    let mut numbers = Vec::with_capacity(alloc, names.len())?;
+    for name in names {
+        numbers.push(text_number(name.as_str().as_bytes()))?;
+    }
+    Ok(numbers)
+}
+
+/// Whether names are told to be distinct, by their order where they rise, and else by their numbers.
+#[tactic(auto, using(crate::proofs::Gatherings::rising_distinct, crate::proofs::Gatherings::apart_distinct))]
+pub fn are_apart(alloc: Global, rising: bool, names: &[Name]) -> Result<bool, AllocError>
+    ensures apart { IfOk result (λ b. b ≡ true → (rising ≡ true → is_rising names.now ≡ true) →
+        distinct names.now ≡ names.now) }
+{
+    if rising {
+        return Ok(true);
+    }
+    let numbers = numbers_of(alloc, names)?;
+    Ok(differ(numbers))
 }
 
 /// The names behind the first one.

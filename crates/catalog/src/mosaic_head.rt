@@ -10,7 +10,7 @@ ghost use Rattle.catalog.specs.Listed.{HasListed};
 ghost use Rattle.catalog.specs.Heads.{all_resolved, names_within};
 
 use crate::driver::Content;
-use crate::gathered::{Gathered, behind_first, differ};
+use crate::gathered::{Gathered, are_apart, behind_first};
 use crate::{BandHead, Bands, Head, Kind, LimitKind, WalkFault};
 use geotransform::Size;
 use lists_and_answers::Items;
@@ -69,14 +69,14 @@ fn distinct_files(alloc: Global, own: &Name, names: &[Name]) -> Result<Names, Al
     Ok(listing.files)
 }
 
-// The files that were gathered, each once. Where all numbers differ, no name stands twice.
+// The files that were gathered, each once.
 #[tactic(auto, using(crate::proofs::Gatherings::listed_apart, crate::proofs::Gatherings::listed_once))]
 fn listed(alloc: Global, own: &Name, gathered: Gathered) -> Result<Names, AllocError>
     ensures listed { IfOk result (λ files. (names : List (List ℕ)) → HasGathered own.now names gathered →
         files ≡ own.now ∷ distinct names) }
 {
-    let Gathered { files, numbers } = gathered;
-    if differ(numbers) {
+    let Gathered { files, rising } = gathered;
+    if are_apart(alloc, rising, behind_first(files.as_slice()))? {
         return Ok(files);
     }
     distinct_files(alloc, own, behind_first(files.as_slice()))
@@ -94,8 +94,8 @@ fn source_name(alloc: Global, base: &Name, source: &Source) -> Result<Option<Nam
     }
 }
 
-// Whether two sources name the same file by the same text.
-fn is_same_file(last: &Source, source: &Source) -> bool
+/// Whether two sources name the same file by the same text.
+pub fn is_same_file(last: &Source, source: &Source) -> bool
     ensures relative { result ≡ true → source.now.relative ≡ last.now.relative }
     ensures file { result ≡ true → source.now.file ≡ last.now.file }
 {

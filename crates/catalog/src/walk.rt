@@ -1,6 +1,6 @@
 // The walk from a name to all that it reaches.
 ghost use Rattle.std.specs.Prelude.{◌≡◌, ◌<◌, ◌≤◌, ◌∷◌, ◌||◌, [], ℕ, List, Bool, Some, None, length, slice_get, Ok};
-ghost use Rattle.std.specs.Prelude.{IfOk, IfErr, OnOk};
+ghost use Rattle.std.specs.Prelude.{IfOk, IfErr, IfSome, OnOk, true};
 ghost use Rattle.lists_and_answers.specs.Answers.{Gives};
 ghost use Rattle.outside.specs.Outside.{Files};
 ghost use Rattle.catalog.specs.Outcomes.{IsMemory};
@@ -13,16 +13,18 @@ ghost use Rattle.catalog.specs.Walk.{has_samples, unless_wide, visit};
 ghost use Rattle.vrt_profile.specs.Value.{is_plain};
 ghost use Rattle.catalog.specs.Linked.{IsLinked, IsPath, IsLow, IsMosaicAt, HasBand, HasSource, met_of};
 ghost use Rattle.catalog.specs.Walking.{IsPlain, Meets, Visits, Passes, Names, Reaches, ReachesRows, seen};
+ghost use Rattle.catalog.specs.Walking.{IsGoneTo, IsAgain};
 
 use crate::driver::Content;
 use crate::kind::kind_of;
 use crate::links::{Link, Members, Met};
+use crate::mosaic_head::is_same_file;
 use crate::own_files::read_dataset;
 use crate::{Bad, Kind, LimitKind, WalkFault};
 use lists_and_answers::Items;
 use outside::{Folder, Name, NameFault};
 use std::alloc::Global;
-use vrt_profile::{VrtFault, resolve, resolved_len};
+use vrt_profile::{Source, VrtFault, resolve, resolved_len};
 
 /// The most datasets of a catalog.
 pub const MOST_DATASETS: u32 = 65_536;
@@ -240,8 +242,40 @@ fn meet<F: Folder>(
     meet_first(alloc, met, folder, verify, room, kind, name)
 }
 
+// Whether two sources take the same band of the same file, and both give its samples as they are or neither does.
+fn is_same_band(last: &Source, source: &Source) -> bool
+    ensures relative { result ≡ true → source.now.relative ≡ last.now.relative }
+    ensures file { result ≡ true → source.now.file ≡ last.now.file }
+    ensures band { result ≡ true → source.now.band ≡ last.now.band }
+    ensures plain { result ≡ true → is_plain source.now ≡ is_plain last.now }
+{
+    if source.band != last.band || source.is_plain() != last.is_plain() {
+        return false;
+    }
+    is_same_file(last, source)
+}
+
+// The dataset that a source names, where the source before it takes the same band: the last one of those that were
+// visited for the sources before it.
+fn visited(met: &Met, at: SourceAt, row: &Members) -> Option<u32>
+    requires there { HasSource met.now at.id at.band at.source }
+    ensures again { IfSome result (λ id. (room : ℕ) → IsGoneTo met.now room at.id at.band at.source row.now →
+        (w : HasSource met.now at.id at.band at.source) →
+        IsAgain met.now room w.of.mosaic.dataset.head.name w.value id) }
+{
+    let count = row.len();
+    if count == 0 || count != at.source {
+        return None;
+    }
+    let sources = &met.band(at.id, at.band).sources;
+    if !is_same_band(sources.get(count - 1), sources.get(at.source)) {
+        return None;
+    }
+    Some(*row.get(count - 1))
+}
+
 // Visits what a source of a mosaic names, after it is counted; then the band must be there, with samples that the
-// source takes.
+// source takes. All this was done for the source before it where that takes the same band.
 #[cycle(walk)]
 fn visit_source<F: Folder>(
     alloc: Global,
@@ -250,16 +284,22 @@ fn visit_source<F: Folder>(
     verify: bool,
     room: u32,
     at: SourceAt,
+    row: &Members,
 ) -> Result<u32, WalkFault>
     requires linked { IsLinked met.old }
     requires room { room < most_nestings }
     requires there { HasSource met.old at.id at.band at.source }
+    requires row { IsGoneTo met.old room at.id at.band at.source row.now }
     ensures passes { (w : HasSource met.old at.id at.band at.source) → Passes verify room w.of.mosaic.dataset.head.name
         (w.value ∷ []) (seen (F.names folder.old) (F.write_calls folder.old) (F.read_calls folder.old)
         (F.faults folder.old)) (seen (F.names folder.new) (F.write_calls folder.new) (F.read_calls folder.new)
         (F.faults folder.new)) met.old met.new (λ t. Reaches met.new room w.of.mosaic.dataset.head.name (w.value ∷ [])
         (t ∷ [])) result }
 {
+    if let Some(member) = visited(met, at, row) {
+        met.count_source()?;
+        return Ok(member);
+    }
     let wanted = count_and_resolve(alloc, met, at)?;
     let member = visit(alloc, met, folder, verify, room, &wanted.name)?;
     check_samples(met, at.id, member, &wanted)?;
@@ -289,7 +329,7 @@ fn visit_band<F: Folder>(
     let count = met.band(id, band).sources.len();
     for source in 0..count {
         let at = SourceAt { id, band, source };
-        let member = visit_source(alloc, met, folder, verify, room, at)?;
+        let member = visit_source(alloc, met, folder, verify, room, at, &row)?;
         row.push(member)?;
     }
     Ok(row)

@@ -5,9 +5,10 @@ use Rattle.catalog.specs.Mosaics.{sources_of}
 use Rattle.catalog.specs.declared.faults.WalkFault.TheVariants.{Memory}
 use Rattle.catalog.specs.Walking.{seen}
 use Rattle.catalog.proofs.Listings.{err_is}
-use Rattle.catalog.proofs.Passes.{source_unnamed, counted_linked, mosaic_still, source_unvisited, source_bandless, source_passed, band_refused, band_more, band_ends, bands_refused, bands_more, bands_end, source_there, band_there, item_counted}
+use Rattle.catalog.proofs.Passes.{source_unnamed, names_uncounted, counted_linked, mosaic_still, source_unvisited, source_bandless, source_passed, band_refused, band_more, band_ends, bands_refused, bands_more, bands_end, source_there, band_there, item_counted}
 use Rattle.catalog.proofs.Walking.{passes_memory}
 use Rattle.catalog.proofs.Closings.{visits_below, rows_known, rows_low, open_known, visits_closed}
+use Rattle.catalog.proofs.Same.{source_again}
 use Rattle.catalog.proofs.walk.+walk.Goals as goal
 
 pub visit-returns-in_err-members-in-Open : goal.visit-returns-in_err-members-in-Open
@@ -36,9 +37,20 @@ visit-returns-in_ok-members-in-Open g t c =
     let o = rw c.in-Open.is at c.in_ok-meeting.ensures.meets in
     record { visits = visits_closed c.args.verify c.args.room c.args.name.now _ _ _ c.args.met.now c.meet.new.met c.in-Open.id o c.visit_bands.new.met c.in_ok-members-in-Open.members c.requires.room c.in_ok-members-in-Open.ensures.passes c.close.new.self c.close.ensures.closed }
 
+pub visit_source-returns-in_err-count_source : goal.visit_source-returns-in_err-count_source
+visit_source-returns-in_err-count_source g t c =
+    let result = err_is c.from_residual.result c.in_err-count_source.field-0.0 c.from_residual.ensures in
+    let e = c.in_err-count_source.ensures in
+    record { passes = λ w. rw result (source_unnamed c.args.verify c.args.room w.of.mosaic.dataset.head.name w.value ℕ _ _ c.args.met.now c.count_source.new.self c.in_err-count_source.field-0.0 (names_uncounted w.of.mosaic.dataset.head.name w.value c.args.met.now c.count_source.new.self c.in_err-count_source.field-0.0 e.told e.plain e.err)) }
+
+pub visit_source-returns-in-Some : goal.visit_source-returns-in-Some
+visit_source-returns-in-Some g t c =
+    let e = c.in_ok-count_source.ensures in
+    record { passes = λ w. rw e.ok (source_again c.args.verify c.args.room w.of.mosaic.dataset.head.name w.value _ c.args.met.now c.in-Some.member c.requires.linked e.told (c.in-Some.ensures.again c.args.room c.requires.row w)) }
+
 pub visit_source-returns-in_err-wanted : goal.visit_source-returns-in_err-wanted
 visit_source-returns-in_err-wanted g t c =
-    let result = err_is c.from_residual.result c.in_err-wanted.field-0.0 c.from_residual.ensures in
+    let result = err_is c.from_residual-in_err-wanted.result c.in_err-wanted.field-0.0 c.from_residual-in_err-wanted.ensures in
     record { passes = λ w. rw result (source_unnamed c.args.verify c.args.room w.of.mosaic.dataset.head.name w.value ℕ _ _ c.args.met.now c.count_and_resolve.new.met c.in_err-wanted.field-0.0 (c.in_err-wanted.ensures.names w)) }
 
 pub visit_source-visit-requires-clause-linked : goal.visit_source-visit-requires-clause-linked
@@ -81,6 +93,15 @@ visit_band-visit_source-requires-clause-there g t c κs within =
     let w = c.requires.there in
     let s = item_counted w.value.sources c.behind-met.inside.sources c.loop-source.source c.len-count.result c.loop-source-test.true c.len-count.ensures.count (ap (λ (b : BandValue). b.sources) (c.behind-met.view_is ∙ c.band.ensures.band w)) in
     source_there c.args.met.now c.loop-source.met c.args.id c.args.band c.loop-source.source (c.loop-source.invariant w).walks.grows w s.0 s.1
+
+pub visit_band-visit_source-requires-clause-row : goal.visit_band-visit_source-requires-clause-row
+visit_band-visit_source-requires-clause-row g t c κs within =
+    let w = c.requires.there in
+    let s = item_counted w.value.sources c.behind-met.inside.sources c.loop-source.source c.len-count.result c.loop-source-test.true c.len-count.ensures.count (ap (λ (b : BandValue). b.sources) (c.behind-met.view_is ∙ c.band.ensures.band w)) in
+    record {
+      there = source_there c.args.met.now c.loop-source.met c.args.id c.args.band c.loop-source.source (c.loop-source.invariant w).walks.grows w s.0 s.1;
+      reached = (c.loop-source.invariant w).reached;
+    }
 
 pub visit_band-returns-in_err-member : goal.visit_band-returns-in_err-member
 visit_band-returns-in_err-member g t c =
