@@ -30,4 +30,5 @@ are_plain_behind text (Some rest) = are_plain false text ≡ are_plain true rest
 -- two texts add the same parts to any that stand before them
 abbrev pub add_the_same : List ℕ → List ℕ → Type 0
 add_the_same text other =
-    (absolute : Bool) (before : List (List ℕ)) → parts_of absolute before (pieces text) ≡ parts_of absolute before (pieces other)
+    (absolute : Bool) (before : List (List ℕ)) → parts_of absolute before (pieces text)
+    ≡ parts_of absolute before (pieces other)
