@@ -18,7 +18,8 @@ pub struct Pair {
     pub end: usize,
 }
 
-// How many bytes the token in front has, 0 where it is no key's name. Names of two letters are told at once.
+// How many bytes the token in front has, 0 where it has more than 64 or begins a body. One of two bytes, the first of
+// which is above `@`, is told at once.
 #[inline(always)]
 #[tactic(auto, using(crate::proofs::Names::two_dark, crate::proofs::Names::two_head))]
 fn name_len(bytes: &[u8]) -> usize

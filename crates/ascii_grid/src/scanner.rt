@@ -241,8 +241,8 @@ impl Scanner {
         0
     }
 
-    // Takes the values of a row behind its first one, as long as they stand in front, in a function of its own: they
-    // need little on the stack. How many bytes it took.
+    // Takes the values of a row behind its first one, as long as they stand in front, in a function of its own: what
+    // other tokens need on the stack isn't made for them. How many bytes it took.
     #[inline(never)]
     fn add_values(&mut self, bytes: &[u8]) -> usize
         ensures within { result ≤ length bytes.now }

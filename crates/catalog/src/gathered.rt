@@ -31,7 +31,7 @@ fn text_number(text: &[u8]) -> u64
     number
 }
 
-// Whether names rise that rose before, and of which the last one is followed in this order.
+// Whether names still rise with one more, which stands to the last one in this order; `before` says whether they rose.
 fn rises(before: bool, order: Ordering) -> bool
     ensures rises { result ≡ (before && is_gt order) }
 {

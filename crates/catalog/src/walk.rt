@@ -275,7 +275,8 @@ fn visited(met: &Met, at: SourceAt, row: &Members) -> Option<u32>
 }
 
 // Visits what a source of a mosaic names, after it is counted; then the band must be there, with samples that the
-// source takes. All this was done for the source before it where that takes the same band.
+// source takes. All this but the
+// count was done for the source before it where that takes the same band of the same file.
 #[cycle(walk)]
 fn visit_source<F: Folder>(
     alloc: Global,

@@ -41,7 +41,7 @@ fn take_part<'a>(absolute: bool, parts: &mut Vec<&'a str>, part: &'a str) -> Res
     Ok(())
 }
 
-// The parts that stay.
+// The parts that stay. Empty parts and points are passed over without being cut off one by one.
 fn normal_parts(alloc: Global, absolute: bool, text: &str) -> Result<Vec<&str>, AllocError>
     ensures { IfOk result (λ parts. seen parts.items ≡ parts_of absolute [] (pieces text.now)) }
 {

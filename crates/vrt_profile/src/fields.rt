@@ -58,7 +58,8 @@ pub fn cut_at(text: &[u8], byte: u8) -> Option<(&[u8], &[u8])>
     }
 }
 
-/// A number in millionths below 5,000,000,000.
+/// A number in millionths, rounded half away from zero. `None` where the text is none, or where it reaches
+/// 5,000,000,000 in magnitude.
 pub fn near_number(text: &[u8]) -> Option<i64>
     ensures number { result ≡ near_number text.now }
     ensures near { IfSome result (λ v. unsigned_abs v < 5000000000 * million) }

@@ -165,7 +165,7 @@ fn behind_byte(text: &[u8], byte: u8) -> Option<&[u8]>
     }
 }
 
-// The number of the digits in front of ten bytes, which are nine at most, and how many they are.
+// The number of the digits in front of a text of at least ten bytes, nine digits at most, and how many they are.
 #[inline(always)]
 #[tactic(auto, using(crate::proofs::DigitRuns::run_at))]
 fn run_in_ten(text: &[u8]) -> Option<(u64, usize)>
@@ -217,8 +217,8 @@ pub fn whole_before(text: &[u8], byte: u8) -> Option<(i64, &[u8])>
     Some((size as i64, behind))
 }
 
-/// What stands behind a zero with an exponent without a sign in front and the comma behind it. `None` also where the
-/// text is short.
+/// What stands behind the comma behind a zero with an exponent of one to three digits, as in `0e999`: a table of such
+/// zeros is read in one pass, too. `None` also where the text is short.
 pub fn zero_before(text: &[u8]) -> Option<&[u8]>
     ensures front { IfSome result (λ r. MicrosFront text.now (pos 0) (44 ∷ r.now)) }
     ensures shorter { IfSome result (λ r. length r.now < length text.now) }
@@ -243,7 +243,7 @@ pub fn key_front(text: &[u8]) -> Option<(i64, &[u8])>
     }
 }
 
-// The same of a number with a sign or a fraction, or in a short text.
+// The same of a short number of any form, in a text of any length.
 #[inline(never)]
 fn signed_key(text: &[u8]) -> Option<(i64, &[u8])>
     ensures key { IfSome result (λ x. MicrosFront text.now x.0 (58 ∷ x.1.now)) }

@@ -100,6 +100,7 @@ fn value_at(text: &[u8]) -> (Option<i64>, Option<&[u8]>)
     }
 }
 
+// The pair of an input and an output, where there is one.
 fn pair_with(input: i64, output: Option<i64>) -> Option<LutPair>
     ensures pair { result ≡ pair_with input output }
 {
