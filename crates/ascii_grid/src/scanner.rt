@@ -225,6 +225,9 @@ impl Scanner {
             return 0;
         }
         if let Stage::InBody(shape, n, x) = &mut self.stage {
+            if *x == 0 {
+                return 0;
+            }
             if let Some((len, _)) = value_at(bytes) {
                 if count_later(shape, n, x) {
                     self.held.pass_token(len);

@@ -216,7 +216,7 @@ fn trimmed(text: &str) -> &str
 fn rebuilt(alloc: Global, text: &str) -> Result<Text, AllocError>
     ensures { IfOk result (λ path. path ≡ normal text.now) }
 {
-    let absolute = text.as_bytes().first() == Some(&b'/');
+    let absolute = is_absolute(text.as_bytes());
     let parts = normal_parts(alloc, absolute, text)?;
     if parts.is_empty() {
         return Text::new(alloc, if absolute { "/" } else { "." });

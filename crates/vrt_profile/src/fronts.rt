@@ -239,13 +239,13 @@ pub fn key_front(text: &[u8]) -> Option<(i64, &[u8])>
 {
     match whole_before(text, b':') {
         Some(key) => Some(key),
-        None => signed_key(text),
+        None => short_key(text),
     }
 }
 
 // The same of a short number of any form, in a text of any length.
 #[inline(never)]
-fn signed_key(text: &[u8]) -> Option<(i64, &[u8])>
+fn short_key(text: &[u8]) -> Option<(i64, &[u8])>
     ensures key { IfSome result (λ x. MicrosFront text.now x.0 (58 ∷ x.1.now)) }
     ensures shorter { IfSome result (λ x. length x.1.now < length text.now) }
 {
@@ -259,7 +259,7 @@ fn pair_front(text: &[u8]) -> Option<(LutPair, &[u8])>
     ensures pair { IfSome result (λ x. PairFront text.now x.0 x.1.now) }
     ensures shorter { IfSome result (λ x. length x.1.now < length text.now) }
 {
-    let (input, second) = signed_key(text)?;
+    let (input, second) = short_key(text)?;
     let (output, rest) = micros_front(second)?;
     Some((LutPair { input, output }, rest))
 }
