@@ -72,6 +72,7 @@ fn related_file(alloc: Global, base: &Name, name: &Name) -> Result<(bool, Text),
     ensures named { IfOk result (λ x. x ≡ related base.now name.now) }
     ensures some { IfOk result (λ x. 0 < length x.1) }
 {
+    // This call is made for the proof: a name isn't empty.
     let _text = name.as_str();
     relate(alloc, base, name)
 }

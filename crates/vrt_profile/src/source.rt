@@ -326,6 +326,7 @@ fn ruled(rect: Option<MicroRect>) -> Option<MicroRect>
 {
     match rect {
         Some(rect) => {
+            // This is read for the proof: the rules of a rectangle.
             let _x = rect.x;
             Some(rect)
         }
@@ -360,6 +361,7 @@ fn ruled_lut(lut: Option<Lut>) -> Option<Lut>
 {
     match lut {
         Some(lut) => {
+            // This call is made for the proof: the rules of a table.
             let _pairs = lut.pairs();
             Some(lut)
         }
