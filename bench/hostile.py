@@ -225,7 +225,8 @@ def sources():
     document("the most sources, each with a NODATA", Text((SOURCES, 1), (nodata, MOST), (SOURCES_END, 1)))
     one_pair = front + b"0:0" + back
     document("the most sources, each with a table of one pair", Text((SOURCES, 1), (one_pair, MOST), (SOURCES_END, 1)))
-    for what, unit in ("", b"0"), (" with zeros of the greatest exponent", b"0e999"):
+    zeros = (" with zeros of the greatest exponent", b"0e999"), (" with zeros of a great exponent in capitals", b"0E999")
+    for what, unit in ("", b"0"), *zeros:
         table = Text((b"{}:" + unit + b",", range(65_535)), (b"65535:" + unit, 1))
         lookup = front + b"".join(table.pieces()) + back
         document(f"tables of 65,536 pairs{what}", filled(SOURCES, lookup, SOURCES_END))
@@ -255,6 +256,9 @@ def lists():
     row("list: the last of 65,536 isn't there", {"x.txt": last, **ONE}, words, 1, "ERROR 4: none.bil: no such file")
     long = Text((b"./" * 2043 + b"one.bil\n", 16_000), (b"none.bil\n", 1))
     row("list: names of 4,093 bytes", {"x.txt": long, **ONE}, words, 1, "ERROR 4: none.bil: no such file")
+    above = Text((b"../" * 1360 + b"none.bil\n", 16_000))
+    up = "../" * 1360 + "none.bil"
+    row("list: names of 1,360 folders up", {"x.txt": above}, words, 1, f"ERROR 4: {up}: no such file")
 
 
 def inputs():
