@@ -4,11 +4,11 @@
     bench/hostile.py PROGRAM [--times N] [--folder FOLDER] [WORD..]
 
 makes one file after another (in a new folder, or in FOLDER, which is kept), runs PROGRAM over it N times (3 where none
-is named), and prints a row: how long the file is, how the run ends, the least wall time and the greatest peak of memory,
-and both as parts of their bounds. The bound of the time is that of the start, which is a run over a name that isn't there,
-and ten times that of `cat FILE | wc -c`; the bound of the memory is four times the length and 16 MiB. A part above 1 is
-past its bound. With WORDs only those rows are run whose names have one of them. The last line counts the rows that are
-past a bound or end otherwise than they have to; the status is 0 where there is none.
+is named), and prints a row: how long the file is, how the run ends, the least wall time and the greatest peak of
+memory, and both as parts of their bounds. The bound of the time is that of the start, which is a run over a name that
+isn't there, and ten times that of `cat FILE | wc -c`; the bound of the memory is four times the length and 16 MiB. A
+part above 1 is past its bound. With WORDs only those rows are run whose names have one of them. The last line counts
+the rows that are past a bound or end otherwise than they have to; the status is 0 where there is none.
 
 The machine has to be idle. A peak of less than about 9 MiB isn't seen. The files take 70 MB at a time."""
 import argparse
@@ -49,7 +49,8 @@ class Text:
 
 
 def filled(front, unit, back=b"", length=DOCUMENT, is_whole=True):
-    """A text of this length at most: a front, a unit as often as it fits (and a part unless it has to be whole), a back."""
+    """A text of this length at most: a front, a unit as often as it fits (and a part of it, unless it has to be whole),
+    a back."""
     left = length - len(front) - len(back)
     rest = b"" if is_whole else unit[: left % len(unit)]
     return Text((front, 1), (unit, left // len(unit)), (rest, 1), (back, 1))
@@ -225,7 +226,8 @@ def sources():
     document("the most sources, each with a NODATA", Text((SOURCES, 1), (nodata, MOST), (SOURCES_END, 1)))
     one_pair = front + b"0:0" + back
     document("the most sources, each with a table of one pair", Text((SOURCES, 1), (one_pair, MOST), (SOURCES_END, 1)))
-    for what, unit in ("", b"0"), (" with zeros of the greatest exponent", b"0e999"):
+    zeros = (" with zeros of the greatest exponent", b"0e999"), (" with zeros of a great exponent in capitals", b"0E999")
+    for what, unit in ("", b"0"), *zeros:
         table = Text((b"{}:" + unit + b",", range(65_535)), (b"65535:" + unit, 1))
         lookup = front + b"".join(table.pieces()) + back
         document(f"tables of 65,536 pairs{what}", filled(SOURCES, lookup, SOURCES_END))
@@ -255,6 +257,9 @@ def lists():
     row("list: the last of 65,536 isn't there", {"x.txt": last, **ONE}, words, 1, "ERROR 4: none.bil: no such file")
     long = Text((b"./" * 2043 + b"one.bil\n", 16_000), (b"none.bil\n", 1))
     row("list: names of 4,093 bytes", {"x.txt": long, **ONE}, words, 1, "ERROR 4: none.bil: no such file")
+    above = Text((b"../" * 1360 + b"none.bil\n", 16_000))
+    up = "../" * 1360 + "none.bil"
+    row("list: names of 1,360 folders up", {"x.txt": above}, words, 1, f"ERROR 4: {up}: no such file")
 
 
 def inputs():
@@ -337,7 +342,8 @@ def try_row(program, times, start, what, files, words, status, line):
 def main(words):
     parser = argparse.ArgumentParser(prog="bench/hostile.py", description="files that are made to cost a reader much")
     parser.add_argument("program", help="the built program")
-    parser.add_argument("wanted", nargs="*", metavar="WORD", help="rows whose names have this word; all, if there is none")
+    told = "rows whose names have this word; all, if there is none"
+    parser.add_argument("wanted", nargs="*", metavar="WORD", help=told)
     parser.add_argument("--times", type=int, default=3, help="runs of each")
     parser.add_argument("--folder", help="where the files are made")
     said = parser.parse_intermixed_args(words)

@@ -1,5 +1,6 @@
 #!/usr/bin/env python3
-"""What a sample of each output costs: nanoseconds of processor time of a whole gdal_translate, with 1, 64 and all blocks.
+"""What a sample of each output costs: nanoseconds of processor time of a whole gdal_translate, with 1, 64 and all
+blocks.
 
     python3 bench/outputs.py FOLDER PROGRAM [--times N]
 
@@ -55,7 +56,8 @@ def main():
     make(folder, program)
     print(f"{'output':28}" + "".join(f"{blocks:>8}" for blocks in BLOCKS))
     for told, words, bands in OUTPUTS:
-        costs = [cost(program, folder, ["--blocks", blocks, "in.bil", *words], SIDE * SIDE * bands, times) for blocks in BLOCKS]
+        samples = SIDE * SIDE * bands
+        costs = [cost(program, folder, ["--blocks", it, "in.bil", *words], samples, times) for it in BLOCKS]
         print(f"{told:28}" + "".join(f"{it:8.1f}" for it in costs))
 
 

@@ -4,8 +4,8 @@
     python3 bench/random_mosaics.py FOLDER CASES SEED PROGRAM OTHER
 
 Each case is a few small files and mosaics of them and of one another, with up to 60 sources that overlap, are scaled,
-shifted or cut off, have a NODATA or a table. The last mosaic, or a window of it, is translated by both programs, with 1,
-3, 64 and 65,536 blocks and some workers. The last line says how many cases differed; each of these stays in FOLDER.
+shifted or cut off, have a NODATA or a table. The last mosaic, or a window of it, is translated by both programs, with
+1, 3, 64 and 65,536 blocks and some workers. The last line says how many cases differed; each of these stays in FOLDER.
 """
 import hashlib
 import os
@@ -74,7 +74,8 @@ def made(program, words, out):
     """What a run says, and what it makes."""
     shutil.rmtree(out, ignore_errors=True)
     os.makedirs(out)
-    run = subprocess.run([program, "gdal_translate", "-q", "-of", "EHdr", *words, f"{out}/out.bil"], capture_output=True)
+    line = [program, "gdal_translate", "-q", "-of", "EHdr", *words, f"{out}/out.bil"]
+    run = subprocess.run(line, capture_output=True)
     if run.returncode != 0:
         return run.returncode, run.stdout + run.stderr
     with open(f"{out}/out.bil", "rb") as it:

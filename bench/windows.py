@@ -1,5 +1,6 @@
 #!/usr/bin/env python3
-"""What a pixel of a window of whole lines costs by the libraries alone: nanoseconds of processor time of crates/window_sums.
+"""What a pixel of a window of whole lines costs by the libraries alone: nanoseconds of processor time of
+crates/window_sums.
 
     python3 bench/windows.py FOLDER WINDOW_SUMS [--lines N] [--times N]
 

@@ -2,12 +2,13 @@
 # Cuts a raster into windows, which are written beside each other, and puts these together to a mosaic.
 #
 #   tiles.sh run SOURCE FOLDER OUTPUT.vrt SIZE JOBS [OPTION]..    all of it on this machine, JOBS windows at a time
-#   tiles.sh windows SOURCE SIZE                 a line for each window of SIZE x SIZE pixels: column, line, columns, lines
+#   tiles.sh windows SOURCE SIZE                 a line for each window of SIZE x SIZE pixels: column, line, columns,
+#                                                lines
 #   tiles.sh window SOURCE FOLDER [OPTION].. COLUMN LINE COLUMNS LINES    writes one window as raw data
 #   tiles.sh mosaic FOLDER OUTPUT.vrt            the mosaic of the windows in FOLDER
 #
-# The options are those of gdal_translate, whose commands have to stand on PATH. A window whose header is there is whole,
-# since the header gets its name last: so a job that was cut off goes on where it ended.
+# The options are those of gdal_translate, whose commands have to stand on PATH. A window whose header is there is
+# whole, since the header gets its name last: so a job that was cut off goes on where it ended.
 set -euo pipefail
 
 windows() {

@@ -2,11 +2,11 @@
 """Tries the examples of README.md and docs/COMMANDS.md with the built program, and examples/tiles.sh, outside the gate:
 tests/examples.py PROGRAM
 
-An indented block that begins with a command is run. Where the text behind it says 'prints' or 'print', the next block is
-what has to come on standard output and standard error; where a text says that a file is something, the next block is what
-it holds. Of the tables of options each example is run, and has to end with status 0; and of what they say is refused, each kind is
-tried once, with the line that tells it. Each line of the result names what
-was tried; the last line counts what failed, and the status is 0 where nothing did."""
+An indented block that begins with a command is run. Where the text behind it says 'prints' or 'print', the next block
+is what has to come on standard output and standard error; where a text says that a file is something, the next block is
+what it holds. Of the tables of options each example is run, and has to end with status 0; and of what they say is
+refused, each kind is tried once, with the line that tells it. Each line of the result names what was tried; the last
+line counts what failed, and the status is 0 where nothing did."""
 import os
 import re
 import shutil
@@ -63,6 +63,10 @@ REFUSALS = (
     ("gdal_translate -epo -srcwin 3 0 2 2 sample/hills.bil no.bil", "ERROR 5: window outside the raster"),
     ("gdal_translate -eco -srcwin 4 0 2 2 sample/hills.bil no.bil", "ERROR 5: window outside the raster"),
     ("gdal_translate -r nearest sample/hills.bil no.bil", WORD.format(1)),
+    ("gdal_translate --blocks 0 sample/hills.bil no.bil", WORD.format(2)),
+    ("gdal_translate --workers 17 sample/hills.bil no.bil", WORD.format(2)),
+    ("gdal_translate -q yes sample/hills.bil no.bil", WORD.format(4)),
+    ("gdal_translate -quiet sample/hills.bil no.bil", WORD.format(1)),
     ("gdalbuildvrt no.vrt -input_file_list none.txt", "ERROR 4: none.txt: no such file"),
     ("gdalbuildvrt no.vrt -input_file_list latin.txt", "ERROR 4: latin.txt: malformed list (1)"),
     ("gdalbuildvrt no.vrt -input_file_list empty.txt", "ERROR 1: no input fits"),
@@ -74,6 +78,9 @@ REFUSALS = (
     ("gdalbuildvrt -te 10 47 11 46 no.vrt west.bil", WORD.format(5)),
     ("gdalbuildvrt -b 1 -separate no.vrt west.bil", WORD.format(3)),
     ("gdalbuildvrt -srcnodata '0 0' no.vrt west.bil", WORD.format(2)),
+    ("gdalbuildvrt -overwrite yes no.vrt west.bil", WORD.format(2)),
+    ("gdalbuildvrt -q yes no.vrt west.bil", WORD.format(2)),
+    ("gdalbuildvrt -q no.vrt west.bil yes", "ERROR 4: yes: not recognized as a supported format"),
     ("gdalbuildvrt -q -strict no.vrt west.bil grid.asc", "ERROR 1: grid.asc: skipped (bands)"),
     ("gdalbuildvrt no.vrt none.bil", "ERROR 4: none.bil: no such file"),
     ("synth", WORD.format(1)),
