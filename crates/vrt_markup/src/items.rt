@@ -15,6 +15,7 @@ use crate::tag::Tag;
 use std::alloc::{AllocError, Global};
 
 /// What stands behind the front, where the text begins so.
+#[inline(always)]
 pub(crate) fn strip<'a>(text: &'a [u8], front: &[u8]) -> Option<&'a [u8]>
     ensures rest { option_map (λ r. r.now) result ≡ strip front.now text.now }
     ensures shorter { IfSome result (λ r. length r.now + length front.now ≤ length text.now) }
