@@ -303,7 +303,7 @@ class Cost:
             os.close(given)
             wall, status, peak = measured.read().split()
             told.seek(0)
-            self.line = told.readline(300).decode(errors="replace").rstrip("\n")
+            self.line = told.readline(8192).decode(errors="replace").rstrip("\n")
         self.status = -os.WTERMSIG(int(status)) if os.WIFSIGNALED(int(status)) else os.WEXITSTATUS(int(status))
         self.wall, self.peak = min(self.wall, float(wall)), max(self.peak, int(peak) * 1024)
 
@@ -331,6 +331,7 @@ def try_row(program, times, start, what, files, words, status, line):
     time_part, memory_part = cost.wall / (start + 10 * read.wall), cost.peak / (4 * length + 16 * MIB)
     is_said = (cost.status, cost.line) == (status, line)
     ends = (cost.line or "done") if is_said else f"FAILED: status {cost.status}, {cost.line}"
+    ends = ends if len(ends) <= 100 else f"{ends[:97]}..."
     measured = f"{cost.wall:.3f} s | {time_part:.2f} | {cost.peak / MIB:.0f} MiB | {memory_part:.2f}"
     is_within = time_part <= 1 and memory_part <= 1
     print(f"| {what} | {length:,} | {ends} | {measured} |{'' if is_within else ' PAST'}", flush=True)
