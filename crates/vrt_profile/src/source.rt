@@ -6,7 +6,7 @@ ghost use Rattle.std.specs.List.{All};
 ghost use Rattle.vrt_markup.specs.Forest.{deepest, inner, read_as, text_of, child_of};
 ghost use Rattle.vrt_profile.specs.Means as means;
 ghost use Rattle.vrt_profile.specs.Means.{flag_in, flag_by, file_of, source_band_by, nodata_by, scale_text, lut_by};
-ghost use Rattle.vrt_profile.specs.Means.{with_file, number_parts, source_step, no_parts, is_like, is_near, source_end};
+ghost use Rattle.vrt_profile.specs.Means.{with_file, number_parts, source_step, no_parts, is_near, source_end};
 ghost use Rattle.vrt_profile.specs.Means.{source_of, value_in};
 ghost use Rattle.vrt_profile.specs.Seen.{file_by, source_by, one_more};
 ghost use Rattle.vrt_profile.specs.Values.{IsSource, IsRectangle, IsLut};
@@ -27,6 +27,7 @@ use crate::rect::rect_child;
 use crate::rectangle::{Lut, MicroRect};
 use crate::scaling::{Scaling, ScalingParts};
 use geotransform::BandNumber;
+use lists_and_answers::same_letters;
 use outside::Text;
 use std::alloc::{AllocError, Global};
 use std::marker::Model;
@@ -294,18 +295,12 @@ impl Parts for SourceParts {
     }
 }
 
-fn is_like(a: &[u8], b: &[u8]) -> bool
-    ensures like { result ≡ is_like a.now b.now }
-{
-    a.eq_ignore_ascii_case(b)
-}
-
 fn is_near(text: Option<&[u8]>) -> bool
     ensures near { result ≡ is_near (option_map (λ v. v.now) text.entry) }
 {
     match text {
         None => true,
-        Some(text) => is_like(text, b"nearest") || is_like(text, b"near"),
+        Some(text) => same_letters(text, b"nearest") || same_letters(text, b"near"),
     }
 }
 
