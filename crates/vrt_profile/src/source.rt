@@ -9,12 +9,12 @@ ghost use Rattle.vrt_profile.specs.Means.{flag_in, flag_by, file_of, source_band
 ghost use Rattle.vrt_profile.specs.Means.{with_file, number_parts, source_step, no_parts, is_near, source_end};
 ghost use Rattle.vrt_profile.specs.Means.{source_of, value_in};
 ghost use Rattle.vrt_profile.specs.Seen.{file_by, source_by, one_more};
-ghost use Rattle.vrt_profile.specs.Values.{IsSource, IsRectangle, IsLut};
+ghost use Rattle.vrt_profile.specs.Values.{IsSource, IsRectangle, IsLut, scale_limit};
 ghost use Rattle.vrt_markup.specs.Views.{plain_text, tag_view};
 ghost use Rattle.vrt_markup.specs.Kept.{Gives, kept_of};
 ghost use Rattle.vrt_profile.specs.SourceViews.{source_view, no_source};
 ghost use Rattle.vrt_profile.specs.Scaling.{IsScaling, no_scaling, scaling_of};
-ghost use Rattle.geotransform.specs.Limits.{most_bands};
+ghost use Rattle.geotransform.specs.Limits.{most_bands, whole_limit};
 
 use crate::document::{Source, Sources};
 use crate::fields::trim;
@@ -331,7 +331,7 @@ fn ruled(rect: Option<MicroRect>) -> Option<MicroRect>
 
 fn nodata_or_none(nodata: Option<Option<NoData>>) -> Option<i128>
     ensures value { result ≡ value_in nodata }
-    ensures small { IfSome result (λ n. unsigned_abs n < 10 ^ 20) }
+    ensures small { IfSome result (λ n. unsigned_abs n < whole_limit) }
 {
     match nodata {
         Some(Some(nodata)) => Some(nodata.get()),
@@ -340,9 +340,9 @@ fn nodata_or_none(nodata: Option<Option<NoData>>) -> Option<i128>
 }
 
 fn scale_or(scale: Option<Scale>, plain: i128) -> i128
-    requires plain { unsigned_abs plain < 10 ^ 24 }
+    requires plain { unsigned_abs plain < scale_limit }
     ensures value { result ≡ unwrap_or scale plain }
-    ensures small { unsigned_abs result < 10 ^ 24 }
+    ensures small { unsigned_abs result < scale_limit }
 {
     match scale {
         Some(scale) => scale.get(),
