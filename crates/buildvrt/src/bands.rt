@@ -8,7 +8,7 @@ ghost use Rattle.buildvrt.specs.Options.{IsBandNumber, IsWord};
 ghost use Rattle.buildvrt.specs.Judging.{has_bands, band_of, taken_bands};
 ghost use Rattle.buildvrt.specs.Rectangles.{IsPatch};
 ghost use Rattle.buildvrt.specs.Mosaic.{IsMemory};
-ghost use Rattle.buildvrt.specs.Bands.{source_nodata, wanted_nodata, own_nodata, source_of};
+ghost use Rattle.buildvrt.specs.Bands.{source_nodata, wanted_nodata, band_nodata, source_of};
 ghost use Rattle.buildvrt.specs.Bands.{source_in, band_from, band_with, common_bands, own_band, separate_bands};
 ghost use Rattle.buildvrt.specs.Bands.{all_bands, bands_within, shown_count, is_few, FitsDocument};
 ghost use Rattle.catalog.specs.Dataset.{most_datasets};
@@ -68,9 +68,9 @@ fn when_in(kind: PixelType, nodata: Option<Sample>) -> Option<Sample>
 
 // The NODATA of a dataset's band.
 #[tactic(auto, using(crate::proofs::Counts::type_bound))]
-fn own_nodata(head: &Head, number: u32) -> Option<Sample>
+fn band_nodata(head: &Head, number: u32) -> Option<Sample>
     requires number { 0 < number }
-    ensures nodata { result ≡ own_nodata (band_of head.now number) }
+    ensures nodata { result ≡ band_nodata (band_of head.now number) }
     ensures rules { IfSome result (λ n. unsigned_abs n < 10 ^ 20) }
 {
     match band_of(head, number) {
@@ -92,7 +92,7 @@ fn source_of(
 {
     head_rules(head);
     options.rules();
-    let nodata = source_nodata(options.src_nodata, own_nodata(head, number));
+    let nodata = source_nodata(options.src_nodata, band_nodata(head, number));
     let whole = whole_rect(head.size);
     let (out, name) = (&options.out, &head.name);
     Ok(plain_source(alloc, out, name, number, whole, shown, nodata)?)

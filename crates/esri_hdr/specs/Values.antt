@@ -61,9 +61,9 @@ bits_in text = do
 abbrev pub order_of : ℕ → Result Bool HdrFault
 order_of c = if (c == 105) || (c == 108) then Ok false else (if (c == 109) || (c == 98) then Ok true else Err BadValue)
 
-unfoldable pub big_in : Option (List ℕ) → Result Bool HdrFault
-big_in None = Ok false
-big_in (Some text) = order_of (to_ascii_lowercase (slice_index text 0))
+unfoldable pub big_endian_in : Option (List ℕ) → Result Bool HdrFault
+big_endian_in None = Ok false
+big_endian_in (Some text) = order_of (to_ascii_lowercase (slice_index text 0))
 
 -- LAYOUT
 unfoldable pub layout_in : Option (List ℕ) → Result Layout HdrFault

@@ -8,8 +8,8 @@ use Rattle.write_back.specs.Forms.{cut_of, needed_of, most_calls, IsFormed}
 use Rattle.write_back.specs.Overlay.{overlay, AreLines, AreKept, Stays, WasMet}
 
 -- the number of blocks of all bands
-abbrev pub lines_of : Writer → ℕ
-lines_of w = (cut_of w).bands * (cut_of w).blocks
+abbrev pub block_total : Writer → ℕ
+block_total w = (cut_of w).bands * (cut_of w).blocks
 
 -- the blocks that a rectangle meets
 abbrev pub blocks_met : Bool → Rect → ℕ
@@ -75,7 +75,7 @@ pub record Serves (w : Writer) (n slack : ℕ) (before after : StoreState) : Typ
   pub writes : before.writes ≤ after.writes
   pub calls : after.calls + most_calls w * before.writes ≤ before.calls + most_calls w * after.writes
   pub few : after.writes ≤ before.writes + n
-  pub bound : lines_of w ≤ before.pool.capacity → after.writes ≤ before.writes + slack
+  pub bound : block_total w ≤ before.pool.capacity → after.writes ≤ before.writes + slack
 
 -- the draft keeps its length, and where it told what it holds it tells it again, the samples change as P says, and each
 -- block that was met stays so
