@@ -142,6 +142,7 @@ impl Plan {
     pub fn rules(&self)
         ensures kept { IsPlan self.now }
     {
+        // The plan is read for the proof: what holds of every plan is known then.
         let _ = &self.bands;
     }
 }
