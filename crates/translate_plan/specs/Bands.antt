@@ -57,7 +57,7 @@ nodata_by Absent kind source = when_in kind source
 nodata_by Remove kind source = None
 nodata_by (Number n) kind source = Some n
 
--- the format's own NODATA goes before
+-- the NODATA of an output's band: that of its format, or else what is asked for
 abbrev pub nodata_of : Option ℤ → NodataWord → PixelType → Option ℤ → Option ℤ
 nodata_of (Some own) word kind source = Some own
 nodata_of None word kind source = nodata_by word kind source

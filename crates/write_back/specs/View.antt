@@ -159,7 +159,7 @@ pub record Keeps (rect : Rect) (old new : SheetView) (told told' : Option Files)
   pub none : IsPooled old.output → all_blocks old.output ≤ old.pool.capacity → w' ≡ w
   pub calls : c' ≤ c + calls_of old.output * (w' - w)
 
--- and where it answers Ok
+-- what a window does besides where it answers Ok
 pub record Puts (band : ℕ) (rect : Rect) (samples : List ℤ) (told told' : Option Files) (old new : SheetView) : Type 0
   where
     pub right : IsRightOn old.output told' new
