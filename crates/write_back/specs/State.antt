@@ -44,12 +44,13 @@ store_state told pool draft len name faults reads calls writes = record {
   writes = writes;
 }
 
--- what always holds of a pool of lines, also over a folder that tells nothing
+-- what always holds of a pool of blocks, also over a folder that tells nothing
 pub record IsSound (w : Writer) (pool : PoolView) : Type 0 where
   pub valid : IsPool pool
   pub lines : AreLines w pool.entries
 
--- the draft has these bytes, which are as many as the raster's data, and held clean lines are what they hold
+-- the draft has these bytes, which are as many as the raster's data, and the clean blocks of the pool are what they
+-- hold
 pub record HasDraft (w : Writer) (pool : PoolView) (draft : Option (List ℕ)) (bytes : List ℕ) : Type 0 where
   pub is : draft ≡ Some bytes
   pub long : length bytes ≡ needed_of w
@@ -64,7 +65,7 @@ pub record IsRight (w : Writer) (told : Option Files) (len : ℕ) (draft : Optio
     pub holds : (m : Files) → told ≡ Some m → (b : List ℕ) × HasDraft w pool draft b
 
 -- What each call does to a pool and a draft, whatever it answers. At most n blocks are written, and at most `slack`
--- where the pool has room for all lines; none of them takes more calls than the most that a line needs.
+-- where the pool has room for all blocks; none of them takes more calls than the most that a block needs.
 pub record Serves (w : Writer) (n slack : ℕ) (before after : StoreState) : Type 0 where
   pub sound : IsSound w after.pool
   pub told : after.told ≡ before.told
