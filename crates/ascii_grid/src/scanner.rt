@@ -200,7 +200,7 @@ impl Scanner {
         at
     }
 
-    // So where the head isn't at its end.
+    // Takes pairs of the head in front, where the scanner stands at a key, and answers how many bytes they have.
     fn add_head(&mut self, bytes: &[u8]) -> usize
         ensures within { result ≤ length bytes.now }
         ensures state { self.new ≡ fed self.old (take result bytes.now) }

@@ -38,14 +38,14 @@ wanted_nodata Remove src own = None
 wanted_nodata Absent src own = wanted_by_source src own
 
 -- the NODATA of a dataset's band
-abbrev pub own_nodata : Option BandHead → Option ℤ
-own_nodata None = None
-own_nodata (Some band) = band.nodata
+abbrev pub band_nodata : Option BandHead → Option ℤ
+band_nodata None = None
+band_nodata (Some band) = band.nodata
 
 -- the source that shows the whole of an input's band in a rectangle
 abbrev pub source_of : Options → DatasetHead → ℕ → Rectangle → SourceValue
 source_of o h number shown = plain_source (related o.out h.name) number (whole h.size) shown
-    (source_nodata o.src_nodata (own_nodata (band_of h number)))
+    (source_nodata o.src_nodata (band_nodata (band_of h number)))
 
 -- the source of an input that isn't left out
 abbrev pub source_in : Options → ℕ → PatchValue → Option SourceValue

@@ -25,7 +25,7 @@ asked holds reason = if holds then Ok tt else Err reason
 abbrev pub north_up : Transform → Option Transform
 north_up g = if is_north_up g then Some g else None
 
--- that of a dataset, where it is so
+-- the geotransform of a dataset, where its columns go east and its lines go south
 abbrev pub north_up_of : DatasetHead → Option Transform
 north_up_of h = option_and_then north_up h.geo
 
@@ -67,11 +67,12 @@ same_type a b n = band_type (band_of a n) == band_type (band_of b n)
 abbrev pub same_types : DatasetHead → DatasetHead → List ℕ → Bool
 same_types a b numbers = list_all (same_type a b) numbers
 
--- where neither bands are chosen nor each input gives a band, all have as many bands
+-- whether no bands are chosen
 abbrev pub no_choice : List ℕ → Bool
 no_choice [] = true
 no_choice (n ∷ ns) = false
 
+-- where neither bands are chosen nor each input gives a band, all have as many bands
 abbrev pub same_count : Options → DatasetHead → DatasetHead → Bool
 same_count o reference h = if no_choice o.bands && not o.separate then band_count h == band_count reference
     else true
@@ -100,11 +101,11 @@ pub record JudgedValue : Type 0 where
 abbrev pub none_judged : JudgedValue
 none_judged = record { tiles = []; skipped = [] }
 
--- these before those
+-- the judged inputs of two lists, those of the first before those of the second
 abbrev pub joined : JudgedValue → JudgedValue → JudgedValue
 joined a b = record { tiles = a.tiles ++ b.tiles; skipped = a.skipped ++ b.skipped }
 
--- one input by its number
+-- what is judged of one input, which has this number
 abbrev pub one_judged : ℕ → Result TileValue Reason → JudgedValue
 one_judged number (Ok tile) = record { tiles = tile ∷ []; skipped = [] }
 one_judged number (Err reason) = record { tiles = []; skipped = record { input = number; reason = reason } ∷ [] }

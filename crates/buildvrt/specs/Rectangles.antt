@@ -59,7 +59,7 @@ patch_of g t = do
 abbrev pub with_patch : PatchValue → List PatchValue → Result (List PatchValue) BuildFault
 with_patch p ps = Ok (p ∷ ps)
 
--- all inputs, in order
+-- the rectangles of all inputs, in order
 abbrev pub patches_of : GridValue → List TileValue → Result (List PatchValue) BuildFault
 patches_of g [] = Ok []
 patches_of g (t ∷ ts) = patch_of g t >>= λ p. (patches_of g ts >>= with_patch p)
@@ -77,7 +77,7 @@ pub record IsPatch (p : PatchValue) : Type 0 where
   pub head : IsDatasetHead p.head
   pub shown : IfSome p.shown IsRectangle
 
--- these inputs before those
+-- these rectangles before those that are still made
 abbrev pub then_patches : List PatchValue → Result (List PatchValue) BuildFault → Result (List PatchValue) BuildFault
 then_patches before (Ok patches) = Ok (before ++ patches)
 then_patches before (Err fault) = Err fault

@@ -240,7 +240,7 @@ fn extent_of(options: &BuildOptions, tiles: &[Tile]) -> Extent
     }
 }
 
-/// How many steps a way has, rounded up.
+/// How many steps a way has: the nearest whole number, a half going up.
 pub fn rounded(way: Ticks, step: Ticks) -> i128
     requires step { IsStep step }
     ensures value { result ≡ rounded_up way step }
@@ -249,7 +249,7 @@ pub fn rounded(way: Ticks, step: Ticks) -> i128
     rounded_up(way.get(), step.get())
 }
 
-/// The same, and 1 at least.
+/// How many pixels a way has: the nearest whole number, a half going up, and 1 at least.
 pub fn some_pixels(way: Ticks, step: Ticks) -> i128
     requires step { IsStep step }
     ensures value { result ≡ some_pixels way step }

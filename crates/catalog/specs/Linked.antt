@@ -111,7 +111,7 @@ pushed st d link = record { datasets = st.datasets ++ d ∷ []; links = st.links
 abbrev pub closed : State → ℕ → Link → State
 closed st id link = record { datasets = st.datasets; links = set st.links id (Some link); sources = st.sources }
 
--- one source more
+-- the state with one source more
 abbrev pub one_counted : State → State
 one_counted st = record { datasets = st.datasets; links = st.links; sources = st.sources + 1 }
 
@@ -126,7 +126,7 @@ pub record IsMosaicAt (st : State) (id : ℕ) : Type 0 where
   pub at : slice_get st.datasets id ≡ Some dataset
   pub content : dataset.content ≡ Mosaic document
 
--- it has this band
+-- a mosaic that was met has this band
 pub record HasBand (st : State) (id band : ℕ) : Type 0 where
   pub mosaic : IsMosaicAt st id
   pub value : BandValue

@@ -31,7 +31,7 @@ factor_at e = if nat_lt e 50 then Some 1 else (if nat_lt e 70 then Some 2
 abbrev pub lines_of : ℕ → ℕ → ℕ
 lines_of level factor = (points_of level - 1) / factor + 1
 
--- something holds
+-- an answer where something holds, and none where it doesn't
 abbrev pub holds : Bool → Option (Unit {0})
 holds b = if b then Some tt else None
 

@@ -22,7 +22,7 @@ use Rattle.error_lines.specs.declared.faults.Fault.TheVariants.{Usage, Absent, N
 use Rattle.error_lines.specs.declared.faults.Fault.TheVariants.{TooDeep, Limit, SourceBand, Plan, SameName, BadPoint}
 use Rattle.error_lines.specs.declared.faults.Fault.TheVariants.{Changed, FolderFault, InputFault, OutFault, Memory}
 use Rattle.error_lines.specs.Faults.{fault_of, IsOutside, status_of}
-use Rattle.error_lines.specs.Texts.{line_of}
+use Rattle.error_lines.specs.Texts.{error_line_of}
 use Rattle.error_lines.specs.Steps.{Step, Done, printed, warned, AreDone, AreWarned}
 use Rattle.translation_runs.specs.Published.{names_written}
 use Rattle.synth_runs.specs.Ends.{names_made}
@@ -197,16 +197,16 @@ pub record Answers (r : Done) (m : Files) (fault : Option Fault) (names : Option
 -- them
 pub record AreTold (steps : List Step) (fault : Option Fault) (faults faults_after : ℕ) (before after : Option (List ℕ))
     : Type 0 where
-  pub whole : (Rose faults faults_after → ⊥) → Gets (warned steps ++ line_of fault) before after
-  pub part : GetsPart (warned steps ++ line_of fault) before after
+  pub whole : (Rose faults faults_after → ⊥) → Gets (warned steps ++ error_line_of fault) before after
+  pub part : GetsPart (warned steps ++ error_line_of fault) before after
 
 -- Over every folder, the error stream gets warnings and the line of the fault, or where it fails a first part of them.
 -- Only words that ask for a mosaic of inputs may warn, and a run that is refused never does.
 pub record TellsFault (may : Bool) (fault : Option Fault) (faults faults_after : ℕ) (before after : Option (List ℕ))
     : Type 0 where
   pub warnings : List (List ℕ)
-  pub whole : (Rose faults faults_after → ⊥) → Gets (warned (warns warnings) ++ line_of fault) before after
-  pub part : GetsPart (warned (warns warnings) ++ line_of fault) before after
+  pub whole : (Rose faults faults_after → ⊥) → Gets (warned (warns warnings) ++ error_line_of fault) before after
+  pub part : GetsPart (warned (warns warnings) ++ error_line_of fault) before after
   pub none : may ≡ false → warnings ≡ []
   pub refused : IsRefusal fault → warnings ≡ []
 

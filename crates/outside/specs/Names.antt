@@ -94,7 +94,7 @@ has_no_lower text = list_all (λ b. not (is_ascii_lowercase b)) text
 abbrev pub header_ending : List ℕ → List ℕ
 header_ending ending = if has_no_lower ending then codes "HDR" else codes "hdr"
 
--- a text whose ending is replaced
+-- a name with the header's ending in place of its own
 abbrev pub with_header_ending : List ℕ → List ℕ → List ℕ
 with_header_ending name ending = take (length name - length ending) name ++ header_ending ending
 

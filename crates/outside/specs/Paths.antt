@@ -12,7 +12,7 @@ longest_name = 4096
 abbrev pub seen : List (Bor (List ℕ)) → List (List ℕ)
 seen parts = map (λ p. p.now) parts
 
--- it is there, and isn't ..
+-- a part is there, and it isn't `..`
 abbrev pub is_other : Option (List ℕ) → Bool
 is_other None = false
 is_other (Some part) = not (bytes_eq part (codes ".."))

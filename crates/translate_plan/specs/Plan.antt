@@ -22,8 +22,8 @@ use Rattle.translate_plan.specs.declared.band.OutBand.{OutBand}
 use Rattle.translate_plan.specs.declared.window.Window.{Window}
 use Rattle.translate_plan.specs.Options.{Options, IsDriver}
 use Rattle.translate_plan.specs.Window.{asked_in, window_in, inside_in, sides_of, size_in}
-use Rattle.translate_plan.specs.Fits.{is_single, count_in, geo_in, place_in, raw_in, holds_geo, holds_name, takes_kind}
-use Rattle.translate_plan.specs.Fits.{holds_kinds, takes_nodata}
+use Rattle.translate_plan.specs.Fits.{is_single, count_in, geo_in, place_in, raw_geo_in, holds_geo, holds_name}
+use Rattle.translate_plan.specs.Fits.{takes_kind, holds_kinds, takes_nodata}
 use Rattle.translate_plan.specs.Bands.{all_known, count_of, asked_bands, out_bands, no_out_band}
 use Rattle.geotransform.specs.Limits.{most_bands, farthest}
 
@@ -113,7 +113,7 @@ first_band p = get_or p.bands 0 no_out_band
 
 -- the head of raw data: its samples alone, in the layout, of the type and with the NODATA that all bands have
 abbrev pub raw_head : Planned → raw.Head
-raw_head p = plain_head p.size (length p.bands) (first_band p).kind p.layout (first_band p).nodata (raw_in p.geo)
+raw_head p = plain_head p.size (length p.bands) (first_band p).kind p.layout (first_band p).nodata (raw_geo_in p.geo)
 
 -- the column of the source that a column of the output shows, and the line that a line shows, counted from the window's
 -- offset

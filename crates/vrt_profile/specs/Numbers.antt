@@ -6,7 +6,7 @@ use Rattle.lists_and_answers.specs.Answers.{◌>>=◌}
 use Rattle.geotransform.specs.Decimal.{places_of}
 use Rattle.geotransform.specs.Geo.{Transform, transform_of}
 use Rattle.vrt_markup.specs.Items.{is_equal}
-use Rattle.vrt_profile.specs.Fields.{trim, whole_text, pair_of, pieces, Six, six_of}
+use Rattle.vrt_profile.specs.Fields.{trim, whole_text, pair_of, pieces, comma, Six, six_of}
 use Rattle.vrt_profile.specs.Values.{million, most_pairs, scale_limit}
 use Rattle.vrt_profile.specs.declared.rectangle.LutPair.{LutPair}
 use Rattle.vrt_markup.specs.declared.fault.VrtFault.{VrtFault}
@@ -80,7 +80,7 @@ lut_from n last (piece ∷ more) = next_pair n last piece >>= λ pair. lut_from 
     Ok (pair ∷ pairs)
 
 abbrev pub lut_of : List ℕ → Result (List LutPair) VrtFault
-lut_of text = lut_from 0 None (pieces 44 text)
+lut_of text = lut_from 0 None (pieces comma text)
 
 -- without a rotation
 abbrev pub north_up : Six → Result Transform VrtFault

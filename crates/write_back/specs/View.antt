@@ -13,7 +13,7 @@ use Rattle.write_back.specs.declared.rows.GridForm.{GridForm}
 use Rattle.write_back.specs.Forms.{bands_in, holds, most_calls, width_of, height_of, seen}
 use Rattle.write_back.specs.Grids.{HasRows, grid_in}
 use Rattle.write_back.specs.Overlay.{IsOverlaid, WasMet, overlay}
-use Rattle.write_back.specs.State.{IsRight, IsSound, lines_met, lines_of}
+use Rattle.write_back.specs.State.{IsRight, IsSound, lines_met, block_total}
 
 -- what is written: a raster in blocks, or a grid in lines
 pub data Output : Type 0 where
@@ -97,7 +97,7 @@ blocks_in (Blocks w) rect = lines_met w rect
 blocks_in (Rows g) rect = rect.h
 
 abbrev pub all_blocks : Output → ℕ
-all_blocks (Blocks w) = lines_of w
+all_blocks (Blocks w) = block_total w
 all_blocks (Rows g) = g.size.h
 
 abbrev pub calls_of : Output → ℕ
@@ -159,7 +159,7 @@ pub record Keeps (rect : Rect) (old new : SheetView) (told told' : Option Files)
   pub none : IsPooled old.output → all_blocks old.output ≤ old.pool.capacity → w' ≡ w
   pub calls : c' ≤ c + calls_of old.output * (w' - w)
 
--- and where it answers Ok
+-- what a window does besides where it answers Ok
 pub record Puts (band : ℕ) (rect : Rect) (samples : List ℤ) (told told' : Option Files) (old new : SheetView) : Type 0
   where
     pub right : IsRightOn old.output told' new
