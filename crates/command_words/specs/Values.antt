@@ -15,7 +15,7 @@ use Rattle.command_words.specs.declared.spoken.OutFormat.{OutFormat}
 use Rattle.command_words.specs.declared.spoken.OutFormat.TheVariants.{EHdr, Dted, SrtmHgt, AaiGrid, Vrt}
 use Rattle.command_words.specs.declared.spoken.ResolutionWord.{ResolutionWord}
 use Rattle.command_words.specs.declared.spoken.ResolutionWord.TheVariants.{Highest, Lowest, Average, User}
-use Rattle.geotransform.specs.Limits.{most_bands}
+use Rattle.geotransform.specs.Limits.{most_bands, most_short_digits}
 use Rattle.band_blocks.specs.Blocks.{most_blocks}
 use Rattle.lane_teams.specs.Workers.{most_workers}
 use Rattle.synthetic_rasters.specs.Tiles.{most_tile_side}
@@ -26,7 +26,7 @@ begins_with_dash (b ∷ bs) = b == 45
 
 -- the number that one to nine digits write
 abbrev pub short_of : List ℕ → Option ℕ
-short_of word = if nat_le (length word) 9 then number_of word else None
+short_of word = if nat_le (length word) most_short_digits then number_of word else None
 
 -- a number from 1 to a greatest one
 abbrev pub number_within : ℕ → Option ℕ → Option ℕ

@@ -12,7 +12,7 @@ use crate::numbers::{AskedNodata, BlockCount, Side};
 use crate::spoken::{OutFormat, ResolutionWord, WordFault};
 use catalog::NodataWord;
 use esri_hdr::Layout;
-use geotransform::{BandNumber, read_number, read_whole};
+use geotransform::{BandNumber, MOST_SHORT_DIGITS, read_number, read_whole};
 use input_points::Position;
 use lane_teams::WorkerCount;
 use outside::{Name, NameFault};
@@ -36,7 +36,7 @@ fn short_of(word: &[u8]) -> Option<u32>
     ensures value { result ≡ short_of word.now }
     ensures kept { IfSome result (λ n. n < 10 ^ 9) }
 {
-    if word.len() > 9 {
+    if word.len() > MOST_SHORT_DIGITS {
         return None;
     }
     let number = read_number(word)?;
