@@ -3,7 +3,6 @@ ghost use Rattle.std.specs.Prelude.{◌≡◌, ℕ, ℤ, pos, ◌<◌, ◌≤◌
 ghost use Rattle.std.specs.Prelude.{IfSome, OnOk, unsigned_abs};
 ghost use Rattle.std.specs.List.{All, filter_map};
 ghost use Rattle.geotransform.specs.Limits.{whole_limit};
-ghost use Rattle.geotransform.specs.Types.{is_in, when_in};
 ghost use Rattle.lists_and_answers.specs.Answers.{Gives};
 ghost use Rattle.buildvrt.specs.Options.{IsBandNumber, IsWord};
 ghost use Rattle.buildvrt.specs.Judging.{has_bands, band_of, taken_bands};
@@ -19,7 +18,7 @@ use crate::judging::{band_of, head_rules, taken_bands};
 use crate::options::BuildOptions;
 use crate::patch::Patch;
 use catalog::{BandHead, Head, NodataWord};
-use geotransform::{PixelType, Sample, holds};
+use geotransform::{Sample, when_in};
 use std::alloc::{AllocError, Global};
 use vrt_profile::{BandList, MicroRect, Source, SourceList, VrtBand, plain_source, whole_rect};
 
@@ -53,17 +52,6 @@ fn wanted_nodata(mosaic: NodataWord, source: NodataWord, own: Option<Sample>) ->
             NodataWord::Number(n) => Some(n),
             NodataWord::Remove | NodataWord::Absent => own,
         },
-    }
-}
-
-// The number, where it is one of the type.
-fn when_in(kind: PixelType, nodata: Option<Sample>) -> Option<Sample>
-    ensures nodata { result ≡ when_in kind nodata }
-    ensures rules { IfSome result (λ n. is_in kind n ≡ true) }
-{
-    match nodata {
-        None => None,
-        Some(n) => { if holds(kind, n) { Some(n) } else { None } }
     }
 }
 
