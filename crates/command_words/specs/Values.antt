@@ -1,9 +1,11 @@
 -- The values of options.
-use Rattle.std.specs.Prelude.{ℕ, ℤ, pos, neg_ℤ, ◌-◌, ◌==◌, ◌&&◌, ◌||◌, ◌^◌, Bool, false, nat_le, List, [], ◌∷◌, length}
+use Rattle.std.specs.Prelude.{ℕ, ℤ, pos, neg_ℤ, ◌-◌, ◌==◌, ◌&&◌, ◌||◌, Bool, false, nat_le, List, [], ◌∷◌, length}
 use Rattle.std.specs.Prelude.{take, drop, codes, bytes_eq, Option, Some, None, option_map, option_and_then}
 use Rattle.std.specs.Prelude.{if◌then◌else◌, int_le, int_lt}
 use Rattle.lists_and_answers.specs.Texts.{same_letters}
 use Rattle.geotransform.specs.Decimal.{number_of, whole_of, ticks_of}
+use Rattle.geotransform.specs.Types.{lowest, highest}
+use Rattle.geotransform.specs.declared.types.PixelType.TheVariants.{Int64, UInt64}
 use Rattle.outside.specs.Paths.{normal, longest_name}
 use Rattle.esri_hdr.specs.declared.header_parts.Layout.{Layout}
 use Rattle.esri_hdr.specs.declared.header_parts.Layout.TheVariants.{Bil, Bip, Bsq}
@@ -87,7 +89,7 @@ layout_of word = if same_letters word (codes "INTERLEAVE=BIL") then Some Bil
 
 -- a number of a type of 64 bits, with or without a sign
 abbrev pub is_wide : ℤ → Bool
-is_wide n = int_le (neg_ℤ (pos (2 ^ 63))) n && int_le n (pos (2 ^ 64 - 1))
+is_wide n = int_le (lowest Int64) n && int_le n (highest UInt64)
 
 abbrev pub wide_number : ℤ → Option NodataWord
 wide_number n = if is_wide n then Some (nodata.Number n) else None
