@@ -119,19 +119,27 @@ grid_by e steps = do
 abbrev pub grid_of : Options → List TileValue → Option GridValue
 grid_of o tiles = grid_by (extent_of o tiles) (steps_of o tiles)
 
+-- the sides of a mosaic's pixels stay below so many ticks
+abbrev pub step_limit : ℕ
+step_limit = 10 ^ 35
+
+-- far edges stay below so many ticks in magnitude
+abbrev pub edge_limit : ℕ
+edge_limit = 10 ^ 36
+
 -- what the numbers of an input keep: a side is above 0 and below 10^12 units, its place is below 10^12 units in
 -- magnitude, and its far edges lie at most 4,194,304 such sides away
 pub record IsStep (v : ℤ) : Type 0 where
   pub above : pos 0 <ℤ v
-  pub low : unsigned_abs v < 10 ^ 35
+  pub low : unsigned_abs v < step_limit
 
 abbrev pub IsMeasure : Measure → ℤ → Type 0
 IsMeasure ColumnStep v = IsGivenStep v
 IsMeasure LineStep v = IsGivenStep v
 IsMeasure Left v = IsNear v
-IsMeasure Right v = unsigned_abs v < 10 ^ 36
+IsMeasure Right v = unsigned_abs v < edge_limit
 IsMeasure Top v = IsNear v
-IsMeasure Bottom v = unsigned_abs v < 10 ^ 36
+IsMeasure Bottom v = unsigned_abs v < edge_limit
 
 pub record IsSteps (steps : ℤ × ℤ) : Type 0 where
   pub column : IsStep steps.0
@@ -141,8 +149,8 @@ pub record IsSteps (steps : ℤ × ℤ) : Type 0 where
 pub record IsReach (e : Extent) : Type 0 where
   pub left : IsNear e.xmin
   pub top : IsNear e.ymax
-  pub right : unsigned_abs e.xmax < 10 ^ 36
-  pub bottom : unsigned_abs e.ymin < 10 ^ 36
+  pub right : unsigned_abs e.xmax < edge_limit
+  pub bottom : unsigned_abs e.ymin < edge_limit
 
 pub record IsGrid (g : GridValue) : Type 0 where
   pub left : IsNear g.left

@@ -64,14 +64,18 @@ abbrev pub patches_of : GridValue → List TileValue → Result (List PatchValue
 patches_of g [] = Ok []
 patches_of g (t ∷ ts) = patch_of g t >>= λ p. (patches_of g ts >>= with_patch p)
 
+-- places and sides of a rectangle of pixels stay below it in magnitude
+abbrev pub pixel_limit : ℕ
+pixel_limit = 3 * 10 ^ 37
+
 -- what is known of a rectangle of pixels
 pub record IsPixelRect (r : PixelRect) : Type 0 where
-  pub left : unsigned_abs r.x < 3 * 10 ^ 37
-  pub top : unsigned_abs r.y < 3 * 10 ^ 37
+  pub left : unsigned_abs r.x < pixel_limit
+  pub top : unsigned_abs r.y < pixel_limit
   pub some_width : pos 0 <ℤ r.w
   pub some_height : pos 0 <ℤ r.h
-  pub width : unsigned_abs r.w < 3 * 10 ^ 37
-  pub height : unsigned_abs r.h < 3 * 10 ^ 37
+  pub width : unsigned_abs r.w < pixel_limit
+  pub height : unsigned_abs r.h < pixel_limit
 
 pub record IsPatch (p : PatchValue) : Type 0 where
   pub head : IsDatasetHead p.head

@@ -1,7 +1,8 @@
 // The bands of a mosaic and their sources.
-ghost use Rattle.std.specs.Prelude.{◌≡◌, ℕ, ℤ, pos, ◌<◌, ◌≤◌, ◌*◌, ◌^◌, ◌++◌, ◌∷◌, [], true, length, Some, IfOk};
+ghost use Rattle.std.specs.Prelude.{◌≡◌, ℕ, ℤ, pos, ◌<◌, ◌≤◌, ◌*◌, ◌++◌, ◌∷◌, [], true, length, Some, IfOk};
 ghost use Rattle.std.specs.Prelude.{IfSome, OnOk, unsigned_abs};
 ghost use Rattle.std.specs.List.{All, filter_map};
+ghost use Rattle.geotransform.specs.Limits.{whole_limit};
 ghost use Rattle.lists_and_answers.specs.Answers.{Gives};
 ghost use Rattle.buildvrt.specs.Options.{IsBandNumber, IsWord};
 ghost use Rattle.buildvrt.specs.Judging.{has_bands, band_of, taken_bands};
@@ -29,9 +30,9 @@ const MOST_SOURCES: usize = catalog::MOST_SOURCES as usize;
 // The NODATA of a source, from that of the input's band.
 fn source_nodata(word: NodataWord, own: Option<Sample>) -> Option<Sample>
     requires word { IsWord word }
-    requires own { IfSome own (λ n. unsigned_abs n < 10 ^ 20) }
+    requires own { IfSome own (λ n. unsigned_abs n < whole_limit) }
     ensures nodata { result ≡ source_nodata word own }
-    ensures rules { IfSome result (λ n. unsigned_abs n < 10 ^ 20) }
+    ensures rules { IfSome result (λ n. unsigned_abs n < whole_limit) }
 {
     match word {
         NodataWord::Number(n) => Some(n),
@@ -59,7 +60,7 @@ fn wanted_nodata(mosaic: NodataWord, source: NodataWord, own: Option<Sample>) ->
 fn band_nodata(head: &Head, number: u32) -> Option<Sample>
     requires number { 0 < number }
     ensures nodata { result ≡ band_nodata (band_of head.now number) }
-    ensures rules { IfSome result (λ n. unsigned_abs n < 10 ^ 20) }
+    ensures rules { IfSome result (λ n. unsigned_abs n < whole_limit) }
 {
     match band_of(head, number) {
         None => None,

@@ -1,9 +1,11 @@
 -- The values of options.
-use Rattle.std.specs.Prelude.{ℕ, ℤ, pos, neg_ℤ, ◌-◌, ◌==◌, ◌&&◌, ◌||◌, ◌^◌, Bool, false, nat_le, List, [], ◌∷◌, length}
+use Rattle.std.specs.Prelude.{ℕ, ℤ, pos, neg_ℤ, ◌-◌, ◌==◌, ◌&&◌, ◌||◌, Bool, false, nat_le, List, [], ◌∷◌, length}
 use Rattle.std.specs.Prelude.{take, drop, codes, bytes_eq, Option, Some, None, option_map, option_and_then}
 use Rattle.std.specs.Prelude.{if◌then◌else◌, int_le, int_lt}
 use Rattle.lists_and_answers.specs.Texts.{same_letters}
 use Rattle.geotransform.specs.Decimal.{number_of, whole_of, ticks_of}
+use Rattle.geotransform.specs.Types.{lowest, highest}
+use Rattle.geotransform.specs.declared.types.PixelType.TheVariants.{Int64, UInt64}
 use Rattle.outside.specs.Paths.{normal, longest_name}
 use Rattle.esri_hdr.specs.declared.header_parts.Layout.{Layout}
 use Rattle.esri_hdr.specs.declared.header_parts.Layout.TheVariants.{Bil, Bip, Bsq}
@@ -15,7 +17,7 @@ use Rattle.command_words.specs.declared.spoken.OutFormat.{OutFormat}
 use Rattle.command_words.specs.declared.spoken.OutFormat.TheVariants.{EHdr, Dted, SrtmHgt, AaiGrid, Vrt}
 use Rattle.command_words.specs.declared.spoken.ResolutionWord.{ResolutionWord}
 use Rattle.command_words.specs.declared.spoken.ResolutionWord.TheVariants.{Highest, Lowest, Average, User}
-use Rattle.geotransform.specs.Limits.{most_bands}
+use Rattle.geotransform.specs.Limits.{most_bands, most_short_digits}
 use Rattle.band_blocks.specs.Blocks.{most_blocks}
 use Rattle.lane_teams.specs.Workers.{most_workers}
 use Rattle.synthetic_rasters.specs.Tiles.{most_tile_side}
@@ -26,7 +28,7 @@ begins_with_dash (b ∷ bs) = b == 45
 
 -- the number that one to nine digits write
 abbrev pub short_of : List ℕ → Option ℕ
-short_of word = if nat_le (length word) 9 then number_of word else None
+short_of word = if nat_le (length word) most_short_digits then number_of word else None
 
 -- a number from 1 to a greatest one
 abbrev pub number_within : ℕ → Option ℕ → Option ℕ
@@ -87,7 +89,7 @@ layout_of word = if same_letters word (codes "INTERLEAVE=BIL") then Some Bil
 
 -- a number of a type of 64 bits, with or without a sign
 abbrev pub is_wide : ℤ → Bool
-is_wide n = int_le (neg_ℤ (pos (2 ^ 63))) n && int_le n (pos (2 ^ 64 - 1))
+is_wide n = int_le (lowest Int64) n && int_le n (highest UInt64)
 
 abbrev pub wide_number : ℤ → Option NodataWord
 wide_number n = if is_wide n then Some (nodata.Number n) else None
