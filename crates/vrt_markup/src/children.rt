@@ -97,7 +97,17 @@ fn second(text: &[u8]) -> u8 {
     }
 }
 
+// The item in front of a text where the start tag that may well stand there doesn't.
+#[inline(never)]
+fn other_item(alloc: Global, text: &[u8]) -> Item
+    ensures item { Finds result (item_at text.now) }
+    ensures shorter { Shortens result text.now }
+{
+    item_at(alloc, text)
+}
+
 // The item in front of a text, where the start tag of this name may well stand.
+#[inline(always)]
 #[tactic(auto, using(crate::proofs::StartTags::start_item))]
 fn likely_item<'a>(alloc: Global, text: &'a [u8], name: &'a [u8]) -> Item<'a>
     requires named { is_name name.now ≡ true }
@@ -114,7 +124,7 @@ fn likely_item<'a>(alloc: Global, text: &'a [u8], name: &'a [u8]) -> Item<'a>
             };
             Item::Open(tag, rest)
         }
-        None => item_at(alloc, text),
+        None => other_item(alloc, text),
     }
 }
 

@@ -354,6 +354,7 @@ fn attribute_in<'a>(text: &'a [u8], name: &[u8]) -> Option<&'a [u8]>
 }
 
 /// The value of the first attribute with this name.
+#[inline(always)]
 #[tactic(auto, using(crate::proofs::Names::spaceless))]
 pub fn attribute<'a>(text: &'a [u8], name: &[u8]) -> Option<&'a [u8]>
     ensures value { option_map (λ v. v.now) result ≡ attribute name.now (pairs text.now).0 }

@@ -171,6 +171,7 @@ fn plain_front(bytes: &[u8]) -> usize
 }
 
 // The text in an element of this name, behind its start tag, where it stands there in one piece as it is.
+#[inline(always)]
 #[tactic(auto, using(crate::proofs::Lent::lent))]
 fn lent_text<'a>(name: &[u8], bytes: &'a [u8]) -> Option<(&'a [u8], &'a [u8])>
     requires named { is_name name.now ≡ true }
@@ -184,6 +185,7 @@ fn lent_text<'a>(name: &[u8], bytes: &'a [u8]) -> Option<(&'a [u8], &'a [u8])>
 }
 
 /// The text in an element that begins with a tag, and the first element in it.
+#[inline(always)]
 pub fn text_element<'a>(
     alloc: Global,
     total: usize,
