@@ -18,14 +18,16 @@ pub struct Gathered {
     pub rising: bool,
 }
 
-// The number that the bytes of a text make.
+// The number that the bytes of a text make, each of which counts 81 times as much as the next one. So the numbers of
+// names that count files rise, or rise in a few stretches; and letters, digits and points, any two of which lie less
+// than 81 apart, make another number for each short name.
 fn text_number(text: &[u8]) -> u64
     ensures number { result ≡ text_number 0 text.now }
 {
     let mut number: u64 = 0;
     let mut rest = text;
     while let [c, more @ ..] = rest {
-        number = number % 0x0080_0000_0000_0000 * 257 + u64::from(*c);
+        number = number % 0x0200_0000_0000_0000 * 81 + u64::from(*c);
         rest = more;
     }
     number
@@ -78,14 +80,15 @@ impl Gathered {
     }
 }
 
-// Whether no two of the numbers are the same: those that are stand side by side once they are sorted.
-fn differ(mut numbers: Vec<u64>) -> bool
-    ensures { result ≡ apart (λ x y. x == y) numbers.items }
+// Whether no two of the numbers are the same: those that are stand side by side once they are sorted. Numbers often
+// stand in a few stretches that rise, and this sort keeps such stretches.
+fn differ(mut numbers: Vec<u64>) -> Result<bool, AllocError>
+    ensures { IfOk result (λ b. b ≡ apart (λ x y. x == y) numbers.items) }
 {
     let count = numbers.len();
-    numbers.sort_unstable();
+    numbers.sort()?;
     numbers.dedup();
-    numbers.len() == count
+    Ok(numbers.len() == count)
 }
 
 // The number of each name.
@@ -109,7 +112,8 @@ pub fn are_apart(alloc: Global, rising: bool, names: &[Name]) -> Result<bool, Al
         return Ok(true);
     }
     let numbers = numbers_of(alloc, names)?;
-    Ok(differ(numbers))
+    let apart = differ(numbers)?;
+    Ok(apart)
 }
 
 /// The names behind the first one.
