@@ -208,6 +208,7 @@ fn pair_behind(input: i64, text: &[u8]) -> (Option<LutPair>, Option<&[u8]>)
 }
 
 // The pair of the first piece, and what stands behind its comma.
+#[inline(always)]
 #[tactic(auto, using(crate::proofs::ShortNumbers::key_behind))]
 fn pair_at(text: &[u8]) -> (Option<LutPair>, Option<&[u8]>)
     ensures pair { result.0 ≡ pair_of (first_piece text.now).0 }
