@@ -9,10 +9,11 @@ ghost use Rattle.vrt_markup.specs.declared.fault.VrtFault.{VrtFault};
 
 use crate::ends::{own_end, own_start};
 use crate::fault::VrtFault;
-use crate::items::{Item, is_equal, item_at};
+use crate::items::{Item, item_at};
 use crate::past::{DEEPEST, past_element};
 use crate::tag::Tag;
 use crate::text::is_blank;
+use crate::tokens::is_equal;
 use std::alloc::Global;
 
 /// Where the elements in an element stand: in a document of so many bytes, and how deep.

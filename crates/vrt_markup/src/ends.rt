@@ -1,7 +1,7 @@
 // Tags of a name that is known.
 ghost use Rattle.std.specs.Prelude.{◌≡◌, ◌<◌, ◌++◌, ◌∷◌, length, IfSome};
 
-use crate::items::{byte_at, strip, two_at};
+use crate::tokens::{byte_at, strip, two_at};
 
 /// What stands behind the end tag of this name, where the text begins with it, without white space in it.
 #[inline(always)]

@@ -11,9 +11,10 @@ ghost use Rattle.vrt_markup.specs.Kept.{Gives, worded, first_child};
 
 use crate::ends::own_end;
 use crate::fault::VrtFault;
-use crate::items::{Item, entity_at, is_equal, is_white, item_at};
+use crate::items::{Item, item_at};
 use crate::past::{DEEPEST, past_element};
 use crate::tag::Tag;
+use crate::tokens::{entity_at, is_equal, is_white};
 use memchr::memchr2;
 use std::alloc::{AllocError, Global};
 
