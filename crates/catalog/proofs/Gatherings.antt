@@ -28,7 +28,7 @@ some_same : {X : Type 0} (x y : X) → Some x ≡ Some y → x ≡ y
 some_same x y e = cc
 
 -- the order behind some names
-pub order_one : (own x : List ℕ) (kept : List (List ℕ)) (at : ℕ) (y : List ℕ) → slice_get (own ∷ kept) at ≡ Some y → length kept ≡ at → last_order own kept x ≡ slice_cmp nat_cmp x y
+order_one : (own x : List ℕ) (kept : List (List ℕ)) (at : ℕ) (y : List ℕ) → slice_get (own ∷ kept) at ≡ Some y → length kept ≡ at → last_order own kept x ≡ slice_cmp nat_cmp x y
 order_one own x [] zero y e l = ap (slice_cmp nat_cmp x) (some_same own y e)
 order_one own x [] (suc at) y e l = absurd (omega (arith, l))
 order_one own x (n ∷ ns) zero y e l = absurd (omega (arith, l))
