@@ -1,8 +1,8 @@
 // The items of a document: comments, tags and runs of text.
-ghost use Rattle.std.specs.Prelude.{◌≡◌, ◌<◌, ◌≤◌, length, map, true, IfSome, IfOk, Some, None};
+ghost use Rattle.std.specs.Prelude.{◌≡◌, ◌<◌, ◌≤◌, length, map, true, false, IfSome, IfOk, Some, None};
 ghost use Rattle.std.specs.Option.{option_map};
 ghost use Rattle.vrt_markup.specs.Items.{is_name, has_first, name_at, pairs, is_distinct, tag_end, tag_front};
-ghost use Rattle.vrt_markup.specs.Items.{tag_item, tag_at, close_at, run_at, item_at};
+ghost use Rattle.vrt_markup.specs.Items.{tag_item, tag_at, close_at, run_at, item_at, opens_name};
 ghost use Rattle.vrt_markup.specs.Keys.{number_of};
 ghost use Rattle.vrt_markup.specs.Views.{tag_view, Finds, Shortens};
 
@@ -130,18 +130,6 @@ fn unordered_item<'a>(
     }
 }
 
-// The item of a tag behind its `<`.
-#[tactic(auto, using(crate::proofs::Bare::no_tag))]
-fn tag_item(alloc: Global, text: &[u8]) -> Item
-    ensures item { Finds result (tag_item text.now) }
-    ensures shorter { Shortens result text.now }
-{
-    match name_at(text) {
-        None => Item::Bad,
-        Some((name, attributes)) => full_item(alloc, text, name, attributes),
-    }
-}
-
 #[tactic(auto, unfolding(crate::specs::Items::close_at))]
 fn close_at(text: &[u8]) -> Option<(&[u8], &[u8])>
     ensures close { option_map (λ x. (x.0.now, x.1.now)) result ≡ close_at text.now }
@@ -175,10 +163,12 @@ fn run_at(text: &[u8]) -> Item
     Item::Run(run, rest)
 }
 
-// The item in front of a text that may begin with anything.
-#[tactic(auto, unfolding(crate::specs::Items::item_at))]
+// The item in front of a text that may begin with anything but a `<` with a name behind it. Behind another `<` there is
+// no run.
+#[tactic(auto, unfolding(crate::specs::Items::item_at), using(crate::proofs::StartTags::run_item))]
 #[inline(never)]
-fn any_item(alloc: Global, text: &[u8]) -> Item
+fn any_item(text: &[u8]) -> Item
+    requires nameless { opens_name text.now ≡ false }
     ensures item { Finds result (item_at text.now) }
     ensures shorter { Shortens result text.now }
 {
@@ -194,17 +184,15 @@ fn any_item(alloc: Global, text: &[u8]) -> Item
             None => Item::Bad,
         };
     }
-    if let Some(rest) = byte_at(text, b'<') {
-        return tag_item(alloc, rest);
-    }
     run_at(text)
 }
 
 // What stands behind the `<` in front, where a name begins there.
-#[tactic(auto, using(crate::proofs::StartTags::first_item))]
+#[tactic(auto, using(crate::proofs::StartTags::first_item, crate::proofs::StartTags::no_opening, crate::proofs::StartTags::no_name))]
 fn named_front(text: &[u8]) -> Option<&[u8]>
     ensures first { IfSome result (λ r. has_first r.now ≡ true) }
     ensures item { IfSome result (λ r. tag_item r.now ≡ item_at text.now) }
+    ensures none { result ≡ None → opens_name text.now ≡ false }
     ensures shorter { IfSome result (λ r. length r.now < length text.now) }
 {
     let rest = byte_at(text, b'<')?;
@@ -221,7 +209,7 @@ pub fn item_at(alloc: Global, text: &[u8]) -> Item
     ensures shorter { Shortens result text.now }
 {
     let Some(front) = named_front(text) else {
-        return any_item(alloc, text);
+        return any_item(text);
     };
     let (name, attributes) = name_front(front);
     match tag_end(attributes) {
