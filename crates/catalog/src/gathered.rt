@@ -1,6 +1,6 @@
 // The names of a mosaic's sources, which are distinct where they rise or where their numbers differ.
-ghost use Rattle.std.specs.Prelude.{◌≡◌, ◌==◌, ◌++◌, ◌∷◌, ◌&&◌, [], true, List, ℕ, drop, map, IfOk, OnOk};
-ghost use Rattle.std.specs.Ordering.{is_gt};
+ghost use Rattle.std.specs.Prelude.{◌≡◌, ◌==◌, ◌++◌, ◌∷◌, ◌&&◌, [], true, false, List, ℕ, drop, map, IfOk, OnOk};
+ghost use Rattle.std.specs.Ordering.{is_eq, is_gt};
 ghost use Rattle.vrt_markup.specs.Keys.{apart};
 ghost use Rattle.catalog.specs.Mosaics.{distinct};
 ghost use Rattle.catalog.specs.Gathered.{HasGathered, text_number, is_rising, order_behind};
@@ -40,6 +40,13 @@ fn still_rises(before: bool, order: Ordering) -> bool
     before && order.is_gt()
 }
 
+// Whether two names are one.
+fn are_same(a: &Name, b: &Name) -> bool
+    ensures same { result ≡ true → a.now ≡ b.now }
+{
+    a.is(b)
+}
+
 impl Gathered {
     /// The own name alone.
     #[tactic(auto, using(crate::proofs::Gatherings::gathered_none))]
@@ -65,12 +72,39 @@ impl Gathered {
         name.as_str().cmp(self.files.get(count - 1).as_str())
     }
 
+    // Whether a name is that of the last source.
+    fn is_last(&self, name: &Name) -> bool
+        ensures last { result ≡ true → is_eq (order_behind self.now.files name.now) ≡ true }
+    {
+        let count = self.files.len();
+        if count < 2 {
+            return false;
+        }
+        are_same(name, self.files.get(count - 1))
+    }
+
+    // Adds the name of a source to names that don't rise, unless it is that of the last one: their order isn't asked.
+    #[tactic(auto, using(crate::proofs::Gatherings::gathered_last, crate::proofs::Gatherings::gathered_fallen))]
+    fn add_fallen(&mut self, name: Name) -> Result<(), AllocError>
+        requires fallen { self.old.rising ≡ false }
+        ensures gathered { OnOk result ((own : List ℕ) (names : List (List ℕ)) → HasGathered own names self.old →
+            HasGathered own (names ++ name ∷ []) self.new) }
+    {
+        if self.is_last(&name) {
+            return Ok(());
+        }
+        self.files.push(name)
+    }
+
     /// Adds the name of a source, unless it is that of the last one.
     #[tactic(auto, using(crate::proofs::Gatherings::gathered_last, crate::proofs::Gatherings::gathered_more))]
     pub fn add(&mut self, name: Name) -> Result<(), AllocError>
         ensures gathered { OnOk result ((own : List ℕ) (names : List (List ℕ)) → HasGathered own names self.old →
             HasGathered own (names ++ name ∷ []) self.new) }
     {
+        if !self.rising {
+            return self.add_fallen(name);
+        }
         let order = self.order(&name);
         if order.is_eq() {
             return Ok(());
