@@ -1,7 +1,7 @@
 -- Paths that are their own normal form, by the first bytes of their parts, and texts that add the same parts.
 use Rattle.std.specs.Prelude.{◌≡◌, ℕ, ◌==◌, Bool, true, false, not, ◌||◌, ◌&&◌, if◌then◌else◌}
-use Rattle.std.specs.Prelude.{List, Option, Some, None, [], ◌∷◌}
-use Rattle.outside.specs.Paths.{parts_of, pieces}
+use Rattle.std.specs.Prelude.{List, Option, Some, None, [], ◌∷◌, ◌++◌}
+use Rattle.outside.specs.Paths.{parts_of, pieces, is_kept}
 
 -- whether a byte isn't a slash
 abbrev pub is_inside : ℕ → Bool
@@ -32,3 +32,8 @@ abbrev pub add_the_same : List ℕ → List ℕ → Type 0
 add_the_same text other =
     (absolute : Bool) (before : List (List ℕ)) → parts_of absolute before (pieces text)
     ≡ parts_of absolute before (pieces other)
+
+-- a relative path adds all its parts to any of which .. removes none
+abbrev pub adds_all : List ℕ → Type 0
+adds_all text =
+    (before : List (List ℕ)) → is_kept before ≡ false → parts_of false before (pieces text) ≡ before ++ pieces text
