@@ -20,9 +20,10 @@ use crate::open::Open;
 use crate::pairs::pair_at;
 use crate::starts::Starts;
 use crate::steps::{add_number, add_token, count_later, needed};
-use crate::tokens::{LONGEST_TOKEN, dark_len, is_white, white_len};
+use crate::tokens::{LONGEST_TOKEN, dark_len, white_len};
 use crate::values::value_at;
 use geotransform::Size;
+use lists_and_answers::is_white;
 use std::alloc::Global;
 use std::marker::Model;
 

@@ -20,4 +20,4 @@ pub use past::past_element;
 pub use root::{Root, end_at, root_at, utf8_of};
 pub use tag::Tag;
 pub use text::{Plain, Words, is_blank, text_element};
-pub use tokens::{is_equal, is_white, trim_front};
+pub use tokens::{is_equal, trim_front};

@@ -14,7 +14,8 @@ use crate::fault::VrtFault;
 use crate::items::{Item, item_at};
 use crate::past::{DEEPEST, past_element};
 use crate::tag::Tag;
-use crate::tokens::{entity_at, is_equal, is_white};
+use crate::tokens::{entity_at, is_equal};
+use lists_and_answers::is_white;
 use memchr::memchr2;
 use std::alloc::{AllocError, Global};
 

@@ -7,6 +7,8 @@ ghost use Rattle.vrt_markup.specs.Items.{is_name, is_some, strip, trim_front, is
 ghost use Rattle.vrt_markup.specs.Items.{byte_at, after_comment, entity_at, ends_at, plain_len, spaces_at, quote_at};
 ghost use Rattle.vrt_markup.specs.Items.{value_at, is_equal, begins};
 
+use lists_and_answers::is_white;
+
 /// What stands behind the front, where the text begins so.
 #[inline(always)]
 pub(crate) fn strip<'a>(text: &'a [u8], front: &[u8]) -> Option<&'a [u8]>
@@ -20,13 +22,6 @@ fn begins(text: &[u8], front: &[u8]) -> bool
     ensures { result ≡ begins front.now text.now }
 {
     strip(text, front).is_some()
-}
-
-/// Whether it is a space, or a byte from 9 to 13.
-pub fn is_white(c: u8) -> bool
-    ensures white { result ≡ is_white c }
-{
-    c == b' ' || (9 <= c && c <= 13)
 }
 
 #[inline(never)]
