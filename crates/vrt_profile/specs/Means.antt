@@ -3,7 +3,7 @@ use Rattle.std.specs.Prelude.{ℕ, ℤ, pos, suc, ◌+◌, Bool, true, false, no
 use Rattle.std.specs.Prelude.{ok_or, Option, Some, None, Result, Ok, Err, ◌==◌, nat_le, if◌then◌else◌, codes}
 use Rattle.std.specs.Str.{is_utf8}
 use Rattle.std.specs.Option.{unwrap_or}
-use Rattle.lists_and_answers.specs.Answers.{◌>>=◌}
+use Rattle.lists_and_answers.specs.Answers.{◌>>=◌, wants}
 use Rattle.lists_and_answers.specs.Texts.{same_letters}
 use Rattle.geotransform.specs.Decimal.{whole_of}
 use Rattle.geotransform.specs.Geo.{Transform}
@@ -81,10 +81,6 @@ source_part_of complex name =
     if is_equal name (codes "SourceProperties") then source_part.Past else (
     if is_equal name (codes "SrcRect") then source_part.Src else (
     if is_equal name (codes "DstRect") then source_part.Dst else scaling_part complex (scaling_of name)))))
-
--- nothing, or the fault where something doesn't hold
-abbrev pub wants : Bool → VrtFault → Result (Unit {0}) VrtFault
-wants holds fault = if holds then Ok tt else Err fault
 
 -- In an element that holds text or attributes alone any element is unknown, and found behind what its text means.
 abbrev pub childless : {A : Type 0} → Option ℕ → A → Result A VrtFault
