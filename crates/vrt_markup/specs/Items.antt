@@ -3,10 +3,11 @@ use Rattle.std.specs.Prelude.{ℕ, zero, suc, Bool, true, false, ◌||◌, ◌&&
 use Rattle.std.specs.Prelude.{codes, Option, Some, None, ◌==◌, nat_le, if◌then◌else◌}
 use Rattle.std.specs.List.{prefix_len, list_all}
 use Rattle.std.specs.Cmp.Lexicographic.{pointwise}
+use Rattle.lists_and_answers.specs.Bytes.{slash}
 use Rattle.lists_and_answers.specs.Options.{◌>>=◌}
 use Rattle.lists_and_answers.specs.Texts.{is_white}
 
--- the bytes by which markup is told from text: `<`, `>`, `&`, the two quotes, `=` and `/`
+-- the bytes by which markup is told from text: `<`, `>`, `&`, the two quotes and `=`
 abbrev pub less_than : ℕ
 less_than = 60
 
@@ -24,9 +25,6 @@ single_quote = 39
 
 abbrev pub equals_sign : ℕ
 equals_sign = 61
-
-abbrev pub slash : ℕ
-slash = 47
 
 abbrev pub is_equal : List ℕ → List ℕ → Bool
 is_equal a b = pointwise (λ x y. x == y) a b

@@ -1,9 +1,10 @@
 -- Names of sources: from a document's folder to a file, and back.
 use Rattle.std.specs.Prelude.{ℕ, Bool, true, false, ◌&&◌, not, List, [], ◌∷◌, ◌++◌, Option, Some, None, if◌then◌else◌}
+use Rattle.lists_and_answers.specs.Bytes.{slash}
 use Rattle.lists_and_answers.specs.Options.{◌>>=◌}
 use Rattle.outside.specs.Names.{folder_part}
 use Rattle.outside.specs.Paths.{is_absolute}
-use Rattle.vrt_markup.specs.Items.{strip, byte_at, slash}
+use Rattle.vrt_markup.specs.Items.{strip, byte_at}
 use Rattle.vrt_profile.specs.Values.{SourceValue}
 
 -- The folder that a source's text is taken from: that of the document, where the text is relative to it and doesn't

@@ -7,6 +7,7 @@ use Rattle.geotransform.specs.Geo.{Transform}
 use Rattle.geotransform.specs.Types.{name_of}
 use Rattle.geotransform.specs.declared.types.PixelType.{PixelType}
 use Rattle.geotransform.specs.declared.types.Size.{Size}
+use Rattle.lists_and_answers.specs.Bytes.{space_byte}
 use Rattle.vrt_markup.specs.Items.{Pair, less_than, greater_than, ampersand, double_quote, single_quote}
 use Rattle.vrt_profile.specs.Fields.{colon, comma}
 use Rattle.vrt_profile.specs.Values.{trillion, Rectangle, SourceValue, BandValue, DocumentValue}
@@ -35,11 +36,11 @@ escaped text = flat_map escape text
 
 -- Two spaces stand in front for each level.
 abbrev pub indent : ℕ → List ℕ
-indent level = replicate (2 * level) 32
+indent level = replicate (2 * level) space_byte
 
 -- an attribute, behind a space
 abbrev pub pair_text : Pair → List ℕ
-pair_text p = 32 ∷ (p.name ++ (codes "=\"" ++ (p.value ++ double_quote ∷ [])))
+pair_text p = space_byte ∷ (p.name ++ (codes "=\"" ++ (p.value ++ double_quote ∷ [])))
 
 -- a start tag or an empty tag without its end
 abbrev pub tag_text : ℕ → List ℕ → List Pair → List ℕ
