@@ -49,6 +49,7 @@ abbrev pub numbers_or_all : List ℕ → ℕ → List ℕ
 numbers_or_all [] count = range_with_len 1 count
 numbers_or_all (n ∷ ns) count = n ∷ ns
 
+-- the numbers of the bands that are taken of the reference
 abbrev pub taken_bands : Options → DatasetHead → List ℕ
 taken_bands o reference = numbers_or_all o.bands (band_count reference)
 
@@ -61,9 +62,11 @@ abbrev pub band_type : Option BandHead → ℕ
 band_type None = 0
 band_type (Some band) = type_number band.kind
 
+-- whether two datasets have the same type in the band of a number
 abbrev pub same_type : DatasetHead → DatasetHead → ℕ → Bool
 same_type a b n = band_type (band_of a n) == band_type (band_of b n)
 
+-- whether two datasets have the same types in all these bands
 abbrev pub same_types : DatasetHead → DatasetHead → List ℕ → Bool
 same_types a b numbers = list_all (same_type a b) numbers
 
@@ -98,6 +101,7 @@ pub record JudgedValue : Type 0 where
   pub tiles : List TileValue
   pub skipped : List Skipped
 
+-- what is judged of no input
 abbrev pub none_judged : JudgedValue
 none_judged = record { tiles = []; skipped = [] }
 
@@ -121,23 +125,27 @@ abbrev pub first_judged : ℕ → Result TileValue Reason → JudgedValue → Ju
 first_judged number (Ok tile) behind later = joined (one_judged number (Ok tile)) behind
 first_judged number (Err reason) behind later = joined (one_judged number (Err reason)) later
 
+-- the inputs from one on, which has this number, as long as there is no reference
 abbrev pub judged_from : Options → ℕ → List DatasetHead → JudgedValue
 judged_from o number [] = none_judged
 judged_from o number (h ∷ hs) =
     first_judged number (judged_alone o h) (judged_behind o h (suc number) hs) (judged_from o (suc number) hs)
 
+-- what is judged of all inputs
 abbrev pub judged_of : Options → List DatasetHead → JudgedValue
 judged_of o heads = judged_from o 0 heads
 
--- where nothing may be skipped, the first skipped input is refused
+-- the name of a dataset, if there is one
 abbrev pub name_of : Option DatasetHead → List ℕ
 name_of None = []
 name_of (Some h) = h.name
 
+-- the refusal of the first skipped input, where one is skipped
 abbrev pub first_refused : List DatasetHead → List Skipped → Result (Unit {0}) BuildFault
 first_refused heads [] = Ok tt
 first_refused heads (s ∷ ss) = Err (Strict (name_of (slice_get heads s.input)) s.reason)
 
+-- where nothing may be skipped, the first skipped input is refused
 abbrev pub strictly : Options → List DatasetHead → List Skipped → Result (Unit {0}) BuildFault
 strictly o heads skipped = if o.strict then first_refused heads skipped else Ok tt
 

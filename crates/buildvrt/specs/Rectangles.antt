@@ -28,6 +28,7 @@ rectangle_of g t = record {
 abbrev pub meets_side : ℤ → ℤ → ℕ → Bool
 meets_side x w side = int_lt x (pos side) && int_lt (pos 0) (x +ℤ w)
 
+-- whether a rectangle of pixels meets a raster
 abbrev pub meets : Size → PixelRect → Bool
 meets size r = meets_side r.x r.w size.w && meets_side r.y r.h size.h
 
@@ -35,6 +36,7 @@ meets size r = meets_side r.x r.w size.w && meets_side r.y r.h size.h
 abbrev pub is_offset : ℤ → Bool
 is_offset v = nat_le (unsigned_abs v) farthest
 
+-- whether a rectangle of pixels is within the limits of a document
 abbrev pub is_within : PixelRect → Bool
 is_within r = is_offset r.x && (is_offset r.y && (is_offset r.w && is_offset r.h))
 
@@ -51,11 +53,13 @@ pub record PatchValue : Type 0 where
   pub head : DatasetHead
   pub shown : Option Rectangle
 
+-- the patch of an input in a grid
 unfoldable pub patch_of : GridValue → TileValue → Result PatchValue BuildFault
 patch_of g t = do
   shown ← shown_at g.size (rectangle_of g t)
   Ok (record { head = t.head; shown = shown })
 
+-- a patch before others
 abbrev pub with_patch : PatchValue → List PatchValue → Result (List PatchValue) BuildFault
 with_patch p ps = Ok (p ∷ ps)
 
@@ -77,6 +81,7 @@ pub record IsPixelRect (r : PixelRect) : Type 0 where
   pub width : unsigned_abs r.w < pixel_limit
   pub height : unsigned_abs r.h < pixel_limit
 
+-- what a patch keeps
 pub record IsPatch (p : PatchValue) : Type 0 where
   pub head : IsDatasetHead p.head
   pub shown : IfSome p.shown IsRectangle

@@ -31,6 +31,7 @@ abbrev pub rises : List ℕ → List (List ℕ) → Bool
 rises n [] = true
 rises n (m ∷ ms) = is_gt (slice_cmp nat_cmp m n) && rises m ms
 
+-- whether the names of a list rise, each greater than the one before it
 abbrev pub is_rising : List (List ℕ) → Bool
 is_rising [] = true
 is_rising (n ∷ ns) = rises n ns

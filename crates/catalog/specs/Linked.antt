@@ -42,6 +42,7 @@ height_in None = 0
 height_in (Some None) = 0
 height_in (Some (Some l)) = l.height
 
+-- the height of the dataset of a number
 abbrev pub height_at : List (Option Link) → ℕ → ℕ
 height_at links id = height_in (slice_get links id)
 
@@ -84,6 +85,7 @@ pub record IsMosaicLink (st : State) (name : List ℕ) (doc : DocumentValue) (l 
   pub rows : AreRows st name doc.bands l.members
   pub height : l.height ≡ suc (most st.links (flattened l.members))
 
+-- the link of a content: that of a file has the height 0
 abbrev pub IsLinkOf : State → List ℕ → Content → Link → Type 0
 IsLinkOf st name (File h) l = l.height ≡ 0
 IsLinkOf st name (Mosaic doc) l = IsMosaicLink st name doc l

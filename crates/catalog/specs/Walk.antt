@@ -109,11 +109,13 @@ abbrev pub again_sources : (List ℕ → Result (Unit {0}) WalkFault) → List �
 again_sources below base [] = Ok tt
 again_sources below base (s ∷ ss) = resolved base s >>= λ name. below name >>= λ checked. again_sources below base ss
 
+-- what is checked again below a dataset that was met whole: each name of its sources
 abbrev pub again_below : (List (List ℕ) → List ℕ → Result (Unit {0}) WalkFault) → List (List ℕ) → Option Dataset →
     Result (Unit {0}) WalkFault
 again_below below path None = Ok tt
 again_below below path (Some d) = again_sources (below (d.head.name ∷ path)) d.head.name (sources_in d.content)
 
+-- what is checked again of a name: its kind, its path, how deep it is, and what lies below it
 unfoldable pub again_step : (List (List ℕ) → List ℕ → Result (Unit {0}) WalkFault) → ℕ → List Dataset → List (List ℕ) →
     List ℕ → Result (Unit {0}) WalkFault
 again_step below room cat path name = do
@@ -137,6 +139,7 @@ visit_source visit base met s = do
   there ← has_samples after.datasets base name s.band (is_plain s)
   Ok after
 
+-- how a walk goes on through some sources of a mosaic, in order, up to the first refusal
 abbrev pub visit_sources : (Met → List ℕ → Result Met WalkFault) → List ℕ → Met → List SourceValue →
     Result Met WalkFault
 visit_sources visit base met [] = Ok met
@@ -157,11 +160,13 @@ first_met below m verify kind path met name = do
 abbrev pub met_again : ℕ → List (List ℕ) → Met → List ℕ → Result Met WalkFault
 met_again room path met name = again room met.datasets path name >>= λ checked. Ok met
 
+-- how a walk goes on with a name: as met again where it has a number, else as met for the first time
 abbrev pub met_or_first : (List (List ℕ) → Met → List ℕ → Result Met WalkFault) → Files → Bool → ℕ → Kind →
     List (List ℕ) → Met → List ℕ → Option ℕ → Result Met WalkFault
 met_or_first below m verify room kind path met name (Some id) = met_again room path met name
 met_or_first below m verify room kind path met name None = first_met below m verify kind path met name
 
+-- the visit of a name, where `below` visits a name with one mosaic more on the path
 unfoldable pub visit_step : (List (List ℕ) → Met → List ℕ → Result Met WalkFault) → Files → Bool → ℕ → List (List ℕ) →
     Met → List ℕ → Result Met WalkFault
 visit_step below m verify room path met name = do

@@ -118,15 +118,17 @@ judged tool count before uses [] = Ok uses
 judged tool count before uses (u ∷ us) = said_by u.option tool count before u
     >>= (λ s. judged tool count (behind_use before u.option) ((u.at, s) ∷ uses) us)
 
--- the last thing of a sort that uses say, of which the latest stands first
+-- the first of two things, where it is there, else the second
 abbrev pub later : {T : Type 0} → Option T → Option T → Option T
 later (Some x) earlier = Some x
 later None earlier = earlier
 
+-- the last thing of a sort that uses say, of which the latest stands first
 abbrev pub last : {T : Type 0} → (ℕ → Said → Option T) → List (ℕ × Said) → Option T
 last sort [] = None
 last sort (u ∷ us) = later (sort u.0 u.1) (last sort us)
 
+-- Sorts of things that uses say: what is said, with the number of its word where that is looked at later.
 abbrev pub verification : ℕ → Said → Option Bool
 verification at (said.Verification on) = Some on
 verification at other = None
@@ -139,6 +141,7 @@ abbrev pub worker_count : ℕ → Said → Option ℕ
 worker_count at (said.Workers workers) = Some workers
 worker_count at other = None
 
+-- the number of the word at which a band is chosen
 abbrev pub band_place : ℕ → Said → Option ℕ
 band_place at (said.Band band) = Some at
 band_place at other = None
@@ -159,10 +162,12 @@ abbrev pub format : ℕ → Said → Option OutFormat
 format at (said.Format f) = Some f
 format at other = None
 
+-- a window in pixels, with the number of its word
 abbrev pub window : ℕ → Said → Option (ℕ × View)
 window at (said.Window v) = Some (at, v)
 window at other = None
 
+-- a window in coordinates, with the number of its word
 abbrev pub places : ℕ → Said → Option (ℕ × View)
 places at (said.Places v) = Some (at, v)
 places at other = None
@@ -187,10 +192,12 @@ abbrev pub quiet : ℕ → Said → Option ℕ
 quiet at said.Quiet = Some at
 quiet at other = None
 
+-- the number of the word that refuses a window partly outside the source
 abbrev pub inside : ℕ → Said → Option ℕ
 inside at said.Inside = Some at
 inside at other = None
 
+-- the number of the word that refuses a window wholly outside the source
 abbrev pub touching : ℕ → Said → Option ℕ
 touching at said.Touching = Some at
 touching at other = None
@@ -247,20 +254,22 @@ abbrev pub tile : ℕ → Said → Option ℕ
 tile at (said.Tile n) = Some n
 tile at other = None
 
--- all bands, in the order in which they are said
+-- these bands, and behind them the one that is said, if it is a band
 abbrev pub with_band : List ℕ → Said → List ℕ
 with_band bands (said.Band band) = bands ++ band ∷ []
 with_band bands other = bands
 
+-- all bands that uses choose, in the order in which they are said
 abbrev pub bands_said : List (ℕ × Said) → List ℕ
 bands_said [] = []
 bands_said (u ∷ us) = with_band (bands_said us) u.1
 
--- all inputs, in the order in which they are said
+-- these inputs, and behind them the one that is said, if it is an input
 abbrev pub with_input : List (List ℕ) → Said → List (List ℕ)
 with_input inputs (said.Input name) = inputs ++ name ∷ []
 with_input inputs other = inputs
 
+-- all inputs that uses name, in the order in which they are said
 abbrev pub inputs_said : List (ℕ × Said) → List (List ℕ)
 inputs_said [] = []
 inputs_said (u ∷ us) = with_input (inputs_said us) u.1

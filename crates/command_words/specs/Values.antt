@@ -38,9 +38,11 @@ number_within most (Some n) = if nat_le 1 n && nat_le n most then Some n else No
 abbrev pub band_of : List ℕ → Option ℕ
 band_of word = number_within most_bands (short_of word)
 
+-- a number of blocks that a pool may hold
 abbrev pub blocks_of : List ℕ → Option ℕ
 blocks_of word = number_within most_blocks (short_of word)
 
+-- a number of lanes that read beside each other
 abbrev pub workers_of : List ℕ → Option ℕ
 workers_of word = number_within most_workers (short_of word)
 
@@ -91,6 +93,7 @@ layout_of word = if same_letters word (codes "INTERLEAVE=BIL") then Some Bil
 abbrev pub is_wide : ℤ → Bool
 is_wide n = int_le (lowest Int64) n && int_le n (highest UInt64)
 
+-- a number of a type of 64 bits as a NODATA
 abbrev pub wide_number : ℤ → Option NodataWord
 wide_number n = if is_wide n then Some (nodata.Number n) else None
 
@@ -105,9 +108,10 @@ resolution_named word = if bytes_eq word (codes "highest") then Some Highest els
     then Some Lowest else if bytes_eq word (codes "average") then Some Average else if bytes_eq word (codes "user")
     then Some User else None
 
--- a number above another, and the ticks of a decimal text where they are above so many
+-- a number, where it is above another one
 abbrev pub above : ℤ → ℤ → Option ℤ
 above least n = if int_lt least n then Some n else None
 
+-- the ticks of a decimal text, where they are above so many
 abbrev pub beyond : ℤ → List ℕ → Option ℤ
 beyond least word = option_and_then (above least) (ticks_of word)

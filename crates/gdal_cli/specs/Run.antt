@@ -105,14 +105,17 @@ abbrev pub words_read_input : Result Command WordFault → Bool
 words_read_input (Ok command) = reads_input command.job
 words_read_input (Err fault) = false
 
+-- whether the command that words are may warn of its inputs
 abbrev pub words_warn : Result Command WordFault → Bool
 words_warn (Ok command) = warns_of_inputs command.job
 words_warn (Err fault) = false
 
+-- whether the command that words are makes rasters from a number
 abbrev pub words_make_rasters : Result Command WordFault → Bool
 words_make_rasters (Ok command) = makes_rasters command.job
 words_make_rasters (Err fault) = false
 
+-- the names that the command of these words publishes
 abbrev pub words_published : Result Command WordFault → List (List ℕ)
 words_published (Ok command) = names_published command.job
 words_published (Err fault) = []
@@ -160,6 +163,7 @@ pub record RefusesOnly (result : Result (Unit {0}) Fault) : Type 0 where
   pub only : (n : List ℕ) → result ≡ Err (NotRecognized n) → kind_in n ≡ Err (walk.NotRecognized n)
   pub no_usage : (n : ℕ) → result ≡ Err (Usage n) → ⊥
 
+-- a name of one dataset is refused as RefusesKind says; where many are read, names are refused as RefusesOnly says
 abbrev pub RefusesIn : Bool → Option (List ℕ) → Result (Unit {0}) Fault → Type 0
 RefusesIn alone None result = RefusesOnly result
 RefusesIn alone (Some name) result = RefusesKind alone name result

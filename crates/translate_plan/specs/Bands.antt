@@ -32,6 +32,7 @@ count_of bands count = if length bands == 0 then count else length bands
 abbrev pub source_number_at : List ℕ → ℕ → ℕ
 source_number_at bands k = if length bands == 0 then k else slice_index bands k - 1
 
+-- the band that stands where a dataset has none of a number
 abbrev pub no_band : BandHead
 no_band = record { kind = Byte; nodata = None; block = record { w = 0; h = 0 } }
 
@@ -47,6 +48,7 @@ kind_by SrtmHgt first own = Int16
 kind_by AaiGrid first own = first
 kind_by Vrt first own = own
 
+-- the type of an output's band: the one that is asked for, or else that of the driver's rule
 abbrev pub kind_of : Driver → Option PixelType → PixelType → PixelType → PixelType
 kind_of driver (Some kind) first own = kind
 kind_of driver None first own = kind_by driver first own
@@ -93,6 +95,7 @@ same_nodata None (Some b) = false
 same_nodata (Some a) None = false
 same_nodata (Some a) (Some b) = are_same a b
 
+-- whether bands all have the same NODATA, or all have none
 abbrev pub agree : List OutBand → Bool
 agree [] = true
 agree (b ∷ bs) = list_all (λ c. same_nodata b.nodata c.nodata) bs
@@ -105,10 +108,11 @@ is_bare SrtmHgt bands = false
 is_bare AaiGrid bands = false
 is_bare Vrt bands = false
 
--- the output's bands as they are asked for, and as they are
+-- the output's bands as they are asked for
 abbrev pub asked_bands : Options → DatasetHead → List OutBand
 asked_bands o h = bands_by false o h
 
+-- the output's bands as they are
 abbrev pub out_bands : Options → DatasetHead → List OutBand
 out_bands o h = bands_by (is_bare o.driver (asked_bands o h)) o h
 

@@ -60,6 +60,7 @@ rounded_for SrtmHgt g = Some g
 rounded_for AaiGrid g = Some g
 rounded_for Vrt g = rounded g
 
+-- a geotransform that is lacking is past the limit
 abbrev pub or_limit : Option Transform → Result (Option Transform) PlanFault
 or_limit None = Err Limit
 or_limit (Some g) = Ok (Some g)

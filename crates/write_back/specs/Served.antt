@@ -21,6 +21,7 @@ pub record IsLeft (told told' : Option Files) (r r' c c' : ℕ) : Type 0 where
   pub reads : r' ≡ r
   pub calls : c' ≡ c
 
+-- what new drafts leave of a folder as it was
 abbrev pub IsLeftIn : {F File D : Type 0} → Ghosts F File D → F → F → Type 0
 IsLeftIn calls folder folder' = IsLeft (calls.names folder) (calls.names folder') (calls.read_calls folder)
     (calls.read_calls folder') (calls.write_calls folder) (calls.write_calls folder')

@@ -16,6 +16,7 @@ abbrev pub blocks_met : Bool → Rect → ℕ
 blocks_met by_columns rect = if by_columns then (if rect.h == 0 then 0 else rect.w)
     else (if rect.w == 0 then 0 else rect.h)
 
+-- how many blocks of an output a rectangle meets
 abbrev pub lines_met : Writer → Rect → ℕ
 lines_met w rect = blocks_met (cut_of w).by_columns rect
 
@@ -31,6 +32,7 @@ pub record StoreState : Type 0 where
   pub calls : ℕ
   pub writes : ℕ
 
+-- a store at one moment, of these parts
 abbrev pub store_state : Option Files → PoolView → Option (List ℕ) → ℕ → List ℕ → ℕ → ℕ → ℕ → ℕ → StoreState
 store_state told pool draft len name faults reads calls writes = record {
   told = told;
