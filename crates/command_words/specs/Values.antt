@@ -2,6 +2,7 @@
 use Rattle.std.specs.Prelude.{ℕ, ℤ, pos, neg_ℤ, ◌-◌, ◌==◌, ◌&&◌, ◌||◌, Bool, false, nat_le, List, [], ◌∷◌, length}
 use Rattle.std.specs.Prelude.{take, drop, codes, bytes_eq, Option, Some, None, option_map, option_and_then}
 use Rattle.std.specs.Prelude.{if◌then◌else◌, int_le, int_lt}
+use Rattle.lists_and_answers.specs.Bytes.{minus_sign}
 use Rattle.lists_and_answers.specs.Texts.{same_letters}
 use Rattle.geotransform.specs.Decimal.{number_of, whole_of, ticks_of}
 use Rattle.geotransform.specs.Types.{lowest, highest}
@@ -24,7 +25,7 @@ use Rattle.synthetic_rasters.specs.Tiles.{most_tile_side}
 
 abbrev pub begins_with_dash : List ℕ → Bool
 begins_with_dash [] = false
-begins_with_dash (b ∷ bs) = b == 45
+begins_with_dash (b ∷ bs) = b == minus_sign
 
 -- the number that one to nine digits write
 abbrev pub short_of : List ℕ → Option ℕ
@@ -53,7 +54,7 @@ tile_side_of word = number_within most_tile_side (short_of word)
 -- one to nine digits, with a minus or without
 abbrev pub integer_of : List ℕ → Option ℤ
 integer_of [] = None
-integer_of (b ∷ bs) = if b == 45 then option_map (λ n. neg_ℤ (pos n)) (short_of bs)
+integer_of (b ∷ bs) = if b == minus_sign then option_map (λ n. neg_ℤ (pos n)) (short_of bs)
     else option_map (λ n. pos n) (short_of (b ∷ bs))
 
 -- what stands before the last byte of a text, and that byte, if there is one
