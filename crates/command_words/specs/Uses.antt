@@ -88,17 +88,18 @@ abbrev pub tile_said : List ℕ → Option Said
 tile_said word = option_map (λ n. said.Tile n) (tile_side_of word)
 
 -- a positional word behind so many others, where there is a place for it and it is of the form
-abbrev pub placed : Tool → ℕ → List ℕ → Option Said
-placed Info before word = if before == 0 then source_said word else None
-placed Locate before word = if before == 0 then source_said word else if before == 1 then x_said word
+abbrev pub positional_of : Tool → ℕ → List ℕ → Option Said
+positional_of Info before word = if before == 0 then source_said word else None
+positional_of Locate before word = if before == 0 then source_said word else if before == 1 then x_said word
     else if before == 2 then y_said word else None
-placed Translate before word = if before == 0 then source_said word else if before == 1 then output_said word else None
-placed Build before word = if before == 0 then output_said word else input_said word
-placed Synth before word = if before == 0 then tile_said word else None
+positional_of Translate before word = if before == 0 then source_said word
+    else if before == 1 then output_said word else None
+positional_of Build before word = if before == 0 then output_said word else input_said word
+positional_of Synth before word = if before == 0 then tile_said word else None
 
 -- what a positional word behind so many others says
 unfoldable pub placed_said : Tool → ℕ → ℕ → List ℕ → Result Said WordFault
-placed_said tool before at word = if is_positional tool word then ok_or (placed tool before word) (Usage at)
+placed_said tool before at word = if is_positional tool word then ok_or (positional_of tool before word) (Usage at)
     else Err (Usage at)
 
 -- what a use says, of all words so many, behind so many positional words

@@ -250,14 +250,14 @@ abbrev pub source_end : Bool → SourceParts → Result SourceValue VrtFault
 source_end complex p = source_named complex p p.file
 
 -- whether resampling, where it stands, is the nearest pixel
-abbrev pub is_near : Option (List ℕ) → Bool
-is_near None = true
-is_near (Some text) = same_letters text (codes "nearest") || same_letters text (codes "near")
+abbrev pub is_nearest : Option (List ℕ) → Bool
+is_nearest None = true
+is_nearest (Some text) = same_letters text (codes "nearest") || same_letters text (codes "near")
 
 -- in order: its attributes and text in it, its children, what is missing
 abbrev pub source_of : Bool → Tag → Forest → Result SourceValue VrtFault
 source_of complex tag inside = do
-  plain ← wants (is_near (attribute (codes "resampling") tag.pairs) && all_blank inside) Unsupported
+  plain ← wants (is_nearest (attribute (codes "resampling") tag.pairs) && all_blank inside) Unsupported
   parts ← over (source_step complex) no_parts inside
   source_end complex parts
 

@@ -46,12 +46,12 @@ is_mask text = is_equal (map to_ascii_lowercase (take 4 text)) (codes "mask")
 abbrev pub no_band_fault : List ℕ → VrtFault
 no_band_fault text = if is_mask text then Unsupported else BadNumber
 
-abbrev pub band_by : List ℕ → Option ℕ → Result ℕ VrtFault
-band_by text None = Err (no_band_fault text)
-band_by text (Some n) = if nat_lt 0 n && nat_le n most_bands then Ok n else Err (no_band_fault text)
+abbrev pub band_number_by : List ℕ → Option ℕ → Result ℕ VrtFault
+band_number_by text None = Err (no_band_fault text)
+band_number_by text (Some n) = if nat_lt 0 n && nat_le n most_bands then Ok n else Err (no_band_fault text)
 
 abbrev pub band_number : List ℕ → Result ℕ VrtFault
-band_number text = band_by text (whole_text text)
+band_number text = band_number_by text (whole_text text)
 
 -- An offset or a ratio of a scaling, in parts of 10^12, trimmed.
 abbrev pub scale_by : Option ℤ → Result ℤ VrtFault

@@ -120,11 +120,12 @@ scaling_markup s = both (nodata_markup (codes "NODATA") s.nodata)
     (both (scale_markup (codes "ScaleOffset") (pos 0) s.offset)
     (both (scale_markup (codes "ScaleRatio") (pos trillion) s.ratio) (lut_markup s.lut)))
 
-abbrev pub source_name : Bool → List ℕ
-source_name complex = if complex then codes "ComplexSource" else codes "SimpleSource"
+-- the name of a source's element
+abbrev pub source_tag : Bool → List ℕ
+source_tag complex = if complex then codes "ComplexSource" else codes "SimpleSource"
 
 abbrev pub source_markup : SourceValue → Markup
-source_markup s = group (source_name s.complex) [] (both (place_markup s) (scaling_markup s))
+source_markup s = group (source_tag s.complex) [] (both (place_markup s) (scaling_markup s))
 
 abbrev pub sources_markup : List SourceValue → Markup
 sources_markup [] = nothing
