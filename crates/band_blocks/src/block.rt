@@ -4,7 +4,7 @@ ghost use Rattle.std.specs.Prelude.{get_or, slice_index_or, slice_set};
 ghost use Rattle.std.specs.List.{range_with_len, All};
 ghost use Rattle.geotransform.specs.Types.{is_in, clamp};
 ghost use Rattle.geotransform.specs.declared.types.PixelType.TheVariants.{Int16, Int32};
-ghost use Rattle.interleaved_raw.specs.Raw.{run_of as sample_of, bytes_at, sample_bytes, Holds, IsBetween};
+ghost use Rattle.interleaved_raw.specs.Raw.{strided_at as sample_of, bytes_at, sample_bytes, Holds, IsBetween};
 ghost use Rattle.lists_and_answers.specs.Places.{StandsAt};
 ghost use Rattle.dted_records.specs.Head.{most_counted};
 ghost use Rattle.dted_records.specs.Places.{record_len, record_of};

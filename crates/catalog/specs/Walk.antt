@@ -78,9 +78,10 @@ abbrev pub bands_of : Option Dataset → ℕ
 bands_of None = 0
 bands_of (Some d) = band_count d.head
 
--- the dataset of a name has a band, counted from 1
-abbrev pub has_band : List Dataset → List ℕ → ℕ → Result (Unit {0}) WalkFault
-has_band cat name band = if nat_lt (bands_of (dataset_named cat name)) band then Err (SourceBand name band) else Ok tt
+-- the refusal of a band, counted from 1, that the dataset of a name lacks
+abbrev pub unless_no_band : List Dataset → List ℕ → ℕ → Result (Unit {0}) WalkFault
+unless_no_band cat name band = if nat_lt (bands_of (dataset_named cat name)) band then Err (SourceBand name band)
+    else Ok tt
 
 -- the samples of a band have at most 32 bits
 abbrev pub is_narrow_band : Option BandHead → Bool
@@ -98,9 +99,11 @@ abbrev pub unless_wide : List Dataset → List ℕ → List ℕ → ℕ → Bool
 unless_wide cat base name band plain = if plain || is_narrow_band (band_named (dataset_named cat name) band) then Ok tt
     else Err (Malformed base (bad.Vrt vrt.Unsupported))
 
--- the dataset of a name has a band, counted from 1, whose samples a source of the mosaic with the name `base` takes
-abbrev pub has_samples : List Dataset → List ℕ → List ℕ → ℕ → Bool → Result (Unit {0}) WalkFault
-has_samples cat base name band plain = has_band cat name band >>= λ there. unless_wide cat base name band plain
+-- the refusal of a band, counted from 1, that the dataset of a name lacks, or whose samples a source of the mosaic with
+-- the name `base` doesn't take
+abbrev pub unless_no_samples : List Dataset → List ℕ → List ℕ → ℕ → Bool → Result (Unit {0}) WalkFault
+unless_no_samples cat base name band plain =
+    unless_no_band cat name band >>= λ there. unless_wide cat base name band plain
 
 -- What is checked of a name that was met whole earlier, on another path: itself, and then what its sources name, in
 -- order. `below` checks a name with one mosaic more on the path.
@@ -136,7 +139,7 @@ visit_source visit base met s = do
   counted ← one_more_source met.sources
   name ← resolved base s
   after ← visit (record { datasets = met.datasets; sources = met.sources + 1 }) name
-  there ← has_samples after.datasets base name s.band (is_plain s)
+  there ← unless_no_samples after.datasets base name s.band (is_plain s)
   Ok after
 
 -- how a walk goes on through some sources of a mosaic, in order, up to the first refusal

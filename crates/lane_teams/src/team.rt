@@ -10,7 +10,7 @@ ghost use Rattle.catalog.specs.Pixels.{pixel_of, pixel_of_name};
 ghost use Rattle.catalog.specs.Places.{row_by_row};
 ghost use Rattle.band_blocks.specs.Contents.{most_calls};
 ghost use Rattle.band_blocks.specs.Open.{IsUnchanged};
-ghost use Rattle.nearest_window.specs.Lanes.{held_in, room_of};
+ghost use Rattle.nearest_window.specs.Lanes.{held_count, room_of};
 ghost use Rattle.nearest_window.specs.Right.{IsFresh, IsReady, slack_of, TellsChangeIn};
 ghost use Rattle.nearest_window.specs.Shown.{IsInBand, IsWindow};
 ghost use Rattle.lane_teams.specs.Parts.{readers_of};
@@ -117,8 +117,8 @@ impl<F: Folder, L: Ledger> Team<F, L> {
         ensures capacity { map room_of self.new.lanes.items ≡ map room_of self.old.lanes.items }
         // of one lane with room for all blocks, each load makes one more block held, but for the last of a refused call
         ensures loads { (old : _) (new : _) → self.old.lanes.items ≡ old ∷ [] → self.new.lanes.items ≡ new ∷ [] →
-            all_blocks cat.now ≤ room_of old → self.new.loads ≤ self.old.loads + (held_in new - held_in old) + slack_of
-            result }
+            all_blocks cat.now ≤ room_of old → self.new.loads ≤ self.old.loads + (held_count new - held_count old)
+            + slack_of result }
         ensures reads { length self.old.lanes.items ≡ 1 → F.read_calls folder.new ≤ F.read_calls folder.old + most_calls
             cat.now * (self.new.loads - self.old.loads) }
         ensures counted { self.old.loads ≤ self.new.loads }
@@ -162,8 +162,8 @@ impl<F: Folder, L: Ledger> Team<F, L> {
         ensures capacity { map room_of self.new.lanes.items ≡ map room_of self.old.lanes.items }
         // of one lane with room for all blocks, each load makes one more block held, but for the last of a refused call
         ensures loads { (old : _) (new : _) → self.old.lanes.items ≡ old ∷ [] → self.new.lanes.items ≡ new ∷ [] →
-            all_blocks cat.now ≤ room_of old → self.new.loads ≤ self.old.loads + (held_in new - held_in old) + slack_of
-            result }
+            all_blocks cat.now ≤ room_of old → self.new.loads ≤ self.old.loads + (held_count new - held_count old)
+            + slack_of result }
         ensures reads { length self.old.lanes.items ≡ 1 → F.read_calls folder.new ≤ F.read_calls folder.old + most_calls
             cat.now * (self.new.loads - self.old.loads) }
         ensures counted { self.old.loads ≤ self.new.loads }
@@ -218,8 +218,8 @@ impl<F: Folder, L: Ledger> Team<F, L> {
         ensures capacity { map room_of self.new.lanes.items ≡ map room_of self.old.lanes.items }
         // of one lane with room for all blocks, each load makes one more block held, but for the last of a refused call
         ensures loads { (old : _) (new : _) → self.old.lanes.items ≡ old ∷ [] → self.new.lanes.items ≡ new ∷ [] →
-            all_blocks supply.now.cat.now ≤ room_of old → self.new.loads ≤ self.old.loads + (held_in new - held_in old)
-            + slack_of result }
+            all_blocks supply.now.cat.now ≤ room_of old → self.new.loads
+            ≤ self.old.loads + (held_count new - held_count old) + slack_of result }
         ensures reads { length self.old.lanes.items ≡ 1 → F.read_calls folder.new ≤ F.read_calls folder.old + most_calls
             supply.now.cat.now * (self.new.loads - self.old.loads) }
         ensures counted { self.old.loads ≤ self.new.loads }

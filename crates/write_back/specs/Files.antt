@@ -198,14 +198,14 @@ abbrev pub IsWhole : TargetView → Type 0
 IsWhole t = IsWholeOn t.output (sheet_in t)
 
 -- the files of a target
-abbrev pub files_in : TargetView → List (List ℕ × List ℕ)
-files_in t = files_of t.output t.name (shown t)
+abbrev pub target_files : TargetView → List (List ℕ × List ℕ)
+target_files t = files_of t.output t.name (shown t)
 
 -- over a folder that tells its names, where a target was whole, the first published of its files were put under their
 -- names, and all other names keep their bytes
 abbrev pub Publishes : Option Files → TargetView → Result (Unit {0}) CloseFault → Option Files → Type 0
 Publishes old t result new = (m : Files) → old ≡ Some m → (t.fault ≡ None → IsWhole t) →
-    new ≡ Some (with_files (take (published_of (length (files_in t)) result) (files_in t)) m)
+    new ≡ Some (with_files (take (published_of (length (target_files t)) result) (target_files t)) m)
 
 -- the bytes have the length that an output must have, hold these samples, and tell of each block that was met
 pub record HasSamples (w : Writer) (samples : ℕ → ℕ → ℕ → ℤ) (met : ℕ → ℕ → Type 0) (bytes : List ℕ) : Type 0 where

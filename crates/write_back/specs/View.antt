@@ -10,7 +10,7 @@ use Rattle.write_back.specs.declared.fault.TargetFault.{TargetFault}
 use Rattle.write_back.specs.declared.forms.Writer.{Writer}
 use Rattle.write_back.specs.declared.forms.Writer.TheVariants.{Raw, Hgt, Dted}
 use Rattle.write_back.specs.declared.rows.GridForm.{GridForm}
-use Rattle.write_back.specs.Forms.{bands_in, holds, most_calls, width_of, height_of, seen}
+use Rattle.write_back.specs.Forms.{band_total, holds, most_calls, width_of, height_of, seen}
 use Rattle.write_back.specs.Grids.{HasRows, grid_in}
 use Rattle.write_back.specs.Overlay.{IsOverlaid, WasMet, overlay}
 use Rattle.write_back.specs.State.{IsRight, IsSound, lines_met, block_total}
@@ -61,7 +61,7 @@ target_of s header fault = record {
 
 -- how many bands an output has
 abbrev pub bands_of : Output → ℕ
-bands_of (Blocks w) = bands_in w
+bands_of (Blocks w) = band_total w
 bands_of (Rows g) = 1
 
 -- how many columns an output has
@@ -95,9 +95,9 @@ IsNext (Blocks w) lines rect = Unit {0}
 IsNext (Rows g) lines rect = (rect.x ≡ 0) × (rect.w ≡ g.size.w) × (rect.y ≡ lines)
 
 -- how many blocks of an output a window meets; of a grid the lines count
-abbrev pub blocks_in : Output → Rect → ℕ
-blocks_in (Blocks w) rect = lines_met w rect
-blocks_in (Rows g) rect = rect.h
+abbrev pub window_blocks : Output → Rect → ℕ
+window_blocks (Blocks w) rect = lines_met w rect
+window_blocks (Rows g) rect = rect.h
 
 -- how many blocks an output has; of a grid the lines count
 abbrev pub all_blocks : Output → ℕ
@@ -162,7 +162,7 @@ pub record Keeps (rect : Rect) (old new : SheetView) (told told' : Option Files)
   pub names : told' ≡ told
   pub reads : r' ≡ r
   pub counted : w ≤ w'
-  pub few : w' ≤ w + blocks_in old.output rect
+  pub few : w' ≤ w + window_blocks old.output rect
   pub none : IsPooled old.output → all_blocks old.output ≤ old.pool.capacity → w' ≡ w
   pub calls : c' ≤ c + calls_of old.output * (w' - w)
 
