@@ -91,9 +91,10 @@ gathered_more own names old new x rising files h =
       same = distinct_with h.kept x ∙ ap (λ l. with_name l x) h.same ∙ sym (distinct_with names x);
     }
 
-pub gathered_fallen : (own : List ℕ) (names : List (List ℕ)) (old new : Gathered) (x : List ℕ) → old.rising ≡ false → new.rising ≡ old.rising → new.files ≡ old.files ++ x ∷ [] → HasGathered own names old → HasGathered own (names ++ x ∷ []) new
-gathered_fallen own names old new x fallen kept files h =
-    gathered_more own names old new x (kept ∙ fallen ∙ sym (ap (λ b. b && is_gt (order_behind old.files x)) fallen)) files h
+-- one more, where they don't rise
+pub gathered_unordered : (own : List ℕ) (names : List (List ℕ)) (old new : Gathered) (x : List ℕ) → old.rising ≡ false → new.rising ≡ old.rising → new.files ≡ old.files ++ x ∷ [] → HasGathered own names old → HasGathered own (names ++ x ∷ []) new
+gathered_unordered own names old new x unordered kept files h =
+    gathered_more own names old new x (kept ∙ unordered ∙ sym (ap (λ b. b && is_gt (order_behind old.files x)) unordered)) files h
 
 -- names that rise are distinct
 and_true : (a b : Bool) → (a && b) ≡ true → (a ≡ true) × (b ≡ true)

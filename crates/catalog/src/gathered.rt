@@ -84,9 +84,9 @@ impl Gathered {
     }
 
     // Adds the name of a source to names that don't rise, unless it is that of the last one: their order isn't asked.
-    #[tactic(auto, using(crate::proofs::Gatherings::gathered_last, crate::proofs::Gatherings::gathered_fallen))]
-    fn add_fallen(&mut self, name: Name) -> Result<(), AllocError>
-        requires fallen { self.old.rising ≡ false }
+    #[tactic(auto, using(crate::proofs::Gatherings::gathered_last, crate::proofs::Gatherings::gathered_unordered))]
+    fn add_unordered(&mut self, name: Name) -> Result<(), AllocError>
+        requires unordered { self.old.rising ≡ false }
         ensures gathered { OnOk result ((own : List ℕ) (names : List (List ℕ)) → HasGathered own names self.old →
             HasGathered own (names ++ name ∷ []) self.new) }
     {
@@ -103,7 +103,7 @@ impl Gathered {
             HasGathered own (names ++ name ∷ []) self.new) }
     {
         if !self.rising {
-            return self.add_fallen(name);
+            return self.add_unordered(name);
         }
         let order = self.order(&name);
         if order.is_eq() {

@@ -3,7 +3,7 @@ use Rattle.std.proofs.Common.{◌≡◌, ℕ, suc, Bool, true, false, cond, not,
 use Rattle.std.specs.Prelude.{◌||◌}
 use Rattle.std.specs.List.{list_all, prefix_len}
 use Rattle.std.proofs.lemmas.Bool.Decides.{nat_tests}
-use Rattle.vrt_markup.specs.Items.{Pair, Item, is_some, option_case, strip, byte_at, is_first, is_later, has_first, name_at, is_name, entity_at, plain_len, after_comment, pairs, close_at, tag_item, run_at, item_at, opens_name, bad, comment, run, open_tag, close_tag}
+use Rattle.vrt_markup.specs.Items.{Pair, Item, is_some, option_case, strip, byte_at, is_first, is_later, has_first, is_name, entity_at, plain_len, after_comment, pairs, close_at, tag_item, run_at, item_at, opens_name, bad, comment, run, open_tag, close_tag}
 use Rattle.vrt_markup.specs.Views.{Finds}
 use Rattle.vrt_markup.specs.declared.items.Item as found
 use Rattle.vrt_markup.proofs.Names.{spaceless}
@@ -66,7 +66,7 @@ nameless_case : (c : ℕ) (cs : List ℕ) (b : Bool) → (c == 60) ≡ b → opt
 nameless_case c cs true e none = nameless_tag cs none ∙ sym (no_run c cs e)
 nameless_case c cs false e none = refl
 
-nameless_front : (t : List ℕ) → opens_name t ≡ false → option_case (byte_at 60 t) (run_at t) tag_item ≡ run_at t
+pub nameless_front : (t : List ℕ) → opens_name t ≡ false → option_case (byte_at 60 t) (run_at t) tag_item ≡ run_at t
 nameless_front [] none = refl
 nameless_front (c ∷ cs) none = nameless_case c cs (c == 60) refl none
 

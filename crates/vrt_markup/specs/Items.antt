@@ -190,7 +190,7 @@ tag_item text = option_case (tag_at text) bad (λ t. open_tag t.0 t.1)
 
 -- whether a `<` and a name stand in front
 abbrev pub opens_name : List ℕ → Bool
-opens_name text = option_case (byte_at 60 text) false has_first
+opens_name text = option_case (byte_at less_than text) false has_first
 
 unfoldable pub item_at : List ℕ → Item
 item_at text =

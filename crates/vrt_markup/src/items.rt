@@ -165,7 +165,7 @@ fn run_at(text: &[u8]) -> Item
 
 // The item in front of a text that may begin with anything but a `<` with a name behind it. Behind another `<` there is
 // no run.
-#[tactic(auto, unfolding(crate::specs::Items::item_at), using(crate::proofs::StartTags::run_item))]
+#[tactic(auto, unfolding(crate::specs::Items::item_at), using(crate::proofs::StartTags::run_item, crate::proofs::StartTags::nameless_front))]
 #[inline(never)]
 fn any_item(text: &[u8]) -> Item
     requires nameless { opens_name text.now ≡ false }
