@@ -1,5 +1,5 @@
 -- What a token says.
-use Rattle.std.specs.Prelude.{ℕ, ℤ, pos, Bool, true, false, ◌&&◌, ◌||◌, List, [], ◌∷◌, length, codes, Option, Some}
+use Rattle.std.specs.Prelude.{ℕ, ℤ, pos, Bool, true, false, ◌&&◌, ◌||◌, List, [], ◌∷◌, length, codes, Option}
 use Rattle.std.specs.Prelude.{None, Result, Ok, Err, ok_or, nat_lt, nat_le, ◌==◌, if◌then◌else◌, int_lt, unsigned_abs}
 use Rattle.std.specs.List.{list_all}
 use Rattle.std.specs.Char.{is_ascii_digit}

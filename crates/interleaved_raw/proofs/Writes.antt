@@ -1,5 +1,5 @@
 -- A sample that is written a stride apart from the others.
-use Rattle.std.proofs.Common.{◌≡◌, ℕ, ℤ, ◌+◌, ◌-◌, ◌*◌, ◌/◌, ◌%◌, ◌<◌, ◌≤◌, ◌^◌, ◌⊎◌, inl, inr, ⊎_elim, true, false, Bool, List, [], length, take, drop, get_or, map, refl, ◌++◌, sym, ap, ◌∙◌, arith, pos, cond}
+use Rattle.std.proofs.Common.{◌≡◌, ℕ, ℤ, ◌+◌, ◌-◌, ◌*◌, ◌/◌, ◌%◌, ◌<◌, ◌≤◌, ◌^◌, ◌⊎◌, inl, inr, ⊎_elim, true, false, Bool, List, [], length, take, drop, get_or, map, refl, ◌++◌, sym, ap, ◌∙◌, arith, pos}
 use Rattle.std.proofs.lemmas.List.{take_at, drop_at, length-take-le, drop-take, append-nil, get_or-take, get_or-drop}
 use Rattle.std.proofs.lemmas.Slice.{take-put_mid_below, drop-put_mid}
 use Rattle.std.proofs.lemmas.Bool.{cases_lt}
