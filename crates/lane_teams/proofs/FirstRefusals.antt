@@ -1,11 +1,9 @@
 -- Of several answers, of which one is a refusal, there is one first refusal and no other.
 use Rattle.std.proofs.Common.{◌≡◌, ◌∙◌, sym, ap, refl, ◌<◌, ℕ, zero, suc, List, [], ◌∷◌, Option, Some, None, Ok, Err, arith}
 use Rattle.std.specs.Prelude.{slice_get}
+use Rattle.catalog.proofs.Found.{some_is}
 use Rattle.band_blocks.specs.declared.fault.LoadFault.{LoadFault}
 use Rattle.lane_teams.specs.Refusals.{Answer, first_refusal, IsFirstRefusal}
-
-some_is : {X : Type 0} {x y : X} → Some x ≡ Some y → x ≡ y
-some_is e = cc
 
 none≢some : {X : Type 0} {x : X} → None ≡ Some x → ⊥
 none≢some e = cc
