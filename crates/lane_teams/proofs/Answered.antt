@@ -39,15 +39,15 @@ several_readers lines samples fewest n several = chosen (nat_lt lines n || nat_l
     chosen false one several = refl
 
 -- the answers of one row of lanes, and those of the row behind it
-pub both_answered : (told : Option Files) (cat : List Dataset) (window : Window) (n k : ℕ) (rs ss : List Answer) (p q : List ℤ)
-    → HaveAnswered told cat window n k rs p → HaveAnswered told cat window n (k + length rs) ss q → HaveAnswered told cat window n k (rs ++ ss) (p ++ q)
-both_answered told cat window n k [] ss p q front back =
+pub both_answered : (told : Option Files) (cat : List Dataset) (window : Window) (n k : ℕ) (xs ys : List Answer) (p q : List ℤ)
+    → HaveAnswered told cat window n k xs p → HaveAnswered told cat window n (k + length xs) ys q → HaveAnswered told cat window n k (xs ++ ys) (p ++ q)
+both_answered told cat window n k [] ys p q front back =
     let here : k + 0 ≡ k = omega arith in
-    subst (λ (xs : List ℤ). HaveAnswered told cat window n k ss (xs ++ q)) (sym front) (subst (λ i. HaveAnswered told cat window n i ss q) here back)
-both_answered told cat window n k (r ∷ rs) ss p q front back =
-    let place : k + length (r ∷ rs) ≡ k + 1 + length rs = omega arith in
-    let behind = both_answered told cat window n (k + 1) rs ss front.1 q front.4 (subst (λ i. HaveAnswered told cat window n i ss q) place back) in
-    (front.0, front.1 ++ q, ap (λ (xs : List ℤ). xs ++ q) front.2 ∙ append_assoc front.0 front.1 q, front.3, behind)
+    subst (λ (zs : List ℤ). HaveAnswered told cat window n k ys (zs ++ q)) (sym front) (subst (λ i. HaveAnswered told cat window n i ys q) here back)
+both_answered told cat window n k (x ∷ xs) ys p q front back =
+    let end : k + length (x ∷ xs) ≡ k + 1 + length xs = omega arith in
+    let behind = both_answered told cat window n (k + 1) xs ys front.1 q front.4 (subst (λ i. HaveAnswered told cat window n i ys q) end back) in
+    (front.0, front.1 ++ q, ap (λ (zs : List ℤ). zs ++ q) front.2 ∙ append_assoc front.0 front.1 q, front.3, behind)
 
 -- the answer of one lane
 pub lane_answered : (told : Option Files) (cat : List Dataset) (window : Window) (n k : ℕ) (samples : List ℤ) (answer : Answer)

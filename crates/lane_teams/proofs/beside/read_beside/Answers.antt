@@ -1,6 +1,5 @@
 use Rattle.std.proofs.Common.{◌≡◌, ◌+◌, ◌*◌, ◌∙◌, ap, sym, subst, refl, length, inl, inr, Err, arith}
 use Rattle.std.specs.List.{All}
-use Rattle.band_blocks.specs.declared.fault.LoadFault.TheVariants.{Memory}
 use Rattle.nearest_window.specs.declared.window.Window.{Window}
 use Rattle.lane_teams.specs.Parts.{part_of, AreOfWindow}
 use Rattle.lane_teams.specs.Refusals.{IsFirstOf}
@@ -56,9 +55,10 @@ returns-clause-first g c =
     c.requires.count c.read_views.ensures.read whole c.collect.ensures.first))
 
 pub returns-in_err-turns-clause-first : goal.returns-in_err-turns-clause-first
-returns-in_err-turns-clause-first g c =
-    let memory : c.in_err-turns.field-0.0 ≡ Memory = c.in_err-turns.ensures.memory in
-    inr (record { memory = err_is c.from_residual.result c.in_err-turns.field-0.0 c.from_residual.ensures ∙ ap Err memory; unread = refl })
+returns-in_err-turns-clause-first g c = inr (record {
+  memory = err_is c.from_residual.result c.in_err-turns.field-0.0 c.from_residual.ensures ∙ ap Err c.in_err-turns.ensures.memory;
+  unread = refl;
+})
 
 pub returns-clause-ready : goal.returns-clause-ready
 returns-clause-ready g c =
