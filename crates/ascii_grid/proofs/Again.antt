@@ -17,6 +17,8 @@ use Rattle.geotransform.specs.Decimal.{sign_at, digits_at, number, signed, is_de
 use Rattle.geotransform.specs.Print.{unit, short_text}
 use Rattle.geotransform.specs.Places.{half, sixteen_places, are_same}
 use Rattle.geotransform.specs.Geo.{Transform, IsRaster, along}
+use Rattle.geotransform.specs.Types.{when_in}
+use Rattle.geotransform.specs.declared.types.PixelType.TheVariants.{Int32}
 use Rattle.geotransform.specs.declared.types.Size.{Size}
 use Rattle.geotransform.proofs.Numbers.{own}
 use Rattle.geotransform.proofs.RoundTrip.{AreDigits, digits-cons, sign_none, digits_again, IsShortWord, IsPlain, decimal_word, signed_word, short_word, whole_again, short_again}
@@ -32,7 +34,7 @@ use Rattle.ascii_grid.specs.declared.placing.Placing.{Placing}
 use Rattle.ascii_grid.specs.Tokens.{Token, tokens_from, tokens, token, is_dark, next}
 use Rattle.lists_and_answers.specs.Texts.{same_letters, is_white}
 use Rattle.lists_and_answers.specs.Lists.{flattened}
-use Rattle.ascii_grid.specs.Values.{side_in, coordinate_in, step_in, nodata_in, when_value, is_body_start, value_in, is_value, is_whole_text, is_whole_end, whole_value}
+use Rattle.ascii_grid.specs.Values.{side_in, coordinate_in, step_in, nodata_in, is_body_start, value_in, is_value, is_whole_text, is_whole_end, whole_value}
 use Rattle.ascii_grid.specs.Keys.{key_of, with_value, steps_of, placed, shape_of}
 use Rattle.ascii_grid.specs.Grid.{head_of, body_of, rows_of, nothing, grid_in, grid_of}
 use Rattle.ascii_grid.specs.Text.{more_text, row_text, line, placing_of, size_lines, edge_lines, step_lines, nodata_line, head_lines, head_text, AreRows, IsReadAgain, IsGridOf}
@@ -229,8 +231,8 @@ unfolding nodata_in
 nodata_again at n int small =
     let whole : whole_of (signed_decimal n) ≡ Some n = whole_again n (omega (arith, small)) in
     let dec : is_decimal (signed_decimal n) ≡ true = decimal_of_whole (parts_of (signed_decimal n)) (signed_decimal n) n refl whole in
-    ap (λ b. cond (b || same_letters (signed_decimal n) (codes "nan")) (Ok (when_value (whole_of (signed_decimal n)))) (Err (BadToken at))) dec
-    ∙ ap (λ (q : Option ℤ). Ok (when_value q)) whole ∙ ap (λ b. Ok (cond b (Some n) None)) int
+    ap (λ b. cond (b || same_letters (signed_decimal n) (codes "nan")) (Ok (when_in Int32 (whole_of (signed_decimal n)))) (Err (BadToken at))) dec
+    ∙ ap (λ (q : Option ℤ). Ok (when_in Int32 q)) whole ∙ ap (λ b. Ok (cond b (Some n) None)) int
 
 head_put : (f g : Found) (k : Key) (key : List ℕ) (a b : ℕ) (v : List ℕ) (more : List Token) → is_body_start key ≡ false → key_of key ≡ Some k → with_value f k (record { at = b; text = v }) ≡ Ok g → head_of f (record { at = a; text = key } ∷ (record { at = b; text = v } ∷ more)) ≡ head_of g more
 unfolding head_of

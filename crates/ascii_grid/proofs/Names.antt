@@ -1,4 +1,4 @@
--- Names of another length.
+-- Names of two letters, and of another length.
 use Rattle.std.proofs.Common.{◌≡◌, ◌≢◌, ℕ, Bool, true, false, List, [], ◌∷◌, refl, ap, ◌∙◌, length, ◌<◌, arith, suc, zero, get_or, take}
 use Rattle.std.specs.Prelude.{◌&&◌, nat_eq, codes, Some, None, if◌then◌else◌}
 use Rattle.std.specs.Char.{to_ascii_lowercase}

@@ -5,7 +5,9 @@ use Rattle.lists_and_answers.specs.Texts.{same_letters}
 use Rattle.lists_and_answers.specs.Options.{◌>>=◌}
 use Rattle.geotransform.specs.Decimal.{Decimal, parts_of, whole_of, is_decimal, is_some_decimal}
 use Rattle.ascii_grid.specs.declared.faults.GridFault.TheVariants.{BadToken}
-use Rattle.ascii_grid.specs.Values.{when_value, nodata_in, other_nodata}
+use Rattle.geotransform.specs.Types.{when_in}
+use Rattle.geotransform.specs.declared.types.PixelType.TheVariants.{Int32}
+use Rattle.ascii_grid.specs.Values.{nodata_in, other_nodata}
 
 some_parts : (o : Option Decimal) (f : Decimal → Option ℤ) (n : ℤ) → (o >>= f) ≡ Some n → is_some_decimal o ≡ true
 some_parts None f n h = absurd (cc)
@@ -22,12 +24,12 @@ decimal_is text = refl
 whole_decimal : (text : List ℕ) (n : ℤ) → whole_of text ≡ Some n → is_decimal text ≡ true
 whole_decimal text n h = decimal_is text ∙ whole_parts text n h
 
-pub whole_told : (at : ℕ) (text : List ℕ) (n : ℤ) → whole_of text ≡ Some n → nodata_in at text ≡ Ok (when_value (Some n))
+pub whole_told : (at : ℕ) (text : List ℕ) (n : ℤ) → whole_of text ≡ Some n → nodata_in at text ≡ Ok (when_in Int32 (Some n))
 unfolding nodata_in
 whole_told at text n h =
-    ap (λ b. cond (b || same_letters text (codes "nan")) (Ok (when_value (whole_of text))) (Err (BadToken at))) (whole_decimal text n h)
-    ∙ ap (λ o. Ok (when_value o)) h
+    ap (λ b. cond (b || same_letters text (codes "nan")) (Ok (when_in Int32 (whole_of text))) (Err (BadToken at))) (whole_decimal text n h)
+    ∙ ap (λ o. Ok (when_in Int32 o)) h
 
 pub other_told : (at : ℕ) (text : List ℕ) → whole_of text ≡ None → nodata_in at text ≡ other_nodata at text
 unfolding nodata_in
-other_told at text h = ap (λ o. cond (is_decimal text || same_letters text (codes "nan")) (Ok (when_value o)) (Err (BadToken at))) h
+other_told at text h = ap (λ o. cond (is_decimal text || same_letters text (codes "nan")) (Ok (when_in Int32 o)) (Err (BadToken at))) h

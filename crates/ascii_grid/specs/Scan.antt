@@ -9,7 +9,7 @@ use Rattle.ascii_grid.specs.declared.faults.GridFault.TheVariants.{BadToken, Too
 use Rattle.ascii_grid.specs.declared.head_parts.Shape.{Shape}
 use Rattle.ascii_grid.specs.declared.head_parts.Stage.{Stage}
 use Rattle.ascii_grid.specs.declared.head_parts.Stage.TheVariants.{AtKey, AtValue, InBody}
-use Rattle.ascii_grid.specs.Tokens.{Token, next}
+use Rattle.ascii_grid.specs.Tokens.{Token, next, most_kept}
 use Rattle.ascii_grid.specs.Values.{is_body_start, value_in}
 use Rattle.ascii_grid.specs.Keys.{key_of, with_value, shape_of}
 use Rattle.ascii_grid.specs.Grid.{Head, head_with, nothing, grid_head}
@@ -57,7 +57,7 @@ is_open [] = false
 is_open (c ∷ cs) = true
 
 abbrev pub push : List ℕ → ℕ → List ℕ
-push text c = if nat_lt (length text) 65 then text ++ c ∷ [] else text
+push text c = if nat_lt (length text) most_kept then text ++ c ∷ [] else text
 
 pub record State : Type 0 where
   pub held : Open

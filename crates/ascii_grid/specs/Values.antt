@@ -6,17 +6,18 @@ use Rattle.std.specs.Char.{is_ascii_digit}
 use Rattle.lists_and_answers.specs.Answers.{◌>>=◌}
 use Rattle.lists_and_answers.specs.Texts.{same_letters}
 use Rattle.geotransform.specs.Decimal.{ticks_of, whole_of, is_decimal, sign_at, digits_at, number, signed, number_of}
-use Rattle.geotransform.specs.Types.{is_in}
+use Rattle.geotransform.specs.Types.{is_in, when_in}
 use Rattle.geotransform.specs.declared.types.PixelType.TheVariants.{Int32}
 use Rattle.ascii_grid.specs.declared.faults.GridFault.{GridFault}
 use Rattle.ascii_grid.specs.declared.faults.GridFault.TheVariants.{BadToken, NotInteger, Limit}
-use Rattle.geotransform.specs.Limits.{most_side}
+use Rattle.geotransform.specs.Limits.{longest_decimal, most_short_digits, most_side}
 
 -- a number of columns or rows: one to nine digits that write a number above 0
 unfoldable pub side_in : ℕ → List ℕ → Result ℕ GridFault
 side_in at text = do
   n ← ok_or (number_of text) (BadToken at)
-  if nat_lt 9 (length text) || (n == 0) then Err (BadToken at) else (if nat_lt most_side n then Err Limit else Ok n)
+  if nat_lt most_short_digits (length text) || (n == 0) then Err (BadToken at)
+      else (if nat_lt most_side n then Err Limit else Ok n)
 
 -- a coordinate in ticks
 abbrev pub coordinate_in : ℕ → List ℕ → Result ℤ GridFault
@@ -32,17 +33,13 @@ step_in at text = do
 abbrev pub is_value : ℤ → Bool
 is_value n = is_in Int32 n
 
-abbrev pub when_value : Option ℤ → Option ℤ
-when_value None = None
-when_value (Some n) = if is_value n then Some n else None
-
 -- a NODATA that is no whole number
 abbrev pub other_nodata : ℕ → List ℕ → Result (Option ℤ) GridFault
 other_nodata at text = if is_decimal text || same_letters text (codes "nan") then Ok None else Err (BadToken at)
 
 -- a NODATA: none where the number isn't whole or isn't of the band
 unfoldable pub nodata_in : ℕ → List ℕ → Result (Option ℤ) GridFault
-nodata_in at text = if is_decimal text || same_letters text (codes "nan") then Ok (when_value (whole_of text))
+nodata_in at text = if is_decimal text || same_letters text (codes "nan") then Ok (when_in Int32 (whole_of text))
     else Err (BadToken at)
 
 -- an optional point with at least one zero behind it and nothing else
@@ -52,7 +49,7 @@ is_whole_end (c ∷ cs) = (c == 46) && (nat_lt 0 (length cs) && list_all (λ d. 
 
 -- an optional sign, digits, and optionally a point with zeros alone behind it
 abbrev pub is_whole_text : List ℕ → Bool
-is_whole_text text = let w = digits_at (sign_at text).1 in nat_le (length text) 64 &&
+is_whole_text text = let w = digits_at (sign_at text).1 in nat_le (length text) longest_decimal &&
     (nat_lt 0 (length w.0) && is_whole_end w.1)
 
 abbrev pub whole_value : List ℕ → ℤ

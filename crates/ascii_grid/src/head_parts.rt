@@ -2,7 +2,7 @@
 ghost use Rattle.std.specs.Prelude.{◌≡◌, ◌<◌, ◌≤◌, ◌*◌, ◌^◌, ◌%◌, unsigned_abs, true};
 ghost use Rattle.geotransform.specs.Decimal.{IsRead};
 ghost use Rattle.ascii_grid.specs.Values.{is_value};
-ghost use Rattle.geotransform.specs.Limits.{most_side};
+ghost use Rattle.geotransform.specs.Limits.{most_side, sixteenth_limit};
 
 use geotransform::{GeoTransform, Sample, Ticks};
 use std::marker::Model;
@@ -87,7 +87,7 @@ impl Coordinate {
 
     pub fn get(self) -> i128
         ensures value { result ≡ self }
-        ensures bound { unsigned_abs result < 18 * 10 ^ 28 }
+        ensures bound { unsigned_abs result < 18 * sixteenth_limit }
     {
         self.ticks.get()
     }
@@ -100,20 +100,21 @@ pub struct Step {
 }
 
 impl Model for Step {
-    ghost use Rattle.std.specs.Prelude.{◌<◌, ◌*◌, ◌^◌, ℕ};
+    ghost use Rattle.std.specs.Prelude.{◌<◌, ◌*◌, ℕ};
+    ghost use Rattle.geotransform.specs.Limits.{sixteenth_limit};
 
     ghost Value = { ℕ };
 
     ghost view = { λ s. s.ticks };
 
-    ghost invariant = { λ s. (0 < s.ticks) × (s.ticks < 18 * 10 ^ 28) };
+    ghost invariant = { λ s. (0 < s.ticks) × (s.ticks < 18 * sixteenth_limit) };
 
     ghost inverse = { λ n. record { ticks = n } };
 }
 
 impl Step {
     pub fn new(ticks: u128) -> Step
-        requires { (0 < ticks) × (ticks < 18 * 10 ^ 28) }
+        requires { (0 < ticks) × (ticks < 18 * sixteenth_limit) }
         ensures { result ≡ ticks }
     {
         Step { ticks }
@@ -122,7 +123,7 @@ impl Step {
     pub fn get(self) -> u128
         ensures value { result ≡ self }
         ensures some { 0 < result }
-        ensures bound { result < 18 * 10 ^ 28 }
+        ensures bound { result < 18 * sixteenth_limit }
     {
         self.ticks
     }

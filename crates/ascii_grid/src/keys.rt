@@ -3,7 +3,7 @@ ghost use Rattle.std.specs.Prelude.{◌≡◌, ℤ, pos, neg_ℤ, ◌+ℤ◌, �
 ghost use Rattle.std.specs.Prelude.{IfErr, OnOk, ◌≢◌, length};
 ghost use Rattle.lists_and_answers.specs.Texts.{same_letters};
 ghost use Rattle.ascii_grid.specs.Keys.{key_of, with_value, edge_of, steps_of, placed, shape_of};
-ghost use Rattle.geotransform.specs.Limits.{most_side};
+ghost use Rattle.geotransform.specs.Limits.{most_side, sixteenth_limit};
 
 use crate::faults::GridFault;
 use crate::head_parts::{Found, Key, LowerLeft, Shape, Side, Step};
@@ -122,7 +122,7 @@ pub fn with_value(found: Found, key: Key, at: u64, text: &[u8]) -> Result<Found,
 // Half a size of a pixel.
 fn half_of(step: Step) -> i128
     ensures value { result ≡ pos (step / 2) }
-    ensures bound { unsigned_abs result < 18 * 10 ^ 28 }
+    ensures bound { unsigned_abs result < 18 * sixteenth_limit }
 {
     (step.get() / 2) as i128
 }
@@ -130,7 +130,7 @@ fn half_of(step: Step) -> i128
 // The left or the lower edge of the lower left pixel.
 fn edge_of(place: LowerLeft, step: Step) -> i128
     ensures value { result ≡ edge_of place step }
-    ensures bound { unsigned_abs result < 36 * 10 ^ 28 }
+    ensures bound { unsigned_abs result < 36 * sixteenth_limit }
 {
     match place {
         LowerLeft::Edge(at) => at.get(),
@@ -153,15 +153,15 @@ fn steps_of(cellsize: Option<Step>, dx: Option<Step>, dy: Option<Step>) -> Optio
 #[tactic(auto, using(crate::proofs::Products::height_small))]
 fn height_of(h: Side, step: Step) -> i128
     ensures value { result ≡ pos (h * step) }
-    ensures bound { unsigned_abs result ≤ most_side * (18 * 10 ^ 28) }
+    ensures bound { unsigned_abs result ≤ most_side * (18 * sixteenth_limit) }
 {
     (u128::from(h.get()) * step.get()) as i128
 }
 
 // The upper edge of rows whose lower edge and height these are.
 fn top_of(bottom: i128, height: i128) -> Ticks
-    requires bottom { unsigned_abs bottom < 36 * 10 ^ 28 }
-    requires height { unsigned_abs height ≤ most_side * (18 * 10 ^ 28) }
+    requires bottom { unsigned_abs bottom < 36 * sixteenth_limit }
+    requires height { unsigned_abs height ≤ most_side * (18 * sixteenth_limit) }
     ensures { result ≡ bottom +ℤ height }
 {
     Ticks::of(bottom + height)
@@ -184,8 +184,8 @@ fn southward(step: Step) -> Ticks
 // The geotransform of so many rows of pixels of these sizes, of which the lower left one has these
 // edges.
 fn placed(left: i128, bottom: i128, steps: (Step, Step), h: Side) -> Option<GeoTransform>
-    requires left { unsigned_abs left < 36 * 10 ^ 28 }
-    requires bottom { unsigned_abs bottom < 36 * 10 ^ 28 }
+    requires left { unsigned_abs left < 36 * sixteenth_limit }
+    requires bottom { unsigned_abs bottom < 36 * sixteenth_limit }
     ensures { result ≡ placed left bottom steps h }
 {
     let top = top_of(bottom, height_of(h, steps.1));

@@ -2,28 +2,29 @@
 ghost use Rattle.std.specs.Prelude.{◌≡◌, ℕ, ◌≤◌, ◌+◌, [], min};
 ghost use Rattle.ascii_grid.specs.Scan.{Open, opened, passed, passed_over, is_open};
 
-use crate::tokens::next;
+use crate::tokens::{MOST_KEPT, next};
 use std::marker::Model;
 
-/// The token that is open, and where the text stands. Of a token 65 bytes are kept, one more than it
-/// may have.
+/// The token that is open, and where the text stands. Of a token one byte more is kept than it may
+/// have.
 #[derive(Drop)]
 pub struct Open {
     at: u64,
     begun: u64,
     len: usize,
-    bytes: [u8; 65],
+    bytes: [u8; MOST_KEPT],
 }
 
 impl Model for Open {
     ghost use Rattle.std.specs.Prelude.{◌≤◌, take};
     ghost use Rattle.ascii_grid.specs.Scan.{Open};
+    ghost use Rattle.ascii_grid.specs.Tokens.{most_kept};
 
     ghost Value = { Open };
 
     ghost view = { λ o. record { at = o.at; begun = o.begun; text = take o.len o.bytes } };
 
-    ghost invariant = { λ o. o.len ≤ 65 };
+    ghost invariant = { λ o. o.len ≤ most_kept };
 }
 
 impl Open {
@@ -35,7 +36,7 @@ impl Open {
             at: 0,
             begun: 0,
             len: 0,
-            bytes: [0; 65],
+            bytes: [0; MOST_KEPT],
         }
     }
 
@@ -106,7 +107,7 @@ impl Open {
         if self.len == 0 {
             self.begun = self.at;
         }
-        if self.len < 65 {
+        if self.len < MOST_KEPT {
             self.bytes[self.len] = c;
             self.len += 1;
         }

@@ -1,12 +1,13 @@
 // A key and its value that stand in front of bytes.
 ghost use Rattle.std.specs.Prelude.{◌≡◌, ◌≤◌, ◌<◌, ◌-◌, ℕ, length, take, get_or, true, false, Some, IfSome};
 ghost use Rattle.lists_and_answers.specs.Texts.{is_white};
+ghost use Rattle.ascii_grid.specs.Tokens.{longest_token};
 ghost use Rattle.ascii_grid.specs.Values.{is_body_start};
 ghost use Rattle.ascii_grid.specs.Keys.{key_of};
 
 use crate::head_parts::Key;
 use crate::keys::key_of;
-use crate::tokens::{dark_end, dark_len, is_white, white_end};
+use crate::tokens::{LONGEST_TOKEN, dark_end, dark_len, is_white, white_end};
 use crate::values::is_body_start;
 
 /// A key, how many bytes it has, and where its value begins and ends.
@@ -18,11 +19,12 @@ pub struct Pair {
     pub end: usize,
 }
 
-// How many bytes the token in front has, 0 where it is no key's name. Names of two letters are told at once.
+// How many bytes the token in front has, 0 where it has more than 64 or begins a body. One of two bytes, the first of
+// which is above `@`, is told at once.
 #[inline(always)]
 #[tactic(auto, using(crate::proofs::Names::two_dark, crate::proofs::Names::two_head))]
 fn name_len(bytes: &[u8]) -> usize
-    ensures short { result ≤ 64 }
+    ensures short { result ≤ longest_token }
     ensures within { result ≤ length bytes.now }
     ensures dark { (k : ℕ) → k < result → is_white (get_or bytes.now k 0) ≡ false }
     ensures head { is_body_start (take result bytes.now) ≡ false }
@@ -31,7 +33,7 @@ fn name_len(bytes: &[u8]) -> usize
         return 2;
     }
     let len = dark_len(bytes);
-    if len > 64 || is_body_start(&bytes[..len]) {
+    if len > LONGEST_TOKEN || is_body_start(&bytes[..len]) {
         return 0;
     }
     len
@@ -40,13 +42,13 @@ fn name_len(bytes: &[u8]) -> usize
 /// The key and its value that stand in front, where white space stands behind both.
 pub fn pair_at(bytes: &[u8]) -> Option<Pair>
     ensures named { IfSome result (λ p. 0 < p.len) }
-    ensures short { IfSome result (λ p. p.len ≤ 64) }
+    ensures short { IfSome result (λ p. p.len ≤ longest_token) }
     ensures name { IfSome result (λ p. (k : ℕ) → k < p.len → is_white (get_or bytes.now k 0) ≡ false) }
     ensures head { IfSome result (λ p. is_body_start (take p.len bytes.now) ≡ false) }
     ensures key { IfSome result (λ p. key_of (take p.len bytes.now) ≡ Some p.key) }
     ensures behind { IfSome result (λ p. p.len < p.from) }
     ensures some { IfSome result (λ p. p.from < p.end) }
-    ensures few { IfSome result (λ p. p.end - p.from ≤ 64) }
+    ensures few { IfSome result (λ p. p.end - p.from ≤ longest_token) }
     ensures within { IfSome result (λ p. p.end < length bytes.now) }
     ensures white { IfSome result (λ p. (k : ℕ) → p.len ≤ k → k < p.from → is_white (get_or bytes.now k 0) ≡ true) }
     ensures dark { IfSome result (λ p. (k : ℕ) → p.from ≤ k → k < p.end → is_white (get_or bytes.now k 0) ≡ false) }
@@ -59,7 +61,7 @@ pub fn pair_at(bytes: &[u8]) -> Option<Pair>
     let key = key_of(&bytes[..len])?;
     let from = white_end(bytes, len);
     let end = dark_end(bytes, from);
-    if len < from && from < end && end - from <= 64 && end < bytes.len() {
+    if len < from && from < end && end - from <= LONGEST_TOKEN && end < bytes.len() {
         Some(Pair {
             key,
             len,

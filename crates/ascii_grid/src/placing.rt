@@ -3,7 +3,7 @@ ghost use Rattle.std.specs.Prelude.{◌≡◌, ◌≤◌, ◌^◌, ◌*◌, ◌*
 ghost use Rattle.std.specs.Option.{option_map};
 ghost use Rattle.geotransform.specs.Geo.{IsNear, along};
 ghost use Rattle.ascii_grid.specs.Text.{placing_of};
-ghost use Rattle.geotransform.specs.Limits.{most_side};
+ghost use Rattle.geotransform.specs.Limits.{most_side, sixteenth_limit};
 
 use geotransform::{GeoTransform, Size, Ticks, round16};
 
@@ -21,7 +21,7 @@ fn depth(h: u32, step: Ticks) -> i128
     requires h { h ≤ most_side }
     requires step { IsNear step }
     ensures value { result ≡ pos h *ℤ step }
-    ensures bound { unsigned_abs result ≤ most_side * (18 * 10 ^ 28) }
+    ensures bound { unsigned_abs result ≤ most_side * (18 * sixteenth_limit) }
 {
     h as i128 * step.get()
 }

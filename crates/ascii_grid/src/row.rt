@@ -4,11 +4,12 @@ ghost use Rattle.std.specs.Prelude.{◌||◌, ◌==◌, nat_le, min, drop};
 ghost use Rattle.lists_and_answers.specs.Places.{StandsAt};
 ghost use Rattle.lists_and_answers.specs.Texts.{is_white};
 ghost use Rattle.ascii_grid.specs.Scan.{is_open};
+ghost use Rattle.ascii_grid.specs.Tokens.{longest_token};
 ghost use Rattle.ascii_grid.specs.Row.{value_or_zero, put, reading, row_ended, row_byte, row_fed, padded, Fills};
 ghost use Rattle.ascii_grid.specs.Row.{row_of, ended_in, ended_from, fresh, HasRead};
 
 use crate::open::Open;
-use crate::tokens::{dark_len, is_white, white_len};
+use crate::tokens::{LONGEST_TOKEN, dark_len, is_white, white_len};
 use crate::values::{value_at, value_in};
 use std::marker::Model;
 
@@ -66,7 +67,7 @@ impl RowState {
         requires value { value ≡ value_or_zero token.now }
         requires filled { self.old.filled ≤ length out.old }
         requires some { 0 < length token.now }
-        requires few { length token.now ≤ 64 }
+        requires few { length token.now ≤ longest_token }
         requires dark { (k : ℕ) → k < length token.now → is_white (get_or token.now k 0) ≡ false }
         requires closed { self.old.held.text ≡ [] }
         ensures fed { (c : ℕ) → is_white c ≡ true → reading self.new out.new ≡ row_fed (reading self.old out.old)
@@ -114,7 +115,7 @@ impl RowState {
                 return n;
             }
             let n = dark_len(bytes);
-            if n > 0 && n <= 64 && n < bytes.len() {
+            if n > 0 && n <= LONGEST_TOKEN && n < bytes.len() {
                 let token = &bytes[..n];
                 self.add_whole(token, value_or_zero(token), out);
                 return n + 1;

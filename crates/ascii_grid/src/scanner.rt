@@ -5,6 +5,7 @@ ghost use Rattle.lists_and_answers.specs.Answers.{Gives};
 ghost use Rattle.lists_and_answers.specs.Texts.{is_white};
 ghost use Rattle.ascii_grid.specs.Faults.{IsMemory};
 ghost use Rattle.ascii_grid.specs.Grid.{grid_head, head_with, IsHead};
+ghost use Rattle.ascii_grid.specs.Tokens.{longest_token};
 ghost use Rattle.ascii_grid.specs.Values.{has_value};
 ghost use Rattle.ascii_grid.specs.declared.head_parts.Stage.TheVariants.{AtKey};
 ghost use Rattle.lists_and_answers.specs.Places.{StandsAt};
@@ -19,7 +20,7 @@ use crate::open::Open;
 use crate::pairs::pair_at;
 use crate::starts::Starts;
 use crate::steps::{add_number, add_token, count_later, needed};
-use crate::tokens::{dark_len, is_white, white_len};
+use crate::tokens::{LONGEST_TOKEN, dark_len, is_white, white_len};
 use crate::values::value_at;
 use geotransform::Size;
 use std::alloc::Global;
@@ -102,7 +103,7 @@ impl Scanner {
     // Takes a whole token, where none is open, and a byte of white space behind it.
     fn add_whole(&mut self, token: &[u8])
         requires some { 0 < length token.now }
-        requires few { length token.now ≤ 64 }
+        requires few { length token.now ≤ longest_token }
         requires dark { (k : ℕ) → k < length token.now → is_white (get_or token.now k 0) ≡ false }
         requires closed { (s : State) → self.old ≡ Ok s → s.held.text ≡ [] }
         ensures state { (c : ℕ) → is_white c ≡ true → Reaches self.new (fed self.old (token.now ++ c ∷ [])) }
@@ -121,7 +122,7 @@ impl Scanner {
     // Takes a whole token that has a value, where none is open, and a byte of white space behind it.
     fn add_number(&mut self, token: &[u8])
         requires some { 0 < length token.now }
-        requires few { length token.now ≤ 64 }
+        requires few { length token.now ≤ longest_token }
         requires dark { (k : ℕ) → k < length token.now → is_white (get_or token.now k 0) ≡ false }
         requires value { has_value token.now ≡ true }
         requires closed { (s : State) → self.old ≡ Ok s → s.held.text ≡ [] }
@@ -225,6 +226,9 @@ impl Scanner {
             return 0;
         }
         if let Stage::InBody(shape, n, x) = &mut self.stage {
+            if *x == 0 {
+                return 0;
+            }
             if let Some((len, _)) = value_at(bytes) {
                 if count_later(shape, n, x) {
                     self.held.pass_token(len);
@@ -241,8 +245,8 @@ impl Scanner {
         0
     }
 
-    // Takes the values of a row behind its first one, as long as they stand in front, in a function of its own: they
-    // need little on the stack. How many bytes it took.
+    // Takes the values of a row behind its first one, as long as they stand in front, in a function of its own: what
+    // other tokens need on the stack isn't made for them. How many bytes it took.
     #[inline(never)]
     fn add_values(&mut self, bytes: &[u8]) -> usize
         ensures within { result ≤ length bytes.now }
@@ -296,7 +300,7 @@ impl Scanner {
                 return taken;
             }
             let n = dark_len(bytes);
-            if n > 0 && n <= 64 && n < bytes.len() {
+            if n > 0 && n <= LONGEST_TOKEN && n < bytes.len() {
                 self.add_whole(&bytes[..n]);
                 return n + 1;
             }

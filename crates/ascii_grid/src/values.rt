@@ -5,19 +5,25 @@ ghost use Rattle.std.specs.List.{list_all};
 ghost use Rattle.std.specs.Char.{is_ascii_digit};
 ghost use Rattle.lists_and_answers.specs.Texts.{is_white};
 ghost use Rattle.geotransform.specs.Decimal.{IsRead, number, signed, ticks_of};
-ghost use Rattle.ascii_grid.specs.Values.{is_body_start, side_in, coordinate_in, step_in, when_value};
-ghost use Rattle.ascii_grid.specs.Values.{nodata_in, other_nodata};
+ghost use Rattle.geotransform.specs.Types.{when_in};
+ghost use Rattle.geotransform.specs.declared.types.PixelType.TheVariants.{Int32};
+ghost use Rattle.ascii_grid.specs.Tokens.{longest_token};
+ghost use Rattle.ascii_grid.specs.Values.{is_body_start, side_in, coordinate_in, step_in, nodata_in, other_nodata};
 ghost use Rattle.ascii_grid.specs.Values.{is_whole_end, value_in, is_value, has_value};
 ghost use Rattle.ascii_grid.specs.Row.{value_or_zero};
 
 use crate::faults::GridFault;
 use crate::head_parts::{Coordinate, Side, Step, Value};
-use crate::tokens::is_white;
+use crate::tokens::{LONGEST_TOKEN, is_white};
 use geotransform::decimal::{digits_at, sign_at};
 use geotransform::{
-    MOST_SIDE, PixelType, Ticks, holds, is_decimal, read_decimal, read_number, read_whole,
+    LONGEST_DECIMAL, MOST_SHORT_DIGITS, MOST_SIDE, PixelType, Ticks, is_decimal, read_decimal,
+    read_number, read_whole, when_in,
 };
 use lists_and_answers::same_letters;
+
+/// The most digits behind the sign of a token.
+const MOST_BEHIND_SIGN: usize = LONGEST_TOKEN - 1;
 
 /// Whether a token in a key's place ends the head.
 pub fn is_body_start(text: &[u8]) -> bool
@@ -35,7 +41,7 @@ pub fn side_in(at: u64, text: &[u8]) -> Result<Side, GridFault>
     ensures { result ≡ side_in at text.now }
 {
     let n = read_number(text).ok_or(GridFault::BadToken(at))?;
-    if text.len() > 9 || n == 0 {
+    if text.len() > MOST_SHORT_DIGITS || n == 0 {
         return Err(GridFault::BadToken(at));
     }
     if n > MOST_SIDE as u64 {
@@ -62,7 +68,7 @@ fn units_in(text: &[u8]) -> Option<u32>
     ensures small { IfSome result (λ n. n ≤ 2000000009) }
 {
     let (n, value) = digits_in(text);
-    if n == text.len() && n > 0 && n <= 64 {
+    if n == text.len() && n > 0 && n <= LONGEST_DECIMAL {
         Some(value)
     } else {
         None
@@ -124,12 +130,12 @@ pub fn step_in(at: u64, text: &[u8]) -> Result<Step, GridFault>
 }
 
 // The number, where it is one of the band.
-fn when_value(n: Option<i128>) -> Option<Value>
-    ensures { result ≡ when_value n }
+fn whole_nodata(n: i128) -> Option<Value>
+    ensures { result ≡ when_in Int32 (Some n) }
 {
-    match n {
-        Some(n) if holds(PixelType::Int32, n) => Some(Value::new(n)),
-        _ => None,
+    match when_in(PixelType::Int32, Some(n)) {
+        Some(n) => Some(Value::new(n)),
+        None => None,
     }
 }
 
@@ -150,7 +156,7 @@ pub fn nodata_in(at: u64, text: &[u8]) -> Result<Option<Value>, GridFault>
     ensures { result ≡ nodata_in at text.now }
 {
     match read_whole(text) {
-        Some(n) => Ok(when_value(Some(n))),
+        Some(n) => Ok(whole_nodata(n)),
         None => other_nodata(at, text),
     }
 }
@@ -217,7 +223,7 @@ pub fn value_in(at: u64, text: &[u8]) -> Result<i32, GridFault>
 {
     let (negative, rest) = sign_at(text);
     let (digits, end) = digits_at(rest);
-    if text.len() <= 64 && !digits.is_empty() && is_whole_end(end) {
+    if text.len() <= LONGEST_DECIMAL && !digits.is_empty() && is_whole_end(end) {
         signed_value(negative, digits).ok_or(GridFault::Limit)
     } else if is_decimal(text) {
         Err(GridFault::NotInteger(at))
@@ -278,14 +284,14 @@ fn minus_at(bytes: &[u8]) -> Option<(usize, i32)>
     requires first { 0 < length bytes.now }
     requires minus { get_or bytes.now 0 0 ≡ 45 }
     ensures some { IfSome result (λ r. 0 < r.0) }
-    ensures few { IfSome result (λ r. r.0 ≤ 64) }
+    ensures few { IfSome result (λ r. r.0 ≤ longest_token) }
     ensures within { IfSome result (λ r. r.0 < length bytes.now) }
     ensures dark { IfSome result (λ r. (k : ℕ) → k < r.0 → is_white (get_or bytes.now k 0) ≡ false) }
     ensures white { IfSome result (λ r. is_white (get_or bytes.now r.0 0) ≡ true) }
     ensures has { IfSome result (λ r. has_value (take r.0 bytes.now) ≡ true) }
     ensures value { IfSome result (λ r. r.1 ≡ value_or_zero (take r.0 bytes.now)) }
 {
-    match number_at(&bytes[1..], 63) {
+    match number_at(&bytes[1..], MOST_BEHIND_SIGN) {
         Some((n, value)) => Some((n + 1, signed_number(true, value))),
         None => None,
     }
@@ -296,7 +302,7 @@ fn minus_at(bytes: &[u8]) -> Option<(usize, i32)>
 #[tactic(auto, using(crate::proofs::Fronts::front_dark, crate::proofs::Fronts::plain_has, crate::proofs::Fronts::plain_value))]
 pub fn value_at(bytes: &[u8]) -> Option<(usize, i32)>
     ensures some { IfSome result (λ r. 0 < r.0) }
-    ensures few { IfSome result (λ r. r.0 ≤ 64) }
+    ensures few { IfSome result (λ r. r.0 ≤ longest_token) }
     ensures within { IfSome result (λ r. r.0 < length bytes.now) }
     ensures dark { IfSome result (λ r. (k : ℕ) → k < r.0 → is_white (get_or bytes.now k 0) ≡ false) }
     ensures white { IfSome result (λ r. is_white (get_or bytes.now r.0 0) ≡ true) }
@@ -306,7 +312,7 @@ pub fn value_at(bytes: &[u8]) -> Option<(usize, i32)>
     if bytes.len() > 0 && bytes[0] == b'-' {
         return minus_at(bytes);
     }
-    match number_at(bytes, 64) {
+    match number_at(bytes, LONGEST_TOKEN) {
         Some((n, value)) => Some((n, signed_number(false, value))),
         None => None,
     }

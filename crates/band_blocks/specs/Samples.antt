@@ -11,6 +11,7 @@ use Rattle.catalog.specs.declared.driver.Content.{Content}
 use Rattle.catalog.specs.declared.driver.Content.TheVariants.{File, Mosaic}
 use Rattle.catalog.specs.declared.driver.DriverHead.{DriverHead}
 use Rattle.catalog.specs.declared.driver.DriverHead.TheVariants.{Raw, Dted, Hgt, Ascii}
+use Rattle.catalog.specs.Dataset.{band_at}
 
 -- each sample of a file has a place that its head tells; the values of a grid have none
 abbrev pub HasPlaces : DriverHead → Type 0
@@ -47,5 +48,5 @@ HasSample (Ascii h) band x y = (x < h.size.w) × (y < h.size.h)
 
 -- the sample is in the type of a band of a dataset
 abbrev pub IsOfType : Dataset → ℕ → ℤ → Type 0
-IsOfType d band sample = (kind : PixelType) → option_map (λ b. b.kind) (slice_get d.head.bands band) ≡ Some kind →
+IsOfType d band sample = (kind : PixelType) → option_map (λ b. b.kind) (band_at d.head band) ≡ Some kind →
     is_in kind sample ≡ true

@@ -7,7 +7,7 @@ use Rattle.lists_and_answers.specs.Answers.{◌>>=◌}
 use Rattle.geotransform.specs.Geo.{Transform, is_north_up}
 use Rattle.geotransform.specs.Types.{bytes_of, is_same, is_signed}
 use Rattle.geotransform.specs.declared.types.PixelType.{PixelType}
-use Rattle.catalog.specs.Dataset.{DatasetHead}
+use Rattle.catalog.specs.Dataset.{band_at, band_count, DatasetHead}
 use Rattle.catalog.specs.declared.kind.BandHead.{BandHead}
 use Rattle.buildvrt.specs.Options.{Options}
 use Rattle.buildvrt.specs.Tiles.{TileValue}
@@ -38,11 +38,11 @@ same_text (Some a) (Some b) = is_same false a b
 
 -- whether a dataset has each of these bands
 abbrev pub has_bands : DatasetHead → List ℕ → Bool
-has_bands h numbers = list_all (λ n. nat_le n (length h.bands)) numbers
+has_bands h numbers = list_all (λ n. nat_le n (band_count h)) numbers
 
 -- a band of a dataset by its number from 1
 abbrev pub band_of : DatasetHead → ℕ → Option BandHead
-band_of h n = slice_get h.bands (n - 1)
+band_of h n = band_at h (n - 1)
 
 -- The bands that are taken of the reference: the chosen ones, or all.
 abbrev pub numbers_or_all : List ℕ → ℕ → List ℕ
@@ -50,7 +50,7 @@ numbers_or_all [] count = range_with_len 1 count
 numbers_or_all (n ∷ ns) count = n ∷ ns
 
 abbrev pub taken_bands : Options → DatasetHead → List ℕ
-taken_bands o reference = numbers_or_all o.bands (length reference.bands)
+taken_bands o reference = numbers_or_all o.bands (band_count reference)
 
 -- the types of samples, numbered from 2 on by their bytes and their sign, which tell them apart
 abbrev pub type_number : PixelType → ℕ
@@ -73,7 +73,7 @@ no_choice [] = true
 no_choice (n ∷ ns) = false
 
 abbrev pub same_count : Options → DatasetHead → DatasetHead → Bool
-same_count o reference h = if no_choice o.bands && not o.separate then length h.bands == length reference.bands
+same_count o reference h = if no_choice o.bands && not o.separate then band_count h == band_count reference
     else true
 
 -- An input before there is a reference: what it is in the mosaic, or the first reason to skip it.

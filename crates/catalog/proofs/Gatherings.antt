@@ -1,4 +1,4 @@
--- The names of a mosaic's sources, gathered with their numbers.
+-- The names of a mosaic's sources, gathered: whether they rise, or have other numbers.
 use Rattle.std.proofs.Common.{◌≡◌, ◌∙◌, ap, sym, refl, true, false, cond, not, ◌||◌, ◌&&◌, zero, suc, ◌<◌, ◌==◌, ℕ, Bool, List, [], ◌∷◌, ◌++◌, map, drop, length, Some, bytes_eq, arith}
 use Rattle.std.specs.Prelude.{slice_get}
 use Rattle.std.specs.declared.cmp.Ordering.{Ordering}

@@ -20,7 +20,7 @@ use Rattle.catalog.specs.Drivers.{Dataset}
 use Rattle.catalog.specs.Heads.{resolved}
 use Rattle.catalog.specs.Walk.{dataset_named, bands_of, band_named, is_narrow_band, one_more_source, has_band, has_samples, unless_wide}
 use Rattle.catalog.specs.Linked.{State, IsLinked, IsLow, IsMember, Each, one_counted, most, height_at, height_in, IsMosaicAt, HasBand, HasSource}
-use Rattle.catalog.specs.Walking.{Seen, Visits, Passes, Names, Reaches, IsGoneTo, IsAgain}
+use Rattle.catalog.specs.Walking.{Seen, Visits, Passes, Names, Reaches, IsWalkedUpTo, IsMetLow}
 use Rattle.catalog.proofs.Found.{some_is, named_at}
 use Rattle.catalog.proofs.Meetings.{visits_known}
 use Rattle.catalog.proofs.Meets.{kind_met, met_fine}
@@ -59,8 +59,8 @@ member_again st base last s id relative file band plain t = record {
   takes = ap (λ p. p || is_narrow_band (band_at t.dataset.head (s.band - 1))) plain ∙ ap (λ k. is_plain last || is_narrow_band (band_at t.dataset.head (k - 1))) band ∙ t.takes;
 }
 
-pub again_at : (st : State) (room id band source : ℕ) (row : List ℕ) (g : IsGoneTo st room id band source row) (sources : List SourceValue) (last s : SourceValue) (i member : ℕ) → sources ≡ g.there.of.value.sources → i < source → slice_get sources i ≡ Some last → s ≡ g.there.value
-    → s.relative ≡ last.relative → s.file ≡ last.file → s.band ≡ last.band → is_plain s ≡ is_plain last → slice_get row i ≡ Some member → IsAgain st room g.there.of.mosaic.dataset.head.name g.there.value member
+pub again_at : (st : State) (room id band source : ℕ) (row : List ℕ) (g : IsWalkedUpTo st room id band source row) (sources : List SourceValue) (last s : SourceValue) (i member : ℕ) → sources ≡ g.there.of.value.sources → i < source → slice_get sources i ≡ Some last → s ≡ g.there.value
+    → s.relative ≡ last.relative → s.file ≡ last.file → s.band ≡ last.band → is_plain s ≡ is_plain last → slice_get row i ≡ Some member → IsMetLow st room g.there.of.mosaic.dataset.head.name g.there.value member
 again_at st room id band source row g sources last s i member same within at is relative file bands plain here =
     let base = g.there.of.mosaic.dataset.head.name in
     let before : slice_get (take source g.there.of.value.sources) i ≡ Some last = take_at g.there.of.value.sources source i last within (ap (λ ss. slice_get ss i) (sym same) ∙ at) in
@@ -86,11 +86,11 @@ same_mosaic st id v w =
 same_band : (st : State) (id band : ℕ) (v w : HasBand st id band) → v.value ≡ w.value
 same_band st id band v w = some_is (sym v.band_at ∙ ap (λ (d : DocumentValue). slice_get d.bands band) (same_mosaic st id v.mosaic w.mosaic).1 ∙ w.band_at)
 
-pub again_there : (st : State) (room id band source : ℕ) (v w : HasSource st id band source) (member : ℕ) → IsAgain st room v.of.mosaic.dataset.head.name v.value member → IsAgain st room w.of.mosaic.dataset.head.name w.value member
+pub again_there : (st : State) (room id band source : ℕ) (v w : HasSource st id band source) (member : ℕ) → IsMetLow st room v.of.mosaic.dataset.head.name v.value member → IsMetLow st room w.of.mosaic.dataset.head.name w.value member
 again_there st room id band source v w member a =
     let value : v.value ≡ w.value = some_is (sym v.source_at ∙ ap (λ (b : BandValue). slice_get b.sources source) (same_band st id band v.of w.of) ∙ w.source_at) in
-    subst (λ (s : SourceValue). IsAgain st room w.of.mosaic.dataset.head.name s member) value
-    (subst (λ (d : Dataset). IsAgain st room d.head.name v.value member) (same_mosaic st id v.of.mosaic w.of.mosaic).0 a)
+    subst (λ (s : SourceValue). IsMetLow st room w.of.mosaic.dataset.head.name s member) value
+    (subst (λ (d : Dataset). IsMetLow st room d.head.name v.value member) (same_mosaic st id v.of.mosaic w.of.mosaic).0 a)
 
 -- it is counted, and what it names is as it was for the one before it
 abbrev passed : Result (Unit {0}) WalkFault
@@ -110,7 +110,7 @@ room_left n is = by_test (nat_lt n 262144) refl is
     by_test true e ok = grind (arith, nat_tests)
     by_test false e ok = absurd cc
 
-pub source_again : (verify : Bool) (room : ℕ) (base : List ℕ) (s : SourceValue) (a : Seen) (st : State) (id : ℕ) → IsLinked st → one_more_source st.sources ≡ Ok tt → IsAgain st room base s id
+pub source_again : (verify : Bool) (room : ℕ) (base : List ℕ) (s : SourceValue) (a : Seen) (st : State) (id : ℕ) → IsLinked st → one_more_source st.sources ≡ Ok tt → IsMetLow st room base s id
     → Passes verify room base (s ∷ []) a a st (one_counted st) (λ t. Reaches (one_counted st) room base (s ∷ []) (t ∷ [])) (Ok id)
 source_again verify room base s a st id linked counts again =
     let t = again.member in

@@ -125,12 +125,12 @@ pub record ReachesRows (st : State) (room : ℕ) (base : List ℕ) (bands : List
     pub low : most st.links (flattened rows) ≤ room
 
 -- the walk went through the sources of a band before one of them
-pub record IsGoneTo (st : State) (room id band source : ℕ) (row : List ℕ) : Type 0 where
+pub record IsWalkedUpTo (st : State) (room id band source : ℕ) (row : List ℕ) : Type 0 where
   pub there : HasSource st id band source
   pub reached : Reaches st room there.of.mosaic.dataset.head.name (take source there.of.value.sources) row
 
 -- a source of the mosaic with the name `base` names a dataset that was met whole, and isn't higher than this
-pub record IsAgain (st : State) (room : ℕ) (base : List ℕ) (s : SourceValue) (id : ℕ) : Type 0 where
+pub record IsMetLow (st : State) (room : ℕ) (base : List ℕ) (s : SourceValue) (id : ℕ) : Type 0 where
   pub member : IsMember st base s id
   pub low : height_at st.links id ≤ room
 

@@ -31,8 +31,8 @@ fn text_number(text: &[u8]) -> u64
     number
 }
 
-// Whether names rise that rose before, and of which the last one is followed in this order.
-fn rises(before: bool, order: Ordering) -> bool
+// Whether names still rise with one more, which stands to the last one in this order; `before` says whether they rose.
+fn still_rises(before: bool, order: Ordering) -> bool
     ensures rises { result ≡ (before && is_gt order) }
 {
     before && order.is_gt()
@@ -73,7 +73,7 @@ impl Gathered {
         if order.is_eq() {
             return Ok(());
         }
-        self.rising = rises(self.rising, order);
+        self.rising = still_rises(self.rising, order);
         self.files.push(name)
     }
 }

@@ -8,7 +8,7 @@ ghost use Rattle.lists_and_answers.specs.Lists.{flattened};
 ghost use Rattle.catalog.specs.Outcomes.{IsMemory};
 ghost use Rattle.catalog.specs.Drivers.{Dataset as Known};
 ghost use Rattle.catalog.specs.Walking.{IsPlain};
-ghost use Rattle.catalog.specs.Dataset.{band_at, most_datasets, most_nestings};
+ghost use Rattle.catalog.specs.Dataset.{band_count, band_at, most_datasets, most_nestings};
 ghost use Rattle.catalog.specs.Walk.{is_narrow_band, number_of, one_more_source};
 ghost use Rattle.catalog.specs.Linked.{State, IsLinked, IsHigh, IsDeep, Grows, HasBand, IsMosaicAt, pushed, closed};
 ghost use Rattle.catalog.specs.Linked.{one_counted, cut_to, height_at, most, first_above};
@@ -149,7 +149,7 @@ impl Met {
     /// The number of bands of a dataset.
     pub fn band_count(&self, id: u32) -> usize
         requires known { id < length self.now.datasets }
-        ensures bands { (d : Known) → slice_get self.now.datasets id ≡ Some d → result ≡ length d.head.bands }
+        ensures bands { (d : Known) → slice_get self.now.datasets id ≡ Some d → result ≡ band_count d.head }
     {
         self.dataset(id).head.bands.len()
     }

@@ -13,7 +13,7 @@ ghost use Rattle.catalog.specs.Walk.{has_samples, unless_wide, visit};
 ghost use Rattle.vrt_profile.specs.Value.{is_plain};
 ghost use Rattle.catalog.specs.Linked.{IsLinked, IsPath, IsLow, IsMosaicAt, HasBand, HasSource, met_of};
 ghost use Rattle.catalog.specs.Walking.{IsPlain, Meets, Visits, Passes, Names, Reaches, ReachesRows, seen};
-ghost use Rattle.catalog.specs.Walking.{IsGoneTo, IsAgain};
+ghost use Rattle.catalog.specs.Walking.{IsWalkedUpTo, IsMetLow};
 
 use crate::driver::Content;
 use crate::kind::kind_of;
@@ -259,9 +259,9 @@ fn is_same_band(last: &Source, source: &Source) -> bool
 // visited for the sources before it.
 fn visited(met: &Met, at: SourceAt, row: &Members) -> Option<u32>
     requires there { HasSource met.now at.id at.band at.source }
-    ensures again { IfSome result (λ id. (room : ℕ) → IsGoneTo met.now room at.id at.band at.source row.now →
+    ensures again { IfSome result (λ id. (room : ℕ) → IsWalkedUpTo met.now room at.id at.band at.source row.now →
         (w : HasSource met.now at.id at.band at.source) →
-        IsAgain met.now room w.of.mosaic.dataset.head.name w.value id) }
+        IsMetLow met.now room w.of.mosaic.dataset.head.name w.value id) }
 {
     let count = row.len();
     if count == 0 || count != at.source {
@@ -275,7 +275,8 @@ fn visited(met: &Met, at: SourceAt, row: &Members) -> Option<u32>
 }
 
 // Visits what a source of a mosaic names, after it is counted; then the band must be there, with samples that the
-// source takes. All this was done for the source before it where that takes the same band.
+// source takes. All this but the
+// count was done for the source before it where that takes the same band of the same file.
 #[cycle(walk)]
 fn visit_source<F: Folder>(
     alloc: Global,
@@ -289,7 +290,7 @@ fn visit_source<F: Folder>(
     requires linked { IsLinked met.old }
     requires room { room < most_nestings }
     requires there { HasSource met.old at.id at.band at.source }
-    requires row { IsGoneTo met.old room at.id at.band at.source row.now }
+    requires row { IsWalkedUpTo met.old room at.id at.band at.source row.now }
     ensures passes { (w : HasSource met.old at.id at.band at.source) → Passes verify room w.of.mosaic.dataset.head.name
         (w.value ∷ []) (seen (F.names folder.old) (F.write_calls folder.old) (F.read_calls folder.old)
         (F.faults folder.old)) (seen (F.names folder.new) (F.write_calls folder.new) (F.read_calls folder.new)

@@ -1,5 +1,5 @@
 -- The head that a header's text gives, or its first fault.
-use Rattle.std.specs.Prelude.{◌≡◌, ◌<◌, ◌≤◌, ◌⊎◌, IfSome, ℕ, ℤ, pos, neg_ℤ, ◌+ℤ◌, ◌-ℤ◌, ◌*ℤ◌, ◌*◌, ◌/◌, ◌^◌, Bool, true}
+use Rattle.std.specs.Prelude.{◌≡◌, ◌<◌, ◌≤◌, ◌⊎◌, IfSome, ℕ, ℤ, pos, neg_ℤ, ◌+ℤ◌, ◌-ℤ◌, ◌*ℤ◌, ◌*◌, ◌/◌, Bool, true}
 use Rattle.std.specs.Prelude.{ok_or, false, ◌&&◌, List, length, Option, Some, None, Result, Ok, Err, nat_lt}
 use Rattle.std.specs.Prelude.{if◌then◌else◌, unsigned_abs, int_lt}
 use Rattle.std.specs.Option.{option_map}
@@ -20,9 +20,9 @@ use Rattle.esri_hdr.specs.declared.header_parts.Shape.{Shape}
 use Rattle.esri_hdr.specs.declared.header_parts.Rows.{Rows}
 use Rattle.esri_hdr.specs.Lines.{Values, last_of}
 use Rattle.esri_hdr.specs.Values.{side_in, bands_in, bits_in, big_in, layout_in, skip_in, signed_in, kind_of}
-use Rattle.esri_hdr.specs.Values.{band_row_in, total_row_in, gap_in, BandRowFits, TotalRowFits, GapFits}
+use Rattle.esri_hdr.specs.Values.{band_row_in, total_row_in, gap_in, BandRowFits, TotalRowFits, GapFits, longest_gap}
 use Rattle.esri_hdr.specs.Keys as keys
-use Rattle.geotransform.specs.Limits.{most_bands, most_side}
+use Rattle.geotransform.specs.Limits.{most_bands, most_side, unit_limit}
 
 -- ULXMAP, ULYMAP
 unfoldable pub place_in : Option (List ℕ) → Result (Option ℤ) HdrFault
@@ -40,7 +40,7 @@ step_in (Some text) = do
 
 -- whether the half of so many ticks is below 10^12 units in magnitude
 abbrev pub is_half_near : ℤ → Bool
-is_half_near twice = nat_lt (unsigned_abs twice) (2 * (10 ^ 12 * unit))
+is_half_near twice = nat_lt (unsigned_abs twice) (2 * (unit_limit * unit))
 
 -- the centre and the sizes of the first pixel, where both its coordinates stand; its outer corner stays below 10^12
 -- units
@@ -169,7 +169,7 @@ pub record IsHead (h : Head) : Type 0 where
   pub width : IsSide h.size.w
   pub height : IsSide h.size.h
   pub bands : (0 < h.bands) × (h.bands ≤ most_bands)
-  pub skip : h.skip ≤ 2 ^ 40
+  pub skip : h.skip ≤ longest_gap
   pub rows : RowsFit h.layout h.bands (h.size.w * sample_len h.kind) (record {
     band_row = h.band_row;
     total_row = h.total_row;
@@ -183,7 +183,7 @@ pub record IsShape (s : Shape) : Type 0 where
   pub width : IsSide s.w
   pub height : IsSide s.h
   pub bands : (0 < s.bands) × (s.bands ≤ most_bands)
-  pub skip : s.skip ≤ 2 ^ 40
+  pub skip : s.skip ≤ longest_gap
   pub bits : (s.bits ≡ 8) ⊎ ((s.bits ≡ 16) ⊎ ((s.bits ≡ 32) ⊎ (s.bits ≡ 64)))
 
 -- half of a size of a pixel, which is above 0 and even

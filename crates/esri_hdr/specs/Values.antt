@@ -14,6 +14,14 @@ use Rattle.esri_hdr.specs.declared.header_parts.Layout.{Layout}
 use Rattle.esri_hdr.specs.declared.header_parts.Layout.TheVariants.{Bil, Bip, Bsq}
 use Rattle.geotransform.specs.Limits.{most_bands, most_side}
 
+-- the most bytes of a line of a band, and of all bands
+abbrev pub longest_row : ℕ
+longest_row = 2 ^ 33
+
+-- the most bytes before the samples, and between two bands
+abbrev pub longest_gap : ℕ
+longest_gap = 2 ^ 40
+
 -- a number up to the limit
 abbrev pub at_most : ℕ → ℕ → Result ℕ HdrFault
 at_most limit n = if nat_lt limit n then Err Limit else Ok n
@@ -68,7 +76,7 @@ layout_in (Some text) = if same_letters text (codes "BIL") then Ok Bil
 unfoldable pub skip_in : Option (List ℕ) → Result ℕ HdrFault
 skip_in text = do
   n ← number_or 0 text
-  at_most (2 ^ 40) n
+  at_most longest_gap n
 
 -- whether there is a text, and it is a decimal text below 0
 abbrev pub is_negative : Option (List ℕ) → Bool
@@ -92,7 +100,7 @@ kind_of bits signed = if bits == 8 then (if signed then Int8 else Byte)
 unfoldable pub row_in : ℕ → Option (List ℕ) → Result ℕ HdrFault
 row_in least text = do
   n ← number_or least text
-  if nat_lt n least then Err BadValue else at_most (2 ^ 33) n
+  if nat_lt n least then Err BadValue else at_most longest_row n
 
 -- BANDROWBYTES, which counts in BIL
 unfoldable pub band_row_in : Layout → ℕ → Option (List ℕ) → Result ℕ HdrFault
@@ -114,18 +122,18 @@ gap_in Bsq text = skip_in text
 
 -- what the bytes of a band's row may be, by the layout and the bytes of its samples
 abbrev pub BandRowFits : Layout → ℕ → ℕ → Type 0
-BandRowFits Bil row b = (row ≤ b) × (b ≤ 2 ^ 33)
+BandRowFits Bil row b = (row ≤ b) × (b ≤ longest_row)
 BandRowFits Bip row b = b ≡ row
 BandRowFits Bsq row b = b ≡ row
 
 -- what the bytes of a line may be
 abbrev pub TotalRowFits : Layout → ℕ → ℕ → ℕ → ℕ → Type 0
-TotalRowFits Bil bands row b t = (bands * b ≤ t) × (t ≤ 2 ^ 33)
-TotalRowFits Bip bands row b t = (row * bands ≤ t) × (t ≤ 2 ^ 33)
+TotalRowFits Bil bands row b t = (bands * b ≤ t) × (t ≤ longest_row)
+TotalRowFits Bip bands row b t = (row * bands ≤ t) × (t ≤ longest_row)
 TotalRowFits Bsq bands row b t = t ≡ row
 
 -- what the bytes between two bands may be
 abbrev pub GapFits : Layout → ℕ → Type 0
 GapFits Bil gap = gap ≡ 0
 GapFits Bip gap = gap ≡ 0
-GapFits Bsq gap = gap ≤ 2 ^ 40
+GapFits Bsq gap = gap ≤ longest_gap

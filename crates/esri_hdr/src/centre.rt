@@ -3,15 +3,18 @@ ghost use Rattle.std.specs.Prelude.{◌≡◌, ◌<◌, ◌≤◌, ◌*◌, ◌^
 ghost use Rattle.std.specs.Prelude.{unsigned_abs};
 ghost use Rattle.geotransform.specs.Places.{half};
 ghost use Rattle.geotransform.specs.Geo.{IsNear, is_near};
+ghost use Rattle.geotransform.specs.Limits.{sixteenth_limit};
 ghost use Rattle.esri_hdr.specs.Head.{is_half_near, GeoFits, raw_geo, is_origin, raw_geo_of};
 
 use crate::header_parts::RawGeo;
-use geotransform::{GeoTransform, Ticks, half, is_near, is_north_up, round16, sizes_held};
+use geotransform::{
+    GeoTransform, TICK_LIMIT, Ticks, half, is_near, is_north_up, round16, sizes_held,
+};
 
 fn is_half_near(twice: i128) -> bool
     ensures { result ≡ is_half_near twice }
 {
-    twice.unsigned_abs() < 360_000_000_000_000_000_000_000_000_000
+    twice.unsigned_abs() < 2 * TICK_LIMIT
 }
 
 fn twice(place: Ticks) -> i128
@@ -54,14 +57,14 @@ fn twice_and(start: Ticks, step: Ticks) -> i128
     requires start { IsNear start }
     requires step { IsNear step }
     ensures value { result ≡ pos 2 *ℤ start +ℤ step }
-    ensures bound { unsigned_abs result < 54 * 10 ^ 28 }
+    ensures bound { unsigned_abs result < 54 * sixteenth_limit }
 {
     2 * start.get() + step.get()
 }
 
 /// A number of sixteenth places in ticks.
 fn eighteenfold(n: i128) -> Ticks
-    requires { unsigned_abs n < 54 * 10 ^ 28 }
+    requires { unsigned_abs n < 54 * sixteenth_limit }
     ensures { result ≡ pos 18 *ℤ n }
 {
     Ticks::of(18 * n)

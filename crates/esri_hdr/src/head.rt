@@ -1,6 +1,7 @@
 // The head of a raw raster.
 ghost use Rattle.std.specs.Prelude.{◌≡◌, ℤ, pos, neg_ℤ, ◌+ℤ◌, ◌-ℤ◌, ◌<◌, ◌≤◌, ◌*◌, ◌^◌, unsigned_abs};
 ghost use Rattle.geotransform.specs.Decimal.{IsRead};
+ghost use Rattle.geotransform.specs.Limits.{sixteenth_limit};
 ghost use Rattle.esri_hdr.specs.Head.{sample_len, half_of, GeoFits, placed, geotransform_of};
 
 use crate::header_parts::{Layout, RawGeo};
@@ -91,14 +92,14 @@ impl Model for RawHead {
 fn half_of(size: Ticks) -> i128
     requires { IsRead size }
     ensures value { result ≡ half_of size }
-    ensures bound { unsigned_abs result < 18 * 10 ^ 28 }
+    ensures bound { unsigned_abs result < 18 * sixteenth_limit }
 {
     (size.get().unsigned_abs() / 2) as i128
 }
 
 fn less(place: Ticks, half: i128) -> Ticks
     requires place { IsRead place }
-    requires half { unsigned_abs half < 18 * 10 ^ 28 }
+    requires half { unsigned_abs half < 18 * sixteenth_limit }
     ensures { result ≡ place -ℤ half }
 {
     Ticks::of(place.get() - half)
@@ -106,7 +107,7 @@ fn less(place: Ticks, half: i128) -> Ticks
 
 fn more(place: Ticks, half: i128) -> Ticks
     requires place { IsRead place }
-    requires half { unsigned_abs half < 18 * 10 ^ 28 }
+    requires half { unsigned_abs half < 18 * sixteenth_limit }
     ensures { result ≡ place +ℤ half }
 {
     Ticks::of(place.get() + half)

@@ -4,7 +4,7 @@ ghost use Rattle.std.specs.Prelude.{length, IfOk, Option};
 ghost use Rattle.std.specs.Option.{option_map};
 ghost use Rattle.esri_hdr.specs.Lines.{lookup};
 ghost use Rattle.geotransform.specs.Decimal.{IsRead};
-ghost use Rattle.geotransform.specs.Types.{is_in, when_in};
+ghost use Rattle.geotransform.specs.Types.{is_in};
 ghost use Rattle.esri_hdr.specs.Head.{IsShape, RowsFit, GeoFits, place_in, step_in, geo_in};
 ghost use Rattle.esri_hdr.specs.Head.{nodata_in, shape_of, row_len, rows_of, geo_of, head_from, head_of, esri_head};
 ghost use Rattle.esri_hdr.specs.Head.{IsHead};
@@ -21,7 +21,7 @@ use crate::values::{
     band_row_in, bands_in, big_in, bits_in, gap_in, kind_of, layout_in, side_in, signed_in,
     skip_in, total_row_in,
 };
-use geotransform::{PixelType, Sample, Size, Ticks, holds, read_decimal, read_whole};
+use geotransform::{PixelType, Sample, Size, Ticks, read_decimal, read_whole, when_in};
 
 /// The values of the keys, by their numbers.
 type Found<'a> = [Option<&'a [u8]>; 16];
@@ -140,20 +140,12 @@ fn geo_in(
     }
 }
 
-fn when_in(kind: PixelType, n: i128) -> Option<Sample>
-    ensures value { result ≡ when_in kind (Some n) }
-    ensures within { IfSome result (λ m. is_in kind m ≡ true) }
-{
-    if holds(kind, n) { Some(n) } else { None }
-}
-
 #[tactic(auto, unfolding(crate::specs::Head::nodata_in))]
 fn nodata_in(kind: PixelType, text: Option<&[u8]>) -> Option<Sample>
     ensures value { result ≡ nodata_in kind (option_map (λ v. v.now) text.entry) }
     ensures within { IfSome result (λ m. is_in kind m ≡ true) }
 {
-    let n = read_whole(text?)?;
-    when_in(kind, n)
+    when_in(kind, read_whole(text?))
 }
 
 #[tactic(auto, unfolding(crate::specs::Head::geo_of))]

@@ -4,11 +4,18 @@ ghost use Rattle.std.specs.Option.{option_map};
 ghost use Rattle.esri_hdr.specs.Values.{number_in, number_or, at_most, counted, side_in, bands_in, bits_in, order_of};
 ghost use Rattle.esri_hdr.specs.Values.{big_in, layout_in, skip_in, is_negative, signed_in, kind_of, row_in};
 ghost use Rattle.esri_hdr.specs.Values.{band_row_in, total_row_in, gap_in, BandRowFits, TotalRowFits, GapFits};
+ghost use Rattle.esri_hdr.specs.Values.{longest_row, longest_gap};
 ghost use Rattle.geotransform.specs.Limits.{most_bands, most_side};
 
 use crate::header_parts::{HdrFault, Layout};
 use geotransform::{MOST_BANDS, MOST_SIDE, PixelType, is_negative_decimal, read_number};
 use lists_and_answers::same_letters;
+
+/// The most bytes of a line of a band, and of all bands.
+const LONGEST_ROW: u64 = 8_589_934_592;
+
+/// The most bytes before the samples, and between two bands.
+const LONGEST_GAP: u64 = 1_099_511_627_776;
 
 fn number_in(text: &[u8]) -> Result<u64, HdrFault>
     ensures { result ≡ number_in text.now }
@@ -118,9 +125,9 @@ pub fn layout_in(text: Option<&[u8]>) -> Result<Layout, HdrFault>
 #[tactic(auto, unfolding(crate::specs::Values::skip_in))]
 pub fn skip_in(text: Option<&[u8]>) -> Result<u64, HdrFault>
     ensures value { result ≡ skip_in (option_map (λ v. v.now) text.entry) }
-    ensures bound { IfOk result (λ n. n ≤ 2 ^ 40) }
+    ensures bound { IfOk result (λ n. n ≤ longest_gap) }
 {
-    at_most(1 << 40, number_or(0, text)?)
+    at_most(LONGEST_GAP, number_or(0, text)?)
 }
 
 fn is_negative(text: Option<&[u8]>) -> bool
@@ -170,20 +177,20 @@ pub fn kind_of(bits: u32, signed: bool) -> PixelType
 #[tactic(auto, unfolding(crate::specs::Values::row_in))]
 fn row_in(least: u64, text: Option<&[u8]>) -> Result<u64, HdrFault>
     ensures value { result ≡ row_in least (option_map (λ v. v.now) text.entry) }
-    ensures bound { IfOk result (λ n. (least ≤ n) × (n ≤ 2 ^ 33)) }
+    ensures bound { IfOk result (λ n. (least ≤ n) × (n ≤ longest_row)) }
 {
     let n = number_or(least, text)?;
     if n < least {
         return Err(HdrFault::BadValue);
     }
-    at_most(1 << 33, n)
+    at_most(LONGEST_ROW, n)
 }
 
 #[tactic(auto, unfolding(crate::specs::Values::band_row_in))]
 pub fn band_row_in(layout: Layout, row: u64, text: Option<&[u8]>) -> Result<u64, HdrFault>
-    requires { row ≤ 2 ^ 33 }
+    requires { row ≤ longest_row }
     ensures value { result ≡ band_row_in layout row (option_map (λ v. v.now) text.entry) }
-    ensures bound { IfOk result (λ n. n ≤ 2 ^ 33) }
+    ensures bound { IfOk result (λ n. n ≤ longest_row) }
     ensures fits { IfOk result (BandRowFits layout row) }
 {
     match layout {
@@ -201,8 +208,8 @@ pub fn total_row_in(
     text: Option<&[u8]>,
 ) -> Result<u64, HdrFault>
     requires bands { bands ≤ most_bands }
-    requires row { row ≤ 2 ^ 33 }
-    requires band_row { band_row ≤ 2 ^ 33 }
+    requires row { row ≤ longest_row }
+    requires band_row { band_row ≤ longest_row }
     ensures fits { IfOk result (TotalRowFits layout bands row band_row) }
     ensures value { result ≡ total_row_in layout bands row band_row (option_map (λ v. v.now) text.entry) }
 {

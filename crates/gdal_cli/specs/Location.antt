@@ -14,7 +14,7 @@ use Rattle.input_points.specs.Entries.{most_lines}
 use Rattle.input_points.specs.declared.entry.Entry.{Entry}
 use Rattle.input_points.specs.declared.entry.LineKind.{LineKind}
 use Rattle.input_points.specs.declared.entry.LineKind.TheVariants.{Blank, Point, Bad, TooMany}
-use Rattle.catalog.specs.Dataset.{DatasetHead}
+use Rattle.catalog.specs.Dataset.{band_count, DatasetHead}
 use Rattle.catalog.specs.Drivers.{Dataset}
 use Rattle.catalog.specs.Pixels.{pixel_of_name}
 use Rattle.catalog.specs.declared.faults.LimitKind.TheVariants as limits
@@ -54,7 +54,7 @@ column_and_line (Some geo) x y = located geo x y
 -- what is asked of a dataset, or that it lacks a band or a geotransform
 unfoldable pub asked_in : Form → List ℕ → Bool → DatasetHead → Result Asked Fault
 asked_in form bands geoloc head = do
-  chosen ← chosen_in (length head.bands) bands
+  chosen ← chosen_in (band_count head) bands
   frame ← frame_in geoloc head.geo
   Ok (record { form = form; bands = chosen; frame = frame })
 

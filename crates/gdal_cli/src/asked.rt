@@ -5,6 +5,7 @@ ghost use Rattle.lists_and_answers.specs.Answers.{Gives};
 ghost use Rattle.error_lines.specs.Faults.{IsOutside, IsLate, HasNoCause};
 ghost use Rattle.gdal_cli.specs.Location.{chosen_in, frame_in, asked_in};
 ghost use Rattle.geotransform.specs.Limits.{most_bands};
+ghost use Rattle.catalog.specs.Dataset.{band_count};
 
 use catalog::Head;
 use error_lines::Fault;
@@ -114,9 +115,9 @@ pub fn asked_in(
     geoloc: bool,
     head: &Head,
 ) -> Result<Asked, Fault>
-    requires few { length head.now.bands ≤ most_bands }
+    requires few { band_count head.now ≤ most_bands }
     ensures gives { Gives IsOutside (λ a. a) result (asked_in form bands.now geoloc head.now) }
-    ensures within { IfOk result (λ a. All (λ band. (1 ≤ band) × (band ≤ length head.now.bands)) a.bands) }
+    ensures within { IfOk result (λ a. All (λ band. (1 ≤ band) × (band ≤ band_count head.now)) a.bands) }
     ensures inner { HasNoCause result }
     ensures late { IfErr result IsLate }
 {

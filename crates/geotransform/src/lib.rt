@@ -21,10 +21,10 @@ pub use decimal::{
 };
 pub use faults::{PlanFault, Unfit};
 pub use geo::{GeoTransform, corner_is_located};
-pub use limits::{FARTHEST, MOST_BANDS, MOST_SIDE};
+pub use limits::{FARTHEST, LONGEST_DECIMAL, MOST_BANDS, MOST_SHORT_DIGITS, MOST_SIDE, TICK_LIMIT};
 pub use print::{print_decimal, print_short, short_reads_back};
 pub use rounding::{floor_is_exact, floor_of, half, half_is_nearest, is_near, round16, rounded_up};
 pub use sizes::{is_north_up, sizes_held};
-pub use types::{PixelType, Rect, Sample, Size, clamp, holds, name_reads_back};
+pub use types::{PixelType, Rect, Sample, Size, clamp, holds, name_reads_back, when_in};
 pub use units::Ticks;
 pub use whole_degrees::{degree_near, degrees, is_at, lat_of, lon_of, twice_centre, twice_south};

@@ -27,6 +27,7 @@ use Rattle.block_cache.specs.declared.pool.Entry.{Entry}
 use Rattle.block_cache.specs.Entries.{PoolView, IsPool}
 use Rattle.nearest_window.specs.declared.indexes.Kept.{Kept}
 use Rattle.nearest_window.specs.Lanes.{LaneView}
+use Rattle.catalog.specs.Dataset.{band_at}
 
 -- the block is that of a rectangle of its key's band: it has a sample of the band's type for each pixel, and over a
 -- folder that tells its files they are the rectangle's pixels
@@ -47,7 +48,7 @@ pub record IsRecalled (told : Option Files) (cat : List Dataset) (key : PixelKey
   pub dataset : Dataset
   pub at : slice_get cat key.dataset ≡ Some dataset
   pub kind : PixelType
-  pub kind_is : option_map (λ band. band.kind) (slice_get dataset.head.bands key.band) ≡ Some kind
+  pub kind_is : option_map (λ band. band.kind) (band_at dataset.head key.band) ≡ Some kind
   pub range : is_in kind sample ≡ true
   pub content : (m : Files) → told ≡ Some m → sample ≡ pixel_of m cat key.dataset key.band key.x key.y
 

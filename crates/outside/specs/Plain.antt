@@ -1,4 +1,4 @@
--- Paths that are their own normal form, by the first bytes of their parts.
+-- Paths that are their own normal form, by the first bytes of their parts, and texts that add the same parts.
 use Rattle.std.specs.Prelude.{◌≡◌, ℕ, ◌==◌, Bool, true, false, not, ◌||◌, ◌&&◌, if◌then◌else◌}
 use Rattle.std.specs.Prelude.{List, Option, Some, None, [], ◌∷◌}
 use Rattle.outside.specs.Paths.{parts_of, pieces}

@@ -41,7 +41,7 @@ fn take_part<'a>(absolute: bool, parts: &mut Vec<&'a str>, part: &'a str) -> Res
     Ok(())
 }
 
-// The parts that stay.
+// The parts that stay. Empty parts and points are passed over without being cut off one by one.
 fn normal_parts(alloc: Global, absolute: bool, text: &str) -> Result<Vec<&str>, AllocError>
     ensures { IfOk result (λ parts. seen parts.items ≡ parts_of absolute [] (pieces text.now)) }
 {
@@ -216,7 +216,7 @@ fn trimmed(text: &str) -> &str
 fn rebuilt(alloc: Global, text: &str) -> Result<Text, AllocError>
     ensures { IfOk result (λ path. path ≡ normal text.now) }
 {
-    let absolute = text.as_bytes().first() == Some(&b'/');
+    let absolute = is_absolute(text.as_bytes());
     let parts = normal_parts(alloc, absolute, text)?;
     if parts.is_empty() {
         return Text::new(alloc, if absolute { "/" } else { "." });

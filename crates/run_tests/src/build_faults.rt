@@ -138,11 +138,12 @@ fn each_failing_put_of_a_build(rt: HostRuntime) {
 
 // Builds with two warnings: one that is done, and two whose folder fails. One is refused, before it warns.
 static UNTOLD: [Untold<'static>; 4] = [
-    (LISTED_LINE, &[], 0, TOLD, 1),
+    (LISTED_LINE, &[], 0, "", TOLD, 1),
     (
         LISTED_LINE,
         &[Failing::Of(Method::Publish, 1)],
         2,
+        "FolderFault",
         "Warning 1: p.bil: skipped (geotransform)\nWarning 1: two.bil: skipped (bands)\nERROR 3: a file call failed\n",
         0,
     ),
@@ -150,6 +151,7 @@ static UNTOLD: [Untold<'static>; 4] = [
         QUIET_LINE,
         &[Failing::Of(Method::Create, 1)],
         2,
+        "FolderFault",
         "Warning 1: p.bil: skipped (geotransform)\nWarning 1: two.bil: skipped (bands)\nERROR 3: a file call failed\n",
         0,
     ),
@@ -157,6 +159,7 @@ static UNTOLD: [Untold<'static>; 4] = [
         "gdalbuildvrt -strict out.vrt a.bil two.bil",
         &[],
         1,
+        "Build",
         "ERROR 1: two.bil: skipped (bands)\n",
         0,
     ),

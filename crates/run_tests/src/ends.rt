@@ -1,7 +1,7 @@
 // How runs end of which a call of the outside fails: what is told, what the names hold then, and that no draft is left.
-use crate::stories::{has, has_count};
+use crate::stories::{has, has_count, has_only};
 use crate::trials::{
-    CALM, FOLDER, Failures, Fed, FileOf, NOTHING, READING, Said, WRITING, run_over,
+    CALM, Cause, FOLDER, Failures, Fed, FileOf, NOTHING, READING, Ran, Said, WRITING, run_over,
 };
 use outside::{Failing, MemFolder};
 use std::alloc::Global;
@@ -40,16 +40,16 @@ pub enum Failer {
     Output(usize),
 }
 
-// These calls fail, and this is told of it.
-fn failures_of(failer: Failer, calls: &[Failing]) -> (Failures<'_>, &'static str) {
+// These calls fail, and a run ends early by this cause.
+fn failures_of(failer: Failer, calls: &[Failing]) -> (Failures<'_>, Cause<'static>) {
     match failer {
-        Failer::Folder => (Failures { calls, ..CALM }, FOLDER),
+        Failer::Folder => (Failures { calls, ..CALM }, ("FolderFault", FOLDER)),
         Failer::Input => (
             Failures {
                 takes: calls,
                 ..CALM
             },
-            READING,
+            ("InputFault", READING),
         ),
         Failer::Output(front) => (
             Failures {
@@ -57,7 +57,7 @@ fn failures_of(failer: Failer, calls: &[Failing]) -> (Failures<'_>, &'static str
                 front,
                 ..CALM
             },
-            WRITING,
+            ("OutFault", WRITING),
         ),
     }
 }
@@ -131,11 +131,12 @@ fn count_of(work: Work<'_>, end: End) -> usize {
     }
 }
 
-fn says_end(said: &Said, work: Work<'_>, fault: &str, end: End) -> bool {
+// Whether a run ends so; none of its calls failed where it does all.
+fn says_end(ran: &Ran, work: Work<'_>, cause: Cause<'_>, end: End) -> bool {
     match end {
-        End::Early(_) => said.ends_in(work.text, fault),
-        End::Warned(_) => said.ends_behind(work.text, work.told, fault),
-        End::Whole => said.is(0, work.text, work.told),
+        End::Early(_) => ran.has_failed() && ran.said.ends_in(work.text, cause),
+        End::Warned(_) => ran.has_failed() && ran.said.ends_behind(work.text, work.told, cause),
+        End::Whole => !ran.has_failed() && ran.said.is(0, work.text, work.told),
     }
 }
 
@@ -149,10 +150,10 @@ pub fn ends<R: Threads + Sync + Abort>(
     calls: &[Failing],
     end: End,
 ) -> bool {
-    let (failures, fault) = failures_of(failer, calls);
+    let (failures, cause) = failures_of(failer, calls);
     let ran = run_over(rt, alloc, files, (work.line, NOTHING), failures);
     let count = count_of(work, end);
-    says_end(&ran.said, work, fault, end)
+    says_end(&ran, work, cause, end)
         && are_published(rt, alloc, &ran.folder, files.len(), work.outputs, count)
 }
 
@@ -189,9 +190,11 @@ pub fn first_other<R: Threads + Sync + Abort>(
     None
 }
 
-// Whether a run ends by a fault, where it tells of nothing else, or of all that is told before anything is published.
-fn says_fault(said: &Said, work: Work<'_>, fault: &str) -> bool {
-    said.ends_in(work.text, fault) || said.ends_behind(work.text, work.told, fault)
+// Whether a run of which a call failed ends by that, where it tells of nothing else, or of all that is told before
+// anything is published.
+fn says_fault(ran: &Ran, work: Work<'_>, cause: Cause<'_>) -> bool {
+    ran.has_failed()
+        && (ran.said.ends_in(work.text, cause) || ran.said.ends_behind(work.text, work.told, cause))
 }
 
 // Whether a run is ended by the failing of this call.
@@ -204,9 +207,9 @@ fn is_cut<R: Threads + Sync + Abort>(
     call: u64,
 ) -> bool {
     let calls: &[Failing] = &[Failing::Call(call)];
-    let (failures, fault) = failures_of(failer, calls);
+    let (failures, cause) = failures_of(failer, calls);
     let ran = run_over(rt, alloc, files, (work.line, NOTHING), failures);
-    says_fault(&ran.said, work, fault)
+    says_fault(&ran, work, cause)
         && any_published(rt, alloc, &ran.folder, files.len(), work.outputs)
 }
 
@@ -226,8 +229,9 @@ fn first_uncut<R: Threads + Sync + Abort>(
     0
 }
 
-/// Whether each call ends the run by its failing, up to one that isn't made, whose number is above the first of these
-/// and not above the second.
+/// Whether each call ends the run by its failing, up to a run in which none failed, as the folder, the input and the
+/// output count themselves; the number of the call that isn't made is above the first of these and not above the
+/// second.
 pub fn each_cuts<R: Threads + Sync + Abort>(
     rt: &R,
     alloc: Global,
@@ -279,28 +283,45 @@ pub fn first_unmet<R: Threads + Sync + Abort>(
 /// them it makes.
 pub type Asking<'a> = (Fed<'a>, &'a str, Failer, u64);
 
-// Whether a run of which this call fails ends early or, where it isn't made, prints all; no draft is open, and there
-// are as many files as before.
+// Whether a run of which this call may fail ends early where it does, or prints all where none fails; no draft is open,
+// and the files are as before.
 fn asks_so<R: Threads + Sync + Abort>(
     rt: &R,
     alloc: Global,
     files: &[FileOf<'_>],
     asking: &Asking<'_>,
     call: u64,
+    is_made: bool,
 ) -> bool {
-    let (fed, text, failer, count) = *asking;
+    let (fed, text, failer, _) = *asking;
     let calls: &[Failing] = &[Failing::Call(call)];
-    let (failures, fault) = failures_of(failer, calls);
+    let (failures, cause) = failures_of(failer, calls);
     let ran = run_over(rt, alloc, files, fed, failures);
-    let is_ended = if call <= count {
-        ran.said.ends_in(text, fault)
+    let is_ended = if is_made {
+        ran.said.ends_in(text, cause)
     } else {
         ran.said.is(0, text, "")
     };
-    is_ended && has_count(rt, &ran.folder, files.len())
+    ran.has_failed() == is_made && is_ended && has_only(rt, alloc, &ran.folder, files, &[])
 }
 
-// Whether that holds of each call, and of the first one that isn't made.
+// The first call that doesn't fail so.
+fn first_unmade<R: Threads + Sync + Abort>(
+    rt: &R,
+    alloc: Global,
+    files: &[FileOf<'_>],
+    asking: &Asking<'_>,
+) -> u64 {
+    for call in 1..=256u64 {
+        if !asks_so(rt, alloc, files, asking, call, true) {
+            return call;
+        }
+    }
+    0
+}
+
+// Whether each call fails so, up to a run in which none failed, as the folder, the input and the output count
+// themselves, and there are so many of them.
 fn each_asks_so<R: Threads + Sync + Abort>(
     rt: &R,
     alloc: Global,
@@ -308,12 +329,8 @@ fn each_asks_so<R: Threads + Sync + Abort>(
     asking: &Asking<'_>,
 ) -> bool {
     let (_, _, _, count) = *asking;
-    for call in 1..=count.saturating_add(1) {
-        if !asks_so(rt, alloc, files, asking, call) {
-            return false;
-        }
-    }
-    true
+    let call = first_unmade(rt, alloc, files, asking);
+    call == count.saturating_add(1) && asks_so(rt, alloc, files, asking, call, false)
 }
 
 /// The first of these of which a call's failing isn't met.
@@ -331,15 +348,19 @@ pub fn first_unasked<R: Threads + Sync + Abort>(
     None
 }
 
-/// Words, the calls of the folder that fail, the status, all that would be told, and how many outputs are published.
-pub type Untold<'a> = (&'a str, &'a [Failing], u8, &'a str, usize);
+/// Words, the calls of the folder that fail, the status, the fault, all that would be told, and how many outputs are
+/// published.
+pub type Untold<'a> = (&'a str, &'a [Failing], u8, &'a str, &'a str, usize);
 
 /// A call of the error stream that fails, its number, and how many bytes it takes first.
 pub type Telling<'a> = (&'a [Failing], u64, usize);
 
-// Whether a run told the first part of a text that comes before this call fails, and of the call's own.
+// Whether a run told the first part of a text that comes before this call fails, and of the call's own; all of it
+// where none failed, as the error stream counts itself.
 fn is_told(said: &Said, told: &str, call: u64, front: usize) -> bool {
-    said.tells_front(told) && (call > 1 || said.tells_part(told, front))
+    said.tells_front(told)
+        && (said.err.faults() > 0 || said.tells(told))
+        && (call > 1 || said.tells_part(told, front))
 }
 
 // Whether a run ends so whose error stream fails so.
@@ -351,7 +372,7 @@ fn ends_untold<'a, R: Threads + Sync + Abort>(
     untold: &Untold<'a>,
     telling: &Telling<'a>,
 ) -> bool {
-    let (line, calls, status, told, count) = *untold;
+    let (line, calls, status, fault, told, count) = *untold;
     let (tells, call, front) = *telling;
     let failures = Failures {
         calls,
@@ -360,7 +381,9 @@ fn ends_untold<'a, R: Threads + Sync + Abort>(
         ..CALM
     };
     let ran = run_over(rt, alloc, files, (line, NOTHING), failures);
-    ran.said.status == status
+    ran.fails_with(status)
+        && ran.said.status == status
+        && ran.said.fault == fault
         && is_told(&ran.said, told, call, front)
         && are_published(rt, alloc, &ran.folder, files.len(), outputs, count)
 }

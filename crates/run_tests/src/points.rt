@@ -311,11 +311,36 @@ const THREE: Fed<'static> = (TWO, (b"0 0\n9 9\n2 1\n", 4));
 
 const ANSWERS: &str = "1\n4\n\n9\n12\n";
 
+// The same as reports, and two runs over an empty input.
+const THREE_REPORTED: Fed<'static> = ("gdallocationinfo two.bil", (b"0 0\n9 9\n2 1\n", 4));
+
+const REPORTS: &str = "Report:
+  Location: (0P,0L)
+  Band 1:
+    Value: 1
+  Band 2:
+    Value: 4
+Report:
+  Location: (9P,9L)
+  Location is off this file! No further details to report.
+Report:
+  Location: (2P,1L)
+  Band 1:
+    Value: 9
+  Band 2:
+    Value: 12
+";
+
+const EMPTY: Fed<'static> = (TWO, NOTHING);
+
+const EMPTY_REPORTED: Fed<'static> = ("gdallocationinfo two.bil", NOTHING);
+
 // The data and their header are opened and the header is read; then the data are opened again, and for two of the
-// points a line of each band is read. Three pieces and the end are taken, and each answer is put.
+// points a line of each band is read. Three pieces and the end are taken, and each answer is put. Of an empty input the
+// end is taken, and the data aren't opened again.
 // Of a mosaic whose files alone are asked for, the document and each raster with its header are opened, the document
 // and the headers are read, and no pixel.
-static ASKED: [Asking<'static>; 5] = [
+static ASKED: [Asking<'static>; 13] = [
     (
         ("gdallocationinfo -lifonly m.vrt 0 0", NOTHING),
         "a.bil\nb.bil\n",
@@ -326,9 +351,17 @@ static ASKED: [Asking<'static>; 5] = [
     (THREE, ANSWERS, Failer::Input, 4),
     (THREE, ANSWERS, Failer::Output(0), 3),
     (THREE, ANSWERS, Failer::Output(1), 3),
+    (THREE_REPORTED, REPORTS, Failer::Folder, 8),
+    (THREE_REPORTED, REPORTS, Failer::Input, 4),
+    (THREE_REPORTED, REPORTS, Failer::Output(0), 3),
+    (THREE_REPORTED, REPORTS, Failer::Output(9), 3),
+    (EMPTY, "", Failer::Folder, 3),
+    (EMPTY, "", Failer::Input, 1),
+    (EMPTY, "", Failer::Output(0), 0),
+    (EMPTY_REPORTED, "", Failer::Input, 1),
 ];
 
-// Each call fails in turn, until a run ends in which none did; no draft is left open.
+// Each call fails in turn, until a run ends in which none did; the files stay, and no draft is left open.
 #[test]
 fn each_failing_call_of_points(rt: HostRuntime) {
     none_wrong(&rt, first_unasked(&rt, rt.alloc(), files(), &ASKED));

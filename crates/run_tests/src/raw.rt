@@ -203,7 +203,7 @@ static ASKED: [Asking<'static>; 6] = [
     ((LINE, NOTHING), "9\n12\n", Failer::Input, 0),
 ];
 
-// Each call fails in turn, until a run ends in which none did; no draft is left open.
+// Each call fails in turn, until a run ends in which none did; the files stay, and no draft is left open.
 #[test]
 fn each_failing_call(rt: HostRuntime) {
     none_wrong(&rt, first_unasked(&rt, rt.alloc(), files(), &ASKED));

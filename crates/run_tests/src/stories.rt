@@ -31,8 +31,8 @@ pub fn has_count<R: Abort>(rt: &R, folder: &MemFolder, count: usize) -> bool {
     names.as_slice().len() == count && folder.drafts() == 0
 }
 
-// Whether a folder has these files and those, whose names are others, and nothing else.
-fn has_only<R: Abort>(
+/// Whether a folder has these files and those, whose names are others, and nothing else, and no draft is open.
+pub fn has_only<R: Abort>(
     rt: &R,
     alloc: Global,
     folder: &MemFolder,

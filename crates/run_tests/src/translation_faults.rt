@@ -72,6 +72,29 @@ PIXELTYPE      UNSIGNEDINT
     ),
 ];
 
+const NESTED_TEXT: &str =
+    "Input file size is 3, 1\n0...10...20...30...40...50...60...70...80...90...100 - done.\n";
+
+const NESTED_OUTPUTS: [Output<'static>; 2] = [
+    ("out.bil", b"old data", &[5, 0, 0xff, 0xff, 9, 0]),
+    (
+        "out.hdr",
+        b"old header",
+        b"BYTEORDER      I
+LAYOUT         BIL
+NROWS          1
+NCOLS          3
+NBANDS         1
+NBITS          16
+SKIPBYTES      0
+BANDROWBYTES   6
+TOTALROWBYTES  6
+BANDGAPBYTES   0
+PIXELTYPE      SIGNEDINT
+",
+    ),
+];
+
 const TALL_TEXT: &str =
     "Input file size is 10, 100\n0...10...20...30...40...50...60...70...80...90...100 - done.\n";
 
@@ -95,9 +118,9 @@ PIXELTYPE      UNSIGNEDINT
     ),
 ];
 
-// A line, and the same where nothing is printed; a hundred lines; a grid; a mosaic of mosaics; and the hundred lines by
-// two workers, one of which reads all of them, since they are short.
-static WORKS: [Work<'static>; 6] = [
+// A line, and the same where nothing is printed; a hundred lines; a grid; a mosaic of mosaics; the hundred lines by two
+// workers, one of which reads all of them, since they are short; and the mosaic with room for all its blocks.
+static WORKS: [Work<'static>; 7] = [
     Work {
         line: FIVE_LINE,
         text: "Input file size is 5, 1\n0...10...20...30...40...50...60...70...80...90...100 - done.\n",
@@ -135,33 +158,21 @@ cellsize     2
     },
     Work {
         line: "gdal_translate --blocks 1 o.vrt out.bil",
-        text: "Input file size is 3, 1\n0...10...20...30...40...50...60...70...80...90...100 - done.\n",
+        text: NESTED_TEXT,
         told: "",
-        outputs: &[
-            ("out.bil", b"old data", &[5, 0, 0xff, 0xff, 9, 0]),
-            (
-                "out.hdr",
-                b"old header",
-                b"BYTEORDER      I
-LAYOUT         BIL
-NROWS          1
-NCOLS          3
-NBANDS         1
-NBITS          16
-SKIPBYTES      0
-BANDROWBYTES   6
-TOTALROWBYTES  6
-BANDGAPBYTES   0
-PIXELTYPE      SIGNEDINT
-",
-            ),
-        ],
+        outputs: &NESTED_OUTPUTS,
     },
     Work {
         line: "gdal_translate --blocks 1 --workers 2 tall.bil out.bil",
         text: TALL_TEXT,
         told: "",
         outputs: &TALL_OUTPUTS,
+    },
+    Work {
+        line: "gdal_translate --blocks 64 o.vrt out.bil",
+        text: NESTED_TEXT,
+        told: "",
+        outputs: &NESTED_OUTPUTS,
     },
 ];
 
@@ -176,6 +187,8 @@ const GRID: usize = 3;
 const NESTED: usize = 4;
 
 const BESIDE: usize = 5;
+
+const ROOMY: usize = 6;
 
 fn works() -> &'static [Work<'static>] {
     &WORKS
@@ -201,12 +214,13 @@ fn failing_calls_of_a_raster(rt: HostRuntime) {
 
 // Translations, and how many calls of the folder each makes at least. Of a hundred lines each is read, and each is
 // written.
-static EACH: [Turn; 5] = [
+static EACH: [Turn; 6] = [
     (FIVE, Failer::Folder, (9, 256)),
     (QUIET, Failer::Folder, (9, 256)),
     (GRID, Failer::Folder, (6, 256)),
     (NESTED, Failer::Folder, (20, 256)),
     (BESIDE, Failer::Folder, (200, 256)),
+    (ROOMY, Failer::Folder, (20, 256)),
 ];
 
 // Each call of the folder fails in turn.
@@ -216,7 +230,7 @@ fn each_failing_call(rt: HostRuntime) {
 }
 
 // Translations, how many bytes a failing call of the output takes first, and how many calls each makes at least.
-static PUTS: [Turn; 7] = [
+static PUTS: [Turn; 9] = [
     (FIVE, Failer::Output(0), (2, 64)),
     (FIVE, Failer::Output(1), (2, 64)),
     (FIVE, Failer::Output(5), (2, 64)),
@@ -224,6 +238,8 @@ static PUTS: [Turn; 7] = [
     (NESTED, Failer::Output(3), (2, 64)),
     (QUIET, Failer::Output(3), (0, 64)),
     (NESTED, Failer::Input, (0, 1)),
+    (ROOMY, Failer::Output(3), (2, 64)),
+    (ROOMY, Failer::Input, (0, 1)),
 ];
 
 // Each call of the output fails in turn. A quiet translation makes none, and no translation one of the input.
@@ -234,11 +250,12 @@ fn each_failing_put(rt: HostRuntime) {
 
 // Runs whose error stream fails: one that is done, two that are refused, and two whose folder fails.
 static UNTOLD: [Untold<'static>; 5] = [
-    (FIVE_LINE, &[], 0, "", 2),
+    (FIVE_LINE, &[], 0, "", "", 2),
     (
         "gdalinfo none.bil",
         &[],
         1,
+        "Absent",
         "ERROR 4: none.bil: no such file\n",
         0,
     ),
@@ -246,11 +263,26 @@ static UNTOLD: [Untold<'static>; 5] = [
         "gdal_translate -b 2 five.bil out.bil",
         &[],
         1,
+        "Plan",
         "ERROR 5: no band 2\n",
         0,
     ),
-    (FIVE_LINE, &[Failing::Of(Method::Publish, 1)], 2, FOLDER, 0),
-    (FIVE_LINE, &[Failing::Of(Method::Publish, 2)], 2, FOLDER, 1),
+    (
+        FIVE_LINE,
+        &[Failing::Of(Method::Publish, 1)],
+        2,
+        "FolderFault",
+        FOLDER,
+        0,
+    ),
+    (
+        FIVE_LINE,
+        &[Failing::Of(Method::Publish, 2)],
+        2,
+        "FolderFault",
+        FOLDER,
+        1,
+    ),
 ];
 
 // The error stream takes nothing, or five bytes, and fails then.

@@ -1,5 +1,5 @@
 // Runs over files in memory, and tables of runs. A test ends where memory is refused, and where a row goes otherwise.
-use gdal_cli::{Outcome, run};
+use gdal_cli::{Fault, Outcome, run};
 use lists_and_answers::Items;
 use outside::{Failing, Folder, Listed, MemFolder, MemInput, MemSink, Name};
 use std::alloc::{AllocError, Global};
@@ -129,23 +129,29 @@ fn sink_of<R: Abort>(rt: &R, alloc: Global, calls: &[Failing], front: usize) -> 
     MemSink::in_part(alloc, listed(rt, alloc, calls), front)
 }
 
-// What a run answered, printed and told.
+// What a run answered, printed and told. Its fault stands by the word that `word_of` has for it.
 #[derive(Drop)]
 pub struct Said {
     pub status: u8,
+    pub fault: &'static str,
     pub out: MemSink,
     pub err: MemSink,
 }
 
 impl Said {
+    // Whether a run ended with this status, and with a fault exactly where that isn't 0.
+    fn ends_with(&self, status: u8) -> bool {
+        self.status == status && (status == 0) == self.fault.is_empty()
+    }
+
     // Whether a run ended with this status, and printed and told these texts.
     pub fn is(&self, status: u8, out: &str, err: &str) -> bool {
-        self.status == status && self.out.got() == out.as_bytes() && self.tells(err)
+        self.ends_with(status) && self.out.got() == out.as_bytes() && self.tells(err)
     }
 
     // Whether a run ended with status 0, printed these bytes, and told nothing.
     pub fn prints(&self, out: &[u8]) -> bool {
-        self.status == 0 && self.out.got() == out && self.tells("")
+        self.ends_with(0) && self.out.got() == out && self.tells("")
     }
 
     // Whether a run told this text.
@@ -153,16 +159,21 @@ impl Said {
         self.err.got() == err.as_bytes()
     }
 
-    // Whether a run ended with status 2, printed a first part of this text, and told this.
-    pub fn ends_in(&self, out: &str, err: &str) -> bool {
-        self.status == 2 && out.as_bytes().starts_with(self.out.got()) && self.tells(err)
+    // Whether a run ended with status 2 and this fault, and printed a first part of this text.
+    fn breaks_off(&self, out: &str, fault: &str) -> bool {
+        self.status == 2 && self.fault == fault && out.as_bytes().starts_with(self.out.got())
     }
 
-    // Whether a run ended with status 2, printed a first part of this text, and told both of these.
-    pub fn ends_behind(&self, out: &str, told: &str, fault: &str) -> bool {
-        self.status == 2
-            && out.as_bytes().starts_with(self.out.got())
-            && is_joined(self.err.got(), told.as_bytes(), fault.as_bytes())
+    // Whether a run ended early by this cause, of which alone it told, and printed a first part of this text.
+    pub fn ends_in(&self, out: &str, cause: Cause<'_>) -> bool {
+        let (fault, err) = cause;
+        self.breaks_off(out, fault) && self.tells(err)
+    }
+
+    // The same, where it told this before.
+    pub fn ends_behind(&self, out: &str, told: &str, cause: Cause<'_>) -> bool {
+        let (fault, err) = cause;
+        self.breaks_off(out, fault) && is_joined(self.err.got(), told.as_bytes(), err.as_bytes())
     }
 
     // Whether a run told a first part of this text.
@@ -183,7 +194,22 @@ fn is_joined(text: &[u8], front: &[u8], back: &[u8]) -> bool {
         && text.ends_with(back)
 }
 
-fn status_of<R: Threads + Sync, F: Folder>(
+// The case of a fault, where rows name it, or that it is another; nothing where there is no fault.
+fn word_of(fault: &Option<Fault>) -> &'static str {
+    match fault {
+        None => "",
+        Some(Fault::Absent { .. }) => "Absent",
+        Some(Fault::Plan(_)) => "Plan",
+        Some(Fault::Build(_)) => "Build",
+        Some(Fault::FolderFault) => "FolderFault",
+        Some(Fault::InputFault) => "InputFault",
+        Some(Fault::OutFault) => "OutFault",
+        Some(_) => "another",
+    }
+}
+
+// The status and the fault of a run.
+fn ending_of<R: Threads + Sync, F: Folder>(
     rt: &R,
     alloc: Global,
     words: &[String],
@@ -191,9 +217,10 @@ fn status_of<R: Threads + Sync, F: Folder>(
     input: &mut MemInput,
     out: &mut MemSink,
     err: &mut MemSink,
-) -> u8 {
-    let Outcome { status, .. } = run(rt, alloc, words, folder, input, out, err);
-    status
+) -> (u8, &'static str) {
+    let Outcome { status, fault } = run(rt, alloc, words, folder, input, out, err);
+    let word = word_of(&fault);
+    (status, word)
 }
 
 // A run of these words over a folder and an input.
@@ -208,8 +235,13 @@ fn said_by<R: Threads + Sync + Abort, F: Folder>(
     let words = words_of(rt, alloc, line);
     let mut out = sink_of(rt, alloc, failures.puts, failures.front);
     let mut err = sink_of(rt, alloc, failures.tells, failures.front);
-    let status = status_of(rt, alloc, &words, folder, input, &mut out, &mut err);
-    Said { status, out, err }
+    let (status, fault) = ending_of(rt, alloc, &words, folder, input, &mut out, &mut err);
+    Said {
+        status,
+        fault,
+        out,
+        err,
+    }
 }
 
 /// A line of words over an input.
@@ -242,6 +274,18 @@ pub struct Ran {
     pub said: Said,
     pub folder: MemFolder,
     pub input: MemInput,
+}
+
+impl Ran {
+    // Whether a call of the folder, of the input or of the output failed, as they count themselves.
+    pub fn has_failed(&self) -> bool {
+        self.folder.faults() > 0 || self.input.faults() > 0 || self.said.out.faults() > 0
+    }
+
+    // Whether such a call failed exactly where a run is to end with status 2.
+    pub fn fails_with(&self, status: u8) -> bool {
+        self.has_failed() == (status == 2)
+    }
 }
 
 /// A run over these files.
@@ -309,7 +353,7 @@ pub type Calls<'a> = (&'a [Failing], &'a [Failing], &'a [Failing]);
 /// A run, the calls that fail, and the status, what is printed and what is told.
 pub type Trial<'a> = (Fed<'a>, Calls<'a>, (u8, &'a str, &'a str));
 
-/// Whether a run over these files says what is listed.
+/// Whether a run over these files says what is listed, and a call failed exactly where the status is 2.
 pub fn ends_so<R: Threads + Sync + Abort>(
     rt: &R,
     alloc: Global,
@@ -324,7 +368,7 @@ pub fn ends_so<R: Threads + Sync + Abort>(
         ..CALM
     };
     let ran = run_over(rt, alloc, files, fed, failures);
-    ran.said.is(status, out, err)
+    ran.fails_with(status) && ran.said.is(status, out, err)
 }
 
 /// The first of these runs over these files that says something else than is listed.
@@ -347,6 +391,9 @@ pub const FOLDER: &str = "ERROR 3: a file call failed\n";
 pub const READING: &str = "ERROR 3: reading the input failed\n";
 
 pub const WRITING: &str = "ERROR 3: writing the output failed\n";
+
+/// The fault by which a run ends early, and what is told of it.
+pub type Cause<'a> = (&'a str, &'a str);
 
 // Whether a run says this where this call of the folder fails.
 fn says_at<R: Threads + Sync + Abort>(
@@ -376,8 +423,8 @@ fn first_passed<R: Threads + Sync + Abort>(
     0
 }
 
-/// The first call of the folder that may fail without ending the run with nothing printed, where the run then prints
-/// this; else 0.
+/// The number of the first call of the folder that isn't made, where the failing of each before it ends the run with
+/// nothing printed, and a run in which none fails prints this; else 0.
 pub fn first_harmless<R: Threads + Sync + Abort>(
     rt: &R,
     alloc: Global,

@@ -139,6 +139,7 @@ impl<S: Scene> Lines<S> {
         requires few { count ≤ most_blocks }
         ensures count { IfOk result (λ lines. lines ≡ count) }
     {
+        // These two are taken for the proof alone: the lines stand for them.
         let _ = cat;
         let _ = folder;
         let lines = empty_lines(alloc, count)?;

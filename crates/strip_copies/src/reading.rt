@@ -6,7 +6,7 @@ ghost use Rattle.outside.specs.Causes.{HasCause};
 ghost use Rattle.outside.specs.Reading.{WhereTold};
 ghost use Rattle.band_blocks.specs.Contents.{most_calls};
 ghost use Rattle.band_blocks.specs.Open.{IsUnchanged};
-ghost use Rattle.catalog.specs.Dataset.{band_count};
+ghost use Rattle.catalog.specs.Dataset.{band_at, band_count};
 ghost use Rattle.catalog.specs.Drivers.{Dataset};
 ghost use Rattle.catalog.specs.Pixels.{pixel_of_name};
 ghost use Rattle.catalog.specs.Places.{row_by_row};
@@ -242,7 +242,7 @@ fn kind_of(translation: &Translation, band: u32) -> PixelType
     requires known { (d : Dataset) → slice_get translation.now.cat translation.now.id ≡ Some d →
         band < band_count d.head }
     ensures kind { (d : Dataset) → slice_get translation.now.cat translation.now.id ≡ Some d →
-        option_map (λ b. b.kind) (slice_get d.head.bands band) ≡ Some result }
+        option_map (λ b. b.kind) (band_at d.head band) ≡ Some result }
 {
     translation
         .cat

@@ -8,6 +8,7 @@ use Rattle.catalog.specs.Pixels.{pixel_of_name}
 use Rattle.catalog.specs.Places.{row_by_row}
 use Rattle.strip_copies.specs.Copies.{lines_rect}
 use Rattle.synthetic_rasters.specs.Tally.{Totals, tally_of}
+use Rattle.catalog.specs.Dataset.{band_count}
 
 -- a catalog has a dataset of this size, with a band, under this number
 pub record IsCopied (cat : List Dataset) (id : ℕ) (size : Size) : Type 0 where
@@ -15,7 +16,7 @@ pub record IsCopied (cat : List Dataset) (id : ℕ) (size : Size) : Type 0 where
   pub at : slice_get cat id ≡ Some dataset
   pub sized : dataset.head.size ≡ size
   pub raster : IsRaster size
-  pub banded : 0 < length dataset.head.bands
+  pub banded : 0 < band_count dataset.head
 
 -- lines of the first band of the dataset of a name, from one up to another
 abbrev pub lines_of : Files → List ℕ → Size → ℕ → ℕ → List ℤ

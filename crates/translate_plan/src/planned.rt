@@ -5,6 +5,7 @@ ghost use Rattle.esri_hdr.specs.Head.{IsHead};
 ghost use Rattle.translate_plan.specs.Plan.{plan_of, planned_by, first_band, raw_head, IsOutBand, IsPlan};
 ghost use Rattle.translate_plan.specs.declared.options.Driver.TheVariants.{EHdr};
 ghost use Rattle.geotransform.specs.Limits.{most_bands};
+ghost use Rattle.catalog.specs.Dataset.{band_count};
 
 use crate::band::{MOST_BANDS, OutBand};
 use crate::bands::out_table;
@@ -83,6 +84,7 @@ impl Plan {
         ensures value { result ≡ first_band self.now }
         ensures rules { IsOutBand result }
     {
+        // This is read for the proof: a plan has a band.
         let _ = &self.bands;
         self.band(0)
     }
@@ -153,13 +155,14 @@ pub fn made(
     geo: Option<GeoTransform>,
     count: usize,
 ) -> Plan
-    requires known { AreKnown options.now.bands (length head.now.bands) }
-    requires count { count ≡ count_of options.now.bands (length head.now.bands) }
+    requires known { AreKnown options.now.bands (band_count head.now) }
+    requires count { count ≡ count_of options.now.bands (band_count head.now) }
     requires few { count ≤ most_bands }
     requires planned { plan_of options.now head.now ≡ Ok (planned_by options.now head.now window.now size geo) }
     ensures plan { result ≡ planned_by options.now head.now window.now size geo }
     ensures kept { IsPlan result }
 {
+    // This is read for the proof: the limits of a head.
     let _ = &head.size;
     Plan {
         driver: options.driver,

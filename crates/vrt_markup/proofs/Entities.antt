@@ -3,7 +3,7 @@ use Rattle.std.proofs.Common.{◌≡◌, ℕ, zero, suc, ◌+◌, Bool, true, fa
 use Rattle.std.specs.List.{prefix_len}
 use Rattle.std.proofs.lemmas.List.{append_assoc}
 use Rattle.vrt_markup.specs.Items.{entity_at, is_some, option_case, plain_len}
-use Rattle.vrt_markup.specs.Keys.{is_whole}
+use Rattle.vrt_markup.specs.Keys.{is_literal}
 use Rattle.vrt_markup.specs.Forest.{decoded, decoded_from}
 
 pub entity_next : (cs : List ℕ) (e : ℕ × ℕ) → Some e ≡ entity_at cs → plain_len 60 (38 ∷ cs) ≡ suc (plain_len 60 cs)
@@ -24,23 +24,23 @@ skips (suc k) [] = refl
 skips (suc k) (c ∷ cs) = skips k cs
 
 -- what stands in front of the first `&` is read as it is
-pub whole_front : (t : List ℕ) → decoded t ≡ take (prefix_len is_whole t) t ++ decoded (drop (prefix_len is_whole t) t)
-whole_front [] = refl
-whole_front (c ∷ cs) = by_case (c == 38) refl (whole_front cs)
+pub literal_front : (t : List ℕ) → decoded t ≡ take (prefix_len is_literal t) t ++ decoded (drop (prefix_len is_literal t) t)
+literal_front [] = refl
+literal_front (c ∷ cs) = by_case (c == 38) refl (literal_front cs)
   where
-    by_case : (b : Bool) → (c == 38) ≡ b → decoded cs ≡ take (prefix_len is_whole cs) cs ++ decoded (drop (prefix_len is_whole cs) cs) → decoded (c ∷ cs) ≡ take (cond (not b) (1 + prefix_len is_whole cs) 0) (c ∷ cs) ++ decoded (drop (cond (not b) (1 + prefix_len is_whole cs) 0) (c ∷ cs))
+    by_case : (b : Bool) → (c == 38) ≡ b → decoded cs ≡ take (prefix_len is_literal cs) cs ++ decoded (drop (prefix_len is_literal cs) cs) → decoded (c ∷ cs) ≡ take (cond (not b) (1 + prefix_len is_literal cs) 0) (c ∷ cs) ++ decoded (drop (cond (not b) (1 + prefix_len is_literal cs) 0) (c ∷ cs))
     by_case true e more = refl
     by_case false e more =
-        let one : suc (prefix_len is_whole cs) ≡ 1 + prefix_len is_whole cs = omega arith in
+        let one : suc (prefix_len is_literal cs) ≡ 1 + prefix_len is_literal cs = omega arith in
         ap (λ b. (cond b (option_case (entity_at cs) (c, 0) (λ x. x)) (c, 0)).0 ∷ decoded_from (cond b (option_case (entity_at cs) (c, 0) (λ x. x)) (c, 0)).1 cs) e
         ∙ ap (λ x. c ∷ x) more
         ∙ ap (λ k. take k (c ∷ cs) ++ decoded (drop k (c ∷ cs))) one
 
 -- after the front is added, what is left reads as the rest
-pub whole_added : (old new t front back : List ℕ) (n : ℕ) → n ≡ prefix_len is_whole t → front ≡ take n t → back ≡ drop n t → new ≡ old ++ front → new ++ decoded back ≡ old ++ decoded t
-whole_added old new t front back n count taken dropped added =
+pub literal_added : (old new t front back : List ℕ) (n : ℕ) → n ≡ prefix_len is_literal t → front ≡ take n t → back ≡ drop n t → new ≡ old ++ front → new ++ decoded back ≡ old ++ decoded t
+literal_added old new t front back n count taken dropped added =
     ap (λ x. x ++ decoded back) (added ∙ ap (λ x. old ++ x) taken)
     ∙ append_assoc old (take n t) (decoded back)
     ∙ ap (λ x. old ++ (take n t ++ decoded x)) dropped
     ∙ ap (λ k. old ++ (take k t ++ decoded (drop k t))) count
-    ∙ ap (λ x. old ++ x) (sym (whole_front t))
+    ∙ ap (λ x. old ++ x) (sym (literal_front t))

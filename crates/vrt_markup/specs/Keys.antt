@@ -52,5 +52,5 @@ abbrev pub is_plain : ℕ → Bool
 is_plain c = not (c == 60) && not (c == 38)
 
 -- a byte that begins no entity
-abbrev pub is_whole : ℕ → Bool
-is_whole c = not (c == 38)
+abbrev pub is_literal : ℕ → Bool
+is_literal c = not (c == 38)

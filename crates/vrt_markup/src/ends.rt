@@ -24,7 +24,7 @@ fn name_end<'a>(text: &'a [u8], name: &[u8]) -> Option<&'a [u8]>
     byte_at(rest, b'>')
 }
 
-// Whether two texts begin with the same byte.
+// Whether two texts begin with the same byte: asked first, since most tags have another name.
 fn begins_alike(a: &[u8], b: &[u8]) -> bool {
     match (a, b) {
         ([c, ..], [d, ..]) => *c == *d,

@@ -15,6 +15,7 @@ use crate::tag::Tag;
 use std::alloc::{AllocError, Global};
 
 /// What stands behind the front, where the text begins so.
+#[inline(always)]
 pub(crate) fn strip<'a>(text: &'a [u8], front: &[u8]) -> Option<&'a [u8]>
     ensures rest { option_map (λ r. r.now) result ≡ strip front.now text.now }
     ensures shorter { IfSome result (λ r. length r.now + length front.now ≤ length text.now) }
@@ -90,6 +91,7 @@ fn is_later(c: u8) -> bool
     LATER[c as usize] != b','
 }
 
+// How many bytes in front may stand in a name, asked one at a time.
 fn later_by_one(text: &[u8]) -> usize
     ensures count { result ≡ prefix_len is_later text.now }
     ensures bound { result ≤ length text.now }
@@ -132,7 +134,7 @@ fn has_first(text: &[u8]) -> bool
     }
 }
 
-/// The name in front, where one stands there, and what stands behind it.
+/// The name that stands in front, and what stands behind it.
 fn name_front(text: &[u8]) -> (&[u8], &[u8])
     requires first { has_first text.now ≡ true }
     ensures name { Some (result.0.now, result.1.now) ≡ name_at text.now }
@@ -142,7 +144,7 @@ fn name_front(text: &[u8]) -> (&[u8], &[u8])
     text.split_at(later_len(text))
 }
 
-/// The name in front, and what stands behind it.
+/// The name in front, where one stands there, and what stands behind it.
 fn name_at(text: &[u8]) -> Option<(&[u8], &[u8])>
     ensures name { option_map (λ x. (x.0.now, x.1.now)) result ≡ name_at text.now }
     ensures named { IfSome result (λ x. is_name x.0.now ≡ true) }
@@ -217,6 +219,7 @@ pub(crate) fn entity_at(text: &[u8]) -> Option<(u8, u8)>
     }
 }
 
+// Whether an entity stands behind an `&`, in a function of its own: most texts have none.
 #[inline(never)]
 fn is_entity(text: &[u8]) -> bool
     ensures { result ≡ is_some (entity_at text.now) }

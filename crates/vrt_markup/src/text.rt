@@ -4,7 +4,7 @@ ghost use Rattle.std.specs.Prelude.{Option, None, Some};
 ghost use Rattle.std.specs.List.{prefix_len};
 ghost use Rattle.lists_and_answers.specs.Texts.{is_white};
 ghost use Rattle.vrt_markup.specs.Items.{is_name};
-ghost use Rattle.vrt_markup.specs.Keys.{is_plain, is_whole};
+ghost use Rattle.vrt_markup.specs.Keys.{is_plain, is_literal};
 ghost use Rattle.vrt_markup.specs.Forest.{deepest, nodes, inner, is_blank, plain_at, decoded, read_as};
 ghost use Rattle.vrt_markup.specs.Views.{tag_view, text_view, plain_text};
 ghost use Rattle.vrt_markup.specs.Kept.{Gives, worded, first_child};
@@ -40,19 +40,19 @@ fn plain_at(c: u8, rest: &[u8]) -> (u8, u8)
 }
 
 // How many bytes stand in front of the first `&`.
-fn whole_len(text: &[u8]) -> usize
-    ensures count { result ≡ prefix_len is_whole text.now }
+fn literal_len(text: &[u8]) -> usize
+    ensures count { result ≡ prefix_len is_literal text.now }
     ensures bound { result ≤ length text.now }
 {
     text.iter().take_while(|c| **c != b'&').count()
 }
 
 // Adds what stands in front of the first `&`, and gives what stands from there on.
-fn push_whole<'a>(out: &mut Vec<u8>, text: &'a [u8]) -> Result<&'a [u8], AllocError>
+fn push_literal<'a>(out: &mut Vec<u8>, text: &'a [u8]) -> Result<&'a [u8], AllocError>
     ensures ok { IfOk result (λ r. out.new.items ++ decoded r.now ≡ out.old.items ++ decoded text.now) }
     ensures shorter { IfOk result (λ r. length r.now ≤ length text.now) }
 {
-    let count = whole_len(text);
+    let count = literal_len(text);
     if count == 0 {
         return Ok(text);
     }
@@ -71,7 +71,7 @@ fn push_decoded(out: &mut Vec<u8>, raw: &[u8]) -> Result<(), AllocError>
         let (byte, count) = plain_at(*c, more);
         out.push(byte)?;
         let (_, behind) = more.split_at(count as usize);
-        rest = push_whole(out, behind)?;
+        rest = push_literal(out, behind)?;
     }
     Ok(())
 }

@@ -18,7 +18,7 @@ use Rattle.geotransform.specs.Decimal.{number, scaled, signed, sign_at, digits_a
 use Rattle.geotransform.proofs.Numbers.{number_short, number-append, all_taken}
 use Rattle.vrt_markup.specs.Items.{option_case}
 use Rattle.vrt_profile.specs.Fields.{length_before, cut_by, cut_at, first_piece, trim, trim_end, near_by, near_number, pair_of}
-use Rattle.vrt_profile.specs.Fronts.{is_inner, is_key, DigitRun, DigitsFront, FractionFront, DecimalFront, MicrosFront, pair_with, PairFront}
+use Rattle.vrt_profile.specs.Fronts.{is_inner, is_of_key, DigitRun, DigitsFront, FractionFront, DecimalFront, MicrosFront, pair_with, PairFront}
 use Rattle.vrt_profile.specs.declared.rectangle.LutPair.{LutPair}
 use Rattle.vrt_profile.specs.Values.{million}
 use Rattle.vrt_profile.proofs.Rules.{signed_size}
@@ -393,41 +393,41 @@ pub key_behind : (text second : List ℕ) (v : ℤ) → MicrosFront text v (58 �
 key_behind text second v f = sym (ap (λ (x : List ℕ × Option (List ℕ)). x.1) (piece_key text second v f))
 
 -- a key of any form
-key_all : (q : ℕ → Bool) (text : List ℕ) (n : ℕ) → ((c : ℕ) → is_key c ≡ true → q c ≡ true) → n ≡ prefix_len is_key text → list_all q (take n text) ≡ true
-key_all q text n f is = ap (λ k. list_all q (take k text)) is ∙ all_by is_key q (take (prefix_len is_key text) text) f (all_taken is_key text)
+key_all : (q : ℕ → Bool) (text : List ℕ) (n : ℕ) → ((c : ℕ) → is_of_key c ≡ true → q c ≡ true) → n ≡ prefix_len is_of_key text → list_all q (take n text) ≡ true
+key_all q text n f is = ap (λ k. list_all q (take k text)) is ∙ all_by is_of_key q (take (prefix_len is_of_key text) text) f (all_taken is_of_key text)
 
-pub key_taken : (text : List ℕ) (n : ℕ) → n ≡ prefix_len is_key text → list_all is_key (take n text) ≡ true
-key_taken text n is = key_all is_key text n (λ c h. h) is
+pub key_taken : (text : List ℕ) (n : ℕ) → n ≡ prefix_len is_of_key text → list_all is_of_key (take n text) ≡ true
+key_taken text n is = key_all is_of_key text n (λ c h. h) is
 
-key_colon : (c : ℕ) → is_key c ≡ true → not (c == 58) ≡ true
+key_colon : (c : ℕ) → is_of_key c ≡ true → not (c == 58) ≡ true
 key_colon c h = and_left (not (c == 58)) (not (c == 44)) h
 
-key_comma : (c : ℕ) → is_key c ≡ true → not (c == 44) ≡ true
+key_comma : (c : ℕ) → is_of_key c ≡ true → not (c == 44) ≡ true
 key_comma c h = and_right (not (c == 58)) (not (c == 44)) h
 
-pub any_key : (f g : List ℕ) (v : ℤ) (o : Option ℤ) → list_all is_key f ≡ true → Some v ≡ near_number f → o ≡ near_number g → pair_with v o ≡ pair_of (f ++ 58 ∷ g)
+pub any_key : (f g : List ℕ) (v : ℤ) (o : Option ℤ) → list_all is_of_key f ≡ true → Some v ≡ near_number f → o ≡ near_number g → pair_with v o ≡ pair_of (f ++ 58 ∷ g)
 any_key f g v o plain first second =
-    ap (pair_with v) second ∙ sym (key_text f g v (all_by is_key (λ c. not (c == 58)) f key_colon plain) (sym first))
+    ap (pair_with v) second ∙ sym (key_text f g v (all_by is_of_key (λ c. not (c == 58)) f key_colon plain) (sym first))
 
-pub bad_key : (f g : List ℕ) → list_all is_key f ≡ true → None ≡ near_number f → None ≡ pair_of (f ++ 58 ∷ g)
+pub bad_key : (f g : List ℕ) → list_all is_of_key f ≡ true → None ≡ near_number f → None ≡ pair_of (f ++ 58 ∷ g)
 unfolding pair_of
 bad_key f g plain first = sym (
-    ap (λ o. o >>= λ x. near_number x.0 >>= λ input. near_number x.1 >>= λ output. Some (record { input = input; output = output })) (cut_front 58 f g refl (all_by is_key (λ c. not (c == 58)) f key_colon plain))
+    ap (λ o. o >>= λ x. near_number x.0 >>= λ input. near_number x.1 >>= λ output. Some (record { input = input; output = output })) (cut_front 58 f g refl (all_by is_of_key (λ c. not (c == 58)) f key_colon plain))
     ∙ ap (λ o. o >>= λ input. near_number g >>= λ output. Some (record { input = input; output = output })) (sym first))
 
-long_piece : (text rest : List ℕ) (n : ℕ) → n ≡ prefix_len is_key text → drop n text ≡ rest → first_piece text ≡ (take n text ++ (first_piece rest).0, (first_piece rest).1)
+long_piece : (text rest : List ℕ) (n : ℕ) → n ≡ prefix_len is_of_key text → drop n text ≡ rest → first_piece text ≡ (take n text ++ (first_piece rest).0, (first_piece rest).1)
 long_piece text rest n is behind =
     ap first_piece (sym (take-append-drop n text) ∙ ap (λ t. take n text ++ t) behind)
     ∙ piece_front (take n text) rest (key_all (λ c. not (c == 44)) text n key_comma is)
 
-colon_piece : (text second : List ℕ) (n : ℕ) → n ≡ prefix_len is_key text → drop n text ≡ 58 ∷ second → first_piece text ≡ (take n text ++ 58 ∷ (first_piece second).0, (first_piece second).1)
+colon_piece : (text second : List ℕ) (n : ℕ) → n ≡ prefix_len is_of_key text → drop n text ≡ 58 ∷ second → first_piece text ≡ (take n text ++ 58 ∷ (first_piece second).0, (first_piece second).1)
 colon_piece text second n is behind =
     long_piece text (58 ∷ second) n is behind ∙ ap (λ (x : List ℕ × Option (List ℕ)). (take n text ++ x.0, x.1)) (piece_one 58 second refl)
 
-pub long_pair : (text second : List ℕ) (n : ℕ) → n ≡ prefix_len is_key text → drop n text ≡ 58 ∷ second → pair_of (take n text ++ 58 ∷ (first_piece second).0) ≡ pair_of (first_piece text).0
+pub long_pair : (text second : List ℕ) (n : ℕ) → n ≡ prefix_len is_of_key text → drop n text ≡ 58 ∷ second → pair_of (take n text ++ 58 ∷ (first_piece second).0) ≡ pair_of (first_piece text).0
 long_pair text second n is behind = sym (ap (λ (x : List ℕ × Option (List ℕ)). pair_of x.0) (colon_piece text second n is behind))
 
-pub long_behind : (text second : List ℕ) (n : ℕ) → n ≡ prefix_len is_key text → drop n text ≡ 58 ∷ second → (first_piece second).1 ≡ (first_piece text).1
+pub long_behind : (text second : List ℕ) (n : ℕ) → n ≡ prefix_len is_of_key text → drop n text ≡ 58 ∷ second → (first_piece second).1 ≡ (first_piece text).1
 long_behind text second n is behind = sym (ap (λ (x : List ℕ × Option (List ℕ)). x.1) (colon_piece text second n is behind))
 
 -- a piece without a colon
@@ -448,24 +448,24 @@ unfolding pair_of
 no_pair front plain =
     ap (λ o. o >>= λ x. near_number x.0 >>= λ input. near_number x.1 >>= λ output. Some (record { input = input; output = output })) (no_cut 58 front plain)
 
-lone_piece : (text rest : List ℕ) (n : ℕ) (o : Option (List ℕ)) → n ≡ prefix_len is_key text → drop n text ≡ rest → first_piece rest ≡ ([], o) → first_piece text ≡ (take n text, o)
+lone_piece : (text rest : List ℕ) (n : ℕ) (o : Option (List ℕ)) → n ≡ prefix_len is_of_key text → drop n text ≡ rest → first_piece rest ≡ ([], o) → first_piece text ≡ (take n text, o)
 lone_piece text rest n o is behind end =
     piece_whole text (take n text) rest o (sym (take-append-drop n text) ∙ ap (λ t. take n text ++ t) behind) (key_all (λ c. not (c == 44)) text n key_comma is) end
 
-pub lone_pair : (text rest : List ℕ) (n : ℕ) (o : Option (List ℕ)) → n ≡ prefix_len is_key text → drop n text ≡ rest → first_piece rest ≡ ([], o) → None ≡ pair_of (first_piece text).0
+pub lone_pair : (text rest : List ℕ) (n : ℕ) (o : Option (List ℕ)) → n ≡ prefix_len is_of_key text → drop n text ≡ rest → first_piece rest ≡ ([], o) → None ≡ pair_of (first_piece text).0
 lone_pair text rest n o is behind end =
     sym (ap (λ (x : List ℕ × Option (List ℕ)). pair_of x.0) (lone_piece text rest n o is behind end) ∙ no_pair (take n text) (key_all (λ c. not (c == 58)) text n key_colon is))
 
-pub lone_behind : (text rest : List ℕ) (n : ℕ) (o : Option (List ℕ)) → n ≡ prefix_len is_key text → drop n text ≡ rest → first_piece rest ≡ ([], o) → o ≡ (first_piece text).1
+pub lone_behind : (text rest : List ℕ) (n : ℕ) (o : Option (List ℕ)) → n ≡ prefix_len is_of_key text → drop n text ≡ rest → first_piece rest ≡ ([], o) → o ≡ (first_piece text).1
 lone_behind text rest n o is behind end = sym (ap (λ (x : List ℕ × Option (List ℕ)). x.1) (lone_piece text rest n o is behind end))
 
 -- behind a key stands a comma where no colon does
-pub comma_behind : (text behind : List ℕ) (n c : ℕ) → n ≡ prefix_len is_key text → drop n text ≡ c ∷ behind → c ≢ 58 → first_piece (c ∷ behind) ≡ ([], Some behind)
+pub comma_behind : (text behind : List ℕ) (n c : ℕ) → n ≡ prefix_len is_of_key text → drop n text ≡ c ∷ behind → c ≢ 58 → first_piece (c ∷ behind) ≡ ([], Some behind)
 comma_behind text behind n c is at other =
     let less : n < length text = omega (arith, length-drop n text, ap length at) in
     let first : get_or text n 0 ≡ c = sym (ap (λ (t : List ℕ). get_or t 0 0) (drop_more text n 0 less)) ∙ ap (λ (t : List ℕ). get_or t 0 0) at in
-    let stop : is_key (get_or text (prefix_len is_key text) 0) ≡ false = prefix_len_stops is_key text 0 (omega (arith, is, less)) in
-    let same : is_key c ≡ false = ap is_key (sym first ∙ ap (λ k. get_or text k 0) is) ∙ stop in
+    let stop : is_of_key (get_or text (prefix_len is_of_key text) 0) ≡ false = prefix_len_stops is_of_key text 0 (omega (arith, is, less)) in
+    let same : is_of_key c ≡ false = ap is_of_key (sym first ∙ ap (λ k. get_or text k 0) is) ∙ stop in
     let comma : c ≡ 44 = grind (arith, nat_tests, same, other) in
     ap (λ x. first_piece (x ∷ behind)) comma
 

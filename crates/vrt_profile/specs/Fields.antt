@@ -5,8 +5,9 @@ use Rattle.std.specs.List.{prefix_len, suffix_len}
 use Rattle.lists_and_answers.specs.Options.{◌>>=◌}
 use Rattle.lists_and_answers.specs.Texts.{is_white}
 use Rattle.geotransform.specs.Decimal.{number_of, places_of, ticks_of}
+use Rattle.geotransform.specs.Limits.{most_short_digits}
 use Rattle.vrt_markup.specs.Items.{trim_front, option_case}
-use Rattle.vrt_profile.specs.Values.{million}
+use Rattle.vrt_profile.specs.Values.{million, pair_limit}
 use Rattle.vrt_profile.specs.declared.rectangle.LutPair.{LutPair}
 
 -- a text without white space at its ends
@@ -18,7 +19,7 @@ trim text = trim_end (trim_front text)
 
 -- a whole text: one to nine digits
 abbrev pub whole_text : List ℕ → Option ℕ
-whole_text text = if nat_le (length text) 9 then number_of text else None
+whole_text text = if nat_le (length text) most_short_digits then number_of text else None
 
 -- what stands before the first byte b, and what behind it
 abbrev pub length_before : ℕ → List ℕ → ℕ
@@ -34,7 +35,7 @@ cut_at b text = cut_by (take (length_before b text) text) (drop (length_before b
 -- A pair of a lookup table, in millionths: two numbers with a colon between them.
 abbrev pub near_by : Option ℤ → Option ℤ
 near_by None = None
-near_by (Some v) = if nat_lt (unsigned_abs v) (5000000000 * million) then Some v else None
+near_by (Some v) = if nat_lt (unsigned_abs v) (pair_limit * million) then Some v else None
 
 abbrev pub near_number : List ℕ → Option ℤ
 near_number text = near_by (places_of 6 (trim text))

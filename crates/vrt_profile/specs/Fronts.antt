@@ -14,8 +14,8 @@ abbrev pub is_inner : ℕ → Bool
 is_inner c = not (c == 58) && (not (c == 44) && not (is_white c))
 
 -- a byte before the first colon or comma
-abbrev pub is_key : ℕ → Bool
-is_key c = not (c == 58) && not (c == 44)
+abbrev pub is_of_key : ℕ → Bool
+is_of_key c = not (c == 58) && not (c == 44)
 
 -- a digit, which writes n
 abbrev pub IsDigitFront : List ℕ → ℕ → List ℕ → Type 0

@@ -4,9 +4,10 @@ use Rattle.std.specs.Prelude.{ok_or, Option, Some, None, Result, Ok, Err, ◌==�
 use Rattle.std.specs.Str.{is_utf8}
 use Rattle.std.specs.Option.{unwrap_or}
 use Rattle.lists_and_answers.specs.Answers.{◌>>=◌}
+use Rattle.lists_and_answers.specs.Texts.{same_letters}
 use Rattle.geotransform.specs.Decimal.{whole_of}
 use Rattle.geotransform.specs.Geo.{Transform}
-use Rattle.geotransform.specs.Types.{is_same, type_named, when_in}
+use Rattle.geotransform.specs.Types.{type_named, when_in}
 use Rattle.geotransform.specs.declared.types.PixelType.{PixelType}
 use Rattle.geotransform.specs.declared.types.PixelType.TheVariants.{Byte}
 use Rattle.vrt_markup.specs.Items.{Tag, is_equal, attribute, is_some}
@@ -246,13 +247,9 @@ source_named complex p (Some file) = if length file.name == 0 then Err MissingPa
 abbrev pub source_end : Bool → SourceParts → Result SourceValue VrtFault
 source_end complex p = source_named complex p p.file
 
--- whether two texts are the same but for the case of ASCII letters
-abbrev pub is_like : List ℕ → List ℕ → Bool
-is_like a b = is_same true a b
-
 abbrev pub is_near : Option (List ℕ) → Bool
 is_near None = true
-is_near (Some text) = is_like text (codes "nearest") || is_like text (codes "near")
+is_near (Some text) = same_letters text (codes "nearest") || same_letters text (codes "near")
 
 -- in order: its attributes and text in it, its children, what is missing
 abbrev pub source_of : Bool → Tag → Forest → Result SourceValue VrtFault

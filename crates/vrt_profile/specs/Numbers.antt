@@ -1,5 +1,5 @@
 -- The numbers of a document, each in a text.
-use Rattle.std.specs.Prelude.{ℕ, ℤ, pos, suc, ◌*◌, ◌^◌, Bool, true, ◌&&◌, List, [], ◌∷◌, take, map, codes, Option, Some}
+use Rattle.std.specs.Prelude.{ℕ, ℤ, pos, suc, ◌*◌, Bool, true, ◌&&◌, List, [], ◌∷◌, take, map, codes, Option, Some}
 use Rattle.std.specs.Prelude.{ok_or, None, Result, Ok, Err, nat_lt, nat_le, int_lt, ◌==◌, if◌then◌else◌, unsigned_abs}
 use Rattle.std.specs.Char.{to_ascii_lowercase}
 use Rattle.lists_and_answers.specs.Answers.{◌>>=◌}
@@ -7,7 +7,7 @@ use Rattle.geotransform.specs.Decimal.{places_of}
 use Rattle.geotransform.specs.Geo.{Transform, transform_of}
 use Rattle.vrt_markup.specs.Items.{is_equal}
 use Rattle.vrt_profile.specs.Fields.{trim, whole_text, pair_of, pieces, Six, six_of}
-use Rattle.vrt_profile.specs.Values.{million, most_pairs}
+use Rattle.vrt_profile.specs.Values.{million, most_pairs, scale_limit}
 use Rattle.vrt_profile.specs.declared.rectangle.LutPair.{LutPair}
 use Rattle.vrt_markup.specs.declared.fault.VrtFault.{VrtFault}
 use Rattle.vrt_markup.specs.declared.fault.VrtFault.TheVariants.{MissingPart, BadNumber, Unsupported, Limit}
@@ -56,7 +56,7 @@ band_number text = band_by text (whole_text text)
 -- An offset or a ratio of a scaling, in parts of 10^12, trimmed.
 abbrev pub scale_by : Option ℤ → Result ℤ VrtFault
 scale_by None = Err BadNumber
-scale_by (Some v) = if nat_lt (unsigned_abs v) (10 ^ 24) then Ok v else Err BadNumber
+scale_by (Some v) = if nat_lt (unsigned_abs v) scale_limit then Ok v else Err BadNumber
 
 abbrev pub scale_of : List ℕ → Result ℤ VrtFault
 scale_of text = scale_by (places_of 12 (trim text))

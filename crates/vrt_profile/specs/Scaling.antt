@@ -1,10 +1,11 @@
 -- What a source makes of pixels: its NODATA, offset, ratio and table.
-use Rattle.std.specs.Prelude.{ℤ, pos, ◌<◌, ◌*◌, ◌^◌, IfSome, unsigned_abs, Bool, not, is_some, ◌&&◌, List, Option, None}
+use Rattle.std.specs.Prelude.{ℤ, pos, ◌<◌, IfSome, unsigned_abs, Bool, not, is_some, ◌&&◌, List, Option, None}
 use Rattle.std.specs.Prelude.{if◌then◌else◌, unwrap_or}
 use Rattle.std.specs.Ordering.{int_eq}
 use Rattle.vrt_profile.specs.Means.{value_in}
-use Rattle.vrt_profile.specs.Values.{IsLut, trillion}
+use Rattle.vrt_profile.specs.Values.{IsLut, trillion, scale_limit}
 use Rattle.vrt_profile.specs.declared.rectangle.LutPair.{LutPair}
+use Rattle.geotransform.specs.Limits.{whole_limit}
 
 -- the pixel that gives nothing, what is added to a scaled pixel, what a pixel is scaled by, and the table
 pub record ScalingValue : Type 0 where
@@ -23,9 +24,9 @@ keeps_pixels s = int_eq s.ratio (pos trillion) && (int_eq s.offset (pos 0) && no
 
 -- its limits
 pub record IsScaling (s : ScalingValue) : Type 0 where
-  pub nodata : IfSome s.nodata (λ n. unsigned_abs n < 10 ^ 20)
-  pub offset : unsigned_abs s.offset < trillion * trillion
-  pub ratio : unsigned_abs s.ratio < trillion * trillion
+  pub nodata : IfSome s.nodata (λ n. unsigned_abs n < whole_limit)
+  pub offset : unsigned_abs s.offset < scale_limit
+  pub ratio : unsigned_abs s.ratio < scale_limit
   pub lut : IfSome s.lut IsLut
 
 -- what is read of a source's scaling, which a source that isn't complex has not

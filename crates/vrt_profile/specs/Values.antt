@@ -7,7 +7,7 @@ use Rattle.geotransform.specs.Types.{is_in}
 use Rattle.geotransform.specs.declared.types.PixelType.{PixelType}
 use Rattle.geotransform.specs.declared.types.Size.{Size}
 use Rattle.vrt_profile.specs.declared.rectangle.LutPair.{LutPair}
-use Rattle.geotransform.specs.Limits.{farthest, most_bands}
+use Rattle.geotransform.specs.Limits.{farthest, most_bands, whole_limit}
 
 -- The greatest length of a document, in bytes.
 abbrev pub longest_document : ℕ
@@ -28,6 +28,14 @@ million = 1000000
 -- parts of 10^12, in which offsets and ratios of a scaling are counted
 abbrev pub trillion : ℕ
 trillion = 10 ^ 12
+
+-- each offset and each ratio has less than so many of these parts, in magnitude
+abbrev pub scale_limit : ℕ
+scale_limit = 10 ^ 24
+
+-- the numbers of a lookup table stay below it in magnitude
+abbrev pub pair_limit : ℕ
+pair_limit = 5000000000
 
 -- a rectangle in millionths of a pixel
 pub record Rectangle : Type 0 where
@@ -57,10 +65,10 @@ abbrev pub is_rising : List LutPair → Bool
 is_rising [] = true
 is_rising (p ∷ ps) = is_below p.input ps && is_rising ps
 
--- both numbers, in millionths, are below 5,000,000,000 in magnitude
+-- both numbers, in millionths, are below their limit
 pub record IsPair (p : LutPair) : Type 0 where
-  pub input : unsigned_abs p.input < 5000000000 * million
-  pub output : unsigned_abs p.output < 5000000000 * million
+  pub input : unsigned_abs p.input < pair_limit * million
+  pub output : unsigned_abs p.output < pair_limit * million
 
 -- the rules of a table
 pub record IsLut (pairs : List LutPair) : Type 0 where
@@ -97,9 +105,9 @@ pub record IsSource (s : SourceValue) : Type 0 where
   pub band : s.band ≤ most_bands
   pub src : IfSome s.src IsRectangle
   pub dst : IfSome s.dst IsRectangle
-  pub nodata : IfSome s.nodata (λ n. unsigned_abs n < 10 ^ 20)
-  pub offset : unsigned_abs s.offset < trillion * trillion
-  pub ratio : unsigned_abs s.ratio < trillion * trillion
+  pub nodata : IfSome s.nodata (λ n. unsigned_abs n < whole_limit)
+  pub offset : unsigned_abs s.offset < scale_limit
+  pub ratio : unsigned_abs s.ratio < scale_limit
   pub lut : IfSome s.lut IsLut
   pub simple : s.complex ≡ false → IsSimple s
 

@@ -19,7 +19,7 @@ use crate::numbers::NoData;
 use crate::parts::{BandPart, band_part_of};
 use crate::puts::{past_child, put_once};
 use crate::source::{nodata_by, source_element};
-use geotransform::{PixelType, holds};
+use geotransform::{PixelType, when_in};
 use lists_and_answers::Items;
 use std::alloc::Global;
 use std::marker::Model;
@@ -192,14 +192,7 @@ fn nodata_of(kind: PixelType, nodata: Option<Option<NoData>>) -> Option<i128>
     ensures within { IfSome result (λ n. is_in kind n ≡ true) }
 {
     match nodata {
-        Some(Some(nodata)) => {
-            let value = nodata.get();
-            if holds(kind, value) {
-                Some(value)
-            } else {
-                None
-            }
-        }
+        Some(Some(nodata)) => when_in(kind, Some(nodata.get())),
         _ => None,
     }
 }

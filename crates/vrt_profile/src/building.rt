@@ -8,7 +8,7 @@ ghost use Rattle.vrt_profile.specs.Values.{most_sources};
 ghost use Rattle.vrt_profile.specs.Cover.{whole};
 ghost use Rattle.vrt_profile.specs.Resolve.{related};
 ghost use Rattle.vrt_profile.specs.Built.{pixels_at, IsPixelOffset, IsPixelSide, plain_source};
-ghost use Rattle.geotransform.specs.Limits.{most_bands};
+ghost use Rattle.geotransform.specs.Limits.{most_bands, whole_limit};
 
 use crate::document::{Document, Source, Sources, VrtBand, VrtBands};
 use crate::kept::text_rules;
@@ -72,6 +72,7 @@ fn related_file(alloc: Global, base: &Name, name: &Name) -> Result<(bool, Text),
     ensures named { IfOk result (λ x. x ≡ related base.now name.now) }
     ensures some { IfOk result (λ x. 0 < length x.1) }
 {
+    // This call is made for the proof: a name isn't empty.
     let _text = name.as_str();
     relate(alloc, base, name)
 }
@@ -101,7 +102,7 @@ fn source_from(
 ) -> Result<Source, AllocError>
     requires named { 0 < length file.1 }
     requires band { (0 < band) × (band ≤ most_bands) }
-    requires nodata { IfSome nodata (λ n. unsigned_abs n < 10 ^ 20) }
+    requires nodata { IfSome nodata (λ n. unsigned_abs n < whole_limit) }
     ensures source { IfOk result (λ s. s ≡ plain_source file band src dst nodata) }
 {
     let (relative, file) = file;
@@ -133,7 +134,7 @@ pub fn plain_source(
     nodata: Option<Sample>,
 ) -> Result<Source, AllocError>
     requires band { (0 < band) × (band ≤ most_bands) }
-    requires nodata { IfSome nodata (λ n. unsigned_abs n < 10 ^ 20) }
+    requires nodata { IfSome nodata (λ n. unsigned_abs n < whole_limit) }
     ensures source { IfOk result (λ s. s ≡ plain_source (related base.now name.now) band src dst nodata) }
 {
     let file = related_file(alloc, base, name)?;

@@ -1,7 +1,7 @@
 // A VRT document: a raster of bands, each of which is made of sources.
 ghost use Rattle.std.specs.Prelude.{◌≡◌, ◌<◌, ◌*◌, true, IfOk, option_map, unsigned_abs};
 ghost use Rattle.vrt_profile.specs.Value.{is_plain, takes_kind};
-ghost use Rattle.vrt_profile.specs.Values.{IsSource, IsBand, IsDocument, trillion};
+ghost use Rattle.vrt_profile.specs.Values.{IsSource, IsBand, IsDocument, scale_limit};
 
 use crate::rectangle::{Lut, MicroRect};
 use crate::scaling::Scaling;
@@ -160,7 +160,7 @@ impl Source {
     /// The same ComplexSource, but that this is added to a scaled pixel, in parts of 10^12.
     pub fn with_offset(self, alloc: Global, offset: i128) -> Result<Source, AllocError>
         requires complex { self.complex ≡ true }
-        requires small { unsigned_abs offset < trillion * trillion }
+        requires small { unsigned_abs offset < scale_limit }
         ensures source { IfOk result (λ s. s ≡ record self { offset = offset }) }
     {
         self.rules();

@@ -2,13 +2,16 @@
 ghost use Rattle.std.specs.Prelude.{◌≡◌, ◌≤◌, ◌<◌, ◌*◌, length, IfSome, unsigned_abs};
 ghost use Rattle.std.specs.Option.{option_map};
 ghost use Rattle.geotransform.specs.Decimal.{IsRead};
-ghost use Rattle.vrt_profile.specs.Values.{million};
+ghost use Rattle.vrt_profile.specs.Values.{million, pair_limit};
 ghost use Rattle.vrt_profile.specs.Fields.{trim, trim_end, whole_text, length_before, cut_at, near_number};
 ghost use Rattle.vrt_profile.specs.Fields.{ticks_then, six_of, Six};
 ghost use Rattle.vrt_profile.specs.NumberViews.{six_view, IsReadSix};
 
-use geotransform::{read_decimal, read_number, read_places};
+use geotransform::{MOST_SHORT_DIGITS, read_decimal, read_number, read_places};
 use vrt_markup::{is_white, trim_front};
+
+/// The numbers of a lookup table stay below it in magnitude, in millionths.
+const PAIR_LIMIT_MICROS: u128 = 5_000_000_000_000_000;
 
 // Without white space at its end.
 fn trim_end(text: &[u8]) -> &[u8]
@@ -32,7 +35,7 @@ pub fn trim(text: &[u8]) -> &[u8]
 pub fn whole_text(text: &[u8]) -> Option<u64>
     ensures number { result ≡ whole_text text.now }
 {
-    if text.len() > 9 {
+    if text.len() > MOST_SHORT_DIGITS {
         return None;
     }
     read_number(text)
@@ -58,13 +61,14 @@ pub fn cut_at(text: &[u8], byte: u8) -> Option<(&[u8], &[u8])>
     }
 }
 
-/// A number in millionths below 5,000,000,000.
+/// A number in millionths, rounded half away from zero. `None` where the text is none, or where it reaches
+/// 5,000,000,000 in magnitude.
 pub fn near_number(text: &[u8]) -> Option<i64>
     ensures number { result ≡ near_number text.now }
-    ensures near { IfSome result (λ v. unsigned_abs v < 5000000000 * million) }
+    ensures near { IfSome result (λ v. unsigned_abs v < pair_limit * million) }
 {
     match read_places(trim(text), 6) {
-        Some(value) if value.unsigned_abs() < 5_000_000_000_000_000 => Some(value as i64),
+        Some(value) if value.unsigned_abs() < PAIR_LIMIT_MICROS => Some(value as i64),
         _ => None,
     }
 }

@@ -165,7 +165,7 @@ fn behind_byte(text: &[u8], byte: u8) -> Option<&[u8]>
     }
 }
 
-// The number of the digits in front of ten bytes, which are nine at most, and how many they are.
+// The number of the digits in front of a text of at least ten bytes, nine digits at most, and how many they are.
 #[inline(always)]
 #[tactic(auto, using(crate::proofs::DigitRuns::run_at))]
 fn run_in_ten(text: &[u8]) -> Option<(u64, usize)>
@@ -217,8 +217,8 @@ pub fn whole_before(text: &[u8], byte: u8) -> Option<(i64, &[u8])>
     Some((size as i64, behind))
 }
 
-/// What stands behind a zero with an exponent without a sign in front and the comma behind it. `None` also where the
-/// text is short.
+/// What stands behind the comma behind a zero with an exponent of one to three digits, as in `0e999`: a table of such
+/// zeros is read in one pass, too. `None` also where the text is short.
 pub fn zero_before(text: &[u8]) -> Option<&[u8]>
     ensures front { IfSome result (λ r. MicrosFront text.now (pos 0) (44 ∷ r.now)) }
     ensures shorter { IfSome result (λ r. length r.now < length text.now) }
@@ -239,13 +239,13 @@ pub fn key_front(text: &[u8]) -> Option<(i64, &[u8])>
 {
     match whole_before(text, b':') {
         Some(key) => Some(key),
-        None => signed_key(text),
+        None => short_key(text),
     }
 }
 
-// The same of a number with a sign or a fraction, or in a short text.
+// The same of a short number of any form, in a text of any length.
 #[inline(never)]
-fn signed_key(text: &[u8]) -> Option<(i64, &[u8])>
+fn short_key(text: &[u8]) -> Option<(i64, &[u8])>
     ensures key { IfSome result (λ x. MicrosFront text.now x.0 (58 ∷ x.1.now)) }
     ensures shorter { IfSome result (λ x. length x.1.now < length text.now) }
 {
@@ -259,7 +259,7 @@ fn pair_front(text: &[u8]) -> Option<(LutPair, &[u8])>
     ensures pair { IfSome result (λ x. PairFront text.now x.0 x.1.now) }
     ensures shorter { IfSome result (λ x. length x.1.now < length text.now) }
 {
-    let (input, second) = signed_key(text)?;
+    let (input, second) = short_key(text)?;
     let (output, rest) = micros_front(second)?;
     Some((LutPair { input, output }, rest))
 }

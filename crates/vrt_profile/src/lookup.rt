@@ -4,7 +4,7 @@ ghost use Rattle.std.specs.List.{list_all, prefix_len};
 ghost use Rattle.std.specs.Option.{option_map};
 ghost use Rattle.vrt_profile.specs.Fields.{pieces, first_piece, near_number, pair_of};
 ghost use Rattle.vrt_profile.specs.Numbers.{is_above, rising_pair, next_pair, lut_of};
-ghost use Rattle.vrt_profile.specs.Fronts.{is_key, pair_with, MicrosFront};
+ghost use Rattle.vrt_profile.specs.Fronts.{is_of_key, pair_with, MicrosFront};
 ghost use Rattle.vrt_markup.specs.Kept.{Gives};
 
 use crate::fields::{cut_at, near_number};
@@ -100,6 +100,7 @@ fn value_at(text: &[u8]) -> (Option<i64>, Option<&[u8]>)
     }
 }
 
+// The pair of an input and an output, where there is one.
 fn pair_with(input: i64, output: Option<i64>) -> Option<LutPair>
     ensures pair { result ≡ pair_with input output }
 {
@@ -111,7 +112,7 @@ fn pair_with(input: i64, output: Option<i64>) -> Option<LutPair>
 
 // How many bytes stand before the first colon or comma.
 fn key_length(text: &[u8]) -> usize
-    ensures count { result ≡ prefix_len is_key text.now }
+    ensures count { result ≡ prefix_len is_of_key text.now }
     ensures bound { result ≤ length text.now }
 {
     text.iter()
@@ -134,7 +135,7 @@ fn first_byte(text: &[u8]) -> Option<(u8, &[u8])>
 // The pair of a key and the first piece behind its colon, and what stands behind that piece's comma.
 #[tactic(auto, using(crate::proofs::ShortNumbers::any_key, crate::proofs::ShortNumbers::bad_key))]
 fn keyed_pair<'a>(key: &[u8], text: &'a [u8]) -> (Option<LutPair>, Option<&'a [u8]>)
-    requires key { list_all is_key key.now ≡ true }
+    requires key { list_all is_of_key key.now ≡ true }
     ensures pair { result.0 ≡ pair_of (key.now ++ 58 ∷ (first_piece text.now).0) }
     ensures behind { option_map (λ r. r.now) result.1 ≡ (first_piece text.now).1 }
     ensures shorter { IfSome result.1 (λ r. length r.now < length text.now) }
@@ -180,7 +181,7 @@ fn any_pair_behind(input: i64, text: &[u8]) -> (Option<LutPair>, Option<&[u8]>)
 // The whole number in front, or a zero with an exponent, and what stands behind the comma behind it. `None` also where
 // the text is short.
 #[inline(always)]
-fn plain_value(text: &[u8]) -> Option<(i64, &[u8])>
+fn whole_or_zero(text: &[u8]) -> Option<(i64, &[u8])>
     ensures front { IfSome result (λ x. MicrosFront text.now x.0 (44 ∷ x.1.now)) }
     ensures shorter { IfSome result (λ x. length x.1.now < length text.now) }
 {
@@ -200,7 +201,7 @@ fn pair_behind(input: i64, text: &[u8]) -> (Option<LutPair>, Option<&[u8]>)
     ensures behind { option_map (λ r. r.now) result.1 ≡ (first_piece text.now).1 }
     ensures shorter { IfSome result.1 (λ r. length r.now < length text.now) }
 {
-    match plain_value(text) {
+    match whole_or_zero(text) {
         Some((output, behind)) => (Some(LutPair { input, output }), Some(behind)),
         None => any_pair_behind(input, text),
     }

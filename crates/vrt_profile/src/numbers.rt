@@ -5,12 +5,12 @@ ghost use Rattle.std.specs.Option.{option_map};
 ghost use Rattle.geotransform.specs.Decimal.{whole_of, places_of, IsRead};
 ghost use Rattle.geotransform.specs.Geo.{transform_of};
 ghost use Rattle.vrt_profile.specs.Fields.{trim};
-ghost use Rattle.vrt_profile.specs.Values.{IsOffset, IsDecimal};
+ghost use Rattle.vrt_profile.specs.Values.{IsOffset, IsDecimal, scale_limit};
 ghost use Rattle.vrt_profile.specs.Numbers.{side_by, side_in, micro_in, within_limit, offset_in, some_size, size_in};
 ghost use Rattle.vrt_profile.specs.Numbers.{is_mask, no_band_fault, band_by, band_number, scale_of, north_up, geo_of};
 ghost use Rattle.vrt_markup.specs.declared.fault.VrtFault.TheVariants.{BadNumber};
 ghost use Rattle.vrt_profile.specs.NumberViews.{six_view, IsReadSix};
-ghost use Rattle.geotransform.specs.Limits.{most_side};
+ghost use Rattle.geotransform.specs.Limits.{most_side, whole_limit};
 
 use crate::fields::{Six, six_of, trim, whole_text};
 use crate::fronts::{short_micros, short_whole};
@@ -23,6 +23,9 @@ use vrt_markup::VrtFault;
 /// The greatest offset of a rectangle in millionths of a pixel, to either side.
 const FARTHEST_MICROS: u128 = FARTHEST as u128 * 1_000_000;
 
+/// An offset or a ratio has less than so many parts of 10^12: 10^24.
+const SCALE_LIMIT: u128 = 1_000_000_000_000_000_000_000_000;
+
 /// A NODATA, below 10^20 in magnitude.
 #[derive(Clone, Copy)]
 pub struct NoData {
@@ -30,13 +33,14 @@ pub struct NoData {
 }
 
 impl Model for NoData {
-    ghost use Rattle.std.specs.Prelude.{ℤ, ◌<◌, ◌^◌, unsigned_abs};
+    ghost use Rattle.std.specs.Prelude.{ℤ, ◌<◌, unsigned_abs};
+    ghost use Rattle.geotransform.specs.Limits.{whole_limit};
 
     ghost Value = { ℤ };
 
     ghost view = { λ n. n.value };
 
-    ghost invariant = { λ n. unsigned_abs n.value < 10 ^ 20 };
+    ghost invariant = { λ n. unsigned_abs n.value < whole_limit };
 
     ghost inverse = { λ z. record { value = z } };
 }
@@ -48,13 +52,14 @@ pub struct Scale {
 }
 
 impl Model for Scale {
-    ghost use Rattle.std.specs.Prelude.{ℤ, ◌<◌, ◌^◌, unsigned_abs};
+    ghost use Rattle.std.specs.Prelude.{ℤ, ◌<◌, unsigned_abs};
+    ghost use Rattle.vrt_profile.specs.Values.{scale_limit};
 
     ghost Value = { ℤ };
 
     ghost view = { λ s. s.value };
 
-    ghost invariant = { λ s. unsigned_abs s.value < 10 ^ 24 };
+    ghost invariant = { λ s. unsigned_abs s.value < scale_limit };
 
     ghost inverse = { λ z. record { value = z } };
 }
@@ -63,7 +68,7 @@ impl NoData {
     /// The number.
     pub fn get(self) -> i128
         ensures value { result ≡ self }
-        ensures small { unsigned_abs result < 10 ^ 20 }
+        ensures small { unsigned_abs result < whole_limit }
     {
         self.value
     }
@@ -73,7 +78,7 @@ impl Scale {
     /// How many parts.
     pub fn get(self) -> i128
         ensures value { result ≡ self }
-        ensures small { unsigned_abs result < 10 ^ 24 }
+        ensures small { unsigned_abs result < scale_limit }
     {
         self.value
     }
@@ -220,15 +225,12 @@ pub fn scale_of(text: &[u8]) -> Result<Scale, VrtFault>
     ensures scale { result ≡ scale_of text.now }
 {
     match read_places(trim(text), 12) {
-        Some(value) if value.unsigned_abs() < 1_000_000_000_000_000_000_000_000 => Ok(Scale {
-            value,
-        }),
+        Some(value) if value.unsigned_abs() < SCALE_LIMIT => Ok(Scale { value }),
         _ => Err(VrtFault::BadNumber),
     }
 }
 
 // The geotransform of four numbers that are read from decimals.
-
 fn geo_from(ox: Ticks, oy: Ticks, dx: Ticks, dy: Ticks) -> Option<GeoTransform>
     requires ox { IsRead ox }
     requires oy { IsRead oy }

@@ -6,15 +6,15 @@ ghost use Rattle.std.specs.List.{All};
 ghost use Rattle.vrt_markup.specs.Forest.{deepest, inner, read_as, text_of, child_of};
 ghost use Rattle.vrt_profile.specs.Means as means;
 ghost use Rattle.vrt_profile.specs.Means.{flag_in, flag_by, file_of, source_band_by, nodata_by, scale_text, lut_by};
-ghost use Rattle.vrt_profile.specs.Means.{with_file, number_parts, source_step, no_parts, is_like, is_near, source_end};
+ghost use Rattle.vrt_profile.specs.Means.{with_file, number_parts, source_step, no_parts, is_near, source_end};
 ghost use Rattle.vrt_profile.specs.Means.{source_of, value_in};
 ghost use Rattle.vrt_profile.specs.Seen.{file_by, source_by, one_more};
-ghost use Rattle.vrt_profile.specs.Values.{IsSource, IsRectangle, IsLut};
+ghost use Rattle.vrt_profile.specs.Values.{IsSource, IsRectangle, IsLut, scale_limit};
 ghost use Rattle.vrt_markup.specs.Views.{plain_text, tag_view};
 ghost use Rattle.vrt_markup.specs.Kept.{Gives, kept_of};
 ghost use Rattle.vrt_profile.specs.SourceViews.{source_view, no_source};
 ghost use Rattle.vrt_profile.specs.Scaling.{IsScaling, no_scaling, scaling_of};
-ghost use Rattle.geotransform.specs.Limits.{most_bands};
+ghost use Rattle.geotransform.specs.Limits.{most_bands, whole_limit};
 
 use crate::document::{Source, Sources};
 use crate::fields::trim;
@@ -27,6 +27,7 @@ use crate::rect::rect_child;
 use crate::rectangle::{Lut, MicroRect};
 use crate::scaling::{Scaling, ScalingParts};
 use geotransform::BandNumber;
+use lists_and_answers::same_letters;
 use outside::Text;
 use std::alloc::{AllocError, Global};
 use std::marker::Model;
@@ -294,18 +295,12 @@ impl Parts for SourceParts {
     }
 }
 
-fn is_like(a: &[u8], b: &[u8]) -> bool
-    ensures like { result ≡ is_like a.now b.now }
-{
-    a.eq_ignore_ascii_case(b)
-}
-
 fn is_near(text: Option<&[u8]>) -> bool
     ensures near { result ≡ is_near (option_map (λ v. v.now) text.entry) }
 {
     match text {
         None => true,
-        Some(text) => is_like(text, b"nearest") || is_like(text, b"near"),
+        Some(text) => same_letters(text, b"nearest") || same_letters(text, b"near"),
     }
 }
 
@@ -326,6 +321,7 @@ fn ruled(rect: Option<MicroRect>) -> Option<MicroRect>
 {
     match rect {
         Some(rect) => {
+            // This is read for the proof: the rules of a rectangle.
             let _x = rect.x;
             Some(rect)
         }
@@ -335,7 +331,7 @@ fn ruled(rect: Option<MicroRect>) -> Option<MicroRect>
 
 fn nodata_or_none(nodata: Option<Option<NoData>>) -> Option<i128>
     ensures value { result ≡ value_in nodata }
-    ensures small { IfSome result (λ n. unsigned_abs n < 10 ^ 20) }
+    ensures small { IfSome result (λ n. unsigned_abs n < whole_limit) }
 {
     match nodata {
         Some(Some(nodata)) => Some(nodata.get()),
@@ -344,9 +340,9 @@ fn nodata_or_none(nodata: Option<Option<NoData>>) -> Option<i128>
 }
 
 fn scale_or(scale: Option<Scale>, plain: i128) -> i128
-    requires plain { unsigned_abs plain < 10 ^ 24 }
+    requires plain { unsigned_abs plain < scale_limit }
     ensures value { result ≡ unwrap_or scale plain }
-    ensures small { unsigned_abs result < 10 ^ 24 }
+    ensures small { unsigned_abs result < scale_limit }
 {
     match scale {
         Some(scale) => scale.get(),
@@ -360,6 +356,7 @@ fn ruled_lut(lut: Option<Lut>) -> Option<Lut>
 {
     match lut {
         Some(lut) => {
+            // This call is made for the proof: the rules of a table.
             let _pairs = lut.pairs();
             Some(lut)
         }

@@ -7,7 +7,7 @@ use Rattle.geotransform.specs.declared.types.PixelType.TheVariants.{Int32}
 use Rattle.outside.specs.Outside.{Files}
 use Rattle.ascii_grid.specs.Text.{placing_of, IsReadAgain}
 use Rattle.catalog.specs.declared.kind.BandHead.{BandHead}
-use Rattle.catalog.specs.Dataset.{DatasetHead}
+use Rattle.catalog.specs.Dataset.{band_at, band_count, DatasetHead}
 use Rattle.catalog.specs.Heads.{head_in}
 use Rattle.catalog.specs.Pixels.{pixel_of_name}
 use Rattle.translate_plan.specs.declared.options.Driver.{Driver}
@@ -60,8 +60,8 @@ pub record IsDecoded (m : Files) (verify : Bool) (name : List ℕ) (p : Planned)
   pub head : DatasetHead
   pub accepted : head_in m verify name ≡ Ok head
   pub size_is : head.size ≡ p.size
-  pub count_is : length head.bands ≡ length p.bands
+  pub count_is : band_count head ≡ length p.bands
   pub bands_are : (k : ℕ) (b : OutBand) (c : BandHead) → slice_get p.bands k ≡ Some b →
-      slice_get head.bands k ≡ Some c → IsBandOf p.driver b c
+      band_at head k ≡ Some c → IsBandOf p.driver b c
   pub pixels_are : (k x y : ℕ) → k < length p.bands → x < p.size.w → y < p.size.h →
       pixel_of_name m name k x y ≡ samples k x y

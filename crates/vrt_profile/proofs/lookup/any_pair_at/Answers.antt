@@ -1,12 +1,12 @@
 use Rattle.std.proofs.Common.{◌≡◌, ◌∙◌, ◌∷◌, ◌++◌, [], ap, sym, refl, List, ℕ, drop, Some, None}
 use Rattle.std.specs.List.{list_all}
 use Rattle.vrt_profile.specs.Fields.{first_piece, pair_of}
-use Rattle.vrt_profile.specs.Fronts.{is_key}
+use Rattle.vrt_profile.specs.Fronts.{is_of_key}
 use Rattle.vrt_profile.proofs.ShortNumbers.{key_taken, long_pair, long_behind, lone_pair, lone_behind, comma_behind}
 use Rattle.vrt_profile.proofs.lookup.any_pair_at.Goals as goal
 
 pub keyed_pair-requires : goal.keyed_pair-requires
-keyed_pair-requires c = record { key = ap (list_all is_key) c.split_at.ensures.front ∙ key_taken c.args.text.now c.key_length.result c.key_length.ensures.count }
+keyed_pair-requires c = record { key = ap (list_all is_of_key) c.split_at.ensures.front ∙ key_taken c.args.text.now c.key_length.result c.key_length.ensures.count }
 
 pub returns-then-mark-eq58-clause-pair : goal.returns-then-mark-eq58-clause-pair
 returns-then-mark-eq58-clause-pair c =
