@@ -1,5 +1,5 @@
 -- Lines that were read and are packed.
-use Rattle.std.proofs.Common.{◌≡◌, ◌∙◌, ap, sym, subst, refl, ℕ, ℤ, pos, ◌+◌, ◌-◌, ◌*◌, ◌/◌, ◌%◌, ◌<◌, ◌≤◌, arith, length, get_or, take, drop, inl, inr, List, [], Option, Some}
+use Rattle.std.proofs.Common.{◌≡◌, ◌∙◌, ap, sym, subst, refl, ℕ, ℤ, pos, ◌+◌, ◌-◌, ◌*◌, ◌/◌, ◌%◌, ◌<◌, ◌≤◌, arith, length, get_or, take, drop, inl, inr, List, [], Option, Some, None}
 use Rattle.std.specs.Prelude.{slice_get, slice_set}
 use Rattle.std.specs.List.{All}
 use Rattle.std.proofs.lemmas.Bool.{cases_lt}
@@ -15,19 +15,22 @@ use Rattle.band_blocks.proofs.Corners.{filled-row_by_row}
 use Rattle.translate_plan.specs.Plan.{Planned, IsPlan}
 use Rattle.write_back.specs.declared.forms.Writer.{Writer}
 use Rattle.write_back.specs.Forms.{bands_in, cut_of, holds, width_of, AreHeld}
-use Rattle.write_back.specs.Packed.{block_len, in_bytes, IsLined}
+use Rattle.write_back.specs.Files.{IsTarget}
+use Rattle.write_back.specs.Overlay.{line_rect}
+use Rattle.write_back.specs.Packed.{block_len, in_bytes, line_in, IsLined}
 use Rattle.write_back.specs.Plans.{output_of}
-use Rattle.write_back.specs.View.{Blocks}
-use Rattle.write_back.proofs.Outputs.{has_size}
+use Rattle.write_back.specs.View.{Blocks, TargetView, columns_of, lines_after, MeetsAll, Shows}
+use Rattle.write_back.proofs.Outputs.{has_size, is_same}
 use Rattle.write_back.proofs.Past.{lined_wide}
 use Rattle.write_back.proofs.States.{row_fits}
 use Rattle.strip_copies.specs.declared.reading.Lines.{Lines}
 use Rattle.strip_copies.specs.Copies.{lines_rect}
 use Rattle.strip_copies.specs.Rows.{IsHeldIn}
+use Rattle.output_copies.specs.Copying.{IsFilled}
 use Rattle.output_copies.specs.Packed.{line_at, place_in, AreMade, ArePacks, IsLineOf, IsMade}
 use Rattle.output_copies.specs.Parts.{AreRead}
 use Rattle.output_copies.specs.Steps.{raster_of}
-use Rattle.output_copies.proofs.Copied.{are_writable, lines_at}
+use Rattle.output_copies.proofs.Copied.{are_writable, filled_behind, lines_at}
 
 one_line : (y : ℕ) → y + 1 - y ≡ 1
 one_line y = omega arith
@@ -121,3 +124,21 @@ made_next told cat id p w top packed first end made = record {
   ];
   beside = λ b y less low high. absurd (omega arith);
 }
+
+-- one line that was made
+pub made_line : (told : Option Files) (cat : List Dataset) (id : ℕ) (p : Planned) (w : Writer) (top : ℕ) (packed : List (List ℕ)) (end : ℕ) → AreMade told cat id p w top packed end end 0 → (y : ℕ) → y < end → AreMade told cat id p w top packed (y + 1) (y + 1) 0
+made_line told cat id p w top packed end made y below = record { above = λ b v band low less. made.above b v band low (omega arith); beside = λ b v less low high. absurd (omega arith) }
+
+-- a line of a band more was written
+pub filled_line : (told : Option Files) (cat : List Dataset) (id : ℕ) (p : Planned) → IsPlan p → (w : Writer) (new : Option Files) (t u : TargetView) (y k : ℕ) (bytes : List ℕ) → output_of p ≡ Some (Blocks w) → new ≡ told → y < p.size.h → k < length p.bands → IsFilled told cat id p t y (y + 1) k
+    → IsTarget new u → u.output ≡ t.output → u.fault ≡ None → u.lines ≡ lines_after t.output t.lines (line_rect 0 y (columns_of t.output))
+    → Shows told k (line_rect 0 y (columns_of t.output)) (line_in t.output bytes) t u → MeetsAll told (line_rect 0 y (columns_of t.output)) t u → IsLineOf told cat id p w k y bytes → IsFilled new cat id p u y (y + 1) (k + 1)
+filled_line told cat id p plan w new t u y k bytes output new_is low band filled target same fault lines shows meets line =
+    let out : t.output ≡ Blocks w = is_same t.output (Blocks w) (sym filled.output ∙ output) in
+    let size = has_size p t.output plan filled.output in
+    let rect : line_rect 0 y (columns_of t.output) ≡ lines_rect p.size y (y + 1) = ap (λ n. line_rect 0 y n) size.columns_are ∙ ap (λ n. record { x = 0; y = y; w = p.size.w; h = n }) (sym (one_line y)) in
+    let samples : line_in t.output bytes ≡ in_bytes w bytes = ap (λ o. line_in o bytes) out in
+    filled_behind told cat id p plan told new p.size t u y (y + 1) k (in_bytes w bytes) refl new_is refl (omega arith) (omega arith) band filled target same fault
+    (lines ∙ ap (λ r. lines_after t.output t.lines r) rect)
+    (subst (λ (l : List ℤ). Shows told k (lines_rect p.size y (y + 1)) l t u) samples (subst (λ r. Shows told k r (line_in t.output bytes) t u) rect shows))
+    (subst (λ r. MeetsAll told r t u) rect meets) (λ m e d at. line.pixels m d e at)

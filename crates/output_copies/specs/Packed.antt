@@ -91,9 +91,9 @@ pub record HaveFailed {F File Draft : Type 0} (calls : Ghosts F File Draft) (wor
   pub found : slice_get workers at ≡ Some worker
   pub failed : 1 ≤ calls.faults worker.desk.view
 
--- How a part of a translation may end whose workers' views aren't ended yet: for each count of the folder's faults that
--- isn't lower, and that has risen where a view's has.
+-- How a part of a translation may end whose workers' views aren't ended yet: between each two counts of the folder's
+-- faults that it lies between, where the later one has risen if a view's has.
 abbrev pub MayEndWith : {F File Draft T : Type 0} → Ghosts F File Draft → List (Worker F File Draft) → Option Files →
     ℕ → ℕ → ℕ → ℕ → Result T Fault → Type 0
-MayEndWith calls workers told folder folder_now out out_now result = (later : ℕ) → folder_now ≤ later →
-    (HaveFailed calls workers → Rose folder later) → MayEnd told folder later out out_now result
+MayEndWith calls workers told folder folder_now out out_now result = (before later : ℕ) → before ≤ folder →
+    folder_now ≤ later → (HaveFailed calls workers → Rose before later) → MayEnd told before later out out_now result

@@ -160,8 +160,8 @@ fn write_made<F: Folder, W: Ledger, S: Scene>(
     ensures names { F.names folder.new ≡ F.names folder.old }
     ensures later { F.faults folder.old ≤ F.faults folder.new }
     // the folder's count will have risen for a fault of the worker's view once that view is ended
-    ensures ends { (later : ℕ) → F.faults folder.new ≤ later → (1 ≤ F.faults worker.old.desk.view →
-        Rose (F.faults folder.old) later) → MayEnd (F.names folder.old) (F.faults folder.old) later 0 0 result }
+    ensures ends { (before later : ℕ) → before ≤ F.faults folder.old → F.faults folder.new ≤ later →
+        (1 ≤ F.faults worker.old.desk.view → Rose before later) → MayEnd (F.names folder.old) before later 0 0 result }
     ensures changed { IfErr result (TellsChange task.now.translation.now.cat) }
 {
     let answer = mem::replace(&mut worker.answer, Ok(()));
