@@ -1,5 +1,5 @@
 -- Workers one after the other.
-use Rattle.std.proofs.Common.{◌≡◌, ◌∙◌, ap, sym, subst, refl, ℕ, ◌+◌, ◌-◌, ◌*◌, ◌<◌, ◌≤◌, min, arith, length, get_or, List, Option, Some, inl, inr}
+use Rattle.std.proofs.Common.{◌≡◌, ◌∙◌, ap, sym, subst, refl, ℕ, zero, suc, ◌⊎◌, ◌++◌, ◌∷◌, [], ◌+◌, ◌-◌, ◌*◌, ◌<◌, ◌≤◌, min, arith, length, get_or, List, Option, Some, inl, inr}
 use Rattle.std.specs.Prelude.{slice_get, slice_index_or, slice_set}
 use Rattle.std.specs.List.{All}
 use Rattle.std.proofs.lemmas.Bool.{cases_lt}
@@ -31,6 +31,22 @@ module _ {F File Draft : Type 0} (calls : Ghosts F File Draft) where
     found = slice_get-get_or (slice_set workers at x) at x (omega (arith, length-set workers at x)) ∙ ap (λ y. Some y) (get_or-set_same workers at x x within);
     failed = failed;
   }
+
+  found_in : (xs : List (Worker F File Draft)) (x y : Worker F File Draft) (at : ℕ) → slice_get (xs ++ x ∷ []) at ≡ Some y → (x ≡ y) ⊎ (slice_get xs at ≡ Some y)
+  found_in [] x y zero is = inl (cc)
+  found_in [] x y (suc n) is = absurd (cc)
+  found_in (z ∷ zs) x y zero is = inr is
+  found_in (z ∷ zs) x y (suc n) is = found_in zs x y n is
+
+  -- of workers with one more the last or one before has failed
+  pub failed_push : (xs : List (Worker F File Draft)) (x : Worker F File Draft) → HaveFailed calls (xs ++ x ∷ []) → (1 ≤ calls.faults x.desk.view) ⊎ HaveFailed calls xs
+  failed_push xs x h = elim (found_in xs x h.worker h.at h.found) [
+    | inl last ↦ inl (subst (λ (y : Worker F File Draft). 1 ≤ calls.faults y.desk.view) (sym last) h.failed)
+    | inr before ↦ inr (record { at = h.at; worker = h.worker; found = before; failed = h.failed })
+  ]
+
+  pub none_failed : HaveFailed calls [] → ⊥
+  none_failed h = let clash = h.found in cc
 
   module _ (told : Option Files) (scene cat : List Dataset) (id : ℕ) (p : Planned) (w : Writer) (rows step : ℕ) where
     -- workers that have done their lines, of which the first ones were written
