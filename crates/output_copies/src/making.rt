@@ -112,7 +112,7 @@ fn make_lines<R: Threads + Sync, F: Folder, L: Ledger, S: Scene>(
     requires part { ArePart task.now.translation.now.plan lines }
     requires top { top ≤ lines.first }
     requires few { lines.end ≤ top + task.now.rows }
-    requires step { lines.end ≤ lines.first + task.now.step }
+    requires long { task.now.translation.now.plan.size.w * (lines.end - lines.first) ≤ length desk.old.room.items }
     requires made { AreMade S.told task.now.translation.now.cat task.now.translation.now.id
         task.now.translation.now.plan task.now.packing top desk.old.packed.items lines.first lines.end lines.band }
     ensures made { OnOk result (AreMade S.told task.now.translation.now.cat task.now.translation.now.id
@@ -124,6 +124,7 @@ fn make_lines<R: Threads + Sync, F: Folder, L: Ledger, S: Scene>(
         reader.new.team.lanes.items }
     ensures room { IsRoomFor task.now.translation.now.cat task.now.translation.now.id task.now.translation.now.plan
         reader.new.columns reader.new.samples.items }
+    ensures size { length desk.new.room.items ≡ length desk.old.room.items }
     ensures names { F.names desk.new.view ≡ F.names desk.old.view }
     ensures ends { MayEnd S.told (F.faults desk.old.view) (F.faults desk.new.view) 0 0 result }
     ensures changed { IfErr result (TellsChange task.now.translation.now.cat) }
@@ -160,7 +161,7 @@ fn make_bands<R: Threads + Sync, F: Folder, L: Ledger, S: Scene>(
     requires end { portion.end ≤ task.now.translation.now.plan.size.h }
     requires top { top ≤ portion.top }
     requires few { portion.end ≤ top + task.now.rows }
-    requires step { portion.end ≤ portion.top + task.now.step }
+    requires long { task.now.translation.now.plan.size.w * (portion.end - portion.top) ≤ length desk.old.room.items }
     requires made { AreMade S.told task.now.translation.now.cat task.now.translation.now.id
         task.now.translation.now.plan task.now.packing top desk.old.packed.items portion.top portion.top 0 }
     ensures made { OnOk result (AreMade S.told task.now.translation.now.cat task.now.translation.now.id
@@ -171,6 +172,7 @@ fn make_bands<R: Threads + Sync, F: Folder, L: Ledger, S: Scene>(
         reader.new.team.lanes.items }
     ensures room { IsRoomFor task.now.translation.now.cat task.now.translation.now.id task.now.translation.now.plan
         reader.new.columns reader.new.samples.items }
+    ensures size { length desk.new.room.items ≡ length desk.old.room.items }
     ensures names { F.names desk.new.view ≡ F.names desk.old.view }
     ensures ends { MayEnd S.told (F.faults desk.old.view) (F.faults desk.new.view) 0 0 result }
     ensures changed { IfErr result (TellsChange task.now.translation.now.cat) }
@@ -340,8 +342,8 @@ pub fn make_all<R: Threads + Sync, F: Folder, S: Scene>(
 {
     let count = workers.len();
     let make = |at: usize, worker: &mut Worker<F>|
-        requires { IsSync R.row × IsSync S.row × IsSend F.row × IsSend F.File.row × IsSend F.Draft.row × (at < count) ×
-            (count ≤ most_workers) × IsTask task.now.translation.now.cat task.now.translation.now.id
+        requires { IsSync R.row × IsSend S.row × IsSync S.row × IsSend F.row × IsSend F.File.row × IsSend F.Draft.row ×
+            (at < count) × (count ≤ most_workers) × IsTask task.now.translation.now.cat task.now.translation.now.id
             task.now.translation.now.plan task.now.packing task.now.rows task.now.step × IsWorker F.Folder S.told S.cat
             task.now.translation.now.cat task.now.translation.now.id task.now.translation.now.plan task.now.packing
             task.now.rows task.now.step worker.old }

@@ -190,8 +190,9 @@ fn write_all<F: Folder, W: Ledger, S: Scene>(
     requires few { length workers.old ≤ most_workers }
     requires first { first ≤ task.now.translation.now.plan.size.h }
     requires told { S.told ≡ F.names folder.old }
-    requires done { (i : ℕ) (d : _) → i < length workers.old → HasDone F.Folder S.told S.cat task.now.translation.now.cat
-        task.now.translation.now.id task.now.translation.now.plan task.now.packing task.now.rows task.now.step
+    requires done { (i : ℕ) (d : _) → i < length workers.old → HasDone F.Folder S.told S.cat
+        task.now.translation.now.cat task.now.translation.now.id task.now.translation.now.plan task.now.packing
+        task.now.rows task.now.step
         (top_of task.now.translation.now.plan.size.h task.now.rows first i)
         (top_of task.now.translation.now.plan.size.h task.now.rows first (i + 1)) (slice_index_or workers.old i d) }
     requires filled { IsFilled (F.names folder.old) task.now.translation.now.cat task.now.translation.now.id

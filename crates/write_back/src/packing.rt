@@ -54,8 +54,8 @@ impl Packing {
         })
     }
 
-    /// That of a plan's output. None where its blocks aren't lines of one band, or where it has none: of a cell they are
-    /// columns, of raw data whose bands lie pixel by pixel lines of all bands.
+    /// That of a plan's output. None where its blocks aren't lines of one band, or where it has none: of a cell they
+    /// are columns, of raw data whose bands lie pixel by pixel lines of all bands.
     pub fn of(plan: &Plan) -> Option<Packing>
         ensures output { IfSome result (λ w. output_of plan.now ≡ Some (Blocks w)) }
         ensures lined { IfSome result IsLined }

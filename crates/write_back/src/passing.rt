@@ -66,7 +66,8 @@ fn put_row<F: Folder>(
     requires line { y < side }
     requires bytes { length bytes.now ≡ 2 * side }
     requires long { F.draft_len draft.old ≡ 2 * (side * side) }
-    ensures told { OnOk result (Written (2 * (y * side)) bytes.now (F.draft_bytes draft.old) (F.draft_bytes draft.new)) }
+    ensures told { OnOk result (Written (2 * (y * side)) bytes.now (F.draft_bytes draft.old)
+        (F.draft_bytes draft.new)) }
     ensures small { AreBytes bytes.now }
     ensures len { OnOk result (F.draft_len draft.new ≡ F.draft_len draft.old) }
     ensures name { F.draft_name draft.new ≡ F.draft_name draft.old }

@@ -13,6 +13,7 @@ loop-band-init g c =
       room = c.requires.room;
       desk = c.requires.desk;
       made = made_to g.S.Scene.told t.cat t.id t.plan c.args.task.now.packing c.args.top c.args.desk.now.packed.items c.args.portion.top c.args.portion.top c.args.portion.end c.requires.made;
+      size = refl;
       names = refl;
       later = omega arith;
     }

@@ -1,4 +1,5 @@
-use Rattle.std.proofs.Common.{◌≡◌, refl, arith, subst, ℕ}
+use Rattle.std.proofs.Common.{◌≡◌, ◌≤◌, ◌+◌, ◌-◌, ◌*◌, refl, arith, subst, ℕ}
+use Rattle.std.proofs.Math.Nat.{mul-le-mul}
 use Rattle.output_copies.specs.Copying.{TellsChange}
 use Rattle.output_copies.specs.Packed.{AreMade}
 use Rattle.output_copies.proofs.Changes.{handed_on}
@@ -18,6 +19,13 @@ loop-line-init g c =
       names = refl;
       later = omega arith;
     }
+
+pub make_bands-requires-clause-long : goal.make_bands-requires-clause-long
+make_bands-requires-clause-long g c κs within =
+    let w = c.args.task.now.translation.now.plan.size.w in
+    let few : c.loop-line.line + c.min.result - c.loop-line.line ≤ c.args.task.now.step = omega (arith, c.min.ensures) in
+    let less : c.args.task.now.translation.now.plan.size.w * (c.loop-line.line + c.min.result - c.loop-line.line) ≤ c.args.task.now.translation.now.plan.size.w * c.args.task.now.step = mul-le-mul (omega arith) few in
+    omega (arith, less, c.loop-line.invariant.desk.wide)
 
 pub returns-clause-made : goal.returns-clause-made
 returns-clause-made g c =
