@@ -1,8 +1,7 @@
 // Lines of an output that workers make and pack beside each other.
-ghost use Rattle.std.specs.Prelude.{◌≡◌, ◌<◌, ◌≤◌, ◌+◌, ◌-◌, ◌*◌, ℕ, Option, IfErr, OnOk, length, slice_index_or};
+ghost use Rattle.std.specs.Prelude.{◌≡◌, ◌<◌, ◌≤◌, ◌+◌, ◌-◌, ◌*◌, ℕ, IfErr, OnOk, length, slice_index_or};
 ghost use Rattle.std.specs.List.{All};
 ghost use Rattle.std.specs.Thread.{IsSend, IsSync};
-ghost use Rattle.outside.specs.Outside.{Files};
 ghost use Rattle.lane_teams.specs.Ready.{AreLanesReady};
 ghost use Rattle.strip_copies.specs.Copies.{IsRoomFor};
 ghost use Rattle.lane_teams.specs.Workers.{most_workers};
@@ -131,8 +130,9 @@ fn make_lines<R: Threads + Sync, F: Folder, L: Ledger, S: Scene>(
 {
     let translation = task.translation;
     let count = area(translation.plan.size.w, lines.end - lines.first);
-    let part = &mut desk.room.as_mut_slice()[..count];
     let view = &mut desk.view;
+    let room = desk.room.as_mut_slice();
+    let part = &mut room[..count];
     read_part(rt, translation, reader, view, task.shared, lines, part)?;
     let block = &mut desk.block;
     let packed = desk.packed.as_mut_slice();
