@@ -20,12 +20,20 @@ use crate::packed::copy_packed;
 use crate::worker::{Task, dismiss, hire};
 use crate::writing::Writing;
 use error_lines::Fault;
+use lane_teams::WorkerCount;
 use outside::{Counter, Folder, Sink};
 use shared_lines::{Lines, Scene};
 use std::sync::ledger::{Blank, Ledger};
 use std::thread::Threads;
 use strip_copies::{Portions, Translation, portions};
 use write_back::{Packing, Target};
+
+// How many workers are hired, and how many blocks the lane of each of them holds.
+#[derive(Clone, Copy)]
+struct Hiring {
+    workers: WorkerCount,
+    blocks: u32,
+}
 
 // Copies all lines of all bands by so many workers, whose views are ended then.
 fn copy_hired<R: Threads + Sync, F: Folder, O: Sink, W: Ledger, S: Scene>(
@@ -34,7 +42,7 @@ fn copy_hired<R: Threads + Sync, F: Folder, O: Sink, W: Ledger, S: Scene>(
     folder: &mut F,
     target: &mut Target<F>,
     out: &mut O,
-    writing: &Writing,
+    hiring: Hiring,
     writes: &mut Counter<W>,
 ) -> Result<(), Fault>
     requires task { IsTask task.now.translation.now.cat task.now.translation.now.id task.now.translation.now.plan
@@ -42,8 +50,8 @@ fn copy_hired<R: Threads + Sync, F: Folder, O: Sink, W: Ledger, S: Scene>(
     requires walked { WhereTold F.Folder folder.old (λ m. IsWalked m task.now.translation.now.cat) }
     requires told { S.told ≡ F.names folder.old }
     requires scene { S.cat ≡ task.now.translation.now.cat }
-    requires some { 1 ≤ writing.now.blocks }
-    requires few { writing.now.blocks ≤ most_blocks }
+    requires some { 1 ≤ hiring.blocks }
+    requires few { hiring.blocks ≤ most_blocks }
     requires filled { IsFilled (F.names folder.old) task.now.translation.now.cat task.now.translation.now.id
         task.now.translation.now.plan target.old 0 0 0 }
     requires empty { target.old.pool.entries ≡ [] }
@@ -59,7 +67,7 @@ fn copy_hired<R: Threads + Sync, F: Folder, O: Sink, W: Ledger, S: Scene>(
         (O.faults out.new) result }
     ensures changed { IfErr result (TellsChange task.now.translation.now.cat) }
 {
-    let mut workers = hire(task, folder, writing.workers.get(), writing.blocks)?;
+    let mut workers = hire(task, folder, hiring.workers.get(), hiring.blocks)?;
     let hands = workers.as_mut_slice();
     let copied = copy_packed(rt, task, folder, target, out, hands, writes);
     dismiss(folder, workers);
@@ -79,6 +87,7 @@ pub fn shares_of(translation: &Translation, writing: &Writing) -> Option<Shares>
     requires translation { IsTranslation translation.now.cat translation.now.id translation.now.plan }
     ensures task { IfSome result (λ s. IsTask translation.now.cat translation.now.id translation.now.plan s.packing
         s.portions.rows s.portions.step) }
+    ensures held { IfSome result (λ s. s.portions.blocks ≤ most_blocks) }
 {
     let packing = Packing::of(&translation.plan)?;
     let portions = portions(translation, writing.workers)?;
@@ -97,6 +106,7 @@ pub fn write_packed<R: Threads + Sync, F: Folder, O: Sink, W: Ledger, S: Scene>(
 ) -> Result<(), Fault>
     requires task { IsTask translation.now.cat translation.now.id translation.now.plan shares.packing
         shares.portions.rows shares.portions.step }
+    requires held { shares.portions.blocks ≤ most_blocks }
     requires walked { WhereTold F.Folder folder.old (λ m. IsWalked m translation.now.cat) }
     requires told { S.told ≡ F.names folder.old }
     requires scene { S.cat ≡ translation.now.cat }
@@ -129,6 +139,10 @@ pub fn write_packed<R: Threads + Sync, F: Folder, O: Sink, W: Ledger, S: Scene>(
         shared,
         quiet: writing.quiet,
     };
+    let hiring = Hiring {
+        workers: writing.workers,
+        blocks: writing.blocks.max(shares.portions.blocks),
+    };
     let mut writes: Counter<W> = Counter::open(writes);
     let plan = &translation.plan;
     let alloc = translation.alloc;
@@ -139,7 +153,7 @@ pub fn write_packed<R: Threads + Sync, F: Folder, O: Sink, W: Ledger, S: Scene>(
         folder,
         &mut target,
         out,
-        writing,
+        hiring,
         &mut writes,
     ) {
         Ok(()) => publish(translation, folder, target, &mut writes),

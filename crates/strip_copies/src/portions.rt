@@ -1,21 +1,48 @@
 // How many lines several workers make at a time, each of them lines of its own.
 ghost use Rattle.std.specs.Prelude.{◌≡◌, ◌<◌, ◌≤◌, ◌*◌, IfSome, length};
-ghost use Rattle.strip_copies.specs.Heights.{most_samples};
+ghost use Rattle.band_blocks.specs.Blocks.{most_blocks};
+ghost use Rattle.strip_copies.specs.Copies.{IsTranslation};
+ghost use Rattle.strip_copies.specs.Heights.{most_packed};
 
 use crate::height::{is_made, is_tall, lines_alone, lines_each, share_of};
 use crate::translation::Translation;
+use catalog::Kind;
 use lane_teams::WorkerCount;
+use translate_plan::{Driver, Plan};
 
-/// How many lines each of several workers makes at a time, and how many of them it reads at once.
+/// How many lines each of several workers makes at a time, how many of them it reads at once, and the fewest blocks
+/// that its lane holds.
 #[derive(Clone, Copy)]
 pub struct Portions {
     pub rows: u32,
     pub step: u32,
+    pub blocks: u32,
 }
 
 // The fewest samples of an output for each worker, where workers make and pack lines beside each other: so many take
 // several times as long as a thread is started and joined.
 const FEWEST_PACKED: u64 = 262_144;
+
+// The most samples of an output that is packed whole.
+const MOST_PACKED: u64 = 16_777_216;
+
+// The samples of a line of all bands.
+fn line_of(plan: &Plan) -> u64
+    ensures line { result ≡ plan.now.size.w * length plan.now.bands }
+    ensures some { 1 ≤ result }
+    ensures few { result ≤ 1073741824 }
+{
+    plan.rules();
+    u64::from(plan.size.w) * u64::from(plan.count())
+}
+
+// Whether there are enough samples for so many workers.
+fn pays(plan: &Plan, workers: u32) -> bool
+    requires workers { 1 ≤ workers }
+{
+    plan.rules();
+    line_of(plan) * u64::from(plan.size.h) / u64::from(workers) >= FEWEST_PACKED
+}
 
 // The most lines of a portion, by the lines that a worker's share of the memory holds: of a mosaic those of a square,
 // so that none is made twice.
@@ -33,28 +60,78 @@ fn most_rows(translation: &Translation, share: u32, workers: u32) -> u32
     share.min(plan.size.h.div_ceil(workers))
 }
 
-/// How several workers share the lines of a translation whose output's blocks are lines; None where one worker is
-/// asked for, where the source is made of cells, whose columns each of them would read again, or where there are few
-/// samples for each of them. All portions together have 4,194,304 samples at most.
-pub fn portions(translation: &Translation, workers: WorkerCount) -> Option<Portions>
+// Portions of a translation that reads lines or squares: all of them together have 4,194,304 samples at most.
+fn line_portions(translation: &Translation, workers: u32) -> Option<Portions>
+    requires workers { 1 ≤ workers }
     ensures rows { IfSome result (λ s. 1 ≤ s.rows) }
     ensures step { IfSome result (λ s. 1 ≤ s.step) }
-    ensures few { IfSome result (λ s. s.step ≤ s.rows) }
-    ensures bound { IfSome result (λ s. s.rows * (translation.now.plan.size.w * length translation.now.plan.bands)
-        * workers ≤ most_samples) }
+    ensures blocks { IfSome result (λ s. s.blocks ≤ most_blocks) }
+    ensures bound { IfSome result (λ s. s.rows * (translation.now.plan.size.w * length translation.now.plan.bands) ≤
+        most_packed) }
 {
-    let count = workers.get();
-    if count == 1 || is_tall(translation) {
+    let share = share_of(workers) as u64 / line_of(&translation.plan);
+    if share == 0 {
         return None;
     }
+    let rows = most_rows(translation, share as u32, workers);
+    Some(Portions {
+        rows,
+        step: lines_alone(translation).min(rows),
+        blocks: 1,
+    })
+}
+
+// Portions of a translation of a cell: each worker makes all of its lines at once, and its lane holds all columns, so
+// that it loads each of them once. None where the output has more than 16,777,216 samples.
+fn cell_portions(translation: &Translation, workers: u32) -> Option<Portions>
+    requires translation { IsTranslation translation.now.cat translation.now.id translation.now.plan }
+    requires workers { 1 ≤ workers }
+    ensures rows { IfSome result (λ s. 1 ≤ s.rows) }
+    ensures step { IfSome result (λ s. 1 ≤ s.step) }
+    ensures blocks { IfSome result (λ s. s.blocks ≤ most_blocks) }
+    ensures bound { IfSome result (λ s. s.rows * (translation.now.plan.size.w * length translation.now.plan.bands) ≤
+        most_packed) }
+{
     let plan = &translation.plan;
     plan.rules();
-    let line = u64::from(plan.size.w) * u64::from(plan.count());
-    let share = share_of(count) as u64 / line;
-    if share == 0 || line * u64::from(plan.size.h) / u64::from(count) < FEWEST_PACKED {
+    let columns = translation.cat.head(translation.id).size.w;
+    if columns > 65_536 || line_of(plan) * u64::from(plan.size.h) > MOST_PACKED {
         return None;
     }
-    let rows = most_rows(translation, share as u32, count);
-    let step = lines_alone(translation).min(rows);
-    Some(Portions { rows, step })
+    let rows = plan.size.h.div_ceil(workers);
+    Some(Portions {
+        rows,
+        step: lines_alone(translation).min(rows),
+        blocks: columns,
+    })
+}
+
+/// How several workers share the lines of a translation whose output's blocks are lines; None where one worker is
+/// asked for, where there are few samples for each of them, for an output whose blocks are columns, and over a mosaic
+/// of cells.
+pub fn portions(translation: &Translation, workers: WorkerCount) -> Option<Portions>
+    requires translation { IsTranslation translation.now.cat translation.now.id translation.now.plan }
+    ensures rows { IfSome result (λ s. 1 ≤ s.rows) }
+    ensures step { IfSome result (λ s. 1 ≤ s.step) }
+    ensures blocks { IfSome result (λ s. s.blocks ≤ most_blocks) }
+    ensures bound { IfSome result (λ s. s.rows * (translation.now.plan.size.w * length translation.now.plan.bands) ≤
+        most_packed) }
+{
+    let count = workers.get();
+    let plan = &translation.plan;
+    if count == 1 || !pays(plan, count) {
+        return None;
+    }
+    if let Driver::Dted { .. } = plan.driver {
+        return None;
+    }
+    match translation.cat.head(translation.id).kind {
+        Kind::Dted => cell_portions(translation, count),
+        Kind::Raw | Kind::Hgt | Kind::Ascii | Kind::Vrt => {
+            if is_tall(translation) {
+                return None;
+            }
+            line_portions(translation, count)
+        }
+    }
 }
