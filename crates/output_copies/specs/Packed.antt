@@ -1,9 +1,8 @@
 -- Lines of an output that several workers make and pack beside each other.
 use Rattle.std.specs.Prelude.{ℕ, ℤ, ◌≡◌, ◌<◌, ◌≤◌, ◌+◌, ◌-◌, ◌*◌, min, List, length, Option, Some, Result, Ok, IfErr}
-use Rattle.std.specs.Prelude.{[], get_or, slice_get}
+use Rattle.std.specs.Prelude.{[], get_or}
 use Rattle.std.specs.List.{All}
 use Rattle.outside.specs.Outside.{Files}
-use Rattle.outside.specs.Causes.{Rose}
 use Rattle.outside.specs.declared.folder.Folder.{Ghosts}
 use Rattle.catalog.specs.Drivers.{Dataset}
 use Rattle.band_blocks.specs.Blocks.{BlockView}
@@ -80,20 +79,20 @@ module _ {F File Draft : Type 0} (calls : Ghosts F File Draft) (told : Option Fi
   pub record HasDone (top end : ℕ) (x : Worker F File Draft) : Type 0 where
     pub worker : IsWorker x
     pub made : x.answer ≡ Ok tt → AreMade told cat id p w top x.desk.packed.items end end 0
-    pub ends : MayEnd told 0 (calls.faults x.desk.view) 0 0 x.answer
     pub changed : IfErr x.answer (TellsChange cat)
 
--- a call of some worker's view failed
-pub record HaveFailed {F File Draft : Type 0} (calls : Ghosts F File Draft) (workers : List (Worker F File Draft))
-    : Type 0 where
-  pub at : ℕ
-  pub worker : Worker F File Draft
-  pub found : slice_get workers at ≡ Some worker
-  pub failed : 1 ≤ calls.faults worker.desk.view
+  -- each of some workers made its lines of those from one on
+  abbrev pub AreDone : ℕ → List (Worker F File Draft) → Type 0
+  AreDone first workers = (i : ℕ) (d : Worker F File Draft) → i < length workers →
+      HasDone (top_of p.size.h rows first i) (top_of p.size.h rows first (i + 1)) (get_or workers i d)
 
--- How a part of a translation may end whose workers' views aren't ended yet: between each two counts of the folder's
--- faults that it lies between, where the later one has risen if a view's has.
-abbrev pub MayEndWith : {F File Draft T : Type 0} → Ghosts F File Draft → List (Worker F File Draft) → Option Files →
-    ℕ → ℕ → ℕ → ℕ → Result T Fault → Type 0
-MayEndWith calls workers told folder folder_now out out_now result = (before later : ℕ) → before ≤ folder →
-    folder_now ≤ later → (HaveFailed calls workers → Rose before later) → MayEnd told before later out out_now result
+-- what each of some workers answered may end a translation, between two counts of the folder's faults
+abbrev pub MayAnswer : {F File Draft : Type 0} → Option Files → ℕ → ℕ → List (Worker F File Draft) → Type 0
+MayAnswer {F = F} {File = File} {Draft = Draft} told folder folder_now workers = (i : ℕ) (d : Worker F File Draft) →
+    i < length workers → MayEnd told folder folder_now 0 0 (get_or workers i d).answer
+
+-- the same, where each one's faults are those of its view
+abbrev pub MayAnswerByViews : {F File Draft : Type 0} → Ghosts F File Draft → Option Files → List (Worker F File Draft) →
+    Type 0
+MayAnswerByViews {F = F} {File = File} {Draft = Draft} calls told workers = (i : ℕ) (d : Worker F File Draft) →
+    i < length workers → MayEnd told 0 (calls.faults (get_or workers i d).desk.view) 0 0 (get_or workers i d).answer

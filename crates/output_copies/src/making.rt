@@ -1,13 +1,13 @@
 // Lines of an output that workers make and pack beside each other.
-ghost use Rattle.std.specs.Prelude.{◌≡◌, ◌<◌, ◌≤◌, ◌+◌, ◌-◌, ◌*◌, ℕ, IfErr, OnOk, length, slice_index_or};
+ghost use Rattle.std.specs.Prelude.{◌≡◌, ◌<◌, ◌≤◌, ◌+◌, ◌-◌, ◌*◌, ℕ, IfErr, OnOk, length};
 ghost use Rattle.std.specs.List.{All};
 ghost use Rattle.std.specs.Thread.{IsSend, IsSync};
 ghost use Rattle.lane_teams.specs.Ready.{AreLanesReady};
 ghost use Rattle.strip_copies.specs.Copies.{IsRoomFor};
 ghost use Rattle.lane_teams.specs.Workers.{most_workers};
 ghost use Rattle.output_copies.specs.Copying.{MayEnd, TellsChange};
-ghost use Rattle.output_copies.specs.Packed.{place_in, top_of, AreMade, ArePacks, HasDone, IsDesk};
-ghost use Rattle.output_copies.specs.Packed.{IsTask, IsWorker};
+ghost use Rattle.output_copies.specs.Packed.{place_in, top_of, AreDone, AreMade, ArePacks, HasDone, IsDesk};
+ghost use Rattle.output_copies.specs.Packed.{IsTask, IsWorker, MayAnswerByViews};
 ghost use Rattle.output_copies.specs.Parts.{ArePart, AreRead};
 
 use crate::parts::{area, nth_row, read_part};
@@ -249,8 +249,9 @@ fn make_counted<R: Threads + Sync, F: Folder, L: Ledger, S: Scene>(
     requires name { blank.name ≡ L.name }
     requires parts { blank.parts ≡ L.parts }
     requires shares { 0 < blank.parts }
-    ensures made { HasDone F.Folder S.told S.cat task.now.translation.now.cat task.now.translation.now.id
+    ensures done { HasDone F.Folder S.told S.cat task.now.translation.now.cat task.now.translation.now.id
         task.now.translation.now.plan task.now.packing task.now.rows task.now.step portion.top portion.end worker.new }
+    ensures ends { MayEnd S.told 0 (F.faults worker.new.desk.view) 0 0 worker.new.answer }
 {
     let alloc = task.translation.alloc;
     let none = Columns {
@@ -294,8 +295,9 @@ fn make_alone<R: Threads + Sync, F: Folder, S: Scene>(
     requires order { portion.top ≤ portion.end }
     requires end { portion.end ≤ task.now.translation.now.plan.size.h }
     requires few { portion.end ≤ portion.top + task.now.rows }
-    ensures made { HasDone F.Folder S.told S.cat task.now.translation.now.cat task.now.translation.now.id
+    ensures done { HasDone F.Folder S.told S.cat task.now.translation.now.cat task.now.translation.now.id
         task.now.translation.now.plan task.now.packing task.now.rows task.now.step portion.top portion.end worker.new }
+    ensures ends { MayEnd S.told 0 (F.faults worker.new.desk.view) 0 0 worker.new.answer }
 {
     make_counted::<R, F, Brand, S>(rt, task, portion, worker, Blank::new(1));
 }
@@ -313,10 +315,11 @@ fn make_turn<R: Threads + Sync, F: Folder, S: Scene>(
     requires few { at < most_workers }
     requires worker { IsWorker F.Folder S.told S.cat task.now.translation.now.cat task.now.translation.now.id
         task.now.translation.now.plan task.now.packing task.now.rows task.now.step worker.old }
-    ensures made { HasDone F.Folder S.told S.cat task.now.translation.now.cat task.now.translation.now.id
+    ensures done { HasDone F.Folder S.told S.cat task.now.translation.now.cat task.now.translation.now.id
         task.now.translation.now.plan task.now.packing task.now.rows task.now.step
         (top_of task.now.translation.now.plan.size.h task.now.rows first at)
         (top_of task.now.translation.now.plan.size.h task.now.rows first (at + 1)) worker.new }
+    ensures ends { MayEnd S.told 0 (F.faults worker.new.desk.view) 0 0 worker.new.answer }
 {
     let portion = portion_of(&task.translation.plan, task.rows, first, at);
     make_alone::<R, F, S>(rt, task, portion, worker);
@@ -335,10 +338,9 @@ pub fn make_all<R: Threads + Sync, F: Folder, S: Scene>(
     requires few { length workers.old ≤ most_workers }
     requires workers { All (IsWorker F.Folder S.told S.cat task.now.translation.now.cat task.now.translation.now.id
         task.now.translation.now.plan task.now.packing task.now.rows task.now.step) workers.old }
-    ensures made { (i : ℕ) (d : _) → i < length workers.old → HasDone F.Folder S.told S.cat
-        task.now.translation.now.cat task.now.translation.now.id task.now.translation.now.plan task.now.packing
-        task.now.rows task.now.step (top_of task.now.translation.now.plan.size.h task.now.rows first i)
-        (top_of task.now.translation.now.plan.size.h task.now.rows first (i + 1)) (slice_index_or workers.new i d) }
+    ensures done { AreDone F.Folder S.told S.cat task.now.translation.now.cat task.now.translation.now.id
+        task.now.translation.now.plan task.now.packing task.now.rows task.now.step first workers.new }
+    ensures ends { MayAnswerByViews F.Folder S.told workers.new }
 {
     let count = workers.len();
     let make = |at: usize, worker: &mut Worker<F>|
@@ -350,7 +352,8 @@ pub fn make_all<R: Threads + Sync, F: Folder, S: Scene>(
         ensures { HasDone F.Folder S.told S.cat task.entry.now.translation.now.cat task.entry.now.translation.now.id
             task.entry.now.translation.now.plan task.entry.now.packing task.entry.now.rows task.entry.now.step
             (top_of task.entry.now.translation.now.plan.size.h task.entry.now.rows first at)
-            (top_of task.entry.now.translation.now.plan.size.h task.entry.now.rows first (at + 1)) worker.new }
+            (top_of task.entry.now.translation.now.plan.size.h task.entry.now.rows first (at + 1)) worker.new ×
+            MayEnd S.told 0 (F.faults worker.new.desk.view) 0 0 worker.new.answer }
     {
         // The clauses name it.
         let _count = count;

@@ -1,18 +1,17 @@
 // Outputs whose lines several workers make and pack beside each other, and one thread writes in their order.
-ghost use Rattle.std.specs.Prelude.{◌≡◌, ◌<◌, ◌≤◌, ◌+◌, ◌*◌, [], ℕ, IfErr, OnErr, OnOk, length, slice_index_or, true};
+ghost use Rattle.std.specs.Prelude.{◌≡◌, ◌<◌, ◌≤◌, ◌+◌, ◌*◌, [], ℕ, IfErr, OnErr, OnOk, length, true};
 ghost use Rattle.std.specs.List.{All};
 ghost use Rattle.outside.specs.Streams.{Gets, GetsPart};
-ghost use Rattle.outside.specs.Causes.{Rose};
 ghost use Rattle.write_back.specs.Packed.{block_len};
 ghost use Rattle.lane_teams.specs.Workers.{most_workers};
 ghost use Rattle.error_lines.specs.Progress.{progress};
 ghost use Rattle.output_copies.specs.Copying.{spoken, IsFilled, MayEnd, TellsChange};
-ghost use Rattle.output_copies.specs.Packed.{top_of, AreMade, HasDone, IsLineOf, IsTask, IsWorker};
-ghost use Rattle.output_copies.specs.Packed.{MayEndWith};
+ghost use Rattle.output_copies.specs.Packed.{top_of, AreDone, AreMade, HasDone, IsLineOf, IsTask, IsWorker};
+ghost use Rattle.output_copies.specs.Packed.{MayAnswer};
 
 use crate::making::{Portion, make_all, place_of, portion_of};
 use crate::progress::{Share, tell};
-use crate::worker::{PackedLine, Task, Worker};
+use crate::worker::{PackedLine, Task, Worker, renew};
 use error_lines::Fault;
 use outside::{Counter, Folder, Sink};
 use shared_lines::Scene;
@@ -155,13 +154,11 @@ fn write_made<F: Folder, W: Ledger, S: Scene>(
     ensures empty { target.new.pool.entries ≡ [] }
     ensures worker { IsWorker F.Folder S.told S.cat task.now.translation.now.cat task.now.translation.now.id
         task.now.translation.now.plan task.now.packing task.now.rows task.now.step worker.new }
-    ensures view { worker.new.desk ≡ worker.old.desk }
     ensures name { target.new.name ≡ target.old.name }
     ensures names { F.names folder.new ≡ F.names folder.old }
     ensures later { F.faults folder.old ≤ F.faults folder.new }
-    // the folder's count will have risen for a fault of the worker's view once that view is ended
-    ensures ends { (before later : ℕ) → before ≤ F.faults folder.old → F.faults folder.new ≤ later →
-        (1 ≤ F.faults worker.old.desk.view → Rose before later) → MayEnd (F.names folder.old) before later 0 0 result }
+    ensures ends { (before : ℕ) → MayEnd S.told before (F.faults folder.old) 0 0 worker.old.answer →
+        MayEnd (F.names folder.old) before (F.faults folder.new) 0 0 result }
     ensures changed { IfErr result (TellsChange task.now.translation.now.cat) }
 {
     let answer = mem::replace(&mut worker.answer, Ok(()));
@@ -190,11 +187,8 @@ fn write_all<F: Folder, W: Ledger, S: Scene>(
     requires few { length workers.old ≤ most_workers }
     requires first { first ≤ task.now.translation.now.plan.size.h }
     requires told { S.told ≡ F.names folder.old }
-    requires done { (i : ℕ) (d : _) → i < length workers.old → HasDone F.Folder S.told S.cat
-        task.now.translation.now.cat task.now.translation.now.id task.now.translation.now.plan task.now.packing
-        task.now.rows task.now.step
-        (top_of task.now.translation.now.plan.size.h task.now.rows first i)
-        (top_of task.now.translation.now.plan.size.h task.now.rows first (i + 1)) (slice_index_or workers.old i d) }
+    requires done { AreDone F.Folder S.told S.cat task.now.translation.now.cat task.now.translation.now.id
+        task.now.translation.now.plan task.now.packing task.now.rows task.now.step first workers.old }
     requires filled { IsFilled (F.names folder.old) task.now.translation.now.cat task.now.translation.now.id
         task.now.translation.now.plan target.old first first 0 }
     requires empty { target.old.pool.entries ≡ [] }
@@ -208,8 +202,9 @@ fn write_all<F: Folder, W: Ledger, S: Scene>(
     ensures name { target.new.name ≡ target.old.name }
     ensures names { F.names folder.new ≡ F.names folder.old }
     ensures later { F.faults folder.old ≤ F.faults folder.new }
-    ensures ends { MayEndWith F.Folder workers.new (F.names folder.old) (F.faults folder.old) (F.faults folder.new) 0 0
-        result }
+    ensures ends { (before : ℕ) → before ≤ F.faults folder.old →
+        MayAnswer S.told before (F.faults folder.old) workers.old →
+        MayEnd (F.names folder.old) before (F.faults folder.new) 0 0 result }
     ensures changed { IfErr result (TellsChange task.now.translation.now.cat) }
 {
     for at in 0..workers.len() {
@@ -249,12 +244,11 @@ fn copy_round<R: Threads + Sync, F: Folder, W: Ledger, S: Scene>(
         task.now.translation.now.plan task.now.packing task.now.rows task.now.step) workers.new }
     ensures name { target.new.name ≡ target.old.name }
     ensures names { F.names folder.new ≡ F.names folder.old }
-    ensures later { F.faults folder.old ≤ F.faults folder.new }
-    ensures ends { MayEndWith F.Folder workers.new (F.names folder.old) (F.faults folder.old) (F.faults folder.new) 0 0
-        result }
+    ensures ends { MayEnd (F.names folder.old) (F.faults folder.old) (F.faults folder.new) 0 0 result }
     ensures changed { IfErr result (TellsChange task.now.translation.now.cat) }
 {
     make_all::<R, F, S>(rt, task, first, workers);
+    renew(task, folder, first, workers)?;
     write_all(task, folder, target, first, workers, writes)
 }
 
@@ -283,12 +277,11 @@ pub fn copy_packed<R: Threads + Sync, F: Folder, O: Sink, W: Ledger, S: Scene>(
         task.now.translation.now.plan.size.h 0) }
     ensures name { target.new.name ≡ target.old.name }
     ensures names { F.names folder.new ≡ F.names folder.old }
-    ensures later { F.faults folder.old ≤ F.faults folder.new }
     ensures ok { OnOk result (Gets (spoken task.now.quiet progress) (O.got out.old) (O.got out.new)) }
     ensures err { OnErr result (GetsPart (spoken task.now.quiet progress) (O.got out.old) (O.got out.new)) }
     ensures quiet { task.now.quiet ≡ true → out.new ≡ out.old }
-    ensures ends { MayEndWith F.Folder workers.new (F.names folder.old) (F.faults folder.old) (F.faults folder.new)
-        (O.faults out.old) (O.faults out.new) result }
+    ensures ends { MayEnd (F.names folder.old) (F.faults folder.old) (F.faults folder.new) (O.faults out.old)
+        (O.faults out.new) result }
     ensures changed { IfErr result (TellsChange task.now.translation.now.cat) }
 {
     let plan = &task.translation.plan;

@@ -1,5 +1,5 @@
 // Workers that make packed lines of an output beside each other.
-ghost use Rattle.std.specs.Prelude.{◌≡◌, ◌<◌, ◌≤◌, ◌*◌, ◌+◌, [], IfErr, IfOk, length};
+ghost use Rattle.std.specs.Prelude.{◌≡◌, ◌<◌, ◌≤◌, IfErr, IfOk, OnOk, length};
 ghost use Rattle.std.specs.List.{All};
 ghost use Rattle.outside.specs.Causes.{Rose};
 ghost use Rattle.outside.specs.Reading.{WhereTold};
@@ -9,7 +9,7 @@ ghost use Rattle.lane_teams.specs.Ready.{AreLanesFresh};
 ghost use Rattle.strip_copies.specs.Copies.{IsRoomFor, IsTranslation};
 ghost use Rattle.write_back.specs.Forms.{cut_of, AreHeld};
 ghost use Rattle.write_back.specs.Packed.{block_len, in_bytes};
-ghost use Rattle.output_copies.specs.Packed.{HaveFailed, IsDesk, IsTask, IsWorker};
+ghost use Rattle.output_copies.specs.Packed.{AreDone, IsDesk, IsTask, IsWorker, MayAnswer, MayAnswerByViews};
 
 use crate::parts::area;
 use band_blocks::Block;
@@ -21,6 +21,7 @@ use outside::Folder;
 use shared_lines::Scene;
 use std::alloc::{AllocError, AllocFailed, Global};
 use std::marker::{Brand, Model};
+use std::mem;
 use std::sync::ledger::{Blank, Ledger};
 use strip_copies::{Columns, StripReader, Translation};
 use write_back::Packing;
@@ -210,11 +211,10 @@ fn hire_one<F: Folder, S: Scene>(
     })
 }
 
-// Ends a worker's view.
+// Ends a worker's view, behind its lines.
 fn dismiss_one<F: Folder>(folder: &mut F, worker: Worker<F>)
     ensures names { F.names folder.new ≡ F.names folder.old }
     ensures later { F.faults folder.old ≤ F.faults folder.new }
-    ensures rose { 1 ≤ F.faults worker.desk.view → Rose (F.faults folder.old) (F.faults folder.new) }
 {
     let Worker {
         lanes,
@@ -238,13 +238,66 @@ fn dismiss_one<F: Folder>(folder: &mut F, worker: Worker<F>)
 pub fn dismiss<F: Folder>(folder: &mut F, workers: Vec<Worker<F>>)
     ensures names { F.names folder.new ≡ F.names folder.old }
     ensures later { F.faults folder.old ≤ F.faults folder.new }
-    ensures rose { HaveFailed F.Folder workers.items → Rose (F.faults folder.old) (F.faults folder.new) }
 {
     let mut workers = workers;
     while let Some(worker) = workers.pop() {
         dismiss_one(folder, worker);
     }
     workers.destroy_empty();
+}
+
+// Ends a worker's view, and gives it another one. Where memory is refused, it keeps its own.
+fn renew_one<F: Folder, S: Scene>(
+    task: &Task<S>,
+    folder: &mut F,
+    worker: &mut Worker<F>,
+) -> Result<(), Fault>
+    requires told { S.told ≡ F.names folder.old }
+    requires worker { IsWorker F.Folder S.told S.cat task.now.translation.now.cat task.now.translation.now.id
+        task.now.translation.now.plan task.now.packing task.now.rows task.now.step worker.old }
+    ensures worker { IsWorker F.Folder S.told S.cat task.now.translation.now.cat task.now.translation.now.id
+        task.now.translation.now.plan task.now.packing task.now.rows task.now.step worker.new }
+    ensures packed { worker.new.desk.packed ≡ worker.old.desk.packed }
+    ensures answer { worker.new.answer ≡ worker.old.answer }
+    ensures names { F.names folder.new ≡ F.names folder.old }
+    ensures later { F.faults folder.old ≤ F.faults folder.new }
+    ensures rose { OnOk result (1 ≤ F.faults worker.old.desk.view → Rose (F.faults folder.old) (F.faults folder.new)) }
+    ensures memory { IfErr result (λ f. f ≡ Fault.Memory) }
+{
+    // The clauses name it.
+    let _ = task;
+    let Ok(view) = folder.fork() else {
+        return Err(Fault::Memory);
+    };
+    let used = mem::replace(&mut worker.desk.view, view);
+    folder.absorb(used);
+    Ok(())
+}
+
+/// Ends the views of all workers, which have made their lines of those from one on, and gives them others.
+pub fn renew<F: Folder, S: Scene>(
+    task: &Task<S>,
+    folder: &mut F,
+    first: u32,
+    workers: &mut [Worker<F>],
+) -> Result<(), Fault>
+    requires told { S.told ≡ F.names folder.old }
+    requires done { AreDone F.Folder S.told S.cat task.now.translation.now.cat task.now.translation.now.id
+        task.now.translation.now.plan task.now.packing task.now.rows task.now.step first workers.old }
+    requires views { MayAnswerByViews F.Folder S.told workers.old }
+    ensures done { AreDone F.Folder S.told S.cat task.now.translation.now.cat task.now.translation.now.id
+        task.now.translation.now.plan task.now.packing task.now.rows task.now.step first workers.new }
+    ensures answers { OnOk result (MayAnswer S.told (F.faults folder.old) (F.faults folder.new) workers.new) }
+    ensures names { F.names folder.new ≡ F.names folder.old }
+    ensures later { F.faults folder.old ≤ F.faults folder.new }
+    ensures memory { IfErr result (λ f. f ≡ Fault.Memory) }
+{
+    // The clauses name it.
+    let _ = first;
+    for at in 0..workers.len() {
+        renew_one(task, folder, &mut workers[at])?;
+    }
+    Ok(())
 }
 
 /// So many workers, each with a view of the folder and with a lane that holds so many blocks. Where memory is refused

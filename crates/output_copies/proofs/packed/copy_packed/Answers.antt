@@ -8,7 +8,7 @@ use Rattle.output_copies.specs.Copying.{spoken, IsFilled, TellsChange}
 use Rattle.output_copies.specs.Packed.{top_of}
 use Rattle.output_copies.proofs.Changes.{handed_on, out_tells}
 use Rattle.output_copies.proofs.Hands.{top_more}
-use Rattle.output_copies.proofs.Ends.{ends_after, ends_beside, ends_later, ends_ok, ends_so, err_is}
+use Rattle.output_copies.proofs.Ends.{ends_after, ends_beside, ends_so, err_is}
 use Rattle.output_copies.proofs.Told.{told_none, told_so_far}
 use Rattle.output_copies.proofs.packed.copy_packed.Goals as goal
 
@@ -19,11 +19,8 @@ returns-in_err-told-clause-err g c =
     (c.in_err-told.ensures.told before (told_none c.args.task.now.quiet progress before))
 
 pub returns-in_err-told-clause-ends : goal.returns-in_err-told-clause-ends
-returns-in_err-told-clause-ends g c = λ before later earlier behind risen.
-    let told = g.F.Folder.names c.args.folder.now in
-    let x = c.in_err-told.field-0.0 in
-    ends_so told before later _ _ x c.from_residual.result (err_is c.from_residual.result x c.from_residual.ensures)
-    (ends_after told told before before later _ _ _ (Err x) refl (omega arith) (omega arith) (ends_later told before before later _ _ (Err x) (omega (arith, earlier, behind)) (c.in_err-told.ensures.ends told before)))
+returns-in_err-told-clause-ends g c =
+    ends_so _ _ _ _ _ c.in_err-told.field-0.0 c.from_residual.result (err_is c.from_residual.result c.in_err-told.field-0.0 c.from_residual.ensures) (c.in_err-told.ensures.ends (g.F.Folder.names c.args.folder.now) (g.F.Folder.faults c.args.folder.now))
 
 pub loop-line-init : goal.loop-line-init
 loop-line-init g c =
@@ -51,13 +48,12 @@ returns-in_err-copy_round-clause-err g c =
     (told_so_far c.args.task.now.quiet progress c.loop-line.told (g.O.Sink.got c.args.out.now) (g.O.Sink.got c.loop-line.out) c.loop-line.invariant.text)
 
 pub returns-in_err-copy_round-clause-ends : goal.returns-in_err-copy_round-clause-ends
-returns-in_err-copy_round-clause-ends g c = λ early later earlier behind risen.
+returns-in_err-copy_round-clause-ends g c =
     let told = g.F.Folder.names c.args.folder.now in
     let before = c.loop-line.invariant in
-    let x = c.in_err-copy_round.field-0.0 in
-    ends_so told early later _ _ x c.from_residual-in_err-copy_round.result (err_is c.from_residual-in_err-copy_round.result x c.from_residual-in_err-copy_round.ensures)
-    (ends_after told (g.F.Folder.names c.loop-line.folder) early early later (g.O.Sink.faults c.args.out.now) (g.O.Sink.faults c.loop-line.out) (g.O.Sink.faults c.loop-line.out) (Err x) before.names (omega arith) before.out_later
-    (ends_beside (g.F.Folder.names c.loop-line.folder) early later (g.O.Sink.faults c.loop-line.out) (Err x) (c.in_err-copy_round.ensures.ends early later (omega (arith, earlier, before.folder_later)) behind risen)))
+    ends_so told _ _ _ _ c.in_err-copy_round.field-0.0 c.from_residual-in_err-copy_round.result (err_is c.from_residual-in_err-copy_round.result c.in_err-copy_round.field-0.0 c.from_residual-in_err-copy_round.ensures)
+    (ends_after told (g.F.Folder.names c.loop-line.folder) (g.F.Folder.faults c.args.folder.now) (g.F.Folder.faults c.loop-line.folder) (g.F.Folder.faults c.copy_round.new.folder) (g.O.Sink.faults c.args.out.now) (g.O.Sink.faults c.loop-line.out) (g.O.Sink.faults c.loop-line.out) (Err c.in_err-copy_round.field-0.0) before.names before.folder_later before.out_later
+    (ends_beside (g.F.Folder.names c.loop-line.folder) (g.F.Folder.faults c.loop-line.folder) (g.F.Folder.faults c.copy_round.new.folder) (g.O.Sink.faults c.loop-line.out) (Err c.in_err-copy_round.field-0.0) c.in_err-copy_round.ensures.ends))
 
 pub returns-in_err-told-2-clause-err : goal.returns-in_err-told-2-clause-err
 returns-in_err-told-2-clause-err g c =
@@ -65,21 +61,14 @@ returns-in_err-told-2-clause-err g c =
     (c.in_err-told-2.ensures.told (g.O.Sink.got c.args.out.now) c.loop-line.invariant.text)
 
 pub returns-in_err-told-2-clause-ends : goal.returns-in_err-told-2-clause-ends
-returns-in_err-told-2-clause-ends g c = λ early later earlier behind risen.
+returns-in_err-told-2-clause-ends g c =
     let told = g.F.Folder.names c.args.folder.now in
     let before = c.loop-line.invariant in
-    let copied = c.in_ok-copy_round.ensures.later in
-    let x = c.in_err-told-2.field-0.0 in
-    ends_so told early later _ _ x c.from_residual-in_err-told-2.result (err_is c.from_residual-in_err-told-2.result x c.from_residual-in_err-told-2.ensures)
-    (ends_later told early (g.F.Folder.faults c.copy_round.new.folder) later _ _ (Err x) behind
-    (ends_after told told early (g.F.Folder.faults c.copy_round.new.folder) (g.F.Folder.faults c.copy_round.new.folder) (g.O.Sink.faults c.args.out.now) (g.O.Sink.faults c.loop-line.out) (g.O.Sink.faults c.tell-in-loop-line.new.out) (Err x) refl
-    (omega (arith, earlier, before.folder_later, copied)) before.out_later
-    (c.in_err-told-2.ensures.ends told (g.F.Folder.faults c.copy_round.new.folder))))
-
-pub returns-clause-ends : goal.returns-clause-ends
-returns-clause-ends g c = λ early later earlier behind risen.
-    let before = c.loop-line.invariant in
-    ends_ok tt (g.F.Folder.names c.args.folder.now) early later _ _ (omega (arith, earlier, before.folder_later, behind)) before.out_later
+    let copied = c.in_ok-copy_round.ensures.ends.cause.folder_later in
+    ends_so told _ _ _ _ c.in_err-told-2.field-0.0 c.from_residual-in_err-told-2.result (err_is c.from_residual-in_err-told-2.result c.in_err-told-2.field-0.0 c.from_residual-in_err-told-2.ensures)
+    (ends_after told told (g.F.Folder.faults c.args.folder.now) (g.F.Folder.faults c.copy_round.new.folder) (g.F.Folder.faults c.copy_round.new.folder) (g.O.Sink.faults c.args.out.now) (g.O.Sink.faults c.loop-line.out) (g.O.Sink.faults c.tell-in-loop-line.new.out) (Err c.in_err-told-2.field-0.0) refl
+    (omega (arith, before.folder_later, copied)) before.out_later
+    (c.in_err-told-2.ensures.ends told (g.F.Folder.faults c.copy_round.new.folder)))
 
 pub loop-line-preserved : goal.loop-line-preserved
 loop-line-preserved g c =
@@ -100,7 +89,7 @@ loop-line-preserved g c =
           (subst (λ (o : Option Files). IsFilled o c.args.task.now.translation.now.cat c.args.task.now.translation.now.id p c.copy_round.new.target (top_of p.size.h c.args.task.now.rows c.loop-line.line (length c.loop-line.workers)) (top_of p.size.h c.args.task.now.rows c.loop-line.line (length c.loop-line.workers)) 0) names copied.filled);
       name = copied.name ∙ before.name;
       names = names;
-      folder_later = omega (arith, before.folder_later, copied.later);
+      folder_later = omega (arith, before.folder_later, copied.ends.cause.folder_later);
       still = λ quiet. c.in_ok-told-2.ensures.quiet quiet ∙ before.still quiet;
       out_later = omega (arith, before.out_later, put.cause.out_later);
       told = c.in_ok-told-2.ensures.within;
@@ -131,7 +120,6 @@ returns-in_err-told-2-clause-changed g c =
     let cat = c.args.task.now.translation.now.cat in
     let x = c.in_err-told-2.field-0.0 in
     handed_on (TellsChange cat) x c.from_residual-in_err-told-2.result c.from_residual-in_err-told-2.ensures (out_tells cat x c.in_err-told-2.ensures.faults)
-
 -- UNCHECKED: the name of this goal
 pub loop-line-smaller : goal.loop-line-smaller
 loop-line-smaller g c =

@@ -1,4 +1,4 @@
-use Rattle.std.proofs.Common.{◌≡◌, ◌≤◌, [], length}
+use Rattle.std.proofs.Common.{◌≡◌, ◌≤◌, []}
 use Rattle.output_copies.specs.Copying.{IsFilled}
 use Rattle.output_copies.specs.Packed.{top_of}
 use Rattle.output_copies.proofs.Hands.{AreWritten}
@@ -9,8 +9,7 @@ abbrev pub invariant-loop-at : goal.invariant-loop-at
 invariant-loop-at g l = record {
   filled : IsFilled (g.F.Folder.names l.fn.folder) l.task.translation.cat l.task.translation.id l.task.translation.plan l.target (top_of l.task.translation.plan.size.h l.task.rows l.first l.at) (top_of l.task.translation.plan.size.h l.task.rows l.first l.at) 0;
   empty : l.target.pool.entries ≡ [];
-  count : length l.workers ≡ length l.fn.workers;
-  written : AreWritten g.F.Folder g.S.Scene.told g.S.Scene.cat l.task.translation.cat l.task.translation.id l.task.translation.plan l.task.packing l.task.rows l.task.step l.first l.at l.workers;
+  written : AreWritten g.F.Folder g.S.Scene.told g.S.Scene.cat l.task.translation.cat l.task.translation.id l.task.translation.plan l.task.packing l.task.rows l.task.step l.at l.fn.workers l.workers;
   name : l.target.name ≡ l.fn.target.name;
   names : g.F.Folder.names l.folder ≡ g.F.Folder.names l.fn.folder;
   later : g.F.Folder.faults l.fn.folder ≤ g.F.Folder.faults l.folder;

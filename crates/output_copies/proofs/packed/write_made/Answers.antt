@@ -5,7 +5,7 @@ use Rattle.error_lines.specs.declared.faults.Fault.{Fault}
 use Rattle.output_copies.specs.Copying.{MayEnd, TellsChange}
 use Rattle.output_copies.specs.Packed.{AreMade}
 use Rattle.output_copies.proofs.Changes.{handed_on}
-use Rattle.output_copies.proofs.Ends.{ends_after, ends_by_view, ends_later, ends_so, err_is}
+use Rattle.output_copies.proofs.Ends.{ends_after, ends_so, err_is}
 use Rattle.output_copies.proofs.packed.write_made.Goals as goal
 
 -- UNCHECKED: by the name of the first `?`: `answer` is what the worker answered, which stands in `c.replace-answer`
@@ -16,13 +16,12 @@ write_portion-requires-clause-made g c κs within =
     (c.requires.done.made (sym c.replace-answer.ensures.value ∙ c.in_ok-answer.was))
 
 pub returns-in_err-answer-clause-ends : goal.returns-in_err-answer-clause-ends
-returns-in_err-answer-clause-ends g c = λ before later earlier behind risen.
+returns-in_err-answer-clause-ends g c = λ before ends.
     let told = g.F.Folder.names c.args.folder.now in
     let x = c.in_err-answer.field-0.0 in
-    let ended = subst (λ (o : Option Files). MayEnd o 0 (g.F.Folder.faults c.args.worker.now.desk.view) 0 0 c.args.worker.now.answer) c.requires.told c.requires.done.ends in
-    ends_so told before later 0 0 x c.from_residual.result (err_is c.from_residual.result x c.from_residual.ensures)
-    (ends_by_view told before later (g.F.Folder.faults c.args.worker.now.desk.view) 0 (Err x) (omega (arith, earlier, behind)) risen
-    (subst (λ (r : Result (Unit {0}) Fault). MayEnd told 0 (g.F.Folder.faults c.args.worker.now.desk.view) 0 0 r) (sym c.replace-answer.ensures.value ∙ c.in_err-answer.was) ended))
+    ends_so told before (g.F.Folder.faults c.args.folder.now) 0 0 x c.from_residual.result (err_is c.from_residual.result x c.from_residual.ensures)
+    (subst (λ (o : Option Files). MayEnd o before (g.F.Folder.faults c.args.folder.now) 0 0 (Err x)) c.requires.told
+    (subst (λ (r : Result (Unit {0}) Fault). MayEnd g.S.Scene.told before (g.F.Folder.faults c.args.folder.now) 0 0 r) (sym c.replace-answer.ensures.value ∙ c.in_err-answer.was) ends))
 
 pub returns-in_err-answer-clause-changed : goal.returns-in_err-answer-clause-changed
 returns-in_err-answer-clause-changed g c =
@@ -31,7 +30,6 @@ returns-in_err-answer-clause-changed g c =
     handed_on (TellsChange cat) x c.from_residual.result c.from_residual.ensures (subst (λ (r : Result (Unit {0}) Fault). IfErr r (TellsChange cat)) (sym c.replace-answer.ensures.value ∙ c.in_err-answer.was) c.requires.done.changed)
 
 pub returns-clause-ends : goal.returns-clause-ends
-returns-clause-ends g c = λ before later earlier behind risen.
+returns-clause-ends g c = λ before ends.
     let told = g.F.Folder.names c.args.folder.now in
-    ends_later told before (g.F.Folder.faults c.write_portion.new.folder) later 0 0 c.write_portion.result behind
-    (ends_after told told before (g.F.Folder.faults c.args.folder.now) (g.F.Folder.faults c.write_portion.new.folder) 0 0 0 c.write_portion.result refl earlier (omega arith) c.write_portion.ensures.ends)
+    ends_after told told before (g.F.Folder.faults c.args.folder.now) (g.F.Folder.faults c.write_portion.new.folder) 0 0 0 c.write_portion.result refl ends.cause.folder_later (omega arith) c.write_portion.ensures.ends

@@ -3,23 +3,19 @@ use Rattle.std.specs.Prelude.{OnErr}
 use Rattle.outside.specs.Streams.{GetsPart}
 use Rattle.error_lines.specs.Progress.{progress}
 use Rattle.error_lines.specs.declared.faults.Fault.TheVariants.{Memory}
-use Rattle.outside.specs.Causes.{Rose}
 use Rattle.error_lines.specs.declared.faults.Fault.{Fault}
 use Rattle.output_copies.specs.Copying.{spoken, TellsChange}
-use Rattle.output_copies.specs.Packed.{HaveFailed}
 use Rattle.output_copies.proofs.Changes.{handed_on, memory_tells}
-use Rattle.output_copies.proofs.Ends.{ends_memory, ends_so, err_is}
+use Rattle.output_copies.proofs.Ends.{ends_after, ends_later, ends_memory, ends_so, err_is}
 use Rattle.output_copies.proofs.Told.{told_none, told_so_far}
 use Rattle.output_copies.proofs.packed_output.copy_hired.Goals as goal
 
--- UNCHECKED: what stands in the vector behind `copy_packed`, whose slice it lent, is the slice's new content, as `put_back` of
--- `lane_teams` says; `failed` is taken over by it
 pub returns-clause-ends : goal.returns-clause-ends
 returns-clause-ends g c =
+    let told = g.F.Folder.names c.args.folder.now in
     let hired = c.in_ok-workers.ensures in
-    let ended = c.dismiss.ensures in
-    c.copy_packed-copied.ensures.ends (g.F.Folder.faults c.args.folder.now) (g.F.Folder.faults c.dismiss.new.folder) hired.later ended.later
-    (λ failed. let rose = ended.rose failed in omega (arith, rose, hired.later, c.copy_packed-copied.ensures.later))
+    ends_later told (g.F.Folder.faults c.args.folder.now) (g.F.Folder.faults c.copy_packed-copied.new.folder) (g.F.Folder.faults c.dismiss.new.folder) _ _ c.copy_packed-copied.result c.dismiss.ensures.later
+    (ends_after told (g.F.Folder.names c.hire.new.folder) (g.F.Folder.faults c.args.folder.now) (g.F.Folder.faults c.hire.new.folder) (g.F.Folder.faults c.copy_packed-copied.new.folder) _ _ _ c.copy_packed-copied.result hired.names hired.later (omega arith) c.copy_packed-copied.ensures.ends)
 
 pub returns-in_err-workers-clause-changed : goal.returns-in_err-workers-clause-changed
 returns-in_err-workers-clause-changed g c =
