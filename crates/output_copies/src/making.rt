@@ -179,7 +179,8 @@ fn make_bands<R: Threads + Sync, F: Folder, L: Ledger, S: Scene>(
 {
     let plan = &task.translation.plan;
     plan.rules();
-    for band in 0..plan.count() {
+    let bands = plan.count();
+    for band in 0..bands {
         let lines = Lines {
             band,
             first: portion.top,

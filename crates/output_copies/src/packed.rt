@@ -207,7 +207,8 @@ fn write_all<F: Folder, W: Ledger, S: Scene>(
         MayEnd (F.names folder.old) before (F.faults folder.new) 0 0 result }
     ensures changed { IfErr result (TellsChange task.now.translation.now.cat) }
 {
-    for at in 0..workers.len() {
+    let count = workers.len();
+    for at in 0..count {
         let portion = portion_of(&task.translation.plan, task.rows, first, at);
         write_made(task, folder, target, portion, &mut workers[at], writes)?;
     }
@@ -288,12 +289,12 @@ pub fn copy_packed<R: Threads + Sync, F: Folder, O: Sink, W: Ledger, S: Scene>(
     plan.rules();
     let height = plan.size.h;
     let quiet = task.quiet;
-    let last = workers.len() - 1;
+    let count = workers.len();
     let mut told = tell(out, quiet, 0, Share { done: 0, height })?;
     let mut line = 0;
     while line < height {
         copy_round(rt, task, folder, target, line, workers, writes)?;
-        line = portion_of(plan, task.rows, line, last).end;
+        line = portion_of(plan, task.rows, line, count - 1).end;
         told = tell(out, quiet, told, Share { done: line, height })?;
     }
     Ok(())

@@ -294,7 +294,8 @@ pub fn renew<F: Folder, S: Scene>(
 {
     // The clauses name it.
     let _ = first;
-    for at in 0..workers.len() {
+    let count = workers.len();
+    for at in 0..count {
         renew_one(task, folder, &mut workers[at])?;
     }
     Ok(())

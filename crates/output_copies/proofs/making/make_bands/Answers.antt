@@ -22,7 +22,7 @@ pub returns-clause-made : goal.returns-clause-made
 returns-clause-made g c =
     let t = c.args.task.now.translation.now in
     let before = c.loop-band.invariant in
-    let all : c.loop-band.band ≡ length t.plan.bands = omega (arith, c.count.ensures.count, c.loop-band-test.false, c.loop-band.auto.band-end) in
+    let all : c.loop-band.band ≡ length t.plan.bands = omega (arith, c.count-bands.ensures.count, c.loop-band-test.false, c.loop-band.auto.band-end) in
     made_next g.S.Scene.told t.cat t.id t.plan c.args.task.now.packing c.args.top c.loop-band.desk.packed.items c.args.portion.top c.args.portion.end
     (subst (λ (k : ℕ). AreMade g.S.Scene.told t.cat t.id t.plan c.args.task.now.packing c.args.top c.loop-band.desk.packed.items c.args.portion.top c.args.portion.end k) all before.made)
 

@@ -78,7 +78,7 @@ loop-line-preserved g c =
     let copied = c.in_ok-copy_round.ensures in
     let put = c.in_ok-told-2.ensures.ends told (g.F.Folder.faults c.copy_round.new.folder) in
     let names : g.F.Folder.names c.copy_round.new.folder ≡ told = copied.names ∙ before.names in
-    let all : length c.loop-line.workers ≡ c.len.result - 1 + 1 = omega (arith, before.count, c.requires.some, c.len.ensures) in
+    let all : length c.loop-line.workers ≡ c.len-count.result - 1 + 1 = omega (arith, before.count, c.requires.some, c.len-count.ensures) in
     let next : top_of p.size.h c.args.task.now.rows c.loop-line.line (length c.loop-line.workers) ≡ c.portion_of.result.end = ap (top_of p.size.h c.args.task.now.rows c.loop-line.line) all ∙ sym c.portion_of.ensures.end in
     record {
       below = omega arith;
@@ -125,6 +125,6 @@ pub loop-line-smaller : goal.loop-line-smaller
 loop-line-smaller g c =
     let p = c.args.task.now.translation.now.plan in
     let before = c.loop-line.invariant in
-    let all : length c.loop-line.workers ≡ c.len.result - 1 + 1 = omega (arith, before.count, c.requires.some, c.len.ensures) in
+    let all : length c.loop-line.workers ≡ c.len-count.result - 1 + 1 = omega (arith, before.count, c.requires.some, c.len-count.ensures) in
     let more = top_more p.size.h c.args.task.now.rows c.loop-line.line (length c.loop-line.workers) c.loop-line-test.true c.requires.task.some_rows (omega (arith, before.count, c.requires.some)) in
     omega (arith, more, c.portion_of.ensures.end, all)

@@ -71,7 +71,7 @@ pub returns-clause-filled : goal.returns-clause-filled
 returns-clause-filled g c =
     let t = c.args.task.now.translation.now in
     let so_far = c.loop-at.invariant in
-    let all : c.loop-at.at ≡ length c.args.workers.now = omega (arith, so_far.written.count, c.loop-at-test.false, c.loop-at.auto.at-end) in
+    let all : c.loop-at.at ≡ length c.args.workers.now = omega (arith, so_far.written.count, c.len-count.ensures, c.loop-at-test.false, c.loop-at.auto.at-end) in
     subst (λ (o : Option Files). IsFilled o t.cat t.id t.plan c.loop-at.target (top_of t.plan.size.h c.args.task.now.rows c.args.first (length c.args.workers.now)) (top_of t.plan.size.h c.args.task.now.rows c.args.first (length c.args.workers.now)) 0) (sym so_far.names)
     (subst (λ (n : ℕ). IsFilled (g.F.Folder.names c.args.folder.now) t.cat t.id t.plan c.loop-at.target (top_of t.plan.size.h c.args.task.now.rows c.args.first n) (top_of t.plan.size.h c.args.task.now.rows c.args.first n) 0) all so_far.filled)
 

@@ -36,4 +36,4 @@ returns-in_err-renew_one-clause-done g c =
 pub returns-clause-answers : goal.returns-clause-answers
 returns-clause-answers g c = λ i d less.
     let so_far = c.loop-at.invariant in
-    so_far.answers.ended i d (omega (arith, so_far.answers.count, c.loop-at-test.false, c.loop-at.auto.at-end, less)) less
+    so_far.answers.ended i d (omega (arith, so_far.answers.count, c.len-count.ensures, c.loop-at-test.false, c.loop-at.auto.at-end, less)) less
