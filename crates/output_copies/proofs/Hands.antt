@@ -90,7 +90,7 @@ module _ {F File Draft : Type 0} (calls : Ghosts F File Draft) (told : Option Fi
 
   -- one more view was ended
   pub answers_more : (n before f g : ℕ) (were workers : List (Worker F File Draft)) (y : Worker F File Draft) → n < length workers → before ≤ f → f ≤ g → y.answer ≡ (get_or workers n y).answer → (1 ≤ calls.faults (get_or workers n y).desk.view → Rose f g)
-      → MayAnswerByViews calls told were → AreAnswers n before f were workers → AreAnswers (n + 1) before g were (slice_set workers n y)
+      → MayAnswerByViews told calls were → AreAnswers n before f were workers → AreAnswers (n + 1) before g were (slice_set workers n y)
   answers_more n before f g were workers y within early later same risen views so_far = record {
     count = length-set workers n y ∙ so_far.count;
     ended = λ i d less inside. elim (cases_lt i n) [

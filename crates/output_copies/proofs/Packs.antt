@@ -41,7 +41,7 @@ line_wide p w plan output lined = let size = has_size p (Blocks w) plan output i
 
 -- a row of lines that were read
 module _ (told : Option Files) (cat : List Dataset) (id : ℕ) (p : Planned) (lines : Lines) (samples : List ℤ) (y : ℕ) (read : AreRead told cat id p lines samples) (top : lines.first ≤ y) (below : y < lines.end) where
-  fits : (y - lines.first) * p.size.w + p.size.w ≤ length samples
+  pub fits : (y - lines.first) * p.size.w + p.size.w ≤ length samples
   fits = let f = row_fits (y - lines.first) p.size.w (lines.end - lines.first) (omega arith) in let n = read.long in omega arith
 
   row_long : length (take p.size.w (drop ((y - lines.first) * p.size.w) samples)) ≡ p.size.w

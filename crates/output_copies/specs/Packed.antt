@@ -86,13 +86,13 @@ module _ {F File Draft : Type 0} (calls : Ghosts F File Draft) (told : Option Fi
   AreDone first workers = (i : ℕ) (d : Worker F File Draft) → i < length workers →
       HasDone (top_of p.size.h rows first i) (top_of p.size.h rows first (i + 1)) (get_or workers i d)
 
--- what each of some workers answered may end a translation, between two counts of the folder's faults
-abbrev pub MayAnswer : {F File Draft : Type 0} → Option Files → ℕ → ℕ → List (Worker F File Draft) → Type 0
-MayAnswer {F = F} {File = File} {Draft = Draft} told folder folder_now workers = (i : ℕ) (d : Worker F File Draft) →
-    i < length workers → MayEnd told folder folder_now 0 0 (get_or workers i d).answer
+module _ {F File Draft : Type 0} (told : Option Files) where
+  -- what each of some workers answered may end a translation, between two counts of the folder's faults
+  abbrev pub MayAnswer : ℕ → ℕ → List (Worker F File Draft) → Type 0
+  MayAnswer folder folder_now workers = (i : ℕ) (d : Worker F File Draft) → i < length workers →
+      MayEnd told folder folder_now 0 0 (get_or workers i d).answer
 
--- the same, where each one's faults are those of its view
-abbrev pub MayAnswerByViews : {F File Draft : Type 0} → Ghosts F File Draft → Option Files → List (Worker F File Draft) →
-    Type 0
-MayAnswerByViews {F = F} {File = File} {Draft = Draft} calls told workers = (i : ℕ) (d : Worker F File Draft) →
-    i < length workers → MayEnd told 0 (calls.faults (get_or workers i d).desk.view) 0 0 (get_or workers i d).answer
+  -- the same, where each one's faults are those of its view
+  abbrev pub MayAnswerByViews : Ghosts F File Draft → List (Worker F File Draft) → Type 0
+  MayAnswerByViews calls workers = (i : ℕ) (d : Worker F File Draft) → i < length workers →
+      MayEnd told 0 (calls.faults (get_or workers i d).desk.view) 0 0 (get_or workers i d).answer

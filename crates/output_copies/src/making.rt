@@ -341,7 +341,7 @@ pub fn make_all<R: Threads + Sync, F: Folder, S: Scene>(
         task.now.translation.now.plan task.now.packing task.now.rows task.now.step) workers.old }
     ensures done { AreDone F.Folder S.told S.cat task.now.translation.now.cat task.now.translation.now.id
         task.now.translation.now.plan task.now.packing task.now.rows task.now.step first workers.new }
-    ensures ends { MayAnswerByViews F.Folder S.told workers.new }
+    ensures ends { MayAnswerByViews S.told F.Folder workers.new }
 {
     let count = workers.len();
     let make = |at: usize, worker: &mut Worker<F>|

@@ -284,7 +284,7 @@ pub fn renew<F: Folder, S: Scene>(
     requires told { S.told ≡ F.names folder.old }
     requires done { AreDone F.Folder S.told S.cat task.now.translation.now.cat task.now.translation.now.id
         task.now.translation.now.plan task.now.packing task.now.rows task.now.step first workers.old }
-    requires views { MayAnswerByViews F.Folder S.told workers.old }
+    requires views { MayAnswerByViews S.told F.Folder workers.old }
     ensures done { AreDone F.Folder S.told S.cat task.now.translation.now.cat task.now.translation.now.id
         task.now.translation.now.plan task.now.packing task.now.rows task.now.step first workers.new }
     ensures answers { OnOk result (MayAnswer S.told (F.faults folder.old) (F.faults folder.new) workers.new) }

@@ -1,6 +1,7 @@
 use Rattle.std.proofs.Common.{◌≡◌, ◌∙◌, ◌+◌, ◌-◌, ◌*◌, ◌<◌, ◌≤◌, ap, sym, subst, arith, inl, inr, length, take, drop, [], ℤ, List}
 use Rattle.std.specs.Prelude.{slice_set}
 use Rattle.std.proofs.lemmas.Bool.{cases_lt}
+use Rattle.translate_plan.specs.Plan.{Planned}
 use Rattle.write_back.specs.Forms.{AreHeld}
 use Rattle.write_back.specs.Packed.{in_bytes}
 use Rattle.output_copies.specs.Packed.{line_at, place_in, AreMade, ArePacks, IsLineOf, IsMade}
@@ -11,7 +12,12 @@ use Rattle.output_copies.proofs.making.pack_lines.Goals as goal
 pub nth_row-row-requires : goal.nth_row-row-requires
 nth_row-row-requires g c =
     let t = c.args.task.now.translation.now in
-    record { within = fits g.S.Scene.told t.cat t.id t.plan c.args.lines c.args.samples.now c.loop-line.line c.requires.read (omega arith) c.loop-line-test.true }
+    let wide : c.plan.inside.size.w ≡ c.args.task.now.translation.now.plan.size.w = ap (λ (p : Planned). p.size.w) c.plan.view_is in
+    record {
+      within =
+          subst (λ n. (c.loop-line.line - c.args.lines.first) * n + n ≤ length c.args.samples.now) (sym wide)
+          (fits g.S.Scene.told t.cat t.id t.plan c.args.lines c.args.samples.now c.loop-line.line c.requires.read (omega arith) c.loop-line-test.true);
+    }
 
 pub index-requires : goal.index-requires
 index-requires g c =
@@ -23,12 +29,13 @@ index-requires g c =
 pub pack-requires-clause-size : goal.pack-requires-clause-size
 pack-requires-clause-size g c κs within =
     let p = c.args.task.now.translation.now.plan in
-    c.nth_row-row.ensures.len ∙ sym (line_wide p c.args.task.now.packing c.rules.ensures.kept c.requires.task.output c.requires.task.lined)
+    c.nth_row-row.ensures.len ∙ ap (λ (q : Planned). q.size.w) c.plan.view_is ∙ sym (line_wide p c.args.task.now.packing c.rules.ensures.kept c.requires.task.output c.requires.task.lined)
 
 pub pack-requires-clause-range : goal.pack-requires-clause-range
 pack-requires-clause-range g c κs within =
     let t = c.args.task.now.translation.now in
-    subst (AreHeld c.args.task.now.packing) (sym c.nth_row-row.ensures.row)
+    let row : c.nth_row-row.result.now ≡ take t.plan.size.w (drop ((c.loop-line.line - c.args.lines.first) * t.plan.size.w) c.args.samples.now) = c.nth_row-row.ensures.row ∙ ap (λ (q : Planned). take q.size.w (drop ((c.loop-line.line - c.args.lines.first) * q.size.w) c.args.samples.now)) c.plan.view_is in
+    subst (AreHeld c.args.task.now.packing) (sym row)
     (row_held g.S.Scene.told t.cat t.id t.plan c.args.lines c.args.samples.now c.loop-line.line c.requires.read (omega arith) c.loop-line-test.true c.args.task.now.packing c.rules.ensures.kept c.requires.task.output c.requires.part.band)
 
 pub loop-line-init : goal.loop-line-init
@@ -43,8 +50,9 @@ loop-line-preserved g c =
     let so_far = c.loop-line.invariant in
     let place : c.place_of-place.result ≡ place_in (length t.plan.bands) c.args.lines.band (c.loop-line.line - c.args.top) = c.place_of-place.ensures.place ∙ ap (λ n. place_in n c.args.lines.band (c.loop-line.line - c.args.top)) c.count-bands.ensures.count in
     let within = place_within (length t.plan.bands) c.args.lines.band (c.loop-line.line - c.args.top) c.args.task.now.rows c.requires.part.band (omega (arith, c.requires.few, c.requires.top, c.loop-line-test.true)) in
+    let row : c.nth_row-row.result.now ≡ take t.plan.size.w (drop ((c.loop-line.line - c.args.lines.first) * t.plan.size.w) c.args.samples.now) = c.nth_row-row.ensures.row ∙ ap (λ (q : Planned). take q.size.w (drop ((c.loop-line.line - c.args.lines.first) * q.size.w) c.args.samples.now)) c.plan.view_is in
     let made : IsLineOf g.S.Scene.told t.cat t.id t.plan c.args.task.now.packing c.args.lines.band c.loop-line.line c.pack.new.self =
-    subst (AreRead g.S.Scene.told t.cat t.id t.plan (line_at c.args.lines.band c.loop-line.line)) (sym (c.pack.ensures.packed ∙ c.nth_row-row.ensures.row))
+    subst (AreRead g.S.Scene.told t.cat t.id t.plan (line_at c.args.lines.band c.loop-line.line)) (sym (c.pack.ensures.packed ∙ row))
     (row_read g.S.Scene.told t.cat t.id t.plan c.args.lines c.args.samples.now c.loop-line.line c.requires.read (omega arith) c.loop-line-test.true) in
     rw place (record {
       packs = packs_set t.plan w c.args.task.now.rows c.loop-line.block c.pack.new.block c.loop-line.packed (place_in (length t.plan.bands) k (y - c.args.top)) c.pack.new.self so_far.packs c.pack.ensures.kind c.pack.ensures.count (c.pack.ensures.len ∙ so_far.packs.each _ _ (omega (arith, within, so_far.packs.long)));

@@ -5,6 +5,7 @@ use Rattle.outside.specs.Streams.{Gets, GetsPart}
 use Rattle.error_lines.specs.declared.faults.Fault.{Fault}
 use Rattle.error_lines.specs.Progress.{progress}
 use Rattle.output_copies.specs.Copying.{spoken, IsFilled, TellsChange}
+use Rattle.translate_plan.specs.Plan.{Planned}
 use Rattle.output_copies.specs.Packed.{top_of}
 use Rattle.output_copies.proofs.Changes.{handed_on, out_tells}
 use Rattle.output_copies.proofs.Hands.{top_more}
@@ -78,10 +79,11 @@ loop-line-preserved g c =
     let copied = c.in_ok-copy_round.ensures in
     let put = c.in_ok-told-2.ensures.ends told (g.F.Folder.faults c.copy_round.new.folder) in
     let names : g.F.Folder.names c.copy_round.new.folder ≡ told = copied.names ∙ before.names in
+    let high : c.plan.inside.size.h ≡ p.size.h = ap (λ (q : Planned). q.size.h) c.plan.view_is in
     let all : length c.loop-line.workers ≡ c.len-count.result - 1 + 1 = omega (arith, before.count, c.requires.some, c.len-count.ensures) in
     let next : top_of p.size.h c.args.task.now.rows c.loop-line.line (length c.loop-line.workers) ≡ c.portion_of.result.end = ap (top_of p.size.h c.args.task.now.rows c.loop-line.line) all ∙ sym c.portion_of.ensures.end in
     record {
-      below = omega arith;
+      below = omega (arith, c.portion_of.ensures.within, high);
       workers = copied.workers;
       count = c.copy_round.auto.workers ∙ before.count;
       empty = copied.empty;
@@ -126,5 +128,7 @@ loop-line-smaller g c =
     let p = c.args.task.now.translation.now.plan in
     let before = c.loop-line.invariant in
     let all : length c.loop-line.workers ≡ c.len-count.result - 1 + 1 = omega (arith, before.count, c.requires.some, c.len-count.ensures) in
-    let more = top_more p.size.h c.args.task.now.rows c.loop-line.line (length c.loop-line.workers) c.loop-line-test.true c.requires.task.some_rows (omega (arith, before.count, c.requires.some)) in
-    omega (arith, more, c.portion_of.ensures.end, all)
+    let high : c.plan.inside.size.h ≡ p.size.h = ap (λ (q : Planned). q.size.h) c.plan.view_is in
+    let more = top_more p.size.h c.args.task.now.rows c.loop-line.line (length c.loop-line.workers) (omega (arith, c.loop-line-test.true, high)) c.requires.task.some_rows (omega (arith, before.count, c.requires.some)) in
+    let next : top_of p.size.h c.args.task.now.rows c.loop-line.line (length c.loop-line.workers) ≡ c.portion_of.result.end = ap (top_of p.size.h c.args.task.now.rows c.loop-line.line) all ∙ sym c.portion_of.ensures.end in
+    omega (arith, more, next, high, c.portion_of.ensures.within)
