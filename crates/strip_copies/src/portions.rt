@@ -1,8 +1,8 @@
 // How many lines several workers make at a time, each of them lines of its own.
-ghost use Rattle.std.specs.Prelude.{◌≡◌, ◌<◌, ◌≤◌, ◌*◌, IfSome, length};
+ghost use Rattle.std.specs.Prelude.{◌≡◌, ◌≤◌, ◌*◌, IfSome, length};
 ghost use Rattle.band_blocks.specs.Blocks.{most_blocks};
 ghost use Rattle.strip_copies.specs.Copies.{IsTranslation};
-ghost use Rattle.strip_copies.specs.Heights.{most_packed};
+ghost use Rattle.strip_copies.specs.Heights.{most_packed, most_samples};
 
 use crate::height::{is_made, is_tall, lines_alone, lines_each, share_of};
 use crate::translation::Translation;
@@ -26,6 +26,9 @@ const FEWEST_PACKED: u64 = 262_144;
 // The most samples of an output that is packed whole.
 const MOST_PACKED: u64 = 16_777_216;
 
+// The most columns that a lane holds: its most blocks.
+const MOST_COLUMNS: u32 = 65_536;
+
 // The samples of a line of all bands.
 fn line_of(plan: &Plan) -> u64
     ensures line { result ≡ plan.now.size.w * length plan.now.bands }
@@ -36,12 +39,38 @@ fn line_of(plan: &Plan) -> u64
     u64::from(plan.size.w) * u64::from(plan.count())
 }
 
+// The samples of an output.
+fn samples_of(plan: &Plan) -> u64
+    ensures samples { result ≡ plan.now.size.w * length plan.now.bands * plan.now.size.h }
+{
+    plan.rules();
+    line_of(plan) * u64::from(plan.size.h)
+}
+
 // Whether there are enough samples for so many workers.
 fn pays(plan: &Plan, workers: u32) -> bool
     requires workers { 1 ≤ workers }
 {
-    plan.rules();
-    line_of(plan) * u64::from(plan.size.h) / u64::from(workers) >= FEWEST_PACKED
+    samples_of(plan) / u64::from(workers) >= FEWEST_PACKED
+}
+
+// How many of so many lines each of so many workers has.
+fn lines_shared(height: u32, workers: u32) -> u32
+    requires some { 1 ≤ height }
+    requires workers { 1 ≤ workers }
+    ensures some { 1 ≤ result }
+    ensures few { result ≤ height }
+{
+    height.div_ceil(workers)
+}
+
+// The most lines that have so many samples, where each has so many.
+fn lines_in(samples: usize, line: u64) -> u32
+    requires few { samples ≤ most_samples }
+    requires some { 1 ≤ line }
+    ensures bound { result * line ≤ most_samples }
+{
+    (samples as u64 / line) as u32
 }
 
 // The most lines of a portion, by the lines that a worker's share of the memory holds: of a mosaic those of a square,
@@ -57,7 +86,7 @@ fn most_rows(translation: &Translation, share: u32, workers: u32) -> u32
     if is_made(&translation.cat) {
         return share.min(lines_each(&translation.cat));
     }
-    share.min(plan.size.h.div_ceil(workers))
+    share.min(lines_shared(plan.size.h, workers))
 }
 
 // Portions of a translation that reads lines or squares: all of them together have 4,194,304 samples at most.
@@ -69,11 +98,13 @@ fn line_portions(translation: &Translation, workers: u32) -> Option<Portions>
     ensures bound { IfSome result (λ s. s.rows * (translation.now.plan.size.w * length translation.now.plan.bands) ≤
         most_packed) }
 {
-    let share = share_of(workers) as u64 / line_of(&translation.plan);
+    let plan = &translation.plan;
+    let line = line_of(plan);
+    let share = lines_in(share_of(workers), line);
     if share == 0 {
         return None;
     }
-    let rows = most_rows(translation, share as u32, workers);
+    let rows = most_rows(translation, share, workers);
     Some(Portions {
         rows,
         step: lines_alone(translation).min(rows),
@@ -95,10 +126,14 @@ fn cell_portions(translation: &Translation, workers: u32) -> Option<Portions>
     let plan = &translation.plan;
     plan.rules();
     let columns = translation.cat.head(translation.id).size.w;
-    if columns > 65_536 || line_of(plan) * u64::from(plan.size.h) > MOST_PACKED {
+    if columns > MOST_COLUMNS {
         return None;
     }
-    let rows = plan.size.h.div_ceil(workers);
+    let samples = samples_of(plan);
+    if samples > MOST_PACKED {
+        return None;
+    }
+    let rows = lines_shared(plan.size.h, workers);
     Some(Portions {
         rows,
         step: lines_alone(translation).min(rows),
