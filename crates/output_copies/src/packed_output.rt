@@ -75,7 +75,7 @@ fn copy_hired<R: Threads + Sync, F: Folder, O: Sink, W: Ledger, S: Scene>(
 }
 
 /// How lines are packed, and how many of them each worker makes and reads at a time.
-#[derive(Clone, Copy)]
+#[derive(Drop)]
 pub struct Shares {
     pub packing: Packing,
     pub portions: Portions,

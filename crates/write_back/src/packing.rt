@@ -23,7 +23,7 @@ pub(crate) enum LineForm {
 
 /// How lines of a band are packed into the bytes of an output, each of whose blocks is such a line. It may be shared
 /// by those that pack lines beside each other. Contracts see it as what writes them.
-#[derive(Clone, Copy)]
+#[derive(Drop)]
 pub struct Packing {
     form: LineForm,
 }
