@@ -74,7 +74,7 @@ fn lines_in(samples: usize, line: u64) -> u32
 }
 
 // The most lines of a portion, by the lines that a worker's share of the memory holds: of a mosaic those of a square,
-// so that none is made twice.
+// so that none is made twice; of a file a quarter, so that the packed lines of all workers take little fresh room.
 fn most_rows(translation: &Translation, share: u32, workers: u32) -> u32
     requires some { 1 ≤ share }
     requires workers { 1 ≤ workers }
@@ -86,7 +86,7 @@ fn most_rows(translation: &Translation, share: u32, workers: u32) -> u32
     if is_made(&translation.cat) {
         return share.min(lines_each(&translation.cat));
     }
-    share.min(lines_shared(plan.size.h, workers))
+    (share / 4).max(1).min(lines_shared(plan.size.h, workers))
 }
 
 // Portions of a translation that reads lines or squares: all of them together have 4,194,304 samples at most.
