@@ -19,7 +19,7 @@ use Rattle.lists_and_answers.specs.Answers.{◌>>=◌}
 use Rattle.lists_and_answers.specs.Texts.{is_white}
 use Rattle.ascii_grid.specs.Values.{is_body_start, value_in}
 use Rattle.ascii_grid.specs.Keys.{key_of, with_value, shape_of}
-use Rattle.ascii_grid.specs.Grid.{Head, Grid, IsHead, head_with, head_of, body_of, rows_of, nothing, grid_in, grid_of, grid_head, ascii_in, ascii_at, line_of, AreRising}
+use Rattle.ascii_grid.specs.Grid.{Head, Grid, IsHead, head_with, head_of, body_of, rows_of, nothing, grid_in, grid_of, grid_head, ascii_by, ascii_at, line_of, AreRising}
 use Rattle.ascii_grid.specs.Row.{value_or_zero, or_zero, row_of, ended_in}
 use Rattle.ascii_grid.proofs.Places.{tok_white, tok_inside, tok_begins, texts, stands, Stands, rows_is, place_at}
 use Rattle.ascii_grid.proofs.Ended.{ended_between, then_rest}
@@ -216,7 +216,7 @@ line_from text g y p is kept short place =
     let room : a.shape.w ≤ length (drop (y * a.shape.w) g.values) = row_room text a.shape g.values a.body y a.grid y_in in
     ap (λ w. row_of w (drop p text)) w_is ∙ values_are ∙ values_line g.values a.shape.w y room
     ∙ ap (λ w. map (λ i. get_or g.values (y * w + (0 + i)) (pos 0)) (range_with_len 0 w)) (sym w_is)
-    ∙ ap (λ (q : Result Grid GridFault). map (λ i. ascii_in q (0 + i) y) (range_with_len 0 g.head.size.w)) (sym is)
+    ∙ ap (λ (q : Result Grid GridFault). map (λ i. ascii_by q (0 + i) y) (range_with_len 0 g.head.size.w)) (sym is)
 
 -- the row of a place is its line of the grid
 pub row_is_line : (text : List ℕ) (h : Head) (y p : ℕ) → grid_head text ≡ Ok h → IsHead h → length text < 2 ^ 64 → slice_get h.rows y ≡ Some p → row_of h.size.w (drop p text) ≡ line_of text 0 y h.size.w

@@ -102,12 +102,12 @@ abbrev pub value_at : Grid → ℕ → ℕ → ℤ
 value_at g x y = get_or g.values (y * g.head.size.w + x) (pos 0)
 
 -- the value of a text in column x, line y, where it is a grid
-abbrev pub ascii_in : Result Grid GridFault → ℕ → ℕ → ℤ
-ascii_in (Ok g) x y = value_at g x y
-ascii_in (Err f) x y = pos 0
+abbrev pub ascii_by : Result Grid GridFault → ℕ → ℕ → ℤ
+ascii_by (Ok g) x y = value_at g x y
+ascii_by (Err f) x y = pos 0
 
 abbrev pub ascii_at : List ℕ → ℕ → ℕ → ℤ
-ascii_at text x y = ascii_in (grid_of text) x y
+ascii_at text x y = ascii_by (grid_of text) x y
 
 -- n values of a text from column x of line y on
 abbrev pub line_of : List ℕ → ℕ → ℕ → ℕ → List ℤ

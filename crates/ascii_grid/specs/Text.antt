@@ -3,6 +3,7 @@ use Rattle.std.specs.Prelude.{◌≡◌, ◌-◌, ◌<ℤ◌, ℕ, ℤ, pos, neg
 use Rattle.std.specs.Prelude.{◌++◌, length, replicate, Option, Some, None, Ok, codes, if◌then◌else◌}
 use Rattle.std.specs.List.{flat_map, All}
 use Rattle.std.specs.Fmt.{decimal, signed_decimal}
+use Rattle.lists_and_answers.specs.Bytes.{line_feed, space_byte}
 use Rattle.geotransform.specs.Print.{short_text, unit}
 use Rattle.geotransform.specs.Places.{sixteen_places, are_same}
 use Rattle.geotransform.specs.Geo.{Transform, IsNear, along}
@@ -14,11 +15,11 @@ use Rattle.ascii_grid.specs.Grid.{grid_of}
 
 -- a key's name, filled with spaces to 13 columns
 abbrev pub label : List ℕ → List ℕ
-label key = key ++ replicate (13 - length key) 32
+label key = key ++ replicate (13 - length key) space_byte
 
 -- a key, its value and a line feed
 abbrev pub line : List ℕ → List ℕ → List ℕ
-line key value = label key ++ (value ++ 10 ∷ [])
+line key value = label key ++ (value ++ line_feed ∷ [])
 
 -- the edges and the sizes that are written, rounded to 16 places: those of a geotransform, or else the place 0 and
 -- sizes of one unit
@@ -55,12 +56,12 @@ head_text size geo nodata = head_lines size (placing_of size geo) nodata
 
 -- a value behind another
 abbrev pub more_text : ℤ → List ℕ
-more_text x = 32 ∷ signed_decimal x
+more_text x = space_byte ∷ signed_decimal x
 
 -- the values of a row, one space between two, and a line feed
 abbrev pub row_text : List ℤ → List ℕ
-row_text [] = 10 ∷ []
-row_text (x ∷ xs) = signed_decimal x ++ (flat_map more_text xs ++ 10 ∷ [])
+row_text [] = line_feed ∷ []
+row_text (x ∷ xs) = signed_decimal x ++ (flat_map more_text xs ++ line_feed ∷ [])
 
 -- rows of values of the band, all of this length
 pub record AreRows (w : ℕ) (rows : List (List ℤ)) : Type 0 where

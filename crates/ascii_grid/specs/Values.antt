@@ -1,9 +1,10 @@
 -- What a token says.
-use Rattle.std.specs.Prelude.{ℕ, ℤ, pos, Bool, true, false, ◌&&◌, ◌||◌, List, [], ◌∷◌, length, codes, Option, Some}
+use Rattle.std.specs.Prelude.{ℕ, ℤ, pos, Bool, true, false, ◌&&◌, ◌||◌, List, [], ◌∷◌, length, codes, Option}
 use Rattle.std.specs.Prelude.{None, Result, Ok, Err, ok_or, nat_lt, nat_le, ◌==◌, if◌then◌else◌, int_lt, unsigned_abs}
 use Rattle.std.specs.List.{list_all}
 use Rattle.std.specs.Char.{is_ascii_digit}
 use Rattle.lists_and_answers.specs.Answers.{◌>>=◌}
+use Rattle.lists_and_answers.specs.Bytes.{plus_sign, minus_sign, point, zero_digit}
 use Rattle.lists_and_answers.specs.Texts.{same_letters}
 use Rattle.geotransform.specs.Decimal.{ticks_of, whole_of, is_decimal, sign_at, digits_at, number, signed, number_of}
 use Rattle.geotransform.specs.Types.{is_in, when_in}
@@ -45,7 +46,7 @@ nodata_in at text = if is_decimal text || same_letters text (codes "nan") then O
 -- an optional point with at least one zero behind it and nothing else
 abbrev pub is_whole_end : List ℕ → Bool
 is_whole_end [] = true
-is_whole_end (c ∷ cs) = (c == 46) && (nat_lt 0 (length cs) && list_all (λ d. d == 48) cs)
+is_whole_end (c ∷ cs) = (c == point) && (nat_lt 0 (length cs) && list_all (λ d. d == zero_digit) cs)
 
 -- an optional sign, digits, and optionally a point with zeros alone behind it
 abbrev pub is_whole_text : List ℕ → Bool
@@ -68,4 +69,4 @@ value_in at text =
 -- whether a token in a key's place ends the head: it begins with a digit, a sign or a point
 abbrev pub is_body_start : List ℕ → Bool
 is_body_start [] = false
-is_body_start (c ∷ cs) = is_ascii_digit c || ((c == 43) || ((c == 45) || (c == 46)))
+is_body_start (c ∷ cs) = is_ascii_digit c || ((c == plus_sign) || ((c == minus_sign) || (c == point)))

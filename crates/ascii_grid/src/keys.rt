@@ -167,14 +167,14 @@ fn top_of(bottom: i128, height: i128) -> Ticks
     Ticks::of(bottom + height)
 }
 
-// So many ticks to the right.
+// A step to the east, in ticks.
 fn eastward(step: Step) -> Ticks
     ensures { result ≡ pos step }
 {
     Ticks::of(step.get() as i128)
 }
 
-// So many ticks down.
+// A step to the south, in ticks.
 fn southward(step: Step) -> Ticks
     ensures { result ≡ neg_ℤ (pos step) }
 {

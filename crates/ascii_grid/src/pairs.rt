@@ -7,8 +7,9 @@ ghost use Rattle.ascii_grid.specs.Keys.{key_of};
 
 use crate::head_parts::Key;
 use crate::keys::key_of;
-use crate::tokens::{LONGEST_TOKEN, dark_end, dark_len, is_white, white_end};
+use crate::tokens::{LONGEST_TOKEN, dark_end, dark_len, white_end};
 use crate::values::is_body_start;
+use lists_and_answers::is_white;
 
 /// A key, how many bytes it has, and where its value begins and ends.
 #[derive(Clone, Copy)]

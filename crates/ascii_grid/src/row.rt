@@ -9,8 +9,9 @@ ghost use Rattle.ascii_grid.specs.Row.{value_or_zero, put, reading, row_ended, r
 ghost use Rattle.ascii_grid.specs.Row.{row_of, ended_in, ended_from, fresh, HasRead};
 
 use crate::open::Open;
-use crate::tokens::{LONGEST_TOKEN, dark_len, is_white, white_len};
+use crate::tokens::{LONGEST_TOKEN, dark_len, white_len};
 use crate::values::{value_at, value_in};
+use lists_and_answers::is_white;
 use std::marker::Model;
 
 /// What was read of a row so far: how many samples are filled, the token that is open, and whether an

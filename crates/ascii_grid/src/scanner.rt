@@ -20,9 +20,10 @@ use crate::open::Open;
 use crate::pairs::pair_at;
 use crate::starts::Starts;
 use crate::steps::{add_number, add_token, count_later, needed};
-use crate::tokens::{LONGEST_TOKEN, dark_len, is_white, white_len};
+use crate::tokens::{LONGEST_TOKEN, dark_len, white_len};
 use crate::values::value_at;
 use geotransform::Size;
+use lists_and_answers::is_white;
 use std::alloc::Global;
 use std::marker::Model;
 
@@ -200,7 +201,7 @@ impl Scanner {
         at
     }
 
-    // So where the head isn't at its end.
+    // Takes pairs of the head in front, where the scanner stands at a key, and answers how many bytes they have.
     fn add_head(&mut self, bytes: &[u8]) -> usize
         ensures within { result ≤ length bytes.now }
         ensures state { self.new ≡ fed self.old (take result bytes.now) }

@@ -4,19 +4,13 @@ ghost use Rattle.lists_and_answers.specs.Texts.{is_white};
 ghost use Rattle.ascii_grid.specs.Tokens.{next};
 
 use geotransform::LONGEST_DECIMAL;
+use lists_and_answers::is_white;
 
 /// The most bytes of a token.
 pub const LONGEST_TOKEN: usize = LONGEST_DECIMAL;
 
 /// How many bytes of a token are kept: one more than it may have.
 pub const MOST_KEPT: usize = LONGEST_TOKEN + 1;
-
-/// Whether the byte is white space.
-pub fn is_white(c: u8) -> bool
-    ensures { result ≡ is_white c }
-{
-    c == b' ' || (9 <= c && c <= 13)
-}
 
 /// The place of the next byte.
 pub fn next(at: u64) -> u64

@@ -14,13 +14,13 @@ ghost use Rattle.ascii_grid.specs.Row.{value_or_zero};
 
 use crate::faults::GridFault;
 use crate::head_parts::{Coordinate, Side, Step, Value};
-use crate::tokens::{LONGEST_TOKEN, is_white};
+use crate::tokens::LONGEST_TOKEN;
 use geotransform::decimal::{digits_at, sign_at};
 use geotransform::{
     LONGEST_DECIMAL, MOST_SHORT_DIGITS, MOST_SIDE, PixelType, Ticks, is_decimal, read_decimal,
     read_number, read_whole, when_in,
 };
-use lists_and_answers::same_letters;
+use lists_and_answers::{is_white, same_letters};
 
 /// The most digits behind the sign of a token.
 const MOST_BEHIND_SIGN: usize = LONGEST_TOKEN - 1;

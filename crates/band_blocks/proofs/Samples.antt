@@ -30,7 +30,7 @@ use Rattle.catalog.proofs.PixelLaws.{file_is_sample}
 use Rattle.catalog.proofs.Walked.{dataset_kept}
 use Rattle.band_blocks.specs.declared.key.BlockKey.{BlockKey}
 use Rattle.band_blocks.specs.declared.key.PixelKey.{PixelKey}
-use Rattle.band_blocks.specs.Contents.{calls_in, content_calls, calls_of, most_calls, kind_of}
+use Rattle.band_blocks.specs.Contents.{driver_calls, content_calls, calls_of, most_calls, kind_of}
 use Rattle.band_blocks.specs.Keys.{IsKeyOf, IsPixelKeyOf}
 use Rattle.band_blocks.specs.Open.{AreGood}
 use Rattle.band_blocks.specs.Samples.{HasPlaces, HasSample, IsDirect, IsOfType, place_of, width_of}
@@ -123,7 +123,7 @@ module _ (cat : List Dataset) (key : PixelKey) (d : Dataset) (valid : IsCatalog 
   pub one_read : (driver : DriverHead) → d.content ≡ File driver → 1 ≤ most_calls cat
   one_read driver file =
       let key' = block_key key d in
-      let some : 1 ≤ calls_of d key' = subst (λ (c : Content). 1 ≤ content_calls c d.length key'.block) (sym file) (let n : 1 ≤ calls_in driver d.length key'.block = omega arith in n) in
+      let some : 1 ≤ calls_of d key' = subst (λ (c : Content). 1 ≤ content_calls c d.length key'.block) (sym file) (let n : 1 ≤ driver_calls driver d.length key'.block = omega arith in n) in
       let most = calls_within cat key' d in_block in
       omega (arith, some, most)
 

@@ -2,6 +2,7 @@
 pub mod Keys
 pub mod Blocks
 pub mod Contents
+pub mod Cuts
 pub mod Samples
 pub mod Open
 pub mod Spread

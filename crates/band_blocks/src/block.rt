@@ -4,8 +4,9 @@ ghost use Rattle.std.specs.Prelude.{get_or, slice_index_or, slice_set};
 ghost use Rattle.std.specs.List.{range_with_len, All};
 ghost use Rattle.geotransform.specs.Types.{is_in, clamp};
 ghost use Rattle.geotransform.specs.declared.types.PixelType.TheVariants.{Int16, Int32};
-ghost use Rattle.interleaved_raw.specs.Raw.{run_of as sample_of, bytes_at, sample_bytes, Holds, IsBetween};
+ghost use Rattle.interleaved_raw.specs.Raw.{strided_at as sample_of, bytes_at, sample_bytes, Holds, IsBetween};
 ghost use Rattle.lists_and_answers.specs.Places.{StandsAt};
+ghost use Rattle.dted_records.specs.Head.{most_counted};
 ghost use Rattle.dted_records.specs.Places.{record_len, record_of};
 ghost use Rattle.dted_records.specs.Records.{column_of, elevation_in};
 ghost use Rattle.dted_records.specs.Written.{IsElevation, record_bytes};
@@ -304,8 +305,8 @@ impl Block {
     /// Writes the samples, which run from north to south, as the record of a line of a cell.
     pub fn encode_record(&self, line: u32, bytes: &mut [u8])
         requires kind { self.now.kind ≡ Int16 }
-        requires line { line < 9999 }
-        requires few { length self.now.samples ≤ 9999 }
+        requires line { line < most_counted }
+        requires few { length self.now.samples ≤ most_counted }
         requires len { length bytes.old ≡ 12 + 2 * length self.now.samples }
         requires range { All IsElevation self.now.samples }
         ensures bytes { bytes.new ≡ record_bytes line self.now.samples }

@@ -4,7 +4,7 @@ ghost use Rattle.outside.specs.Causes.{HasCause, FailsWith, one_more};
 ghost use Rattle.catalog.specs.Drivers.{IsLongEnough};
 ghost use Rattle.catalog.specs.Pixels.{sample_in, IsHeadOf};
 ghost use Rattle.catalog.specs.Places.{row_by_row};
-ghost use Rattle.band_blocks.specs.Contents.{calls_in, kind_of, Covers, IsPart};
+ghost use Rattle.band_blocks.specs.Contents.{driver_calls, kind_of, Covers, IsPart};
 ghost use Rattle.band_blocks.specs.Open.{IsUnchanged};
 ghost use Rattle.geotransform.specs.Types.{is_in};
 ghost use Rattle.lists_and_answers.specs.Places.{StandsAt};
@@ -45,7 +45,7 @@ pub(crate) fn read_block<F: Folder>(
     ensures bytes { F.file_bytes file.new ≡ F.file_bytes file.old }
     ensures len { F.file_len file.new ≡ F.file_len file.old }
     ensures names { F.names folder.new ≡ F.names folder.old }
-    ensures reads { F.read_calls folder.new ≤ F.read_calls folder.old + calls_in driver.now (F.file_len file.old)
+    ensures reads { F.read_calls folder.new ≤ F.read_calls folder.old + driver_calls driver.now (F.file_len file.old)
         rect.y }
     ensures write_calls { F.write_calls folder.new ≡ F.write_calls folder.old }
     ensures cause { HasCause LoadFault.FolderFault (F.faults folder.old) (F.faults folder.new) result }

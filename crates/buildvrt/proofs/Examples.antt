@@ -7,7 +7,7 @@ use Rattle.geotransform.specs.declared.types.PixelType.{PixelType}
 use Rattle.geotransform.specs.declared.types.PixelType.TheVariants.{Int16, Byte}
 use Rattle.vrt_profile.specs.Values.{SourceValue, DocumentValue}
 use Rattle.catalog.specs.Dataset.{DatasetHead}
-use Rattle.catalog.specs.Drivers.{hgt_head}
+use Rattle.catalog.specs.Drivers.{hgt_dataset_head}
 use Rattle.catalog.specs.declared.kind.Kind.TheVariants.{Raw}
 use Rattle.buildvrt.specs.Options.{Options}
 use Rattle.buildvrt.specs.declared.options.Resolution.TheVariants.{Average}
@@ -24,10 +24,10 @@ abbrev plain : Options
 plain = record { out = codes "out.vrt"; bands = []; resolution = Average; extent = None; src_nodata = Absent; vrt_nodata = Absent; separate = false; strict = false }
 
 abbrev west : DatasetHead
-west = hgt_head (codes "N00E000.hgt") 1201
+west = hgt_dataset_head (codes "N00E000.hgt") 1201
 
 abbrev east : DatasetHead
-east = hgt_head (codes "N00E001.hgt") 1201
+east = hgt_dataset_head (codes "N00E001.hgt") 1201
 
 -- a dataset with a place and two bands
 abbrev two : DatasetHead

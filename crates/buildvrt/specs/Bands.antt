@@ -25,27 +25,28 @@ source_nodata (Number n) own = Some n
 source_nodata Remove own = None
 source_nodata Absent own = own
 
--- The NODATA that a band is to have, by the option for the mosaic, then by that for the sources, then from the band
--- that it is taken from. It has it where it is a number of its type.
+-- the NODATA of the option for the sources, where it is a number, else that of the band
 abbrev pub wanted_by_source : NodataWord → Option ℤ → Option ℤ
 wanted_by_source (Number n) own = Some n
 wanted_by_source Remove own = own
 wanted_by_source Absent own = own
 
+-- The NODATA that a band is to have, by the option for the mosaic, then by that for the sources, then from the band
+-- that it is taken from. It has it where it is a number of its type.
 abbrev pub wanted_nodata : NodataWord → NodataWord → Option ℤ → Option ℤ
 wanted_nodata (Number n) src own = Some n
 wanted_nodata Remove src own = None
 wanted_nodata Absent src own = wanted_by_source src own
 
 -- the NODATA of a dataset's band
-abbrev pub own_nodata : Option BandHead → Option ℤ
-own_nodata None = None
-own_nodata (Some band) = band.nodata
+abbrev pub band_nodata : Option BandHead → Option ℤ
+band_nodata None = None
+band_nodata (Some band) = band.nodata
 
 -- the source that shows the whole of an input's band in a rectangle
 abbrev pub source_of : Options → DatasetHead → ℕ → Rectangle → SourceValue
 source_of o h number shown = plain_source (related o.out h.name) number (whole h.size) shown
-    (source_nodata o.src_nodata (own_nodata (band_of h number)))
+    (source_nodata o.src_nodata (band_nodata (band_of h number)))
 
 -- the source of an input that isn't left out
 abbrev pub source_in : Options → ℕ → PatchValue → Option SourceValue
@@ -67,13 +68,15 @@ band_with o h patches number = option_map (λ band. band_from o band number patc
 abbrev pub common_bands : Options → DatasetHead → List PatchValue → List BandValue
 common_bands o reference patches = filter_map (band_with o reference patches) (taken_bands o reference)
 
--- one band for each input, from its first band
+-- the band of one input alone, from its first band
 abbrev pub own_band : Options → PatchValue → Option BandValue
 own_band o p = band_with o p.head (p ∷ []) 1
 
+-- one band for each input, from its first band
 abbrev pub separate_bands : Options → List PatchValue → List BandValue
 separate_bands o patches = filter_map (own_band o) patches
 
+-- the bands of a mosaic: one for each input, or those of the reference, as it is asked for
 abbrev pub all_bands : Options → DatasetHead → List PatchValue → List BandValue
 all_bands o reference patches = if o.separate then separate_bands o patches else common_bands o reference patches
 
@@ -81,6 +84,7 @@ all_bands o reference patches = if o.separate then separate_bands o patches else
 abbrev pub is_few : ℕ → ℕ → Bool
 is_few bands sources = nat_le bands most_bands && nat_le sources most_sources
 
+-- the bands, where they and their sources are within the limits of a document
 abbrev pub bands_within : List BandValue → Result (List BandValue) BuildFault
 bands_within bands = if is_few (length bands) (source_count bands) then Ok bands else Err Limit
 

@@ -49,10 +49,12 @@ abbrev pub least : Measure → List TileValue → ℤ
 least m [] = pos 0
 least m (t ∷ ts) = least_from m (measure m t) ts
 
+-- the greatest of a measure of some inputs, and 0 of none
 abbrev pub greatest : Measure → List TileValue → ℤ
 greatest m [] = pos 0
 greatest m (t ∷ ts) = greatest_from m (measure m t) ts
 
+-- the mean of a measure of some inputs, rounded to ticks half away from zero
 abbrev pub mean : Measure → List TileValue → ℤ
 mean m tiles = half (sum_from m (pos 0) tiles) (length tiles)
 
@@ -63,10 +65,11 @@ steps_by Lowest tiles = (greatest ColumnStep tiles, greatest LineStep tiles)
 steps_by Average tiles = (mean ColumnStep tiles, mean LineStep tiles)
 steps_by (User dx dy) tiles = (dx, dy)
 
+-- the sides of the mosaic's pixels, by the resolution that is asked for
 abbrev pub steps_of : Options → List TileValue → ℤ × ℤ
 steps_of o tiles = steps_by o.resolution tiles
 
--- the given extent, or the union of the inputs
+-- the union of the inputs
 abbrev pub union_of : List TileValue → Extent
 union_of tiles = record {
   xmin = least Left tiles;
@@ -75,10 +78,12 @@ union_of tiles = record {
   ymax = greatest Top tiles;
 }
 
+-- the given extent, or else the union of the inputs
 abbrev pub extent_by : Option Extent → List TileValue → Extent
 extent_by None tiles = union_of tiles
 extent_by (Some e) tiles = e
 
+-- the extent of a mosaic of inputs
 abbrev pub extent_of : Options → List TileValue → Extent
 extent_of o tiles = extent_by o.extent tiles
 
@@ -90,6 +95,7 @@ some_pixels way step = greater_of (pos 1) (rounded_up way step)
 abbrev pub side_within : ℤ → Option ℕ
 side_within n = if int_lt (pos most_side) n then None else Some (unsigned_abs n)
 
+-- how many pixels of a step a way has, where they are within the limit
 abbrev pub side_of : ℤ → ℤ → Option ℕ
 side_of way step = side_within (some_pixels way step)
 
@@ -116,22 +122,32 @@ grid_by e steps = do
   geo ← rounded_transform e.xmin e.ymax steps.0 steps.1
   Some (record { left = e.xmin; top = e.ymax; dx = steps.0; dy = steps.1; size = record { w = w; h = h }; geo = geo })
 
+-- the grid of a mosaic of inputs, where it is within the limits
 abbrev pub grid_of : Options → List TileValue → Option GridValue
 grid_of o tiles = grid_by (extent_of o tiles) (steps_of o tiles)
 
--- what the numbers of an input keep: a side is above 0 and below 10^12 units, its place is below 10^12 units in
--- magnitude, and its far edges lie at most 4,194,304 such sides away
+-- the sides of a mosaic's pixels stay below so many ticks
+abbrev pub step_limit : ℕ
+step_limit = 10 ^ 35
+
+-- far edges stay below so many ticks in magnitude
+abbrev pub edge_limit : ℕ
+edge_limit = 10 ^ 36
+
+-- the side of a mosaic's pixel is above 0 and below the limit
 pub record IsStep (v : ℤ) : Type 0 where
   pub above : pos 0 <ℤ v
-  pub low : unsigned_abs v < 10 ^ 35
+  pub low : unsigned_abs v < step_limit
 
+-- what the numbers of an input keep: a side is above 0 and below 10^12 units, its place is below 10^12 units in
+-- magnitude, and its far edges lie at most 4,194,304 such sides away
 abbrev pub IsMeasure : Measure → ℤ → Type 0
 IsMeasure ColumnStep v = IsGivenStep v
 IsMeasure LineStep v = IsGivenStep v
 IsMeasure Left v = IsNear v
-IsMeasure Right v = unsigned_abs v < 10 ^ 36
+IsMeasure Right v = unsigned_abs v < edge_limit
 IsMeasure Top v = IsNear v
-IsMeasure Bottom v = unsigned_abs v < 10 ^ 36
+IsMeasure Bottom v = unsigned_abs v < edge_limit
 
 pub record IsSteps (steps : ℤ × ℤ) : Type 0 where
   pub column : IsStep steps.0
@@ -141,9 +157,10 @@ pub record IsSteps (steps : ℤ × ℤ) : Type 0 where
 pub record IsReach (e : Extent) : Type 0 where
   pub left : IsNear e.xmin
   pub top : IsNear e.ymax
-  pub right : unsigned_abs e.xmax < 10 ^ 36
-  pub bottom : unsigned_abs e.ymin < 10 ^ 36
+  pub right : unsigned_abs e.xmax < edge_limit
+  pub bottom : unsigned_abs e.ymin < edge_limit
 
+-- what the grid of a mosaic keeps
 pub record IsGrid (g : GridValue) : Type 0 where
   pub left : IsNear g.left
   pub top : IsNear g.top

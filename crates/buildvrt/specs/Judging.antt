@@ -25,7 +25,7 @@ asked holds reason = if holds then Ok tt else Err reason
 abbrev pub north_up : Transform → Option Transform
 north_up g = if is_north_up g then Some g else None
 
--- that of a dataset, where it is so
+-- the geotransform of a dataset, where its columns go east and its lines go south
 abbrev pub north_up_of : DatasetHead → Option Transform
 north_up_of h = option_and_then north_up h.geo
 
@@ -49,6 +49,7 @@ abbrev pub numbers_or_all : List ℕ → ℕ → List ℕ
 numbers_or_all [] count = range_with_len 1 count
 numbers_or_all (n ∷ ns) count = n ∷ ns
 
+-- the numbers of the bands that are taken of the reference
 abbrev pub taken_bands : Options → DatasetHead → List ℕ
 taken_bands o reference = numbers_or_all o.bands (band_count reference)
 
@@ -61,17 +62,20 @@ abbrev pub band_type : Option BandHead → ℕ
 band_type None = 0
 band_type (Some band) = type_number band.kind
 
+-- whether two datasets have the same type in the band of a number
 abbrev pub same_type : DatasetHead → DatasetHead → ℕ → Bool
 same_type a b n = band_type (band_of a n) == band_type (band_of b n)
 
+-- whether two datasets have the same types in all these bands
 abbrev pub same_types : DatasetHead → DatasetHead → List ℕ → Bool
 same_types a b numbers = list_all (same_type a b) numbers
 
--- where neither bands are chosen nor each input gives a band, all have as many bands
+-- whether no bands are chosen
 abbrev pub no_choice : List ℕ → Bool
 no_choice [] = true
 no_choice (n ∷ ns) = false
 
+-- where neither bands are chosen nor each input gives a band, all have as many bands
 abbrev pub same_count : Options → DatasetHead → DatasetHead → Bool
 same_count o reference h = if no_choice o.bands && not o.separate then band_count h == band_count reference
     else true
@@ -97,14 +101,15 @@ pub record JudgedValue : Type 0 where
   pub tiles : List TileValue
   pub skipped : List Skipped
 
+-- what is judged of no input
 abbrev pub none_judged : JudgedValue
 none_judged = record { tiles = []; skipped = [] }
 
--- these before those
+-- the judged inputs of two lists, those of the first before those of the second
 abbrev pub joined : JudgedValue → JudgedValue → JudgedValue
 joined a b = record { tiles = a.tiles ++ b.tiles; skipped = a.skipped ++ b.skipped }
 
--- one input by its number
+-- what is judged of one input, which has this number
 abbrev pub one_judged : ℕ → Result TileValue Reason → JudgedValue
 one_judged number (Ok tile) = record { tiles = tile ∷ []; skipped = [] }
 one_judged number (Err reason) = record { tiles = []; skipped = record { input = number; reason = reason } ∷ [] }
@@ -120,23 +125,27 @@ abbrev pub first_judged : ℕ → Result TileValue Reason → JudgedValue → Ju
 first_judged number (Ok tile) behind later = joined (one_judged number (Ok tile)) behind
 first_judged number (Err reason) behind later = joined (one_judged number (Err reason)) later
 
+-- the inputs from one on, which has this number, as long as there is no reference
 abbrev pub judged_from : Options → ℕ → List DatasetHead → JudgedValue
 judged_from o number [] = none_judged
 judged_from o number (h ∷ hs) =
     first_judged number (judged_alone o h) (judged_behind o h (suc number) hs) (judged_from o (suc number) hs)
 
+-- what is judged of all inputs
 abbrev pub judged_of : Options → List DatasetHead → JudgedValue
 judged_of o heads = judged_from o 0 heads
 
--- where nothing may be skipped, the first skipped input is refused
+-- the name of a dataset, if there is one
 abbrev pub name_of : Option DatasetHead → List ℕ
 name_of None = []
 name_of (Some h) = h.name
 
+-- the refusal of the first skipped input, where one is skipped
 abbrev pub first_refused : List DatasetHead → List Skipped → Result (Unit {0}) BuildFault
 first_refused heads [] = Ok tt
 first_refused heads (s ∷ ss) = Err (Strict (name_of (slice_get heads s.input)) s.reason)
 
+-- where nothing may be skipped, the first skipped input is refused
 abbrev pub strictly : Options → List DatasetHead → List Skipped → Result (Unit {0}) BuildFault
 strictly o heads skipped = if o.strict then first_refused heads skipped else Ok tt
 

@@ -9,6 +9,7 @@ use Rattle.catalog.specs.declared.nodata.NodataWord.{NodataWord}
 use Rattle.catalog.specs.declared.nodata.NodataWord.TheVariants.{Absent, Remove, Number}
 use Rattle.geotransform.specs.Limits.{most_bands}
 
+-- what a mosaic of inputs is asked for, by its options
 pub record Options : Type 0 where
   -- the name of the document that the mosaic is for
   pub out : List ℕ
@@ -26,6 +27,7 @@ pub record IsGivenStep (v : ℤ) : Type 0 where
   pub above : pos 0 <ℤ v
   pub near : IsNear v
 
+-- what a resolution keeps: given pixel sizes are in their limits
 abbrev pub IsResolution : Resolution → Type 0
 IsResolution Highest = Unit {0}
 IsResolution Lowest = Unit {0}

@@ -28,6 +28,7 @@ rectangle_of g t = record {
 abbrev pub meets_side : ℤ → ℤ → ℕ → Bool
 meets_side x w side = int_lt x (pos side) && int_lt (pos 0) (x +ℤ w)
 
+-- whether a rectangle of pixels meets a raster
 abbrev pub meets : Size → PixelRect → Bool
 meets size r = meets_side r.x r.w size.w && meets_side r.y r.h size.h
 
@@ -35,6 +36,7 @@ meets size r = meets_side r.x r.w size.w && meets_side r.y r.h size.h
 abbrev pub is_offset : ℤ → Bool
 is_offset v = nat_le (unsigned_abs v) farthest
 
+-- whether a rectangle of pixels is within the limits of a document
 abbrev pub is_within : PixelRect → Bool
 is_within r = is_offset r.x && (is_offset r.y && (is_offset r.w && is_offset r.h))
 
@@ -51,33 +53,40 @@ pub record PatchValue : Type 0 where
   pub head : DatasetHead
   pub shown : Option Rectangle
 
+-- the patch of an input in a grid
 unfoldable pub patch_of : GridValue → TileValue → Result PatchValue BuildFault
 patch_of g t = do
   shown ← shown_at g.size (rectangle_of g t)
   Ok (record { head = t.head; shown = shown })
 
+-- a patch before others
 abbrev pub with_patch : PatchValue → List PatchValue → Result (List PatchValue) BuildFault
 with_patch p ps = Ok (p ∷ ps)
 
--- all inputs, in order
+-- the rectangles of all inputs, in order
 abbrev pub patches_of : GridValue → List TileValue → Result (List PatchValue) BuildFault
 patches_of g [] = Ok []
 patches_of g (t ∷ ts) = patch_of g t >>= λ p. (patches_of g ts >>= with_patch p)
 
+-- places and sides of a rectangle of pixels stay below it in magnitude
+abbrev pub pixel_limit : ℕ
+pixel_limit = 3 * 10 ^ 37
+
 -- what is known of a rectangle of pixels
 pub record IsPixelRect (r : PixelRect) : Type 0 where
-  pub left : unsigned_abs r.x < 3 * 10 ^ 37
-  pub top : unsigned_abs r.y < 3 * 10 ^ 37
+  pub left : unsigned_abs r.x < pixel_limit
+  pub top : unsigned_abs r.y < pixel_limit
   pub some_width : pos 0 <ℤ r.w
   pub some_height : pos 0 <ℤ r.h
-  pub width : unsigned_abs r.w < 3 * 10 ^ 37
-  pub height : unsigned_abs r.h < 3 * 10 ^ 37
+  pub width : unsigned_abs r.w < pixel_limit
+  pub height : unsigned_abs r.h < pixel_limit
 
+-- what a patch keeps
 pub record IsPatch (p : PatchValue) : Type 0 where
   pub head : IsDatasetHead p.head
   pub shown : IfSome p.shown IsRectangle
 
--- these inputs before those
+-- these rectangles before those that are still made
 abbrev pub then_patches : List PatchValue → Result (List PatchValue) BuildFault → Result (List PatchValue) BuildFault
 then_patches before (Ok patches) = Ok (before ++ patches)
 then_patches before (Err fault) = Err fault

@@ -1,14 +1,14 @@
 // The bands of a mosaic and their sources.
-ghost use Rattle.std.specs.Prelude.{◌≡◌, ℕ, ℤ, pos, ◌<◌, ◌≤◌, ◌*◌, ◌^◌, ◌++◌, ◌∷◌, [], true, length, Some, IfOk};
+ghost use Rattle.std.specs.Prelude.{◌≡◌, ℕ, ℤ, pos, ◌<◌, ◌≤◌, ◌*◌, ◌++◌, ◌∷◌, [], true, length, Some, IfOk};
 ghost use Rattle.std.specs.Prelude.{IfSome, OnOk, unsigned_abs};
 ghost use Rattle.std.specs.List.{All, filter_map};
-ghost use Rattle.geotransform.specs.Types.{is_in, when_in};
+ghost use Rattle.geotransform.specs.Limits.{whole_limit};
 ghost use Rattle.lists_and_answers.specs.Answers.{Gives};
 ghost use Rattle.buildvrt.specs.Options.{IsBandNumber, IsWord};
 ghost use Rattle.buildvrt.specs.Judging.{has_bands, band_of, taken_bands};
 ghost use Rattle.buildvrt.specs.Rectangles.{IsPatch};
 ghost use Rattle.buildvrt.specs.Mosaic.{IsMemory};
-ghost use Rattle.buildvrt.specs.Bands.{source_nodata, wanted_nodata, own_nodata, source_of};
+ghost use Rattle.buildvrt.specs.Bands.{source_nodata, wanted_nodata, band_nodata, source_of};
 ghost use Rattle.buildvrt.specs.Bands.{source_in, band_from, band_with, common_bands, own_band, separate_bands};
 ghost use Rattle.buildvrt.specs.Bands.{all_bands, bands_within, shown_count, is_few, FitsDocument};
 ghost use Rattle.catalog.specs.Dataset.{most_datasets};
@@ -18,7 +18,7 @@ use crate::judging::{band_of, head_rules, taken_bands};
 use crate::options::BuildOptions;
 use crate::patch::Patch;
 use catalog::{BandHead, Head, NodataWord};
-use geotransform::{PixelType, Sample, holds};
+use geotransform::{Sample, when_in};
 use std::alloc::{AllocError, Global};
 use vrt_profile::{BandList, MicroRect, Source, SourceList, VrtBand, plain_source, whole_rect};
 
@@ -30,9 +30,9 @@ const MOST_SOURCES: usize = catalog::MOST_SOURCES as usize;
 // The NODATA of a source, from that of the input's band.
 fn source_nodata(word: NodataWord, own: Option<Sample>) -> Option<Sample>
     requires word { IsWord word }
-    requires own { IfSome own (λ n. unsigned_abs n < 10 ^ 20) }
+    requires own { IfSome own (λ n. unsigned_abs n < whole_limit) }
     ensures nodata { result ≡ source_nodata word own }
-    ensures rules { IfSome result (λ n. unsigned_abs n < 10 ^ 20) }
+    ensures rules { IfSome result (λ n. unsigned_abs n < whole_limit) }
 {
     match word {
         NodataWord::Number(n) => Some(n),
@@ -55,23 +55,12 @@ fn wanted_nodata(mosaic: NodataWord, source: NodataWord, own: Option<Sample>) ->
     }
 }
 
-// The number, where it is one of the type.
-fn when_in(kind: PixelType, nodata: Option<Sample>) -> Option<Sample>
-    ensures nodata { result ≡ when_in kind nodata }
-    ensures rules { IfSome result (λ n. is_in kind n ≡ true) }
-{
-    match nodata {
-        None => None,
-        Some(n) => { if holds(kind, n) { Some(n) } else { None } }
-    }
-}
-
 // The NODATA of a dataset's band.
 #[tactic(auto, using(crate::proofs::Counts::type_bound))]
-fn own_nodata(head: &Head, number: u32) -> Option<Sample>
+fn band_nodata(head: &Head, number: u32) -> Option<Sample>
     requires number { 0 < number }
-    ensures nodata { result ≡ own_nodata (band_of head.now number) }
-    ensures rules { IfSome result (λ n. unsigned_abs n < 10 ^ 20) }
+    ensures nodata { result ≡ band_nodata (band_of head.now number) }
+    ensures rules { IfSome result (λ n. unsigned_abs n < whole_limit) }
 {
     match band_of(head, number) {
         None => None,
@@ -92,7 +81,7 @@ fn source_of(
 {
     head_rules(head);
     options.rules();
-    let nodata = source_nodata(options.src_nodata, own_nodata(head, number));
+    let nodata = source_nodata(options.src_nodata, band_nodata(head, number));
     let whole = whole_rect(head.size);
     let (out, name) = (&options.out, &head.name);
     Ok(plain_source(alloc, out, name, number, whole, shown, nodata)?)

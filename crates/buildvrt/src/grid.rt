@@ -1,5 +1,5 @@
 // The grid of a mosaic: the sides of its pixels, its extent, its columns and lines.
-ghost use Rattle.std.specs.Prelude.{◌≡◌, ℕ, ℤ, pos, neg_ℤ, ◌+ℤ◌, ◌-ℤ◌, ◌*ℤ◌, ◌<ℤ◌, ◌≤ℤ◌, ◌<◌, ◌≤◌, ◌+◌, ◌*◌, ◌^◌};
+ghost use Rattle.std.specs.Prelude.{◌≡◌, ℕ, ℤ, pos, neg_ℤ, ◌+ℤ◌, ◌-ℤ◌, ◌*ℤ◌, ◌<ℤ◌, ◌≤ℤ◌, ◌<◌, ◌≤◌, ◌+◌, ◌*◌};
 ghost use Rattle.std.specs.Prelude.{length, IfSome, unsigned_abs};
 ghost use Rattle.vrt_profile.specs.Values.{IsDecimal};
 ghost use Rattle.geotransform.specs.Print.{unit};
@@ -8,8 +8,9 @@ ghost use Rattle.geotransform.specs.Places.{rounded_up};
 ghost use Rattle.buildvrt.specs.Grids.{measure, IsMeasure, IsSide, less_of, greater_of, least_from, greatest_from};
 ghost use Rattle.buildvrt.specs.Grids.{least, greatest, mean, sum_from, IsStep, IsSteps, IsReach, IsGrid, steps_of};
 ghost use Rattle.buildvrt.specs.Grids.{union_of, extent_of, some_pixels, side_of, rounded_transform};
-ghost use Rattle.buildvrt.specs.Grids.{grid_by, grid_of};
-ghost use Rattle.geotransform.specs.Limits.{most_side};
+ghost use Rattle.buildvrt.specs.Grids.{grid_by, grid_of, edge_limit};
+ghost use Rattle.buildvrt.specs.Rectangles.{pixel_limit};
+ghost use Rattle.geotransform.specs.Limits.{most_side, unit_limit};
 ghost use Rattle.catalog.specs.Dataset.{most_datasets};
 
 use crate::options::{BuildOptions, Extent, Resolution};
@@ -67,7 +68,7 @@ pub fn way_of(count: u32, step: i128) -> i128
     requires count { count ≤ most_side }
     requires step { IsNear step }
     ensures value { result ≡ pos count *ℤ step }
-    ensures bound { unsigned_abs result ≤ most_side * (10 ^ 12 * unit) }
+    ensures bound { unsigned_abs result ≤ most_side * (unit_limit * unit) }
 {
     let steps = count as i128;
     steps * step
@@ -79,7 +80,7 @@ fn edge(start: i128, step: i128, count: u32) -> i128
     requires step { IsNear step }
     requires count { count ≤ most_side }
     ensures value { result ≡ start +ℤ (pos count *ℤ step) }
-    ensures bound { unsigned_abs result < 10 ^ 36 }
+    ensures bound { unsigned_abs result < edge_limit }
 {
     start + way_of(count, step)
 }
@@ -167,7 +168,7 @@ fn sum_of(which: Measure, tiles: &[Tile]) -> i128
     requires few { length tiles.now ≤ most_datasets }
     ensures value { result ≡ sum_from which (pos 0) tiles.now }
     ensures least { pos (length tiles.now) ≤ℤ result }
-    ensures bound { unsigned_abs result ≤ length tiles.now * (10 ^ 12 * unit) }
+    ensures bound { unsigned_abs result ≤ length tiles.now * (unit_limit * unit) }
 {
     let mut sum: i128 = 0;
     for tile in tiles {
@@ -240,21 +241,21 @@ fn extent_of(options: &BuildOptions, tiles: &[Tile]) -> Extent
     }
 }
 
-/// How many steps a way has, rounded up.
+/// How many steps a way has: the nearest whole number, a half going up.
 pub fn rounded(way: Ticks, step: Ticks) -> i128
     requires step { IsStep step }
     ensures value { result ≡ rounded_up way step }
-    ensures bound { unsigned_abs result < 3 * 10 ^ 37 }
+    ensures bound { unsigned_abs result < pixel_limit }
 {
     rounded_up(way.get(), step.get())
 }
 
-/// The same, and 1 at least.
+/// How many pixels a way has: the nearest whole number, a half going up, and 1 at least.
 pub fn some_pixels(way: Ticks, step: Ticks) -> i128
     requires step { IsStep step }
     ensures value { result ≡ some_pixels way step }
     ensures some { pos 0 <ℤ result }
-    ensures bound { unsigned_abs result < 3 * 10 ^ 37 }
+    ensures bound { unsigned_abs result < pixel_limit }
 {
     greater_of(1, rounded(way, step))
 }
@@ -273,8 +274,8 @@ fn side_of(way: Ticks, step: Ticks) -> Option<u32>
 }
 
 pub fn difference(a: Ticks, b: Ticks) -> Ticks
-    requires a { unsigned_abs a < 10 ^ 36 }
-    requires b { unsigned_abs b < 10 ^ 36 }
+    requires a { unsigned_abs a < edge_limit }
+    requires b { unsigned_abs b < edge_limit }
     ensures value { result ≡ a -ℤ b }
 {
     Ticks::of(a.get() - b.get())

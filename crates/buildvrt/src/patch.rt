@@ -1,12 +1,12 @@
 // Where the inputs lie in the mosaic.
-ghost use Rattle.std.specs.Prelude.{◌≡◌, ℕ, ℤ, pos, ◌*ℤ◌, ◌<ℤ◌, ◌<◌, ◌≤◌, ◌*◌, ◌^◌, ◌↔◌, IsTrue, IfOk};
+ghost use Rattle.std.specs.Prelude.{◌≡◌, ℕ, ℤ, pos, ◌*ℤ◌, ◌<ℤ◌, ◌<◌, ◌≤◌, ◌↔◌, IsTrue, IfOk};
 ghost use Rattle.std.specs.Prelude.{unsigned_abs};
 ghost use Rattle.std.specs.List.{All};
 ghost use Rattle.lists_and_answers.specs.Answers.{Gives};
 ghost use Rattle.buildvrt.specs.Mosaic.{IsMemory};
 ghost use Rattle.geotransform.specs.Geo.{IsNear};
 ghost use Rattle.buildvrt.specs.Rectangles.{rectangle_of, meets_side, meets, is_offset};
-ghost use Rattle.buildvrt.specs.Rectangles.{shown_at, patch_of, patches_of, IsPixelRect, IsPatch};
+ghost use Rattle.buildvrt.specs.Rectangles.{shown_at, patch_of, patches_of, pixel_limit, IsPixelRect, IsPatch};
 ghost use Rattle.geotransform.specs.Limits.{farthest, most_side};
 
 use crate::faults::BuildFault;
@@ -75,8 +75,8 @@ fn rectangle_of(grid: &Grid, tile: &Tile) -> PixelRect
 }
 
 fn meets_side(x: i128, w: i128, side: u32) -> bool
-    requires x { unsigned_abs x < 3 * 10 ^ 37 }
-    requires w { unsigned_abs w < 3 * 10 ^ 37 }
+    requires x { unsigned_abs x < pixel_limit }
+    requires w { unsigned_abs w < pixel_limit }
     ensures { result ≡ meets_side x w side }
 {
     x < side as i128 && 0 < x + w

@@ -28,7 +28,7 @@ some_same : {X : Type 0} (x y : X) → Some x ≡ Some y → x ≡ y
 some_same x y e = cc
 
 -- the order behind some names
-pub order_one : (own x : List ℕ) (kept : List (List ℕ)) (at : ℕ) (y : List ℕ) → slice_get (own ∷ kept) at ≡ Some y → length kept ≡ at → last_order own kept x ≡ slice_cmp nat_cmp x y
+order_one : (own x : List ℕ) (kept : List (List ℕ)) (at : ℕ) (y : List ℕ) → slice_get (own ∷ kept) at ≡ Some y → length kept ≡ at → last_order own kept x ≡ slice_cmp nat_cmp x y
 order_one own x [] zero y e l = ap (slice_cmp nat_cmp x) (some_same own y e)
 order_one own x [] (suc at) y e l = absurd (omega (arith, l))
 order_one own x (n ∷ ns) zero y e l = absurd (omega (arith, l))
@@ -61,6 +61,10 @@ gathered_last own names g x last h =
     let among : is_among (distinct names) x ≡ true = ap (λ l. is_among l x) (sym h.same) ∙ among_distinct h.kept x ∙ order_among own h.kept x (ap (λ l. is_eq (order_behind l x)) (sym h.files) ∙ last) in
     gathered_again own names g x among h
 
+-- the same of its bytes
+pub last_is : (files : List (List ℕ)) (x : List ℕ) (at : ℕ) (y : List ℕ) → 0 < at → slice_get files at ≡ Some y → length files ≡ suc at → x ≡ y → is_eq (order_behind files x) ≡ true
+last_is files x at y some e l same = ap is_eq (sym (order_at files x at y some e l)) ∙ is_eq-slice_cmp x y ∙ (bytes_eq-Decides x y).1 same
+
 -- a new name
 and_none : (b : Bool) → (b && true) ≡ b
 and_none true = refl
@@ -86,6 +90,11 @@ gathered_more own names old new x rising files h =
       rising = rising ∙ ap (λ b. b && is_gt (order_behind old.files x)) h.rising ∙ ap (λ l. is_rising h.kept && is_gt (order_behind l x)) h.files ∙ sym (rising_more own h.kept x);
       same = distinct_with h.kept x ∙ ap (λ l. with_name l x) h.same ∙ sym (distinct_with names x);
     }
+
+-- one more, where they don't rise
+pub gathered_unordered : (own : List ℕ) (names : List (List ℕ)) (old new : Gathered) (x : List ℕ) → old.rising ≡ false → new.rising ≡ old.rising → new.files ≡ old.files ++ x ∷ [] → HasGathered own names old → HasGathered own (names ++ x ∷ []) new
+gathered_unordered own names old new x unordered kept files h =
+    gathered_more own names old new x (kept ∙ unordered ∙ sym (ap (λ b. b && is_gt (order_behind old.files x)) unordered)) files h
 
 -- names that rise are distinct
 and_true : (a b : Bool) → (a && b) ≡ true → (a ≡ true) × (b ≡ true)

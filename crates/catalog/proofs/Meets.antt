@@ -14,7 +14,7 @@ use Rattle.catalog.specs.declared.faults.WalkFault.TheVariants.{Cycle, TooDeep, 
 use Rattle.catalog.specs.declared.links.Link.{Link}
 use Rattle.catalog.specs.Drivers.{Dataset}
 use Rattle.catalog.specs.Heads.{kind_in, resolved}
-use Rattle.catalog.specs.Walk.{number_of, bands_of, has_band, again, visit, IsDataset}
+use Rattle.catalog.specs.Walk.{number_of, bands_of, unless_no_band, again, visit, IsDataset}
 use Rattle.catalog.specs.Linked.{State, IsLow, IsHigh, IsDeep, IsLinked, IsPath, met_of}
 use Rattle.catalog.proofs.Found.{of_item, found, named_at}
 use Rattle.catalog.proofs.Again.{again_fine}
@@ -81,12 +81,12 @@ met_high st name id room l number whole high =
     record { dataset = f.dataset; link = l; met = record { at = f.at; whole = whole }; high = high }
 
 -- whether a dataset that was met has a band
-pub band_missing : (cat : List Dataset) (name : List ℕ) (id : ℕ) (d : Dataset) (band : ℕ) → number_of cat name ≡ Some id → slice_get cat id ≡ Some d → length d.head.bands < band → has_band cat name band ≡ Err (SourceBand name band)
+pub band_missing : (cat : List Dataset) (name : List ℕ) (id : ℕ) (d : Dataset) (band : ℕ) → number_of cat name ≡ Some id → slice_get cat id ≡ Some d → length d.head.bands < band → unless_no_band cat name band ≡ Err (SourceBand name band)
 band_missing cat name id d band number at less =
     let test : nat_lt (length d.head.bands) band ≡ true = grind (arith, nat_tests) in
     ap (λ o. cond (nat_lt (bands_of o) band) (Err (SourceBand name band)) (Ok tt)) (named_at cat name id d number at) ∙ ap (λ b. cond b (Err (SourceBand name band)) (Ok tt)) test
 
-pub band_there : (cat : List Dataset) (name : List ℕ) (id : ℕ) (d : Dataset) (band : ℕ) → number_of cat name ≡ Some id → slice_get cat id ≡ Some d → band ≤ length d.head.bands → has_band cat name band ≡ Ok tt
+pub band_there : (cat : List Dataset) (name : List ℕ) (id : ℕ) (d : Dataset) (band : ℕ) → number_of cat name ≡ Some id → slice_get cat id ≡ Some d → band ≤ length d.head.bands → unless_no_band cat name band ≡ Ok tt
 band_there cat name id d band number at enough =
     let test : nat_lt (length d.head.bands) band ≡ false = grind (arith, nat_tests) in
     ap (λ o. cond (nat_lt (bands_of o) band) (Err (SourceBand name band)) (Ok tt)) (named_at cat name id d number at) ∙ ap (λ b. cond b (Err (SourceBand name band)) (Ok tt)) test

@@ -21,7 +21,7 @@ use Rattle.catalog.specs.Drivers.{Dataset}
 use Rattle.catalog.specs.Mosaics.{source_name}
 use Rattle.catalog.specs.Outcomes.{IsOutside, IsMemory}
 use Rattle.catalog.specs.Heads.{resolved}
-use Rattle.catalog.specs.Walk.{Met, dataset_named, bands_of, band_named, is_narrow_band, IsWalked, one_more_source, has_band, has_samples, unless_wide, visit, visit_source, visit_sources}
+use Rattle.catalog.specs.Walk.{Met, dataset_named, bands_of, band_named, is_narrow_band, IsWalked, one_more_source, unless_no_band, unless_no_samples, unless_wide, visit, visit_source, visit_sources}
 use Rattle.catalog.specs.Linked.{State, met_of, IsLinked, IsPath, IsMember, Each, Grows, Goes, one_counted, most, height_at, height_in, IsMosaicAt, HasBand, HasSource}
 use Rattle.catalog.specs.Walking.{Seen, IsPlain, WalksOn, ReadsOnce, Visits, Passes, Names, Reaches, ReachesRows}
 use Rattle.catalog.proofs.Found.{each_more, each_map, member_stays, most_stays, flat_rows, rows_stay, named_at}
@@ -53,9 +53,9 @@ module _ (below : Met → List ℕ → Result Met WalkFault) (base : List ℕ) (
   unresolved : (f : WalkFault) → IsMemory f ⊎ ((one_more_source met.sources >>= λ c. resolved base s) ≡ Err f) → IsOutside f ⊎ (visit_sources below base met (s ∷ []) ≡ Err f)
   unfolding visit_source
   unresolved f (inl free) = inl (subst IsOutside (sym free) tt)
-  unresolved f (inr is) = inr (one_is (visit_source below base met s) ∙ bind_fails (one_more_source met.sources) (resolved base s) (λ name. below (record { datasets = met.datasets; sources = met.sources + 1 }) name >>= λ after. has_samples after.datasets base name s.band (is_plain s) >>= λ there. Ok after) f is)
+  unresolved f (inr is) = inr (one_is (visit_source below base met s) ∙ bind_fails (one_more_source met.sources) (resolved base s) (λ name. below (record { datasets = met.datasets; sources = met.sources + 1 }) name >>= λ after. unless_no_samples after.datasets base name s.band (is_plain s) >>= λ there. Ok after) f is)
 
-  named_one : (name : List ℕ) → (one_more_source met.sources >>= λ c. resolved base s) ≡ Ok name → visit_sources below base met (s ∷ []) ≡ (below (record { datasets = met.datasets; sources = met.sources + 1 }) name >>= λ after. has_samples after.datasets base name s.band (is_plain s) >>= λ there. Ok after)
+  named_one : (name : List ℕ) → (one_more_source met.sources >>= λ c. resolved base s) ≡ Ok name → visit_sources below base met (s ∷ []) ≡ (below (record { datasets = met.datasets; sources = met.sources + 1 }) name >>= λ after. unless_no_samples after.datasets base name s.band (is_plain s) >>= λ there. Ok after)
   named_one name is = one_is (visit_source below base met s) ∙ source_named below base met s name (counted_by (one_more_source met.sources) (resolved base s) name is) (bind_both (one_more_source met.sources) (resolved base s) name is)
 
 abbrev passed : Result (Unit {0}) WalkFault
@@ -165,17 +165,17 @@ module _ (verify : Bool) (room : ℕ) (base : List ℕ) (s : SourceValue) where
     counted_path : (path : List (List ℕ)) → IsPath old path → IsPath mid path
     counted_path path is name = is name ∙ (counted_walks base s a old mid w linked n).goes.same_open name
 
-    visited_as : (m : Files) (path : List (List ℕ)) → visit_sources (λ e k. visit m verify room path e k) base (met_of old) (s ∷ []) ≡ (visit m verify room path (met_of mid) w.name >>= λ after. has_samples after.datasets base w.name s.band (is_plain s) >>= λ there. Ok after)
+    visited_as : (m : Files) (path : List (List ℕ)) → visit_sources (λ e k. visit m verify room path e k) base (met_of old) (s ∷ []) ≡ (visit m verify room path (met_of mid) w.name >>= λ after. unless_no_samples after.datasets base w.name s.band (is_plain s) >>= λ there. Ok after)
     visited_as m path =
         named_one (λ e k. visit m verify room path e k) base (met_of old) s w.name n.told
-        ∙ ap (λ (st : State). visit m verify room path (met_of st) w.name >>= λ after. has_samples after.datasets base w.name s.band (is_plain s) >>= λ there. Ok after) (sym n.counted)
+        ∙ ap (λ (st : State). visit m verify room path (met_of st) w.name >>= λ after. unless_no_samples after.datasets base w.name s.band (is_plain s) >>= λ there. Ok after) (sym n.counted)
 
     pub source_unvisited : (T : Type 0) (P : T → Type 0) (f : WalkFault) → Visits verify room w.name a b mid new (Err f) → Passes verify room base (s ∷ []) a b old new P (Err f)
     source_unvisited T P f v = record {
       walks = walks_err ℕ T 1 1 a b old new f (walks_then Wanted ℕ 1 0 1 a a b old mid new w (Err f) (omega arith) (counted_walks base s a old mid w linked n) v.walks);
       told = λ m told path is.
           subst (λ (r : Result Met WalkFault). IsOutside f ⊎ (r ≡ Err f)) (sym (visited_as m path))
-          (still_refused (visit m verify room path (met_of mid) w.name) (λ after. has_samples after.datasets base w.name s.band (is_plain s) >>= λ there. Ok after) f (v.told m told path (counted_path path is)));
+          (still_refused (visit m verify room path (met_of mid) w.name) (λ after. unless_no_samples after.datasets base w.name s.band (is_plain s) >>= λ there. Ok after) f (v.told m told path (counted_path path is)));
       reads = tt;
       reached = tt;
     }
@@ -184,25 +184,25 @@ module _ (verify : Bool) (room : ℕ) (base : List ℕ) (s : SourceValue) where
       visited_walks : WalksOn 1 a b old new (Ok id)
       visited_walks = walks_then Wanted ℕ 1 0 1 a a b old mid new w (Ok id) (omega arith) (counted_walks base s a old mid w linked n) v.walks
 
-      banded_as : (m : Files) → a.names ≡ Some m → (path : List (List ℕ)) → IsPath old path → visit_sources (λ e k. visit m verify room path e k) base (met_of old) (s ∷ []) ≡ (has_samples new.datasets base w.name w.band w.plain >>= λ there. Ok (met_of new))
+      banded_as : (m : Files) → a.names ≡ Some m → (path : List (List ℕ)) → IsPath old path → visit_sources (λ e k. visit m verify room path e k) base (met_of old) (s ∷ []) ≡ (unless_no_samples new.datasets base w.name w.band w.plain >>= λ there. Ok (met_of new))
       banded_as m told path is =
-          visited_as m path ∙ ap (λ r. r >>= λ after. has_samples after.datasets base w.name s.band (is_plain s) >>= λ there. Ok after) (v.told m told path (counted_path path is))
-          ∙ ap (λ k. has_samples new.datasets base w.name k (is_plain s) >>= λ there. Ok (met_of new)) (sym n.band)
-          ∙ ap (λ p. has_samples new.datasets base w.name w.band p >>= λ there. Ok (met_of new)) (sym n.kept)
+          visited_as m path ∙ ap (λ r. r >>= λ after. unless_no_samples after.datasets base w.name s.band (is_plain s) >>= λ there. Ok after) (v.told m told path (counted_path path is))
+          ∙ ap (λ k. unless_no_samples new.datasets base w.name k (is_plain s) >>= λ there. Ok (met_of new)) (sym n.band)
+          ∙ ap (λ p. unless_no_samples new.datasets base w.name w.band p >>= λ there. Ok (met_of new)) (sym n.kept)
 
-      pub source_bandless : (T : Type 0) (P : T → Type 0) (f : WalkFault) → IsPlain f → IsMemory f ⊎ (has_samples new.datasets base w.name w.band w.plain ≡ Err f) → Passes verify room base (s ∷ []) a b old new P (Err f)
+      pub source_bandless : (T : Type 0) (P : T → Type 0) (f : WalkFault) → IsPlain f → IsMemory f ⊎ (unless_no_samples new.datasets base w.name w.band w.plain ≡ Err f) → Passes verify room base (s ∷ []) a b old new P (Err f)
       source_bandless T P f plain refused = record {
         walks = walks_then ℕ T 1 0 1 a b b old new new id (Err f) (omega arith) visited_walks (walks_plain T 0 b new new f (grows_refl new) plain);
-        told = λ m told path is. subst (λ (r : Result Met WalkFault). IsOutside f ⊎ (r ≡ Err f)) (sym (banded_as m told path is)) (still_refused (has_samples new.datasets base w.name w.band w.plain) (λ there. Ok (met_of new)) f (by_cause refused));
+        told = λ m told path is. subst (λ (r : Result Met WalkFault). IsOutside f ⊎ (r ≡ Err f)) (sym (banded_as m told path is)) (still_refused (unless_no_samples new.datasets base w.name w.band w.plain) (λ there. Ok (met_of new)) f (by_cause refused));
         reads = tt;
         reached = tt;
       }
         where
-          by_cause : IsMemory f ⊎ (has_samples new.datasets base w.name w.band w.plain ≡ Err f) → IsOutside f ⊎ (has_samples new.datasets base w.name w.band w.plain ≡ Err f)
+          by_cause : IsMemory f ⊎ (unless_no_samples new.datasets base w.name w.band w.plain ≡ Err f) → IsOutside f ⊎ (unless_no_samples new.datasets base w.name w.band w.plain ≡ Err f)
           by_cause (inl free) = inl (subst IsOutside (sym free) tt)
           by_cause (inr is) = inr is
 
-      pub source_passed : has_samples new.datasets base w.name w.band w.plain ≡ Ok tt → Passes verify room base (s ∷ []) a b old new (λ t. Reaches new room base (s ∷ []) (t ∷ [])) (Ok id)
+      pub source_passed : unless_no_samples new.datasets base w.name w.band w.plain ≡ Ok tt → Passes verify room base (s ∷ []) a b old new (λ t. Reaches new room base (s ∷ []) (t ∷ [])) (Ok id)
       source_passed there = record {
         walks = visited_walks;
         told = λ m told path is. banded_as m told path is ∙ ap (λ r. r >>= λ t. Ok (met_of new)) there;
@@ -226,11 +226,11 @@ module _ (verify : Bool) (room : ℕ) (base : List ℕ) (s : SourceValue) where
         });
       }
         where
-          banded : has_band new.datasets w.name w.band ≡ Ok tt
-          banded = counted_by (has_band new.datasets w.name w.band) (unless_wide new.datasets base w.name w.band w.plain) tt there
+          banded : unless_no_band new.datasets w.name w.band ≡ Ok tt
+          banded = counted_by (unless_no_band new.datasets w.name w.band) (unless_wide new.datasets base w.name w.band w.plain) tt there
 
           narrow : unless_wide new.datasets base w.name w.band w.plain ≡ Ok tt
-          narrow = bind_both (has_band new.datasets w.name w.band) (unless_wide new.datasets base w.name w.band w.plain) tt there
+          narrow = bind_both (unless_no_band new.datasets w.name w.band) (unless_wide new.datasets base w.name w.band w.plain) tt there
 
           taken : (d : Dataset) → dataset_named new.datasets w.name ≡ Some d → is_plain s || is_narrow_band (band_at d.head (s.band - 1)) ≡ true
           taken d is =

@@ -17,7 +17,7 @@ use Rattle.outside.specs.Paths.{normal}
 use Rattle.esri_hdr.specs.Head.{Head, esri_head, head_of, shape_of, rows_of, geo_of, place_in, step_in, geo_in, nodata_in}
 use Rattle.esri_hdr.specs.Lines.{entry_at}
 use Rattle.esri_hdr.specs.Values as values
-use Rattle.esri_hdr.specs.Values.{side_in, bands_in, bits_in, big_in, layout_in, skip_in, signed_in, row_in, band_row_in, total_row_in, gap_in}
+use Rattle.esri_hdr.specs.Values.{side_in, bands_in, bits_in, big_endian_in, layout_in, skip_in, signed_in, row_in, band_row_in, total_row_in, gap_in}
 use Rattle.esri_hdr.specs.declared.header_parts.Layout.TheVariants.{Bil}
 use Rattle.vrt_markup.specs.Items.{item_at, tag_at, tag_front, close_at, pair_at, value_at}
 use Rattle.vrt_profile.specs.Means as means
@@ -136,7 +136,7 @@ abbrev header_text : List ℕ
 header_text = codes "NROWS 1" ++ 10 ∷ codes "NCOLS 3" ++ 10 ∷ codes "NBITS 16" ++ 10 ∷ codes "PIXELTYPE SIGNEDINT"
 
 header_read : esri_head header_text ≡ Ok (header 3)
-unfolding esri_head head_of shape_of rows_of geo_of place_in step_in geo_in nodata_in entry_at side_in bands_in bits_in big_in layout_in skip_in signed_in values.kind_of row_in band_row_in total_row_in gap_in
+unfolding esri_head head_of shape_of rows_of geo_of place_in step_in geo_in nodata_in entry_at side_in bands_in bits_in big_endian_in layout_in skip_in signed_in values.kind_of row_in band_row_in total_row_in gap_in
 header_read = refl
 
 abbrev text_of : List ℕ → List ℕ

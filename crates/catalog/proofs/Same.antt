@@ -18,7 +18,7 @@ use Rattle.catalog.specs.declared.walk.Wanted.{Wanted}
 use Rattle.catalog.specs.Dataset.{band_at}
 use Rattle.catalog.specs.Drivers.{Dataset}
 use Rattle.catalog.specs.Heads.{resolved}
-use Rattle.catalog.specs.Walk.{dataset_named, bands_of, band_named, is_narrow_band, one_more_source, has_band, has_samples, unless_wide}
+use Rattle.catalog.specs.Walk.{dataset_named, bands_of, band_named, is_narrow_band, one_more_source, unless_no_band, unless_no_samples, unless_wide}
 use Rattle.catalog.specs.Linked.{State, IsLinked, IsLow, IsMember, Each, one_counted, most, height_at, height_in, IsMosaicAt, HasBand, HasSource}
 use Rattle.catalog.specs.Walking.{Seen, Visits, Passes, Names, Reaches, IsWalkedUpTo, IsMetLow}
 use Rattle.catalog.proofs.Found.{some_is, named_at}
@@ -96,10 +96,10 @@ again_there st room id band source v w member a =
 abbrev passed : Result (Unit {0}) WalkFault
 passed = Ok tt
 
-has_fine : (cat : List Dataset) (base name : List ℕ) (band : ℕ) (plain : Bool) (d : Dataset) → dataset_named cat name ≡ Some d → band ≤ length d.head.bands → (plain || is_narrow_band (band_at d.head (band - 1))) ≡ true → has_samples cat base name band plain ≡ Ok tt
+has_fine : (cat : List Dataset) (base name : List ℕ) (band : ℕ) (plain : Bool) (d : Dataset) → dataset_named cat name ≡ Some d → band ≤ length d.head.bands → (plain || is_narrow_band (band_at d.head (band - 1))) ≡ true → unless_no_samples cat base name band plain ≡ Ok tt
 has_fine cat base name band plain d is within takes =
     let test : nat_lt (length d.head.bands) band ≡ false = grind (arith, nat_tests) in
-    let has : has_band cat name band ≡ passed = ap (λ o. cond (nat_lt (bands_of o) band) (Err (SourceBand name band)) passed) is ∙ ap (λ b. cond b (Err (SourceBand name band)) passed) test in
+    let has : unless_no_band cat name band ≡ passed = ap (λ o. cond (nat_lt (bands_of o) band) (Err (SourceBand name band)) passed) is ∙ ap (λ b. cond b (Err (SourceBand name band)) passed) test in
     let narrow : unless_wide cat base name band plain ≡ passed = ap (λ o. cond (plain || is_narrow_band (band_named o band)) passed (Err (Malformed base (bad.Vrt vrt.Unsupported)))) is ∙ ap (λ b. cond b passed (Err (Malformed base (bad.Vrt vrt.Unsupported)))) takes in
     ap (λ r. r >>= λ there. unless_wide cat base name band plain) has ∙ narrow
 

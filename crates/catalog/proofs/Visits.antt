@@ -15,7 +15,7 @@ use Rattle.catalog.specs.declared.faults.WalkFault.TheVariants.{Cycle, TooDeep, 
 use Rattle.catalog.specs.Outcomes.{IsOutside}
 use Rattle.catalog.specs.Drivers.{Dataset}
 use Rattle.catalog.specs.Heads.{kind_in, dataset_by, resolved}
-use Rattle.catalog.specs.Walk.{Met, number_of, dataset_named, sources_in, unless_on, room_for, one_more_source, has_samples, again_below, again_step, again, visit_source, visit_sources, first_met, met_or_first, visit_step, visit}
+use Rattle.catalog.specs.Walk.{Met, number_of, dataset_named, sources_in, unless_on, room_for, one_more_source, unless_no_samples, again_below, again_step, again, visit_source, visit_sources, first_met, met_or_first, visit_step, visit}
 use Rattle.catalog.proofs.Again.{again_begins}
 
 -- names of no kind
@@ -144,32 +144,32 @@ still_refused r f fault (inr is) = inr (ap (λ x. x >>= f) is)
 module _ (below : Met → List ℕ → Result Met WalkFault) (base : List ℕ) (met : Met) (s : SourceValue) where
   pub source_uncounted : (fault : WalkFault) → IsOutside fault ⊎ (one_more_source met.sources ≡ Err fault) → IsOutside fault ⊎ (visit_source below base met s ≡ Err fault)
   unfolding visit_source
-  source_uncounted fault is = still_refused (one_more_source met.sources) (λ c. resolved base s >>= λ name. below (record { datasets = met.datasets; sources = met.sources + 1 }) name >>= λ after. has_samples after.datasets base name s.band (is_plain s) >>= λ there. Ok after) fault is
+  source_uncounted fault is = still_refused (one_more_source met.sources) (λ c. resolved base s >>= λ name. below (record { datasets = met.datasets; sources = met.sources + 1 }) name >>= λ after. unless_no_samples after.datasets base name s.band (is_plain s) >>= λ there. Ok after) fault is
 
   pub source_unnamed : (fault : WalkFault) → one_more_source met.sources ≡ Ok tt → IsOutside fault ⊎ (resolved base s ≡ Err fault) → IsOutside fault ⊎ (visit_source below base met s ≡ Err fault)
   unfolding visit_source
   source_unnamed fault room is = subst (λ (r : Result Met WalkFault). IsOutside fault ⊎ (r ≡ Err fault))
-      (sym (ap (λ r. r >>= λ c. resolved base s >>= λ name. below (record { datasets = met.datasets; sources = met.sources + 1 }) name >>= λ after. has_samples after.datasets base name s.band (is_plain s) >>= λ there. Ok after) room))
-      (still_refused (resolved base s) (λ name. below (record { datasets = met.datasets; sources = met.sources + 1 }) name >>= λ after. has_samples after.datasets base name s.band (is_plain s) >>= λ there. Ok after) fault is)
+      (sym (ap (λ r. r >>= λ c. resolved base s >>= λ name. below (record { datasets = met.datasets; sources = met.sources + 1 }) name >>= λ after. unless_no_samples after.datasets base name s.band (is_plain s) >>= λ there. Ok after) room))
+      (still_refused (resolved base s) (λ name. below (record { datasets = met.datasets; sources = met.sources + 1 }) name >>= λ after. unless_no_samples after.datasets base name s.band (is_plain s) >>= λ there. Ok after) fault is)
 
-  pub source_named : (name : List ℕ) → one_more_source met.sources ≡ Ok tt → resolved base s ≡ Ok name → visit_source below base met s ≡ (below (record { datasets = met.datasets; sources = met.sources + 1 }) name >>= λ after. has_samples after.datasets base name s.band (is_plain s) >>= λ there. Ok after)
+  pub source_named : (name : List ℕ) → one_more_source met.sources ≡ Ok tt → resolved base s ≡ Ok name → visit_source below base met s ≡ (below (record { datasets = met.datasets; sources = met.sources + 1 }) name >>= λ after. unless_no_samples after.datasets base name s.band (is_plain s) >>= λ there. Ok after)
   unfolding visit_source
   source_named name room is =
-      ap (λ r. r >>= λ c. resolved base s >>= λ name. below (record { datasets = met.datasets; sources = met.sources + 1 }) name >>= λ after. has_samples after.datasets base name s.band (is_plain s) >>= λ there. Ok after) room
-      ∙ ap (λ r. r >>= λ name. below (record { datasets = met.datasets; sources = met.sources + 1 }) name >>= λ after. has_samples after.datasets base name s.band (is_plain s) >>= λ there. Ok after) is
+      ap (λ r. r >>= λ c. resolved base s >>= λ name. below (record { datasets = met.datasets; sources = met.sources + 1 }) name >>= λ after. unless_no_samples after.datasets base name s.band (is_plain s) >>= λ there. Ok after) room
+      ∙ ap (λ r. r >>= λ name. below (record { datasets = met.datasets; sources = met.sources + 1 }) name >>= λ after. unless_no_samples after.datasets base name s.band (is_plain s) >>= λ there. Ok after) is
 
   pub source_refused : (name : List ℕ) (fault : WalkFault) → one_more_source met.sources ≡ Ok tt → resolved base s ≡ Ok name → IsOutside fault ⊎ (below (record { datasets = met.datasets; sources = met.sources + 1 }) name ≡ Err fault) → IsOutside fault ⊎ (visit_source below base met s ≡ Err fault)
   source_refused name fault room is refused = subst (λ (r : Result Met WalkFault). IsOutside fault ⊎ (r ≡ Err fault)) (sym (source_named name room is))
-      (still_refused (below (record { datasets = met.datasets; sources = met.sources + 1 }) name) (λ after. has_samples after.datasets base name s.band (is_plain s) >>= λ there. Ok after) fault refused)
+      (still_refused (below (record { datasets = met.datasets; sources = met.sources + 1 }) name) (λ after. unless_no_samples after.datasets base name s.band (is_plain s) >>= λ there. Ok after) fault refused)
 
-  source_visited : (name : List ℕ) (after : Met) → one_more_source met.sources ≡ Ok tt → resolved base s ≡ Ok name → below (record { datasets = met.datasets; sources = met.sources + 1 }) name ≡ Ok after → visit_source below base met s ≡ (has_samples after.datasets base name s.band (is_plain s) >>= λ there. Ok after)
-  source_visited name after room is visited = source_named name room is ∙ ap (λ r. r >>= λ after. has_samples after.datasets base name s.band (is_plain s) >>= λ there. Ok after) visited
+  source_visited : (name : List ℕ) (after : Met) → one_more_source met.sources ≡ Ok tt → resolved base s ≡ Ok name → below (record { datasets = met.datasets; sources = met.sources + 1 }) name ≡ Ok after → visit_source below base met s ≡ (unless_no_samples after.datasets base name s.band (is_plain s) >>= λ there. Ok after)
+  source_visited name after room is visited = source_named name room is ∙ ap (λ r. r >>= λ after. unless_no_samples after.datasets base name s.band (is_plain s) >>= λ there. Ok after) visited
 
-  pub source_bandless : (name : List ℕ) (after : Met) (fault : WalkFault) → one_more_source met.sources ≡ Ok tt → resolved base s ≡ Ok name → below (record { datasets = met.datasets; sources = met.sources + 1 }) name ≡ Ok after → IsOutside fault ⊎ (has_samples after.datasets base name s.band (is_plain s) ≡ Err fault) → IsOutside fault ⊎ (visit_source below base met s ≡ Err fault)
+  pub source_bandless : (name : List ℕ) (after : Met) (fault : WalkFault) → one_more_source met.sources ≡ Ok tt → resolved base s ≡ Ok name → below (record { datasets = met.datasets; sources = met.sources + 1 }) name ≡ Ok after → IsOutside fault ⊎ (unless_no_samples after.datasets base name s.band (is_plain s) ≡ Err fault) → IsOutside fault ⊎ (visit_source below base met s ≡ Err fault)
   source_bandless name after fault room is visited refused = subst (λ (r : Result Met WalkFault). IsOutside fault ⊎ (r ≡ Err fault)) (sym (source_visited name after room is visited))
-      (still_refused (has_samples after.datasets base name s.band (is_plain s)) (λ there. Ok after) fault refused)
+      (still_refused (unless_no_samples after.datasets base name s.band (is_plain s)) (λ there. Ok after) fault refused)
 
-  pub source_fine : (name : List ℕ) (after : Met) → one_more_source met.sources ≡ Ok tt → resolved base s ≡ Ok name → below (record { datasets = met.datasets; sources = met.sources + 1 }) name ≡ Ok after → has_samples after.datasets base name s.band (is_plain s) ≡ Ok tt → visit_source below base met s ≡ Ok after
+  pub source_fine : (name : List ℕ) (after : Met) → one_more_source met.sources ≡ Ok tt → resolved base s ≡ Ok name → below (record { datasets = met.datasets; sources = met.sources + 1 }) name ≡ Ok after → unless_no_samples after.datasets base name s.band (is_plain s) ≡ Ok tt → visit_source below base met s ≡ Ok after
   source_fine name after room is visited there = source_visited name after room is visited ∙ ap (λ r. r >>= λ t. Ok after) there
 
 -- the sources of two lists, one behind the other

@@ -30,10 +30,11 @@ pub record DatasetHead : Type 0 where
   pub bands : List BandHead
   pub files : List (List ℕ)
 
--- how many bands a dataset has, and one of them by its number, counted from 0
+-- how many bands a dataset has
 abbrev pub band_count : DatasetHead → ℕ
 band_count head = length head.bands
 
+-- a band of a dataset by its number, counted from 0
 abbrev pub band_at : DatasetHead → ℕ → Option BandHead
 band_at head band = slice_get head.bands band
 

@@ -29,8 +29,8 @@ abbrev pub raw_band : Head → BandHead
 raw_band h = record { kind = h.kind; nodata = h.nodata; block = block_of kinds.Raw h.size }
 
 -- what the head of raw data under a name says of the dataset
-abbrev pub raw_head : List ℕ → Head → DatasetHead
-raw_head name h = record {
+abbrev pub raw_dataset_head : List ℕ → Head → DatasetHead
+raw_dataset_head name h = record {
   name = name;
   kind = kinds.Raw;
   size = h.size;
@@ -54,8 +54,8 @@ abbrev pub dted_band : dted.Head → BandHead
 dted_band h = record { kind = Int16; nodata = Some null_elevation; block = block_of kinds.Dted (cell_size h) }
 
 -- what the head of a cell under a name says of the dataset
-abbrev pub dted_head : List ℕ → dted.Head → DatasetHead
-dted_head name h = record {
+abbrev pub dted_dataset_head : List ℕ → dted.Head → DatasetHead
+dted_dataset_head name h = record {
   name = name;
   kind = kinds.Dted;
   size = cell_size h;
@@ -83,8 +83,8 @@ abbrev pub tile_place : List ℕ → ℕ → Option Transform
 tile_place name side = option_map (λ p. hgt_places.tile_transform p side) (hgt_names.corner_of (last_part name))
 
 -- what the name and the side of a tile say of the dataset
-abbrev pub hgt_head : List ℕ → ℕ → DatasetHead
-hgt_head name side = record {
+abbrev pub hgt_dataset_head : List ℕ → ℕ → DatasetHead
+hgt_dataset_head name side = record {
   name = name;
   kind = kinds.Hgt;
   size = tile_size side;
@@ -100,8 +100,8 @@ abbrev pub ascii_band : ascii.Head → BandHead
 ascii_band h = record { kind = Int32; nodata = h.nodata; block = block_of kinds.Ascii h.size }
 
 -- what the head of a grid under a name says of the dataset
-abbrev pub ascii_head : List ℕ → ascii.Head → DatasetHead
-ascii_head name h = record {
+abbrev pub ascii_dataset_head : List ℕ → ascii.Head → DatasetHead
+ascii_dataset_head name h = record {
   name = name;
   kind = kinds.Ascii;
   size = h.size;
@@ -113,10 +113,10 @@ ascii_head name h = record {
 
 -- what the head of the file under a name says of the dataset
 abbrev pub head_told : List ℕ → DriverHead → DatasetHead
-head_told name (Raw h) = raw_head name h
-head_told name (Dted h) = dted_head name h
-head_told name (Hgt side) = hgt_head name side
-head_told name (Ascii h) = ascii_head name h
+head_told name (Raw h) = raw_dataset_head name h
+head_told name (Dted h) = dted_dataset_head name h
+head_told name (Hgt side) = hgt_dataset_head name side
+head_told name (Ascii h) = ascii_dataset_head name h
 
 -- the kind of the head of a file
 abbrev pub driver_kind : DriverHead → Kind

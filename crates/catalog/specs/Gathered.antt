@@ -13,7 +13,7 @@ use Rattle.catalog.specs.Mosaics.{distinct, source_name}
 -- the number that the bytes of a text make, behind those of a number
 abbrev pub text_number : ℕ → List ℕ → ℕ
 text_number number [] = number
-text_number number (c ∷ cs) = text_number (number % 36028797018963968 * 257 + c) cs
+text_number number (c ∷ cs) = text_number (number % 144115188075855872 * 81 + c) cs
 
 -- how a name compares with the last of some names
 abbrev pub last_order : List ℕ → List (List ℕ) → List ℕ → Ordering
@@ -31,6 +31,7 @@ abbrev pub rises : List ℕ → List (List ℕ) → Bool
 rises n [] = true
 rises n (m ∷ ms) = is_gt (slice_cmp nat_cmp m n) && rises m ms
 
+-- whether the names of a list rise, each greater than the one before it
 abbrev pub is_rising : List (List ℕ) → Bool
 is_rising [] = true
 is_rising (n ∷ ns) = rises n ns

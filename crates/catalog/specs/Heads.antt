@@ -197,6 +197,7 @@ IsOwnFault (bad.Grid f) = f ≡ grid.Memory → ⊥
 IsOwnFault (bad.Vrt f) = f ≡ vrt.Memory → ⊥
 IsOwnFault bad.List = Unit {0}
 
+-- where a file is malformed, its fault is its own
 abbrev pub OwnsFaults : {T : Type 0} → Result T WalkFault → Type 0
 OwnsFaults result = (name : List ℕ) (b : Bad) → result ≡ Err (Malformed name b) → IsOwnFault b
 

@@ -42,6 +42,7 @@ height_in None = 0
 height_in (Some None) = 0
 height_in (Some (Some l)) = l.height
 
+-- the height of the dataset of a number
 abbrev pub height_at : List (Option Link) → ℕ → ℕ
 height_at links id = height_in (slice_get links id)
 
@@ -84,6 +85,7 @@ pub record IsMosaicLink (st : State) (name : List ℕ) (doc : DocumentValue) (l 
   pub rows : AreRows st name doc.bands l.members
   pub height : l.height ≡ suc (most st.links (flattened l.members))
 
+-- the link of a content: that of a file has the height 0
 abbrev pub IsLinkOf : State → List ℕ → Content → Link → Type 0
 IsLinkOf st name (File h) l = l.height ≡ 0
 IsLinkOf st name (Mosaic doc) l = IsMosaicLink st name doc l
@@ -111,7 +113,7 @@ pushed st d link = record { datasets = st.datasets ++ d ∷ []; links = st.links
 abbrev pub closed : State → ℕ → Link → State
 closed st id link = record { datasets = st.datasets; links = set st.links id (Some link); sources = st.sources }
 
--- one source more
+-- the state with one source more
 abbrev pub one_counted : State → State
 one_counted st = record { datasets = st.datasets; links = st.links; sources = st.sources + 1 }
 
@@ -126,7 +128,7 @@ pub record IsMosaicAt (st : State) (id : ℕ) : Type 0 where
   pub at : slice_get st.datasets id ≡ Some dataset
   pub content : dataset.content ≡ Mosaic document
 
--- it has this band
+-- a mosaic that was met has this band
 pub record HasBand (st : State) (id band : ℕ) : Type 0 where
   pub mosaic : IsMosaicAt st id
   pub value : BandValue

@@ -28,6 +28,7 @@ greatest f cat base [] = 0
 greatest f cat base (s ∷ ss) = max (unwrap_or (option_map f (source_name base s >>= λ name. dataset_named cat name)) 0)
     (greatest f cat base ss)
 
+-- the height of a dataset by its content, where `below` gives the heights of those that its sources name
 abbrev pub height_step : (Dataset → ℕ) → List Dataset → List ℕ → Content → ℕ
 height_step below cat name (File h) = 0
 height_step below cat name (Mosaic doc) = suc (greatest below cat name (sources_of doc))

@@ -75,6 +75,7 @@ abbrev pub content_pixel : Lookup → Images → Files → List ℕ → Content 
 content_pixel look images m name (File h) band x y = file_pixel m name h band x y
 content_pixel look images m name (Mosaic d) band x y = band_pixel look images name d.size (slice_get d.bands band) x y
 
+-- the pixel of a dataset, and 0 where there is none, by the pixels of the names below
 abbrev pub pixel_step : Lookup → Images → Files → Option Dataset → ℕ → ℕ → ℕ → ℤ
 pixel_step look images m None band x y = pos 0
 pixel_step look images m (Some d) band x y = content_pixel look images m d.head.name d.content band x y
@@ -89,6 +90,7 @@ abbrev pub told : Result Dataset WalkFault → Option Dataset
 told (Ok d) = Some d
 told (Err e) = None
 
+-- the dataset that stands under a name in a folder
 abbrev pub found_in_folder : Files → Lookup
 found_in_folder m name = told (dataset_in m false name)
 

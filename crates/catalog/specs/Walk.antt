@@ -78,9 +78,10 @@ abbrev pub bands_of : Option Dataset → ℕ
 bands_of None = 0
 bands_of (Some d) = band_count d.head
 
--- the dataset of a name has a band, counted from 1
-abbrev pub has_band : List Dataset → List ℕ → ℕ → Result (Unit {0}) WalkFault
-has_band cat name band = if nat_lt (bands_of (dataset_named cat name)) band then Err (SourceBand name band) else Ok tt
+-- the refusal of a band, counted from 1, that the dataset of a name lacks
+abbrev pub unless_no_band : List Dataset → List ℕ → ℕ → Result (Unit {0}) WalkFault
+unless_no_band cat name band = if nat_lt (bands_of (dataset_named cat name)) band then Err (SourceBand name band)
+    else Ok tt
 
 -- the samples of a band have at most 32 bits
 abbrev pub is_narrow_band : Option BandHead → Bool
@@ -98,9 +99,11 @@ abbrev pub unless_wide : List Dataset → List ℕ → List ℕ → ℕ → Bool
 unless_wide cat base name band plain = if plain || is_narrow_band (band_named (dataset_named cat name) band) then Ok tt
     else Err (Malformed base (bad.Vrt vrt.Unsupported))
 
--- the dataset of a name has a band, counted from 1, whose samples a source of the mosaic with the name `base` takes
-abbrev pub has_samples : List Dataset → List ℕ → List ℕ → ℕ → Bool → Result (Unit {0}) WalkFault
-has_samples cat base name band plain = has_band cat name band >>= λ there. unless_wide cat base name band plain
+-- the refusal of a band, counted from 1, that the dataset of a name lacks, or whose samples a source of the mosaic with
+-- the name `base` doesn't take
+abbrev pub unless_no_samples : List Dataset → List ℕ → List ℕ → ℕ → Bool → Result (Unit {0}) WalkFault
+unless_no_samples cat base name band plain =
+    unless_no_band cat name band >>= λ there. unless_wide cat base name band plain
 
 -- What is checked of a name that was met whole earlier, on another path: itself, and then what its sources name, in
 -- order. `below` checks a name with one mosaic more on the path.
@@ -109,11 +112,13 @@ abbrev pub again_sources : (List ℕ → Result (Unit {0}) WalkFault) → List �
 again_sources below base [] = Ok tt
 again_sources below base (s ∷ ss) = resolved base s >>= λ name. below name >>= λ checked. again_sources below base ss
 
+-- what is checked again below a dataset that was met whole: each name of its sources
 abbrev pub again_below : (List (List ℕ) → List ℕ → Result (Unit {0}) WalkFault) → List (List ℕ) → Option Dataset →
     Result (Unit {0}) WalkFault
 again_below below path None = Ok tt
 again_below below path (Some d) = again_sources (below (d.head.name ∷ path)) d.head.name (sources_in d.content)
 
+-- what is checked again of a name: its kind, its path, how deep it is, and what lies below it
 unfoldable pub again_step : (List (List ℕ) → List ℕ → Result (Unit {0}) WalkFault) → ℕ → List Dataset → List (List ℕ) →
     List ℕ → Result (Unit {0}) WalkFault
 again_step below room cat path name = do
@@ -134,9 +139,10 @@ visit_source visit base met s = do
   counted ← one_more_source met.sources
   name ← resolved base s
   after ← visit (record { datasets = met.datasets; sources = met.sources + 1 }) name
-  there ← has_samples after.datasets base name s.band (is_plain s)
+  there ← unless_no_samples after.datasets base name s.band (is_plain s)
   Ok after
 
+-- how a walk goes on through some sources of a mosaic, in order, up to the first refusal
 abbrev pub visit_sources : (Met → List ℕ → Result Met WalkFault) → List ℕ → Met → List SourceValue →
     Result Met WalkFault
 visit_sources visit base met [] = Ok met
@@ -157,11 +163,13 @@ first_met below m verify kind path met name = do
 abbrev pub met_again : ℕ → List (List ℕ) → Met → List ℕ → Result Met WalkFault
 met_again room path met name = again room met.datasets path name >>= λ checked. Ok met
 
+-- how a walk goes on with a name: as met again where it has a number, else as met for the first time
 abbrev pub met_or_first : (List (List ℕ) → Met → List ℕ → Result Met WalkFault) → Files → Bool → ℕ → Kind →
     List (List ℕ) → Met → List ℕ → Option ℕ → Result Met WalkFault
 met_or_first below m verify room kind path met name (Some id) = met_again room path met name
 met_or_first below m verify room kind path met name None = first_met below m verify kind path met name
 
+-- the visit of a name, where `below` visits a name with one mosaic more on the path
 unfoldable pub visit_step : (List (List ℕ) → Met → List ℕ → Result Met WalkFault) → Files → Bool → ℕ → List (List ℕ) →
     Met → List ℕ → Result Met WalkFault
 visit_step below m verify room path met name = do

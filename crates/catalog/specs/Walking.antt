@@ -31,6 +31,7 @@ pub record Seen : Type 0 where
   pub reads : ℕ
   pub faults : ℕ
 
+-- what is seen of a folder, of these parts
 abbrev pub seen : Option Files → ℕ → ℕ → ℕ → Seen
 seen names writes reads faults = record { names = names; writes = writes; reads = reads; faults = faults }
 

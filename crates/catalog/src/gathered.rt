@@ -1,6 +1,6 @@
 // The names of a mosaic's sources, which are distinct where they rise or where their numbers differ.
-ghost use Rattle.std.specs.Prelude.{◌≡◌, ◌==◌, ◌++◌, ◌∷◌, ◌&&◌, [], true, List, ℕ, drop, map, IfOk, OnOk};
-ghost use Rattle.std.specs.Ordering.{is_gt};
+ghost use Rattle.std.specs.Prelude.{◌≡◌, ◌==◌, ◌++◌, ◌∷◌, ◌&&◌, [], true, false, List, ℕ, drop, map, IfOk, OnOk};
+ghost use Rattle.std.specs.Ordering.{is_eq, is_gt};
 ghost use Rattle.vrt_markup.specs.Keys.{apart};
 ghost use Rattle.catalog.specs.Mosaics.{distinct};
 ghost use Rattle.catalog.specs.Gathered.{HasGathered, text_number, is_rising, order_behind};
@@ -18,14 +18,16 @@ pub struct Gathered {
     pub rising: bool,
 }
 
-// The number that the bytes of a text make.
+// The number that the bytes of a text make, each of which counts 81 times as much as the next one. So the numbers of
+// names that count files rise, or rise in a few stretches; and letters, digits and points, any two of which lie less
+// than 81 apart, make another number for each short name.
 fn text_number(text: &[u8]) -> u64
     ensures number { result ≡ text_number 0 text.now }
 {
     let mut number: u64 = 0;
     let mut rest = text;
     while let [c, more @ ..] = rest {
-        number = number % 0x0080_0000_0000_0000 * 257 + u64::from(*c);
+        number = number % 0x0200_0000_0000_0000 * 81 + u64::from(*c);
         rest = more;
     }
     number
@@ -36,6 +38,13 @@ fn still_rises(before: bool, order: Ordering) -> bool
     ensures rises { result ≡ (before && is_gt order) }
 {
     before && order.is_gt()
+}
+
+// Whether two names are one.
+fn are_same(a: &Name, b: &Name) -> bool
+    ensures same { result ≡ true → a.now ≡ b.now }
+{
+    a.is(b)
 }
 
 impl Gathered {
@@ -63,12 +72,39 @@ impl Gathered {
         name.as_str().cmp(self.files.get(count - 1).as_str())
     }
 
+    // Whether a name is that of the last source.
+    fn is_last(&self, name: &Name) -> bool
+        ensures last { result ≡ true → is_eq (order_behind self.now.files name.now) ≡ true }
+    {
+        let count = self.files.len();
+        if count < 2 {
+            return false;
+        }
+        are_same(name, self.files.get(count - 1))
+    }
+
+    // Adds the name of a source to names that don't rise, unless it is that of the last one: their order isn't asked.
+    #[tactic(auto, using(crate::proofs::Gatherings::gathered_last, crate::proofs::Gatherings::gathered_unordered))]
+    fn add_unordered(&mut self, name: Name) -> Result<(), AllocError>
+        requires unordered { self.old.rising ≡ false }
+        ensures gathered { OnOk result ((own : List ℕ) (names : List (List ℕ)) → HasGathered own names self.old →
+            HasGathered own (names ++ name ∷ []) self.new) }
+    {
+        if self.is_last(&name) {
+            return Ok(());
+        }
+        self.files.push(name)
+    }
+
     /// Adds the name of a source, unless it is that of the last one.
     #[tactic(auto, using(crate::proofs::Gatherings::gathered_last, crate::proofs::Gatherings::gathered_more))]
     pub fn add(&mut self, name: Name) -> Result<(), AllocError>
         ensures gathered { OnOk result ((own : List ℕ) (names : List (List ℕ)) → HasGathered own names self.old →
             HasGathered own (names ++ name ∷ []) self.new) }
     {
+        if !self.rising {
+            return self.add_unordered(name);
+        }
         let order = self.order(&name);
         if order.is_eq() {
             return Ok(());
@@ -78,14 +114,15 @@ impl Gathered {
     }
 }
 
-// Whether no two of the numbers are the same: those that are stand side by side once they are sorted.
-fn differ(mut numbers: Vec<u64>) -> bool
-    ensures { result ≡ apart (λ x y. x == y) numbers.items }
+// Whether no two of the numbers are the same: those that are stand side by side once they are sorted. Numbers often
+// stand in a few stretches that rise, and this sort keeps such stretches.
+fn differ(mut numbers: Vec<u64>) -> Result<bool, AllocError>
+    ensures { IfOk result (λ b. b ≡ apart (λ x y. x == y) numbers.items) }
 {
     let count = numbers.len();
-    numbers.sort_unstable();
+    numbers.sort()?;
     numbers.dedup();
-    numbers.len() == count
+    Ok(numbers.len() == count)
 }
 
 // The number of each name.
@@ -109,7 +146,8 @@ pub fn are_apart(alloc: Global, rising: bool, names: &[Name]) -> Result<bool, Al
         return Ok(true);
     }
     let numbers = numbers_of(alloc, names)?;
-    Ok(differ(numbers))
+    let apart = differ(numbers)?;
+    Ok(apart)
 }
 
 /// The names behind the first one.

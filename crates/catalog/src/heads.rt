@@ -4,8 +4,9 @@ ghost use Rattle.outside.specs.Names.{extension_of, is_raw, header_of};
 ghost use Rattle.catalog.specs.Outcomes.{IsMemory};
 ghost use Rattle.catalog.specs.Dataset.{IsDatasetHead};
 ghost use Rattle.hgt_tiles.specs.Places.{IsSide};
-ghost use Rattle.catalog.specs.Drivers.{raw_band, raw_head, dted_band, dted_head, hgt_band, hgt_head, tile_place};
-ghost use Rattle.catalog.specs.Drivers.{ascii_band, ascii_head, head_told, content_head, IsOfKind, IsOfContent};
+ghost use Rattle.catalog.specs.Drivers.{raw_band, raw_dataset_head, dted_band, dted_dataset_head, hgt_band};
+ghost use Rattle.catalog.specs.Drivers.{hgt_dataset_head, tile_place};
+ghost use Rattle.catalog.specs.Drivers.{ascii_band, ascii_dataset_head, head_told, content_head, IsOfKind, IsOfContent};
 
 use crate::driver::Content;
 use crate::mosaic_head::mosaic_head;
@@ -70,9 +71,9 @@ fn raw_files(alloc: Global, name: &Name) -> Result<Names, WalkFault>
 }
 
 // What the head of raw data says of the dataset.
-fn raw_head(alloc: Global, name: &Name, head: &RawHead) -> Result<Head, WalkFault>
+fn raw_dataset_head(alloc: Global, name: &Name, head: &RawHead) -> Result<Head, WalkFault>
     requires raw { IsTrue (is_raw (extension_of name.now)) }
-    ensures ok { IfOk result (λ h. h ≡ raw_head name.now head.now) }
+    ensures ok { IfOk result (λ h. h ≡ raw_dataset_head name.now head.now) }
     ensures err { IfErr result IsMemory }
 {
     let files = raw_files(alloc, name)?;
@@ -122,8 +123,8 @@ fn dted_band(head: &DtedHead) -> BandHead
 }
 
 // What the head of a cell says of the dataset.
-fn dted_head(alloc: Global, name: &Name, head: &DtedHead) -> Result<Head, AllocError>
-    ensures { IfOk result (λ h. h ≡ dted_head name.now head.now) }
+fn dted_dataset_head(alloc: Global, name: &Name, head: &DtedHead) -> Result<Head, AllocError>
+    ensures { IfOk result (λ h. h ≡ dted_dataset_head name.now head.now) }
 {
     let files = one_file(alloc, name)?;
     let bands = one_band(alloc, dted_band(head))?;
@@ -163,9 +164,9 @@ fn tile_place(name: &Name, side: u32) -> Option<GeoTransform>
 }
 
 // What the name and the side of a tile say of the dataset.
-fn hgt_head(alloc: Global, name: &Name, side: u32) -> Result<Head, AllocError>
+fn hgt_dataset_head(alloc: Global, name: &Name, side: u32) -> Result<Head, AllocError>
     requires side { IsSide side }
-    ensures { IfOk result (λ h. h ≡ hgt_head name.now side) }
+    ensures { IfOk result (λ h. h ≡ hgt_dataset_head name.now side) }
 {
     let files = one_file(alloc, name)?;
     let bands = one_band(alloc, hgt_band(side))?;
@@ -195,8 +196,8 @@ fn ascii_band(head: &GridHead) -> BandHead
 }
 
 // What the head of a grid says of the dataset.
-fn ascii_head(alloc: Global, name: &Name, head: &GridHead) -> Result<Head, AllocError>
-    ensures { IfOk result (λ h. h ≡ ascii_head name.now head.now) }
+fn ascii_dataset_head(alloc: Global, name: &Name, head: &GridHead) -> Result<Head, AllocError>
+    ensures { IfOk result (λ h. h ≡ ascii_dataset_head name.now head.now) }
 {
     let files = one_file(alloc, name)?;
     let bands = one_band(alloc, ascii_band(head))?;
@@ -220,10 +221,10 @@ pub fn head_told(alloc: Global, name: &Name, driver: &DriverHead) -> Result<Head
     ensures err { IfErr result IsMemory }
 {
     match driver {
-        DriverHead::Raw(head) => raw_head(alloc, name, head),
-        DriverHead::Dted(head) => Ok(dted_head(alloc, name, head)?),
-        DriverHead::Hgt { side } => Ok(hgt_head(alloc, name, *side)?),
-        DriverHead::Ascii(head) => Ok(ascii_head(alloc, name, head)?),
+        DriverHead::Raw(head) => raw_dataset_head(alloc, name, head),
+        DriverHead::Dted(head) => Ok(dted_dataset_head(alloc, name, head)?),
+        DriverHead::Hgt { side } => Ok(hgt_dataset_head(alloc, name, *side)?),
+        DriverHead::Ascii(head) => Ok(ascii_dataset_head(alloc, name, head)?),
     }
 }
 

@@ -8,8 +8,8 @@ ghost use Rattle.catalog.specs.Dataset.{most_nestings};
 ghost use Rattle.catalog.specs.Mosaics.{sources_of};
 ghost use Rattle.catalog.specs.Heads.{kind_in, resolved};
 ghost use Rattle.catalog.specs.Drivers.{Dataset as Known};
-ghost use Rattle.catalog.specs.Walk.{number_of, dataset_named, band_named, is_narrow_band, room_for, has_band};
-ghost use Rattle.catalog.specs.Walk.{has_samples, unless_wide, visit};
+ghost use Rattle.catalog.specs.Walk.{number_of, dataset_named, band_named, is_narrow_band, room_for, unless_no_band};
+ghost use Rattle.catalog.specs.Walk.{unless_no_samples, unless_wide, visit};
 ghost use Rattle.vrt_profile.specs.Value.{is_plain};
 ghost use Rattle.catalog.specs.Linked.{IsLinked, IsPath, IsLow, IsMosaicAt, HasBand, HasSource, met_of};
 ghost use Rattle.catalog.specs.Walking.{IsPlain, Meets, Visits, Passes, Names, Reaches, ReachesRows, seen};
@@ -85,7 +85,7 @@ fn resolve_source(alloc: Global, met: &Met, at: SourceAt) -> Result<Wanted, Walk
 // The dataset that a source names has the band that it names.
 fn check_band(met: &Met, member: u32, wanted: &Wanted) -> Result<(), WalkFault>
     requires number { number_of met.now.datasets wanted.now.name ≡ Some member }
-    ensures told { Gives IsMemory (λ _. tt) result (has_band met.now.datasets wanted.now.name wanted.now.band) }
+    ensures told { Gives IsMemory (λ _. tt) result (unless_no_band met.now.datasets wanted.now.name wanted.now.band) }
     ensures plain { IfErr result IsPlain }
 {
     if wanted.band as usize > met.band_count(member) {
@@ -139,7 +139,7 @@ fn check_samples(met: &Met, id: u32, member: u32, wanted: &Wanted) -> Result<(),
     requires known { id < length met.now.datasets }
     requires number { number_of met.now.datasets wanted.now.name ≡ Some member }
     ensures told { (d : Known) → slice_get met.now.datasets id ≡ Some d →
-        Gives IsMemory (λ _. tt) result (has_samples met.now.datasets d.head.name wanted.now.name wanted.now.band
+        Gives IsMemory (λ _. tt) result (unless_no_samples met.now.datasets d.head.name wanted.now.name wanted.now.band
         wanted.now.plain) }
     ensures plain { IfErr result IsPlain }
 {

@@ -70,6 +70,7 @@ written_as extension = record {
   layout = layout_for extension;
 }
 
+-- whether two formats of outputs are the same one
 abbrev pub is_same_format : OutFormat → OutFormat → Bool
 is_same_format EHdr EHdr = true
 is_same_format Dted Dted = true
@@ -99,11 +100,13 @@ abbrev pub layout_in : Option (ℕ × Layout) → Written → Result Layout Word
 layout_in None w = Ok w.layout
 layout_in (Some asked) w = if is_same_format EHdr w.format then Ok asked.1 else Err (Usage asked.0)
 
+-- the job of gdalinfo, of a line of so many words
 unfoldable pub info_job : ℕ → Spoken → Result Job WordFault
 info_job count s = do
   name ← ok_or s.source (Usage count)
   Ok (job.Info name)
 
+-- the job of gdallocationinfo, of a line of so many words
 unfoldable pub locate_job : ℕ → Spoken → Result Job WordFault
 locate_job count s = do
   name ← ok_or s.source (Usage count)
@@ -119,6 +122,7 @@ asked_of wanted at name = do
   layout ← layout_in wanted.interleave written
   Ok (record { written = written; view = view; layout = layout })
 
+-- what a translation is asked for, by what the words want and how its output of this name is to be
 abbrev pub options_of : Wanted → List ℕ → List ℕ → Asked → Options
 options_of wanted name bands a = record {
   driver = a.written.driver;
@@ -133,6 +137,7 @@ options_of wanted name bands a = record {
   eco = wanted.touching;
 }
 
+-- the job of gdal_translate, of a line of so many words
 unfoldable pub translate_job : ℕ → Spoken → Result Job WordFault
 translate_job count s = do
   name ← ok_or s.source (Usage count)
@@ -181,6 +186,7 @@ asked_mosaic count wanted band_at at name = do
   resolution ← resolution_of count wanted.resolution wanted.pixel_size
   Ok (record { separate = separate; resolution = resolution })
 
+-- what a mosaic is asked for, by what the words want and how the mosaic of this name is to be
 abbrev pub mosaic_options : MosaicWanted → List ℕ → List ℕ → AskedMosaic → MosaicOptions
 mosaic_options wanted name bands a = record {
   out = name;
@@ -193,6 +199,7 @@ mosaic_options wanted name bands a = record {
   strict = wanted.strict;
 }
 
+-- the job of gdalbuildvrt, of a line of so many words
 unfoldable pub build_job : ℕ → Spoken → Result Job WordFault
 build_job count s = do
   output ← ok_or s.output (Usage count)
@@ -200,6 +207,7 @@ build_job count s = do
   asked ← asked_mosaic count s.mosaic s.band_at output.0 output.1
   Ok (job.Build inputs s.list (mosaic_options s.mosaic output.1 s.bands asked) s.quiet)
 
+-- the job of synth, of a line of so many words
 unfoldable pub synth_job : ℕ → Spoken → Result Job WordFault
 synth_job count s = do
   side ← ok_or s.tile (Usage count)

@@ -75,10 +75,12 @@ own_option_of Translate word = option_in translate_options word
 own_option_of Build word = option_in build_options word
 own_option_of Synth word = None
 
+-- the first of two options, where it is there, else the second
 abbrev pub either_option : Option OptionWord → Option OptionWord → Option OptionWord
 either_option (Some option) own = Some option
 either_option None own = own
 
+-- the option of all commands that a word names
 unfoldable pub shared_option_of : List ℕ → Option OptionWord
 shared_option_of word = option_in shared_options word
 

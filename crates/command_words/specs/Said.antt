@@ -33,12 +33,14 @@ abbrev pub setting_said : List ℕ → List ℕ → Said
 setting_said key value = if bytes_eq key (codes "DTED_VERIFY_CHECKSUM") then said.Verification (not (is_no value))
     else said.Setting
 
+-- what --config says, by a key and a value
 unfoldable pub config_said : Spot → List (List ℕ) → Result Said WordFault
 config_said spot values = do
   key ← value_said any_text spot values 0
   value ← value_said any_text spot values 1
   Ok (setting_said key value)
 
+-- what -srcwin says: the offset and the size of a window in pixels
 unfoldable pub window_said : Spot → List (List ℕ) → Result Said WordFault
 window_said spot values = do
   x ← value_said integer_of spot values 0
@@ -47,6 +49,7 @@ window_said spot values = do
   h ← value_said integer_of spot values 3
   Ok (said.Window (view.Pixels x y w h))
 
+-- what -projwin says: two corners of a window in coordinates
 unfoldable pub places_said : Spot → List (List ℕ) → Result Said WordFault
 places_said spot values = do
   ulx ← value_said ticks_of spot values 0
@@ -55,47 +58,56 @@ places_said spot values = do
   lry ← value_said ticks_of spot values 3
   Ok (said.Places (view.Places ulx uly lrx lry))
 
+-- what -outsize says: the columns and the lines of the output
 unfoldable pub outsize_said : Spot → List (List ℕ) → Result Said WordFault
 outsize_said spot values = do
   w ← value_said side_of spot values 0
   h ← value_said side_of spot values 1
   Ok (said.OutSize w h)
 
+-- what -b says: the number of a band
 unfoldable pub band_said : Spot → List (List ℕ) → Result Said WordFault
 band_said spot values = do
   band ← value_said band_of spot values 0
   Ok (said.Band band)
 
+-- what --blocks says: how many blocks a pool may hold
 unfoldable pub blocks_said : Spot → List (List ℕ) → Result Said WordFault
 blocks_said spot values = do
   blocks ← value_said blocks_of spot values 0
   Ok (said.Blocks blocks)
 
+-- what --workers says: how many lanes read beside each other
 unfoldable pub workers_said : Spot → List (List ℕ) → Result Said WordFault
 workers_said spot values = do
   workers ← value_said workers_of spot values 0
   Ok (said.Workers workers)
 
+-- what -of says: the format of the output
 unfoldable pub format_said : Spot → List (List ℕ) → Result Said WordFault
 format_said spot values = do
   format ← value_said format_of spot values 0
   Ok (said.Format format)
 
+-- what -a_nodata says: the NODATA of the output, or that it has none
 unfoldable pub nodata_said : Spot → List (List ℕ) → Result Said WordFault
 nodata_said spot values = do
   word ← value_said nodata_of spot values 0
   Ok (said.Nodata word)
 
+-- what -ot says: the type of the output
 unfoldable pub kind_said : Spot → List (List ℕ) → Result Said WordFault
 kind_said spot values = do
   kind ← value_said (type_named true) spot values 0
   Ok (said.Kind kind)
 
+-- what -co says: the layout of raw data
 unfoldable pub creation_said : Spot → List (List ℕ) → Result Said WordFault
 creation_said spot values = do
   layout ← value_said layout_of spot values 0
   Ok (said.Interleave layout)
 
+-- what -resolution says: by which rule the pixel sizes of a mosaic are found
 unfoldable pub resolution_said : Spot → List (List ℕ) → Result Said WordFault
 resolution_said spot values = do
   word ← value_said resolution_named spot values 0
@@ -117,16 +129,19 @@ extent_said spot values = do
   ymax ← value_said (beyond ymin) spot values 3
   Ok (said.Mosaic (mosaic.Extent (record { xmin = xmin; ymin = ymin; xmax = xmax; ymax = ymax })))
 
+-- what -srcnodata says: the NODATA of the sources of a mosaic
 unfoldable pub source_nodata_said : Spot → List (List ℕ) → Result Said WordFault
 source_nodata_said spot values = do
   word ← value_said nodata_of spot values 0
   Ok (said.Mosaic (mosaic.SourceNodata word))
 
+-- what -vrtnodata says: the NODATA of a mosaic
 unfoldable pub mosaic_nodata_said : Spot → List (List ℕ) → Result Said WordFault
 mosaic_nodata_said spot values = do
   word ← value_said nodata_of spot values 0
   Ok (said.Mosaic (mosaic.Nodata word))
 
+-- what -input_file_list says: the name of a file of names
 unfoldable pub list_said : Spot → List (List ℕ) → Result Said WordFault
 list_said spot values = do
   name ← value_said name_of spot values 0

@@ -88,17 +88,18 @@ abbrev pub tile_said : List ℕ → Option Said
 tile_said word = option_map (λ n. said.Tile n) (tile_side_of word)
 
 -- a positional word behind so many others, where there is a place for it and it is of the form
-abbrev pub placed : Tool → ℕ → List ℕ → Option Said
-placed Info before word = if before == 0 then source_said word else None
-placed Locate before word = if before == 0 then source_said word else if before == 1 then x_said word
+abbrev pub positional_of : Tool → ℕ → List ℕ → Option Said
+positional_of Info before word = if before == 0 then source_said word else None
+positional_of Locate before word = if before == 0 then source_said word else if before == 1 then x_said word
     else if before == 2 then y_said word else None
-placed Translate before word = if before == 0 then source_said word else if before == 1 then output_said word else None
-placed Build before word = if before == 0 then output_said word else input_said word
-placed Synth before word = if before == 0 then tile_said word else None
+positional_of Translate before word = if before == 0 then source_said word
+    else if before == 1 then output_said word else None
+positional_of Build before word = if before == 0 then output_said word else input_said word
+positional_of Synth before word = if before == 0 then tile_said word else None
 
 -- what a positional word behind so many others says
 unfoldable pub placed_said : Tool → ℕ → ℕ → List ℕ → Result Said WordFault
-placed_said tool before at word = if is_positional tool word then ok_or (placed tool before word) (Usage at)
+placed_said tool before at word = if is_positional tool word then ok_or (positional_of tool before word) (Usage at)
     else Err (Usage at)
 
 -- what a use says, of all words so many, behind so many positional words
@@ -118,15 +119,17 @@ judged tool count before uses [] = Ok uses
 judged tool count before uses (u ∷ us) = said_by u.option tool count before u
     >>= (λ s. judged tool count (behind_use before u.option) ((u.at, s) ∷ uses) us)
 
--- the last thing of a sort that uses say, of which the latest stands first
+-- the first of two things, where it is there, else the second
 abbrev pub later : {T : Type 0} → Option T → Option T → Option T
 later (Some x) earlier = Some x
 later None earlier = earlier
 
+-- the last thing of a sort that uses say, of which the latest stands first
 abbrev pub last : {T : Type 0} → (ℕ → Said → Option T) → List (ℕ × Said) → Option T
 last sort [] = None
 last sort (u ∷ us) = later (sort u.0 u.1) (last sort us)
 
+-- Sorts of things that uses say: what is said, with the number of its word where that is looked at later.
 abbrev pub verification : ℕ → Said → Option Bool
 verification at (said.Verification on) = Some on
 verification at other = None
@@ -139,6 +142,7 @@ abbrev pub worker_count : ℕ → Said → Option ℕ
 worker_count at (said.Workers workers) = Some workers
 worker_count at other = None
 
+-- the number of the word at which a band is chosen
 abbrev pub band_place : ℕ → Said → Option ℕ
 band_place at (said.Band band) = Some at
 band_place at other = None
@@ -159,10 +163,12 @@ abbrev pub format : ℕ → Said → Option OutFormat
 format at (said.Format f) = Some f
 format at other = None
 
+-- a window in pixels, with the number of its word
 abbrev pub window : ℕ → Said → Option (ℕ × View)
 window at (said.Window v) = Some (at, v)
 window at other = None
 
+-- a window in coordinates, with the number of its word
 abbrev pub places : ℕ → Said → Option (ℕ × View)
 places at (said.Places v) = Some (at, v)
 places at other = None
@@ -187,10 +193,12 @@ abbrev pub quiet : ℕ → Said → Option ℕ
 quiet at said.Quiet = Some at
 quiet at other = None
 
+-- the number of the word that refuses a window partly outside the source
 abbrev pub inside : ℕ → Said → Option ℕ
 inside at said.Inside = Some at
 inside at other = None
 
+-- the number of the word that refuses a window wholly outside the source
 abbrev pub touching : ℕ → Said → Option ℕ
 touching at said.Touching = Some at
 touching at other = None
@@ -247,20 +255,22 @@ abbrev pub tile : ℕ → Said → Option ℕ
 tile at (said.Tile n) = Some n
 tile at other = None
 
--- all bands, in the order in which they are said
+-- these bands, and behind them the one that is said, if it is a band
 abbrev pub with_band : List ℕ → Said → List ℕ
 with_band bands (said.Band band) = bands ++ band ∷ []
 with_band bands other = bands
 
+-- all bands that uses choose, in the order in which they are said
 abbrev pub bands_said : List (ℕ × Said) → List ℕ
 bands_said [] = []
 bands_said (u ∷ us) = with_band (bands_said us) u.1
 
--- all inputs, in the order in which they are said
+-- these inputs, and behind them the one that is said, if it is an input
 abbrev pub with_input : List (List ℕ) → Said → List (List ℕ)
 with_input inputs (said.Input name) = inputs ++ name ∷ []
 with_input inputs other = inputs
 
+-- all inputs that uses name, in the order in which they are said
 abbrev pub inputs_said : List (ℕ × Said) → List (List ℕ)
 inputs_said [] = []
 inputs_said (u ∷ us) = with_input (inputs_said us) u.1

@@ -1,9 +1,12 @@
 -- The values of options.
-use Rattle.std.specs.Prelude.{ℕ, ℤ, pos, neg_ℤ, ◌-◌, ◌==◌, ◌&&◌, ◌||◌, ◌^◌, Bool, false, nat_le, List, [], ◌∷◌, length}
+use Rattle.std.specs.Prelude.{ℕ, ℤ, pos, neg_ℤ, ◌-◌, ◌==◌, ◌&&◌, ◌||◌, Bool, false, nat_le, List, [], ◌∷◌, length}
 use Rattle.std.specs.Prelude.{take, drop, codes, bytes_eq, Option, Some, None, option_map, option_and_then}
 use Rattle.std.specs.Prelude.{if◌then◌else◌, int_le, int_lt}
+use Rattle.lists_and_answers.specs.Bytes.{minus_sign}
 use Rattle.lists_and_answers.specs.Texts.{same_letters}
 use Rattle.geotransform.specs.Decimal.{number_of, whole_of, ticks_of}
+use Rattle.geotransform.specs.Types.{lowest, highest}
+use Rattle.geotransform.specs.declared.types.PixelType.TheVariants.{Int64, UInt64}
 use Rattle.outside.specs.Paths.{normal, longest_name}
 use Rattle.esri_hdr.specs.declared.header_parts.Layout.{Layout}
 use Rattle.esri_hdr.specs.declared.header_parts.Layout.TheVariants.{Bil, Bip, Bsq}
@@ -15,18 +18,18 @@ use Rattle.command_words.specs.declared.spoken.OutFormat.{OutFormat}
 use Rattle.command_words.specs.declared.spoken.OutFormat.TheVariants.{EHdr, Dted, SrtmHgt, AaiGrid, Vrt}
 use Rattle.command_words.specs.declared.spoken.ResolutionWord.{ResolutionWord}
 use Rattle.command_words.specs.declared.spoken.ResolutionWord.TheVariants.{Highest, Lowest, Average, User}
-use Rattle.geotransform.specs.Limits.{most_bands}
+use Rattle.geotransform.specs.Limits.{most_bands, most_short_digits}
 use Rattle.band_blocks.specs.Blocks.{most_blocks}
 use Rattle.lane_teams.specs.Workers.{most_workers}
 use Rattle.synthetic_rasters.specs.Tiles.{most_tile_side}
 
 abbrev pub begins_with_dash : List ℕ → Bool
 begins_with_dash [] = false
-begins_with_dash (b ∷ bs) = b == 45
+begins_with_dash (b ∷ bs) = b == minus_sign
 
 -- the number that one to nine digits write
 abbrev pub short_of : List ℕ → Option ℕ
-short_of word = if nat_le (length word) 9 then number_of word else None
+short_of word = if nat_le (length word) most_short_digits then number_of word else None
 
 -- a number from 1 to a greatest one
 abbrev pub number_within : ℕ → Option ℕ → Option ℕ
@@ -36,9 +39,11 @@ number_within most (Some n) = if nat_le 1 n && nat_le n most then Some n else No
 abbrev pub band_of : List ℕ → Option ℕ
 band_of word = number_within most_bands (short_of word)
 
+-- a number of blocks that a pool may hold
 abbrev pub blocks_of : List ℕ → Option ℕ
 blocks_of word = number_within most_blocks (short_of word)
 
+-- a number of lanes that read beside each other
 abbrev pub workers_of : List ℕ → Option ℕ
 workers_of word = number_within most_workers (short_of word)
 
@@ -49,7 +54,7 @@ tile_side_of word = number_within most_tile_side (short_of word)
 -- one to nine digits, with a minus or without
 abbrev pub integer_of : List ℕ → Option ℤ
 integer_of [] = None
-integer_of (b ∷ bs) = if b == 45 then option_map (λ n. neg_ℤ (pos n)) (short_of bs)
+integer_of (b ∷ bs) = if b == minus_sign then option_map (λ n. neg_ℤ (pos n)) (short_of bs)
     else option_map (λ n. pos n) (short_of (b ∷ bs))
 
 -- what stands before the last byte of a text, and that byte, if there is one
@@ -87,8 +92,9 @@ layout_of word = if same_letters word (codes "INTERLEAVE=BIL") then Some Bil
 
 -- a number of a type of 64 bits, with or without a sign
 abbrev pub is_wide : ℤ → Bool
-is_wide n = int_le (neg_ℤ (pos (2 ^ 63))) n && int_le n (pos (2 ^ 64 - 1))
+is_wide n = int_le (lowest Int64) n && int_le n (highest UInt64)
 
+-- a number of a type of 64 bits as a NODATA
 abbrev pub wide_number : ℤ → Option NodataWord
 wide_number n = if is_wide n then Some (nodata.Number n) else None
 
@@ -103,9 +109,10 @@ resolution_named word = if bytes_eq word (codes "highest") then Some Highest els
     then Some Lowest else if bytes_eq word (codes "average") then Some Average else if bytes_eq word (codes "user")
     then Some User else None
 
--- a number above another, and the ticks of a decimal text where they are above so many
+-- a number, where it is above another one
 abbrev pub above : ℤ → ℤ → Option ℤ
 above least n = if int_lt least n then Some n else None
 
+-- the ticks of a decimal text, where they are above so many
 abbrev pub beyond : ℤ → List ℕ → Option ℤ
 beyond least word = option_and_then (above least) (ticks_of word)

@@ -4,7 +4,7 @@ ghost use Rattle.std.specs.Prelude.{Ok};
 ghost use Rattle.lists_and_answers.specs.Answers.{Gives};
 ghost use Rattle.command_words.specs.Options.{option_of};
 ghost use Rattle.command_words.specs.Uses.{may_be_negative, is_positional, source_said, output_said, input_said};
-ghost use Rattle.command_words.specs.Uses.{x_said, y_said, tile_said, placed, placed_said, said_by, taken_by};
+ghost use Rattle.command_words.specs.Uses.{x_said, y_said, tile_said, positional_of, placed_said, said_by, taken_by};
 ghost use Rattle.command_words.specs.Uses.{behind_use, with_mosaic, with_said, wanted_of, mosaic_of, spoken_of};
 ghost use Rattle.command_words.specs.Uses.{spoken_in};
 ghost use Rattle.command_words.specs.Words.{IsMemory};
@@ -93,8 +93,14 @@ fn tile_said(at: u64, word: &str) -> Result<Said, WordFault>
 }
 
 // A positional word behind so many others.
-fn placed(alloc: Global, tool: Tool, before: u64, at: u64, word: &str) -> Result<Said, WordFault>
-    ensures { Gives IsMemory (λ s. s) result (ok_or (placed tool before word.now) (WordFault.Usage at)) }
+fn positional_of(
+    alloc: Global,
+    tool: Tool,
+    before: u64,
+    at: u64,
+    word: &str,
+) -> Result<Said, WordFault>
+    ensures { Gives IsMemory (λ s. s) result (ok_or (positional_of tool before word.now) (WordFault.Usage at)) }
 {
     match tool {
         Tool::Build if before == 0 => output_said(alloc, at, word),
@@ -121,7 +127,7 @@ fn placed_said(
     ensures { Gives IsMemory (λ s. s) result (placed_said tool before at word.now) }
 {
     if is_positional(tool, word.as_bytes()) {
-        placed(alloc, tool, before, at, word)
+        positional_of(alloc, tool, before, at, word)
     } else {
         Err(WordFault::Usage { word: at })
     }

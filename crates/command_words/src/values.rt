@@ -2,6 +2,7 @@
 ghost use Rattle.std.specs.Prelude.{◌≡◌, ◌<◌, ◌<ℤ◌, ◌^◌, IfSome, ok_or};
 ghost use Rattle.lists_and_answers.specs.Answers.{Gives};
 ghost use Rattle.lists_and_answers.specs.Texts.{same_letters};
+ghost use Rattle.geotransform.specs.Limits.{most_short_digits};
 ghost use Rattle.translate_plan.specs.Options.{IsWhole};
 ghost use Rattle.command_words.specs.Values.{begins_with_dash, short_of, band_of, blocks_of, integer_of, side_of};
 ghost use Rattle.command_words.specs.Values.{name_of, is_no, format_of, layout_of, nodata_of, wide_number};
@@ -12,13 +13,19 @@ use crate::numbers::{AskedNodata, BlockCount, Side};
 use crate::spoken::{OutFormat, ResolutionWord, WordFault};
 use catalog::NodataWord;
 use esri_hdr::Layout;
-use geotransform::{BandNumber, read_number, read_whole};
+use geotransform::{BandNumber, MOST_SHORT_DIGITS, read_number, read_whole};
 use input_points::Position;
 use lane_teams::WorkerCount;
 use outside::{Name, NameFault};
 use std::alloc::Global;
 use synthetic_rasters::TileSide;
 use translate_plan::OutSize;
+
+/// The least number of a type of 64 bits with a sign.
+const LOWEST: i128 = -9_223_372_036_854_775_808;
+
+/// The greatest number of a type of 64 bits without a sign.
+const HIGHEST: i128 = 18_446_744_073_709_551_615;
 
 /// Whether a word begins with a dash.
 pub fn begins_with_dash(word: &[u8]) -> bool
@@ -34,9 +41,9 @@ pub fn begins_with_dash(word: &[u8]) -> bool
 #[tactic(auto, using(crate::proofs::Short::short_below))]
 fn short_of(word: &[u8]) -> Option<u32>
     ensures value { result ≡ short_of word.now }
-    ensures kept { IfSome result (λ n. n < 10 ^ 9) }
+    ensures kept { IfSome result (λ n. n < 10 ^ most_short_digits) }
 {
-    if word.len() > 9 {
+    if word.len() > MOST_SHORT_DIGITS {
         return None;
     }
     let number = read_number(word)?;
@@ -151,7 +158,7 @@ pub fn layout_of(word: &str) -> Option<Layout>
 fn wide_number(number: i128) -> Option<AskedNodata>
     ensures { result ≡ wide_number number }
 {
-    if number >= -9_223_372_036_854_775_808 && number <= 18_446_744_073_709_551_615 {
+    if number >= LOWEST && number <= HIGHEST {
         Some(AskedNodata::of(NodataWord::Number(number)))
     } else {
         None

@@ -1,12 +1,12 @@
 -- A raster fits exactly where it is a cell.
-use Rattle.std.proofs.Common.{◌≡◌, ℕ, ℤ, ◌+◌, ◌-◌, ◌*◌, ◌≤◌, ◌<◌, ◌<ℤ◌, ◌≤ℤ◌, ◌+ℤ◌, ◌*ℤ◌, true, false, Bool, ap, ◌∙◌, sym, arith, pos, negsuc, refl, Option, Some, None}
+use Rattle.std.proofs.Common.{◌≡◌, ℕ, ℤ, ◌+◌, ◌*◌, ◌≤◌, ◌<◌, ◌<ℤ◌, ◌≤ℤ◌, true, false, Bool, ap, ◌∙◌, sym, arith, pos, refl, Some}
 use Rattle.std.specs.Prelude.{◌==◌}
 use Rattle.std.proofs.Math.Nat.{mul-le-mul}
 use Rattle.std.proofs.lemmas.Int.{ints}
 use Rattle.std.proofs.lemmas.Bool.Decides.{nat_tests}
 use Rattle.geotransform.specs.Print.{unit}
 use Rattle.geotransform.specs.Geo.{Transform, is_north_up}
-use Rattle.geotransform.specs.Degrees.{degree_near, twice_west, twice_east, twice_south, twice_north, lon_of, lat_of, IsAt}
+use Rattle.geotransform.specs.Degrees.{degree_near, twice_west, twice_east, twice_south, twice_north, lon_of, lat_of}
 use Rattle.geotransform.specs.declared.types.Size.{Size}
 use Rattle.geotransform.proofs.Centres.{bind_is, bind_made, between_is, between_made, near_is, up_is, up_made}
 use Rattle.dted_records.specs.Head.{Head}

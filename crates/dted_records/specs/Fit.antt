@@ -1,5 +1,5 @@
 -- The cells that rasters are.
-use Rattle.std.specs.Prelude.{◌≡◌, ◌⊎◌, ◌<ℤ◌, ◌≤ℤ◌, ◌≤◌, ℕ, ℤ, pos, negsuc, ◌+ℤ◌, ◌*ℤ◌, ◌+◌, ◌-◌, ◌*◌, ◌/◌, ◌%◌, Bool}
+use Rattle.std.specs.Prelude.{◌≡◌, ◌⊎◌, ◌<ℤ◌, ◌≤ℤ◌, ℕ, ℤ, pos, negsuc, ◌+ℤ◌, ◌*ℤ◌, ◌+◌, ◌-◌, ◌*◌, ◌/◌, ◌%◌, Bool}
 use Rattle.std.specs.Prelude.{Option, Some, None, nat_lt, ◌==◌, if◌then◌else◌, unsigned_abs}
 use Rattle.lists_and_answers.specs.Options.{◌>>=◌}
 use Rattle.geotransform.specs.Geo.{Transform, is_north_up}
@@ -31,7 +31,7 @@ factor_at e = if nat_lt e 50 then Some 1 else (if nat_lt e 70 then Some 2
 abbrev pub lines_of : ℕ → ℕ → ℕ
 lines_of level factor = (points_of level - 1) / factor + 1
 
--- something holds
+-- an answer where something holds, and none where it doesn't
 abbrev pub holds : Bool → Option (Unit {0})
 holds b = if b then Some tt else None
 

@@ -122,6 +122,6 @@ error_line OutFault = codes "ERROR 3: writing the output failed\n"
 error_line Memory = codes "ERROR 2: out of memory\n"
 
 -- the line of a fault, where there is one
-abbrev pub line_of : Option Fault → List ℕ
-line_of None = []
-line_of (Some fault) = error_line fault
+abbrev pub error_line_of : Option Fault → List ℕ
+error_line_of None = []
+error_line_of (Some fault) = error_line fault

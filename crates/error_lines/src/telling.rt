@@ -3,7 +3,7 @@ ghost use Rattle.std.specs.Prelude.{◌≡◌, ◌≤◌, true, false};
 ghost use Rattle.outside.specs.Causes.{Rose};
 ghost use Rattle.outside.specs.Streams.{Gets, GetsPart};
 ghost use Rattle.error_lines.specs.Faults.{status_of};
-ghost use Rattle.error_lines.specs.Texts.{line_of};
+ghost use Rattle.error_lines.specs.Texts.{error_line_of};
 
 use crate::texts::put_fault;
 use crate::{Fault, Outcome};
@@ -37,8 +37,8 @@ fn status(fault: &Option<Fault>) -> u8
 // The line of the fault, where there is one. A failing stream changes nothing else.
 fn say<E: Sink>(err: &mut E, fault: &Option<Fault>)
     ensures whole { (Rose (E.faults err.old) (E.faults err.new) → ⊥) →
-        Gets (line_of fault.now) (E.got err.old) (E.got err.new) }
-    ensures part { GetsPart (line_of fault.now) (E.got err.old) (E.got err.new) }
+        Gets (error_line_of fault.now) (E.got err.old) (E.got err.new) }
+    ensures part { GetsPart (error_line_of fault.now) (E.got err.old) (E.got err.new) }
     ensures later { E.faults err.old ≤ E.faults err.new }
 {
     if let Some(fault) = fault {
@@ -52,8 +52,8 @@ pub fn tell<E: Sink>(err: &mut E, failed: bool, fault: Option<Fault>) -> Outcome
     ensures fault { result.fault ≡ fault }
     ensures status { result.status ≡ status_of fault }
     ensures whole { failed ≡ false → (Rose (E.faults err.old) (E.faults err.new) → ⊥) →
-        Gets (line_of fault) (E.got err.old) (E.got err.new) }
-    ensures part { failed ≡ false → GetsPart (line_of fault) (E.got err.old) (E.got err.new) }
+        Gets (error_line_of fault) (E.got err.old) (E.got err.new) }
+    ensures part { failed ≡ false → GetsPart (error_line_of fault) (E.got err.old) (E.got err.new) }
     ensures untouched { failed ≡ true → err.new ≡ err.old }
     ensures later { E.faults err.old ≤ E.faults err.new }
 {

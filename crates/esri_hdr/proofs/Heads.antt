@@ -1,6 +1,6 @@
 -- What a header says of a geotransform fits, and a plain head is a head.
-use Rattle.std.proofs.Common.{◌≡◌, ℕ, ℤ, pos, negsuc, ◌+◌, ◌*◌, ◌%◌, ◌^◌, ◌<◌, ◌≤◌, true, false, Bool, cond, refl, sym, arith, unsigned_abs, Option, Some, None}
-use Rattle.std.specs.Prelude.{◌&&◌, int_lt, nat_lt, ◌+ℤ◌, ◌-ℤ◌, ◌*ℤ◌, neg_ℤ, IfSome}
+use Rattle.std.proofs.Common.{◌≡◌, ℕ, ℤ, pos, ◌*◌, ◌%◌, ◌^◌, ◌<◌, ◌≤◌, true, false, Bool, cond, refl, sym, arith, unsigned_abs, Option, Some, None}
+use Rattle.std.specs.Prelude.{◌&&◌, int_lt, ◌+ℤ◌, ◌-ℤ◌, ◌*ℤ◌, neg_ℤ, IfSome}
 use Rattle.std.proofs.lemmas.Nat.{mul-le}
 use Rattle.std.proofs.lemmas.Bool.Decides.{nat_tests}
 use Rattle.std.proofs.lemmas.Int.{ints}
@@ -14,7 +14,7 @@ use Rattle.geotransform.specs.declared.types.PixelType.{PixelType}
 use Rattle.esri_hdr.specs.declared.header_parts.Layout.{Layout}
 use Rattle.esri_hdr.specs.declared.header_parts.Layout.TheVariants.{Bil, Bip, Bsq}
 use Rattle.esri_hdr.specs.declared.header_parts.RawGeo.{RawGeo}
-use Rattle.esri_hdr.specs.Head.{Head, IsHead, GeoFits, RowsFit, sample_len, is_half_near, raw_geo, is_origin, holds_transform, raw_geo_of, plain_row, plain_head}
+use Rattle.esri_hdr.specs.Head.{IsHead, GeoFits, RowsFit, sample_len, is_half_near, raw_geo, is_origin, holds_transform, raw_geo_of, plain_row, plain_head}
 
 both : (a b : Bool) → a && b ≡ true → (a ≡ true) × (b ≡ true)
 both true b h = (refl, h)

@@ -16,7 +16,7 @@ use Rattle.esri_hdr.specs.declared.header_parts.HdrFault.TheVariants.{BadValue, 
 use Rattle.esri_hdr.specs.declared.header_parts.Layout.{Layout}
 use Rattle.esri_hdr.specs.declared.header_parts.Layout.TheVariants.{Bil, Bip, Bsq}
 use Rattle.lists_and_answers.specs.Answers.{◌>>=◌}
-use Rattle.esri_hdr.specs.Values.{at_most, counted, number_in, side_in, bands_in, bits_in, big_in, layout_in, skip_in, signed_in, kind_of, row_in, band_row_in, total_row_in, gap_in, BandRowFits, TotalRowFits, GapFits}
+use Rattle.esri_hdr.specs.Values.{at_most, counted, number_in, side_in, bands_in, bits_in, big_endian_in, layout_in, skip_in, signed_in, kind_of, row_in, band_row_in, total_row_in, gap_in, BandRowFits, TotalRowFits, GapFits}
 use Rattle.esri_hdr.specs.Head.{sample_len, IsSide}
 use Rattle.esri_hdr.specs.Text.{order_text, layout_text, sign_text}
 
@@ -66,8 +66,8 @@ bits_again Int32 = bits_read 32 (omega arith) refl
 bits_again UInt64 = bits_read 64 (omega arith) refl
 bits_again Int64 = bits_read 64 (omega arith) refl
 
-pub big_again : (big : Bool) → big_in (Some (order_text big)) ≡ Ok big
-unfolding big_in
+pub big_again : (big : Bool) → big_endian_in (Some (order_text big)) ≡ Ok big
+unfolding big_endian_in
 big_again true = refl
 big_again false = refl
 

@@ -19,7 +19,7 @@ use Rattle.esri_hdr.specs.declared.header_parts.RawGeo.{RawGeo}
 use Rattle.esri_hdr.specs.declared.header_parts.Shape.{Shape}
 use Rattle.esri_hdr.specs.declared.header_parts.Rows.{Rows}
 use Rattle.esri_hdr.specs.Lines.{Values, last_of}
-use Rattle.esri_hdr.specs.Values.{side_in, bands_in, bits_in, big_in, layout_in, skip_in, signed_in, kind_of}
+use Rattle.esri_hdr.specs.Values.{side_in, bands_in, bits_in, big_endian_in, layout_in, skip_in, signed_in, kind_of}
 use Rattle.esri_hdr.specs.Values.{band_row_in, total_row_in, gap_in, BandRowFits, TotalRowFits, GapFits, longest_gap}
 use Rattle.esri_hdr.specs.Keys as keys
 use Rattle.geotransform.specs.Limits.{most_bands, most_side, unit_limit}
@@ -64,7 +64,7 @@ shape_of value = do
   w ← side_in cols
   bands ← bands_in (value keys.nbands)
   bits ← bits_in (value keys.nbits)
-  big ← big_in (value keys.byteorder)
+  big ← big_endian_in (value keys.byteorder)
   layout ← layout_in (value keys.layout)
   skip ← skip_in (value keys.skipbytes)
   signed ← signed_in bits (value keys.pixeltype) (value keys.nodata)

@@ -4,13 +4,14 @@ use Rattle.std.specs.Prelude.{slice_index_or}
 use Rattle.std.specs.Option.{option_map}
 use denote.Bor.{Bor}
 use Rattle.std.specs.List.{slice_split, position}
+use Rattle.lists_and_answers.specs.Bytes.{line_feed, carriage_return}
 use Rattle.lists_and_answers.specs.Texts.{same_letters, token_at}
 use Rattle.esri_hdr.specs.Keys.{names}
 
 -- a line ends with a line feed, a carriage return, or both: between both there is one empty line more, which has no
 -- token
 abbrev pub is_line_end : ℕ → Bool
-is_line_end c = (c == 10) || (c == 13)
+is_line_end c = (c == line_feed) || (c == carriage_return)
 
 -- the lines of a text
 abbrev pub lines : List ℕ → List (List ℕ)

@@ -2,6 +2,7 @@
 use Rattle.std.specs.Prelude.{◌≡◌, ℕ, ℤ, ◌-◌, ◌*◌, Bool, List, [], ◌∷◌, ◌++◌, length, Option, Some, None, if◌then◌else◌}
 use Rattle.std.specs.Prelude.{codes, get_or, replicate}
 use Rattle.std.specs.Fmt.{decimal, signed_decimal}
+use Rattle.lists_and_answers.specs.Bytes.{line_feed, space_byte}
 use Rattle.geotransform.specs.Print.{short_text}
 use Rattle.geotransform.specs.declared.types.PixelType.{PixelType}
 use Rattle.geotransform.specs.Types.{is_signed}
@@ -18,12 +19,12 @@ name_of key = get_or names key []
 
 -- a key's name, filled with spaces to 15 columns, and its value
 abbrev pub content_of : ℕ → List ℕ → List ℕ
-content_of key value = name_of key ++ (replicate (15 - length (name_of key)) 32 ++ value)
+content_of key value = name_of key ++ (replicate (15 - length (name_of key)) space_byte ++ value)
 
 -- a line for each key and value, which ends with a line feed
 abbrev pub text_of : List (ℕ × List ℕ) → List ℕ
 text_of [] = []
-text_of (field ∷ more) = content_of field.0 field.1 ++ 10 ∷ text_of more
+text_of (field ∷ more) = content_of field.0 field.1 ++ line_feed ∷ text_of more
 
 -- the value of BYTEORDER
 abbrev pub order_text : Bool → List ℕ

@@ -57,13 +57,27 @@ bits_in text = do
   n ← number_or 8 text
   if (n == 8) || ((n == 16) || ((n == 32) || (n == 64))) then Ok n else Err Unsupported
 
--- BYTEORDER, by its first letter
-abbrev pub order_of : ℕ → Result Bool HdrFault
-order_of c = if (c == 105) || (c == 108) then Ok false else (if (c == 109) || (c == 98) then Ok true else Err BadValue)
+-- the letters by which a byte order is told
+abbrev pub letter_i : ℕ
+letter_i = 105
 
-unfoldable pub big_in : Option (List ℕ) → Result Bool HdrFault
-big_in None = Ok false
-big_in (Some text) = order_of (to_ascii_lowercase (slice_index text 0))
+abbrev pub letter_l : ℕ
+letter_l = 108
+
+abbrev pub letter_m : ℕ
+letter_m = 109
+
+abbrev pub letter_b : ℕ
+letter_b = 98
+
+-- BYTEORDER, by its first letter in lower case: `i` and `l` put the least byte first, `m` and `b` the greatest
+abbrev pub order_of : ℕ → Result Bool HdrFault
+order_of c = if (c == letter_i) || (c == letter_l) then Ok false
+    else (if (c == letter_m) || (c == letter_b) then Ok true else Err BadValue)
+
+unfoldable pub big_endian_in : Option (List ℕ) → Result Bool HdrFault
+big_endian_in None = Ok false
+big_endian_in (Some text) = order_of (to_ascii_lowercase (slice_index text 0))
 
 -- LAYOUT
 unfoldable pub layout_in : Option (List ℕ) → Result Layout HdrFault

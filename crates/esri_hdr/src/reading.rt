@@ -18,7 +18,7 @@ use crate::keys::{
 };
 use crate::lines::scan;
 use crate::values::{
-    band_row_in, bands_in, big_in, bits_in, gap_in, kind_of, layout_in, side_in, signed_in,
+    band_row_in, bands_in, big_endian_in, bits_in, gap_in, kind_of, layout_in, side_in, signed_in,
     skip_in, total_row_in,
 };
 use geotransform::{PixelType, Sample, Size, Ticks, read_decimal, read_whole, when_in};
@@ -37,7 +37,7 @@ fn shape_of(found: &Found<'_>) -> Result<Shape, HdrFault>
     let w = side_in(cols)?;
     let bands = bands_in(found[NBANDS])?;
     let bits = bits_in(found[NBITS])?;
-    let big = big_in(found[BYTEORDER])?;
+    let big = big_endian_in(found[BYTEORDER])?;
     let layout = layout_in(found[LAYOUT])?;
     let skip = skip_in(found[SKIPBYTES])?;
     let signed = signed_in(bits, found[PIXELTYPE], found[NODATA])?;

@@ -2,7 +2,7 @@
 ghost use Rattle.std.specs.Prelude.{◌⊎◌, ◌≡◌, ℕ, ◌<◌, ◌≤◌, ◌+◌, ◌*◌, ◌/◌, ◌^◌, IfOk, Option};
 ghost use Rattle.std.specs.Option.{option_map};
 ghost use Rattle.esri_hdr.specs.Values.{number_in, number_or, at_most, counted, side_in, bands_in, bits_in, order_of};
-ghost use Rattle.esri_hdr.specs.Values.{big_in, layout_in, skip_in, is_negative, signed_in, kind_of, row_in};
+ghost use Rattle.esri_hdr.specs.Values.{big_endian_in, layout_in, skip_in, is_negative, signed_in, kind_of, row_in};
 ghost use Rattle.esri_hdr.specs.Values.{band_row_in, total_row_in, gap_in, BandRowFits, TotalRowFits, GapFits};
 ghost use Rattle.esri_hdr.specs.Values.{longest_row, longest_gap};
 ghost use Rattle.geotransform.specs.Limits.{most_bands, most_side};
@@ -92,9 +92,9 @@ fn order_of(c: u8) -> Result<bool, HdrFault>
     }
 }
 
-#[tactic(auto, unfolding(crate::specs::Values::big_in))]
-pub fn big_in(text: Option<&[u8]>) -> Result<bool, HdrFault>
-    ensures { result ≡ big_in (option_map (λ v. v.now) text.entry) }
+#[tactic(auto, unfolding(crate::specs::Values::big_endian_in))]
+pub fn big_endian_in(text: Option<&[u8]>) -> Result<bool, HdrFault>
+    ensures { result ≡ big_endian_in (option_map (λ v. v.now) text.entry) }
 {
     match text {
         None => Ok(false),

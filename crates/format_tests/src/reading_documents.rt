@@ -225,6 +225,9 @@ const PARTS: &str = "\
     4 0 <ScaleOffset>999999999999.9999999999999</ScaleOffset>|\
     4 0 <ScaleRatio>x</ScaleRatio>|\
     0 0 <LUT>0:0,10:100</LUT>|\
+    0 0 <LUT>0:0E-9,1:0e+99,2:0E999,3:1</LUT>|\
+    4 0 <LUT>0:0E+1000,1:0,2:0</LUT>|\
+    4 0 <LUT>0:0e--9,1:0,2:0</LUT>|\
     4 0 <LUT>0:0,0:100</LUT>|\
     4 0 <LUT>0:0,</LUT>|\
     0 0 <LUT>0:4999999999.9999994</LUT>|\

@@ -48,6 +48,8 @@ const VALUES: &str = "\
     1 1 <ComplexSource><SourceFilename>a</SourceFilename><LUT>0:0,2:1</LUT></ComplexSource>|\
     -1 1 <ComplexSource><SourceFilename>a</SourceFilename><LUT>0:0,2:-1</LUT></ComplexSource>|\
     3 9 <ComplexSource><SourceFilename>a</SourceFilename><LUT>5:2.5</LUT></ComplexSource>|\
+    7 3 <ComplexSource><SourceFilename>a</SourceFilename><LUT>0:0E-999,2:0e+9,3:7</LUT></ComplexSource>|\
+    0 1 <ComplexSource><SourceFilename>a</SourceFilename><LUT>0:0E-999,2:0e+9,3:7</LUT></ComplexSource>|\
     0 1 <ComplexSource><SourceFilename>a</SourceFilename><ScaleRatio>0.0000004</ScaleRatio><LUT>\
     0:0,0.000001:100</LUT></ComplexSource>|\
     100 1 <ComplexSource><SourceFilename>a</SourceFilename><ScaleRatio>0.0000005</ScaleRatio><LUT>\

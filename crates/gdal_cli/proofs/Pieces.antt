@@ -14,7 +14,7 @@ use Rattle.error_lines.specs.declared.faults.Fault.{Fault}
 use Rattle.error_lines.specs.declared.faults.Fault.TheVariants.{FolderFault, InputFault, OutFault}
 use Rattle.error_lines.specs.Faults.{IsOutside, HasCauses}
 use Rattle.gdal_cli.specs.Location.{answers, line_text, line_fault, lines_text, PutsText}
-use Rattle.gdal_cli.specs.Input.{IsReading, Answered, EndsLines, AnswersPieces, AnswersInput, StopsBehind, Taken}
+use Rattle.gdal_cli.specs.Input.{IsReading, Answered, EndsLines, AnswersPieces, AnswersInput, StopsBehind, HoldsOfGiven}
 use Rattle.gdal_cli.proofs.Ended.{nothing_put}
 use Rattle.gdal_cli.proofs.Lines.{answered_none, answered_more, ends_of, failed_behind, stopped, whole_input, last_input, line_stops, ends_behind, gone_on, stopped_by}
 
@@ -83,7 +83,7 @@ stopped_causes a b p q folder out = record { folder_later = folder; out_later = 
 
 module _ (tell : ℤ → ℤ → List ℕ) where
   abbrev pub TakenSo : Reading → Option (List ℕ) → Option (List ℕ) → List ℕ → Option (List ℕ) → Type 0
-  TakenSo r before mid input left = Taken (λ given. Answered tell start given r [] before mid) input left
+  TakenSo r before mid input left = HoldsOfGiven (λ given. Answered tell start given r [] before mid) input left
 
   -- the outside failed before anything was taken
   pub fails_first : (input : List ℕ) (left : Option (List ℕ)) (r : Result (Unit {0}) Fault) (f : Fault) (old : Option (List ℕ)) → r ≡ Err f → IsOutside f → AnswersInput tell input left r old old

@@ -7,7 +7,7 @@ use Rattle.outside.proofs.Sinks.{gets-then, gets-then-part, part-first}
 use Rattle.error_lines.specs.declared.faults.Fault.{Fault}
 use Rattle.error_lines.specs.Faults.{IsOutside, status_of}
 use Rattle.error_lines.specs.Steps.{Step, Done, cut, prints, warned, AreDone, AreWarned, Goes, GoesWarning, IsFirstPart}
-use Rattle.error_lines.specs.Texts.{line_of}
+use Rattle.error_lines.specs.Texts.{error_line_of}
 use Rattle.error_lines.proofs.Silent.{goes_with, prints_silent}
 use Rattle.error_lines.proofs.Warned.{none_warned}
 use Rattle.mosaic_builds.specs.Steps.{warns}
@@ -44,15 +44,15 @@ early_warned r m (Err f) names before after W high (inr h) = h.1
 
 -- the line of the fault behind warnings, on a stream that may have failed
 pub told_behind : (steps : List Step) (fault : Option Fault) (failed : Bool) (first mid last : ℕ) (start old new : Option (List ℕ)) → AreWarned steps failed first mid start old
-    → (failed ≡ false → (Rose mid last → ⊥) → Gets (line_of fault) old new) → (failed ≡ false → GetsPart (line_of fault) old new) → (failed ≡ true → new ≡ old) → mid ≤ last
+    → (failed ≡ false → (Rose mid last → ⊥) → Gets (error_line_of fault) old new) → (failed ≡ false → GetsPart (error_line_of fault) old new) → (failed ≡ true → new ≡ old) → mid ≤ last
     → AreTold steps fault first last start new
 told_behind steps fault false first mid last start old new w whole part same later = record {
-  whole = λ calm. gets-then (warned steps) (line_of fault) start old new (w.whole refl) (whole refl (λ rose. calm (let before = w.later in omega (arith, rose, before))));
-  part = gets-then-part (warned steps) (line_of fault) start old new (w.whole refl) (part refl);
+  whole = λ calm. gets-then (warned steps) (error_line_of fault) start old new (w.whole refl) (whole refl (λ rose. calm (let before = w.later in omega (arith, rose, before))));
+  part = gets-then-part (warned steps) (error_line_of fault) start old new (w.whole refl) (part refl);
 }
 told_behind steps fault true first mid last start old new w whole part same later = record {
   whole = λ calm. absurd (calm (let rose = w.rose refl in omega (arith, rose, later)));
-  part = part-first (warned steps) (line_of fault) start new (subst (λ (o : Option (List ℕ)). GetsPart (warned steps) start o) (sym (same refl)) w.part);
+  part = part-first (warned steps) (error_line_of fault) start new (subst (λ (o : Option (List ℕ)). GetsPart (warned steps) start o) (sym (same refl)) w.part);
 }
 
 -- nothing was warned of
@@ -82,7 +82,7 @@ silent_may able fault failed faults got fresh = record {
 
 -- the line of the fault behind them
 pub fault_behind : (able failed : Bool) (fault : Option Fault) (first mid last : ℕ) (start old new : Option (List ℕ)) → MayWarn able fault failed first mid start old
-    → (failed ≡ false → (Rose mid last → ⊥) → Gets (line_of fault) old new) → (failed ≡ false → GetsPart (line_of fault) old new) → (failed ≡ true → new ≡ old) → mid ≤ last
+    → (failed ≡ false → (Rose mid last → ⊥) → Gets (error_line_of fault) old new) → (failed ≡ false → GetsPart (error_line_of fault) old new) → (failed ≡ true → new ≡ old) → mid ≤ last
     → TellsFault able fault first last start new
 fault_behind able failed fault first mid last start old new may whole part same later =
     let told = told_behind (warns may.warnings) fault failed first mid last start old new may.told whole part same later in

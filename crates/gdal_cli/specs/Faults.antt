@@ -9,6 +9,7 @@ use Rattle.error_lines.specs.declared.faults.Fault.TheVariants.{TooDeep, Limit, 
 use Rattle.error_lines.specs.declared.faults.Fault.TheVariants.{BadPoint, Changed, FolderFault, InputFault, OutFault}
 use Rattle.error_lines.specs.declared.faults.Fault.TheVariants.{Memory}
 
+-- a fault of the words as a fault of the run
 abbrev pub word_fault_of : WordFault → Fault
 word_fault_of (word.Usage n) = Usage n
 word_fault_of word.Memory = Memory

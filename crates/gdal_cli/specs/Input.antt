@@ -81,7 +81,7 @@ pub record StopsBehind (ran : List Entry → Done) (input : List ℕ) (left befo
   pub answered : Gets (printed (ran (ended_entries given)).steps) before after
 
 -- what holds of the bytes that an input gave, behind which these are left
-pub record Taken (Holds : List ℕ → Type 0) (input : List ℕ) (left : Option (List ℕ)) : Type 0 where
+pub record HoldsOfGiven (Holds : List ℕ → Type 0) (input : List ℕ) (left : Option (List ℕ)) : Type 0 where
   pub given : List ℕ
   pub rest : List ℕ
   pub parts : input ≡ given ++ rest

@@ -32,6 +32,7 @@ abbrev pub chosen_of : ℕ → List ℕ → List ℕ
 chosen_of count [] = range_with_len 1 count
 chosen_of count (band ∷ bands) = band ∷ bands
 
+-- the bands, unless one of them is lacking, which is refused then
 abbrev pub unless_lacking : Option ℕ → List ℕ → Result (List ℕ) Fault
 unless_lacking None bands = Ok bands
 unless_lacking (Some band) bands = Err (Plan (NoBand band))
@@ -96,6 +97,7 @@ line_fault number (Point x y) = None
 line_fault number Bad = Some (BadPoint number)
 line_fault number TooMany = Some (Limit limits.Points (most_lines + 1))
 
+-- of the faults of a line and of the lines behind it the one that stands first
 abbrev pub first_fault : Option Fault → Option Fault → Option Fault
 first_fault None later = later
 first_fault (Some fault) later = Some fault
@@ -104,6 +106,7 @@ first_fault (Some fault) later = Some fault
 abbrev pub lines_text : (ℤ → ℤ → List ℕ) → List Entry → List ℕ
 lines_text tell lines = flat_map (λ (e : Entry). line_text tell e.kind) lines
 
+-- the fault of the first line that has one
 abbrev pub lines_fault : List Entry → Option Fault
 lines_fault [] = None
 lines_fault (e ∷ es) = first_fault (line_fault e.line e.kind) (lines_fault es)

@@ -22,7 +22,7 @@ use Rattle.error_lines.specs.declared.faults.Fault.TheVariants.{Usage, Absent, N
 use Rattle.error_lines.specs.declared.faults.Fault.TheVariants.{TooDeep, Limit, SourceBand, Plan, SameName, BadPoint}
 use Rattle.error_lines.specs.declared.faults.Fault.TheVariants.{Changed, FolderFault, InputFault, OutFault, Memory}
 use Rattle.error_lines.specs.Faults.{fault_of, IsOutside, status_of}
-use Rattle.error_lines.specs.Texts.{line_of}
+use Rattle.error_lines.specs.Texts.{error_line_of}
 use Rattle.error_lines.specs.Steps.{Step, Done, printed, warned, AreDone, AreWarned}
 use Rattle.translation_runs.specs.Published.{names_written}
 use Rattle.synth_runs.specs.Ends.{names_made}
@@ -105,14 +105,17 @@ abbrev pub words_read_input : Result Command WordFault → Bool
 words_read_input (Ok command) = reads_input command.job
 words_read_input (Err fault) = false
 
+-- whether the command that words are may warn of its inputs
 abbrev pub words_warn : Result Command WordFault → Bool
 words_warn (Ok command) = warns_of_inputs command.job
 words_warn (Err fault) = false
 
+-- whether the command that words are makes rasters from a number
 abbrev pub words_make_rasters : Result Command WordFault → Bool
 words_make_rasters (Ok command) = makes_rasters command.job
 words_make_rasters (Err fault) = false
 
+-- the names that the command of these words publishes
 abbrev pub words_published : Result Command WordFault → List (List ℕ)
 words_published (Ok command) = names_published command.job
 words_published (Err fault) = []
@@ -160,6 +163,7 @@ pub record RefusesOnly (result : Result (Unit {0}) Fault) : Type 0 where
   pub only : (n : List ℕ) → result ≡ Err (NotRecognized n) → kind_in n ≡ Err (walk.NotRecognized n)
   pub no_usage : (n : ℕ) → result ≡ Err (Usage n) → ⊥
 
+-- a name of one dataset is refused as RefusesKind says; where many are read, names are refused as RefusesOnly says
 abbrev pub RefusesIn : Bool → Option (List ℕ) → Result (Unit {0}) Fault → Type 0
 RefusesIn alone None result = RefusesOnly result
 RefusesIn alone (Some name) result = RefusesKind alone name result
@@ -197,16 +201,16 @@ pub record Answers (r : Done) (m : Files) (fault : Option Fault) (names : Option
 -- them
 pub record AreTold (steps : List Step) (fault : Option Fault) (faults faults_after : ℕ) (before after : Option (List ℕ))
     : Type 0 where
-  pub whole : (Rose faults faults_after → ⊥) → Gets (warned steps ++ line_of fault) before after
-  pub part : GetsPart (warned steps ++ line_of fault) before after
+  pub whole : (Rose faults faults_after → ⊥) → Gets (warned steps ++ error_line_of fault) before after
+  pub part : GetsPart (warned steps ++ error_line_of fault) before after
 
 -- Over every folder, the error stream gets warnings and the line of the fault, or where it fails a first part of them.
 -- Only words that ask for a mosaic of inputs may warn, and a run that is refused never does.
 pub record TellsFault (may : Bool) (fault : Option Fault) (faults faults_after : ℕ) (before after : Option (List ℕ))
     : Type 0 where
   pub warnings : List (List ℕ)
-  pub whole : (Rose faults faults_after → ⊥) → Gets (warned (warns warnings) ++ line_of fault) before after
-  pub part : GetsPart (warned (warns warnings) ++ line_of fault) before after
+  pub whole : (Rose faults faults_after → ⊥) → Gets (warned (warns warnings) ++ error_line_of fault) before after
+  pub part : GetsPart (warned (warns warnings) ++ error_line_of fault) before after
   pub none : may ≡ false → warnings ≡ []
   pub refused : IsRefusal fault → warnings ≡ []
 

@@ -38,6 +38,7 @@ pub data Work : Type 0 where
   Builds : Built → List ℕ → Bool → Work
   Synthesizes : ℕ → Work
 
+-- a report is judged by the head of its dataset
 unfoldable pub info_judged : Files → Bool → List ℕ → Result Work Fault
 info_judged m verify name = do
   head ← by_walk (head_in m verify name)
@@ -64,6 +65,7 @@ build_judged m verify inputs list options quiet = do
   built ← built_in m verify inputs list options
   Ok (Builds built options.out quiet)
 
+-- what a job asks for over these files, as the function of its command judges it
 abbrev pub judged_by : Job → Bool → Files → Result Work Fault
 judged_by (Info name) verify m = info_judged m verify name
 judged_by (Locate name point bands form geoloc) verify m = location_judged m verify name point bands form geoloc

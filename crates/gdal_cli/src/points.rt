@@ -75,7 +75,7 @@ fn make_inside<F: Folder, L: Ledger, S: Scene>(
     ensures names { F.names folder.new ≡ F.names folder.old }
     ensures writes { F.write_calls folder.new ≡ F.write_calls folder.old }
 {
-    // The catalog keeps its rules.
+    // This call is made for the proof: it says what holds of every catalog.
     let _count = question.cat.count();
     let form = question.asked.form;
     let bands = question.asked.bands.as_slice();

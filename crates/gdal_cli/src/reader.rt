@@ -1,6 +1,6 @@
 // What the points of a dataset are answered with.
 ghost use Rattle.std.specs.Prelude.{◌≡◌, ◌<◌, IfOk, [], length};
-ghost use Rattle.nearest_window.specs.Lanes.{held_in, room_of};
+ghost use Rattle.nearest_window.specs.Lanes.{held_count, room_of};
 ghost use Rattle.nearest_window.specs.Right.{IsFresh};
 
 use crate::asked::Asked;
@@ -76,7 +76,7 @@ impl<'a, F: Folder, L: Ledger, S: Scene> PointReader<'a, F, L, S> {
         ensures room { IfOk result (λ points. length points.room.values.items ≡ bands) }
         ensures text { IfOk result (λ points. points.room.text.items ≡ []) }
         ensures capacity { IfOk result (λ points. room_of points.pixels.lane ≡ blocks) }
-        ensures empty { IfOk result (λ points. held_in points.pixels.lane ≡ 0) }
+        ensures empty { IfOk result (λ points. held_count points.pixels.lane ≡ 0) }
         ensures none { IfOk result (λ points. points.pixels.loads ≡ 0) }
         ensures shared { IfOk result (λ points. points.pixels.shared ≡ shared.entry) }
     {

@@ -174,10 +174,23 @@ none_from (Some d) v is more =
     let high : nat_lt (magnitude d) (10 ^ 28) ≡ false = grind (arith, nat_tests, is, more) in
     ap (λ t. cond t (Some (signed d.negative (18 * magnitude d))) None) high
 
-pub ticks_below : (text : List ℕ) (s : Bool × List ℕ) (v : ℕ) → s ≡ sign_at text → v ≡ limited (parts_of text) → v < 10 ^ 28 → ticks_of text ≡ Some (signed s.0 (18 * v))
+-- the sign of a text that has parts
+text_sign : (text : List ℕ) (d : Decimal) → parts_of text ≡ Some d → d.negative ≡ (sign_at text).0
+text_sign text d has = kept_sign (nat_lt 64 (length text)) (sign_at text).0 (digits_at (sign_at text).1) d (sym (starts text) ∙ has)
+
+sign_from : (o : Option Decimal) (b s : Bool) (m : ℕ) (p : ℤ) → ((d : Decimal) → o ≡ Some d → d.negative ≡ s) → option_map brief o ≡ Some (b, (m, p)) → b ≡ s
+sign_from None b s m p kept h = absurd (cc)
+sign_from (Some d) b s m p kept h =
+    let same : brief d ≡ (b, (m, p)) = cc in
+    sym (ap (λ (t : Bool × (ℕ × ℤ)). t.0) same) ∙ kept d refl
+
+pub few_sign : (text : List ℕ) (b : Bool) (m : ℕ) (p : ℤ) → option_map brief (parts_of text) ≡ Some (b, (m, p)) → b ≡ (sign_at text).0
+few_sign text b m p h = sign_from (parts_of text) b (sign_at text).0 m p (text_sign text) h
+
+pub ticks_below : (text : List ℕ) (b : Bool) (v : ℕ) → b ≡ (sign_at text).0 → v ≡ limited (parts_of text) → v < 10 ^ 28 → ticks_of text ≡ Some (signed b (18 * v))
 unfolding ticks_of
-ticks_below text s v sign is less =
-    ticks_from (parts_of text) v s.0 (λ d has. kept_sign (nat_lt 64 (length text)) (sign_at text).0 (digits_at (sign_at text).1) d (sym (starts text) ∙ has) ∙ ap (λ (t : Bool × List ℕ). t.0) (sym sign)) is less
+ticks_below text b v sign is less =
+    ticks_from (parts_of text) v b (λ d has. text_sign text d has ∙ sym sign) is less
 
 pub no_ticks : (text : List ℕ) (v : ℕ) → v ≡ limited (parts_of text) → 10 ^ 28 ≤ v → ticks_of text ≡ None
 unfolding ticks_of

@@ -1,13 +1,11 @@
 -- A raster fits exactly where it is a tile.
-use Rattle.std.proofs.Common.{◌≡◌, ℕ, ℤ, ◌+◌, ◌-◌, ◌*◌, ◌≤◌, ◌<◌, ◌<ℤ◌, ◌≤ℤ◌, ◌+ℤ◌, ◌-ℤ◌, ◌*ℤ◌, neg_ℤ, true, false, Bool, ap, ◌∙◌, sym, arith, pos, negsuc, refl, Option, Some, None, cond, inl, inr}
-use Rattle.std.specs.Prelude.{unsigned_abs}
+use Rattle.std.proofs.Common.{◌≡◌, ℕ, ℤ, ◌+◌, ◌*◌, ◌<◌, ◌<ℤ◌, ◌≤ℤ◌, ◌+ℤ◌, ◌*ℤ◌, neg_ℤ, true, false, Bool, ap, ◌∙◌, sym, arith, pos, refl, Some, None, cond, inl, inr}
 use Rattle.std.proofs.lemmas.Int.{ints}
 use Rattle.std.proofs.lemmas.Bool.Decides.{nat_tests}
-use Rattle.lists_and_answers.specs.Options.{◌>>=◌}
 use Rattle.geotransform.specs.Print.{unit}
 use Rattle.geotransform.specs.Geo.{Transform, is_north_up}
 use Rattle.geotransform.specs.declared.types.Size.{Size}
-use Rattle.geotransform.specs.Degrees.{degrees, twice_west, twice_east, twice_south, twice_north, lon_of, lat_of, IsAt}
+use Rattle.geotransform.specs.Degrees.{degrees, twice_west, twice_east, twice_south, twice_north, lon_of, lat_of}
 use Rattle.geotransform.proofs.Centres.{bind_is, bind_made, between_is, between_made, exact_at, up_is, up_made}
 use Rattle.hgt_tiles.specs.Names.{Place, IsPlace}
 use Rattle.hgt_tiles.specs.Places.{IsSide, spacing, tile_transform, side_of_size, tile_of, IsTile}

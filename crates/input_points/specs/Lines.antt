@@ -3,10 +3,11 @@
 use Rattle.std.specs.Prelude.{◌≡◌, ℕ, ◌+◌, ◌<◌, Bool, true, not, List, [], ◌∷◌, ◌++◌, length, drop, ◌==◌}
 use Rattle.std.specs.List.{slice_split, list_all}
 use Rattle.std.specs.Str.Lines.{strip_carriage_return}
+use Rattle.lists_and_answers.specs.Bytes.{line_feed}
 
 -- a byte inside a line
 abbrev pub is_inside : ℕ → Bool
-is_inside c = not (c == 10)
+is_inside c = not (c == line_feed)
 
 -- of the parts between line feeds, all but the last one
 abbrev pub lines_but_last : List (List ℕ) → List (List ℕ)
@@ -16,10 +17,10 @@ lines_but_last (part ∷ (next ∷ parts)) = strip_carriage_return part ∷ line
 
 -- the lines of a text that have an end
 abbrev pub ended_lines : List ℕ → List (List ℕ)
-ended_lines text = lines_but_last (slice_split (λ c. c == 10) text)
+ended_lines text = lines_but_last (slice_split (λ c. c == line_feed) text)
 
 -- the bytes before the first line feed of a text
 pub record IsLineIn (line text : List ℕ) : Type 0 where
   pub inside : list_all is_inside line ≡ true
-  pub parts : text ≡ line ++ 10 ∷ drop (length line + 1) text
+  pub parts : text ≡ line ++ line_feed ∷ drop (length line + 1) text
   pub within : length line < length text

@@ -13,7 +13,7 @@ pub record Reading : Type 0 where
 abbrev pub start : Reading
 start = record { line = 1; held = []; over = false }
 
--- with more bytes of the line
+-- the reading with more bytes of the line
 abbrev pub kept : Reading → List ℕ → Reading
 kept r bytes = record { line = r.line; held = r.held ++ bytes; over = r.over }
 

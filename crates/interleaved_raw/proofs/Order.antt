@@ -7,7 +7,7 @@ use Rattle.std.proofs.Math.Nat.{add-mul, mul_assoc, mul-le-mul_right}
 use Rattle.esri_hdr.specs.declared.header_parts.Layout.{Layout}
 use Rattle.esri_hdr.specs.declared.header_parts.Layout.TheVariants.{Bil, Bip, Bsq}
 use Rattle.esri_hdr.specs.Head.{Head, sample_len}
-use Rattle.interleaved_raw.specs.Raw.{position_by, position_of, stride_by, stride_of, sample_at, value_of, number_in, run_of, raw_at, row_of, needed_of, IsPlace, Holds}
+use Rattle.interleaved_raw.specs.Raw.{position_by, position_of, stride_by, stride_of, sample_at, value_of, number_in, strided_at, raw_at, row_of, needed_of, IsPlace, Holds}
 use Rattle.lists_and_answers.specs.Places.{StandsAt}
 use Rattle.lists_and_answers.proofs.Stands.{stands-part}
 use Rattle.interleaved_raw.proofs.Runs.{room}
@@ -18,7 +18,7 @@ further Bil h band x y i = omega (arith, add-mul x i (sample_len h.kind))
 further Bip h band x y i = omega (arith, add-mul (x * h.bands) band (sample_len h.kind), add-mul ((x + i) * h.bands) band (sample_len h.kind), add-mul x i h.bands, add-mul (x * h.bands) (i * h.bands) (sample_len h.kind), mul_assoc i h.bands (sample_len h.kind), ap (λ k. k * sample_len h.kind) (add-mul x i h.bands))
 further Bsq h band x y i = omega (arith, add-mul (y * h.size.w) x (sample_len h.kind), add-mul (y * h.size.w) (x + i) (sample_len h.kind), add-mul x i (sample_len h.kind))
 
-pub run_is : (h : Head) (bytes : List ℕ) (band x y i : ℕ) → run_of h (drop (position_of h band x y) bytes) i ≡ raw_at h bytes band (x + i) y
+pub run_is : (h : Head) (bytes : List ℕ) (band x y i : ℕ) → strided_at h (drop (position_of h band x y) bytes) i ≡ raw_at h bytes band (x + i) y
 run_is h bytes band x y i = ap (sample_at h) (drop-drop (i * stride_of h) (position_of h band x y) bytes ∙ ap (λ k. drop k bytes) (further h.layout h band x y i))
 
 pub last_place : (l : Layout) (h : Head) (band x y : ℕ) → band < h.bands → x < h.size.w → y < h.size.h → position_by l h band x y ≤ position_by l h (h.bands - 1) (h.size.w - 1) (h.size.h - 1)
@@ -47,7 +47,7 @@ pub sample_stands : (h : Head) (file bytes : List ℕ) (at : ℕ) → sample_len
 sample_stands h file bytes at enough stands = ap (λ (l : List ℕ). value_of h.kind (number_in h.big (sample_len h.kind) l)) (ap (take (sample_len h.kind)) stands ∙ take-take (sample_len h.kind) (length bytes) (drop at file) enough)
 
 -- a sample of a run that stands in a file is the one that stands there in its band and line
-pub run_stands : (h : Head) (file bytes : List ℕ) (band x y i : ℕ) → i * stride_of h + sample_len h.kind ≤ length bytes → StandsAt file bytes (position_of h band x y) → run_of h bytes i ≡ raw_at h file band (x + i) y
+pub run_stands : (h : Head) (file bytes : List ℕ) (band x y i : ℕ) → i * stride_of h + sample_len h.kind ≤ length bytes → StandsAt file bytes (position_of h band x y) → strided_at h bytes i ≡ raw_at h file band (x + i) y
 run_stands h file bytes band x y i enough stands =
     let at : ℕ = position_of h band x y in
     let p : ℕ = i * stride_of h in
@@ -58,5 +58,5 @@ map_range_same : (f g : ℕ → ℤ) (n : ℕ) → ((i : ℕ) → i < n → f i 
 map_range_same f g n same = fill_by_all g (map f (range_with_len 0 n)) n (pos 0) (length-map-range_with_len f 0 n) (λ k below. get_or-map-range_with_len f 0 n k k (pos 0) below (zero-add k) ∙ same k below)
 
 -- a run that stands in a file is the samples of its band and line
-pub row_stands : (h : Head) (file bytes : List ℕ) (band x y n : ℕ) → Holds h bytes n → StandsAt file bytes (position_of h band x y) → map (run_of h bytes) (range_with_len 0 n) ≡ row_of h file band x y n
-row_stands h file bytes band x y n holds stands = map_range_same (run_of h bytes) (λ i. raw_at h file band (x + i) y) n (λ i below. run_stands h file bytes band x y i (room h bytes i n below holds) stands)
+pub row_stands : (h : Head) (file bytes : List ℕ) (band x y n : ℕ) → Holds h bytes n → StandsAt file bytes (position_of h band x y) → map (strided_at h bytes) (range_with_len 0 n) ≡ row_of h file band x y n
+row_stands h file bytes band x y n holds stands = map_range_same (strided_at h bytes) (λ i. raw_at h file band (x + i) y) n (λ i below. run_stands h file bytes band x y i (room h bytes i n below holds) stands)

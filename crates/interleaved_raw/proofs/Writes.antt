@@ -1,5 +1,5 @@
 -- A sample that is written a stride apart from the others.
-use Rattle.std.proofs.Common.{◌≡◌, ℕ, ℤ, ◌+◌, ◌-◌, ◌*◌, ◌/◌, ◌%◌, ◌<◌, ◌≤◌, ◌^◌, ◌⊎◌, inl, inr, ⊎_elim, true, false, Bool, List, [], length, take, drop, get_or, map, refl, ◌++◌, sym, ap, ◌∙◌, arith, pos, cond}
+use Rattle.std.proofs.Common.{◌≡◌, ℕ, ℤ, ◌+◌, ◌-◌, ◌*◌, ◌/◌, ◌%◌, ◌<◌, ◌≤◌, ◌^◌, ◌⊎◌, inl, inr, ⊎_elim, true, false, Bool, List, [], length, take, drop, get_or, map, refl, ◌++◌, sym, ap, ◌∙◌, arith, pos}
 use Rattle.std.proofs.lemmas.List.{take_at, drop_at, length-take-le, drop-take, append-nil, get_or-take, get_or-drop}
 use Rattle.std.proofs.lemmas.Slice.{take-put_mid_below, drop-put_mid}
 use Rattle.std.proofs.lemmas.Bool.{cases_lt}
@@ -12,7 +12,7 @@ use Rattle.byteorder.specs.Endian.{big_number, little_number, big_bytes, little_
 use Rattle.byteorder.specs.Numbers.{big_number-reads_back, little_number-reads_back, length-bytes_high_first, length-bytes_low_first}
 use Rattle.geotransform.specs.Types.{is_in}
 use Rattle.esri_hdr.specs.Head.{Head, sample_len}
-use Rattle.interleaved_raw.specs.Raw.{stride_of, run_of, bytes_at, number_bytes, sample_bytes, number_in, value_of, bits_of, IsBetween}
+use Rattle.interleaved_raw.specs.Raw.{stride_of, strided_at, bytes_at, number_bytes, sample_bytes, number_in, value_of, bits_of, IsBetween}
 use Rattle.interleaved_raw.proofs.Bits.{bits_fit, value_again}
 
 before_kept : (a k s p : ℕ) (xs ys : List ℕ) → p + s ≤ a → a ≤ length xs → take s (drop p (put_mid a k xs ys)) ≡ take s (drop p xs)
@@ -57,12 +57,12 @@ written_more h old ys i k at n samples is_at is_k within len is_ys is_n wide so_
     (cases_lt j i)
 
 -- the bytes that write a sample of the type are read as it
-pub read_again : (h : Head) (bytes : List ℕ) (i : ℕ) (n : ℤ) → is_in h.kind n ≡ true → bytes_at h bytes i ≡ sample_bytes h n → run_of h bytes i ≡ n
+pub read_again : (h : Head) (bytes : List ℕ) (i : ℕ) (n : ℤ) → is_in h.kind n ≡ true → bytes_at h bytes i ≡ sample_bytes h n → strided_at h bytes i ≡ n
 read_again h bytes i n within is = ap (λ (l : List ℕ). value_of h.kind (number_in h.big (sample_len h.kind) l)) is ∙ sample_again h n within
 
 -- so with a run
-pub run_again : (h : Head) (bytes : List ℕ) (samples : List ℤ) → All (λ n. is_in h.kind n ≡ true) samples → ((i : ℕ) → i < length samples → bytes_at h bytes i ≡ sample_bytes h (get_or samples i (pos 0))) → map (run_of h bytes) (range_with_len 0 (length samples)) ≡ samples
-run_again h bytes samples within is = sym (fill_by_all (run_of h bytes) samples (length samples) (pos 0) refl (λ k less. sym (read_again h bytes k (get_or samples k (pos 0)) (within k (pos 0) less) (is k less))))
+pub run_again : (h : Head) (bytes : List ℕ) (samples : List ℤ) → All (λ n. is_in h.kind n ≡ true) samples → ((i : ℕ) → i < length samples → bytes_at h bytes i ≡ sample_bytes h (get_or samples i (pos 0))) → map (strided_at h bytes) (range_with_len 0 (length samples)) ≡ samples
+run_again h bytes samples within is = sym (fill_by_all (strided_at h bytes) samples (length samples) (pos 0) refl (λ k less. sym (read_again h bytes k (get_or samples k (pos 0)) (within k (pos 0) less) (is k less))))
 
 -- a byte that is in no sample stays
 pub others_more : (h : Head) (first old ys : List ℕ) (i k at : ℕ) → at ≡ i * stride_of h → k ≡ sample_len h.kind → at + k ≤ length old → length ys ≡ k → sample_len h.kind ≤ stride_of h

@@ -87,8 +87,8 @@ abbrev pub Holds : Head → List ℕ → ℕ → Type 0
 Holds h bytes n = 0 < n → (n - 1) * stride_of h + sample_len h.kind ≤ length bytes
 
 -- sample i of those that stand a stride apart
-abbrev pub run_of : Head → List ℕ → ℕ → ℤ
-run_of h bytes i = sample_at h (drop (i * stride_of h) bytes)
+abbrev pub strided_at : Head → List ℕ → ℕ → ℤ
+strided_at h bytes i = sample_at h (drop (i * stride_of h) bytes)
 
 -- the bytes of sample i of those that stand a stride apart
 abbrev pub bytes_at : Head → List ℕ → ℕ → List ℕ

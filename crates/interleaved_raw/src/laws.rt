@@ -1,7 +1,7 @@
 // What holds of every raw file.
 ghost use Rattle.std.specs.Prelude.{◌≡◌, ◌<◌, ◌≤◌, ℕ, ◌+◌, ◌-◌, List, drop};
 ghost use Rattle.esri_hdr.specs.Head.{Head, IsHead, sample_len};
-ghost use Rattle.interleaved_raw.specs.Raw.{position_of, IsPlace, IsSamePlace, needed_of, run_of, raw_at};
+ghost use Rattle.interleaved_raw.specs.Raw.{position_of, IsPlace, IsSamePlace, needed_of, strided_at, raw_at};
 
 /// Each sample ends within the bytes that the file must have.
 pub fn last_sample_is_last()
@@ -11,7 +11,7 @@ pub fn last_sample_is_last()
 
 /// A run that begins at a sample of the file is the samples of its band and line from there on.
 pub fn run_is_of_the_file()
-    ensures same { (h : Head) (bytes : List ℕ) (band x y i : ℕ) → run_of h (drop (position_of h band x y) bytes) i
+    ensures same { (h : Head) (bytes : List ℕ) (band x y i : ℕ) → strided_at h (drop (position_of h band x y) bytes) i
         ≡ raw_at h bytes band (x + i) y }
 {}
 

@@ -1,6 +1,7 @@
 // Where the samples of a raster lie in its file.
 ghost use Rattle.std.specs.Prelude.{◌≡◌, ◌<◌, ◌≤◌, ◌+◌, ◌*◌, ◌^◌};
 ghost use Rattle.esri_hdr.specs.Head.{sample_len};
+ghost use Rattle.esri_hdr.specs.Values.{longest_row};
 ghost use Rattle.interleaved_raw.specs.Raw.{position_of, stride_of, needed_of};
 
 use esri_hdr::{Layout, RawHead, sample_len};
@@ -45,7 +46,7 @@ fn samples_len(count: u64, each: u64) -> u64
 /// The bytes of so many rows of a band, or of so many lines of all bands.
 fn rows_len(count: u32, each: u64) -> u64
     requires count { count ≤ 2 ^ 22 }
-    requires each { each ≤ 2 ^ 33 }
+    requires each { each ≤ longest_row }
     ensures value { result ≡ count * each }
     ensures bound { result ≤ 2 ^ 55 }
 {

@@ -7,7 +7,7 @@ ghost use Rattle.geotransform.specs.Types.{is_in};
 ghost use Rattle.esri_hdr.specs.Head.{sample_len};
 ghost use Rattle.lists_and_answers.specs.Places.{StandsAt};
 ghost use Rattle.interleaved_raw.specs.Raw.{position_of, value_of, bits_of, number_in, sample_at, raw_at};
-ghost use Rattle.interleaved_raw.specs.Raw.{row_of, Holds, run_of, bytes_at, sample_bytes, IsBetween};
+ghost use Rattle.interleaved_raw.specs.Raw.{row_of, Holds, strided_at, bytes_at, sample_bytes, IsBetween};
 
 use crate::sample_places::stride;
 use byteorder::{BigEndian, ByteOrder, LittleEndian};
@@ -71,7 +71,7 @@ pub fn decode_sample(head: &RawHead, bytes: &[u8]) -> Sample
 #[tactic(auto, using(crate::proofs::Runs::filled))]
 pub fn decode_run(head: &RawHead, bytes: &[u8], out: &mut [Sample])
     requires holds { Holds head.now bytes.now (length out.old) }
-    ensures samples { out.new ≡ map (run_of head.now bytes.now) (range_with_len 0 (length out.old)) }
+    ensures samples { out.new ≡ map (strided_at head.now bytes.now) (range_with_len 0 (length out.old)) }
     ensures range { All (λ n. is_in head.now.kind n ≡ true) out.new }
     // bytes that stand in a file at a sample's place are the samples of its band and line from there on
     ensures file { (file : List ℕ) (band x y : ℕ) → StandsAt file bytes.now (position_of head.now band x y) →
@@ -132,7 +132,7 @@ pub fn encode_run(head: &RawHead, samples: &[Sample], bytes: &mut [u8])
     requires range { All (λ n. is_in head.now.kind n ≡ true) samples.now }
     ensures bytes { (i : ℕ) → i < length samples.now → bytes_at head.now bytes.new i ≡ sample_bytes head.now
         (get_or samples.now i (pos 0)) }
-    ensures samples { map (run_of head.now bytes.new) (range_with_len 0 (length samples.now)) ≡ samples.now }
+    ensures samples { map (strided_at head.now bytes.new) (range_with_len 0 (length samples.now)) ≡ samples.now }
     ensures others { (j : ℕ) → IsBetween head.now (length samples.now) j → get_or bytes.new j 0 ≡ get_or bytes.old j 0 }
 {
     let stride = stride(head) as usize;

@@ -3,7 +3,7 @@ use Rattle.std.proofs.Common.{◌≡◌, ◌∙◌, sym, ap, subst, ◌+◌, ◌
 use Rattle.std.specs.List.{All}
 use Rattle.std.specs.Prelude.{slice_set}
 use lib.Seq.{map-set_same}
-use Rattle.std.proofs.lemmas.List.{length-set, get_or-set_same, map-append}
+use Rattle.std.proofs.lemmas.List.{length-map, length-set, get_or-set_same, map-append}
 use Rattle.std.proofs.lemmas.List.Elements.{All-append, All-set}
 use Rattle.outside.specs.Outside.{Files}
 use Rattle.outside.specs.declared.folder.Folder.{Ghosts}
@@ -15,9 +15,11 @@ use Rattle.geotransform.specs.declared.types.Rect.{Rect}
 use Rattle.lane_teams.specs.declared.cutting.Job.{Job}
 use Rattle.lane_teams.specs.declared.turns.Turn.{Turn}
 use Rattle.lane_teams.specs.Parts.{part_of, AreOfWindow}
+use Rattle.lane_teams.specs.Refusals.{Answer, HaveAnswered}
 use Rattle.lane_teams.specs.Turns.{IsDone, IsTurnOf, AreReady, HaveRead}
+use Rattle.lane_teams.proofs.Answered.{answer_of, both_answered, lane_answered, one_turn}
 use Rattle.lane_teams.proofs.Windows.{both_shown, sizes}
-use Rattle.lane_teams.proofs.Refusals.{all_front, all_back}
+use Rattle.lane_teams.proofs.Refusals.{all_front, all_back, ok_given}
 
 module _ {F File Draft : Type 0} (calls : Ghosts F File Draft) (told : Option Files) (cat : List Dataset) where
   -- a lane is ready over a view with the folder's files
@@ -104,6 +106,11 @@ module _ {F File Draft : Type 0} (calls : Ghosts F File Draft) (told : Option Fi
     rooms = map-append room_of a' b' ∙ ap (λ ns. ns ++ map room_of b') front.rooms ∙ ap (λ ns. map room_of a ++ ns) back.rooms ∙ sym (map-append room_of a b);
     right = All-append (IsRightLane calls told cat) a' b' front.right back.right;
     turns_are = All-append (IsTurnOf calls told cat) t u front.turns_are back.turns_are;
+    answered =
+        let place : length a ≡ length (map answer_of t) = sym (length-map t answer_of ∙ front.turns_count) in
+        subst (λ (answers : List Answer). HaveAnswered told cat job.window job.count k answers (p ++ q)) (sym (map-append answer_of t u))
+        (both_answered told cat job.window job.count k (map answer_of t) (map answer_of u) p q front.answered
+        (subst (λ i. HaveAnswered told cat job.window job.count (k + i) (map answer_of u) q) place back.answered));
     shown = λ all.
         let whole = length-append a b in
         let end : k + length a + length b ≡ k + length (a ++ b) = omega arith in
@@ -115,14 +122,23 @@ module _ {F File Draft : Type 0} (calls : Ghosts F File Draft) (told : Option Fi
   pub one_read : (k : ℕ) (lanes : List (LaneView File)) (turns : List (Turn F File Draft)) (lane d : LaneView File) (turn : Turn F File Draft) (out : List ℤ)
       → AreReady calls told cat job k lanes turns out → length lanes ≡ 1 → (new : List ℤ)
       → room_of lane ≡ room_of (get_or lanes 0 d) → IsRightLane calls told cat lane → IsTurnOf calls told cat turn
-      → (turn.answer ≡ Ok tt → AreOfWindow told cat (part_of job.window job.count k (k + 1)) new)
+      → length new ≡ length out → (turn.answer ≡ Ok tt → AreOfWindow told cat (part_of job.window job.count k (k + 1)) new)
       → HaveRead calls told cat job k lanes (slice_set lanes 0 lane) (slice_set turns 0 turn) new
-  one_read k lanes turns lane d turn out ready one new room right turned shown = record {
+  one_read k lanes turns lane d turn out ready one new room right turned long shown = record {
     lanes_count = length-set lanes 0 lane;
     turns_count = length-set turns 0 turn ∙ ready.pairs;
     rooms = map-set_same room_of lanes 0 lane d room;
     right = All-set (IsRightLane calls told cat) lanes 0 lane right ready.right;
     turns_are = All-set (IsTurnOf calls told cat) turns 0 turn turned ready.turns_are;
+    answered =
+        subst (λ (ts : List (Turn F File Draft)). HaveAnswered told cat job.window job.count k (map answer_of ts) new)
+        (sym (one_turn turns turn (ready.pairs ∙ one)))
+        (lane_answered told cat job.window job.count k new turn.answer (record {
+          size = long ∙ ready.size ∙ ap (λ n. job.window.rect.w * (part_of job.window job.count k (k + n)).rect.h) one;
+          shown = ok_given turn.answer (AreOfWindow told cat (part_of job.window job.count k (k + 1)) new) shown;
+          changed = turned.changed;
+          never = turned.never;
+        }));
     shown = λ all.
         let pairs = ready.pairs in
         let some : 0 < length turns = omega arith in

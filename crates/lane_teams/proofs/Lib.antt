@@ -1,4 +1,6 @@
+mod Answered
 mod Examples
+mod FirstRefusals
 mod Halving
 pub mod Lanes
 mod Refusals

@@ -11,7 +11,8 @@ use Rattle.outside.specs.Outside.{Files, IsView}
 use Rattle.catalog.specs.Drivers.{Dataset}
 use Rattle.band_blocks.specs.declared.fault.LoadFault.{LoadFault}
 use Rattle.lane_teams.specs.declared.turns.Turn.{Turn}
-use Rattle.lane_teams.specs.Turns.{first_of, first_refusal, IsTurn, IsDone}
+use Rattle.lane_teams.specs.Refusals.{first_of, first_refusal}
+use Rattle.lane_teams.specs.Turns.{IsTurn, IsDone}
 
 pub first_failed : (r s : Result (Unit {0}) LoadFault) (e : LoadFault) → first_of r s ≡ Err e → (r ≡ Err e) ⊎ (s ≡ Err e)
 first_failed (Ok x) s e h = inr h

@@ -1,5 +1,5 @@
 -- Windows that are cut among lanes: the lines of two halves make up the whole.
-use Rattle.std.proofs.Common.{◌≡◌, ◌∙◌, ap, ◌+◌, ◌-◌, ◌*◌, ◌/◌, ◌<◌, ◌≤◌, ℕ, ℤ, List, ◌++◌, Option, Some, Ok, Err, arith}
+use Rattle.std.proofs.Common.{◌≡◌, ◌∙◌, ap, refl, ◌+◌, ◌-◌, ◌*◌, ◌/◌, ◌<◌, ◌≤◌, ℕ, ℤ, List, ◌++◌, Option, Some, Ok, Err, arith}
 use Rattle.std.specs.Prelude.{slice_get, Result, OnOk}
 use Rattle.std.specs.List.{All}
 use Rattle.std.proofs.lemmas.Nat.{div-mul-add, div-add-mod', le-div, mul-le}
@@ -12,7 +12,7 @@ use Rattle.catalog.specs.Pixels.{pixel_of, pixel_of_name}
 use Rattle.catalog.specs.Places.{row_by_row}
 use Rattle.catalog.specs.Walk.{IsCatalog}
 use Rattle.catalog.proofs.Walked.{dataset_kept}
-use Rattle.band_blocks.proofs.Corners.{rect_at, rows_joined}
+use Rattle.band_blocks.proofs.Corners.{rect_at, rows_cut}
 use Rattle.band_blocks.specs.declared.fault.LoadFault.{LoadFault}
 use Rattle.nearest_window.specs.declared.window.Window.{Window}
 use Rattle.nearest_window.specs.Shown.{IsInBand, IsWindow}
@@ -39,10 +39,9 @@ lines_joined f rect n a m b some up on =
     let p = before_rises rect.h n a m some up in
     let q = before_rises rect.h n m b some on in
     let line : rect.y + lines_before rect.h n m ≡ rect.y + lines_before rect.h n a + (lines_before rect.h n m - lines_before rect.h n a) = omega arith in
-    let all : (lines_before rect.h n m - lines_before rect.h n a) + (lines_before rect.h n b - lines_before rect.h n m) ≡ lines_before rect.h n b - lines_before rect.h n a = omega arith in
-    ap (λ y. row_by_row f (lines_of rect n a m) ++ row_by_row f (rect_at rect.x y rect.w (lines_before rect.h n b - lines_before rect.h n m))) line
-    ∙ rows_joined f rect.x (rect.y + lines_before rect.h n a) rect.w (lines_before rect.h n m - lines_before rect.h n a) (lines_before rect.h n b - lines_before rect.h n m)
-    ∙ ap (λ h. row_by_row f (rect_at rect.x (rect.y + lines_before rect.h n a) rect.w h)) all
+    let all : lines_before rect.h n b - lines_before rect.h n a ≡ (lines_before rect.h n m - lines_before rect.h n a) + (lines_before rect.h n b - lines_before rect.h n m) = omega arith in
+    rows_cut f (lines_of rect n a b) (lines_of rect n a m) (lines_of rect n m b)
+    (record { upper_left = refl; upper_wide = refl; top = refl; lower_left = refl; lower_wide = refl; line = line; lines = all })
 
 -- the samples of two parts are those of both
 pub both_shown : (told : Option Files) (cat : List Dataset) (window : Window) (n a m b : ℕ) (p q : List ℤ) → 0 < n → a ≤ m → m ≤ b

@@ -1,5 +1,6 @@
 -- What public clauses and laws speak of: to be read and trusted.
 pub mod Parts
 pub mod Ready
+pub mod Refusals
 pub mod Turns
 pub mod Workers

@@ -1,5 +1,6 @@
 -- How a window is cut among lanes, and what its samples are.
-use Rattle.std.specs.Prelude.{◌≡◌, ℕ, ℤ, ◌+◌, ◌-◌, ◌*◌, ◌/◌, List, All, Option, Some, slice_get}
+use Rattle.std.specs.Prelude.{◌≡◌, ℕ, ℤ, ◌+◌, ◌-◌, ◌*◌, ◌/◌, ◌||◌, nat_lt, if◌then◌else◌, List, All, Option, Some}
+use Rattle.std.specs.Prelude.{slice_get}
 use Rattle.geotransform.specs.declared.types.Rect.{Rect}
 use Rattle.outside.specs.Outside.{Files}
 use Rattle.catalog.specs.Drivers.{Dataset}
@@ -7,6 +8,11 @@ use Rattle.catalog.specs.Pixels.{pixel_of, pixel_of_name}
 use Rattle.catalog.specs.Places.{row_by_row}
 use Rattle.nearest_window.specs.declared.window.Window.{Window}
 use Rattle.nearest_window.specs.Shown.{IsInBand}
+
+-- How many of n lanes read a window of so many lines and samples: the first alone where there are fewer lines than
+-- lanes, or where less than `fewest` samples come to each.
+abbrev pub readers_of : ℕ → ℕ → ℕ → ℕ → ℕ
+readers_of lines samples fewest n = if nat_lt lines n || nat_lt (samples / n) fewest then 1 else n
 
 -- the lines of so many that lie before those of the lane k of n
 abbrev pub lines_before : ℕ → ℕ → ℕ → ℕ

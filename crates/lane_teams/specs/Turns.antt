@@ -1,12 +1,10 @@
 -- Lanes that read beside each other, each through a view of the folder.
-use Rattle.std.specs.Prelude.{◌≡◌, ℕ, ℤ, ◌+◌, ◌*◌, ◌<◌, ◌≤◌, List, [], ◌∷◌, length, map, Option, Some, Result, Ok, Err}
-use Rattle.std.specs.Prelude.{IfErr}
+use Rattle.std.specs.Prelude.{◌≡◌, ℕ, ℤ, ◌+◌, ◌*◌, ◌<◌, ◌≤◌, List, length, map, Option, Some, Ok, Err, IfErr}
 use Rattle.std.specs.List.{All}
 use Rattle.outside.specs.Outside.{Files}
 use Rattle.outside.specs.declared.folder.Folder.{Ghosts}
 use Rattle.catalog.specs.Drivers.{Dataset}
 use Rattle.catalog.specs.Walk.{IsWalked}
-use Rattle.band_blocks.specs.declared.fault.LoadFault.{LoadFault}
 use Rattle.band_blocks.specs.declared.fault.LoadFault.TheVariants.{FolderFault}
 use Rattle.band_blocks.specs.Open.{IsUnchanged}
 use Rattle.nearest_window.specs.Lanes.{LaneView, room_of}
@@ -15,6 +13,7 @@ use Rattle.nearest_window.specs.Shown.{IsWindow}
 use Rattle.lane_teams.specs.declared.cutting.Job.{Job}
 use Rattle.lane_teams.specs.declared.turns.Turn.{Turn}
 use Rattle.lane_teams.specs.Parts.{part_of, AreOfWindow}
+use Rattle.lane_teams.specs.Refusals.{Answer, HaveAnswered}
 
 -- only reads were made, some of them through views: the files are as before, no write was counted, and the count of
 -- faults isn't lower
@@ -23,20 +22,10 @@ pub record OnlyReadByViews {F File Draft : Type 0} (calls : Ghosts F File Draft)
   pub writes : calls.write_calls after ≤ calls.write_calls before
   pub faults : calls.faults before ≤ calls.faults after
 
--- the first of two answers that is a refusal
-abbrev pub first_of : Result (Unit {0}) LoadFault → Result (Unit {0}) LoadFault → Result (Unit {0}) LoadFault
-first_of (Ok x) later = later
-first_of (Err e) later = Err e
-
--- the first refusal, if there is one
-abbrev pub first_refusal : List (Result (Unit {0}) LoadFault) → Result (Unit {0}) LoadFault
-first_refusal [] = Ok tt
-first_refusal (answer ∷ rest) = first_of answer (first_refusal rest)
-
 -- What a view of a folder is, and what its lane has answered: the view has the folder's files, and wrote nothing. A
 -- refusal has its cause in the view's count of faults.
 pub record IsTurn (told : Option Files) (cat : List Dataset) (names : Option Files) (faults writes : ℕ)
-    (answer : Result (Unit {0}) LoadFault) : Type 0 where
+    (answer : Answer) : Type 0 where
   pub same : names ≡ told
   pub unwritten : writes ≡ 0
   pub failed : answer ≡ Err FolderFault → 1 ≤ faults
@@ -63,8 +52,8 @@ module _ {F File Draft : Type 0} (calls : Ghosts F File Draft) (told : Option Fi
     pub right : All (IsRightLane calls told cat) lanes
     pub turns_are : All IsTurnOf turns
 
-  -- lanes from one on, as they were and as they are, have read: each is right, and has the room that it had; where none
-  -- refused, `out` has the samples of their lines
+  -- lanes from one on, as they were and as they are, have read: each is right, has the room that it had, and has
+  -- answered to its lines; where none refused, `out` has the samples of their lines
   pub record HaveRead (job : Job) (first : ℕ) (were lanes : List (LaneView File)) (turns : List (Turn F File Draft))
       (out : List ℤ) : Type 0 where
     pub lanes_count : length lanes ≡ length were
@@ -72,4 +61,5 @@ module _ {F File Draft : Type 0} (calls : Ghosts F File Draft) (told : Option Fi
     pub rooms : map room_of lanes ≡ map room_of were
     pub right : All (IsRightLane calls told cat) lanes
     pub turns_are : All IsTurnOf turns
+    pub answered : HaveAnswered told cat job.window job.count first (map (λ t. t.answer) turns) out
     pub shown : All IsDone turns → AreOfWindow told cat (part_of job.window job.count first (first + length were)) out

@@ -9,6 +9,7 @@ ghost use Rattle.nearest_window.specs.Lanes.{room_of};
 ghost use Rattle.nearest_window.specs.Right.{IsReady, TellsChangeIn};
 ghost use Rattle.nearest_window.specs.Shown.{IsWindow};
 ghost use Rattle.lane_teams.specs.Parts.{AreOfWindow};
+ghost use Rattle.lane_teams.specs.Refusals.{IsTeamAnswer};
 ghost use Rattle.lane_teams.specs.Turns.{AreReady, HaveRead, OnlyReadByViews};
 
 use crate::cutting::{Job, part_of};
@@ -221,6 +222,8 @@ pub fn read_beside<R: Threads + Sync, F: Folder, S: Scene>(
     requires window { IsWindow supply.now.cat.now job.now.window }
     requires size { length out.old ≡ job.now.window.rect.w * job.now.window.rect.h }
     ensures shown { OnOk result (AreOfWindow (F.names folder.old) supply.now.cat.now job.now.window out.new) }
+    ensures first { IsTeamAnswer (F.names folder.old) supply.now.cat.now job.now.window job.now.count out.old out.new
+        result }
     ensures ready { All (IsReady F.Folder folder.new supply.now.cat.now) lanes.new }
     ensures capacity { map room_of lanes.new ≡ map room_of lanes.old }
     ensures only_read { OnlyReadByViews F.Folder folder.old folder.new }

@@ -1,6 +1,6 @@
 // How a window is cut among lanes.
 ghost use Rattle.std.specs.Prelude.{◌≡◌, ◌+◌, ◌<◌, ◌≤◌};
-ghost use Rattle.lane_teams.specs.Parts.{lines_before, part_of};
+ghost use Rattle.lane_teams.specs.Parts.{lines_before, part_of, readers_of};
 ghost use Rattle.geotransform.specs.Limits.{most_side};
 
 use geotransform::Rect;
@@ -11,6 +11,20 @@ use nearest_window::Window;
 pub struct Job {
     pub window: Window,
     pub count: usize,
+}
+
+/// How many of so many lanes read a window of so many lines and samples: the first alone where there are fewer lines
+/// than lanes, or where less than `fewest` samples come to each.
+pub fn readers_of(lines: u32, samples: usize, fewest: usize, count: usize) -> usize
+    requires some { 0 < count }
+    ensures readers { result ≡ readers_of lines samples fewest count }
+{
+    let each = samples / count;
+    if (lines as usize) < count || each < fewest {
+        1
+    } else {
+        count
+    }
 }
 
 // The lines of so many that lie before those of a lane of so many.

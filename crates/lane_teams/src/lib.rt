@@ -3,6 +3,7 @@
 
 mod beside;
 mod cutting;
+mod laws;
 mod pair;
 mod sharing;
 mod single;
@@ -10,6 +11,7 @@ mod team;
 mod turns;
 mod workers;
 
+pub use laws::one_refusal_is_first;
 pub use sharing::lines_for;
 pub use team::Team;
 pub use workers::WorkerCount;

@@ -10,14 +10,16 @@ ghost use Rattle.catalog.specs.Pixels.{pixel_of, pixel_of_name};
 ghost use Rattle.catalog.specs.Places.{row_by_row};
 ghost use Rattle.band_blocks.specs.Contents.{most_calls};
 ghost use Rattle.band_blocks.specs.Open.{IsUnchanged};
-ghost use Rattle.nearest_window.specs.Lanes.{held_in, room_of};
+ghost use Rattle.nearest_window.specs.Lanes.{held_count, room_of};
 ghost use Rattle.nearest_window.specs.Right.{IsFresh, IsReady, slack_of, TellsChangeIn};
 ghost use Rattle.nearest_window.specs.Shown.{IsInBand, IsWindow};
+ghost use Rattle.lane_teams.specs.Parts.{readers_of};
+ghost use Rattle.lane_teams.specs.Refusals.{IsTeamAnswer};
 ghost use Rattle.lane_teams.specs.Turns.{OnlyReadByViews};
 ghost use Rattle.band_blocks.specs.Blocks.{most_blocks};
 
 use crate::beside::read_beside;
-use crate::cutting::Job;
+use crate::cutting::{Job, readers_of};
 use band_blocks::{Counter, LoadFault};
 use catalog::Catalog;
 use geotransform::Sample;
@@ -83,8 +85,9 @@ impl<F: Folder, L: Ledger> Team<F, L> {
     /// of a team of one, through the folder itself. Each lane is ready for the catalog and the folder.
     ///
     /// A refusal is that of the first lane that refused, in their order, and its causes are those of
-    /// `Lane::read_window`. All views are ended, and all lanes ready, with the room that they had, after every answer.
-    /// `loads` counts the loads of a lane that reads through the folder; those of several lanes aren't counted.
+    /// `Lane::read_window`; or memory for the views was refused, and no lane has read. All views are ended, and all
+    /// lanes ready, with the room that they had, after every answer. `loads` counts the loads of a lane that reads
+    /// through the folder; those of several lanes aren't counted.
     pub fn read_window<R: Threads + Sync>(
         &mut self,
         rt: &R,
@@ -105,14 +108,17 @@ impl<F: Folder, L: Ledger> Team<F, L> {
             OnOk result (out.new ≡ row_by_row (pixel_of_name m d.head.name window.band) window.rect)) }
         // each sample is in the band's type, whatever the folder tells
         ensures typed { OnOk result (All (IsInBand cat.now window.dataset window.band) out.new) }
+        // the answer is the first refusal in the lanes' order, of those that read, each its own lines
+        ensures first { IsTeamAnswer (F.names folder.old) cat.now window
+            (readers_of window.rect.h (length out.old) 0 (length self.old.lanes.items)) out.old out.new result }
         ensures ready { All (IsReady F.Folder folder.new cat.now) self.new.lanes.items }
         ensures count { length self.new.lanes.items ≡ length self.old.lanes.items }
         // each lane has the room that it had
         ensures capacity { map room_of self.new.lanes.items ≡ map room_of self.old.lanes.items }
         // of one lane with room for all blocks, each load makes one more block held, but for the last of a refused call
         ensures loads { (old : _) (new : _) → self.old.lanes.items ≡ old ∷ [] → self.new.lanes.items ≡ new ∷ [] →
-            all_blocks cat.now ≤ room_of old → self.new.loads ≤ self.old.loads + (held_in new - held_in old) + slack_of
-            result }
+            all_blocks cat.now ≤ room_of old → self.new.loads ≤ self.old.loads + (held_count new - held_count old)
+            + slack_of result }
         ensures reads { length self.old.lanes.items ≡ 1 → F.read_calls folder.new ≤ F.read_calls folder.old + most_calls
             cat.now * (self.new.loads - self.old.loads) }
         ensures counted { self.old.loads ≤ self.new.loads }
@@ -147,14 +153,17 @@ impl<F: Folder, L: Ledger> Team<F, L> {
             OnOk result (out.new ≡ row_by_row (pixel_of_name m d.head.name window.band) window.rect)) }
         // each sample is in the band's type, whatever the folder tells
         ensures typed { OnOk result (All (IsInBand cat.now window.dataset window.band) out.new) }
+        // the answer is the first refusal in the lanes' order, of those that read, each its own lines
+        ensures first { IsTeamAnswer (F.names folder.old) cat.now window
+            (readers_of window.rect.h (length out.old) 0 (length self.old.lanes.items)) out.old out.new result }
         ensures ready { All (IsReady F.Folder folder.new cat.now) self.new.lanes.items }
         ensures count { length self.new.lanes.items ≡ length self.old.lanes.items }
         // each lane has the room that it had
         ensures capacity { map room_of self.new.lanes.items ≡ map room_of self.old.lanes.items }
         // of one lane with room for all blocks, each load makes one more block held, but for the last of a refused call
         ensures loads { (old : _) (new : _) → self.old.lanes.items ≡ old ∷ [] → self.new.lanes.items ≡ new ∷ [] →
-            all_blocks cat.now ≤ room_of old → self.new.loads ≤ self.old.loads + (held_in new - held_in old) + slack_of
-            result }
+            all_blocks cat.now ≤ room_of old → self.new.loads ≤ self.old.loads + (held_count new - held_count old)
+            + slack_of result }
         ensures reads { length self.old.lanes.items ≡ 1 → F.read_calls folder.new ≤ F.read_calls folder.old + most_calls
             cat.now * (self.new.loads - self.old.loads) }
         ensures counted { self.old.loads ≤ self.new.loads }
@@ -200,14 +209,17 @@ impl<F: Folder, L: Ledger> Team<F, L> {
             OnOk result (out.new ≡ row_by_row (pixel_of_name m d.head.name window.band) window.rect)) }
         // each sample is in the band's type, whatever the folder tells
         ensures typed { OnOk result (All (IsInBand supply.now.cat.now window.dataset window.band) out.new) }
+        // the answer is the first refusal in the lanes' order, of those that read, each its own lines
+        ensures first { IsTeamAnswer (F.names folder.old) supply.now.cat.now window
+            (readers_of window.rect.h (length out.old) fewest (length self.old.lanes.items)) out.old out.new result }
         ensures ready { All (IsReady F.Folder folder.new supply.now.cat.now) self.new.lanes.items }
         ensures count { length self.new.lanes.items ≡ length self.old.lanes.items }
         // each lane has the room that it had
         ensures capacity { map room_of self.new.lanes.items ≡ map room_of self.old.lanes.items }
         // of one lane with room for all blocks, each load makes one more block held, but for the last of a refused call
         ensures loads { (old : _) (new : _) → self.old.lanes.items ≡ old ∷ [] → self.new.lanes.items ≡ new ∷ [] →
-            all_blocks supply.now.cat.now ≤ room_of old → self.new.loads ≤ self.old.loads + (held_in new - held_in old)
-            + slack_of result }
+            all_blocks supply.now.cat.now ≤ room_of old → self.new.loads
+            ≤ self.old.loads + (held_count new - held_count old) + slack_of result }
         ensures reads { length self.old.lanes.items ≡ 1 → F.read_calls folder.new ≤ F.read_calls folder.old + most_calls
             supply.now.cat.now * (self.new.loads - self.old.loads) }
         ensures counted { self.old.loads ≤ self.new.loads }
@@ -217,12 +229,15 @@ impl<F: Folder, L: Ledger> Team<F, L> {
         ensures never { WhereTold F.Folder folder.old (λ _. IfErr result IsUnchanged) }
     {
         let lanes = self.lanes.as_mut_slice();
-        let count = lanes.len();
-        if count == 1 || (window.rect.h as usize) < count || out.len() / count < fewest {
+        let count = readers_of(window.rect.h, out.len(), fewest, lanes.len());
+        if count == 1 {
             let loads = &mut self.loads;
             return lanes[0].read_window_with(supply, folder, window, out, loads);
         }
-        let job = Job { window, count };
+        let job = Job {
+            window,
+            count: lanes.len(),
+        };
         read_beside::<R, F, S>(rt, supply, folder, &job, lanes, out)
     }
 }

@@ -5,7 +5,8 @@ ghost use Rattle.outside.specs.Causes.{HasCause, Rose};
 ghost use Rattle.outside.specs.Reading.{WhereTold};
 ghost use Rattle.band_blocks.specs.Open.{IsUnchanged};
 ghost use Rattle.nearest_window.specs.Right.{TellsChangeIn};
-ghost use Rattle.lane_teams.specs.Turns.{first_of, first_refusal, IsTurnOf, OnlyReadByViews};
+ghost use Rattle.lane_teams.specs.Refusals.{first_of, first_refusal};
+ghost use Rattle.lane_teams.specs.Turns.{IsTurnOf, OnlyReadByViews};
 
 use band_blocks::LoadFault;
 use catalog::Catalog;

@@ -2,6 +2,7 @@
 use Rattle.std.specs.Prelude.{ℕ, ◌==◌, ◌&&◌, ◌||◌, nat_le, Bool, not, List, drop, map, flat_map, take_while, bytes_eq}
 use Rattle.std.specs.List.{prefix_len}
 use Rattle.std.specs.Char.{to_ascii_lowercase}
+use Rattle.lists_and_answers.specs.Bytes.{tab, space_byte}
 use Rattle.lists_and_answers.specs.Lists.{flattened}
 use denote.Ref.{Bor}
 
@@ -19,11 +20,11 @@ same_letters a b = bytes_eq (map to_ascii_lowercase a) (map to_ascii_lowercase b
 
 -- a space, or a byte from 9 to 13
 abbrev pub is_white : ℕ → Bool
-is_white byte = (byte == 32) || (nat_le 9 byte && nat_le byte 13)
+is_white byte = (byte == space_byte) || (nat_le 9 byte && nat_le byte 13)
 
 -- a space or a tab
 abbrev pub is_blank : ℕ → Bool
-is_blank byte = (byte == 9) || (byte == 32)
+is_blank byte = (byte == tab) || (byte == space_byte)
 
 -- a text without the blanks in front
 abbrev pub without_blanks : List ℕ → List ℕ

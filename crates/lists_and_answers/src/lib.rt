@@ -5,4 +5,4 @@ mod items;
 mod texts;
 
 pub use items::Items;
-pub use texts::{push_all, same_letters, token_at};
+pub use texts::{is_white, push_all, same_letters, token_at};

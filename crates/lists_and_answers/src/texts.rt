@@ -2,7 +2,7 @@
 ghost use Rattle.std.specs.Prelude.{◌≡◌, ◌≤◌, ◌++◌, length, OnOk, OnErr};
 ghost use Rattle.std.specs.List.{prefix_len};
 ghost use Rattle.lists_and_answers.specs.Growth.{KeepsFront};
-ghost use Rattle.lists_and_answers.specs.Texts.{joined, same_letters, is_blank, is_in_token, token_at};
+ghost use Rattle.lists_and_answers.specs.Texts.{joined, same_letters, is_white, is_blank, is_in_token, token_at};
 
 use std::alloc::AllocError;
 
@@ -11,6 +11,13 @@ pub fn same_letters(a: &[u8], b: &[u8]) -> bool
     ensures letters { result ≡ same_letters a.now b.now }
 {
     a.eq_ignore_ascii_case(b)
+}
+
+/// Whether a byte is white space: a space, or one from 9 to 13.
+pub fn is_white(byte: u8) -> bool
+    ensures white { result ≡ is_white byte }
+{
+    byte == b' ' || (9 <= byte && byte <= 13)
 }
 
 // Whether a byte is a space or a tab.

@@ -24,14 +24,14 @@ sources_at d band = unwrap_or (option_map (λ (b : BandValue). b.sources)
     (document_of d.content >>= λ doc. slice_get doc.bands band)) []
 
 -- the name of the dataset of a catalog that a source of a mosaic names, where the source covers the pixel
-abbrev pub covered_by : List Dataset → Dataset → ℕ → ℕ → SourceValue → Option (List ℕ)
-covered_by cat d x y s = option_and_then (slice_get cat) (member_of cat d.head.name s) >>= λ t.
+abbrev pub covering_in : List Dataset → Dataset → ℕ → ℕ → SourceValue → Option (List ℕ)
+covering_in cat d x y s = option_and_then (slice_get cat) (member_of cat d.head.name s) >>= λ t.
     covering_name s d.head.size t.head.name t.head.size x y
 
 -- these names, and behind them those of the datasets that cover a pixel of a band by its sources, each that isn't among
 -- them yet
 unfoldable pub with_covering : List Dataset → Dataset → ℕ → ℕ → ℕ → List (List ℕ) → List (List ℕ)
-with_covering cat d band x y names = fold (λ ns s. with_found ns (covered_by cat d x y s)) names (sources_at d band)
+with_covering cat d band x y names = fold (λ ns s. with_found ns (covering_in cat d x y s)) names (sources_at d band)
 
 -- the names of the datasets that cover a pixel of these bands, counted from 1, by the mosaic's own sources, each once
 unfoldable pub covering_files : List Dataset → Dataset → ℕ → ℕ → List ℕ → List (List ℕ)

@@ -4,7 +4,7 @@ ghost use Rattle.lists_and_answers.specs.Lists.{with_name, is_among};
 ghost use Rattle.catalog.specs.Dataset.{band_count};
 ghost use Rattle.catalog.specs.Drivers.{Dataset};
 ghost use Rattle.catalog.specs.Links.{source_at};
-ghost use Rattle.location_report.specs.Covering.{covering_name, with_found, covered_by, with_covering};
+ghost use Rattle.location_report.specs.Covering.{covering_name, with_found, covering_in, with_covering};
 
 use catalog::Catalog;
 use geotransform::Size;
@@ -86,7 +86,7 @@ fn push_member(
     requires source { (d : Dataset) → slice_get cat.now at.id ≡ Some d →
         source_at d at.band at.number ≡ Some source.now }
     ensures ok { (d : Dataset) → slice_get cat.now at.id ≡ Some d →
-        OnOk result (out.new ≡ with_found out.old (covered_by cat.now d x y source.now)) }
+        OnOk result (out.new ≡ with_found out.old (covering_in cat.now d x y source.now)) }
     ensures err { OnErr result (out.new ≡ out.old) }
     ensures kept { take (length out.old) out.new ≡ out.old }
 {

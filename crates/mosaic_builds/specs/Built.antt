@@ -50,6 +50,6 @@ pub record IsMade (made : Made) : Type 0 where
   pub known : AreKnown made.cat made.ids
   pub within : All (IsOneOf (length made.ids)) made.skipped
 
--- the mosaic of it
+-- the document that was made, and the warnings of the inputs that were skipped
 abbrev pub built_by : Made → Built
 built_by made = record { document = made.document; warnings = warnings_of (heads_at made.cat made.ids) made.skipped }

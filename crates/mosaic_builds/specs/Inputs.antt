@@ -22,11 +22,11 @@ list_in m name = ok_or (get m name) (Absent name)
 abbrev pub longest_list : ℕ
 longest_list = 2 ^ 26
 
--- they are so many at most
+-- the bytes of a list are within the limit
 abbrev pub within_limit : List ℕ → Result (Unit {0}) Fault
 within_limit bytes = if nat_lt longest_list (length bytes) then Err (Limit limits.List (length bytes)) else Ok tt
 
--- and UTF-8
+-- the bytes of a list, which have to be UTF-8
 abbrev pub text_of : List ℕ → List ℕ → Result (List ℕ) Fault
 text_of name bytes = if is_utf8 bytes then Ok bytes else Err (Malformed name bad.List)
 

@@ -11,7 +11,7 @@ use Rattle.mosaic_builds.specs.Built.{Built}
 abbrev pub progress_line : List ℕ
 progress_line = progress ++ progress_end
 
--- it is told unless nothing may be
+-- the progress line is printed, but for a quiet run
 abbrev pub progress_steps : Bool → List Step
 progress_steps true = []
 progress_steps false = Prints progress_line ∷ []

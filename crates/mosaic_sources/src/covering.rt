@@ -1,9 +1,10 @@
 // Which pixel of its dataset a source takes.
-ghost use Rattle.std.specs.Prelude.{◌≡◌, ℕ, ℤ, pos, ◌+◌, ◌+ℤ◌, ◌≤ℤ◌, ◌<ℤ◌, ◌<◌, ◌≤◌, ◌*◌, ◌^◌, ◌&&◌, None, IsTrue};
+ghost use Rattle.std.specs.Prelude.{◌≡◌, ℕ, ℤ, pos, ◌+◌, ◌+ℤ◌, ◌≤ℤ◌, ◌<ℤ◌, ◌<◌, ◌≤◌, ◌*◌, ◌&&◌, None, IsTrue};
 ghost use Rattle.std.specs.Prelude.{false, int_le, int_lt, unsigned_abs};
 ghost use Rattle.geotransform.specs.declared.types.Size.{Size};
 ghost use Rattle.vrt_profile.specs.Values.{million};
 ghost use Rattle.vrt_profile.specs.Cover.{centre, part_of, columns_of, lines_of, cover_of};
+ghost use Rattle.mosaic_sources.specs.Axes.{axis_limit};
 ghost use Rattle.mosaic_sources.specs.Rows.{covers_line};
 ghost use Rattle.mosaic_sources.specs.Stretches.{is_in_span};
 
@@ -22,7 +23,7 @@ struct Part {
 // So many whole pixels.
 fn all_of(count: u32) -> i64
     ensures length { result ≡ pos (count * million) }
-    ensures bound { unsigned_abs result < 2 ^ 52 }
+    ensures bound { unsigned_abs result < axis_limit }
     ensures some { 0 < count → pos 0 <ℤ result }
 {
     count as i64 * 1_000_000
@@ -32,8 +33,8 @@ fn all_of(count: u32) -> i64
 fn columns_in(rectangle: Option<MicroRect>, size: Size) -> Part
     ensures start { result.start ≡ (part_of rectangle size).x }
     ensures length { result.length ≡ (part_of rectangle size).w }
-    ensures start_bound { unsigned_abs result.start < 2 ^ 52 }
-    ensures length_bound { unsigned_abs result.length < 2 ^ 52 }
+    ensures start_bound { unsigned_abs result.start < axis_limit }
+    ensures length_bound { unsigned_abs result.length < axis_limit }
     ensures way { pos 0 ≤ℤ result.length }
     ensures some { 0 < size.w → pos 0 <ℤ result.length }
 {
@@ -53,8 +54,8 @@ fn columns_in(rectangle: Option<MicroRect>, size: Size) -> Part
 fn lines_in(rectangle: Option<MicroRect>, size: Size) -> Part
     ensures start { result.start ≡ (part_of rectangle size).y }
     ensures length { result.length ≡ (part_of rectangle size).h }
-    ensures start_bound { unsigned_abs result.start < 2 ^ 52 }
-    ensures length_bound { unsigned_abs result.length < 2 ^ 52 }
+    ensures start_bound { unsigned_abs result.start < axis_limit }
+    ensures length_bound { unsigned_abs result.length < axis_limit }
     ensures way { pos 0 ≤ℤ result.length }
     ensures some { 0 < size.h → pos 0 <ℤ result.length }
 {
@@ -117,8 +118,8 @@ pub fn line_span(source: &Source, size: Size) -> Span
 
 // Whether none of `count` columns from `first` on has its centre in a part of the mosaic; the same for lines.
 fn is_beside(start: i64, length: i64, first: u32, count: u32) -> bool
-    requires start { unsigned_abs start < 2 ^ 52 }
-    requires length { unsigned_abs length < 2 ^ 52 }
+    requires start { unsigned_abs start < axis_limit }
+    requires length { unsigned_abs length < axis_limit }
     ensures beside { IsTrue result → (x : ℕ) → first ≤ x → x < first + count →
         (int_le start (centre x) && int_lt (centre x) (start +ℤ length)) ≡ false }
 {

@@ -18,7 +18,7 @@ use Rattle.nearest_window.specs.declared.merging.Place.{Place}
 use Rattle.nearest_window.specs.declared.taking.Taking.{Taking}
 use Rattle.nearest_window.specs.declared.taking.Taking.TheVariants.{All, Except, By}
 use Rattle.nearest_window.specs.Canvases.{blank, filled_with, stands, IsSame, IsUnder, IsMerged}
-use Rattle.nearest_window.specs.Painted.{IsPainted, placed}
+use Rattle.nearest_window.specs.Painted.{IsPainted, given_between}
 use Rattle.nearest_window.specs.Taken.{TakesPixel, taken_by}
 use Rattle.nearest_window.proofs.Painted.{painted_part, placed_in, placed_before, placed_after}
 
@@ -158,7 +158,7 @@ module _ (a n : ℕ) (xs ys : List ℤ) (fits : a + n ≤ length xs) (size : len
   part : length (mid_of a n xs) ≡ n
   part = let d = length-drop a xs in length-take-le n (drop a xs) (omega arith)
 
-  painted : IsPainted (placed a (a + n) (λ i. Some (get_or ys i (pos 0)))) xs (put_mid a n xs ys)
+  painted : IsPainted (given_between a (a + n) (λ i. Some (get_or ys i (pos 0)))) xs (put_mid a n xs ys)
   painted = painted_part (λ i. Some (get_or ys i (pos 0))) a n xs ys fits (record { size = size ∙ sym part; each = λ k q. refl })
 
   pub put_size : length (put_mid a n xs ys) ≡ length xs

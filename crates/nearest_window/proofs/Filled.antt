@@ -6,7 +6,7 @@ use Rattle.std.proofs.lemmas.Bool.{cases_lt}
 use Rattle.std.proofs.lemmas.List.{length-take-le}
 use Rattle.std.proofs.lemmas.Nat.{mod-mul-add, div-add-mod', mod_below}
 use borrow.Rule.Slice.PartMut.{put_mid, mid_of}
-use Rattle.nearest_window.specs.Painted.{IsPainted, IsFilled, AreFilled, placed, in_columns}
+use Rattle.nearest_window.specs.Painted.{IsPainted, IsFilled, AreFilled, given_between, in_columns}
 use Rattle.nearest_window.proofs.Painted.{painted_part, placed_in, placed_before, placed_after}
 
 module _ (P : ℤ → Type 0) where
@@ -44,7 +44,7 @@ module _ (P : ℤ → Type 0) where
         here.outside k t (λ x y. out (omega arith) y) ∙ before.outside k s (λ x y. out x (omega arith));
   }
 
-  part_of : (a n : ℕ) (xs ys : List ℤ) → a + n ≤ length xs → length ys ≡ n → IsPainted (placed a (a + n) (λ i. Some (get_or ys i (pos 0)))) xs (put_mid a n xs ys)
+  part_of : (a n : ℕ) (xs ys : List ℤ) → a + n ≤ length xs → length ys ≡ n → IsPainted (given_between a (a + n) (λ i. Some (get_or ys i (pos 0)))) xs (put_mid a n xs ys)
   part_of a n xs ys p size = painted_part (λ i. Some (get_or ys i (pos 0))) a n xs ys p (record { size = size ∙ sym part; each = λ k q. refl })
     where
       part : length (mid_of a n xs) ≡ n
@@ -70,7 +70,7 @@ module _ (P : ℤ → Type 0) where
       width : q - p ≡ n * w
       width = let e = next in omega arith
 
-      painted : IsPainted (placed (r * w) (r * w + n * w) (λ i. Some (get_or ys i (pos 0)))) mid (put_mid (r * w) (n * w) mid ys)
+      painted : IsPainted (given_between (r * w) (r * w + n * w) (λ i. Some (get_or ys i (pos 0)))) mid (put_mid (r * w) (n * w) mid ys)
       painted = part_of (r * w) (n * w) mid ys (let e = next in omega arith) size
 
       each : AreFilled P ((r + n) * w) w a b (put_mid (r * w) (n * w) mid ys)

@@ -17,7 +17,7 @@ use Rattle.block_cache.specs.declared.pool.Entry.{Entry}
 use Rattle.block_cache.specs.Entries.{held_at}
 use Rattle.nearest_window.specs.declared.picture.Picture.{Picture}
 use Rattle.nearest_window.specs.declared.members.Piece.{Piece}
-use Rattle.nearest_window.specs.Painted.{IsPainted, placed, in_columns}
+use Rattle.nearest_window.specs.Painted.{IsPainted, given_between, in_columns}
 use Rattle.nearest_window.specs.Pictures.{from_block}
 use Rattle.band_blocks.specs.Contents.{IsBlock}
 use Rattle.nearest_window.specs.Lanes.{IsHeldWith, IsUsed, LaneView}
@@ -45,7 +45,7 @@ columns_same w a n rows f g old new some size same h =
     painted_same (in_columns w a (a + n) f) (in_columns w a (a + n) g) old new h
     (λ k p. each (k % w) (k / w) (div_below k w rows some (omega arith)))
   where
-    each : (j r : ℕ) → r < rows → placed a (a + n) (λ c. f c r) j ≡ placed a (a + n) (λ c. g c r) j
+    each : (j r : ℕ) → r < rows → given_between a (a + n) (λ c. f c r) j ≡ given_between a (a + n) (λ c. g c r) j
     each j r p = elim (cases_lt j a) [
       | inl b ↦ placed_before a (a + n) (λ c. f c r) j b ∙ sym (placed_before a (a + n) (λ c. g c r) j b)
       | inr b ↦ elim (cases_lt j (a + n)) [

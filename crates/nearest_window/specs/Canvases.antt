@@ -38,7 +38,7 @@ filled_with v = if int_eq v blank then None else Some v
 abbrev pub stands : List ℤ → ℕ → Option ℤ
 stands xs k = filled_with (slice_index_or xs k blank)
 
--- the same in the range of a type, or nothing both
+-- two values are the same once they are brought into the range of a type, or there is none of both
 abbrev pub IsSame : PixelType → Option ℤ → Option ℤ → Type 0
 IsSame kind a b = option_map (clamp kind) a ≡ option_map (clamp kind) b
 

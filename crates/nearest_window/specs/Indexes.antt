@@ -21,7 +21,7 @@ all_listed kept = sum_by listed_of kept
 abbrev pub without_index : Kept → Kept
 without_index kept = record { dataset = kept.dataset; band = kept.band; index = None }
 
--- as what a band is kept behind others: without an index where all lists together would have too many numbers
+-- a band as it is kept behind others: without its index where all lists together would have too many numbers
 abbrev pub kept_behind : List Kept → Kept → Kept
 kept_behind others kept = if nat_le (all_listed others + listed_of kept) most_listed then kept else without_index kept
 

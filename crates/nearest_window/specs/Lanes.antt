@@ -36,8 +36,8 @@ abbrev pub pixel_at : BlockKey → Rect → PixelKey
 pixel_at key rect = record { dataset = key.dataset; band = key.band; x = rect.x; y = rect.y }
 
 -- how many blocks are held
-abbrev pub held_in : {File : Type 0} → LaneView File → ℕ
-held_in lane = length lane.pool.entries
+abbrev pub held_count : {File : Type 0} → LaneView File → ℕ
+held_count lane = length lane.pool.entries
 
 -- how many blocks there is room for
 abbrev pub room_of : {File : Type 0} → LaneView File → ℕ

@@ -9,7 +9,7 @@ ghost use Rattle.catalog.specs.Places.{IsWithin};
 ghost use Rattle.band_blocks.specs.Keys.{IsKey};
 ghost use Rattle.band_blocks.specs.Samples.{IsDirect};
 ghost use Rattle.block_cache.specs.Entries.{pool_view, entry_of, held_at, moved_to_front, admitted, IsPool};
-ghost use Rattle.nearest_window.specs.Lanes.{IsHeldWith, IsKept, IsUsed, LaneView, lane_view, held_in, pixel_at};
+ghost use Rattle.nearest_window.specs.Lanes.{IsHeldWith, IsKept, IsUsed, LaneView, lane_view, held_count, pixel_at};
 ghost use Rattle.nearest_window.specs.Lanes.{most_made, room_of};
 ghost use Rattle.nearest_window.specs.Painted.{IsPainted, in_columns};
 ghost use Rattle.nearest_window.specs.Pictures.{IsPicture, from_block};
@@ -159,7 +159,7 @@ impl<F: Folder> Lane<F> {
 
     /// The number of blocks that are held.
     pub fn held(&self) -> u32
-        ensures count { result ≡ held_in self.now }
+        ensures count { result ≡ held_count self.now }
     {
         self.pool.held()
     }
@@ -184,7 +184,7 @@ impl<F: Folder> Lane<F> {
 
     // Whether the pool is full.
     fn is_full(&self) -> bool
-        ensures full { result ≡ true → room_of self.now ≤ held_in self.now }
+        ensures full { result ≡ true → room_of self.now ≤ held_count self.now }
     {
         self.held() >= self.pool.capacity()
     }
@@ -371,7 +371,7 @@ impl<F: Folder> Lane<F> {
     fn may_jump(&self, cat: &Catalog, picture: &Picture, piece: Piece) -> bool
         requires known { piece.key.dataset < length cat.now }
         ensures absent { result ≡ true → held_at piece.key self.now.pool.entries ≡ None }
-        ensures full { result ≡ true → room_of self.now ≤ held_in self.now }
+        ensures full { result ≡ true → room_of self.now ≤ held_count self.now }
         ensures direct { result ≡ true → (d : Dataset) → slice_get cat.now piece.key.dataset ≡ Some d →
             IsDirect d.content }
         ensures narrow { result ≡ true → picture.now.width ≡ 1 }
@@ -397,7 +397,7 @@ impl<F: Folder> Lane<F> {
         requires known { piece.key.dataset < length cat.now }
         ensures same { self.new ≡ self.old }
         ensures absent { result ≡ true → held_at piece.key self.old.pool.entries ≡ None }
-        ensures full { result ≡ true → room_of self.old ≤ held_in self.old }
+        ensures full { result ≡ true → room_of self.old ≤ held_count self.old }
         ensures direct { result ≡ true → (d : Dataset) → slice_get cat.now piece.key.dataset ≡ Some d →
             IsDirect d.content }
         ensures narrow { result ≡ true → picture.now.width ≡ 1 }
@@ -422,7 +422,7 @@ impl<F: Folder> Lane<F> {
         requires ready { IsReady F.Folder folder.old cat.now self.old }
         requires key { IsKey cat.now key }
         requires absent { held_at key self.old.pool.entries ≡ None }
-        requires full { room_of self.old ≤ held_in self.old }
+        requires full { room_of self.old ≤ held_count self.old }
         requires direct { (d : Dataset) → slice_get cat.now key.dataset ≡ Some d → IsDirect d.content }
         requires within { (d : Dataset) → slice_get cat.now key.dataset ≡ Some d → IsWithin rect d.head.size }
         requires narrow { rect.w ≡ 1 }

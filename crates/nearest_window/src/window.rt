@@ -9,7 +9,7 @@ ghost use Rattle.catalog.specs.Places.{row_by_row};
 ghost use Rattle.catalog.specs.Walk.{IsCatalog};
 ghost use Rattle.band_blocks.specs.Contents.{most_calls};
 ghost use Rattle.band_blocks.specs.Open.{IsUnchanged};
-ghost use Rattle.nearest_window.specs.Lanes.{held_in, room_of};
+ghost use Rattle.nearest_window.specs.Lanes.{held_count, room_of};
 ghost use Rattle.nearest_window.specs.Right.{IsReady, slack_of, TellsChangeIn};
 ghost use Rattle.nearest_window.specs.Shown.{IsInBand, IsWindow, IsPictureOf, IsWhole};
 
@@ -100,11 +100,11 @@ impl<F: Folder> Lane<F> {
         ensures ready { IsReady F.Folder folder.new cat.now self.new }
         // with room for all blocks, each load makes one more block held, but for the last one of a refused call
         ensures loads { all_blocks cat.now ≤ room_of self.old →
-            loads.new ≤ loads.old + (held_in self.new - held_in self.old) + slack_of result }
+            loads.new ≤ loads.old + (held_count self.new - held_count self.old) + slack_of result }
         ensures reads { F.read_calls folder.new ≤ F.read_calls folder.old + most_calls cat.now
             * (loads.new - loads.old) }
         ensures counted { loads.old ≤ loads.new }
-        ensures kept { held_in self.old ≤ held_in self.new }
+        ensures kept { held_count self.old ≤ held_count self.new }
         ensures capacity { room_of self.new ≡ room_of self.old }
         ensures only_read { OnlyRead F.Folder folder.old folder.new }
         ensures cause { HasCause LoadFault.FolderFault (F.faults folder.old) (F.faults folder.new) result }
@@ -139,11 +139,11 @@ impl<F: Folder> Lane<F> {
         ensures ready { IsReady F.Folder folder.new cat.now self.new }
         // with room for all blocks, each load makes one more block held, but for the last one of a refused call
         ensures loads { all_blocks cat.now ≤ room_of self.old →
-            loads.new ≤ loads.old + (held_in self.new - held_in self.old) + slack_of result }
+            loads.new ≤ loads.old + (held_count self.new - held_count self.old) + slack_of result }
         ensures reads { F.read_calls folder.new ≤ F.read_calls folder.old + most_calls cat.now
             * (loads.new - loads.old) }
         ensures counted { loads.old ≤ loads.new }
-        ensures kept { held_in self.old ≤ held_in self.new }
+        ensures kept { held_count self.old ≤ held_count self.new }
         ensures capacity { room_of self.new ≡ room_of self.old }
         ensures only_read { OnlyRead F.Folder folder.old folder.new }
         ensures cause { HasCause LoadFault.FolderFault (F.faults folder.old) (F.faults folder.new) result }
@@ -189,11 +189,11 @@ impl<F: Folder> Lane<F> {
         ensures ready { IsReady F.Folder folder.new supply.now.cat.now self.new }
         // with room for all blocks, each load makes one more block held, but for the last one of a refused call
         ensures loads { all_blocks supply.now.cat.now ≤ room_of self.old →
-            loads.new ≤ loads.old + (held_in self.new - held_in self.old) + slack_of result }
+            loads.new ≤ loads.old + (held_count self.new - held_count self.old) + slack_of result }
         ensures reads { F.read_calls folder.new ≤ F.read_calls folder.old + most_calls supply.now.cat.now
             * (loads.new - loads.old) }
         ensures counted { loads.old ≤ loads.new }
-        ensures kept { held_in self.old ≤ held_in self.new }
+        ensures kept { held_count self.old ≤ held_count self.new }
         ensures capacity { room_of self.new ≡ room_of self.old }
         ensures only_read { OnlyRead F.Folder folder.old folder.new }
         ensures cause { HasCause LoadFault.FolderFault (F.faults folder.old) (F.faults folder.new) result }

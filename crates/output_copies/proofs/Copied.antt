@@ -14,7 +14,7 @@ use Rattle.band_blocks.proofs.Corners.{get_or-row_by_row}
 use Rattle.translate_plan.specs.Bands.{no_out_band}
 use Rattle.translate_plan.specs.Plan.{Planned, IsPlan}
 use Rattle.write_back.specs.declared.forms.Writer.TheVariants.{Raw, Hgt, Dted}
-use Rattle.write_back.specs.Files.{files_in, IsTarget, IsWhole, IsWholeOn}
+use Rattle.write_back.specs.Files.{target_files, IsTarget, IsWhole, IsWholeOn}
 use Rattle.write_back.specs.Overlay.{IsOverlaid}
 use Rattle.write_back.specs.Plans.{output_of}
 use Rattle.write_back.specs.View.{Output, Blocks, Rows, SheetView, TargetView, bands_of, columns_of, lines_after, rows_of, sheet_in, shown, AreWritable, IsIn, IsMetOn, IsNext, Meets, MeetsAll, Shows}
@@ -222,7 +222,7 @@ module _ (told : Option Files) (cat : List Dataset) (id : ℕ) (p : Planned) (pl
   whole_on (Rows g) s tall at met = at ∙ sym tall
 
   -- an output is whole, and its files are those of the raster
-  pub filled_whole : (t : TargetView) (m : Files) (d : Dataset) → told ≡ Some m → slice_get cat id ≡ Some d → IsFilled told cat id p t p.size.h p.size.h 0 → IsWhole t × (files_in t ≡ files_by (output_of p) t.name (raster_of m d p))
+  pub filled_whole : (t : TargetView) (m : Files) (d : Dataset) → told ≡ Some m → slice_get cat id ≡ Some d → IsFilled told cat id p t p.size.h p.size.h 0 → IsWhole t × (target_files t ≡ files_by (output_of p) t.name (raster_of m d p))
   filled_whole t m d e f filled =
       let size = has_size p t.output plan filled.output in
       let tall : rows_of t.output ≡ p.size.h = size.lines_are in

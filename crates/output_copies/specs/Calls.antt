@@ -1,4 +1,4 @@
--- Calls of a closure at a value that it changes.
+-- What a closure does that is called with a `&mut` to a value.
 use Rattle.std.specs.Prelude.{◌≡◌}
 use denote.Ref.{MutBor}
 use denote.Param.Members.{Shared}

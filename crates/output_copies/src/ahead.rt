@@ -93,7 +93,7 @@ fn read_front<R: Threads + Sync, F: Folder, L: Ledger, S: Scene>(
     read_part(rt, translation, reader, view, shared, lines, part)
 }
 
-// The same, with all that is known then.
+// Reads lines into the front of a room, and leaves what the next step asks for.
 fn read_room<R: Threads + Sync, F: Folder, L: Ledger, S: Scene>(
     rt: &R,
     translation: &Translation,
@@ -426,7 +426,7 @@ fn tell_behind<O: Sink>(
     tell(out, quiet, told, Share { done, height })
 }
 
-// The same, and answers then what reading answered.
+// Tells how far it is, and then answers what reading answered.
 fn tell_and_answer<O: Sink>(
     out: &mut O,
     quiet: bool,

@@ -1,9 +1,10 @@
--- A path each part of which begins with a byte that isn't a point is its own normal form.
-use Rattle.std.proofs.Common.{◌≡◌, ℕ, Bool, true, false, cond, not, ◌||◌, ◌&&◌, List, [], ◌∷◌, ◌++◌, length, take, drop, ◌-◌, refl, ap, sym, subst, ◌∙◌, append-nil, append_assoc, bytes_eq, codes, eqb-true}
-use Rattle.std.specs.Prelude.{◌==◌}
+-- A path each part of which begins with a byte that isn't a point is its own normal form, and so is one of parts ..
+-- with such parts behind them.
+use Rattle.std.proofs.Common.{◌≡◌, ℕ, Bool, true, false, cond, not, ◌||◌, ◌&&◌, List, [], ◌∷◌, ◌++◌, length, take, drop, ◌-◌, refl, ap, sym, subst, ◌∙◌, append-nil, append_assoc, length-append, arith, bytes_eq, codes, eqb-true}
+use Rattle.std.specs.Prelude.{◌==◌, slice_get, Some}
 use Rattle.std.specs.List.{onto_first}
-use Rattle.outside.specs.Paths.{with_part, parts_of, pieces, joined, is_absolute, is_kept, spelled, normal}
-use Rattle.outside.specs.Plain.{are_plain, behind_slash}
+use Rattle.outside.specs.Paths.{with_part, parts_of, pieces, joined, is_absolute, is_kept, is_other, spelled, normal}
+use Rattle.outside.specs.Plain.{are_plain, behind_slash, adds_all}
 
 -- a part that begins with a byte that isn't a point
 abbrev IsPlain : List ℕ → Type 0
@@ -125,3 +126,37 @@ by_slash c cs false e h = relative (c ∷ cs) e h
 pub plain_normal : (text : List ℕ) → are_plain true (behind_slash text) ≡ true → normal text ≡ text
 plain_normal [] h = absurd cc
 plain_normal (c ∷ cs) h = by_slash c cs (c == 47) refl h
+
+-- a part .. stays behind others of which it removes none, and so does the next one
+abbrev parent : List ℕ
+parent = 46 ∷ 46 ∷ []
+
+parent_stays : (before : List (List ℕ)) → is_kept before ≡ false → with_part false before parent ≡ before ++ parent ∷ []
+parent_stays before last = ap (λ r. cond r (take (length before - 1) before) (before ++ parent ∷ [])) last
+
+last_of : (before : List (List ℕ)) (part : List ℕ) → slice_get (before ++ part ∷ []) (length before) ≡ Some part
+last_of [] part = refl
+last_of (p ∷ ps) part = last_of ps part
+
+ends_parent : (before : List (List ℕ)) → is_kept (before ++ parent ∷ []) ≡ false
+ends_parent before =
+    let last : length (before ++ parent ∷ []) - 1 ≡ length before = omega (arith, length-append before (parent ∷ [])) in
+    ap (λ n. is_other (slice_get (before ++ parent ∷ []) n)) last ∙ ap is_other (last_of before parent)
+
+pub parent_added : (text rest : List ℕ) → text ≡ 46 ∷ 46 ∷ 47 ∷ rest → adds_all rest → adds_all text
+parent_added text rest is kept before last =
+    ap (λ (t : List ℕ). parts_of false before (pieces t)) is
+    ∙ ap (λ (ps : List (List ℕ)). parts_of false ps (pieces rest)) (parent_stays before last)
+    ∙ kept (before ++ parent ∷ []) (ends_parent before)
+    ∙ append_assoc before (parent ∷ []) (pieces rest)
+    ∙ ap (λ (t : List ℕ). before ++ pieces t) (sym is)
+
+plain_added : (text : List ℕ) → are_plain true text ≡ true → adds_all text
+plain_added text h before last = parts_stay false before (pieces text) (all_plain text h)
+
+pub parents_normal : (text rest : List ℕ) → is_absolute text ≡ false → (adds_all rest → adds_all text) → are_plain true rest ≡ true → normal text ≡ text
+unfolding normal
+parents_normal text rest is added h =
+    ap (λ r. spelled r (parts_of r [] (pieces text))) is
+    ∙ ap (spelled false) (added (plain_added rest h) [] refl)
+    ∙ spelled_relative (pieces text) text (joined_pieces text)

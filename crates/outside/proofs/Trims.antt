@@ -18,7 +18,7 @@ point_falls c d rest e f absolute before =
 pub ruleset falls = (slash_falls, point_falls)
 
 -- the same normal form, where neither begins with a slash
-pub same_relative : (text rest : List ℕ) → add_the_same text rest → is_absolute text ≡ false → is_absolute rest ≡ false → normal rest ≡ normal text
+same_relative : (text rest : List ℕ) → add_the_same text rest → is_absolute text ≡ false → is_absolute rest ≡ false → normal rest ≡ normal text
 unfolding normal
 same_relative text rest same is rest_is =
     ap (λ r. spelled r (parts_of r [] (pieces rest))) rest_is
@@ -26,7 +26,7 @@ same_relative text rest same is rest_is =
     ∙ sym (ap (λ r. spelled r (parts_of r [] (pieces text))) is)
 
 -- the same where one does, and a slash is put before the other
-pub same_absolute : (text rest : List ℕ) → add_the_same text rest → is_absolute text ≡ true → normal (47 ∷ rest) ≡ normal text
+same_absolute : (text rest : List ℕ) → add_the_same text rest → is_absolute text ≡ true → normal (47 ∷ rest) ≡ normal text
 unfolding normal
 same_absolute text rest same is =
     ap (spelled true) (sym (same true []))

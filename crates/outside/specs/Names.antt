@@ -4,6 +4,7 @@ use Rattle.std.specs.Prelude.{Some, None, option_map, option_and_then, if◌then
 use Rattle.std.specs.List.{list_all}
 use Rattle.std.specs.Option.{unwrap_or}
 use Rattle.std.specs.Char.{is_ascii_lowercase}
+use Rattle.lists_and_answers.specs.Bytes.{point, slash}
 use Rattle.lists_and_answers.specs.Texts.{same_letters}
 use Rattle.outside.specs.declared.name.Ext.{Ext}
 use Rattle.outside.specs.declared.name.Ext.TheVariants.{Bil, Bip, Bsq, Dt0, Dt1, Dt2, Hgt, Asc, Grd, Vrt}
@@ -24,7 +25,7 @@ behind_last c text = option_map (λ p. p.1) (cut_last c text)
 
 -- what stands before the last slash of a name
 unfoldable pub folder_part : List ℕ → Option (List ℕ)
-folder_part name = option_map (λ p. p.0) (cut_last 47 name)
+folder_part name = option_map (λ p. p.0) (cut_last slash name)
 
 -- a name with two numbers in it, in a folder or without one
 abbrev pub temporary_in : Option (List ℕ) → ℕ → ℕ → List ℕ
@@ -39,11 +40,11 @@ temporary_of name process number = temporary_in (folder_part name) process numbe
 
 -- what stands behind the last slash of a name, or all of it where there is none
 unfoldable pub last_part : List ℕ → List ℕ
-last_part name = unwrap_or (behind_last 47 name) name
+last_part name = unwrap_or (behind_last slash name) name
 
 -- what follows the last point of the last part
 unfoldable pub ending_of : List ℕ → Option (List ℕ)
-ending_of name = behind_last 46 (last_part name)
+ending_of name = behind_last point (last_part name)
 
 -- the kinds of files, each with the ending of its names
 abbrev pub kinds : List (List ℕ × Ext)
@@ -94,7 +95,7 @@ has_no_lower text = list_all (λ b. not (is_ascii_lowercase b)) text
 abbrev pub header_ending : List ℕ → List ℕ
 header_ending ending = if has_no_lower ending then codes "HDR" else codes "hdr"
 
--- a text whose ending is replaced
+-- a name with the header's ending in place of its own
 abbrev pub with_header_ending : List ℕ → List ℕ → List ℕ
 with_header_ending name ending = take (length name - length ending) name ++ header_ending ending
 

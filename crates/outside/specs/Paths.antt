@@ -2,6 +2,7 @@
 use Rattle.std.specs.Prelude.{ℕ, ◌≡◌, ◌≤◌, ◌==◌, ◌-◌, Bool, false, not, ◌||◌, List, [], ◌∷◌, ◌++◌, length, take, drop}
 use Rattle.std.specs.Prelude.{map, flat_map, codes, bytes_eq, slice_get, Option, Some, None, if◌then◌else◌}
 use Rattle.std.specs.List.{slice_split}
+use Rattle.lists_and_answers.specs.Bytes.{slash}
 use denote.Ref.{Bor}
 
 -- The most bytes of a name.
@@ -12,7 +13,7 @@ longest_name = 4096
 abbrev pub seen : List (Bor (List ℕ)) → List (List ℕ)
 seen parts = map (λ p. p.now) parts
 
--- it is there, and isn't ..
+-- a part is there, and it isn't `..`
 abbrev pub is_other : Option (List ℕ) → Bool
 is_other None = false
 is_other (Some part) = not (bytes_eq part (codes ".."))
@@ -36,16 +37,16 @@ parts_of absolute before (part ∷ parts) = parts_of absolute (with_part absolut
 
 -- the text's parts between its slashes
 abbrev pub pieces : List ℕ → List (List ℕ)
-pieces text = slice_split (λ b. b == 47) text
+pieces text = slice_split (λ b. b == slash) text
 
 -- a slash before each part
 abbrev pub joined : List (List ℕ) → List ℕ
-joined parts = flat_map (λ p. 47 ∷ p) parts
+joined parts = flat_map (λ p. slash ∷ p) parts
 
 -- it begins with a slash
 abbrev pub is_absolute : List ℕ → Bool
 is_absolute [] = false
-is_absolute (b ∷ bs) = b == 47
+is_absolute (b ∷ bs) = b == slash
 
 -- the parts with slashes between them, and one at the front of an absolute path; no part at all is / or .
 abbrev pub spelled : Bool → List (List ℕ) → List ℕ

@@ -1,25 +1,26 @@
 -- Paths that are their own normal form, by the first bytes of their parts, and texts that add the same parts.
 use Rattle.std.specs.Prelude.{◌≡◌, ℕ, ◌==◌, Bool, true, false, not, ◌||◌, ◌&&◌, if◌then◌else◌}
-use Rattle.std.specs.Prelude.{List, Option, Some, None, [], ◌∷◌}
-use Rattle.outside.specs.Paths.{parts_of, pieces}
+use Rattle.std.specs.Prelude.{List, Option, Some, None, [], ◌∷◌, ◌++◌}
+use Rattle.lists_and_answers.specs.Bytes.{point, slash}
+use Rattle.outside.specs.Paths.{parts_of, pieces, is_kept}
 
 -- whether a byte isn't a slash
 abbrev pub is_inside : ℕ → Bool
-is_inside c = not (c == 47)
+is_inside c = not (c == slash)
 
 -- whether a part that begins here begins with a slash or a point
 abbrev pub begins_specially : Bool → ℕ → Bool
-begins_specially first c = first && ((c == 47) || (c == 46))
+begins_specially first c = first && ((c == slash) || (c == point))
 
 -- whether each part between slashes, the first of which may have begun, begins with a byte that isn't a point
 abbrev pub are_plain : Bool → List ℕ → Bool
 are_plain first [] = not first
-are_plain first (c ∷ cs) = not (begins_specially first c) && are_plain (c == 47) cs
+are_plain first (c ∷ cs) = not (begins_specially first c) && are_plain (c == slash) cs
 
 -- what stands behind a slash in front, or all where there is none
 abbrev pub behind_slash : List ℕ → List ℕ
 behind_slash [] = []
-behind_slash (c ∷ cs) = if c == 47 then cs else c ∷ cs
+behind_slash (c ∷ cs) = if c == slash then cs else c ∷ cs
 
 -- what stands behind the slash at which the part in front of it ends says whether all parts are so, and that there is
 -- no such slash that this is the last one
@@ -32,3 +33,8 @@ abbrev pub add_the_same : List ℕ → List ℕ → Type 0
 add_the_same text other =
     (absolute : Bool) (before : List (List ℕ)) → parts_of absolute before (pieces text)
     ≡ parts_of absolute before (pieces other)
+
+-- a relative path adds all its parts to any of which .. removes none
+abbrev pub adds_all : List ℕ → Type 0
+adds_all text =
+    (before : List (List ℕ)) → is_kept before ≡ false → parts_of false before (pieces text) ≡ before ++ pieces text

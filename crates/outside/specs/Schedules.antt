@@ -23,17 +23,17 @@ number_of made Take = made.take
 number_of made Put = made.put
 
 -- one more call of a method
-abbrev pub counted : Made → Method → Made
-counted made Open = record made { all = one_more made.all; «open» = one_more made.«open» }
-counted made ReadAt = record made { all = one_more made.all; read_at = one_more made.read_at }
-counted made Create = record made { all = one_more made.all; create = one_more made.create }
-counted made Grow = record made { all = one_more made.all; grow = one_more made.grow }
-counted made WriteAt = record made { all = one_more made.all; write_at = one_more made.write_at }
-counted made Append = record made { all = one_more made.all; append = one_more made.append }
-counted made DraftRead = record made { all = one_more made.all; draft_read = one_more made.draft_read }
-counted made Publish = record made { all = one_more made.all; publish = one_more made.publish }
-counted made Take = record made { all = one_more made.all; take = one_more made.take }
-counted made Put = record made { all = one_more made.all; put = one_more made.put }
+abbrev pub with_call : Made → Method → Made
+with_call made Open = record made { all = one_more made.all; «open» = one_more made.«open» }
+with_call made ReadAt = record made { all = one_more made.all; read_at = one_more made.read_at }
+with_call made Create = record made { all = one_more made.all; create = one_more made.create }
+with_call made Grow = record made { all = one_more made.all; grow = one_more made.grow }
+with_call made WriteAt = record made { all = one_more made.all; write_at = one_more made.write_at }
+with_call made Append = record made { all = one_more made.all; append = one_more made.append }
+with_call made DraftRead = record made { all = one_more made.all; draft_read = one_more made.draft_read }
+with_call made Publish = record made { all = one_more made.all; publish = one_more made.publish }
+with_call made Take = record made { all = one_more made.all; take = one_more made.take }
+with_call made Put = record made { all = one_more made.all; put = one_more made.put }
 
 -- no call was made
 abbrev pub no_call : Made
@@ -85,7 +85,7 @@ IsPlanned failing made method = Contains failing (Call made.all) ⊎ Contains fa
 
 -- the next call is to fail, if it is one of this method
 abbrev pub Plans : Listed → Method → Type 0
-Plans schedule method = IsPlanned (failing_of schedule) (counted (made_of schedule) method) method
+Plans schedule method = IsPlanned (failing_of schedule) (with_call (made_of schedule) method) method
 
 -- a view's schedule has the folder's list, and counts on from the folder's numbers
 pub record Forked (folder view : Listed) : Type 0 where

@@ -1,9 +1,9 @@
 // Normal forms of paths.
-ghost use Rattle.std.specs.Prelude.{◌≡◌, ◌<◌, ◌≤◌, true, false, length, option_map, string_bytes, []};
+ghost use Rattle.std.specs.Prelude.{◌≡◌, ◌<◌, ◌≤◌, true, false, length, option_map, string_bytes, [], ◌∷◌};
 ghost use Rattle.std.specs.Prelude.{◌-◌, if◌then◌else◌, drop, slice_index, IfOk, IfSome, OnOk};
 ghost use Rattle.std.specs.List.{prefix_len};
 ghost use Rattle.outside.specs.Paths.{seen, with_part, parts_of, pieces, joined, normal, is_kept, is_absolute};
-ghost use Rattle.outside.specs.Plain.{are_plain, are_plain_behind, behind_slash, is_inside, add_the_same};
+ghost use Rattle.outside.specs.Plain.{are_plain, are_plain_behind, behind_slash, is_inside, add_the_same, adds_all};
 
 use crate::Text;
 use memchr::memchr;
@@ -129,11 +129,45 @@ fn are_plain(text: &[u8]) -> bool
     false
 }
 
+// What stands behind a part `..` in front, where a slash ends it.
+fn behind_parent(text: &[u8]) -> Option<&[u8]>
+    ensures parent { IfSome result (λ rest. text.now ≡ 46 ∷ 46 ∷ 47 ∷ rest.now) }
+    ensures shorter { IfSome result (λ rest. length rest.now < length text.now) }
+{
+    match text {
+        [c, d, e, rest @ ..] if *c == b'.' && *d == b'.' && *e == b'/' => Some(rest),
+        _ => None,
+    }
+}
+
+// What stands behind all parts `..` in front.
+fn behind_parents(text: &[u8]) -> &[u8]
+    ensures added { adds_all result.now → adds_all text.now }
+{
+    let mut rest = text;
+    while let Some(more) = behind_parent(rest) {
+        rest = more;
+    }
+    rest
+}
+
+// Whether a path without a slash in front is its own normal form: parts `..`, and behind them parts whose first bytes
+// tell it.
+fn is_plain_relative(text: &[u8]) -> bool
+    requires relative { is_absolute text.now ≡ false }
+    ensures { result ≡ true → normal text.now ≡ text.now }
+{
+    are_plain(behind_parents(text))
+}
+
 // Whether a path is its own normal form by the first bytes of its parts, as most are.
 #[tactic(auto, using(crate::proofs::Plain::plain_normal))]
 fn is_plain(text: &[u8]) -> bool
     ensures { result ≡ true → normal text.now ≡ text.now }
 {
+    if !is_absolute(text) {
+        return is_plain_relative(text);
+    }
     are_plain(behind_slash(text))
 }
 

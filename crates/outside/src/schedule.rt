@@ -1,7 +1,7 @@
 // Which calls of a folder, an input or a sink in memory fail.
 ghost use Rattle.std.specs.Prelude.{◌≡◌, ◌≤◌, ℕ, ⊤, IsTrue, IfOk, ◌↔◌};
 ghost use Rattle.outside.specs.Causes.{Rose, Absorbed, CountsWhere, one_more, added};
-ghost use Rattle.outside.specs.Schedules.{number_of, counted, later_of, no_call, Plans, Forked, Moved, failing_of};
+ghost use Rattle.outside.specs.Schedules.{number_of, with_call, later_of, no_call, Plans, Forked, Moved, failing_of};
 ghost use Rattle.outside.specs.Schedules.{made_of, faults_of, IsPlanned};
 ghost use Rattle.outside.specs.declared.schedule.Method.{Method};
 
@@ -83,7 +83,7 @@ impl Made {
 
     /// Counts one more call of this method.
     pub fn count(self, method: Method) -> Made
-        ensures counted { result ≡ counted self method }
+        ensures counted { result ≡ with_call self method }
     {
         let all = self.all.saturating_add(1);
         let next = self.number(method).saturating_add(1);
@@ -293,7 +293,7 @@ impl Schedule for Listed {
         ensures later { faults_of self.old ≤ faults_of self.new }
         ensures risen { IsTrue result → Rose (faults_of self.old) (faults_of self.new) }
         ensures failing { failing_of self.new ≡ failing_of self.old }
-        ensures made { made_of self.new ≡ counted (made_of self.old) method }
+        ensures made { made_of self.new ≡ with_call (made_of self.old) method }
     {
         self.made = self.made.count(method);
         let fails = is_planned(self.failing.as_slice(), self.made, method);

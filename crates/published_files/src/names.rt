@@ -35,7 +35,7 @@ fn is_own(alloc: Global, dataset: &Name, name: &Name) -> Result<bool, AllocError
     Ok(header.is(name))
 }
 
-// The same of the dataset of a number.
+// Whether a name is that of a file of the dataset of this number, its header included.
 fn is_own_at(alloc: Global, cat: &Catalog, id: u32, name: &Name) -> Result<bool, AllocError>
     requires known { id < length cat.now }
     ensures own { IfOk result (λ own. (d : Dataset) → slice_get cat.now id ≡ Some d →

@@ -11,7 +11,7 @@ const LONGEST: usize = 4096;
 #[derive(Clone, Copy)]
 struct Named<'a>(&'a str, &'a str);
 
-const NORMAL: [Named<'static>; 20] = [
+const NORMAL: [Named<'static>; 24] = [
     Named("a", "a"),
     Named("a/b", "a/b"),
     Named("/a/b", "/a/b"),
@@ -25,6 +25,10 @@ const NORMAL: [Named<'static>; 20] = [
     Named(".", "."),
     Named("..", ".."),
     Named("../a", "../a"),
+    Named("../../a/b", "../../a/b"),
+    Named("..//../a", "../../a"),
+    Named("../.a", "../.a"),
+    Named("../a/../b", "../b"),
     Named("a/../../b", "../b"),
     Named("../../a/..", "../.."),
     Named("/", "/"),

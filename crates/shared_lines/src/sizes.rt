@@ -16,7 +16,7 @@ fn samples_in(head: &Head, band: u32, block: u64) -> u32
     requires block { block < blocks_of head.now }
     ensures count { result ≡ (block_rect_of head.now block).w * (block_rect_of head.now block).h }
 {
-    // The head keeps its rules.
+    // This read is made for the proof: it says what holds of every head.
     let _size = head.size;
     let rect = block_rect(head, band, block);
     rect.w * rect.h

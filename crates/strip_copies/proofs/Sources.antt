@@ -11,7 +11,7 @@ use Rattle.translate_plan.specs.declared.band.OutBand.{OutBand}
 use Rattle.translate_plan.specs.Options.{Options, IsOptions}
 use Rattle.translate_plan.specs.Window.{asked_in, window_in, inside_in, sides_of, size_in}
 use Rattle.translate_plan.specs.Fits.{count_in, geo_in, place_in}
-use Rattle.translate_plan.specs.Bands.{all_known, AreKnown, count_of, out_band_at, band_by, is_bare, asked_bands, out_bands, source_of}
+use Rattle.translate_plan.specs.Bands.{all_known, AreKnown, count_of, out_band_at, band_by, is_bare, asked_bands, out_bands, source_number_at}
 use Rattle.translate_plan.specs.Plan.{Planned, fits_in, plan_of}
 use Rattle.translate_plan.proofs.Kept.{are_known}
 
@@ -48,16 +48,16 @@ planned_of o h p found =
     record { known = are_known o.bands (length h.bands) known.found; bands = sym (ap (λ (q : Planned). q.bands) (ok_same _ p _ refl held.rest)) }
 
 -- the source's band of an output's is one that there is
-known_source : (bands : List ℕ) (k count : ℕ) → All (λ b. (0 < b) × (b ≤ 256)) bands → AreKnown bands count → k < count_of bands count → source_of bands k < count
+known_source : (bands : List ℕ) (k count : ℕ) → All (λ b. (0 < b) × (b ≤ 256)) bands → AreKnown bands count → k < count_of bands count → source_number_at bands k < count
 known_source [] k count all known less = omega (arith, less)
 known_source (b ∷ bs) k count all known less =
     let many : count_of (b ∷ bs) count ≡ length (b ∷ bs) = grind (arith, nat_tests) in
-    let own : source_of (b ∷ bs) k ≡ slice_index (b ∷ bs) k - 1 = grind (arith, nat_tests) in
+    let own : source_number_at (b ∷ bs) k ≡ slice_index (b ∷ bs) k - 1 = grind (arith, nat_tests) in
     let one = all k 0 (omega arith) in
     let below = known.each k 0 (omega arith) in
     omega (arith, one.0, below)
 
-source_by : (o : Options) (h : DatasetHead) (bare : Bool) (k count : ℕ) → source_of o.bands k < count → (band_by bare (out_band_at o h k)).source < count
+source_by : (o : Options) (h : DatasetHead) (bare : Bool) (k count : ℕ) → source_number_at o.bands k < count → (band_by bare (out_band_at o h k)).source < count
 source_by o h true k count less = less
 source_by o h false k count less = less
 

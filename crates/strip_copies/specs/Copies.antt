@@ -10,7 +10,7 @@ use Rattle.translate_plan.specs.declared.band.OutBand.{OutBand}
 use Rattle.translate_plan.specs.Plan.{Planned, shown_line}
 use Rattle.strip_copies.specs.declared.columns.Columns.{Columns}
 use Rattle.strip_copies.specs.declared.spans.Run.{Run}
-use Rattle.strip_copies.specs.Rows.{AreColumns, AreIn, AreSamples}
+use Rattle.strip_copies.specs.Rows.{AreColumns, AreShownIn, AreSamples}
 
 -- the catalog has the dataset of this number, which has the bands that the plan shows
 pub record IsTranslation (cat : List Dataset) (id : ℕ) (p : Planned) : Type 0 where
@@ -33,7 +33,7 @@ pub record IsPart (cat : List Dataset) (id : ℕ) (p : Planned) (columns : Colum
   pub some : run.first < run.end
   pub end : run.end ≤ p.size.h
   pub shown : AreColumns p dataset.head.size.w columns
-  pub lines : AreIn p dataset.head.size.h run.first run.end run.span
+  pub lines : AreShownIn p dataset.head.size.h run.first run.end run.span
 
 -- the samples of a run are the pixels of its part of a source of this height, one for one
 pub record IsDirect (p : Planned) (height : ℕ) (c : Columns) (run : Run) : Type 0 where

@@ -42,6 +42,7 @@ is_grid kinds.Hgt = false
 is_grid kinds.Ascii = true
 is_grid kinds.Vrt = false
 
+-- whether a dataset of this kind is cut into blocks of a shape
 abbrev pub is_cut_in : BlockShape → Kind → Bool
 is_cut_in Columns kind = is_cell kind
 is_cut_in Squares kind = is_mosaic kind

@@ -71,7 +71,7 @@ pub record IsIn (s : Span) (y : ℕ) : Type 0 where
   pub bottom : y < s.top + s.height
 
 -- the lines of a source of this height that lines of the output from `first` up to `end` show lie in a span
-pub record AreIn (p : Planned) (height first end : ℕ) (s : Span) : Type 0 where
+pub record AreShownIn (p : Planned) (height first end : ℕ) (s : Span) : Type 0 where
   pub inside : s.top + s.height ≤ height
   pub each : (j y : ℕ) → first ≤ j → j < end → within height (shown_line p j) ≡ Some y → IsIn s y
 

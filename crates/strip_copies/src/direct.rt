@@ -3,7 +3,7 @@ ghost use Rattle.std.specs.Prelude.{◌≡◌, ◌<◌, ◌≤◌, ◌+◌, ◌-
 ghost use Rattle.geotransform.specs.Types.{is_in};
 ghost use Rattle.geotransform.specs.Pixels.{within};
 ghost use Rattle.translate_plan.specs.Plan.{shown_line};
-ghost use Rattle.strip_copies.specs.Rows.{nearest, AreIn};
+ghost use Rattle.strip_copies.specs.Rows.{nearest, AreShownIn};
 ghost use Rattle.strip_copies.specs.Copies.{IsDirect};
 
 use crate::columns::Columns;
@@ -48,7 +48,7 @@ fn are_lines(plan: &Plan, height: u32, run: Run) -> bool
 pub fn is_direct(plan: &Plan, columns: &Columns, height: u32, run: Run) -> bool
     requires some { run.first < run.end }
     requires end { run.end ≤ plan.now.size.h }
-    requires lines { AreIn plan.now height run.first run.end run.span }
+    requires lines { AreShownIn plan.now height run.first run.end run.span }
     requires places { length columns.now.places.items ≡ plan.now.size.w }
     ensures direct { result ≡ true → IsDirect plan.now height columns.now run }
 {

@@ -25,7 +25,7 @@ fn least_of(driver: Driver, kind: PixelType) -> Sample
 }
 
 impl Holding {
-    /// That of an output band, counted from 0.
+    /// What an output band can hold, by its number from 0.
     pub fn of(plan: &Plan, band: u32) -> Holding
         requires band { band < length plan.now.bands }
         ensures holding { IsHolding plan.now band result }

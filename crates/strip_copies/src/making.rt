@@ -1,7 +1,7 @@
 // Lines of an output's band, made of lines of the source.
 ghost use Rattle.std.specs.Prelude.{◌≡◌, ◌<◌, ◌≤◌, ◌+◌, ◌-◌, ◌*◌, ℕ, pos, List, Option, length, get_or};
 ghost use Rattle.outside.specs.Outside.{Files};
-ghost use Rattle.strip_copies.specs.Rows.{strip_rect, AreIn, AreSamples, IsMaking, IsRow, IsStrip};
+ghost use Rattle.strip_copies.specs.Rows.{strip_rect, AreShownIn, AreSamples, IsMaking, IsRow, IsStrip};
 
 use crate::columns::Columns;
 use crate::holding::Holding;
@@ -47,7 +47,7 @@ fn make_row(making: Making, span: Span, strip: &[Sample], line: u32, row: &mut [
     requires line { line < making.plan.now.size.h }
     requires row { length row.old ≡ making.plan.now.size.w }
     requires strip { length strip.now ≡ making.columns.now.count * span.height }
-    requires lines { AreIn making.plan.now making.size.h line (line + 1) span }
+    requires lines { AreShownIn making.plan.now making.size.h line (line + 1) span }
     ensures row { (told : Option Files) (name : List ℕ) → IsStrip told name making.entry.plan.now making.entry.band
         (strip_rect making.entry.columns.now span) strip.now → IsRow told name making.entry.plan.now making.entry.size
         making.entry.band line row.new }
@@ -69,7 +69,7 @@ pub fn make_lines(making: Making, run: Run, strip: &[Sample], out: &mut [Sample]
     requires end { run.end ≤ making.plan.now.size.h }
     requires room { length out.old ≡ (run.end - run.first) * making.plan.now.size.w }
     requires strip { length strip.now ≡ making.columns.now.count * run.span.height }
-    requires lines { AreIn making.plan.now making.size.h run.first run.end run.span }
+    requires lines { AreShownIn making.plan.now making.size.h run.first run.end run.span }
     ensures samples { (told : Option Files) (name : List ℕ) → IsStrip told name making.entry.plan.now making.entry.band
         (strip_rect making.entry.columns.now run.span) strip.now →
         AreSamples told name making.entry.plan.now making.entry.size making.entry.band run.first (length out.old)

@@ -18,7 +18,7 @@ ghost use Rattle.lane_teams.specs.Turns.{OnlyReadByViews};
 ghost use Rattle.translate_plan.specs.Plan.{out_pixel};
 ghost use Rattle.translate_plan.specs.declared.band.OutBand.{OutBand};
 ghost use Rattle.strip_copies.specs.Copies.{lines_rect, AreOf, IsDirect, IsPart, IsRoomFor, IsTranslation};
-ghost use Rattle.strip_copies.specs.Rows.{strip_rect, AreColumns, AreIn, IsHeldIn, IsMaking};
+ghost use Rattle.strip_copies.specs.Rows.{strip_rect, AreColumns, AreShownIn, IsHeldIn, IsMaking};
 ghost use Rattle.geotransform.specs.Limits.{most_side};
 ghost use Rattle.strip_copies.specs.Heights.{most_samples};
 ghost use Rattle.band_blocks.specs.Blocks.{most_blocks};
@@ -214,7 +214,7 @@ fn next_run<S: Scene>(shown: &Shown<S>, rows: u32, lines: Lines) -> Next
     ensures some { lines.first < result.run.end }
     ensures end { result.run.end ≤ lines.end }
     ensures lines { (d : Dataset) → slice_get shown.now.translation.now.cat shown.now.translation.now.id ≡ Some d →
-        AreIn shown.now.translation.now.plan d.head.size.h lines.first result.run.end result.run.span }
+        AreShownIn shown.now.translation.now.plan d.head.size.h lines.first result.run.end result.run.span }
     ensures direct { result.direct ≡ true → (d : Dataset) → slice_get shown.now.translation.now.cat
         shown.now.translation.now.id ≡ Some d → IsDirect shown.now.translation.now.plan d.head.size.h
         shown.now.columns.now result.run }

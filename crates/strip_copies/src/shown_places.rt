@@ -25,6 +25,7 @@ pub fn shown_at(from: u32, to: u32, k: u32) -> u32
     ensures shown { result ≡ shown from to k }
     ensures within { result < from }
 {
+    // This law is called for the proof: what is shown lies in the window.
     windows_are_shown();
     let place = halves(k, from) / (2 * u64::from(to));
     place as u32

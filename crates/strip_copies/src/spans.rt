@@ -1,6 +1,6 @@
 // Lines of the source that are read at a time.
 ghost use Rattle.std.specs.Prelude.{◌≡◌, ◌<◌, ◌≤◌, ◌+◌, ◌^◌, ℕ, Some, IfSome};
-ghost use Rattle.strip_copies.specs.Rows.{AreIn, IsIn};
+ghost use Rattle.strip_copies.specs.Rows.{AreShownIn, IsIn};
 ghost use Rattle.geotransform.specs.Limits.{most_side};
 
 use crate::shown_places::line_at;
@@ -95,7 +95,7 @@ pub fn run_from(plan: &Plan, height: u32, reach: Reach, band: u32, first: u32, t
     ensures some { first < result.end }
     ensures end { result.end ≤ to }
     ensures few { result.span.height ≤ reach.rows }
-    ensures lines { AreIn plan.now height first result.end result.span }
+    ensures lines { AreShownIn plan.now height first result.end result.span }
 {
     let mut span = span_of(line_at(plan, height, first));
     for line in first + 1..to {

@@ -15,7 +15,7 @@ use Rattle.geotransform.specs.declared.types.Size.{Size}
 use Rattle.geotransform.proofs.RoundTrip.{decimal_word, short_word}
 use Rattle.vrt_markup.specs.Items.{Pair}
 use Rattle.vrt_profile.specs.Values.{trillion, IsOffset, Rectangle, IsRectangle, SourceValue, IsSource, BandValue, IsBand, DocumentValue, IsDocument, IsDecimal}
-use Rattle.vrt_writing.specs.Spelled.{Markup, nothing, both, words, empty, group, written, indent, tag_text, pair_text, end_text, escape, escaped, micro_text, part_text, joined_text, geo_text, flag_text, pair, file_markup, source_band_markup, rectangle_pairs, rectangle_markup, nodata_markup, scale_markup, lut_markup, place_markup, scaling_markup, source_name, source_markup, sources_markup, band_pairs, band_markup, geo_markup, size_pairs, parts_markup, spelled}
+use Rattle.vrt_writing.specs.Spelled.{Markup, nothing, both, words, empty, group, written, indent, tag_text, pair_text, end_text, escape, escaped, micro_text, part_text, joined_text, geo_text, flag_text, pair, file_markup, source_band_markup, rectangle_pairs, rectangle_markup, nodata_markup, scale_markup, lut_markup, place_markup, scaling_markup, source_tag, source_markup, sources_markup, band_pairs, band_markup, geo_markup, size_pairs, parts_markup, spelled}
 use Rattle.vrt_profile.specs.declared.rectangle.LutPair.{LutPair}
 
 -- the text of markup has at most so many bytes
@@ -116,7 +116,7 @@ kind_short Int32 = omega arith
 kind_short UInt64 = omega arith
 kind_short Int64 = omega arith
 
-tag_short : (complex : Bool) → length (source_name complex) ≤ 40
+tag_short : (complex : Bool) → length (source_tag complex) ≤ 40
 tag_short true = omega arith
 tag_short false = omega arith
 
@@ -191,7 +191,7 @@ scaling_within s is short =
 
 source_within : (s : SourceValue) → IsSource s → IsShort s → IsWithin 1891 2 (source_markup s)
 source_within s is short =
-    group_within 0 1691 2 (source_name s.complex) [] (both (place_markup s) (scaling_markup s)) (omega arith) (tag_short s.complex) no_pairs
+    group_within 0 1691 2 (source_tag s.complex) [] (both (place_markup s) (scaling_markup s)) (omega arith) (tag_short s.complex) no_pairs
     (both_within 1271 420 3 (place_markup s) (scaling_markup s) (place_within s is short) (scaling_within s is short))
 
 sources_within : (ss : List SourceValue) → All IsSource ss → All IsShort ss → IsWithin (1891 * length ss) 2 (sources_markup ss)

@@ -13,7 +13,7 @@ use Rattle.vrt_writing.specs.Spelled.{spelled}
 use Rattle.catalog.specs.Dataset.{band_at, band_count}
 use Rattle.catalog.specs.Drivers.{Dataset, dataset_of}
 use Rattle.catalog.specs.Heads.{kind_in, document_in, vrt_in, dataset_by, dataset_in, resolved}
-use Rattle.catalog.specs.Walk.{Met, number_of, dataset_named, sources_in, one_more_source, bands_of, band_named, is_narrow_band, has_band, has_samples, unless_wide, again_below, again_sources, again, visit_source, visit_sources, visit, met_in, walked}
+use Rattle.catalog.specs.Walk.{Met, number_of, dataset_named, sources_in, one_more_source, bands_of, band_named, is_narrow_band, unless_no_band, unless_no_samples, unless_wide, again_below, again_sources, again, visit_source, visit_sources, visit, met_in, walked}
 use Rattle.catalog.specs.declared.driver.Content.TheVariants.{Mosaic}
 use Rattle.catalog.specs.declared.driver.Found.{Found}
 use Rattle.catalog.specs.declared.faults.WalkFault.{WalkFault}
@@ -116,7 +116,7 @@ tile_off (suc (suc (suc zero))) less = refl
 tile_off (suc (suc (suc (suc n)))) less = absurd (omega (arith, less))
 
 -- the dataset of a name has a first band
-has_first : (ds : List Dataset) (name : List ℕ) (d : Dataset) → dataset_named ds name ≡ Some d → band_count d.head ≡ 1 → has_band ds name 1 ≡ Ok tt
+has_first : (ds : List Dataset) (name : List ℕ) (d : Dataset) → dataset_named ds name ≡ Some d → band_count d.head ≡ 1 → unless_no_band ds name 1 ≡ Ok tt
 has_first ds name d there one =
     ap (λ o. cond (nat_lt (bands_of o) 1) (Err (SourceBand name 1)) (Ok tt)) there
     ∙ ap (λ c. cond (nat_lt c 1) (Err (SourceBand name 1)) (Ok tt)) one
@@ -126,7 +126,7 @@ or_right true b is = refl
 or_right false b is = is
 
 -- and a source takes its samples, which have at most 32 bits
-takes_first : (ds : List Dataset) (base name : List ℕ) (d : Dataset) (plain : Bool) → dataset_named ds name ≡ Some d → band_count d.head ≡ 1 → is_narrow_band (band_at d.head 0) ≡ true → has_samples ds base name 1 plain ≡ Ok tt
+takes_first : (ds : List Dataset) (base name : List ℕ) (d : Dataset) (plain : Bool) → dataset_named ds name ≡ Some d → band_count d.head ≡ 1 → is_narrow_band (band_at d.head 0) ≡ true → unless_no_samples ds base name 1 plain ≡ Ok tt
 takes_first ds base name d plain there one narrow =
     ap (λ r. r >>= λ t. unless_wide ds base name 1 plain) (has_first ds name d there one)
     ∙ ap (λ o. cond (plain || is_narrow_band (band_named o 1)) (Ok tt) (Err (Malformed base (bad.Vrt vrt.Unsupported)))) there

@@ -5,7 +5,7 @@ use Rattle.std.specs.List.{All}
 use Rattle.geotransform.proofs.Ranges.{is_near}
 use Rattle.geotransform.specs.declared.types.Size.{Size}
 use Rattle.outside.specs.Outside.{Files}
-use Rattle.band_blocks.proofs.Corners.{filled-row_by_row, rect_at, rows_joined}
+use Rattle.band_blocks.proofs.Corners.{filled-row_by_row, rows_cut}
 use Rattle.catalog.specs.Drivers.{Dataset}
 use Rattle.catalog.proofs.Found.{some_is}
 use Rattle.catalog.specs.Pixels.{pixel_of_name}
@@ -38,10 +38,9 @@ both_sizes w b c low =
 lines_joined : (f : ℕ → ℕ → ℤ) (size : Size) (b c : ℕ) → b ≤ c → row_by_row f (lines_rect size 0 b) ++ row_by_row f (lines_rect size b c) ≡ row_by_row f (lines_rect size 0 c)
 lines_joined f size b c low =
     let line : b ≡ 0 + (b - 0) = omega arith in
-    let all : (b - 0) + (c - b) ≡ c - 0 = omega arith in
-    ap (λ y. row_by_row f (lines_rect size 0 b) ++ row_by_row f (rect_at 0 y size.w (c - b))) line
-    ∙ rows_joined f 0 0 size.w (b - 0) (c - b)
-    ∙ ap (λ h. row_by_row f (rect_at 0 0 size.w h)) all
+    let all : c - 0 ≡ (b - 0) + (c - b) = omega arith in
+    rows_cut f (lines_rect size 0 c) (lines_rect size 0 b) (lines_rect size b c)
+    (record { upper_left = refl; upper_wide = refl; top = refl; lower_left = refl; lower_wide = refl; line = line; lines = all })
 
 no_lines : (f : ℕ → ℕ → ℤ) (size : Size) → [] ≡ row_by_row f (lines_rect size 0 0)
 no_lines f size =

@@ -86,7 +86,7 @@ fn fill_line(side: TileSide, tile: u32, line: u32, samples: &mut [Sample], bytes
     requires bytes { length bytes.old ≡ 2 * side }
     ensures bytes { bytes.new ≡ line_bytes side tile line }
 {
-    // The side keeps its rule.
+    // This call is made for the proof: it says what holds of every side.
     let _side = side.get();
     let head = tile_head(side, tile);
     fill_samples(tile, line, samples);

@@ -27,7 +27,7 @@ use Rattle.translate_plan.specs.Options.{Options, IsOptions}
 use Rattle.translate_plan.specs.Window.{asked_in, is_empty, is_large, is_far, window_in, inside_in, sides_of, size_in, IsWindow}
 use Rattle.geotransform.specs.Limits.{farthest}
 use Rattle.translate_plan.specs.Fits.{own_nodata, is_single, count_in, geo_in, place_in, holds_geo, holds_name, takes_kind, is_int16, holds_kinds, takes_number, takes_nodata}
-use Rattle.translate_plan.specs.Bands.{all_known, AreKnown, count_of, kind_of, nodata_of, out_band_at, band_by, bands_by, same_nodata, agree, is_bare, asked_bands, out_bands, source_band, source_of}
+use Rattle.translate_plan.specs.Bands.{all_known, AreKnown, count_of, kind_of, nodata_of, out_band_at, band_by, bands_by, same_nodata, agree, is_bare, asked_bands, out_bands, source_band, source_number_at}
 use Rattle.translate_plan.proofs.Rounded.{places_kept}
 use Rattle.translate_plan.specs.Plan.{Planned, fits, fits_in, plan_of, planned_by, IsOutBand, IsAlike, BandsHold, IsPlan}
 
@@ -172,22 +172,22 @@ number_taken own word driver n bands e is takes = ap (λ m. takes_number m n ban
 one_kept : (o : Options) (h : DatasetHead) (bare : Bool) (k : ℕ) → takes_kind o.driver o.kind ≡ true → takes_nodata o.driver o.nodata (asked_bands o h) ≡ true → k < count_of o.bands (length h.bands) → IsOutBand (band_by bare (out_band_at o h k))
 one_kept o h true k kinds words less = tt
 one_kept o h false k kinds words less =
-    let first = (source_band h (source_of o.bands 0)).kind in
-    let own = source_band h (source_of o.bands k) in
+    let first = (source_band h (source_number_at o.bands 0)).kind in
+    let own = source_band h (source_number_at o.bands k) in
     by_own (own_nodata o.driver) o.nodata (kind_of o.driver o.kind first own.kind) own.nodata
     (λ n e. ap (λ t. is_in t n) (tile_kind o.driver o.kind first own.kind n kinds e) ∙ own_in o.driver n e)
     (λ n e is. passes (λ b. is_in b.kind n) (λ j. out_band_at o h j) (count_of o.bands (length h.bands)) k (out_band_at o h 0) (number_taken None o.nodata o.driver n (asked_bands o h) e is words) less)
 
 -- the source's band is one of those that there may be
-few_sources : (bands : List ℕ) (k count : ℕ) → All (λ b. (0 < b) × (b ≤ 256)) bands → count ≤ 256 → k < count_of bands count → source_of bands k < 256
+few_sources : (bands : List ℕ) (k count : ℕ) → All (λ b. (0 < b) × (b ≤ 256)) bands → count ≤ 256 → k < count_of bands count → source_number_at bands k < 256
 few_sources [] k count all few less = omega (arith, less, few)
 few_sources (b ∷ bs) k count all few less =
     let many : count_of (b ∷ bs) count ≡ length (b ∷ bs) = grind (arith, nat_tests) in
-    let own : source_of (b ∷ bs) k ≡ slice_index (b ∷ bs) k - 1 = grind (arith, nat_tests) in
+    let own : source_number_at (b ∷ bs) k ≡ slice_index (b ∷ bs) k - 1 = grind (arith, nat_tests) in
     let one = all k 0 (omega arith) in
     omega (arith, one.1)
 
-source_kept : (o : Options) (h : DatasetHead) (bare : Bool) (k : ℕ) → source_of o.bands k < 256 → (band_by bare (out_band_at o h k)).source < 256
+source_kept : (o : Options) (h : DatasetHead) (bare : Bool) (k : ℕ) → source_number_at o.bands k < 256 → (band_by bare (out_band_at o h k)).source < 256
 source_kept o h true k few = few
 source_kept o h false k few = few
 
@@ -214,8 +214,8 @@ agreed_at f n d e i j a b =
 
 raw_kind : (o : Options) (h : DatasetHead) → o.driver ≡ EHdr → (i j : ℕ) → (out_band_at o h i).kind ≡ (out_band_at o h j).kind
 raw_kind o h e i j =
-    let first = (source_band h (source_of o.bands 0)).kind in
-    ap (λ d. kind_of d o.kind first (source_band h (source_of o.bands i)).kind) e ∙ same o.kind first _ _ ∙ ap (λ d. kind_of d o.kind first (source_band h (source_of o.bands j)).kind) (sym e)
+    let first = (source_band h (source_number_at o.bands 0)).kind in
+    ap (λ d. kind_of d o.kind first (source_band h (source_number_at o.bands i)).kind) e ∙ same o.kind first _ _ ∙ ap (λ d. kind_of d o.kind first (source_band h (source_number_at o.bands j)).kind) (sym e)
   where
     same : (asked : Option PixelType) (first a b : PixelType) → kind_of EHdr asked first a ≡ kind_of EHdr asked first b
     same None first a b = refl
@@ -243,9 +243,9 @@ own_nodata_of m word kind source n e = ap (λ x. nodata_of x word kind source) e
 
 tile_bands : (o : Options) (h : DatasetHead) (n : ℤ) → own_nodata o.driver ≡ Some n → takes_kind o.driver o.kind ≡ true → All (λ b. (b.kind ≡ Int16) × (b.nodata ≡ Some n)) (out_bands o h)
 tile_bands o h n e takes =
-    let first = (source_band h (source_of o.bands 0)).kind in
+    let first = (source_band h (source_number_at o.bands 0)).kind in
     subst (All (λ b. (b.kind ≡ Int16) × (b.nodata ≡ Some n))) (sym (bands_with o h false (bare_tile o.driver (asked_bands o h) n e)))
-    (all_by (λ b. (b.kind ≡ Int16) × (b.nodata ≡ Some n)) (λ k. out_band_at o h k) (count_of o.bands (length h.bands)) (λ k less. (tile_kind o.driver o.kind first (source_band h (source_of o.bands k)).kind n takes e, own_nodata_of (own_nodata o.driver) o.nodata _ _ n e)))
+    (all_by (λ b. (b.kind ≡ Int16) × (b.nodata ≡ Some n)) (λ k. out_band_at o h k) (count_of o.bands (length h.bands)) (λ k less. (tile_kind o.driver o.kind first (source_band h (source_number_at o.bands k)).kind n takes e, own_nodata_of (own_nodata o.driver) o.nodata _ _ n e)))
 
 alike : (o : Options) (h : DatasetHead) (d : Driver) → o.driver ≡ d → takes_kind o.driver o.kind ≡ true → holds_kinds o.driver (asked_bands o h) ≡ true → BandsHold d (out_bands o h)
 alike o h EHdr e takes holds =

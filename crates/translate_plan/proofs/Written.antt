@@ -7,7 +7,7 @@ use Rattle.esri_hdr.specs.Head.{IsHead, GeoFits}
 use Rattle.esri_hdr.proofs.Heads.{held_fits, plain_is_head}
 use Rattle.translate_plan.specs.declared.options.Driver.{Driver}
 use Rattle.translate_plan.specs.declared.options.Driver.TheVariants.{Dted, SrtmHgt, AaiGrid}
-use Rattle.translate_plan.specs.Fits.{raw_in, cell_in, tile_in, holds_geo}
+use Rattle.translate_plan.specs.Fits.{raw_geo_in, cell_in, tile_in, holds_geo}
 use Rattle.translate_plan.specs.Bands.{no_out_band}
 use Rattle.translate_plan.specs.Plan.{Planned, IsOutBand, IsPlan, first_band, raw_head}
 use Rattle.translate_plan.specs.declared.band.OutBand.{OutBand}
@@ -16,7 +16,7 @@ both : (a b : Bool) → a && b ≡ true → (a ≡ true) × (b ≡ true)
 both true b h = (refl, h)
 both false b h = absurd cc
 
-raw_fits : (geo : Option Transform) → IfSome (raw_in geo) GeoFits
+raw_fits : (geo : Option Transform) → IfSome (raw_geo_in geo) GeoFits
 raw_fits None = tt
 raw_fits (Some g) = held_fits g
 
@@ -29,7 +29,7 @@ first_fits p plan = plan.each 0 no_out_band plan.some_band
 
 -- the head of raw data is one
 pub raw_is_head : (p : Planned) → IsPlan p → IsHead (raw_head p)
-raw_is_head p plan = plain_is_head p.size (length p.bands) (first_band p).kind p.layout (first_band p).nodata (raw_in p.geo) plan.size plan.some_band plan.bands (first_fits p plan) (raw_fits p.geo)
+raw_is_head p plan = plain_is_head p.size (length p.bands) (first_band p).kind p.layout (first_band p).nodata (raw_geo_in p.geo) plan.size plan.some_band plan.bands (first_fits p plan) (raw_fits p.geo)
 
 held_by : (p : Planned) (driver : Driver) → IsPlan p → p.driver ≡ driver → holds_geo driver p.size p.geo ≡ true
 held_by p driver plan is = subst (λ d. holds_geo d p.size p.geo ≡ true) is plan.geo

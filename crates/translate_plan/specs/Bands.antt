@@ -28,14 +28,15 @@ all_known (b ∷ bs) count = if nat_lt count b then Err (NoBand b) else all_know
 abbrev pub count_of : List ℕ → ℕ → ℕ
 count_of bands count = if length bands == 0 then count else length bands
 
--- the source's band, counted from 0, that is output band k
-abbrev pub source_of : List ℕ → ℕ → ℕ
-source_of bands k = if length bands == 0 then k else slice_index bands k - 1
+-- the number of the source's band, counted from 0, that is output band k
+abbrev pub source_number_at : List ℕ → ℕ → ℕ
+source_number_at bands k = if length bands == 0 then k else slice_index bands k - 1
 
--- the source's band of this number, counted from 0
+-- the band that stands where a dataset has none of a number
 abbrev pub no_band : BandHead
 no_band = record { kind = Byte; nodata = None; block = record { w = 0; h = 0 } }
 
+-- the source's band of this number, counted from 0
 abbrev pub source_band : DatasetHead → ℕ → BandHead
 source_band h b = unwrap_or (band_at h b) no_band
 
@@ -47,6 +48,7 @@ kind_by SrtmHgt first own = Int16
 kind_by AaiGrid first own = first
 kind_by Vrt first own = own
 
+-- the type of an output's band: the one that is asked for, or else that of the driver's rule
 abbrev pub kind_of : Driver → Option PixelType → PixelType → PixelType → PixelType
 kind_of driver (Some kind) first own = kind
 kind_of driver None first own = kind_by driver first own
@@ -57,7 +59,7 @@ nodata_by Absent kind source = when_in kind source
 nodata_by Remove kind source = None
 nodata_by (Number n) kind source = Some n
 
--- the format's own NODATA goes before
+-- the NODATA of an output's band: that of its format, or else what is asked for
 abbrev pub nodata_of : Option ℤ → NodataWord → PixelType → Option ℤ → Option ℤ
 nodata_of (Some own) word kind source = Some own
 nodata_of None word kind source = nodata_by word kind source
@@ -74,7 +76,8 @@ out_band o first source own = record {
 -- output band k
 abbrev pub out_band_at : Options → DatasetHead → ℕ → OutBand
 out_band_at o h k =
-    out_band o (source_band h (source_of o.bands 0)).kind (source_of o.bands k) (source_band h (source_of o.bands k))
+    out_band o (source_band h (source_number_at o.bands 0)).kind (source_number_at o.bands k)
+    (source_band h (source_number_at o.bands k))
 
 -- a band without its NODATA, or with it
 abbrev pub band_by : Bool → OutBand → OutBand
@@ -92,6 +95,7 @@ same_nodata None (Some b) = false
 same_nodata (Some a) None = false
 same_nodata (Some a) (Some b) = are_same a b
 
+-- whether bands all have the same NODATA, or all have none
 abbrev pub agree : List OutBand → Bool
 agree [] = true
 agree (b ∷ bs) = list_all (λ c. same_nodata b.nodata c.nodata) bs
@@ -104,10 +108,11 @@ is_bare SrtmHgt bands = false
 is_bare AaiGrid bands = false
 is_bare Vrt bands = false
 
--- the output's bands as they are asked for, and as they are
+-- the output's bands as they are asked for
 abbrev pub asked_bands : Options → DatasetHead → List OutBand
 asked_bands o h = bands_by false o h
 
+-- the output's bands as they are
 abbrev pub out_bands : Options → DatasetHead → List OutBand
 out_bands o h = bands_by (is_bare o.driver (asked_bands o h)) o h
 

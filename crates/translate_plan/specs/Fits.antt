@@ -43,7 +43,7 @@ own_nodata SrtmHgt = Some (negsuc 32767)
 own_nodata AaiGrid = None
 own_nodata Vrt = None
 
--- the number of bands
+-- the number of bands is within the limit, and one where the driver's files have one
 abbrev pub count_in : Driver → ℕ → Result (Unit {0}) PlanFault
 count_in driver n =
     if nat_lt most_bands n then Err Limit else (if nat_lt 1 n && is_single driver then Err BandCount else Ok tt)
@@ -60,6 +60,7 @@ rounded_for SrtmHgt g = Some g
 rounded_for AaiGrid g = Some g
 rounded_for Vrt g = rounded g
 
+-- a geotransform that is lacking is past the limit
 abbrev pub or_limit : Option Transform → Result (Option Transform) PlanFault
 or_limit None = Err Limit
 or_limit (Some g) = Ok (Some g)
@@ -74,9 +75,9 @@ abbrev pub place_in : Driver → Option Transform → Result (Unit {0}) PlanFaul
 place_in driver geo = if is_some (own_nodata driver) && not (is_some geo) then Err NoGeo else Ok tt
 
 -- what an ESRI header says of a geotransform, where there is one that it can hold
-abbrev pub raw_in : Option Transform → Option RawGeo
-raw_in None = None
-raw_in (Some g) = raw_geo_of g
+abbrev pub raw_geo_in : Option Transform → Option RawGeo
+raw_geo_in None = None
+raw_geo_in (Some g) = raw_geo_of g
 
 -- the head of the cell of a level that a raster is
 abbrev pub cell_in : ℕ → Size → Option Transform → Option cells.Head

@@ -29,7 +29,7 @@ pub record Options : Type 0 where
   pub epo : Bool
   pub eco : Bool
 
--- a level of cells
+-- a driver of cells has a level from 0 to 2
 abbrev pub IsDriver : Driver → Type 0
 IsDriver drivers.EHdr = Unit {0}
 IsDriver (drivers.Dted level) = level ≤ 2

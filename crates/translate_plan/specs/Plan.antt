@@ -22,8 +22,8 @@ use Rattle.translate_plan.specs.declared.band.OutBand.{OutBand}
 use Rattle.translate_plan.specs.declared.window.Window.{Window}
 use Rattle.translate_plan.specs.Options.{Options, IsDriver}
 use Rattle.translate_plan.specs.Window.{asked_in, window_in, inside_in, sides_of, size_in}
-use Rattle.translate_plan.specs.Fits.{is_single, count_in, geo_in, place_in, raw_in, holds_geo, holds_name, takes_kind}
-use Rattle.translate_plan.specs.Fits.{holds_kinds, takes_nodata}
+use Rattle.translate_plan.specs.Fits.{is_single, count_in, geo_in, place_in, raw_geo_in, holds_geo, holds_name}
+use Rattle.translate_plan.specs.Fits.{takes_kind, holds_kinds, takes_nodata}
 use Rattle.translate_plan.specs.Bands.{all_known, count_of, asked_bands, out_bands, no_out_band}
 use Rattle.geotransform.specs.Limits.{most_bands, farthest}
 
@@ -43,6 +43,7 @@ abbrev pub fits : Options → List OutBand → Size → Option Transform → Boo
 fits o bands size geo = (holds_geo o.driver size geo && holds_name o.driver o.out size geo) &&
     (takes_kind o.driver o.kind && (holds_kinds o.driver bands && takes_nodata o.driver o.nodata bands))
 
+-- the refusal of an output that its driver can't hold
 abbrev pub fits_in : Options → List OutBand → Size → Option Transform → Result (Unit {0}) PlanFault
 fits_in o bands size geo = if fits o bands size geo then Ok tt else Err Unfit
 
@@ -113,16 +114,18 @@ first_band p = get_or p.bands 0 no_out_band
 
 -- the head of raw data: its samples alone, in the layout, of the type and with the NODATA that all bands have
 abbrev pub raw_head : Planned → raw.Head
-raw_head p = plain_head p.size (length p.bands) (first_band p).kind p.layout (first_band p).nodata (raw_in p.geo)
+raw_head p = plain_head p.size (length p.bands) (first_band p).kind p.layout (first_band p).nodata (raw_geo_in p.geo)
 
 -- the column of the source that a column of the output shows, and the line that a line shows, counted from the window's
 -- offset
 abbrev pub shown : ℕ → ℕ → ℕ → ℕ
 shown from to k = (2 * k + 1) * from / (2 * to)
 
+-- the column of the source that a column of the output shows, which may be outside
 abbrev pub shown_column : Planned → ℕ → ℤ
 shown_column p i = p.x +ℤ pos (shown p.window.w p.size.w i)
 
+-- the line of the source that a line of the output shows, which may be outside
 abbrev pub shown_line : Planned → ℕ → ℤ
 shown_line p j = p.y +ℤ pos (shown p.window.h p.size.h j)
 
@@ -130,10 +133,11 @@ shown_line p j = p.y +ℤ pos (shown p.window.h p.size.h j)
 abbrev pub is_inside : Size → ℤ → ℤ → Bool
 is_inside size x y = (int_le (pos 0) x && int_lt x (pos size.w)) && (int_le (pos 0) y && int_lt y (pos size.h))
 
--- a sample in the type of its band, and for a cell in the elevations that records hold
+-- the elevation that a record of a cell can hold and that is nearest to a number of Int16
 abbrev pub elevation_near : ℤ → ℤ
 elevation_near v = if int_lt v (negsuc 32766) then negsuc 32766 else v
 
+-- a sample in the type of its band, and for a cell in the elevations that records hold
 abbrev pub held : Driver → PixelType → ℤ → ℤ
 held EHdr kind v = clamp kind v
 held (Dted level) kind v = elevation_near (clamp kind v)
@@ -148,6 +152,7 @@ band_pixel p source pixels b i j =
     then held p.driver b.kind (pixels b.source (unsigned_abs (shown_column p i)) (unsigned_abs (shown_line p j)))
     else unwrap_or b.nodata (pos 0)
 
+-- the pixel of a band of an output, and 0 where there is no such band
 abbrev pub pixel_in : Planned → Size → (ℕ → ℕ → ℕ → ℤ) → Option OutBand → ℕ → ℕ → ℤ
 pixel_in p source pixels None i j = pos 0
 pixel_in p source pixels (Some b) i j = band_pixel p source pixels b i j

@@ -8,7 +8,7 @@ ghost use Rattle.esri_hdr.specs.Head.{GeoFits, raw_geo_of};
 ghost use Rattle.translate_plan.specs.Options.{IsDriver};
 ghost use Rattle.translate_plan.specs.Window.{IsWindow};
 ghost use Rattle.translate_plan.specs.Fits.{is_single, own_nodata, count_in, rounded, rounded_for, geo_in};
-ghost use Rattle.translate_plan.specs.Fits.{place_in, raw_in, cell_in, tile_in, holds_geo, is_named, holds_name};
+ghost use Rattle.translate_plan.specs.Fits.{place_in, raw_geo_in, cell_in, tile_in, holds_geo, is_named, holds_name};
 ghost use Rattle.translate_plan.specs.Fits.{is_int16, is_within_int32, takes_kind, holds_kinds, takes_number};
 ghost use Rattle.translate_plan.specs.Fits.{takes_nodata};
 
@@ -141,8 +141,8 @@ pub fn tile_in(size: Size, geo: &Option<GeoTransform>) -> Option<Corner>
 }
 
 /// What an ESRI header says of a geotransform, where there is one that it can hold.
-pub fn raw_in(geo: &Option<GeoTransform>) -> Option<RawGeo>
-    ensures value { result ≡ raw_in geo.now }
+pub fn raw_geo_in(geo: &Option<GeoTransform>) -> Option<RawGeo>
+    ensures value { result ≡ raw_geo_in geo.now }
     ensures fits { IfSome result GeoFits }
 {
     match geo {

@@ -9,7 +9,7 @@ ghost use Rattle.catalog.specs.Dataset.{band_count};
 
 use crate::band::{MOST_BANDS, OutBand};
 use crate::bands::out_table;
-use crate::fits::raw_in;
+use crate::fits::raw_geo_in;
 use crate::options::{Driver, TranslateOptions};
 use crate::window::Window;
 use catalog::Head;
@@ -134,7 +134,7 @@ impl Plan {
             band.kind,
             self.layout,
             band.nodata,
-            raw_in(&self.geo),
+            raw_geo_in(&self.geo),
         )
     }
 
@@ -142,6 +142,7 @@ impl Plan {
     pub fn rules(&self)
         ensures kept { IsPlan self.now }
     {
+        // The plan is read for the proof: what holds of every plan is known then.
         let _ = &self.bands;
     }
 }

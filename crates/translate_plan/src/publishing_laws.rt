@@ -19,6 +19,7 @@ pub fn documents_show_outputs()
         k < length p.bands → i < p.size.w → j < p.size.h → pixel_of_name m d.head.name k i j
         ≡ out_pixel p h.size (pixel_of_name m h.name) k i j }
 {
+    // The document is read again as it was written, and what it says of the source resolves to the source's name.
     related_resolves();
     written_document_reads_back();
 }

@@ -41,8 +41,9 @@ MayEnd o Memory = Unit {0}
 
 -- all that is told of a translation of a source of some size was put, but for a quiet one, or where a fault is answered
 -- a first part of it
-abbrev pub PutsText : Bool → Result (Unit {0}) Fault → Option (List ℕ) → Option (List ℕ) → Type 0
-PutsText quiet result before after = (size : Size) × Puts (spoken quiet (translation_text size)) result before after
+abbrev pub PutsTranslation : Bool → Result (Unit {0}) Fault → Option (List ℕ) → Option (List ℕ) → Type 0
+PutsTranslation quiet result before after =
+    (size : Size) × Puts (spoken quiet (translation_text size)) result before after
 
 -- the fault that a call ended with, if there is one
 abbrev pub ended : Result (Unit {0}) Fault → Option Fault

@@ -4,7 +4,7 @@ ghost use Rattle.outside.specs.Outside.{Files};
 ghost use Rattle.error_lines.specs.Faults.{HasCauses, HasChanged, fault_status};
 ghost use Rattle.error_lines.specs.Steps.{Goes};
 ghost use Rattle.output_copies.specs.Copying.{IsChanged};
-ghost use Rattle.translation_runs.specs.Ends.{MayEnd, PutsText, RefusesName, ended};
+ghost use Rattle.translation_runs.specs.Ends.{MayEnd, PutsTranslation, RefusesName, ended};
 ghost use Rattle.translation_runs.specs.Judged.{translation_run};
 ghost use Rattle.translation_runs.specs.Published.{IsNamed};
 
@@ -60,7 +60,7 @@ pub fn put_translation<R: Threads + Sync, F: Folder, O: Sink>(
     ensures refused { IfErr result (λ f. fault_status f ≡ 1 → (out.new ≡ out.old) ×
         (F.names folder.new ≡ F.names folder.old)) }
     // over every folder: all that is told of a source of some size is put, or where a fault is answered a first part
-    ensures put { PutsText way.quiet result (O.got out.old) (O.got out.new) }
+    ensures put { PutsTranslation way.quiet result (O.got out.old) (O.got out.new) }
     // over every folder and for every answer: a quiet translation leaves the sink as it was
     ensures quiet { way.quiet ≡ true → out.new ≡ out.old }
     ensures may_end { IfErr result (MayEnd options.now) }

@@ -5,7 +5,7 @@ use Rattle.std.specs.List.{list_all}
 use Rattle.lists_and_answers.specs.Answers.{◌>>=◌}
 use Rattle.lists_and_answers.specs.Texts.{is_white}
 use Rattle.vrt_markup.specs.Items.{Item, bad, comment, run, open_tag, close_tag, Tag, item_at, is_equal}
-use Rattle.vrt_markup.specs.Items.{option_case, entity_at}
+use Rattle.vrt_markup.specs.Items.{option_case, entity_at, ampersand}
 use Rattle.vrt_markup.specs.declared.fault.VrtFault.{VrtFault}
 use Rattle.vrt_markup.specs.declared.fault.VrtFault.TheVariants.{BadText, Limit}
 
@@ -80,7 +80,7 @@ read_as means (Err e) = Err e
 
 -- the text directly in an element, entities read: each byte, and how many bytes behind it belong to it
 abbrev pub plain_at : ℕ → List ℕ → ℕ × ℕ
-plain_at c cs = if c == 38 then option_case (entity_at cs) (c, 0) (λ e. e) else (c, 0)
+plain_at c cs = if c == ampersand then option_case (entity_at cs) (c, 0) (λ e. e) else (c, 0)
 
 abbrev pub decoded_from : ℕ → List ℕ → List ℕ
 decoded_from skip [] = []

@@ -3,8 +3,28 @@ use Rattle.std.specs.Prelude.{ℕ, zero, suc, Bool, true, false, ◌||◌, ◌&&
 use Rattle.std.specs.Prelude.{codes, Option, Some, None, ◌==◌, nat_le, if◌then◌else◌}
 use Rattle.std.specs.List.{prefix_len, list_all}
 use Rattle.std.specs.Cmp.Lexicographic.{pointwise}
+use Rattle.lists_and_answers.specs.Bytes.{slash}
 use Rattle.lists_and_answers.specs.Options.{◌>>=◌}
 use Rattle.lists_and_answers.specs.Texts.{is_white}
+
+-- the bytes by which markup is told from text: `<`, `>`, `&`, the two quotes and `=`
+abbrev pub less_than : ℕ
+less_than = 60
+
+abbrev pub greater_than : ℕ
+greater_than = 62
+
+abbrev pub ampersand : ℕ
+ampersand = 38
+
+abbrev pub double_quote : ℕ
+double_quote = 34
+
+abbrev pub single_quote : ℕ
+single_quote = 39
+
+abbrev pub equals_sign : ℕ
+equals_sign = 61
 
 abbrev pub is_equal : List ℕ → List ℕ → Bool
 is_equal a b = pointwise (λ x y. x == y) a b
@@ -17,10 +37,11 @@ abbrev pub option_case : {A B : Type 0} → Option A → B → (A → B) → B
 option_case None none some = none
 option_case (Some x) none some = some x
 
--- the text without the front, where it begins so
+-- whether a text begins with this front
 abbrev pub begins : List ℕ → List ℕ → Bool
 begins front text = pointwise (λ x y. x == y) (take (length front) text) front
 
+-- the text without the front, where it begins so
 abbrev pub strip : List ℕ → List ℕ → Option (List ℕ)
 strip front text = if begins front text then Some (drop (length front) text) else None
 
@@ -60,15 +81,15 @@ after_comment (c ∷ cs) = if begins (codes "-->") (c ∷ cs) then Some (drop 3 
 -- an entity: the byte that it stands for, and how many bytes stand behind its `&`
 abbrev pub entity_at : List ℕ → Option (ℕ × ℕ)
 entity_at text =
-    if begins (codes "lt;") text then Some (60, 3) else (
-    if begins (codes "gt;") text then Some (62, 3) else (
-    if begins (codes "amp;") text then Some (38, 4) else (
-    if begins (codes "quot;") text then Some (34, 5) else (
-    if begins (codes "apos;") text then Some (39, 5) else None))))
+    if begins (codes "lt;") text then Some (less_than, 3) else (
+    if begins (codes "gt;") text then Some (greater_than, 3) else (
+    if begins (codes "amp;") text then Some (ampersand, 4) else (
+    if begins (codes "quot;") text then Some (double_quote, 5) else (
+    if begins (codes "apos;") text then Some (single_quote, 5) else None))))
 
 -- Plain text ends before a `<`, before an `&` that begins no entity, and before the byte q.
 abbrev pub ends_at : ℕ → ℕ → List ℕ → Bool
-ends_at q c cs = (c == 60) || ((c == q) || ((c == 38) && not (is_some (entity_at cs))))
+ends_at q c cs = (c == less_than) || ((c == q) || ((c == ampersand) && not (is_some (entity_at cs))))
 
 abbrev pub plain_len : ℕ → List ℕ → ℕ
 plain_len q [] = 0
@@ -84,7 +105,7 @@ spaces_at text = if prefix_len is_white text == 0 then None else Some (trim_fron
 
 abbrev pub quote_at : List ℕ → Option (ℕ × List ℕ)
 quote_at [] = None
-quote_at (c ∷ cs) = if (c == 34) || (c == 39) then Some (c, cs) else None
+quote_at (c ∷ cs) = if (c == double_quote) || (c == single_quote) then Some (c, cs) else None
 
 unfoldable pub value_at : List ℕ → Option (List ℕ × List ℕ)
 value_at text = do
@@ -96,14 +117,14 @@ unfoldable pub pair_at : List ℕ → Option (Pair × List ℕ)
 pair_at text = do
   front ← spaces_at text
   name ← name_at front
-  equals ← byte_at 61 (trim_front name.1)
+  equals ← byte_at equals_sign (trim_front name.1)
   value ← value_at (trim_front equals)
   Some (record { name = name.0; value = value.0 }, value.1)
 
--- All pairs in front, and what stands behind them. Each takes a byte at least, so there are no more than bytes.
 abbrev pub with_pair : Pair → List Pair × List ℕ → List Pair × List ℕ
 with_pair p x = (p ∷ x.0, x.1)
 
+-- All pairs in front, and what stands behind them. Each takes a byte at least, so there are no more than bytes.
 abbrev pub pairs_by : ℕ → List ℕ → List Pair × List ℕ
 pairs_by zero text = ([], text)
 pairs_by (suc fuel) text = option_case (pair_at text) ([], text) (λ p. with_pair p.0 (pairs_by fuel p.1))
@@ -111,6 +132,7 @@ pairs_by (suc fuel) text = option_case (pair_at text) ([], text) (λ p. with_pai
 abbrev pub pairs : List ℕ → List Pair × List ℕ
 pairs text = pairs_by (length text) text
 
+-- the value of the first attribute of a name
 abbrev pub attribute : List ℕ → List Pair → Option (List ℕ)
 attribute name [] = None
 attribute name (p ∷ ps) = if is_equal p.name name then Some p.value else attribute name ps
@@ -128,8 +150,8 @@ pub record Tag : Type 0 where
 -- `>` or `/>`: whether it is the latter, and what stands behind it
 abbrev pub tag_end : List ℕ → Option (Bool × List ℕ)
 tag_end [] = None
-tag_end (c ∷ cs) = if c == 62 then Some (false, cs) else (if c == 47
-    then option_case (byte_at 62 cs) None (λ rest. Some (true, rest)) else None)
+tag_end (c ∷ cs) = if c == greater_than then Some (false, cs) else (if c == slash
+    then option_case (byte_at greater_than cs) None (λ rest. Some (true, rest)) else None)
 
 -- a tag behind its `<`, whatever its attributes
 unfoldable pub tag_front : List ℕ → Option (Tag × List ℕ)
@@ -148,7 +170,7 @@ tag_at text = do
 unfoldable pub close_at : List ℕ → Option (List ℕ × List ℕ)
 close_at text = do
   name ← name_at text
-  end ← byte_at 62 (trim_front name.1)
+  end ← byte_at greater_than (trim_front name.1)
   Some (name.0, end)
 
 -- An item in front of a text, each with what stands behind it.
@@ -160,17 +182,21 @@ pub data Item : Type 0 where
   close_tag : List ℕ → List ℕ → Item
 
 abbrev pub run_at : List ℕ → Item
-run_at text =
-    if plain_len 60 text == 0 then bad else run (take (plain_len 60 text) text) (drop (plain_len 60 text) text)
+run_at text = if plain_len less_than text == 0 then bad else
+    run (take (plain_len less_than text) text) (drop (plain_len less_than text) text)
 
 abbrev pub tag_item : List ℕ → Item
 tag_item text = option_case (tag_at text) bad (λ t. open_tag t.0 t.1)
+
+-- whether a `<` and a name stand in front
+abbrev pub opens_name : List ℕ → Bool
+opens_name text = option_case (byte_at less_than text) false has_first
 
 unfoldable pub item_at : List ℕ → Item
 item_at text =
     option_case (strip (codes "<!--") text)
     (option_case (strip (codes "</") text)
-    (option_case (byte_at 60 text)
+    (option_case (byte_at less_than text)
     (run_at text)
     tag_item)
     (λ rest. option_case (close_at rest) bad (λ t. close_tag t.0 t.1)))

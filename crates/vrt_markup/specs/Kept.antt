@@ -7,7 +7,7 @@ use Rattle.vrt_markup.specs.declared.fault.VrtFault.{VrtFault}
 use Rattle.vrt_markup.specs.declared.fault.VrtFault.TheVariants.{BadText, UnknownElement, MissingPart, BadNumber}
 use Rattle.vrt_markup.specs.declared.fault.VrtFault.TheVariants.{Unsupported, Limit, Memory}
 
--- What a function returned, seen by view, is what a definition gives, unless memory ran out.
+-- a fault is the one that a definition gives, unless memory ran out
 abbrev pub Fails : {Y : Type 0} → VrtFault → Result Y VrtFault → Type 0
 Fails Memory read = Unit {0}
 Fails (BadText place) read = Err (BadText place) ≡ read
@@ -17,6 +17,7 @@ Fails BadNumber read = Err BadNumber ≡ read
 Fails Unsupported read = Err Unsupported ≡ read
 Fails Limit read = Err Limit ≡ read
 
+-- What a function returned, seen by view, is what a definition gives, unless memory ran out.
 abbrev pub Gives : {X Y : Type 0} → (X → Y) → Result X VrtFault → Result Y VrtFault → Type 0
 Gives view (Ok x) read = Ok (view x) ≡ read
 Gives view (Err e) read = Fails e read

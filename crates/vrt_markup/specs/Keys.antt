@@ -2,7 +2,7 @@
 use Rattle.std.specs.Prelude.{ℕ, ◌+◌, ◌*◌, ◌%◌, ◌==◌, Bool, true, false, not, ◌&&◌, List, [], ◌∷◌, Option, Some, None}
 use Rattle.std.specs.Prelude.{if◌then◌else◌, nat_lt}
 use Rattle.std.specs.List.{list_any}
-use Rattle.vrt_markup.specs.Items.{Pair, option_case}
+use Rattle.vrt_markup.specs.Items.{Pair, option_case, less_than, ampersand}
 
 -- the number that the last eight bytes of a text make, behind those of a word
 abbrev pub last_bytes : ℕ → List ℕ → ℕ
@@ -49,8 +49,8 @@ double_of (n ∷ ns) = double_from n ns
 
 -- a byte that begins neither a tag nor an entity
 abbrev pub is_plain : ℕ → Bool
-is_plain c = not (c == 60) && not (c == 38)
+is_plain c = not (c == less_than) && not (c == ampersand)
 
 -- a byte that begins no entity
 abbrev pub is_literal : ℕ → Bool
-is_literal c = not (c == 38)
+is_literal c = not (c == ampersand)

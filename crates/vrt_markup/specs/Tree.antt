@@ -28,14 +28,16 @@ space total bytes = space_by (length bytes) total bytes
 abbrev pub utf8_of : List ℕ → Result (List ℕ) VrtFault
 utf8_of bytes = if nat_lt (utf8_valid_len bytes) (length bytes) then Err (BadText (utf8_valid_len bytes)) else Ok bytes
 
--- a byte order mark, and a declaration, each where it stands
+-- the text without the byte order mark in front, where it has one
 abbrev pub without_mark : List ℕ → List ℕ
 without_mark bytes = option_case (strip (239 ∷ 187 ∷ 191 ∷ []) bytes) bytes (λ rest. rest)
 
+-- what stands behind the first `?>`
 abbrev pub after_declaration : List ℕ → Option (List ℕ)
 after_declaration [] = None
 after_declaration (c ∷ cs) = if begins (codes "?>") (c ∷ cs) then Some (drop 2 (c ∷ cs)) else after_declaration cs
 
+-- what stands behind the declaration, where the text begins with one
 abbrev pub declared_at : ℕ → List ℕ → Result (List ℕ) VrtFault
 declared_at total bytes = option_case (strip (codes "<?xml") bytes) (Ok bytes)
     (λ rest. option_case (after_declaration rest) (Err (BadText (total - length bytes))) Ok)

@@ -10,8 +10,8 @@ use Rattle.vrt_markup.specs.declared.root.Root.{Root}
 use Rattle.vrt_markup.specs.Items as items
 use Rattle.vrt_markup.specs.Items.{pairs, bad, comment, run, open_tag, close_tag}
 use Rattle.vrt_markup.specs.Keys as keys
-use Rattle.vrt_markup.specs.declared.items.Pair.{Pair}
-use Rattle.vrt_markup.specs.declared.items.Spread.{Spread}
+use Rattle.vrt_markup.specs.declared.attributes.Pair.{Pair}
+use Rattle.vrt_markup.specs.declared.attributes.Spread.{Spread}
 use Rattle.vrt_markup.specs.declared.tag.Tag.{Tag}
 use Rattle.vrt_markup.specs.declared.items.Item.{Item}
 use Rattle.vrt_markup.specs.declared.items.Item.TheVariants.{NoMemory, Bad, Comment, Run, Open, Close}

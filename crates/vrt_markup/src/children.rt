@@ -9,10 +9,11 @@ ghost use Rattle.vrt_markup.specs.declared.fault.VrtFault.{VrtFault};
 
 use crate::ends::{own_end, own_start};
 use crate::fault::VrtFault;
-use crate::items::{Item, is_equal, item_at};
+use crate::items::{Item, item_at};
 use crate::past::{DEEPEST, past_element};
 use crate::tag::Tag;
 use crate::text::is_blank;
+use crate::tokens::is_equal;
 use std::alloc::Global;
 
 /// Where the elements in an element stand: in a document of so many bytes, and how deep.
@@ -97,7 +98,17 @@ fn second(text: &[u8]) -> u8 {
     }
 }
 
+// The item in front of a text where the start tag that may well stand there doesn't.
+#[inline(never)]
+fn other_item(alloc: Global, text: &[u8]) -> Item
+    ensures item { Finds result (item_at text.now) }
+    ensures shorter { Shortens result text.now }
+{
+    item_at(alloc, text)
+}
+
 // The item in front of a text, where the start tag of this name may well stand.
+#[inline(always)]
 #[tactic(auto, using(crate::proofs::StartTags::start_item))]
 fn likely_item<'a>(alloc: Global, text: &'a [u8], name: &'a [u8]) -> Item<'a>
     requires named { is_name name.now ≡ true }
@@ -114,7 +125,7 @@ fn likely_item<'a>(alloc: Global, text: &'a [u8], name: &'a [u8]) -> Item<'a>
             };
             Item::Open(tag, rest)
         }
-        None => item_at(alloc, text),
+        None => other_item(alloc, text),
     }
 }
 

@@ -1,9 +1,10 @@
 // Tags of a name that is known.
 ghost use Rattle.std.specs.Prelude.{◌≡◌, ◌<◌, ◌++◌, ◌∷◌, length, IfSome};
 
-use crate::items::{byte_at, strip, two_at};
+use crate::tokens::{byte_at, strip, two_at};
 
 /// What stands behind the end tag of this name, where the text begins with it, without white space in it.
+#[inline(always)]
 #[tactic(auto, using(crate::proofs::EndTags::end_whole))]
 pub fn own_end<'a>(text: &'a [u8], name: &[u8]) -> Option<&'a [u8]>
     ensures whole { IfSome result (λ r. text.now ≡ 60 ∷ 47 ∷ name.now ++ 62 ∷ r.now) }
@@ -14,7 +15,7 @@ pub fn own_end<'a>(text: &'a [u8], name: &[u8]) -> Option<&'a [u8]>
 }
 
 // What stands behind this name and a `>`, where the text begins with them.
-#[inline(never)]
+#[inline(always)]
 #[tactic(auto, using(crate::proofs::EndTags::named_whole))]
 fn name_end<'a>(text: &'a [u8], name: &[u8]) -> Option<&'a [u8]>
     ensures whole { IfSome result (λ r. text.now ≡ name.now ++ 62 ∷ r.now) }
@@ -33,6 +34,7 @@ fn begins_alike(a: &[u8], b: &[u8]) -> bool {
 }
 
 /// What stands behind the start tag of this name, where the text begins with it, without white space in it.
+#[inline(always)]
 #[tactic(auto, using(crate::proofs::EndTags::start_whole))]
 pub fn own_start<'a>(text: &'a [u8], name: &[u8]) -> Option<&'a [u8]>
     ensures whole { IfSome result (λ r. text.now ≡ 60 ∷ name.now ++ 62 ∷ r.now) }

@@ -7,9 +7,10 @@ ghost use Rattle.vrt_markup.specs.Tree.{utf8_of, space, without_mark, after_decl
 ghost use Rattle.vrt_markup.specs.Tree.{root_at, end_by, end_at};
 
 use crate::fault::VrtFault;
-use crate::items::{Item, item_at, strip};
+use crate::items::{Item, item_at};
 use crate::tag::Tag;
 use crate::text::is_blank;
+use crate::tokens::strip;
 use std::alloc::Global;
 use std::str;
 

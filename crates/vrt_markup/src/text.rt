@@ -11,9 +11,11 @@ ghost use Rattle.vrt_markup.specs.Kept.{Gives, worded, first_child};
 
 use crate::ends::own_end;
 use crate::fault::VrtFault;
-use crate::items::{Item, entity_at, is_equal, is_white, item_at};
+use crate::items::{Item, item_at};
 use crate::past::{DEEPEST, past_element};
 use crate::tag::Tag;
+use crate::tokens::{entity_at, is_equal};
+use lists_and_answers::is_white;
 use memchr::memchr2;
 use std::alloc::{AllocError, Global};
 
@@ -171,6 +173,7 @@ fn plain_front(bytes: &[u8]) -> usize
 }
 
 // The text in an element of this name, behind its start tag, where it stands there in one piece as it is.
+#[inline(always)]
 #[tactic(auto, using(crate::proofs::Lent::lent))]
 fn lent_text<'a>(name: &[u8], bytes: &'a [u8]) -> Option<(&'a [u8], &'a [u8])>
     requires named { is_name name.now ≡ true }
@@ -184,6 +187,7 @@ fn lent_text<'a>(name: &[u8], bytes: &'a [u8]) -> Option<(&'a [u8], &'a [u8])>
 }
 
 /// The text in an element that begins with a tag, and the first element in it.
+#[inline(always)]
 pub fn text_element<'a>(
     alloc: Global,
     total: usize,

@@ -4,12 +4,12 @@ use Rattle.std.specs.List.{All}
 use Rattle.std.proofs.lemmas.List.Elements.{All-nil, All-push}
 use Rattle.std.proofs.lemmas.List.Sums.{sum_by-cons}
 use Rattle.std.proofs.lemmas.Bool.Decides.{nat_tests}
-use Rattle.lists_and_answers.specs.Answers.{◌>>=◌}
+use Rattle.lists_and_answers.specs.Answers.{◌>>=◌, wants}
 use Rattle.geotransform.specs.declared.types.PixelType.{PixelType}
 use Rattle.vrt_markup.specs.Items.{Tag, attribute}
 use Rattle.vrt_markup.specs.Forest.{Forest, stop, text, element, Read, read_as, over, all_blank}
 use Rattle.vrt_profile.specs.Values.{SourceValue, BandValue, IsSource, IsBand, IsDecimal, source_count}
-use Rattle.vrt_profile.specs.Means.{BandParts, DatasetParts, no_band_parts, once, with_source, band_parts, band_step, band_part_of, band_end, band_of, kind_in, is_placed, is_sourced, wants}
+use Rattle.vrt_profile.specs.Means.{BandParts, DatasetParts, no_band_parts, once, with_source, band_parts, band_step, band_part_of, band_end, band_of, kind_in, is_placed, is_sourced}
 use Rattle.vrt_markup.specs.Kept.{kept_of}
 use Rattle.vrt_profile.specs.Seen.{band_by, one_more}
 use Rattle.vrt_profile.specs.Parts.{IsBandParts, IsDatasetParts}

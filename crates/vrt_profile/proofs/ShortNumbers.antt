@@ -165,7 +165,7 @@ near_decimal text rest m t negative d inner places =
     ∙ ap near_by places
     ∙ guard (nat_lt (unsigned_abs (signed negative m)) (5000000000 * million)) (signed negative m) low
 
-all_joined : (p : ℕ → Bool) (xs ys : List ℕ) → list_all p xs ≡ true → list_all p ys ≡ true → list_all p (xs ++ ys) ≡ true
+pub all_joined : (p : ℕ → Bool) (xs ys : List ℕ) → list_all p xs ≡ true → list_all p ys ≡ true → list_all p (xs ++ ys) ≡ true
 all_joined p xs ys f g = list_all-append p xs ys ∙ and_both (list_all p xs) (list_all p ys) f g
 
 -- digits alone, and digits with a fraction
@@ -226,12 +226,12 @@ point_front text more rest n m d f = record {
 }
 
 -- a sign in front
-record Signed (text : List ℕ) (negative : Bool) (behind : List ℕ) : Type 0 where
-  sign : List ℕ
-  whole : text ≡ sign ++ behind
-  inner : list_all is_inner sign ≡ true
-  short : length sign ≤ 1
-  same : (ds digits tail : List ℕ) → digits_at ds ≡ (digits, tail) → 0 < length digits → sign_at (sign ++ ds) ≡ (negative, ds)
+pub record Signed (text : List ℕ) (negative : Bool) (behind : List ℕ) : Type 0 where
+  pub sign : List ℕ
+  pub whole : text ≡ sign ++ behind
+  pub inner : list_all is_inner sign ≡ true
+  pub short : length sign ≤ 1
+  pub same : (ds digits tail : List ℕ) → digits_at ds ≡ (digits, tail) → 0 < length digits → sign_at (sign ++ ds) ≡ (negative, ds)
 
 abbrev plus_by : ℕ → List ℕ → Bool → Bool × List ℕ
 plus_by c cs y = cond y (false, cs) (false, c ∷ cs)
@@ -245,7 +245,7 @@ first_digit c cs digits tail false e cut some =
     let none : [] ≡ digits = ap (λ (x : List ℕ × List ℕ). x.0) cut in
     absurd (omega (arith, some, ap length none))
 
-pub plain_digits : (ds digits tail : List ℕ) → digits_at ds ≡ (digits, tail) → 0 < length digits → sign_at ds ≡ (false, ds)
+plain_digits : (ds digits tail : List ℕ) → digits_at ds ≡ (digits, tail) → 0 < length digits → sign_at ds ≡ (false, ds)
 plain_digits [] digits tail cut some =
     let none : [] ≡ digits = ap (λ (x : List ℕ × List ℕ). x.0) cut in
     absurd (omega (arith, some, ap length none))
@@ -275,7 +275,7 @@ signed_minus c cs true e = record {
 }
 signed_minus c cs false e = signed_plus c cs (c == 43) refl (sym e)
 
-signed_at : (text : List ℕ) → Signed text (sign_at text).0 (sign_at text).1
+pub signed_at : (text : List ℕ) → Signed text (sign_at text).0 (sign_at text).1
 signed_at [] = record { sign = []; whole = refl; inner = refl; short = omega arith; same = plain_digits }
 signed_at (c ∷ cs) = signed_minus c cs (c == 45) refl
 

@@ -21,6 +21,13 @@ trim text = trim_end (trim_front text)
 abbrev pub whole_text : List ℕ → Option ℕ
 whole_text text = if nat_le (length text) most_short_digits then number_of text else None
 
+-- the marks between numbers
+abbrev pub colon : ℕ
+colon = 58
+
+abbrev pub comma : ℕ
+comma = 44
+
 -- what stands before the first byte b, and what behind it
 abbrev pub length_before : ℕ → List ℕ → ℕ
 length_before b text = prefix_len (λ c. not (c == b)) text
@@ -32,7 +39,7 @@ cut_by front (c ∷ cs) = Some (front, cs)
 abbrev pub cut_at : ℕ → List ℕ → Option (List ℕ × List ℕ)
 cut_at b text = cut_by (take (length_before b text) text) (drop (length_before b text) text)
 
--- A pair of a lookup table, in millionths: two numbers with a colon between them.
+-- A number of a lookup table, in millionths, where it is below the limit.
 abbrev pub near_by : Option ℤ → Option ℤ
 near_by None = None
 near_by (Some v) = if nat_lt (unsigned_abs v) (pair_limit * million) then Some v else None
@@ -40,22 +47,24 @@ near_by (Some v) = if nat_lt (unsigned_abs v) (pair_limit * million) then Some v
 abbrev pub near_number : List ℕ → Option ℤ
 near_number text = near_by (places_of 6 (trim text))
 
+-- A pair of a lookup table, in millionths: two numbers with a colon between them.
 unfoldable pub pair_of : List ℕ → Option LutPair
 pair_of text = do
-  x ← cut_at 58 text
+  x ← cut_at colon text
   input ← near_number x.0
   output ← near_number x.1
   Some (record { input = input; output = output })
 
 -- what stands before the first comma, or all, and what stands behind that comma
 abbrev pub first_piece : List ℕ → List ℕ × Option (List ℕ)
-first_piece text = option_case (cut_at 44 text) (text, None) (λ x. (x.0, Some x.1))
+first_piece text = option_case (cut_at comma text) (text, None) (λ x. (x.0, Some x.1))
 
--- the pieces between the bytes b
+-- the pieces with one more byte in front of the first
 abbrev pub onto : ℕ → List (List ℕ) → List (List ℕ)
 onto c [] = (c ∷ []) ∷ []
 onto c (piece ∷ pieces) = (c ∷ piece) ∷ pieces
 
+-- the pieces between the bytes b
 abbrev pub pieces : ℕ → List ℕ → List (List ℕ)
 pieces b [] = [] ∷ []
 pieces b (c ∷ cs) = if c == b then [] ∷ pieces b cs else onto c (pieces b cs)
@@ -69,9 +78,10 @@ pub record Six : Type 0 where
   pub ry : ℤ
   pub dy : ℤ
 
+-- a number in ticks, and what stands behind the comma after it
 unfoldable pub ticks_then : List ℕ → Option (ℤ × List ℕ)
 ticks_then text = do
-  x ← cut_at 44 text
+  x ← cut_at comma text
   v ← ticks_of (trim x.0)
   Some (v, x.1)
 

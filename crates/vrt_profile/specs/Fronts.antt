@@ -6,16 +6,16 @@ use Rattle.std.specs.List.{list_all}
 use Rattle.std.specs.Char.{is_ascii_digit}
 use Rattle.lists_and_answers.specs.Texts.{is_white}
 use Rattle.geotransform.specs.Decimal.{number, digits_at, fraction_at, places_of}
-use Rattle.vrt_profile.specs.Fields.{near_number, pair_of}
+use Rattle.vrt_profile.specs.Fields.{colon, comma, near_number, pair_of}
 use Rattle.vrt_profile.specs.declared.rectangle.LutPair.{LutPair}
 
 -- a byte that neither parts nor is white space
 abbrev pub is_inner : ℕ → Bool
-is_inner c = not (c == 58) && (not (c == 44) && not (is_white c))
+is_inner c = not (c == colon) && (not (c == comma) && not (is_white c))
 
 -- a byte before the first colon or comma
 abbrev pub is_of_key : ℕ → Bool
-is_of_key c = not (c == 58) && not (c == 44)
+is_of_key c = not (c == colon) && not (c == comma)
 
 -- a digit, which writes n
 abbrev pub IsDigitFront : List ℕ → ℕ → List ℕ → Type 0
@@ -70,8 +70,8 @@ pub record DecimalFront (text : List ℕ) (m : ℕ) (rest : List ℕ) : Type 0 w
 pub record MicrosFront (text : List ℕ) (v : ℤ) (rest : List ℕ) : Type 0 where
   pub front : List ℕ
   pub whole : text ≡ front ++ rest
-  pub colons : list_all (λ c. not (c == 58)) front ≡ true
-  pub commas : list_all (λ c. not (c == 44)) front ≡ true
+  pub colons : list_all (λ c. not (c == colon)) front ≡ true
+  pub commas : list_all (λ c. not (c == comma)) front ≡ true
   pub value : near_number front ≡ Some v
   pub places : places_of 6 front ≡ Some v
 
@@ -83,5 +83,5 @@ pair_with input output = option_map (λ w. record { input = input; output = w })
 pub record PairFront (text : List ℕ) (pair : LutPair) (rest : List ℕ) : Type 0 where
   pub front : List ℕ
   pub whole : text ≡ front ++ rest
-  pub commas : list_all (λ c. not (c == 44)) front ≡ true
+  pub commas : list_all (λ c. not (c == comma)) front ≡ true
   pub value : pair_of front ≡ Some pair

@@ -3,7 +3,7 @@ use Rattle.std.specs.Prelude.{ℕ, ℤ, pos, suc, ◌+◌, Bool, true, false, no
 use Rattle.std.specs.Prelude.{ok_or, Option, Some, None, Result, Ok, Err, ◌==◌, nat_le, if◌then◌else◌, codes}
 use Rattle.std.specs.Str.{is_utf8}
 use Rattle.std.specs.Option.{unwrap_or}
-use Rattle.lists_and_answers.specs.Answers.{◌>>=◌}
+use Rattle.lists_and_answers.specs.Answers.{◌>>=◌, wants}
 use Rattle.lists_and_answers.specs.Texts.{same_letters}
 use Rattle.geotransform.specs.Decimal.{whole_of}
 use Rattle.geotransform.specs.Geo.{Transform}
@@ -30,7 +30,7 @@ use Rattle.vrt_markup.specs.declared.fault.VrtFault.TheVariants.{UnknownElement,
 use Rattle.vrt_markup.specs.declared.fault.VrtFault.TheVariants.{Limit}
 use Rattle.geotransform.specs.Limits.{most_bands}
 
--- Names of elements. In VRTDataset and VRTRasterBand these are read past.
+-- The names of the elements that are read past in VRTDataset and in VRTRasterBand.
 abbrev pub is_remark : List ℕ → Bool
 is_remark name =
     is_equal name (codes "Metadata") || (is_equal name (codes "Description") || (is_equal name (codes "UnitType") ||
@@ -45,6 +45,7 @@ is_picture name =
 abbrev pub is_past : List ℕ → Bool
 is_past name = is_remark name || is_picture name
 
+-- what an element of this name is in VRTDataset, and in VRTRasterBand
 abbrev pub dataset_part_of : List ℕ → DatasetPart
 dataset_part_of name =
     if is_equal name (codes "SRS") then dataset_part.Srs else (
@@ -59,7 +60,7 @@ band_part_of name =
     if is_equal name (codes "ComplexSource") then band_part.Complex else (
     if is_past name then band_part.Past else band_part.Unknown)))
 
--- an element that changes a pixel's value
+-- which part of a source's scaling an element of this name gives, if it gives one
 abbrev pub scaling_of : List ℕ → Option NumberPart
 scaling_of name =
     if is_equal name (codes "NODATA") then Some number_part.NoData else (
@@ -67,11 +68,12 @@ scaling_of name =
     if is_equal name (codes "ScaleRatio") then Some number_part.Ratio else (
     if is_equal name (codes "LUT") then Some number_part.Lut else None)))
 
--- it is read past in a SimpleSource
+-- such an element counts in a ComplexSource, and is read past in a SimpleSource
 abbrev pub scaling_part : Bool → Option NumberPart → SourcePart
 scaling_part complex None = source_part.Unknown
 scaling_part complex (Some part) = if complex then source_part.Number part else source_part.Past
 
+-- what an element of this name is in a source
 abbrev pub source_part_of : Bool → List ℕ → SourcePart
 source_part_of complex name =
     if is_equal name (codes "SourceFilename") then source_part.File else (
@@ -79,10 +81,6 @@ source_part_of complex name =
     if is_equal name (codes "SourceProperties") then source_part.Past else (
     if is_equal name (codes "SrcRect") then source_part.Src else (
     if is_equal name (codes "DstRect") then source_part.Dst else scaling_part complex (scaling_of name)))))
-
--- the fault, where something doesn't hold
-abbrev pub wants : Bool → VrtFault → Result (Unit {0}) VrtFault
-wants holds fault = if holds then Ok tt else Err fault
 
 -- In an element that holds text or attributes alone any element is unknown, and found behind what its text means.
 abbrev pub childless : {A : Type 0} → Option ℕ → A → Result A VrtFault
@@ -93,6 +91,7 @@ childless (Some place) x = Err (UnknownElement place)
 abbrev pub kept_text : List ℕ → Result (List ℕ) VrtFault
 kept_text text = if is_utf8 text then Ok text else Err Unsupported
 
+-- the text of an element that holds text alone
 abbrev pub text_in : List ℕ → Option ℕ → Result (List ℕ) VrtFault
 text_in text child = do
   kept ← kept_text text
@@ -103,6 +102,7 @@ pub record File : Type 0 where
   pub relative : Bool
   pub name : List ℕ
 
+-- relativeToVRT is 0 or 1, and 0 where it doesn't stand
 abbrev pub flag_by : List ℕ → Result Bool VrtFault
 flag_by text =
     if is_equal text (codes "0") then Ok false else (if is_equal text (codes "1") then Ok true else Err BadNumber)
@@ -176,7 +176,7 @@ once (Some x) new put = Err Unsupported
 once None (Ok x) put = Ok (put x)
 once None (Err e) put = Err e
 
--- the parts with one more
+-- The parts with one more, each of which may stand once.
 abbrev pub with_file : SourceParts → Result File VrtFault → Result SourceParts VrtFault
 with_file s new = once s.file new (λ x. record s { file = Some x })
 
@@ -201,6 +201,7 @@ with_ratio s new = once s.ratio new (λ x. record s { ratio = Some x })
 abbrev pub with_lut : SourceParts → Result (List LutPair) VrtFault → Result SourceParts VrtFault
 with_lut s new = once s.lut new (λ x. record s { lut = Some x })
 
+-- the parts with that of an element that holds a number
 abbrev pub number_parts : SourceParts → List ℕ → Option ℕ → NumberPart → Result SourceParts VrtFault
 number_parts s text child number_part.Band = with_band s (source_band_by text child)
 number_parts s text child number_part.NoData = with_nodata s (nodata_by text child)
@@ -208,6 +209,7 @@ number_parts s text child number_part.Offset = with_offset s (scale_text text ch
 number_parts s text child number_part.Ratio = with_ratio s (scale_text text child)
 number_parts s text child number_part.Lut = with_lut s (lut_by text child)
 
+-- the parts behind one more element, by what it is
 abbrev pub source_parts : SourceParts → ℕ → Tag → Forest → SourcePart → Result SourceParts VrtFault
 source_parts s place tag inside source_part.File = with_file s (file_of tag inside)
 source_parts s place tag inside source_part.Src = with_src s (rect_of tag inside)
@@ -219,12 +221,12 @@ source_parts s place tag inside source_part.Unknown = Err (UnknownElement place)
 abbrev pub source_step : Bool → SourceParts → ℕ → Tag → Forest → Result SourceParts VrtFault
 source_step complex s place tag inside = source_parts s place tag inside (source_part_of complex tag.name)
 
--- an element that stands and has a value
+-- the value of an element, where it stands and has one
 abbrev pub value_in : Option (Option ℤ) → Option ℤ
 value_in None = None
 value_in (Some value) = value
 
--- only a complex source changes pixels
+-- The source that these parts make; only a complex one changes pixels.
 abbrev pub source_from : Bool → File → SourceParts → SourceValue
 source_from complex file p = record {
   complex = complex;
@@ -247,14 +249,15 @@ source_named complex p (Some file) = if length file.name == 0 then Err MissingPa
 abbrev pub source_end : Bool → SourceParts → Result SourceValue VrtFault
 source_end complex p = source_named complex p p.file
 
-abbrev pub is_near : Option (List ℕ) → Bool
-is_near None = true
-is_near (Some text) = same_letters text (codes "nearest") || same_letters text (codes "near")
+-- whether resampling, where it stands, is the nearest pixel
+abbrev pub is_nearest : Option (List ℕ) → Bool
+is_nearest None = true
+is_nearest (Some text) = same_letters text (codes "nearest") || same_letters text (codes "near")
 
 -- in order: its attributes and text in it, its children, what is missing
 abbrev pub source_of : Bool → Tag → Forest → Result SourceValue VrtFault
 source_of complex tag inside = do
-  plain ← wants (is_near (attribute (codes "resampling") tag.pairs) && all_blank inside) Unsupported
+  plain ← wants (is_nearest (attribute (codes "resampling") tag.pairs) && all_blank inside) Unsupported
   parts ← over (source_step complex) no_parts inside
   source_end complex parts
 
@@ -285,6 +288,7 @@ band_parts s place tag inside band_part.Unknown = Err (UnknownElement place)
 abbrev pub band_step : BandParts → ℕ → Tag → Forest → Result BandParts VrtFault
 band_step s place tag inside = band_parts s place tag inside (band_part_of tag.name)
 
+-- the type that dataType names, Byte where it doesn't stand
 abbrev pub kind_in : Option (List ℕ) → Result PixelType VrtFault
 kind_in None = Ok Byte
 kind_in (Some text) = ok_or (type_named false text) Unsupported
@@ -298,6 +302,7 @@ abbrev pub is_placed : ℕ → Option (List ℕ) → Bool
 is_placed number None = true
 is_placed number (Some text) = is_number number (whole_text text)
 
+-- subClass, where it stands, is VRTSourcedRasterBand
 abbrev pub is_sourced : Option (List ℕ) → Bool
 is_sourced None = true
 is_sourced (Some text) = is_equal text (codes "VRTSourcedRasterBand")

@@ -6,7 +6,7 @@ use Rattle.lists_and_answers.specs.Answers.{◌>>=◌}
 use Rattle.geotransform.specs.Decimal.{places_of}
 use Rattle.geotransform.specs.Geo.{Transform, transform_of}
 use Rattle.vrt_markup.specs.Items.{is_equal}
-use Rattle.vrt_profile.specs.Fields.{trim, whole_text, pair_of, pieces, Six, six_of}
+use Rattle.vrt_profile.specs.Fields.{trim, whole_text, pair_of, pieces, comma, Six, six_of}
 use Rattle.vrt_profile.specs.Values.{million, most_pairs, scale_limit}
 use Rattle.vrt_profile.specs.declared.rectangle.LutPair.{LutPair}
 use Rattle.vrt_markup.specs.declared.fault.VrtFault.{VrtFault}
@@ -46,12 +46,12 @@ is_mask text = is_equal (map to_ascii_lowercase (take 4 text)) (codes "mask")
 abbrev pub no_band_fault : List ℕ → VrtFault
 no_band_fault text = if is_mask text then Unsupported else BadNumber
 
-abbrev pub band_by : List ℕ → Option ℕ → Result ℕ VrtFault
-band_by text None = Err (no_band_fault text)
-band_by text (Some n) = if nat_lt 0 n && nat_le n most_bands then Ok n else Err (no_band_fault text)
+abbrev pub band_number_by : List ℕ → Option ℕ → Result ℕ VrtFault
+band_number_by text None = Err (no_band_fault text)
+band_number_by text (Some n) = if nat_lt 0 n && nat_le n most_bands then Ok n else Err (no_band_fault text)
 
 abbrev pub band_number : List ℕ → Result ℕ VrtFault
-band_number text = band_by text (whole_text text)
+band_number text = band_number_by text (whole_text text)
 
 -- An offset or a ratio of a scaling, in parts of 10^12, trimmed.
 abbrev pub scale_by : Option ℤ → Result ℤ VrtFault
@@ -80,7 +80,7 @@ lut_from n last (piece ∷ more) = next_pair n last piece >>= λ pair. lut_from 
     Ok (pair ∷ pairs)
 
 abbrev pub lut_of : List ℕ → Result (List LutPair) VrtFault
-lut_of text = lut_from 0 None (pieces 44 text)
+lut_of text = lut_from 0 None (pieces comma text)
 
 -- without a rotation
 abbrev pub north_up : Six → Result Transform VrtFault

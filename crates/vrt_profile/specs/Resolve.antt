@@ -1,5 +1,6 @@
 -- Names of sources: from a document's folder to a file, and back.
 use Rattle.std.specs.Prelude.{ℕ, Bool, true, false, ◌&&◌, not, List, [], ◌∷◌, ◌++◌, Option, Some, None, if◌then◌else◌}
+use Rattle.lists_and_answers.specs.Bytes.{slash}
 use Rattle.lists_and_answers.specs.Options.{◌>>=◌}
 use Rattle.outside.specs.Names.{folder_part}
 use Rattle.outside.specs.Paths.{is_absolute}
@@ -14,7 +15,7 @@ folder_for base s = if s.relative && not (is_absolute s.file) then folder_part b
 -- a text in a folder, or the text alone
 abbrev pub in_folder : Option (List ℕ) → List ℕ → List ℕ
 in_folder None text = text
-in_folder (Some folder) text = folder ++ 47 ∷ text
+in_folder (Some folder) text = folder ++ slash ∷ text
 
 -- the text whose normal form is the name of a source
 abbrev pub resolved_text : List ℕ → SourceValue → List ℕ
@@ -26,7 +27,7 @@ some_text (c ∷ cs) = Some (c ∷ cs)
 
 -- what stands behind a folder and a slash, where the name begins with them and goes on
 abbrev pub behind_folder : List ℕ → List ℕ → Option (List ℕ)
-behind_folder folder name = strip folder name >>= byte_at 47 >>= some_text
+behind_folder folder name = strip folder name >>= byte_at slash >>= some_text
 
 -- whether a text is relative, and the text
 abbrev pub related_by : List ℕ → Option (List ℕ) → Bool × List ℕ

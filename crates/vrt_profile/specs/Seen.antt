@@ -1,10 +1,10 @@
 -- What an element means, by what its attributes say and what stands in it, each of which may be a fault: the steps of
 -- the definitions of `Means`, in their order.
 use Rattle.std.specs.Prelude.{ℕ, ℤ, Bool, not, ◌&&◌, List, [], ◌∷◌, ◌++◌, Option, Result, Ok}
-use Rattle.lists_and_answers.specs.Answers.{◌>>=◌}
+use Rattle.lists_and_answers.specs.Answers.{◌>>=◌, wants}
 use Rattle.geotransform.specs.declared.types.PixelType.{PixelType}
 use Rattle.vrt_profile.specs.Values.{Rectangle, SourceValue, BandValue, DocumentValue}
-use Rattle.vrt_profile.specs.Means.{wants, text_in, File, SourceParts, source_end, BandParts, band_end, DatasetParts}
+use Rattle.vrt_profile.specs.Means.{text_in, File, SourceParts, source_end, BandParts, band_end, DatasetParts}
 use Rattle.vrt_profile.specs.Means.{dataset_end}
 use Rattle.vrt_markup.specs.declared.fault.VrtFault.{VrtFault}
 use Rattle.vrt_markup.specs.declared.fault.VrtFault.TheVariants.{BadNumber, Unsupported}

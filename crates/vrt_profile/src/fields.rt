@@ -8,7 +8,8 @@ ghost use Rattle.vrt_profile.specs.Fields.{ticks_then, six_of, Six};
 ghost use Rattle.vrt_profile.specs.NumberViews.{six_view, IsReadSix};
 
 use geotransform::{MOST_SHORT_DIGITS, read_decimal, read_number, read_places};
-use vrt_markup::{is_white, trim_front};
+use lists_and_answers::is_white;
+use vrt_markup::trim_front;
 
 /// The numbers of a lookup table stay below it in magnitude, in millionths.
 const PAIR_LIMIT_MICROS: u128 = 5_000_000_000_000_000;

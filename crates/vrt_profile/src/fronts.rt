@@ -1,7 +1,7 @@
 // Short numbers, as most of a document's are, read in one pass.
-ghost use Rattle.std.specs.Prelude.{◌≡◌, ◌<◌, ◌≤◌, ◌*◌, ◌-◌, ◌^◌, [], ◌∷◌, Some, pos, length, drop, IfSome};
+ghost use Rattle.std.specs.Prelude.{◌≡◌, ◌<◌, ◌≤◌, ◌*◌, ◌-◌, ◌^◌, [], ◌∷◌, Some, pos, length, drop, true, IfSome};
 ghost use Rattle.std.specs.Option.{option_map};
-ghost use Rattle.geotransform.specs.Decimal.{places_of, whole_of, signed};
+ghost use Rattle.geotransform.specs.Decimal.{places_of, whole_of, signed, sign_at, is_exponent_mark};
 ghost use Rattle.vrt_profile.specs.Fronts.{IsDigitFront, DigitRun, DigitsFront, FractionFront, DecimalFront};
 ghost use Rattle.vrt_profile.specs.Fronts.{MicrosFront, PairFront};
 ghost use Rattle.vrt_profile.specs.Fields.{first_piece, near_number, pair_of};
@@ -217,14 +217,35 @@ pub fn whole_before(text: &[u8], byte: u8) -> Option<(i64, &[u8])>
     Some((size as i64, behind))
 }
 
-/// What stands behind the comma behind a zero with an exponent of one to three digits, as in `0e999`: a table of such
-/// zeros is read in one pass, too. `None` also where the text is short.
+// The mark of an exponent in front, and what stands behind it.
+fn mark_front(text: &[u8]) -> Option<(u8, &[u8])>
+    ensures mark { IfSome result (λ x. is_exponent_mark x.0 ≡ true) }
+    ensures behind { IfSome result (λ x. text.now ≡ x.0 ∷ x.1.now) }
+    ensures shorter { IfSome result (λ x. length x.1.now < length text.now) }
+{
+    match text {
+        [c, behind @ ..] if *c == b'e' || *c == b'E' => Some((*c, behind)),
+        _ => None,
+    }
+}
+
+// What stands behind a sign in front, or all where there is none.
+fn behind_sign(text: &[u8]) -> &[u8]
+    ensures behind { result.now ≡ (sign_at text.now).1 }
+    ensures shorter { length result.now ≤ length text.now }
+{
+    let (_, behind) = sign_at(text);
+    behind
+}
+
+/// What stands behind the comma behind a zero with an exponent of one to three digits, as in `0e999` or `0E-5`: a table
+/// of such zeros is read in one pass, too. `None` also where the text is short.
 pub fn zero_before(text: &[u8]) -> Option<&[u8]>
     ensures front { IfSome result (λ r. MicrosFront text.now (pos 0) (44 ∷ r.now)) }
     ensures shorter { IfSome result (λ r. length r.now < length text.now) }
 {
-    let exponent = behind_byte(behind_byte(text, b'0')?, b'e')?;
-    let (_, count, behind) = run_before(exponent, b',')?;
+    let (_, exponent) = mark_front(behind_byte(text, b'0')?)?;
+    let (_, count, behind) = run_before(behind_sign(exponent), b',')?;
     if count > 3 {
         return None;
     }

@@ -54,17 +54,6 @@ fn next_pair(
     }
 }
 
-// The pairs with one more.
-fn with_pair(pairs: Items<LutPair>, pair: LutPair) -> Result<Items<LutPair>, VrtFault>
-    ensures longer { Gives (λ x. x) result (Ok (pairs ++ pair ∷ [])) }
-{
-    let mut pairs = pairs;
-    match pairs.push(pair) {
-        Ok(()) => Ok(pairs),
-        Err(_) => Err(VrtFault::Memory),
-    }
-}
-
 // What stands before the first comma, or all, and what stands behind that comma.
 fn first_piece(text: &[u8]) -> (&[u8], Option<&[u8]>)
     ensures piece { (result.0.now, option_map (λ r. r.now) result.1) ≡ first_piece text.now }
@@ -208,6 +197,7 @@ fn pair_behind(input: i64, text: &[u8]) -> (Option<LutPair>, Option<&[u8]>)
 }
 
 // The pair of the first piece, and what stands behind its comma.
+#[inline(always)]
 #[tactic(auto, using(crate::proofs::ShortNumbers::key_behind))]
 fn pair_at(text: &[u8]) -> (Option<LutPair>, Option<&[u8]>)
     ensures pair { result.0 ≡ pair_of (first_piece text.now).0 }
@@ -233,12 +223,11 @@ fn pairs_of(alloc: Global, text: &[u8]) -> Result<Result<Items<LutPair>, VrtFaul
             Ok(pair) => pair,
             Err(fault) => return Ok(Err(fault)),
         };
-        match with_pair(pairs, pair) {
-            Err(error) => return Err(error),
-            Ok(longer) => match more {
-                None => return Ok(Ok(longer)),
+        match pairs.push(pair) {
+            Err(_) => return Err(VrtFault::Memory),
+            Ok(()) => match more {
+                None => return Ok(Ok(pairs)),
                 Some(behind) => {
-                    pairs = longer;
                     last = Some(pair);
                     rest = behind;
                 }

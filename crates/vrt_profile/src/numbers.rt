@@ -7,7 +7,8 @@ ghost use Rattle.geotransform.specs.Geo.{transform_of};
 ghost use Rattle.vrt_profile.specs.Fields.{trim};
 ghost use Rattle.vrt_profile.specs.Values.{IsOffset, IsDecimal, scale_limit};
 ghost use Rattle.vrt_profile.specs.Numbers.{side_by, side_in, micro_in, within_limit, offset_in, some_size, size_in};
-ghost use Rattle.vrt_profile.specs.Numbers.{is_mask, no_band_fault, band_by, band_number, scale_of, north_up, geo_of};
+ghost use Rattle.vrt_profile.specs.Numbers.{is_mask, no_band_fault, band_number_by, band_number, scale_of, north_up};
+ghost use Rattle.vrt_profile.specs.Numbers.{geo_of};
 ghost use Rattle.vrt_markup.specs.declared.fault.VrtFault.TheVariants.{BadNumber};
 ghost use Rattle.vrt_profile.specs.NumberViews.{six_view, IsReadSix};
 ghost use Rattle.geotransform.specs.Limits.{most_side, whole_limit};
@@ -190,8 +191,8 @@ fn no_band_fault(text: &[u8]) -> VrtFault
     }
 }
 
-fn band_by(text: &[u8], number: Option<u64>) -> Result<BandNumber, VrtFault>
-    ensures number { result ≡ band_by text.now number }
+fn band_number_by(text: &[u8], number: Option<u64>) -> Result<BandNumber, VrtFault>
+    ensures number { result ≡ band_number_by text.now number }
 {
     match number {
         Some(n) if 0 < n && n <= MOST_BANDS as u64 => Ok(BandNumber::of(n as u32)),
@@ -203,7 +204,7 @@ fn band_by(text: &[u8], number: Option<u64>) -> Result<BandNumber, VrtFault>
 pub fn band_number(text: &[u8]) -> Result<BandNumber, VrtFault>
     ensures number { result ≡ band_number text.now }
 {
-    band_by(text, whole_text(text))
+    band_number_by(text, whole_text(text))
 }
 
 /// The NODATA that a text gives, if it gives one.

@@ -6,7 +6,7 @@ ghost use Rattle.std.specs.List.{All};
 ghost use Rattle.vrt_markup.specs.Forest.{deepest, inner, read_as, text_of, child_of};
 ghost use Rattle.vrt_profile.specs.Means as means;
 ghost use Rattle.vrt_profile.specs.Means.{flag_in, flag_by, file_of, source_band_by, nodata_by, scale_text, lut_by};
-ghost use Rattle.vrt_profile.specs.Means.{with_file, number_parts, source_step, no_parts, is_near, source_end};
+ghost use Rattle.vrt_profile.specs.Means.{with_file, number_parts, source_step, no_parts, is_nearest, source_end};
 ghost use Rattle.vrt_profile.specs.Means.{source_of, value_in};
 ghost use Rattle.vrt_profile.specs.Seen.{file_by, source_by, one_more};
 ghost use Rattle.vrt_profile.specs.Values.{IsSource, IsRectangle, IsLut, scale_limit};
@@ -295,8 +295,8 @@ impl Parts for SourceParts {
     }
 }
 
-fn is_near(text: Option<&[u8]>) -> bool
-    ensures near { result ≡ is_near (option_map (λ v. v.now) text.entry) }
+fn is_nearest(text: Option<&[u8]>) -> bool
+    ensures near { result ≡ is_nearest (option_map (λ v. v.now) text.entry) }
 {
     match text {
         None => true,
@@ -477,7 +477,7 @@ pub fn source_element<'a>(
     ensures shorter { IfOk result (λ x. length x.1.now ≤ length bytes.now) }
 {
     let mut parts = no_parts(complex);
-    let near = is_near(attribute(tag.attributes, b"resampling"));
+    let near = is_nearest(attribute(tag.attributes, b"resampling"));
     match children_of(alloc, level, tag, &mut parts, bytes) {
         Ok((seen, rest)) => match push_seen(alloc, complex, near, seen, &mut parts, sources) {
             Ok(kept) => Ok((kept, rest)),

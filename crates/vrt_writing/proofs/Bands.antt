@@ -14,7 +14,7 @@ use Rattle.geotransform.specs.declared.types.PixelType.TheVariants.{Byte, Int8, 
 use Rattle.geotransform.proofs.Named.{named_again}
 use Rattle.vrt_markup.specs.Items.{plain_len}
 use Rattle.vrt_profile.specs.Values.{SourceValue, IsSource, BandValue, IsBand, source_count}
-use Rattle.vrt_writing.specs.Spelled.{nothing, both, words, group, nodata_markup, source_name, place_markup, scaling_markup, source_markup, sources_markup, band_pairs, band_markup, bands_markup}
+use Rattle.vrt_writing.specs.Spelled.{nothing, both, words, group, nodata_markup, source_tag, place_markup, scaling_markup, source_markup, sources_markup, band_pairs, band_markup, bands_markup}
 use Rattle.vrt_profile.specs.Means.{BandParts, no_parts, source_step, source_end, with_source, nodata_by, with_no_data_value, band_step, no_band_parts, kind_in, is_number, is_placed, value_in, DatasetParts, with_raster_band, dataset_step}
 use Rattle.vrt_profile.specs.Seen.{source_by, band_by}
 use Rattle.vrt_markup.specs.declared.fault.VrtFault.{VrtFault}
@@ -35,7 +35,7 @@ all_tail P x xs h = λ k d less. h (suc k) d (omega arith)
 abbrev pub band_of : ℕ → Option (Option ℤ) → List SourceValue → BandParts
 band_of taken nodata sources = record { taken = taken; nodata = nodata; sources = sources }
 
-source_opening : (b : Bool) → IsOpening (source_name b) []
+source_opening : (b : Bool) → IsOpening (source_tag b) []
 source_opening true = record { named = record { first = refl; later = refl }; pairs = tt; distinct = refl }
 source_opening false = record { named = record { first = refl; later = refl }; pairs = tt; distinct = refl }
 
@@ -46,16 +46,16 @@ one_source b taken nodata front v e is few =
     ap (λ c. cond c (Err Limit) (source_end b (all_parts b v) >>= λ x. Ok (record s { sources = front ++ x ∷ [] }))) low
     ∙ ap (λ r. r >>= λ x. Ok (record s { sources = front ++ x ∷ [] })) (source_again b v e is)
 
-takes_source_by : (b : Bool) (taken : ℕ) (nodata : Option (Option ℤ)) (front : List SourceValue) (v : SourceValue) → v.complex ≡ b → IsSource v → taken + length front < 262144 → Takes band_step 2 (group (source_name b) [] (both (place_markup v) (scaling_markup v))) (Ok (band_of taken nodata front)) (Ok (band_of taken nodata (front ++ v ∷ [])))
+takes_source_by : (b : Bool) (taken : ℕ) (nodata : Option (Option ℤ)) (front : List SourceValue) (v : SourceValue) → v.complex ≡ b → IsSource v → taken + length front < 262144 → Takes band_step 2 (group (source_tag b) [] (both (place_markup v) (scaling_markup v))) (Ok (band_of taken nodata front)) (Ok (band_of taken nodata (front ++ v ∷ [])))
 takes_source_by true taken nodata front v e is few =
     let s : BandParts = band_of taken nodata front in
-    takes_to band_step 2 (group (source_name true) [] (both (place_markup v) (scaling_markup v))) (Ok s) _ _
-    (takes_group band_step (source_step true) 2 (source_name true) [] (both (place_markup v) (scaling_markup v)) (Ok s) (Ok no_parts) (Ok (all_parts true v)) (λ p. with_source s (source_by true true p.1 p.0)) (omega arith) (source_opening true) (source_taken true v e is) (λ place f. refl))
+    takes_to band_step 2 (group (source_tag true) [] (both (place_markup v) (scaling_markup v))) (Ok s) _ _
+    (takes_group band_step (source_step true) 2 (source_tag true) [] (both (place_markup v) (scaling_markup v)) (Ok s) (Ok no_parts) (Ok (all_parts true v)) (λ p. with_source s (source_by true true p.1 p.0)) (omega arith) (source_opening true) (source_taken true v e is) (λ place f. refl))
     (one_source true taken nodata front v e is few)
 takes_source_by false taken nodata front v e is few =
     let s : BandParts = band_of taken nodata front in
-    takes_to band_step 2 (group (source_name false) [] (both (place_markup v) (scaling_markup v))) (Ok s) _ _
-    (takes_group band_step (source_step false) 2 (source_name false) [] (both (place_markup v) (scaling_markup v)) (Ok s) (Ok no_parts) (Ok (all_parts false v)) (λ p. with_source s (source_by false true p.1 p.0)) (omega arith) (source_opening false) (source_taken false v e is) (λ place f. refl))
+    takes_to band_step 2 (group (source_tag false) [] (both (place_markup v) (scaling_markup v))) (Ok s) _ _
+    (takes_group band_step (source_step false) 2 (source_tag false) [] (both (place_markup v) (scaling_markup v)) (Ok s) (Ok no_parts) (Ok (all_parts false v)) (λ p. with_source s (source_by false true p.1 p.0)) (omega arith) (source_opening false) (source_taken false v e is) (λ place f. refl))
     (one_source false taken nodata front v e is few)
 
 takes_source : (taken : ℕ) (nodata : Option (Option ℤ)) (front : List SourceValue) (v : SourceValue) → IsSource v → taken + length front < 262144 → Takes band_step 2 (source_markup v) (Ok (band_of taken nodata front)) (Ok (band_of taken nodata (front ++ v ∷ [])))

@@ -9,7 +9,7 @@ use Rattle.geotransform.proofs.Written.{keeps_append, keeps_then}
 use Rattle.vrt_markup.specs.Items.{Pair}
 use Rattle.vrt_profile.specs.Values.{trillion, Rectangle, SourceValue, BandValue, DocumentValue}
 use Rattle.vrt_profile.specs.declared.rectangle.LutPair.{LutPair}
-use Rattle.vrt_writing.specs.Spelled.{Markup, both, group, written, indent, tag_text, pair_text, end_text, lut_pair_text, next_pair_text, lut_text, source_text, band_text, bands_text, file_markup, source_band_markup, rectangle_markup, nodata_markup, scale_markup, lut_markup, srs_markup, geo_markup, band_pairs, source_name, place_markup, scaling_markup, source_markup, sources_markup, band_markup, bands_markup, parts_markup, dataset_markup, size_pairs, spelled, Appends, AppendsPairs, AppendsTag}
+use Rattle.vrt_writing.specs.Spelled.{Markup, both, group, written, indent, tag_text, pair_text, end_text, lut_pair_text, next_pair_text, lut_text, source_text, band_text, bands_text, file_markup, source_band_markup, rectangle_markup, nodata_markup, scale_markup, lut_markup, srs_markup, geo_markup, band_pairs, source_tag, place_markup, scaling_markup, source_markup, sources_markup, band_markup, bands_markup, parts_markup, dataset_markup, size_pairs, spelled, Appends, AppendsPairs, AppendsTag}
 use Rattle.vrt_writing.proofs.Pieces.{two, three, appends_both, keeps_appends}
 
 pub keeps_trans : (a b c : List ℕ) → KeepsFront a b → KeepsFront b c → KeepsFront a c
@@ -65,7 +65,7 @@ group_made a b c d name level pairs m p q r = record {
 pub group_two : (a b c d e name : List ℕ) (level : ℕ) (pairs : List Pair) (m n : Markup) → AppendsTag a b level name pairs → Appends b c (suc level) m → Appends c d (suc level) n → e ≡ d ++ (indent level ++ end_text name) → Appends a e level (group name pairs (both m n))
 group_two a b c d e name level pairs m n p q r s = group_made a b d e name level pairs (both m n) p (appends_both b c d (suc level) m n q r) s
 
-pub source_made : (a b c d e name : List ℕ) (s : SourceValue) → name ≡ source_name s.complex → AppendsTag a b 2 name [] → Appends b c 3 (place_markup s) → Appends c d 3 (scaling_markup s) → e ≡ d ++ (indent 2 ++ end_text name) → Appends a e 2 (source_markup s)
+pub source_made : (a b c d e name : List ℕ) (s : SourceValue) → name ≡ source_tag s.complex → AppendsTag a b 2 name [] → Appends b c 3 (place_markup s) → Appends c d 3 (scaling_markup s) → e ≡ d ++ (indent 2 ++ end_text name) → Appends a e 2 (source_markup s)
 source_made a b c d e name s n p q r t = subst (λ (x : List ℕ). Appends a e 2 (group x [] (both (place_markup s) (scaling_markup s)))) n (group_two a b c d e name 2 [] (place_markup s) (scaling_markup s) p q r t)
 
 pub dataset_made : (a b c d : List ℕ) (v : DocumentValue) → AppendsTag a b 0 (codes "VRTDataset") (size_pairs v.size) → Appends b c 1 (parts_markup v) → d ≡ c ++ (indent 0 ++ end_text (codes "VRTDataset")) → d ≡ a ++ written 0 (dataset_markup v)

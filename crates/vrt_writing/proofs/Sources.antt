@@ -10,7 +10,7 @@ use Rattle.geotransform.specs.Decimal.{places_of, whole_of}
 use Rattle.vrt_markup.specs.Items.{Pair, attribute}
 use Rattle.vrt_markup.specs.Forest.{Forest, stop, text_of, child_of}
 use Rattle.vrt_markup.specs.Kept.{stepped}
-use Rattle.vrt_profile.specs.Numbers.{within_limit, some_size, offset_in, size_in, band_by, band_number, no_band_fault, scale_by}
+use Rattle.vrt_profile.specs.Numbers.{within_limit, some_size, offset_in, size_in, band_number_by, band_number, no_band_fault, scale_by}
 use Rattle.vrt_profile.specs.Values.{million, trillion, Rectangle, IsOffset, IsRectangle, IsLut, SourceValue, IsSource, IsSimple}
 use Rattle.vrt_writing.specs.Spelled.{Markup, nothing, both, words, pair, flag_text, micro_text, part_text, lut_text, file_markup, source_band_markup, rectangle_pairs, rectangle_markup, nodata_markup, scale_markup, lut_markup, place_markup, scaling_markup}
 use Rattle.vrt_profile.specs.Means.{File, SourceParts, no_parts, source_step, flag_in, childless, rect_of, with_file, with_band, with_src, with_dst, with_nodata, with_offset, with_ratio, with_lut, source_band_by, nodata_by, scale_text, lut_by, value_in, source_from, source_named, source_end}
@@ -74,7 +74,7 @@ band_is n some few =
     let low : nat_lt 0 n ≡ true = grind (arith, nat_tests) in
     let high : nat_le n 256 ≡ true = grind (arith, nat_tests) in
     ap (λ (t : List ℕ). judged (band_number t) None) (trim_same (decimal n) d)
-    ∙ ap (λ o. judged (band_by (decimal n) o) None) (count_again n (omega arith))
+    ∙ ap (λ o. judged (band_number_by (decimal n) o) None) (count_again n (omega arith))
     ∙ ap (λ b. judged (cond (b && nat_le n 256) (Ok n) (Err (no_band_fault (decimal n)))) None) low
     ∙ ap (λ b. judged (cond b (Ok n) (Err (no_band_fault (decimal n)))) None) high
 

@@ -12,7 +12,7 @@ use Rattle.geotransform.specs.declared.types.PixelType.{PixelType}
 use Rattle.geotransform.specs.declared.types.PixelType.TheVariants.{Byte, Int8, UInt16, Int16, UInt32, Int32, UInt64, Int64}
 use Rattle.vrt_markup.specs.Items.{Pair}
 use Rattle.vrt_profile.specs.Values.{trillion, IsOffset, Rectangle, IsRectangle, IsLut, SourceValue, IsSource, BandValue, IsBand, DocumentValue, IsDocument, IsDecimal}
-use Rattle.vrt_writing.specs.Spelled.{Markup, nothing, both, words, empty, group, written, indent, tag_text, pair_text, end_text, escape, escaped, micro_text, part_text, lut_text, geo_text, flag_text, file_markup, source_band_markup, rectangle_markup, nodata_markup, lut_markup, source_name, source_markup, sources_markup, band_markup, bands_markup, srs_markup, geo_markup, dataset_markup, spelled}
+use Rattle.vrt_writing.specs.Spelled.{Markup, nothing, both, words, empty, group, written, indent, tag_text, pair_text, end_text, escape, escaped, micro_text, part_text, lut_text, geo_text, flag_text, file_markup, source_band_markup, rectangle_markup, nodata_markup, lut_markup, source_tag, source_markup, sources_markup, band_markup, bands_markup, srs_markup, geo_markup, dataset_markup, spelled}
 use Rattle.vrt_profile.specs.declared.rectangle.LutPair.{LutPair}
 use Rattle.vrt_writing.proofs.Bands.{all_head, all_tail, in_range}
 use Rattle.vrt_writing.proofs.Relisted.{lut_marks, geo_marks}
@@ -165,7 +165,7 @@ lut_valid : (o : Option (List LutPair)) → IfSome o IsLut → IsValid (lut_mark
 lut_valid None is = tt
 lut_valid (Some pairs) is = (refl, tt, ascii_utf8 (lut_text pairs) (marks_ascii (lut_text pairs) (lut_marks pairs is.near)))
 
-name_ascii : (b : Bool) → AreAscii (source_name b)
+name_ascii : (b : Bool) → AreAscii (source_tag b)
 name_ascii true = refl
 name_ascii false = refl
 

@@ -7,7 +7,9 @@ use Rattle.geotransform.specs.Geo.{Transform}
 use Rattle.geotransform.specs.Types.{name_of}
 use Rattle.geotransform.specs.declared.types.PixelType.{PixelType}
 use Rattle.geotransform.specs.declared.types.Size.{Size}
-use Rattle.vrt_markup.specs.Items.{Pair}
+use Rattle.lists_and_answers.specs.Bytes.{space_byte}
+use Rattle.vrt_markup.specs.Items.{Pair, less_than, greater_than, ampersand, double_quote, single_quote}
+use Rattle.vrt_profile.specs.Fields.{colon, comma}
 use Rattle.vrt_profile.specs.Values.{trillion, Rectangle, SourceValue, BandValue, DocumentValue}
 use Rattle.vrt_profile.specs.declared.rectangle.LutPair.{LutPair}
 
@@ -23,25 +25,26 @@ pub data Markup : Type 0 where
 -- the five special characters are written as entities
 abbrev pub escape : ℕ → List ℕ
 escape c =
-    if c == 38 then codes "&amp;" else (
-    if c == 60 then codes "&lt;" else (
-    if c == 62 then codes "&gt;" else (
-    if c == 34 then codes "&quot;" else (
-    if c == 39 then codes "&apos;" else c ∷ []))))
+    if c == ampersand then codes "&amp;" else (
+    if c == less_than then codes "&lt;" else (
+    if c == greater_than then codes "&gt;" else (
+    if c == double_quote then codes "&quot;" else (
+    if c == single_quote then codes "&apos;" else c ∷ []))))
 
 abbrev pub escaped : List ℕ → List ℕ
 escaped text = flat_map escape text
 
 -- Two spaces stand in front for each level.
 abbrev pub indent : ℕ → List ℕ
-indent level = replicate (2 * level) 32
+indent level = replicate (2 * level) space_byte
 
+-- an attribute, behind a space
 abbrev pub pair_text : Pair → List ℕ
-pair_text p = 32 ∷ (p.name ++ (codes "=\"" ++ (p.value ++ 34 ∷ [])))
+pair_text p = space_byte ∷ (p.name ++ (codes "=\"" ++ (p.value ++ double_quote ∷ [])))
 
 -- a start tag or an empty tag without its end
 abbrev pub tag_text : ℕ → List ℕ → List Pair → List ℕ
-tag_text level name pairs = indent level ++ (60 ∷ name ++ flat_map pair_text pairs)
+tag_text level name pairs = indent level ++ (less_than ∷ name ++ flat_map pair_text pairs)
 
 -- an end tag, and the end of its line
 abbrev pub end_text : List ℕ → List ℕ
@@ -50,7 +53,7 @@ end_text name = codes "</" ++ (name ++ codes ">\n")
 abbrev pub written : ℕ → Markup → List ℕ
 written level nothing = []
 written level (both a b) = written level a ++ written level b
-written level (words name pairs text) = tag_text level name pairs ++ (62 ∷ text ++ end_text name)
+written level (words name pairs text) = tag_text level name pairs ++ (greater_than ∷ text ++ end_text name)
 written level (empty name pairs) = tag_text level name pairs ++ codes "/>\n"
 written level (group name pairs inside) = tag_text level name pairs ++
     (codes ">\n" ++ (written (suc level) inside ++ (indent level ++ end_text name)))
@@ -64,10 +67,10 @@ part_text v = short_text (v *ℤ pos 180000)
 
 -- a lookup table: its pairs, joined by commas
 abbrev pub lut_pair_text : LutPair → List ℕ
-lut_pair_text p = micro_text p.input ++ 58 ∷ micro_text p.output
+lut_pair_text p = micro_text p.input ++ colon ∷ micro_text p.output
 
 unfoldable pub next_pair_text : LutPair → List ℕ
-next_pair_text p = 44 ∷ lut_pair_text p
+next_pair_text p = comma ∷ lut_pair_text p
 
 abbrev pub lut_text : List LutPair → List ℕ
 lut_text [] = []
@@ -117,11 +120,12 @@ scaling_markup s = both (nodata_markup (codes "NODATA") s.nodata)
     (both (scale_markup (codes "ScaleOffset") (pos 0) s.offset)
     (both (scale_markup (codes "ScaleRatio") (pos trillion) s.ratio) (lut_markup s.lut)))
 
-abbrev pub source_name : Bool → List ℕ
-source_name complex = if complex then codes "ComplexSource" else codes "SimpleSource"
+-- the name of a source's element
+abbrev pub source_tag : Bool → List ℕ
+source_tag complex = if complex then codes "ComplexSource" else codes "SimpleSource"
 
 abbrev pub source_markup : SourceValue → Markup
-source_markup s = group (source_name s.complex) [] (both (place_markup s) (scaling_markup s))
+source_markup s = group (source_tag s.complex) [] (both (place_markup s) (scaling_markup s))
 
 abbrev pub sources_markup : List SourceValue → Markup
 sources_markup [] = nothing
@@ -178,7 +182,7 @@ pub record AppendsPairs (old new : List ℕ) (pairs : List Pair) : Type 0 where
 -- the same of what stands before a file's name
 pub record FileOpens (old new : List ℕ) (relative : Bool) : Type 0 where
   pub is : new ≡ old ++ (tag_text 3 (codes "SourceFilename") (pair (codes "relativeToVRT") (flag_text relative) ∷ []) ++
-      62 ∷ [])
+      greater_than ∷ [])
 
 -- the same of a start line
 pub record AppendsTag (old new : List ℕ) (level : ℕ) (name : List ℕ) (pairs : List Pair) : Type 0 where

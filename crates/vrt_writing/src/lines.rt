@@ -3,6 +3,7 @@ ghost use Rattle.std.specs.Prelude.{◌≡◌, ℕ, ℤ, pos, ◌<◌, ◌≤◌
 ghost use Rattle.std.specs.Prelude.{OnErr, unsigned_abs};
 ghost use Rattle.std.specs.Fmt.{decimal, signed_decimal};
 ghost use Rattle.lists_and_answers.specs.Growth.{KeepsFront};
+ghost use Rattle.vrt_profile.specs.Values.{scale_limit};
 ghost use Rattle.vrt_writing.specs.Spelled.{Appends, AppendsPairs, FileOpens, words, indent, escaped};
 ghost use Rattle.vrt_writing.specs.Spelled.{micro_text, part_text, pair, flag_text, file_markup};
 ghost use Rattle.vrt_writing.specs.Spelled.{rectangle_pairs, rectangle_markup, nodata_markup, scale_markup};
@@ -76,7 +77,7 @@ fn push_signed_line(level: usize, name: &[u8], n: i128, out: &mut Vec<u8>) -> Re
 #[tactic(auto, using(crate::proofs::Pieces::words_made, crate::proofs::Pieces::keeps_more, crate::proofs::Pieces::keeps_more_two))]
 fn push_part_line(level: usize, name: &[u8], v: i128, out: &mut Vec<u8>) -> Result<(), AllocError>
     requires level { level ≤ 3 }
-    requires small { unsigned_abs v < 10 ^ 24 }
+    requires small { unsigned_abs v < scale_limit }
     ensures ok { OnOk result (Appends out.old.items out.new.items level (words name.now [] (part_text v))) }
     ensures err { OnErr result (KeepsFront out.old.items out.new.items) }
 {
@@ -107,7 +108,7 @@ pub fn push_nodata(
 /// Appends a number of a scaling, unless it is the one that changes nothing.
 #[tactic(auto, using(crate::proofs::Pieces::scale_nothing, crate::proofs::Pieces::scale_words))]
 pub fn push_scale(name: &[u8], usual: i128, v: i128, out: &mut Vec<u8>) -> Result<(), AllocError>
-    requires small { unsigned_abs v < 10 ^ 24 }
+    requires small { unsigned_abs v < scale_limit }
     ensures ok { OnOk result (Appends out.old.items out.new.items 3 (scale_markup name.now usual v)) }
     ensures err { OnErr result (KeepsFront out.old.items out.new.items) }
 {

@@ -6,7 +6,7 @@ ghost use Rattle.lists_and_answers.specs.Growth.{KeepsFront};
 ghost use Rattle.vrt_profile.specs.Values.{IsPair};
 ghost use Rattle.vrt_writing.specs.Spelled.{Appends, AppendsPairs, AppendsTag, joined_text, lut_pair_text};
 ghost use Rattle.vrt_writing.specs.Spelled.{next_pair_text, source_text, band_text, lut_text, lut_markup, place_markup};
-ghost use Rattle.vrt_writing.specs.Spelled.{scaling_markup, source_name, sources_markup, band_pairs};
+ghost use Rattle.vrt_writing.specs.Spelled.{scaling_markup, source_tag, sources_markup, band_pairs};
 ghost use Rattle.vrt_writing.specs.Spelled.{bands_markup, srs_markup, geo_text, geo_markup, size_pairs};
 ghost use Rattle.vrt_writing.specs.Spelled.{parts_markup, spelled};
 ghost use Rattle.geotransform.specs.Limits.{most_bands};
@@ -119,8 +119,8 @@ fn push_scaling(source: &Source, out: &mut Vec<u8>) -> Result<(), AllocError>
     Ok(())
 }
 
-fn source_name(complex: bool) -> &'static [u8]
-    ensures name { result.now ≡ source_name complex }
+fn source_tag(complex: bool) -> &'static [u8]
+    ensures name { result.now ≡ source_tag complex }
 {
     if complex {
         b"ComplexSource"
@@ -146,7 +146,7 @@ fn push_source(source: &Source, out: &mut Vec<u8>) -> Result<(), AllocError>
     ensures ok { OnOk result (out.new.items ≡ out.old.items ++ source_text source.now) }
     ensures err { OnErr result (KeepsFront out.old.items out.new.items) }
 {
-    let name = source_name(source.complex);
+    let name = source_tag(source.complex);
     push_bare_tag(2, name, out)?;
     push_place(source, out)?;
     push_scaling(source, out)?;

@@ -3,6 +3,7 @@ ghost use Rattle.std.specs.Prelude.{◌≡◌, ℕ, ℤ, pos, suc, ◌<◌, ◌�
 ghost use Rattle.std.specs.Prelude.{OnOk, OnErr, unsigned_abs};
 ghost use Rattle.std.specs.Fmt.{decimal, signed_decimal};
 ghost use Rattle.lists_and_answers.specs.Growth.{KeepsFront};
+ghost use Rattle.vrt_profile.specs.Values.{scale_limit};
 ghost use Rattle.vrt_writing.specs.Spelled.{indent, escape, escaped, end_text, micro_text, part_text};
 
 use geotransform::{Ticks, print_short};
@@ -129,7 +130,7 @@ pub fn push_micro(v: i64, out: &mut Vec<u8>) -> Result<(), AllocError>
 
 // Parts of 10^12 in ticks.
 fn part_ticks(v: i128) -> Ticks
-    requires small { unsigned_abs v < 10 ^ 24 }
+    requires small { unsigned_abs v < scale_limit }
     ensures ticks { result ≡ v *ℤ pos 180000 }
 {
     Ticks::of(v * 180_000)
@@ -137,7 +138,7 @@ fn part_ticks(v: i128) -> Ticks
 
 /// Appends a number of parts of 10^12, without zeros at its end.
 pub fn push_part(v: i128, out: &mut Vec<u8>) -> Result<(), AllocError>
-    requires small { unsigned_abs v < 10 ^ 24 }
+    requires small { unsigned_abs v < scale_limit }
     ensures ok { OnOk result (out.new.items ≡ out.old.items ++ part_text v) }
     ensures err { OnErr result (KeepsFront out.old.items out.new.items) }
 {

@@ -6,7 +6,7 @@ ghost use Rattle.vrt_profile.specs.Fields.{whole_text};
 ghost use Rattle.vrt_markup.specs.Items.{plain_len, item_at, close_tag, Pair, pair_at};
 ghost use Rattle.vrt_markup.specs.Forest.{decoded, nodes, text_of, child_of};
 ghost use Rattle.vrt_writing.specs.Spelled.{escaped, micro_text, part_text, spelled};
-ghost use Rattle.vrt_profile.specs.Values.{DocumentValue, IsDocument};
+ghost use Rattle.vrt_profile.specs.Values.{DocumentValue, IsDocument, scale_limit};
 ghost use Rattle.vrt_profile.specs.Document.{document_of};
 ghost use Rattle.vrt_writing.specs.Reread.{IsTagName, IsValue, words_forest};
 
@@ -37,7 +37,7 @@ pub fn written_words_read_back()
 #[tactic(auto, using(crate::proofs::Places::micro_again, crate::proofs::Places::part_again, crate::proofs::Places::count_again))]
 pub fn written_numbers_read_back()
     ensures micro { (v : ℤ) → unsigned_abs v < 10 ^ 18 → places_of 6 (micro_text v) ≡ Some v }
-    ensures part { (v : ℤ) → unsigned_abs v < 10 ^ 24 → places_of 12 (part_text v) ≡ Some v }
+    ensures part { (v : ℤ) → unsigned_abs v < scale_limit → places_of 12 (part_text v) ≡ Some v }
     ensures whole { (n : ℕ) → n < 10 ^ 9 → whole_text (decimal n) ≡ Some n }
 {}
 

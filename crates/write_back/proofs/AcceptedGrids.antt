@@ -61,7 +61,7 @@ are_rows g samples within = record {
 -- the value of the grid that a text is
 grid_value : (g : GridForm) (samples : ℕ → ℕ → ℕ → ℤ) (read : Transform) (x y : ℕ) → (is : IsGridOf (grid_text g samples) g.size read g.nodata (flattened (rows_of g samples))) → AreRows g.size.w (rows_of g samples) → x < g.size.w → y < g.size.h → ascii.ascii_at (grid_text g samples) x y ≡ samples 0 x y
 grid_value g samples read x y is are column line =
-    ap (λ (r : Result ascii.Grid GridFault). ascii.ascii_in r x y) is.grid
+    ap (λ (r : Result ascii.Grid GridFault). ascii.ascii_by r x y) is.grid
     ∙ ap (λ (l : List ℤ). get_or l (y * g.size.w + x) (pos 0)) (sym (append-nil (flattened (rows_of g samples))))
     ∙ joined_at g.size.w 0 (rows_of g samples) x y are column
     ∙ ap (λ (l : List ℤ). get_or l x (pos 0)) (get_or-map-range_with_len (line_at samples g.size.w) 0 g.size.h y y [] line (zero-add y))

@@ -8,7 +8,7 @@ use Rattle.band_blocks.specs.declared.key.BlockKey.{BlockKey}
 use Rattle.write_back.specs.declared.forms.Writer.{Writer}
 use Rattle.write_back.specs.Forms.{cut_of, under, IsSpot}
 use Rattle.write_back.specs.Overlay.{line_key, held_in, IsBlockWritten}
-use Rattle.write_back.specs.Unwritten.{Marks, is_written, is_zero, is_blank, are_blank, known, IsBlank, AreBlank}
+use Rattle.write_back.specs.Unwritten.{Marks, is_written, is_zero, is_blank_block, are_blank, known, IsBlank, AreBlank}
 
 zero_is : (n : ℤ) → is_zero n ≡ true → n ≡ pos 0
 zero_is (pos zero) h = refl
@@ -27,13 +27,13 @@ all_of f n each = list_all-from_AllPass f (range_with_len 0 n) (λ i d below.
     let less : i < n = omega arith in
     ap f (get_or-range_with_len 0 n i d less ∙ zero-add i) ∙ each i less)
 
-blank_of : (w : Writer) (b : List ℕ) (k v : ℕ) → is_blank w b k v ≡ true → IsBlank w b k v
+blank_of : (w : Writer) (b : List ℕ) (k v : ℕ) → is_blank_block w b k v ≡ true → IsBlank w b k v
 blank_of w b k v all u less =
     let len = length-map-range_with_len (λ i. under w b k i v) 0 (cut_of w).spots in
     sym (get_or-map-range_with_len (λ i. under w b k i v) 0 (cut_of w).spots u u (pos 0) less (zero-add u))
     ∙ zero_is (get_or (held_in w b k v) u (pos 0)) (AllPass-from_list_all is_zero (held_in w b k v) all u (pos 0) (omega arith))
 
-blank_is : (w : Writer) (b : List ℕ) (k v : ℕ) → IsBlank w b k v → is_blank w b k v ≡ true
+blank_is : (w : Writer) (b : List ℕ) (k v : ℕ) → IsBlank w b k v → is_blank_block w b k v ≡ true
 blank_is w b k v each = list_all-from_AllPass is_zero (held_in w b k v) (λ u d below.
     let len = length-map-range_with_len (λ i. under w b k i v) 0 (cut_of w).spots in
     let less : u < (cut_of w).spots = omega arith in
@@ -49,15 +49,15 @@ or_when false b f = f refl
 
 fresh_of : (w : Writer) (m : Marks) (b : List ℕ) → are_blank w m b ≡ true → AreBlank w m b
 fresh_of w m b all k v band block none =
-    blank_of w b k v (or_else (is_written m k v) (is_blank w b k v)
-    (each_of (λ v. is_written m k v || is_blank w b k v) (cut_of w).blocks v
-    (each_of (λ k. list_all (λ v. is_written m k v || is_blank w b k v) (range_with_len 0 (cut_of w).blocks)) (cut_of w).bands k all band) block) none)
+    blank_of w b k v (or_else (is_written m k v) (is_blank_block w b k v)
+    (each_of (λ v. is_written m k v || is_blank_block w b k v) (cut_of w).blocks v
+    (each_of (λ k. list_all (λ v. is_written m k v || is_blank_block w b k v) (range_with_len 0 (cut_of w).blocks)) (cut_of w).bands k all band) block) none)
 
 fresh_is : (w : Writer) (m : Marks) (b : List ℕ) → AreBlank w m b → are_blank w m b ≡ true
 fresh_is w m b each =
-    all_of (λ k. list_all (λ v. is_written m k v || is_blank w b k v) (range_with_len 0 (cut_of w).blocks)) (cut_of w).bands
-    (λ k band. all_of (λ v. is_written m k v || is_blank w b k v) (cut_of w).blocks
-    (λ v block. or_when (is_written m k v) (is_blank w b k v) (λ none. blank_is w b k v (each k v band block none))))
+    all_of (λ k. list_all (λ v. is_written m k v || is_blank_block w b k v) (range_with_len 0 (cut_of w).blocks)) (cut_of w).bands
+    (λ k band. all_of (λ v. is_written m k v || is_blank_block w b k v) (cut_of w).blocks
+    (λ v block. or_when (is_written m k v) (is_blank_block w b k v) (λ none. blank_is w b k v (each k v band block none))))
 
 -- what is known is told, and its unwritten blocks are zeros
 pub known_of : (w : Writer) (m : Marks) (d : Option (List ℕ)) (b : List ℕ) → known w m d ≡ Some b → (d ≡ Some b) × AreBlank w m b

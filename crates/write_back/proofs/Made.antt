@@ -12,7 +12,7 @@ use Rattle.write_back.specs.declared.forms.Writer.{Writer}
 use Rattle.write_back.specs.declared.forms.Writer.TheVariants.{Raw, Hgt, Dted}
 use Rattle.write_back.specs.declared.rows.GridForm.{GridForm}
 use Rattle.write_back.specs.Columns.{Cell, cell_of}
-use Rattle.write_back.specs.Forms.{bands_in, block_of, cut_of, needed_of, plane_of, spot_of, under, IsFormed, IsSpot}
+use Rattle.write_back.specs.Forms.{band_total, block_of, cut_of, needed_of, plane_of, spot_of, under, IsFormed, IsSpot}
 use Rattle.write_back.specs.Grids.{front_of, grid_in, HasRows}
 use Rattle.write_back.specs.Overlay.{overlay}
 use Rattle.write_back.specs.Pieces.{spot_place, AreBytes}
@@ -46,7 +46,7 @@ made w v told pool capacity draft len name header bytes same valid empty form lo
 -- and shows what the draft's bytes hold
 pub shows : (w v : Writer) (pool : PoolView) (capacity : ℕ) (draft : Option (List ℕ)) (bytes : List ℕ) → v ≡ w → pool ≡ pool_view [] capacity → draft ≡ Some bytes → ((k u n : ℕ) → IsSpot w k u n → under w bytes k u n ≡ pos 0) → (k x y : ℕ) → IsIn (Blocks v) k x y → shown_on (Blocks v) pool draft k x y ≡ pos 0
 shows w v pool capacity draft bytes same empty is none = subst (λ u. (k x y : ℕ) → IsIn (Blocks u) k x y → shown_on (Blocks u) pool draft k x y ≡ pos 0) (sym same)
-    (λ k x y place. ap (λ (p : PoolView). shown_on (Blocks w) p draft k x y) empty ∙ ap (λ d. shown_on (Blocks w) (pool_view [] capacity) d k x y) is ∙ none (plane_of (cut_of w).woven k) (spot_of (cut_of w).by_columns (cut_of w).woven (bands_in w) k x y) (block_of (cut_of w).by_columns x y) (spot_is w k x y (pixel_of w k x y place)))
+    (λ k x y place. ap (λ (p : PoolView). shown_on (Blocks w) p draft k x y) empty ∙ ap (λ d. shown_on (Blocks w) (pool_view [] capacity) d k x y) is ∙ none (plane_of (cut_of w).woven k) (spot_of (cut_of w).by_columns (cut_of w).woven (band_total w) k x y) (block_of (cut_of w).by_columns x y) (spot_is w k x y (pixel_of w k x y place)))
 
 pub raw_zero : (h : Head) (n : ℕ) → IsHead h → n ≡ raw.needed_of h → (k u v : ℕ) → IsSpot (Raw h) k u v → under (Raw h) (replicate n 0) k u v ≡ pos 0
 raw_zero h n is long k u v spot = zero_sample h n (spot_place h k u v) (let last = spot_ends h k u v is (line_spot h k u v spot) in omega arith)

@@ -11,7 +11,7 @@ use Rattle.outside.specs.Outside.{put_at}
 use Rattle.geotransform.specs.declared.types.PixelType.{PixelType}
 use Rattle.geotransform.proofs.Ranges.{bytes_bounds}
 use Rattle.esri_hdr.specs.Head.{Head, IsHead, sample_len}
-use Rattle.interleaved_raw.specs.Raw.{needed_of, sample_at, value_of, number_in, run_of, Holds}
+use Rattle.interleaved_raw.specs.Raw.{needed_of, sample_at, value_of, number_in, strided_at, Holds}
 use Rattle.lists_and_answers.specs.Places.{StandsAt}
 use Rattle.lists_and_answers.proofs.Stands.{stands-part}
 use Rattle.catalog.specs.Places.{steps_over}
@@ -125,17 +125,17 @@ run_within h band x y n is has_band some spots has_line =
     omega arith
 
 -- a sample of a run that stands in a file is the one that stands there in its line
-pub spot_stands : (h : Head) (file bytes : List ℕ) (band x y n i : ℕ) → length bytes ≡ n * sample_len h.kind → i < n → StandsAt file bytes (spot_place h band x y) → run_of (plain_of h) bytes i ≡ spot_at h file band (x + i) y
+pub spot_stands : (h : Head) (file bytes : List ℕ) (band x y n i : ℕ) → length bytes ≡ n * sample_len h.kind → i < n → StandsAt file bytes (spot_place h band x y) → strided_at (plain_of h) bytes i ≡ spot_at h file band (x + i) y
 spot_stands h file bytes band x y n i len less stands =
     let fits = in_run (sample_len h.kind) n i less in
     ap (λ (l : List ℕ). value_of h.kind (number_in h.big (sample_len h.kind) l)) (stands-part file bytes (spot_place h band x y) (i * sample_len h.kind) (sample_len h.kind) (omega arith) stands)
     ∙ ap (λ k. sample_at h (drop k file)) (sym (behind h band x y i))
 
 -- so are those of a run
-pub run_stands : (h : Head) (file bytes : List ℕ) (band x y n : ℕ) → length bytes ≡ n * sample_len h.kind → StandsAt file bytes (spot_place h band x y) → map (run_of (plain_of h) bytes) (range_with_len 0 n) ≡ spots_from h file band x y n
+pub run_stands : (h : Head) (file bytes : List ℕ) (band x y n : ℕ) → length bytes ≡ n * sample_len h.kind → StandsAt file bytes (spot_place h band x y) → map (strided_at (plain_of h) bytes) (range_with_len 0 n) ≡ spots_from h file band x y n
 run_stands h file bytes band x y n len stands =
-    fill_by_all (λ i. spot_at h file band (x + i) y) (map (run_of (plain_of h) bytes) (range_with_len 0 n)) n (pos 0) (length-map-range_with_len (run_of (plain_of h) bytes) 0 n)
-    (λ k below. get_or-map-range_with_len (run_of (plain_of h) bytes) 0 n k k (pos 0) below (zero-add k) ∙ spot_stands h file bytes band x y n k len below stands)
+    fill_by_all (λ i. spot_at h file band (x + i) y) (map (strided_at (plain_of h) bytes) (range_with_len 0 n)) n (pos 0) (length-map-range_with_len (strided_at (plain_of h) bytes) 0 n)
+    (λ k below. get_or-map-range_with_len (strided_at (plain_of h) bytes) 0 n k k (pos 0) below (zero-add k) ∙ spot_stands h file bytes band x y n k len below stands)
 
 -- a piece of a line that was written
 module _ (h : Head) (band x y n : ℕ) (b ys : List ℕ) (is : IsHead h) (has_band : band < planes_of h) (some : 0 < n) (spots : x + n ≤ spots_of h) (has_line : y < h.size.h) (long : length b ≡ needed_of h) (len : length ys ≡ n * sample_len h.kind) where
@@ -167,7 +167,7 @@ module _ (h : Head) (band x y n : ℕ) (b ys : List ℕ) (is : IsHead h) (has_ba
       (cases_lt (spot_place h k u v + i) (spot_place h band x y + length ys)))
       (cases_lt (spot_place h k u v + i) (spot_place h band x y))
 
-  pub piece_written : (line xs : List ℤ) → AreBytes ys → xs ≡ take n (drop x line) → map (run_of (plain_of h) ys) (range_with_len 0 n) ≡ xs → IsRunWritten h band y x n line b (put_at (spot_place h band x y) ys b)
+  pub piece_written : (line xs : List ℤ) → AreBytes ys → xs ≡ take n (drop x line) → map (strided_at (plain_of h) ys) (range_with_len 0 n) ≡ xs → IsRunWritten h band y x n line b (put_at (spot_place h band x y) ys b)
   piece_written line xs bytes part encoded = record {
     len = put_len (spot_place h band x y) ys b within;
     small = λ old. put_small (spot_place h band x y) ys b within old bytes;
@@ -177,7 +177,7 @@ module _ (h : Head) (band x y n : ℕ) (b ys : List ℕ) (is : IsHead h) (has_ba
         let e : x + (u - x) ≡ u = omega arith in
         ap (λ c. spot_at h (put_at (spot_place h band x y) ys b) band c y) (sym e)
         ∙ sym (spot_stands h (put_at (spot_place h band x y) ys b) ys band x y n (u - x) len below (put_stands (spot_place h band x y) ys b within))
-        ∙ sym (get_or-map-range_with_len (run_of (plain_of h) ys) 0 n (u - x) (u - x) (pos 0) below (zero-add (u - x)))
+        ∙ sym (get_or-map-range_with_len (strided_at (plain_of h) ys) 0 n (u - x) (u - x) (pos 0) below (zero-add (u - x)))
         ∙ ap (λ (l : List ℤ). get_or l (u - x) (pos 0)) (encoded ∙ part)
         ∙ get_or-take n (drop x line) (u - x) (pos 0) below
         ∙ get_or-drop x line (u - x) (pos 0)

@@ -8,7 +8,7 @@ use Rattle.outside.specs.Outside.{Files}
 use Rattle.block_cache.specs.Entries.{PoolView, pool_view}
 use Rattle.write_back.specs.declared.forms.Writer.{Writer}
 use Rattle.write_back.specs.declared.forms.Writer.TheVariants.{Raw, Hgt, Dted}
-use Rattle.write_back.specs.Forms.{bands_in, cut_of, seen, HasPixel, most_calls}
+use Rattle.write_back.specs.Forms.{band_total, cut_of, seen, HasPixel, most_calls}
 use Rattle.write_back.specs.Overlay.{overlay, AreSame, IsOverlaid, IsWindow, Stays, WasMet}
 use Rattle.write_back.specs.State.{StoreState, AreMet, Changes, HasDraft, IsRight, IsSound, Serves, lines_met}
 use Rattle.write_back.specs.View.{Output, Blocks, Rows, SheetView, all_blocks, calls_of, columns_of, is_writable, shown_on, seen_in, AreWritable, Finishes, IsIn, IsMetOn, IsNext, Keeps, Meets, Puts}
@@ -73,7 +73,7 @@ module _ (w : Writer) where
       subst (λ k. WasMet w t.pool.entries c k x) none (subst (λ v. WasMet w t.pool.entries c band v) e (met.each has.0 c has.1 is (x - rect.x) (omega arith)))
 
 -- what a window meets, by the parts of a sheet that it needs
-pub meets_of : (w : Writer) (P : (ℕ → ℕ → ℕ → ℤ) → (ℕ → ℕ → ℕ → ℤ) → Type 0) (band : ℕ) (rect : Rect) (s t : StoreState) (old new : SheetView) → IsRight w s.told s.len s.draft s.pool → Changes w P s t → IsSome s.told → band < bands_in w
+pub meets_of : (w : Writer) (P : (ℕ → ℕ → ℕ → ℤ) → (ℕ → ℕ → ℕ → ℤ) → Type 0) (band : ℕ) (rect : Rect) (s t : StoreState) (old new : SheetView) → IsRight w s.told s.len s.draft s.pool → Changes w P s t → IsSome s.told → band < band_total w
     → ((cut_of w).by_columns ≡ true → AreMet w band rect.x rect.w s t) → old.pool ≡ s.pool → old.draft ≡ s.draft → new.pool ≡ t.pool → new.draft ≡ t.draft → Meets (Blocks w) rect old new
 meets_of (Raw h) P band rect s t old new right changed some less met a b c d = record { stays = λ x column was e is. inl tt; here = λ high x left inside e is. inl tt }
 meets_of (Hgt side) P band rect s t old new right changed some less met a b c d = record { stays = λ x column was e is. inl tt; here = λ high x left inside e is. inl tt }
@@ -130,7 +130,7 @@ module _ (w : Writer) where
     calls = calls_apart (most_calls w) s.calls t.calls s.writes t.writes a.writes a.calls;
   }
 
-  pub blocks_put : (band : ℕ) (rect : Rect) (samples : List ℤ) (s t : StoreState) → IsRight w s.told s.len s.draft s.pool → band < bands_in w → t.told ≡ s.told → Changes w (IsWindow w band rect samples) s t → ((cut_of w).by_columns ≡ true → AreMet w band rect.x rect.w s t)
+  pub blocks_put : (band : ℕ) (rect : Rect) (samples : List ℤ) (s t : StoreState) → IsRight w s.told s.len s.draft s.pool → band < band_total w → t.told ≡ s.told → Changes w (IsWindow w band rect samples) s t → ((cut_of w).by_columns ≡ true → AreMet w band rect.x rect.w s t)
       → Puts band rect samples s.told t.told (blocks_at s) (blocks_at t)
   blocks_put band rect samples s t right less told changed met = record {
     right = right_after w (IsWindow w band rect samples) s t right told changed;
@@ -155,7 +155,7 @@ kept_of w w' rect s t old new is now same a =
     subst (λ v. Keeps rect v new s.told t.told s.reads t.reads s.calls t.calls s.writes t.writes) is
     (subst (λ v. Keeps rect (blocks_at w s) v s.told t.told s.reads t.reads s.calls t.calls s.writes t.writes) (ap (λ u. blocks_at u t) (sym same) ∙ now) (blocks_kept w rect s t a))
 
-pub put_of : (w w' : Writer) (band : ℕ) (rect : Rect) (samples : List ℤ) (s t : StoreState) (old new : SheetView) → blocks_at w s ≡ old → blocks_at w' t ≡ new → w' ≡ w → IsRight w s.told s.len s.draft s.pool → band < bands_in w → t.told ≡ s.told
+pub put_of : (w w' : Writer) (band : ℕ) (rect : Rect) (samples : List ℤ) (s t : StoreState) (old new : SheetView) → blocks_at w s ≡ old → blocks_at w' t ≡ new → w' ≡ w → IsRight w s.told s.len s.draft s.pool → band < band_total w → t.told ≡ s.told
     → Changes w (IsWindow w band rect samples) s t → ((cut_of w).by_columns ≡ true → AreMet w band rect.x rect.w s t) → Puts band rect samples s.told t.told old new
 put_of w w' band rect samples s t old new is now same right less told changed met =
     subst (λ v. Puts band rect samples s.told t.told v new) is

@@ -8,7 +8,7 @@ use Rattle.std.proofs.lemmas.List.{length-map}
 use Rattle.lists_and_answers.specs.Options.{◌>>=◌}
 use Rattle.lists_and_answers.specs.Texts.{same_letters}
 use Rattle.geotransform.specs.Print.{letter_of, two_digits, three_digits}
-use Rattle.hgt_tiles.specs.Names.{Place, IsPlace, side_of, degrees_in, corner_of, name_of}
+use Rattle.hgt_tiles.specs.Names.{Place, IsPlace, hemisphere_of, degrees_in, corner_of, name_of}
 use Rattle.hgt_tiles.proofs.Named.{name_again}
 
 -- a character that differs from a digit at most by its case is the digit
@@ -16,16 +16,16 @@ digit_same : (c d : ℕ) → to_ascii_lowercase c ≡ to_ascii_lowercase (48 + d
 digit_same c d e = grind (arith, nat_tests)
 
 -- one that differs from a letter at most by its case tells the same side
-north_same : (c : ℕ) (degrees : ℤ) → to_ascii_lowercase c ≡ to_ascii_lowercase (letter_of 78 83 degrees) → side_of 78 83 c ≡ side_of 78 83 (letter_of 78 83 degrees)
+north_same : (c : ℕ) (degrees : ℤ) → to_ascii_lowercase c ≡ to_ascii_lowercase (letter_of 78 83 degrees) → hemisphere_of 78 83 c ≡ hemisphere_of 78 83 (letter_of 78 83 degrees)
 north_same c (pos n) e = grind (arith, nat_tests)
 north_same c (negsuc n) e = grind (arith, nat_tests)
 
-east_same : (c : ℕ) (degrees : ℤ) → to_ascii_lowercase c ≡ to_ascii_lowercase (letter_of 69 87 degrees) → side_of 69 87 c ≡ side_of 69 87 (letter_of 69 87 degrees)
+east_same : (c : ℕ) (degrees : ℤ) → to_ascii_lowercase c ≡ to_ascii_lowercase (letter_of 69 87 degrees) → hemisphere_of 69 87 c ≡ hemisphere_of 69 87 (letter_of 69 87 degrees)
 east_same c (pos n) e = grind (arith, nat_tests)
 east_same c (negsuc n) e = grind (arith, nat_tests)
 
 -- degrees by the side that a letter tells
-degrees_same : (up down limit c d : ℕ) (digits : List ℕ) → side_of up down c ≡ side_of up down d → degrees_in up down limit (c ∷ digits) ≡ degrees_in up down limit (d ∷ digits)
+degrees_same : (up down limit c d : ℕ) (digits : List ℕ) → hemisphere_of up down c ≡ hemisphere_of up down d → degrees_in up down limit (c ∷ digits) ≡ degrees_in up down limit (d ∷ digits)
 unfolding degrees_in
 degrees_same up down limit c d digits e = rw e refl
 
@@ -33,7 +33,7 @@ abbrev place : ℤ → ℤ → Place
 place lat lon = record { lat = lat; lon = lon }
 
 front_same : (p : Place) (a0 a1 a2 a3 a4 a5 a6 : ℕ) (rest : List ℕ) → (a1 ∷ a2 ∷ []) ≡ two_digits (unsigned_abs p.lat) → (a4 ∷ a5 ∷ a6 ∷ []) ≡ three_digits (unsigned_abs p.lon)
-    → side_of 78 83 a0 ≡ side_of 78 83 (letter_of 78 83 p.lat) → side_of 69 87 a3 ≡ side_of 69 87 (letter_of 69 87 p.lon)
+    → hemisphere_of 78 83 a0 ≡ hemisphere_of 78 83 (letter_of 78 83 p.lat) → hemisphere_of 69 87 a3 ≡ hemisphere_of 69 87 (letter_of 69 87 p.lon)
     → nat_lt (length (a0 ∷ a1 ∷ a2 ∷ a3 ∷ a4 ∷ a5 ∷ a6 ∷ rest)) 7 ≡ false
     → corner_of (a0 ∷ a1 ∷ a2 ∷ a3 ∷ a4 ∷ a5 ∷ a6 ∷ rest) ≡ corner_of (name_of p)
 unfolding corner_of

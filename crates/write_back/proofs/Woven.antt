@@ -10,7 +10,7 @@ use Rattle.interleaved_raw.proofs.Apart.{apart}
 use Rattle.interleaved_raw.proofs.Order.{further, ends_within}
 use Rattle.write_back.specs.declared.forms.Writer.{Writer}
 use Rattle.write_back.specs.declared.forms.Writer.TheVariants.{Raw, Hgt, Dted}
-use Rattle.write_back.specs.Forms.{bands_in, block_of, cut_of, height_of, lane_of, plane_of, seen, seen_by, spot_of, under, width_of, HasPixel, IsSpot}
+use Rattle.write_back.specs.Forms.{band_total, block_of, cut_of, height_of, lane_of, plane_of, seen, seen_by, spot_of, under, width_of, HasPixel, IsSpot}
 use Rattle.write_back.specs.Overlay.{line_rect, IsOverlaid, IsPut, IsWindow}
 use Rattle.write_back.specs.Pieces.{is_woven, lane_in, planes_by, planes_of, spot_place, spots_by, spots_of, IsLineSpot}
 
@@ -97,7 +97,7 @@ raw_spot Bip width bands k x y band column =
     r
 raw_spot Bsq width bands k x y band column = column
 
-pub spot_is : (w : Writer) (k x y : ℕ) → HasPixel w k x y → IsSpot w (plane_of (cut_of w).woven k) (spot_of (cut_of w).by_columns (cut_of w).woven (bands_in w) k x y) (block_of (cut_of w).by_columns x y)
+pub spot_is : (w : Writer) (k x y : ℕ) → HasPixel w k x y → IsSpot w (plane_of (cut_of w).woven k) (spot_of (cut_of w).by_columns (cut_of w).woven (band_total w) k x y) (block_of (cut_of w).by_columns x y)
 spot_is (Raw h) k x y is = record { band = raw_plane h.layout h.bands k is.band; spot = raw_spot h.layout h.size.w h.bands k x y is.band is.column; block = is.line }
 spot_is (Hgt side) k x y is = record { band = is.band; spot = is.column; block = is.line }
 spot_is (Dted c) k x y is = record { band = is.band; spot = is.line; block = is.column }
@@ -112,7 +112,7 @@ raw_lane Bip width bands band x n i less within below =
     r
 raw_lane Bsq width bands band x n i less within below = (let r : x + i * 1 < width = omega arith in r)
 
-pub lane_room : (w : Writer) (band x n : ℕ) → (cut_of w).by_columns ≡ false → band < bands_in w → x + n ≤ width_of w → (i : ℕ) → i < n → (lane_of w band x).start + i * (lane_of w band x).stride < (cut_of w).spots
+pub lane_room : (w : Writer) (band x n : ℕ) → (cut_of w).by_columns ≡ false → band < band_total w → x + n ≤ width_of w → (i : ℕ) → i < n → (lane_of w band x).start + i * (lane_of w band x).stride < (cut_of w).spots
 lane_room (Raw h) band x n lines less within i below = raw_lane h.layout h.size.w h.bands band x n i less within below
 lane_room (Hgt side) band x n lines less within i below = (let r : x + i * 1 < side = omega arith in r)
 lane_room (Dted c) band x n lines less within i below = absurd (let clash : true ≡ false = lines in cc)
@@ -122,7 +122,7 @@ raw_band Bil bands band x less = less
 raw_band Bip bands band x less = (let one : 0 < 1 = omega arith in one)
 raw_band Bsq bands band x less = less
 
-pub lane_band : (w : Writer) (band x : ℕ) → band < bands_in w → (lane_of w band x).band < (cut_of w).bands
+pub lane_band : (w : Writer) (band x : ℕ) → band < band_total w → (lane_of w band x).band < (cut_of w).bands
 lane_band (Raw h) band x less = raw_band h.layout h.bands band x less
 lane_band (Hgt side) band x less = less
 lane_band (Dted c) band x less = less
@@ -131,8 +131,8 @@ lane_by : (woven : Bool) (bands band x : ℕ) → band < bands → 0 < (lane_in 
 lane_by true bands band x less = (let r : 0 < bands = omega arith in r)
 lane_by false bands band x less = (let one : 0 < 1 = omega arith in one)
 
-pub lane_some : (w : Writer) (band x : ℕ) → band < bands_in w → 0 < (lane_of w band x).stride
-lane_some w band x less = lane_by (cut_of w).woven (bands_in w) band x less
+pub lane_some : (w : Writer) (band x : ℕ) → band < band_total w → 0 < (lane_of w band x).stride
+lane_some w band x less = lane_by (cut_of w).woven (band_total w) band x less
 
 -- a run of a band's pixels is a window of one line
 woven_put : (w : Writer) (woven : Bool) (bands band x y : ℕ) (line : List ℤ) (old new : ℕ → ℕ → ℕ → ℤ) → ((k a b : ℕ) → HasPixel w k a b → IsSpot w (plane_of woven k) (spot_of false woven bands k a b) b) → ((k a b : ℕ) → HasPixel w k a b → k < bands) → band < bands
@@ -164,7 +164,7 @@ woven_put w true bands band x y line old new spot within has_band put = record {
       apart_from (record { band_is = band_same; left = omega arith; right = omega arith; top = omega arith; bottom = omega arith }));
 }
 
-pub lane_put : (w : Writer) (band x y : ℕ) (line : List ℤ) (old new : ℕ → ℕ → ℕ → ℤ) → (cut_of w).by_columns ≡ false → band < bands_in w → IsPut w (lane_of w band x) y line old new → IsWindow w band (line_rect x y (length line)) line old new
+pub lane_put : (w : Writer) (band x y : ℕ) (line : List ℤ) (old new : ℕ → ℕ → ℕ → ℤ) → (cut_of w).by_columns ≡ false → band < band_total w → IsPut w (lane_of w band x) y line old new → IsWindow w band (line_rect x y (length line)) line old new
 lane_put (Raw h) band x y line old new lines less put = woven_put (Raw h) (is_woven h.layout) h.bands band x y line old new (λ k a b place. spot_is (Raw h) k a b place) (λ k a b place. place.band) less put
 lane_put (Hgt side) band x y line old new lines less put = woven_put (Hgt side) false 1 band x y line old new (λ k a b place. spot_is (Hgt side) k a b place) (λ k a b place. place.band) less put
 lane_put (Dted c) band x y line old new lines less put = absurd (let clash : true ≡ false = lines in cc)
@@ -176,7 +176,7 @@ lines_cut (Hgt side) lines = refl
 lines_cut (Dted c) lines = absurd (let clash : true ≡ false = lines in cc)
 
 pub record AreColumnsCut (w : Writer) : Type 0 where
-  pub bands : (cut_of w).bands ≡ bands_in w
+  pub bands : (cut_of w).bands ≡ band_total w
   pub blocks : (cut_of w).blocks ≡ width_of w
   pub spots : (cut_of w).spots ≡ height_of w
 

@@ -13,6 +13,7 @@ pub record Cell : Type 0 where
   pub head : Head
   pub front : List ℕ
 
+-- a cell of a head, with the bytes in front of its records
 abbrev pub cell_of : Head → List ℕ → Cell
 cell_of head front = record { head = head; front = front }
 

@@ -33,6 +33,7 @@ IsTightBy Bil h = (h.band_row ≡ h.size.w * sample_len h.kind) × (h.total_row 
 IsTightBy Bip h = h.total_row ≡ h.size.w * h.bands * sample_len h.kind
 IsTightBy Bsq h = h.gap ≡ 0
 
+-- nothing but samples stands in raw data of a head
 pub record IsTight (h : Head) : Type 0 where
   pub skip : h.skip ≡ 0
   pub rows : IsTightBy h.layout h
@@ -79,6 +80,7 @@ cell_bytes c samples =
 abbrev pub grid_text : GridForm → (ℕ → ℕ → ℕ → ℤ) → List ℕ
 grid_text g samples = front_of g ++ lines_text (map (line_at samples g.size.w) (range_with_len 0 g.size.h))
 
+-- the bytes of an output that is written in blocks
 abbrev pub block_bytes : Writer → (ℕ → ℕ → ℕ → ℤ) → List ℕ
 block_bytes (Raw h) samples = raw_bytes h samples
 block_bytes (Hgt side) samples = tile_bytes side samples
@@ -95,15 +97,17 @@ header_text (Raw h) = Some (hdr_text h)
 header_text (Hgt side) = None
 header_text (Dted c) = None
 
+-- the text of the header beside an output, where it has one
 abbrev pub header_in : Output → Option (List ℕ)
 header_in (Blocks w) = header_text w
 header_in (Rows g) = None
 
--- the names and the bytes of an output's files: its data, then its header where it has one
+-- the name and the bytes of the header's file, where there is a header
 abbrev pub header_file : Option (List ℕ) → List ℕ → List (List ℕ × List ℕ)
 header_file None name = []
 header_file (Some text) name = (header_of name, text) ∷ []
 
+-- the names and the bytes of an output's files: its data, then its header where it has one
 abbrev pub files_of : Output → List ℕ → (ℕ → ℕ → ℕ → ℤ) → List (List ℕ × List ℕ)
 files_of o name samples = (name, bytes_of o samples) ∷ header_file (header_in o) name
 
@@ -154,6 +158,7 @@ abbrev pub files_with : {T : Type 0} → Option T → ℕ
 files_with None = 1
 files_with (Some x) = 2
 
+-- how many files an answer says are published, of the data and a header where there is one
 abbrev pub published_by : {T : Type 0} → Option T → Result (Unit {0}) CloseFault → ℕ
 published_by header (Ok x) = files_with header
 published_by header (Err e) = e.published
@@ -164,6 +169,7 @@ IsBlockForm (Raw h) = IsHead h × IsTight h
 IsBlockForm (Hgt side) = IsSide side
 IsBlockForm (Dted c) = length c.front ≡ record_of c.head 0
 
+-- what the form of an output keeps
 abbrev pub IsForm : Output → Type 0
 IsForm (Blocks w) = IsBlockForm w
 IsForm (Rows g) = IsRaster g.size
@@ -187,18 +193,19 @@ pub record HasBytes (told : Option Files) (old : SheetView) (draft : Option (Lis
   pub all : IsSome told → IsForm old.output → IsWholeOn old.output old →
       draft ≡ Some (bytes_of old.output (shown_on old.output old.pool old.draft))
 
+-- a target is whole, so it may be closed
 abbrev pub IsWhole : TargetView → Type 0
 IsWhole t = IsWholeOn t.output (sheet_in t)
 
 -- the files of a target
-abbrev pub files_in : TargetView → List (List ℕ × List ℕ)
-files_in t = files_of t.output t.name (shown t)
+abbrev pub target_files : TargetView → List (List ℕ × List ℕ)
+target_files t = files_of t.output t.name (shown t)
 
 -- over a folder that tells its names, where a target was whole, the first published of its files were put under their
 -- names, and all other names keep their bytes
 abbrev pub Publishes : Option Files → TargetView → Result (Unit {0}) CloseFault → Option Files → Type 0
 Publishes old t result new = (m : Files) → old ≡ Some m → (t.fault ≡ None → IsWhole t) →
-    new ≡ Some (with_files (take (published_of (length (files_in t)) result) (files_in t)) m)
+    new ≡ Some (with_files (take (published_of (length (target_files t)) result) (target_files t)) m)
 
 -- the bytes have the length that an output must have, hold these samples, and tell of each block that was met
 pub record HasSamples (w : Writer) (samples : ℕ → ℕ → ℕ → ℤ) (met : ℕ → ℕ → Type 0) (bytes : List ℕ) : Type 0 where

@@ -24,6 +24,7 @@ abbrev pub grid_at : GridForm → List ℕ → ℕ → ℕ → ℤ
 grid_at g bytes x y =
     get_or (row_of (g.size.w * g.size.h) (drop (length (front_of g)) bytes)) (y * g.size.w + x) (pos 0)
 
+-- the sample of a grid's draft, and 0 where its bytes aren't told
 abbrev pub grid_in : GridForm → Option (List ℕ) → ℕ → ℕ → ℤ
 grid_in g None x y = pos 0
 grid_in g (Some bytes) x y = grid_at g bytes x y

@@ -24,6 +24,7 @@ planes_by Bil bands = bands
 planes_by Bip bands = 1
 planes_by Bsq bands = bands
 
+-- how many bands of a head have lines of their own
 abbrev pub planes_of : Head → ℕ
 planes_of h = planes_by h.layout h.bands
 
@@ -33,6 +34,7 @@ spots_by Bil width bands = width
 spots_by Bip width bands = width * bands
 spots_by Bsq width bands = width
 
+-- how many samples a line of a head has that is written as one block
 abbrev pub spots_of : Head → ℕ
 spots_of h = spots_by h.layout h.size.w h.bands
 

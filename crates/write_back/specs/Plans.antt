@@ -38,6 +38,7 @@ output_by SrtmHgt p = Some (Blocks (writers.Hgt p.size.w))
 output_by AaiGrid p = Some (Rows (grid_form p))
 output_by Vrt p = None
 
+-- what a plan writes, if it has samples of its own
 abbrev pub output_of : Planned → Option Output
 output_of p = output_by p.driver p
 

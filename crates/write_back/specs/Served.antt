@@ -5,12 +5,12 @@ use Rattle.outside.specs.declared.folder.Folder.{Ghosts}
 use Rattle.outside.specs.Outside.{Files}
 use Rattle.write_back.specs.View.{SheetView, Keeps, Finishes}
 
--- a window does this, whatever it answers
+-- what a window does to an output's data and its folder, whatever it answers, by what the folder tells
 abbrev pub KeepsIn : {F File D : Type 0} → Ghosts F File D → Rect → F → SheetView → ℕ → F → SheetView → ℕ → Type 0
 KeepsIn calls rect folder old w folder' new w' = Keeps rect old new (calls.names folder) (calls.names folder')
     (calls.read_calls folder) (calls.read_calls folder') (calls.write_calls folder) (calls.write_calls folder') w w'
 
--- the last writing does this, whatever it answers
+-- the same of the last writing
 abbrev pub FinishesIn : {F File D : Type 0} → Ghosts F File D → F → SheetView → ℕ → F → SheetView → ℕ → Type 0
 FinishesIn calls folder old w folder' new w' = Finishes old new (calls.names folder) (calls.names folder')
     (calls.read_calls folder) (calls.read_calls folder') (calls.write_calls folder) (calls.write_calls folder') w w'
@@ -21,6 +21,7 @@ pub record IsLeft (told told' : Option Files) (r r' c c' : ℕ) : Type 0 where
   pub reads : r' ≡ r
   pub calls : c' ≡ c
 
+-- what new drafts leave of a folder as it was
 abbrev pub IsLeftIn : {F File D : Type 0} → Ghosts F File D → F → F → Type 0
 IsLeftIn calls folder folder' = IsLeft (calls.names folder) (calls.names folder') (calls.read_calls folder)
     (calls.read_calls folder') (calls.write_calls folder) (calls.write_calls folder')

@@ -8,14 +8,15 @@ use Rattle.write_back.specs.Forms.{cut_of, needed_of, most_calls, IsFormed}
 use Rattle.write_back.specs.Overlay.{overlay, AreLines, AreKept, Stays, WasMet}
 
 -- the number of blocks of all bands
-abbrev pub lines_of : Writer → ℕ
-lines_of w = (cut_of w).bands * (cut_of w).blocks
+abbrev pub block_total : Writer → ℕ
+block_total w = (cut_of w).bands * (cut_of w).blocks
 
 -- the blocks that a rectangle meets
 abbrev pub blocks_met : Bool → Rect → ℕ
 blocks_met by_columns rect = if by_columns then (if rect.h == 0 then 0 else rect.w)
     else (if rect.w == 0 then 0 else rect.h)
 
+-- how many blocks of an output a rectangle meets
 abbrev pub lines_met : Writer → Rect → ℕ
 lines_met w rect = blocks_met (cut_of w).by_columns rect
 
@@ -31,6 +32,7 @@ pub record StoreState : Type 0 where
   pub calls : ℕ
   pub writes : ℕ
 
+-- a store at one moment, of these parts
 abbrev pub store_state : Option Files → PoolView → Option (List ℕ) → ℕ → List ℕ → ℕ → ℕ → ℕ → ℕ → StoreState
 store_state told pool draft len name faults reads calls writes = record {
   told = told;
@@ -44,12 +46,13 @@ store_state told pool draft len name faults reads calls writes = record {
   writes = writes;
 }
 
--- what always holds of a pool of lines, also over a folder that tells nothing
+-- what always holds of a pool of blocks, also over a folder that tells nothing
 pub record IsSound (w : Writer) (pool : PoolView) : Type 0 where
   pub valid : IsPool pool
   pub lines : AreLines w pool.entries
 
--- the draft has these bytes, which are as many as the raster's data, and held clean lines are what they hold
+-- the draft has these bytes, which are as many as the raster's data, and the clean blocks of the pool are what they
+-- hold
 pub record HasDraft (w : Writer) (pool : PoolView) (draft : Option (List ℕ)) (bytes : List ℕ) : Type 0 where
   pub is : draft ≡ Some bytes
   pub long : length bytes ≡ needed_of w
@@ -64,7 +67,7 @@ pub record IsRight (w : Writer) (told : Option Files) (len : ℕ) (draft : Optio
     pub holds : (m : Files) → told ≡ Some m → (b : List ℕ) × HasDraft w pool draft b
 
 -- What each call does to a pool and a draft, whatever it answers. At most n blocks are written, and at most `slack`
--- where the pool has room for all lines; none of them takes more calls than the most that a line needs.
+-- where the pool has room for all blocks; none of them takes more calls than the most that a block needs.
 pub record Serves (w : Writer) (n slack : ℕ) (before after : StoreState) : Type 0 where
   pub sound : IsSound w after.pool
   pub told : after.told ≡ before.told
@@ -75,7 +78,7 @@ pub record Serves (w : Writer) (n slack : ℕ) (before after : StoreState) : Typ
   pub writes : before.writes ≤ after.writes
   pub calls : after.calls + most_calls w * before.writes ≤ before.calls + most_calls w * after.writes
   pub few : after.writes ≤ before.writes + n
-  pub bound : lines_of w ≤ before.pool.capacity → after.writes ≤ before.writes + slack
+  pub bound : block_total w ≤ before.pool.capacity → after.writes ≤ before.writes + slack
 
 -- the draft keeps its length, and where it told what it holds it tells it again, the samples change as P says, and each
 -- block that was met stays so

@@ -24,16 +24,18 @@ is_zero (pos zero) = true
 is_zero (pos (suc n)) = false
 is_zero (negsuc n) = false
 
-abbrev pub is_blank : Writer → List ℕ → ℕ → ℕ → Bool
-is_blank w bytes band block = list_all is_zero (held_in w bytes band block)
+-- whether the samples of a block are 0 in a draft's bytes
+abbrev pub is_blank_block : Writer → List ℕ → ℕ → ℕ → Bool
+is_blank_block w bytes band block = list_all is_zero (held_in w bytes band block)
 
 -- each block that wasn't written is blank
 abbrev pub AreBlank : Writer → Marks → List ℕ → Type 0
 AreBlank w m bytes = (k v : ℕ) → k < (cut_of w).bands → v < (cut_of w).blocks → is_written m k v ≡ false →
     IsBlank w bytes k v
 
+-- whether each block that wasn't written is blank
 abbrev pub are_blank : Writer → Marks → List ℕ → Bool
-are_blank w m bytes = list_all (λ k. list_all (λ v. is_written m k v || is_blank w bytes k v)
+are_blank w m bytes = list_all (λ k. list_all (λ v. is_written m k v || is_blank_block w bytes k v)
     (range_with_len 0 (cut_of w).blocks)) (range_with_len 0 (cut_of w).bands)
 
 -- the bytes of a draft, where they are told and each block that wasn't written is blank in them

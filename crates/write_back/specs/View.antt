@@ -10,10 +10,10 @@ use Rattle.write_back.specs.declared.fault.TargetFault.{TargetFault}
 use Rattle.write_back.specs.declared.forms.Writer.{Writer}
 use Rattle.write_back.specs.declared.forms.Writer.TheVariants.{Raw, Hgt, Dted}
 use Rattle.write_back.specs.declared.rows.GridForm.{GridForm}
-use Rattle.write_back.specs.Forms.{bands_in, holds, most_calls, width_of, height_of, seen}
+use Rattle.write_back.specs.Forms.{band_total, holds, most_calls, width_of, height_of, seen}
 use Rattle.write_back.specs.Grids.{HasRows, grid_in}
 use Rattle.write_back.specs.Overlay.{IsOverlaid, WasMet, overlay}
-use Rattle.write_back.specs.State.{IsRight, IsSound, lines_met, lines_of}
+use Rattle.write_back.specs.State.{IsRight, IsSound, lines_met, block_total}
 
 -- what is written: a raster in blocks, or a grid in lines
 pub data Output : Type 0 where
@@ -42,9 +42,11 @@ pub record TargetView : Type 0 where
   pub header : Option (Option (List ℕ) × List ℕ)
   pub fault : Option TargetFault
 
+-- the data of a target
 abbrev pub sheet_in : TargetView → SheetView
 sheet_in t = record { output = t.output; pool = t.pool; draft = t.draft; len = t.len; name = t.name; lines = t.lines }
 
+-- a target of this data, with its header and the fault that was left
 abbrev pub target_of : SheetView → Option (Option (List ℕ) × List ℕ) → Option TargetFault → TargetView
 target_of s header fault = record {
   output = s.output;
@@ -57,15 +59,17 @@ target_of s header fault = record {
   fault = fault;
 }
 
--- the bands, the columns and the lines
+-- how many bands an output has
 abbrev pub bands_of : Output → ℕ
-bands_of (Blocks w) = bands_in w
+bands_of (Blocks w) = band_total w
 bands_of (Rows g) = 1
 
+-- how many columns an output has
 abbrev pub columns_of : Output → ℕ
 columns_of (Blocks w) = width_of w
 columns_of (Rows g) = g.size.w
 
+-- how many lines an output has
 abbrev pub rows_of : Output → ℕ
 rows_of (Blocks w) = height_of w
 rows_of (Rows g) = g.size.h
@@ -90,16 +94,17 @@ abbrev pub IsNext : Output → ℕ → Rect → Type 0
 IsNext (Blocks w) lines rect = Unit {0}
 IsNext (Rows g) lines rect = (rect.x ≡ 0) × (rect.w ≡ g.size.w) × (rect.y ≡ lines)
 
--- the blocks that a window meets, and all blocks, and the most calls that the writing of one takes; a grid is appended
--- to, and takes none
-abbrev pub blocks_in : Output → Rect → ℕ
-blocks_in (Blocks w) rect = lines_met w rect
-blocks_in (Rows g) rect = rect.h
+-- how many blocks of an output a window meets; of a grid the lines count
+abbrev pub window_blocks : Output → Rect → ℕ
+window_blocks (Blocks w) rect = lines_met w rect
+window_blocks (Rows g) rect = rect.h
 
+-- how many blocks an output has; of a grid the lines count
 abbrev pub all_blocks : Output → ℕ
-all_blocks (Blocks w) = lines_of w
+all_blocks (Blocks w) = block_total w
 all_blocks (Rows g) = g.size.h
 
+-- the most calls that the writing of a block takes; a grid is appended to, and takes none
 abbrev pub calls_of : Output → ℕ
 calls_of (Blocks w) = most_calls w
 calls_of (Rows g) = 0
@@ -114,10 +119,12 @@ abbrev pub seen_in : Writer → PoolView → Option (List ℕ) → ℕ → ℕ �
 seen_in w pool None k x y = pos 0
 seen_in w pool (Some b) k x y = seen w (overlay w pool.entries b) k x y
 
+-- the pixel that the pool and the draft of an output show
 abbrev pub shown_on : Output → PoolView → Option (List ℕ) → ℕ → ℕ → ℕ → ℤ
 shown_on (Blocks w) pool draft k x y = seen_in w pool draft k x y
 shown_on (Rows g) pool draft k x y = grid_in g draft x y
 
+-- the pixel that a target shows
 abbrev pub shown : TargetView → ℕ → ℕ → ℕ → ℤ
 shown t k x y = shown_on t.output t.pool t.draft k x y
 
@@ -155,11 +162,11 @@ pub record Keeps (rect : Rect) (old new : SheetView) (told told' : Option Files)
   pub names : told' ≡ told
   pub reads : r' ≡ r
   pub counted : w ≤ w'
-  pub few : w' ≤ w + blocks_in old.output rect
+  pub few : w' ≤ w + window_blocks old.output rect
   pub none : IsPooled old.output → all_blocks old.output ≤ old.pool.capacity → w' ≡ w
   pub calls : c' ≤ c + calls_of old.output * (w' - w)
 
--- and where it answers Ok
+-- what a window does besides where it answers Ok
 pub record Puts (band : ℕ) (rect : Rect) (samples : List ℤ) (told told' : Option Files) (old new : SheetView) : Type 0
   where
     pub right : IsRightOn old.output told' new

@@ -1,8 +1,8 @@
 // What differs between the outputs that are written through a pool of blocks.
 ghost use Rattle.std.specs.Prelude.{◌≡◌, ◌<◌, ◌≤◌, ◌+◌, ◌*◌, ◌^◌, ℕ, List, length, Some, OnOk};
 ghost use Rattle.outside.specs.Causes.{HasCause};
-ghost use Rattle.write_back.specs.Forms.{bands_in, cut_of, height_of, holds, lane_of, most_calls, needed_of, width_of};
-ghost use Rattle.write_back.specs.Forms.{IsFormed};
+ghost use Rattle.write_back.specs.Forms.{band_total, cut_of, height_of, holds, lane_of, most_calls, needed_of};
+ghost use Rattle.write_back.specs.Forms.{width_of, IsFormed};
 ghost use Rattle.write_back.specs.Overlay.{held_in, line_key, IsBlockWritten, IsLine};
 ghost use Rattle.write_back.specs.Pieces.{most_spots};
 
@@ -83,7 +83,7 @@ impl Writer {
 
     // The number of bands.
     pub(crate) fn bands(&self) -> u32
-        ensures bands { result ≡ bands_in self.now }
+        ensures bands { result ≡ band_total self.now }
     {
         match self {
             Writer::Raw(lines) => lines.head().bands,
@@ -93,7 +93,7 @@ impl Writer {
 
     // Where the pixels of a band from a column on stand in the block of a line.
     pub(crate) fn lane(&self, band: u32, x: u32) -> Lane
-        requires band { band < bands_in self.now }
+        requires band { band < band_total self.now }
         requires column { x < width_of self.now }
         ensures lane { result ≡ lane_of self.now band x }
     {

@@ -1,11 +1,11 @@
-// A pool of lines over a draft: a line that the pool drops is written, and one that it lacks is read back. Where bands
-// lie pixel by pixel, a line is one of all bands.
+// A pool of blocks over a draft: a block that the pool drops is written, and one that it lacks is read back. Where
+// bands lie pixel by pixel, a block is a line of all bands.
 ghost use Rattle.std.specs.Prelude.{◌≡◌, ◌<◌, ◌≤◌, ◌+◌, ◌*◌, [], ℕ, List, length, get_or, pos, Some, None, true, false};
 ghost use Rattle.std.specs.Prelude.{OnOk, IfOk};
 ghost use Rattle.outside.specs.Causes.{HasCause};
 ghost use Rattle.band_blocks.specs.Spread.{IsSpread};
 ghost use Rattle.block_cache.specs.Entries.{held_at};
-ghost use Rattle.write_back.specs.Forms.{bands_in, cut_of, needed_of, most_calls, AreHeld, IsFormed, width_of};
+ghost use Rattle.write_back.specs.Forms.{band_total, cut_of, needed_of, most_calls, AreHeld, IsFormed, width_of};
 ghost use Rattle.write_back.specs.Forms.{height_of};
 ghost use Rattle.write_back.specs.Overlay.{IsLine, IsPut, IsWindow, IsLineSet, AreSame, HoldsDirty, IsBlockWritten};
 ghost use Rattle.write_back.specs.Overlay.{held_in, line_key};
@@ -24,8 +24,8 @@ use outside::{Counter, Folder};
 use std::alloc::{AllocError, Global};
 use std::sync::ledger::Ledger;
 
-/// Lines of a raster: those in a pool, and those in a draft. A line that was never written to the draft is zeros there,
-/// and isn't read. A block that left the pool is spare, and the next one that comes takes its room.
+/// Blocks of a raster: those in a pool, and those in a draft. A block that was never written to the draft is zeros
+/// there, and isn't read. A block that left the pool is spare, and the next one that comes takes its room.
 pub(crate) struct Store<F: Folder> {
     pub(crate) writer: Writer,
     pub(crate) pool: Pool,
@@ -76,7 +76,7 @@ fn clear(block: &mut Block)
 }
 
 impl<F: Folder> Store<F> {
-    // Writes a line into the draft.
+    // Writes a block into the draft.
     fn write_out<L: Ledger>(
         &mut self,
         folder: &mut F,
@@ -108,7 +108,7 @@ impl<F: Folder> Store<F> {
             .write_block(folder, &mut self.draft, band, number, block)
     }
 
-    // Writes a line that left the pool into the draft.
+    // Writes a block that left the pool into the draft.
     fn write<L: Ledger>(
         &mut self,
         folder: &mut F,
@@ -136,7 +136,7 @@ impl<F: Folder> Store<F> {
         written
     }
 
-    // Keeps a line that isn't held. The line that a full pool drops for it is written, and is spare: no held line was
+    // Keeps a block that isn't held. The one that a full pool drops for it is written, and is spare: no held block was
     // written since samples were put into it.
     fn keep<L: Ledger>(
         &mut self,
@@ -171,7 +171,7 @@ impl<F: Folder> Store<F> {
         }
     }
 
-    // Makes a block what the draft holds of a line: zeros where it was never written, and else what is read there.
+    // Makes a block what the draft holds of it: zeros where it was never written, and else what is read there.
     fn fetch(
         &mut self,
         folder: &mut F,
@@ -298,7 +298,7 @@ impl<F: Folder> Store<F> {
         requires wide { 0 < rect.w }
         requires sound { IsSound self.old.writer self.old.pool }
         requires long { F.draft_len self.old.draft ≡ needed_of self.old.writer }
-        requires band { band < bands_in self.old.writer }
+        requires band { band < band_total self.old.writer }
         requires across { rect.x + rect.w ≤ width_of self.old.writer }
         requires down { rect.y + rect.h ≤ height_of self.old.writer }
         requires size { length samples.now ≡ rect.w * rect.h }
@@ -387,7 +387,7 @@ impl<F: Folder> Store<F> {
         requires high { 0 < rect.h }
         requires sound { IsSound self.old.writer self.old.pool }
         requires long { F.draft_len self.old.draft ≡ needed_of self.old.writer }
-        requires band { band < bands_in self.old.writer }
+        requires band { band < band_total self.old.writer }
         requires across { rect.x + rect.w ≤ width_of self.old.writer }
         requires down { rect.y + rect.h ≤ height_of self.old.writer }
         requires size { length samples.now ≡ rect.w * rect.h }
@@ -410,7 +410,7 @@ impl<F: Folder> Store<F> {
         }
     }
 
-    // Writes all lines that aren't written yet. The pool is then empty.
+    // Writes all blocks that aren't written yet. The pool is then empty.
     pub(crate) fn flush<L: Ledger>(
         &mut self,
         folder: &mut F,

@@ -12,10 +12,10 @@ ghost use Rattle.block_cache.specs.Entries.{pool_view, IsPool};
 ghost use Rattle.write_back.specs.declared.forms.Writer.TheVariants.{Raw, Hgt, Dted};
 ghost use Rattle.write_back.specs.declared.fault.TargetFault.{TargetFault};
 ghost use Rattle.write_back.specs.Columns.{cell_of};
-ghost use Rattle.write_back.specs.View.{Blocks, Rows, all_blocks, bands_of, blocks_in, calls_of, columns_of};
+ghost use Rattle.write_back.specs.View.{Blocks, Rows, all_blocks, bands_of, window_blocks, calls_of, columns_of};
 ghost use Rattle.write_back.specs.View.{is_writable, lines_after, rows_of, AreWritable, IsNext, IsPooled};
 ghost use Rattle.write_back.specs.View.{MeetsAll, Shows};
-ghost use Rattle.write_back.specs.Files.{files_in, AreRawDrafts, IsTarget, IsTight, Publishes};
+ghost use Rattle.write_back.specs.Files.{target_files, AreRawDrafts, IsTarget, IsTight, Publishes};
 ghost use Rattle.write_back.specs.Plans.{IsNew};
 ghost use Rattle.write_back.specs.Served.{IsLeftIn};
 ghost use Rattle.band_blocks.specs.Blocks.{most_blocks};
@@ -331,7 +331,7 @@ impl<F: Folder> Target<F> {
         ensures names { F.names folder.new ≡ F.names folder.old }
         ensures reads { F.read_calls folder.new ≡ F.read_calls folder.old }
         ensures counted { writes.old ≤ writes.new }
-        ensures few { writes.new ≤ writes.old + blocks_in self.old.output rect }
+        ensures few { writes.new ≤ writes.old + window_blocks self.old.output rect }
         ensures none { IsPooled self.old.output → all_blocks self.old.output ≤ self.old.pool.capacity →
             writes.new ≡ writes.old }
         ensures calls { F.write_calls folder.new ≤ F.write_calls folder.old + calls_of self.old.output
@@ -354,7 +354,7 @@ impl<F: Folder> Target<F> {
         // where it is whole, the first published files have their bytes, and all other names keep theirs
         ensures files { Publishes (F.names folder.old) self result (F.names folder.new) }
         ensures untouched { IfErr result (λ e. e.published ≡ 0 → F.names folder.new ≡ F.names folder.old) }
-        ensures most { IfErr result (λ e. e.published < length (files_in self)) }
+        ensures most { IfErr result (λ e. e.published < length (target_files self)) }
         ensures earlier { IfSome self.fault (λ f. result ≡ Err (record { published = 0; cause = f })) }
         ensures still { IsSome self.fault → F.faults folder.new ≡ F.faults folder.old }
         ensures cause { self.fault ≡ None → IfErr result (λ e. e.cause ≡ TargetFault.FolderFault →

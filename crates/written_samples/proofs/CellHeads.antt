@@ -4,10 +4,10 @@ use Rattle.std.specs.Prelude.{nat_le, ◌==◌, codes}
 use Rattle.std.specs.Cmp.Lexicographic.{pointwise}
 use Rattle.std.proofs.lemmas.Bool.Decides.{nat_tests}
 use Rattle.std.proofs.lemmas.List.{drop-take, take-take, length-take}
-use Rattle.lists_and_answers.specs.Answers.{◌>>=◌}
+use Rattle.lists_and_answers.specs.Answers.{◌>>=◌, wants}
 use Rattle.dted_records.specs.declared.head.DtedFault.{DtedFault}
 use Rattle.dted_records.specs.declared.head.DtedFault.TheVariants.{NotDted, Short}
-use Rattle.dted_records.specs.Head.{Head, part, begins, wants, count_in, angle_in, east, west, north, south, is_leading, leading, fields_in, head_in, dted_head}
+use Rattle.dted_records.specs.Head.{Head, part, begins, count_in, angle_in, east, west, north, south, is_leading, leading, fields_in, head_in, dted_head}
 use Rattle.dted_records.proofs.Front.{head_same}
 
 long_same : (k n : ℕ) (b : List ℕ) → k ≤ n → nat_le k (length (take n b)) ≡ nat_le k (length b)

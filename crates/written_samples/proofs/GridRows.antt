@@ -16,7 +16,7 @@ use Rattle.ascii_grid.specs.declared.head_parts.Shape.{Shape}
 use Rattle.ascii_grid.specs.Tokens.{Token, tokens, tokens_from}
 use Rattle.ascii_grid.specs.Keys.{shape_of}
 use Rattle.ascii_grid.specs.Values.{is_value}
-use Rattle.ascii_grid.specs.Grid.{Head, Grid, nothing, head_of, body_of, grid_of, grid_head, ascii_in, ascii_at}
+use Rattle.ascii_grid.specs.Grid.{Head, Grid, nothing, head_of, body_of, grid_of, grid_head, ascii_by, ascii_at}
 use Rattle.ascii_grid.specs.Row.{row_of, value_or_zero}
 use Rattle.ascii_grid.specs.Text.{head_text, row_text, AreRows, IsGridOf}
 use Rattle.ascii_grid.proofs.Again.{all_of, body_again, grid_again}
@@ -246,7 +246,7 @@ value_read size geo nodata read rows rest h x y head are is column line =
     let wide : t.grid.head.size.w ≡ size.w = ap (λ (h : Head). h.size.w) m.head_is ∙ ap (λ (s : Shape). s.w) (sym shape) ∙ f.wide in
     let all : t.grid.values ≡ flattened rows ++ values (tokens_from false c.place rest) =
     sym (body_values m.body (m.shape.w * m.shape.h) t.grid.values m.whole) ∙ ap values (sym body) ∙ map-append (λ t. value_or_zero t.text) f.rest (tokens_from false c.place rest) ∙ ap (λ (l : List ℤ). l ++ values (tokens_from false c.place rest)) f.read in
-    ap (λ (q : Result Grid GridFault). ascii_in q x y) t.is
+    ap (λ (q : Result Grid GridFault). ascii_by q x y) t.is
     ∙ ap (λ w. get_or t.grid.values (y * w + x) (pos 0)) wide
     ∙ ap (λ (l : List ℤ). get_or l (y * size.w + x) (pos 0)) all
     ∙ joined_at size.w rows (values (tokens_from false c.place rest)) x y are.each.long column line

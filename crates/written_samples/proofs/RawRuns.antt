@@ -10,7 +10,7 @@ use Rattle.lists_and_answers.specs.Places.{StandsAt}
 use Rattle.geotransform.proofs.Ranges.{bytes_bounds}
 use Rattle.esri_hdr.specs.declared.header_parts.Layout.TheVariants.{Bip}
 use Rattle.esri_hdr.specs.Head.{Head, IsHead, sample_len}
-use Rattle.interleaved_raw.specs.Raw.{position_by, position_of, stride_of, sample_at, value_of, number_in, run_of, raw_at, row_of, IsPlace, IsSamePlace, IsBetween}
+use Rattle.interleaved_raw.specs.Raw.{position_by, position_of, stride_of, sample_at, value_of, number_in, strided_at, raw_at, row_of, IsPlace, IsSamePlace, IsBetween}
 use Rattle.interleaved_raw.proofs.Apart.{apart}
 use Rattle.interleaved_raw.proofs.Order.{further, row_stands, run_stands}
 use Rattle.interleaved_raw.proofs.Runs.{room}
@@ -32,7 +32,7 @@ run_line h file bytes band x y samples run = sym (row_stands h (put_at (position
 pub run_read : (h : Head) (file bytes : List ℕ) (band x y i : ℕ) (samples : List ℤ) → IsRunFor h file band x y samples bytes → i < length samples → raw_at h (put_at (position_of h band x y) bytes file) band (x + i) y ≡ get_or samples i (pos 0)
 run_read h file bytes band x y i samples run less =
     sym (run_stands h (put_at (position_of h band x y) bytes file) bytes band x y i (room h bytes i (length samples) less run.holds) (put_stands file bytes (position_of h band x y) run.in_file))
-    ∙ sym (get_or-map-range_with_len (run_of h bytes) 0 (length samples) i i (pos 0) less (zero-add i))
+    ∙ sym (get_or-map-range_with_len (strided_at h bytes) 0 (length samples) i i (pos 0) less (zero-add i))
     ∙ ap (λ (l : List ℤ). get_or l i (pos 0)) run.read
 
 -- bytes of a sample that are the same

@@ -5,7 +5,7 @@ use Rattle.geotransform.specs.Types.{is_in}
 use Rattle.geotransform.specs.declared.types.PixelType.TheVariants.{Int16}
 use Rattle.esri_hdr.specs.declared.header_parts.Layout.TheVariants.{Bip}
 use Rattle.esri_hdr.specs.Head.{Head, sample_len}
-use Rattle.interleaved_raw.specs.Raw.{position_of, Holds, run_of, IsBetween}
+use Rattle.interleaved_raw.specs.Raw.{position_of, Holds, strided_at, IsBetween}
 use Rattle.dted_records.specs.Head as cell
 use Rattle.dted_records.specs.Places.{record_len, record_of}
 use Rattle.dted_records.specs.Written.{IsElevation}
@@ -29,7 +29,7 @@ pub record IsRunFor (h : Head) (file : List ℕ) (band x y : ℕ) (samples : Lis
   pub in_columns : x + length samples ≤ h.size.w
   pub in_file : position_of h band x y + length bytes ≤ length file
   pub holds : Holds h bytes (length samples)
-  pub read : map (run_of h bytes) (range_with_len 0 (length samples)) ≡ samples
+  pub read : map (strided_at h bytes) (range_with_len 0 (length samples)) ≡ samples
   pub between : (j : ℕ) → j < length bytes → IsBetween h (length samples) j →
       get_or bytes j 0 ≡ get_or file (position_of h band x y + j) 0
 

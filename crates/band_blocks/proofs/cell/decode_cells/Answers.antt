@@ -1,7 +1,7 @@
 use Rattle.std.proofs.Common.{◌≡◌, ◌∙◌, ◌+◌, ◌-◌, ◌*◌, ◌<◌, ap, map, arith, length}
 use Rattle.std.proofs.lemmas.List.{map-set, length-map}
 use Rattle.esri_hdr.specs.Head.{Head, sample_len}
-use Rattle.interleaved_raw.specs.Raw.{run_of, stride_of}
+use Rattle.interleaved_raw.specs.Raw.{strided_at, stride_of}
 use Rattle.interleaved_raw.proofs.Runs.{range_more, range_of_all}
 use Rattle.band_blocks.proofs.Cells.{decoded, written_next}
 use Rattle.band_blocks.proofs.cell.decode_cells.Goals as goal
@@ -17,9 +17,9 @@ loop-i-preserved g c =
     let count = length-map c.args.cells.now g.T.Cell.value in
     let within : c.args.first + c.loop-i.i < length (map g.T.Cell.value c.args.cells.now) = omega (arith, c.requires.within, c.loop-i-test.true, count) in
     record {
-      samples = map-set g.T.Cell.value c.loop-i.cells (c.args.first + c.loop-i.i) c.decode.result ∙ written_next (run_of h c.args.bytes.now) (map g.T.Cell.value c.args.cells.now) (map g.T.Cell.value c.loop-i.cells) c.args.first c.loop-i.i (g.T.Cell.value c.decode.result) within is so_far.samples;
-      range = range_more g.T.Cell.kind (run_of h c.args.bytes.now) c.loop-i.i (g.T.Cell.value c.decode.result) is c.decode.ensures.range so_far.range;
+      samples = map-set g.T.Cell.value c.loop-i.cells (c.args.first + c.loop-i.i) c.decode.result ∙ written_next (strided_at h c.args.bytes.now) (map g.T.Cell.value c.args.cells.now) (map g.T.Cell.value c.loop-i.cells) c.args.first c.loop-i.i (g.T.Cell.value c.decode.result) within is so_far.samples;
+      range = range_more g.T.Cell.kind (strided_at h c.args.bytes.now) c.loop-i.i (g.T.Cell.value c.decode.result) is c.decode.ensures.range so_far.range;
     }
 
 pub returns-clause-range : goal.returns-clause-range
-returns-clause-range g c = range_of_all g.T.Cell.kind (run_of c.args.head.now c.args.bytes.now) c.args.count (λ k below. c.loop-i.invariant.range k (omega arith))
+returns-clause-range g c = range_of_all g.T.Cell.kind (strided_at c.args.head.now c.args.bytes.now) c.args.count (λ k below. c.loop-i.invariant.range k (omega arith))

@@ -1,8 +1,10 @@
-use Rattle.std.proofs.Common.{◌≡◌, ◌+◌, ◌*◌, ◌∙◌, ap, sym, subst, length, arith}
+use Rattle.std.proofs.Common.{◌≡◌, ◌+◌, ◌*◌, ◌∙◌, ap, sym, subst, refl, length, inl, inr, Err, arith}
 use Rattle.std.specs.List.{All}
 use Rattle.nearest_window.specs.declared.window.Window.{Window}
 use Rattle.lane_teams.specs.Parts.{part_of, AreOfWindow}
+use Rattle.lane_teams.specs.Refusals.{IsFirstOf}
 use Rattle.lane_teams.specs.Turns.{IsDone, IsTurnOf}
+use Rattle.lane_teams.proofs.Answered.{err_is, team_answered}
 use Rattle.lane_teams.proofs.Halving.{all_kept, all_right, all_ready, walked_of}
 use Rattle.lane_teams.proofs.Refusals.{all_done, ok_given, put_back}
 use Rattle.lane_teams.proofs.Windows.{whole_window}
@@ -44,6 +46,19 @@ returns-clause-shown g c =
     subst (λ t. AreOfWindow t c.args.supply.now.cat.now c.args.job.now.window c.read_views.new.out) o.only_read.names
     (subst (λ w. AreOfWindow (g.F.Folder.names c.turns_of.new.folder) c.args.supply.now.cat.now w c.read_views.new.out) window
     (read.shown (subst (All IsDone) whole (all_done _ (sym c.collect.ensures.first ∙ ok))))))
+
+pub returns-clause-first : goal.returns-clause-first
+returns-clause-first g c =
+    let whole = put_back c.in_ok-turns.turns.len c.read_views.new.turns c.in_ok-turns.turns.items (sym (c.read_views.auto.turns ∙ c.as_mut_slice.ensures.len)) in
+    inl (subst (λ t. IsFirstOf t c.args.supply.now.cat.now c.args.job.now.window c.args.job.now.count c.read_views.new.out c.collect.result) c.in_ok-turns.ensures.only_read.names
+    (team_answered g.F.Folder (g.F.Folder.names c.turns_of.new.folder) c.args.supply.now.cat.now c.args.job.now c.args.lanes.now c.read_views.new.lanes c.read_views.new.turns _ c.read_views.new.out c.collect.result
+    c.requires.count c.read_views.ensures.read whole c.collect.ensures.first))
+
+pub returns-in_err-turns-clause-first : goal.returns-in_err-turns-clause-first
+returns-in_err-turns-clause-first g c = inr (record {
+  memory = err_is c.from_residual.result c.in_err-turns.field-0.0 c.from_residual.ensures ∙ ap Err c.in_err-turns.ensures.memory;
+  unread = refl;
+})
 
 pub returns-clause-ready : goal.returns-clause-ready
 returns-clause-ready g c =

@@ -17,6 +17,6 @@ pub returns : goal.returns
 returns g c = record {
   read =
       one_read g.F.Folder g.S.Scene.told c.args.supply.now.cat.now c.args.job.now c.args.first c.args.lanes.now c.args.turns.now c.take_turn.new.lane _ c.take_turn.new.turn c.args.out.now
-      c.requires.ready c.requires.one c.take_turn.new.out c.take_turn.ensures.capacity c.take_turn.ensures.right c.take_turn.ensures.turn
+      c.requires.ready c.requires.one c.take_turn.new.out c.take_turn.ensures.capacity c.take_turn.ensures.right c.take_turn.ensures.turn c.take_turn.auto.out
       (λ ok. subst (λ w. AreOfWindow g.S.Scene.told c.args.supply.now.cat.now w c.take_turn.new.out) c.part_of-window.ensures.part (c.take_turn.ensures.shown ok));
 }

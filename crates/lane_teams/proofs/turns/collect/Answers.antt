@@ -3,7 +3,8 @@ use Rattle.std.specs.Prelude.{IfErr}
 use Rattle.band_blocks.specs.Open.{IsUnchanged}
 use Rattle.band_blocks.specs.declared.fault.LoadFault.TheVariants.{FolderFault}
 use Rattle.nearest_window.specs.Right.{TellsChangeIn}
-use Rattle.lane_teams.specs.Turns.{first_of, IsTurnOf}
+use Rattle.lane_teams.specs.Refusals.{first_of}
+use Rattle.lane_teams.specs.Turns.{IsTurnOf}
 use Rattle.lane_teams.proofs.Refusals.{first_failed, rose_on, rose_then, first_keeps, turn_at, turns_behind}
 use Rattle.lane_teams.proofs.turns.collect.Goals as goal
 

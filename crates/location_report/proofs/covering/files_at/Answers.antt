@@ -2,7 +2,7 @@ use Rattle.std.proofs.Common.{◌∙◌, ap, sym, arith, length, fold, slice_get
 use Rattle.std.proofs.lemmas.List.{take_all}
 use Rattle.std.proofs.lemmas.Option.{slice_get-get_or}
 use Rattle.vrt_profile.specs.Values.{SourceValue, BandValue, DocumentValue}
-use Rattle.location_report.specs.Covering.{with_found, covered_by, with_covering}
+use Rattle.location_report.specs.Covering.{with_found, covering_in, with_covering}
 use Rattle.location_report.proofs.Kept.{kept_then}
 use Rattle.location_report.proofs.Named.{few_sources, fold_more, source_stands, sources_are}
 use Rattle.location_report.proofs.covering.files_at.Goals as goal
@@ -25,8 +25,8 @@ pub loop-number-preserved : goal.loop-number-preserved
 loop-number-preserved c = record {
   names = λ d at.
       c.in_ok-push_member.ensures.ok d at
-      ∙ ap (λ (ns : List (List ℕ)). with_found ns (covered_by c.args.cat.now d c.args.x c.args.y c.source-item.result)) (c.loop-number.invariant.names d at)
-      ∙ sym (fold_more (λ ns s. with_found ns (covered_by c.args.cat.now d c.args.x c.args.y s)) c.args.out.now c.as_slice-source-items.result.now c.loop-number.number c.source-item.result _ c.loop-number-test.true c.source-item.is);
+      ∙ ap (λ (ns : List (List ℕ)). with_found ns (covering_in c.args.cat.now d c.args.x c.args.y c.source-item.result)) (c.loop-number.invariant.names d at)
+      ∙ sym (fold_more (λ ns s. with_found ns (covering_in c.args.cat.now d c.args.x c.args.y s)) c.args.out.now c.as_slice-source-items.result.now c.loop-number.number c.source-item.result _ c.loop-number-test.true c.source-item.is);
   kept = kept_then c.args.out.now _ _ c.loop-number.invariant.kept c.in_ok-push_member.ensures.kept;
 }
 
@@ -37,4 +37,4 @@ returns-clause-ok c d at =
     let all = take_all c.loop-number.number c.as_slice-source-items.result.now c.loop-number-test.false in
     let items = c.as_slice-source-items.ensures.items ∙ ap (λ (b : BandValue). b.sources) c.behind-document.view_is in
     c.loop-number.invariant.names d at
-    ∙ ap (λ (ss : List SourceValue). fold (λ ns s. with_found ns (covered_by c.args.cat.now d c.args.x c.args.y s)) c.args.out.now ss) (all ∙ items ∙ sym (sources_are c.args.cat.now c.args.id c.args.band d c.in-Some.document.now c.get.result.now c.in-Some.ensures.document band_at at))
+    ∙ ap (λ (ss : List SourceValue). fold (λ ns s. with_found ns (covering_in c.args.cat.now d c.args.x c.args.y s)) c.args.out.now ss) (all ∙ items ∙ sym (sources_are c.args.cat.now c.args.id c.args.band d c.in-Some.document.now c.get.result.now c.in-Some.ensures.document band_at at))

@@ -2,7 +2,7 @@ use Rattle.std.proofs.Common.{◌≡◌, List, ℤ, subst, ap, ◌∙◌, length
 use Rattle.std.proofs.lemmas.List.FromFn.{length-map-range_with_len}
 use Rattle.std.specs.List.{range_with_len}
 use Rattle.esri_hdr.specs.Head.{Head}
-use Rattle.interleaved_raw.specs.Raw.{run_of as sample_of}
+use Rattle.interleaved_raw.specs.Raw.{strided_at as sample_of}
 use Rattle.band_blocks.specs.Blocks.{BlockView, written}
 use Rattle.band_blocks.proofs.Rows.{length-written}
 use Rattle.write_back.specs.Pieces.{spots_from}

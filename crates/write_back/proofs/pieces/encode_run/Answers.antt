@@ -1,7 +1,7 @@
 use Rattle.std.proofs.Common.{◌≡◌, subst, map}
 use Rattle.std.specs.List.{range_with_len}
 use Rattle.esri_hdr.specs.Head.{Head}
-use Rattle.interleaved_raw.specs.Raw.{run_of as sample_of}
+use Rattle.interleaved_raw.specs.Raw.{strided_at as sample_of}
 use Rattle.band_blocks.specs.Blocks.{run_of}
 use Rattle.write_back.proofs.Runs.{plain_holds}
 use Rattle.write_back.proofs.pieces.encode_run.Goals as goal

@@ -1,6 +1,6 @@
 use Rattle.std.proofs.Common.{◌≡◌, ap, ◌∙◌, sym, refl, ℤ, List, map, arith}
 use Rattle.std.specs.List.{range_with_len}
-use Rattle.interleaved_raw.specs.Raw.{run_of as sample_of}
+use Rattle.interleaved_raw.specs.Raw.{strided_at as sample_of}
 use Rattle.band_blocks.specs.Blocks.{block_view, written}
 use Rattle.band_blocks.proofs.Cells.{shown_list, written_packed}
 use Rattle.band_blocks.proofs.packed.Packed.decode.Goals as goal

@@ -1,4 +1,4 @@
-use Rattle.std.proofs.Common.{◌∙◌, ap, sym, subst, length, map, arith}
+use Rattle.std.proofs.Common.{◌∙◌, ap, sym, subst, length, map, inl}
 use Rattle.std.specs.List.{All}
 use Rattle.std.specs.Prelude.{slice_set}
 use lib.Seq.{map-set_same}
@@ -6,8 +6,12 @@ use Rattle.std.proofs.lemmas.List.{length-set}
 use Rattle.std.proofs.lemmas.List.Elements.{All-set}
 use Rattle.nearest_window.specs.Lanes.{room_of}
 use Rattle.nearest_window.specs.Right.{IsReady}
+use Rattle.lane_teams.specs.Parts.{readers_of}
+use Rattle.lane_teams.specs.Refusals.{IsFirstOf, IsTeamAnswer}
+use Rattle.lane_teams.proofs.Answered.{alone_answered, one_reader, several_readers}
 use Rattle.lane_teams.proofs.Halving.{all_kept}
 use Rattle.lane_teams.proofs.Refusals.{on_ok, put_back}
+use Rattle.lane_teams.proofs.Windows.{shown_of}
 use Rattle.lane_teams.proofs.team.Team.read_window_with.Goals as goal
 
 pub returns-then-count-eq1-clause-ready : goal.returns-then-count-eq1-clause-ready
@@ -42,15 +46,36 @@ returns-clause-ready g c =
 
 pub returns-clause-loads : goal.returns-clause-loads
 returns-clause-loads g c = λ old new is_old is_new room.
-    let more = c.if-count-eq1.false in
     let one = ap length c.as_mut_slice-lanes.ensures.value ∙ ap length is_old in
-    absurd (omega arith)
+    absurd (c.if-count-eq1.false (c.readers_of-count.ensures.readers ∙ ap (readers_of c.args.window.rect.h (length c.args.out.now) c.args.fewest) one ∙ one_reader c.args.window.rect.h (length c.args.out.now) c.args.fewest))
 
 pub returns-clause-reads : goal.returns-clause-reads
-returns-clause-reads g c = λ one.
-    let more = c.if-count-eq1.false in
-    let here = ap length c.as_mut_slice-lanes.ensures.value ∙ one in
-    absurd (omega arith)
+returns-clause-reads g c = λ alone.
+    let one = ap length c.as_mut_slice-lanes.ensures.value ∙ alone in
+    absurd (c.if-count-eq1.false (c.readers_of-count.ensures.readers ∙ ap (readers_of c.args.window.rect.h (length c.args.out.now) c.args.fewest) one ∙ one_reader c.args.window.rect.h (length c.args.out.now) c.args.fewest))
+
+pub returns-then-count-eq1-clause-first : goal.returns-then-count-eq1-clause-first
+returns-then-count-eq1-clause-first g c =
+    let told = g.F.Folder.names c.args.folder.now in
+    let cat = c.args.supply.now.cat.now in
+    let out = c.read_window_with.new.out in
+    let answer = c.read_window_with.result in
+    let o = c.read_window_with.ensures in
+    let readers = readers_of c.args.window.rect.h (length c.args.out.now) c.args.fewest in
+    let one = ap readers (ap length (sym c.as_mut_slice-lanes.ensures.value)) ∙ sym c.readers_of-count.ensures.readers ∙ c.if-count-eq1.true in
+    inl (subst (λ n. IsFirstOf told cat c.args.window n out answer) (sym one)
+    (alone_answered told cat c.args.window out answer (c.read_window_with.auto.out ∙ c.requires.size)
+    (shown_of answer told cat c.args.window out o.pixels o.named o.typed) o.changed o.never))
+
+pub returns-clause-first : goal.returns-clause-first
+returns-clause-first g c =
+    let told = g.F.Folder.names c.args.folder.now in
+    let cat = c.args.supply.now.cat.now in
+    let count = length c.as_mut_slice-lanes.result.now in
+    let readers = readers_of c.args.window.rect.h (length c.args.out.now) c.args.fewest in
+    let all = several_readers c.args.window.rect.h (length c.args.out.now) c.args.fewest count (λ one. c.if-count-eq1.false (c.readers_of-count.ensures.readers ∙ one)) in
+    subst (λ n. IsTeamAnswer told cat c.args.window n c.args.out.now c.read_beside.new.out c.read_beside.result)
+    (sym all ∙ ap readers (ap length c.as_mut_slice-lanes.ensures.value)) c.read_beside.ensures.first
 
 pub returns-then-count-eq1-clause-count : goal.returns-then-count-eq1-clause-count
 returns-then-count-eq1-clause-count g c =
