@@ -93,7 +93,13 @@ fn tile_said(at: u64, word: &str) -> Result<Said, WordFault>
 }
 
 // A positional word behind so many others.
-fn positional_of(alloc: Global, tool: Tool, before: u64, at: u64, word: &str) -> Result<Said, WordFault>
+fn positional_of(
+    alloc: Global,
+    tool: Tool,
+    before: u64,
+    at: u64,
+    word: &str,
+) -> Result<Said, WordFault>
     ensures { Gives IsMemory (λ s. s) result (ok_or (positional_of tool before word.now) (WordFault.Usage at)) }
 {
     match tool {
