@@ -130,8 +130,8 @@ abbrev pub shown_line : Planned → ℕ → ℤ
 shown_line p j = p.y +ℤ pos (shown p.window.h p.size.h j)
 
 -- a pixel lies in a raster
-abbrev pub is_inside : Size → ℤ → ℤ → Bool
-is_inside size x y = (int_le (pos 0) x && int_lt x (pos size.w)) && (int_le (pos 0) y && int_lt y (pos size.h))
+abbrev pub is_in_raster : Size → ℤ → ℤ → Bool
+is_in_raster size x y = (int_le (pos 0) x && int_lt x (pos size.w)) && (int_le (pos 0) y && int_lt y (pos size.h))
 
 -- the elevation that a record of a cell can hold and that is nearest to a number of Int16
 abbrev pub elevation_near : ℤ → ℤ
@@ -148,7 +148,7 @@ held Vrt kind v = clamp kind v
 -- the pixel of one band of an output, by the source's size and its pixels by band, column and line
 abbrev pub band_pixel : Planned → Size → (ℕ → ℕ → ℕ → ℤ) → OutBand → ℕ → ℕ → ℤ
 band_pixel p source pixels b i j =
-    if is_inside source (shown_column p i) (shown_line p j)
+    if is_in_raster source (shown_column p i) (shown_line p j)
     then held p.driver b.kind (pixels b.source (unsigned_abs (shown_column p i)) (unsigned_abs (shown_line p j)))
     else unwrap_or b.nodata (pos 0)
 
