@@ -2,7 +2,7 @@ use Rattle.std.proofs.Common.{◌≡◌, ◌∙◌, ap, sym, ◌<◌, ◌≤◌,
 use Rattle.std.specs.List.{list_all}
 use Rattle.std.specs.Str.Lines.{lines}
 use Rattle.std.proofs.lemmas.Bool.{eqb-true, eqb-false, cases_lt}
-use Rattle.input_points.specs.Lines.{is_inside}
+use Rattle.input_points.specs.Lines.{is_in_line}
 use Rattle.input_points.specs.Points.{kind_of}
 use Rattle.input_points.specs.Reading.{Reading}
 use Rattle.input_points.proofs.PieceCalls.{over_nothing, no_end_comes, end_comes}
@@ -29,7 +29,7 @@ returns c =
     end_comes c.args.self c.kind_of-kind.result c.answer.result
     (ap (λ (r : Reading). r.over) (sym c.self.view_is) ∙ c.if-self.false)
     (omega (arith, line, room c.self.inside.line (length c.self.inside.bytes.items) c.self.invariant.1 some))
-    (ap (list_all is_inside) kept ∙ c.self.invariant.4)
+    (ap (list_all is_in_line) kept ∙ c.self.invariant.4)
     (omega (arith, len, some))
     (c.kind_of-kind.ensures ∙ ap kind_of (c.as_slice-last.ensures.value ∙ sym kept))
     c.answer.ensures.entry
