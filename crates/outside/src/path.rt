@@ -3,7 +3,7 @@ ghost use Rattle.std.specs.Prelude.{◌≡◌, ◌<◌, ◌≤◌, true, false, 
 ghost use Rattle.std.specs.Prelude.{◌-◌, if◌then◌else◌, drop, slice_index, IfOk, IfSome, OnOk};
 ghost use Rattle.std.specs.List.{prefix_len};
 ghost use Rattle.outside.specs.Paths.{seen, with_part, parts_of, pieces, joined, normal, is_kept, is_absolute};
-ghost use Rattle.outside.specs.Plain.{are_plain, are_plain_behind, behind_slash, is_inside, add_the_same, adds_all};
+ghost use Rattle.outside.specs.Plain.{are_plain, are_plain_behind, behind_slash, is_in_part, add_the_same, adds_all};
 
 use crate::Text;
 use memchr::memchr;
@@ -97,7 +97,7 @@ fn begins_plainly(text: &[u8]) -> bool
 // How many bytes stand in front of the first slash.
 #[tactic(auto, using(crate::proofs::Slashes::first_slash, crate::proofs::Slashes::slash_within))]
 fn part_len(text: &[u8]) -> usize
-    ensures count { result ≡ prefix_len is_inside text.now }
+    ensures count { result ≡ prefix_len is_in_part text.now }
     ensures bound { result ≤ length text.now }
 {
     memchr(b'/', text).unwrap_or(text.len())
