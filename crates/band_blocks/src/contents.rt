@@ -4,7 +4,7 @@ ghost use Rattle.outside.specs.Causes.{HasCause, FailsWith, one_more};
 ghost use Rattle.catalog.specs.Drivers.{IsLongEnough};
 ghost use Rattle.catalog.specs.Pixels.{sample_in, IsHeadOf};
 ghost use Rattle.catalog.specs.Places.{row_by_row};
-ghost use Rattle.band_blocks.specs.Contents.{driver_calls, kind_of, Covers, IsPart};
+ghost use Rattle.band_blocks.specs.Contents.{driver_calls, sample_type_of, Covers, IsPart};
 ghost use Rattle.band_blocks.specs.Open.{IsUnchanged};
 ghost use Rattle.geotransform.specs.Types.{is_in};
 ghost use Rattle.lists_and_answers.specs.Places.{StandsAt};
@@ -40,7 +40,7 @@ pub(crate) fn read_block<F: Folder>(
     requires long { IsLongEnough driver.now (F.file_len file.old) }
     ensures told { (b : List ℕ) → F.file_bytes file.old ≡ Some b → IsHeadOf driver.now b →
         IfOk result (λ block. block.samples ≡ row_by_row (sample_in driver.now b band) rect) }
-    ensures covers { IfOk result (Covers rect (kind_of driver.now)) }
+    ensures covers { IfOk result (Covers rect (sample_type_of driver.now)) }
     ensures unchanged { IfErr result IsUnchanged }
     ensures bytes { F.file_bytes file.new ≡ F.file_bytes file.old }
     ensures len { F.file_len file.new ≡ F.file_len file.old }
@@ -111,7 +111,7 @@ fn sample_of(driver: &DriverHead, bytes: &[u8]) -> Sample
     requires places { HasPlaces driver.now }
     ensures file { (file : List ℕ) (band x y : ℕ) → StandsAt file bytes.now (place_of driver.now band x y) →
         result ≡ sample_in driver.now file band x y }
-    ensures range { is_in (kind_of driver.now) result ≡ true }
+    ensures range { is_in (sample_type_of driver.now) result ≡ true }
 {
     match driver {
         DriverHead::Raw(head) => decode_sample(head, bytes),
@@ -133,7 +133,7 @@ pub(crate) fn read_sample<F: Folder>(
     requires long { IsLongEnough driver.now (F.file_len file.old) }
     ensures told { (b : List ℕ) → F.file_bytes file.old ≡ Some b →
         IfOk result (λ v. v ≡ sample_in driver.now b pixel.band pixel.x pixel.y) }
-    ensures range { IfOk result (λ v. is_in (kind_of driver.now) v ≡ true) }
+    ensures range { IfOk result (λ v. is_in (sample_type_of driver.now) v ≡ true) }
     ensures bytes { F.file_bytes file.new ≡ F.file_bytes file.old }
     ensures len { F.file_len file.new ≡ F.file_len file.old }
     ensures names { F.names folder.new ≡ F.names folder.old }
