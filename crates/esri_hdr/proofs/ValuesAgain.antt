@@ -16,7 +16,7 @@ use Rattle.esri_hdr.specs.declared.header_parts.HdrFault.TheVariants.{BadValue, 
 use Rattle.esri_hdr.specs.declared.header_parts.Layout.{Layout}
 use Rattle.esri_hdr.specs.declared.header_parts.Layout.TheVariants.{Bil, Bip, Bsq}
 use Rattle.lists_and_answers.specs.Answers.{◌>>=◌}
-use Rattle.esri_hdr.specs.Values.{at_most, counted, number_in, side_in, bands_in, bits_in, big_endian_in, layout_in, skip_in, signed_in, kind_of, row_in, band_row_in, total_row_in, gap_in, BandRowFits, TotalRowFits, GapFits}
+use Rattle.esri_hdr.specs.Values.{at_most, counted, number_in, side_in, bands_in, bits_in, big_endian_in, layout_in, skip_in, signed_in, type_of_bits, row_in, band_row_in, total_row_in, gap_in, BandRowFits, TotalRowFits, GapFits}
 use Rattle.esri_hdr.specs.Head.{sample_len, IsSide}
 use Rattle.esri_hdr.specs.Text.{order_text, layout_text, sign_text}
 
@@ -92,8 +92,8 @@ signed_again Int32 nodata = refl
 signed_again UInt64 nodata = refl
 signed_again Int64 nodata = refl
 
-pub kind_again : (kind : PixelType) → kind_of (8 * sample_len kind) (is_signed kind) ≡ kind
-unfolding kind_of
+pub kind_again : (kind : PixelType) → type_of_bits (8 * sample_len kind) (is_signed kind) ≡ kind
+unfolding type_of_bits
 kind_again Byte = refl
 kind_again Int8 = refl
 kind_again UInt16 = refl

@@ -19,7 +19,7 @@ use Rattle.esri_hdr.specs.declared.header_parts.RawGeo.{RawGeo}
 use Rattle.esri_hdr.specs.declared.header_parts.Shape.{Shape}
 use Rattle.esri_hdr.specs.declared.header_parts.Rows.{Rows}
 use Rattle.esri_hdr.specs.Lines.{Values, last_of}
-use Rattle.esri_hdr.specs.Values.{side_in, bands_in, bits_in, big_endian_in, layout_in, skip_in, signed_in, kind_of}
+use Rattle.esri_hdr.specs.Values.{side_in, bands_in, bits_in, big_endian_in, layout_in, skip_in, signed_in, type_of_bits}
 use Rattle.esri_hdr.specs.Values.{band_row_in, total_row_in, gap_in, BandRowFits, TotalRowFits, GapFits, longest_gap}
 use Rattle.esri_hdr.specs.Keys as keys
 use Rattle.geotransform.specs.Limits.{most_bands, most_side, unit_limit}
@@ -113,14 +113,14 @@ head_from s r geo nodata = record {
     h = s.h;
   };
   bands = s.bands;
-  kind = kind_of s.bits s.signed;
+  kind = type_of_bits s.bits s.signed;
   big = s.big;
   layout = s.layout;
   skip = s.skip;
   band_row = r.band_row;
   total_row = r.total_row;
   gap = r.gap;
-  nodata = nodata_in (kind_of s.bits s.signed) nodata;
+  nodata = nodata_in (type_of_bits s.bits s.signed) nodata;
   geo = geo;
 }
 

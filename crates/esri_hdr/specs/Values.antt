@@ -105,8 +105,8 @@ signed_in bits (Some text) nodata = if same_letters text (codes "SIGNEDINT") the
     else (if same_letters text (codes "FLOAT") then Err Unsupported else Err BadValue))
 
 -- the type of samples of so many bits
-unfoldable pub kind_of : ℕ → Bool → PixelType
-kind_of bits signed = if bits == 8 then (if signed then Int8 else Byte)
+unfoldable pub type_of_bits : ℕ → Bool → PixelType
+type_of_bits bits signed = if bits == 8 then (if signed then Int8 else Byte)
     else (if bits == 16 then (if signed then Int16 else UInt16)
     else (if bits == 32 then (if signed then Int32 else UInt32) else (if signed then Int64 else UInt64)))
 

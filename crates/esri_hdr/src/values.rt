@@ -2,7 +2,7 @@
 ghost use Rattle.std.specs.Prelude.{◌⊎◌, ◌≡◌, ℕ, ◌<◌, ◌≤◌, ◌+◌, ◌*◌, ◌/◌, ◌^◌, IfOk, Option};
 ghost use Rattle.std.specs.Option.{option_map};
 ghost use Rattle.esri_hdr.specs.Values.{number_in, number_or, at_most, counted, side_in, bands_in, bits_in, order_of};
-ghost use Rattle.esri_hdr.specs.Values.{big_endian_in, layout_in, skip_in, is_negative, signed_in, kind_of, row_in};
+ghost use Rattle.esri_hdr.specs.Values.{big_endian_in, layout_in, skip_in, is_negative, signed_in, type_of_bits, row_in};
 ghost use Rattle.esri_hdr.specs.Values.{band_row_in, total_row_in, gap_in, BandRowFits, TotalRowFits, GapFits};
 ghost use Rattle.esri_hdr.specs.Values.{longest_row, longest_gap};
 ghost use Rattle.geotransform.specs.Limits.{most_bands, most_side};
@@ -158,9 +158,9 @@ pub fn signed_in(bits: u32, text: Option<&[u8]>, nodata: Option<&[u8]>) -> Resul
     Err(HdrFault::BadValue)
 }
 
-#[tactic(auto, unfolding(crate::specs::Values::kind_of))]
-pub fn kind_of(bits: u32, signed: bool) -> PixelType
-    ensures { result ≡ kind_of bits signed }
+#[tactic(auto, unfolding(crate::specs::Values::type_of_bits))]
+pub fn type_of_bits(bits: u32, signed: bool) -> PixelType
+    ensures { result ≡ type_of_bits bits signed }
 {
     match (bits, signed) {
         (8, true) => PixelType::Int8,
