@@ -5,12 +5,12 @@ ghost use Rattle.std.specs.List.{list_all};
 ghost use Rattle.std.specs.Option.{option_to_list};
 ghost use Rattle.std.specs.Str.Lines.{lines, strip_carriage_return};
 ghost use Rattle.input_points.specs.Lines.{is_in_line, ended_lines};
-ghost use Rattle.input_points.specs.Points.{kind_of, longest_line};
+ghost use Rattle.input_points.specs.Points.{line_kind_of, longest_line};
 ghost use Rattle.input_points.specs.Entries.{most_lines, ends, entries, ended_entries};
 ghost use Rattle.input_points.specs.Reading.{start, kept, behind, coming};
 
 use crate::entry::{Entry, LineKind};
-use crate::words::{LONGEST, kind_of, line_in, without_return};
+use crate::words::{LONGEST, line_in, line_kind_of, without_return};
 use std::alloc::{AllocError, Global};
 use std::marker::Model;
 
@@ -80,14 +80,14 @@ impl PointLines {
         requires inside { list_all is_in_line bytes.now ≡ true }
         requires few { self.old.line ≤ most_lines }
         ensures inside { list_all is_in_line self.old.held ≡ true }
-        ensures kind { result ≡ kind_of (strip_carriage_return (self.old.held ++ bytes.now)) }
+        ensures kind { result ≡ line_kind_of (strip_carriage_return (self.old.held ++ bytes.now)) }
         ensures line { self.new.line ≡ self.old.line }
     {
         if self.bytes.is_empty() {
-            return kind_of(without_return(bytes));
+            return line_kind_of(without_return(bytes));
         }
         if self.keep(bytes) {
-            return kind_of(without_return(&self.bytes));
+            return line_kind_of(without_return(&self.bytes));
         }
         LineKind::Bad
     }
@@ -186,7 +186,7 @@ impl PointLines {
         if last.is_empty() {
             return None;
         }
-        let kind = kind_of(last);
+        let kind = line_kind_of(last);
         Some(self.answer(kind))
     }
 }

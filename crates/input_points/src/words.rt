@@ -4,7 +4,7 @@ ghost use Rattle.std.specs.List.{prefix_len, list_all};
 ghost use Rattle.std.specs.Str.Lines.{strip_carriage_return};
 ghost use Rattle.geotransform.specs.Decimal.{ticks_of};
 ghost use Rattle.input_points.specs.Lines.{is_in_line, IsLineIn};
-ghost use Rattle.input_points.specs.Points.{point_of, kind_of};
+ghost use Rattle.input_points.specs.Points.{point_of, line_kind_of};
 
 use crate::entry::LineKind;
 use crate::position::Position;
@@ -26,9 +26,9 @@ fn point_of(first: &[u8], second: &[u8]) -> LineKind
 }
 
 /// What a line says, of which its end is no part.
-#[tactic(auto, unfolding(crate::specs::Points::kind_of))]
-pub fn kind_of(line: &[u8]) -> LineKind
-    ensures { result ≡ kind_of line.now }
+#[tactic(auto, unfolding(crate::specs::Points::line_kind_of))]
+pub fn line_kind_of(line: &[u8]) -> LineKind
+    ensures { result ≡ line_kind_of line.now }
 {
     if line.len() > LONGEST {
         return LineKind::Bad;
