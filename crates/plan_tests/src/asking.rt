@@ -217,7 +217,7 @@ fn nodata_of(ask: &str) -> Option<NodataWord>
     }
 }
 
-fn kind_of(ask: &str) -> Option<Option<PixelType>> {
+fn asked_type(ask: &str) -> Option<Option<PixelType>> {
     match word_behind(ask, " type ") {
         None => Some(None),
         Some(name) => Some(Some(PixelType::read_name(name.as_bytes(), false)?)),
@@ -273,7 +273,7 @@ fn settings_of(ask: &str) -> Option<Settings>
     let view = view_of(ask)?;
     let outsize = outsize_of(ask)?;
     let nodata = nodata_of(ask)?;
-    let kind = kind_of(ask)?;
+    let kind = asked_type(ask)?;
     if !is_known(ask) {
         return None;
     }
