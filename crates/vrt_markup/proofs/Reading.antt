@@ -3,7 +3,7 @@ use Rattle.std.proofs.Common.{◌≡◌, ℕ, ◌-◌, ◌<◌, ◌≤◌, Bool,
 use Rattle.std.proofs.lemmas.List.{append-nil}
 use Rattle.vrt_markup.specs.Items.{item_at, bad, comment, run, open_tag, close_tag, Tag, is_equal, is_name}
 use Rattle.lists_and_answers.specs.Answers.{◌>>=◌}
-use Rattle.vrt_markup.specs.Forest.{Forest, stop, text, element, Read, with_text, with_element, nodes, inner, read_as, over, all_blank, is_blank, text_of, child_of, decoded}
+use Rattle.vrt_markup.specs.Forest.{Forest, stop, text, element, Read, with_text, with_element, nodes, inner, read_as, over, all_blank, is_all_white, text_of, child_of, decoded}
 use Rattle.vrt_markup.specs.Views.{past}
 use Rattle.vrt_markup.specs.Kept.{seen, worded, first_child, stepped, Fails, Gives}
 use Rattle.vrt_markup.specs.declared.fault.VrtFault.{VrtFault}
@@ -79,8 +79,8 @@ bind_end : {A : Type 0} (x : Result A VrtFault) → (x >>= λ a. Ok a) ≡ x
 bind_end (Ok a) = refl
 bind_end (Err e) = refl
 
-pub seen_run : {S : Type 0} (step : Step S) (kept : Result S VrtFault) (blank : Bool) (T d : ℕ) (n t raw r : List ℕ) → run raw r ≡ item_at t → read_as (seen step kept blank) (nodes T d n t) ≡ read_as (seen step kept (blank && is_blank raw)) (nodes T d n r)
-seen_run step kept blank T d n t raw r e = read_run (seen step kept blank) (seen step kept (blank && is_blank raw)) T d n t raw r (λ f. ap (λ b. (kept >>= λ s. over step s f, b)) (and_assoc blank (is_blank raw) (all_blank f))) e
+pub seen_run : {S : Type 0} (step : Step S) (kept : Result S VrtFault) (blank : Bool) (T d : ℕ) (n t raw r : List ℕ) → run raw r ≡ item_at t → read_as (seen step kept blank) (nodes T d n t) ≡ read_as (seen step kept (blank && is_all_white raw)) (nodes T d n r)
+seen_run step kept blank T d n t raw r e = read_run (seen step kept blank) (seen step kept (blank && is_all_white raw)) T d n t raw r (λ f. ap (λ b. (kept >>= λ s. over step s f, b)) (and_assoc blank (is_all_white raw) (all_blank f))) e
 
 pub seen_close : {S : Type 0} (step : Step S) (kept : Result S VrtFault) (blank : Bool) (T d : ℕ) (n t o r : List ℕ) → close_tag o r ≡ item_at t → is_equal o n ≡ true → read_as (seen step kept blank) (nodes T d n t) ≡ Ok ((kept, blank), r)
 seen_close step kept blank T d n t o r e same = read_close (seen step kept blank) T d n t o r e same ∙ ap (λ k. Ok ((k, blank && true), r)) (bind_end kept) ∙ ap (λ b. Ok ((kept, b), r)) (and_true blank)

@@ -65,12 +65,12 @@ over step s (text raw more) = over step s more
 over step s (element place tag inside more) = step s place tag inside >>= λ t. over step t more
 
 -- whether all text directly in it is white space
-abbrev pub is_blank : List ℕ → Bool
-is_blank raw = list_all is_white raw
+abbrev pub is_all_white : List ℕ → Bool
+is_all_white raw = list_all is_white raw
 
 abbrev pub all_blank : Forest → Bool
 all_blank stop = true
-all_blank (text raw more) = is_blank raw && all_blank more
+all_blank (text raw more) = is_all_white raw && all_blank more
 all_blank (element place tag inside more) = all_blank more
 
 -- what an element means, and the bytes behind it

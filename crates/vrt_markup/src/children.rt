@@ -12,7 +12,7 @@ use crate::fault::VrtFault;
 use crate::items::{Item, item_at};
 use crate::past::{DEEPEST, past_element};
 use crate::tag::Tag;
-use crate::text::is_blank;
+use crate::text::is_all_white;
 use crate::tokens::is_equal;
 use std::alloc::Global;
 
@@ -161,7 +161,7 @@ fn child_nodes<'a, P: Parts>(
             Item::NoMemory => return Err(VrtFault::Memory),
             Item::Comment(more) => rest = more,
             Item::Run(raw, more) => {
-                seen.blank = seen.blank & is_blank(raw);
+                seen.blank = seen.blank & is_all_white(raw);
                 rest = more;
             }
             Item::Close(other, more) if is_equal(other, name) => return Ok((seen, more)),

@@ -5,7 +5,7 @@ ghost use Rattle.std.specs.List.{prefix_len};
 ghost use Rattle.lists_and_answers.specs.Texts.{is_white};
 ghost use Rattle.vrt_markup.specs.Items.{is_name};
 ghost use Rattle.vrt_markup.specs.Keys.{is_plain, is_literal};
-ghost use Rattle.vrt_markup.specs.Forest.{deepest, nodes, inner, is_blank, plain_at, decoded, read_as};
+ghost use Rattle.vrt_markup.specs.Forest.{deepest, nodes, inner, is_all_white, plain_at, decoded, read_as};
 ghost use Rattle.vrt_markup.specs.Views.{tag_view, text_view, plain_text};
 ghost use Rattle.vrt_markup.specs.Kept.{Gives, worded, first_child};
 
@@ -20,8 +20,8 @@ use memchr::memchr2;
 use std::alloc::{AllocError, Global};
 
 /// Whether it is white space alone.
-pub fn is_blank(raw: &[u8]) -> bool
-    ensures blank { result ≡ is_blank raw.now }
+pub fn is_all_white(raw: &[u8]) -> bool
+    ensures blank { result ≡ is_all_white raw.now }
 {
     raw.iter().all(|c| is_white(*c))
 }

@@ -1,7 +1,7 @@
 -- Written markup is read part by part: what is known of an element after each piece that stands in it.
 use Rattle.std.proofs.Common.{◌≡◌, ℕ, zero, suc, ◌-◌, ◌*◌, ◌<◌, Bool, true, false, List, ◌∷◌, ◌++◌, length, replicate, flat_map, Option, None, Result, Ok, refl, sym, ap, ◌∙◌, append_assoc}
 use Rattle.vrt_markup.specs.Items.{plain_len, run, open_tag, item_at, Pair, Tag}
-use Rattle.vrt_markup.specs.Forest.{Forest, stop, Read, nodes, inner, read_as, is_blank, text_of, child_of}
+use Rattle.vrt_markup.specs.Forest.{Forest, stop, Read, nodes, inner, read_as, is_all_white, text_of, child_of}
 use Rattle.vrt_markup.specs.Kept.{seen, stepped}
 use Rattle.vrt_writing.specs.Spelled.{Markup, nothing, both, words, empty, group, written, indent, pair_text, escaped}
 use Rattle.vrt_writing.specs.Reread.{IsTagName, words_forest}
@@ -37,7 +37,7 @@ spaces_plain : (k : ℕ) (x : List ℕ) → plain_len 60 (replicate k 32 ++ 60 �
 spaces_plain zero x = refl
 spaces_plain (suc k) x = ap suc (spaces_plain k x)
 
-spaces_blank : (k : ℕ) → is_blank (replicate k 32) ≡ true
+spaces_blank : (k : ℕ) → is_all_white (replicate k 32) ≡ true
 spaces_blank zero = refl
 spaces_blank (suc k) = spaces_blank k
 

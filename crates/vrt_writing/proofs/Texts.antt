@@ -7,7 +7,7 @@ use Rattle.std.proofs.lemmas.List.{take_all}
 use Rattle.std.proofs.lemmas.Str.{IsUtf8-drop, IsUtf8-nil, IsCharBoundary-after_ascii, IsUtf8-past_char, IsUtf8-from_is_utf8}
 use Rattle.std.proofs.lemmas.Bool.Decides.{nat_tests}
 use Rattle.vrt_markup.specs.Items.{strip, begins, option_case, Item, bad, comment, run, open_tag, close_tag, Tag, item_at}
-use Rattle.vrt_markup.specs.Forest.{Forest, stop, text, element, nodes, inner, is_blank, text_of}
+use Rattle.vrt_markup.specs.Forest.{Forest, stop, text, element, nodes, inner, is_all_white, text_of}
 use Rattle.vrt_markup.specs.Tree.{space_step, space_by, space, utf8_of, without_mark, after_declaration, declared_at, Root, root_item, root_at, end_at, Tree, markup_of, tree_of}
 use Rattle.vrt_writing.specs.Texts.{AreTexts}
 use Rattle.vrt_markup.specs.declared.fault.VrtFault.{VrtFault}
@@ -110,7 +110,7 @@ blank_case false place more r h = absurd cc
 step_utf8 : (more : List ℕ → Result (List ℕ) VrtFault) (total : ℕ) (bytes r : List ℕ) (item : Item) → IsWhole item → IsUtf8 bytes → ((x : List ℕ) → more x ≡ Ok r → IsUtf8 x → IsUtf8 r) → space_step more total bytes item ≡ Ok r → IsUtf8 r
 step_utf8 more total bytes r bad w u ih h = subst IsUtf8 (ok_same bytes r h) u
 step_utf8 more total bytes r (comment rest) w u ih h = ih rest h w
-step_utf8 more total bytes r (run raw rest) w u ih h = ih rest (blank_case (is_blank raw) (total - length bytes) (more rest) r h) w.1
+step_utf8 more total bytes r (run raw rest) w u ih h = ih rest (blank_case (is_all_white raw) (total - length bytes) (more rest) r h) w.1
 step_utf8 more total bytes r (open_tag tag rest) w u ih h = subst IsUtf8 (ok_same bytes r h) u
 step_utf8 more total bytes r (close_tag name rest) w u ih h = subst IsUtf8 (ok_same bytes r h) u
 
