@@ -19,7 +19,8 @@ use Rattle.esri_hdr.specs.declared.header_parts.RawGeo.{RawGeo}
 use Rattle.esri_hdr.specs.declared.header_parts.Shape.{Shape}
 use Rattle.esri_hdr.specs.declared.header_parts.Rows.{Rows}
 use Rattle.esri_hdr.specs.Lines.{Values, last_of}
-use Rattle.esri_hdr.specs.Values.{side_in, bands_in, bits_in, big_endian_in, layout_in, skip_in, signed_in, type_of_bits}
+use Rattle.esri_hdr.specs.Values.{side_in, bands_in, bits_in, big_endian_in, layout_in, skip_in, signed_in}
+use Rattle.esri_hdr.specs.Values.{type_of_bits}
 use Rattle.esri_hdr.specs.Values.{band_row_in, total_row_in, gap_in, BandRowFits, TotalRowFits, GapFits, longest_gap}
 use Rattle.esri_hdr.specs.Keys as keys
 use Rattle.geotransform.specs.Limits.{most_bands, most_side, unit_limit}

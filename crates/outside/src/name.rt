@@ -3,7 +3,8 @@ ghost use Rattle.std.specs.Prelude.{◌≡◌, ◌↔◌, ◌<◌, ℕ, length, 
 ghost use Rattle.std.specs.Option.{unwrap_or};
 ghost use Rattle.lists_and_answers.specs.Texts.{same_letters};
 ghost use Rattle.outside.specs.Paths.{normal, IsName, longest_name};
-ghost use Rattle.outside.specs.Names.{cut_last, behind_last, folder_part, last_part, ending_of, extension_of_ending, extension_of};
+ghost use Rattle.outside.specs.Names.{cut_last, behind_last, folder_part, last_part, ending_of, extension_of_ending};
+ghost use Rattle.outside.specs.Names.{extension_of};
 ghost use Rattle.outside.specs.Names.{is_raw, has_no_lower, header_ending, header_of};
 ghost use Rattle.outside.specs.declared.name.NameFault.TheVariants as name_fault;
 

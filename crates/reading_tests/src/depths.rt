@@ -61,7 +61,7 @@ impl Picture for Plain {
 const RECTS: [Place; 3] = [(0, (3, 20, 1, 1)), (0, (21, 4, 1, 1)), (0, (1, 2, 20, 18))];
 
 // Whether the first mosaic is read through a new lane of this capacity, and holds nothing but 255.
-fn is_blank<R: Abort>(
+fn shows_white<R: Abort>(
     rt: &R,
     alloc: Global,
     folder: &mut Tally<CalmFolder>,
@@ -84,7 +84,7 @@ fn is_bounded<R: Abort>(
     capacity: u32,
 ) -> bool {
     let before = folder.reads();
-    let blank = is_blank(rt, alloc, folder, capacity);
+    let blank = shows_white(rt, alloc, folder, capacity);
     blank && folder.reads().saturating_sub(before) < ALL_PIXELS
 }
 

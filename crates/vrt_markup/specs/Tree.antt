@@ -12,7 +12,8 @@ use Rattle.vrt_markup.specs.declared.fault.VrtFault.TheVariants.{BadText}
 -- Outside the root only comments and white space stand: what is left behind them.
 abbrev pub space_step : (List ℕ → Result (List ℕ) VrtFault) → ℕ → List ℕ → Item → Result (List ℕ) VrtFault
 space_step more total bytes (comment rest) = more rest
-space_step more total bytes (run raw rest) = if is_all_white raw then more rest else Err (BadText (total - length bytes))
+space_step more total bytes (run raw rest) = if is_all_white raw then more rest
+    else Err (BadText (total - length bytes))
 space_step more total bytes bad = Ok bytes
 space_step more total bytes (open_tag tag rest) = Ok bytes
 space_step more total bytes (close_tag name rest) = Ok bytes
