@@ -2,9 +2,8 @@
 ghost use Rattle.std.specs.Prelude.{◌⊎◌, ◌≡◌, ℕ, ◌<◌, ◌≤◌, ◌+◌, ◌*◌, ◌/◌, ◌^◌, IfOk, Option};
 ghost use Rattle.std.specs.Option.{option_map};
 ghost use Rattle.esri_hdr.specs.Values.{number_in, number_or, at_most, count_within, side_in, bands_in, bits_in};
-ghost use Rattle.esri_hdr.specs.Values.{order_of};
 ghost use Rattle.esri_hdr.specs.Values.{big_endian_in, layout_in, skip_in, is_negative, signed_in, type_of_bits};
-ghost use Rattle.esri_hdr.specs.Values.{row_in};
+ghost use Rattle.esri_hdr.specs.Values.{order_of, row_in};
 ghost use Rattle.esri_hdr.specs.Values.{band_row_in, total_row_in, gap_in, BandRowFits, TotalRowFits, GapFits};
 ghost use Rattle.esri_hdr.specs.Values.{longest_row, longest_gap};
 ghost use Rattle.geotransform.specs.Limits.{most_bands, most_side};
