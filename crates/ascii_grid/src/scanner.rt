@@ -9,7 +9,8 @@ ghost use Rattle.ascii_grid.specs.Tokens.{longest_token};
 ghost use Rattle.ascii_grid.specs.Values.{has_value};
 ghost use Rattle.ascii_grid.specs.declared.head_parts.Stage.TheVariants.{AtKey};
 ghost use Rattle.lists_and_answers.specs.Places.{StandsAt};
-ghost use Rattle.ascii_grid.specs.Scan.{State, then_byte, fed, start, Reaches, answer_of, grid_after, AreRowsAt, with_read};
+ghost use Rattle.ascii_grid.specs.Scan.{State, then_byte, fed, start, Reaches, answer_of, grid_after, AreRowsAt};
+ghost use Rattle.ascii_grid.specs.Scan.{with_read};
 ghost use Rattle.ascii_grid.specs.Scan.{ended, body_closed, closed, Reads, IsFaultOf, HasScanned, IsFaultIn};
 
 use crate::faults::GridFault;

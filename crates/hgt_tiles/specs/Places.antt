@@ -5,7 +5,8 @@ use Rattle.std.specs.Prelude.{if◌then◌else◌}
 use Rattle.lists_and_answers.specs.Options.{◌>>=◌}
 use Rattle.geotransform.specs.Print.{unit}
 use Rattle.geotransform.specs.Geo.{Transform, is_north_up}
-use Rattle.geotransform.specs.Degrees.{degrees, twice_west, twice_east, twice_south, twice_north, lon_of, lat_of, IsAtDegree}
+use Rattle.geotransform.specs.Degrees.{degrees, twice_west, twice_east, twice_south, twice_north, lon_of, lat_of}
+use Rattle.geotransform.specs.Degrees.{IsAtDegree}
 use Rattle.geotransform.specs.declared.types.Size.{Size}
 use Rattle.hgt_tiles.specs.Names.{Place}
 

@@ -59,7 +59,8 @@ pub record HoldsPart (rect part : Rect) : Type 0 where
   pub some : 0 < part.w
 
 -- what is made of pixels from `base` on stands where the samples were open
-pub record IsMergedFrom (taking : Taking) (kind : PixelType) (pixels : List ℤ) (base : ℕ) (old new : List ℤ) : Type 0 where
+pub record IsMergedFrom (taking : Taking) (kind : PixelType) (pixels : List ℤ) (base : ℕ) (old new : List ℤ)
+    : Type 0 where
   pub size : length new ≡ length old
   pub each : (k : ℕ) → k < length old →
       IsSame kind (filled_with (slice_index_or new k (pos 0))) (option_or (filled_with (slice_index_or old k (pos 0)))

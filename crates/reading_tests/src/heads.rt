@@ -207,7 +207,7 @@ fn head_in<R: Abort>(
         .expect(rt, "a head")
 }
 
-fn is_at(geo: GeoTransform, corner: (i128, i128), step: (i128, i128)) -> bool {
+fn lies_at(geo: GeoTransform, corner: (i128, i128), step: (i128, i128)) -> bool {
     (geo.ox.get(), geo.oy.get()) == corner && (geo.dx.get(), geo.dy.get()) == step
 }
 
@@ -244,7 +244,7 @@ fn is_of_tiles(head: &Head) -> bool {
     let step = (149_999_999_999_994, -149_999_999_999_994);
     is_shaped(head, Kind::Vrt, Size { w: 2401, h: 1201 }, 1, band)
         && is_named(head, "d/out.vrt d/N00E000.hgt d/N00E001.hgt")
-        && matches!(head.geo, Some(geo) if is_at(geo, corner, step))
+        && matches!(head.geo, Some(geo) if lies_at(geo, corner, step))
 }
 
 fn has_mosaic<R: Abort>(rt: &R, alloc: Global) -> bool {
