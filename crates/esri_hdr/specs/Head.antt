@@ -6,7 +6,7 @@ use Rattle.std.specs.Option.{option_map}
 use Rattle.lists_and_answers.specs.Answers.{◌>>=◌}
 use Rattle.geotransform.specs.Decimal.{ticks_of, whole_of, IsRead}
 use Rattle.geotransform.specs.Print.{unit}
-use Rattle.geotransform.specs.Types.{is_in, bytes_of, when_in}
+use Rattle.geotransform.specs.Types.{is_in, byte_count, when_in}
 use Rattle.geotransform.specs.Places.{half, sixteen_places}
 use Rattle.geotransform.specs.Geo.{Transform, is_near, is_north_up, sizes_held}
 use Rattle.geotransform.specs.declared.types.Size.{Size}
@@ -143,7 +143,7 @@ esri_head text = if nat_lt longest_header (length text) then Err Limit else head
 
 -- the bytes of a sample
 abbrev pub sample_len : PixelType → ℕ
-sample_len kind = bytes_of kind
+sample_len kind = byte_count kind
 
 -- the rules of the row lengths and the gap, by the layout, the number of bands and the bytes of a band's row
 abbrev pub RowsFit : Layout → ℕ → ℕ → Rows → Type 0

@@ -3,7 +3,7 @@ use Rattle.std.specs.Prelude.{ℕ, ℤ, negsuc, Bool, true, false, not, ◌&&◌
 use Rattle.std.specs.Prelude.{None, is_some, Result, Ok, Err, nat_lt, if◌then◌else◌}
 use Rattle.std.specs.List.{list_all}
 use Rattle.lists_and_answers.specs.Options.{◌>>=◌}
-use Rattle.geotransform.specs.Types.{bytes_of, highest, is_in, is_signed, lowest}
+use Rattle.geotransform.specs.Types.{byte_count, highest, is_in, is_signed, lowest}
 use Rattle.geotransform.specs.Places.{sixteen_places, are_same}
 use Rattle.geotransform.specs.Geo.{Transform, is_north_up, sizes_held, transform_of, cut_of}
 use Rattle.geotransform.specs.declared.types.Size.{Size}
@@ -113,7 +113,7 @@ holds_name AaiGrid name size geo = true
 holds_name Vrt name size geo = true
 
 abbrev pub is_int16 : PixelType → Bool
-is_int16 kind = (bytes_of kind == 2) && is_signed kind
+is_int16 kind = (byte_count kind == 2) && is_signed kind
 
 -- whether each number of a type is one of Int32
 abbrev pub is_within_int32 : PixelType → Bool
