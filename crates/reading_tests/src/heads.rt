@@ -16,7 +16,7 @@ const HEADER: &[u8] = b"NROWS 2\nNCOLS 3\nNBANDS 2\nNBITS 8\nLAYOUT BIL\nNODATA 
 const TWELVE: [u8; 12] = [0; 12];
 
 // What a word of a table stands for: the bytes of a file.
-fn bytes_of(word: &str) -> &'static [u8] {
+fn file_bytes(word: &str) -> &'static [u8] {
     match word {
         "header" => HEADER,
         "twelve" => &TWELVE,
@@ -91,7 +91,7 @@ fn holding<R: Abort>(rt: &R, alloc: Global, call: u64, files: &str) -> MemFolder
     let mut folder = folder_of(rt, alloc, call, &[]);
     for file in files.split_ascii_whitespace() {
         let (name, bytes) = cut(file, "=");
-        put(rt, alloc, &mut folder, name, bytes_of(bytes));
+        put(rt, alloc, &mut folder, name, file_bytes(bytes));
     }
     folder
 }
