@@ -151,7 +151,7 @@ fn steps_of(cellsize: Option<Step>, dx: Option<Step>, dy: Option<Step>) -> Optio
 
 // The height of so many rows of pixels.
 #[tactic(auto, using(crate::proofs::Products::height_small))]
-fn height_of(h: Side, step: Step) -> i128
+fn rows_height(h: Side, step: Step) -> i128
     ensures value { result ≡ pos (h * step) }
     ensures bound { unsigned_abs result ≤ most_side * (18 * sixteenth_limit) }
 {
@@ -188,7 +188,7 @@ fn placed(left: i128, bottom: i128, steps: (Step, Step), h: Side) -> Option<GeoT
     requires bottom { unsigned_abs bottom < 36 * sixteenth_limit }
     ensures { result ≡ placed left bottom steps h }
 {
-    let top = top_of(bottom, height_of(h, steps.1));
+    let top = top_of(bottom, rows_height(h, steps.1));
     GeoTransform::new(Ticks::of(left), top, eastward(steps.0), southward(steps.1))
 }
 
