@@ -10,7 +10,7 @@ use Rattle.interleaved_raw.proofs.Apart.{apart}
 use Rattle.interleaved_raw.proofs.Order.{further, ends_within}
 use Rattle.write_back.specs.declared.forms.Writer.{Writer}
 use Rattle.write_back.specs.declared.forms.Writer.TheVariants.{Raw, Hgt, Dted}
-use Rattle.write_back.specs.Forms.{band_total, block_of, cut_of, height_of, lane_of, plane_of, seen, seen_by, spot_of, under, width_of, HasPixel, IsSpot}
+use Rattle.write_back.specs.Forms.{band_total, block_of, cut_of, line_total, lane_of, plane_of, seen, seen_by, spot_of, under, column_total, HasPixel, IsSpot}
 use Rattle.write_back.specs.Overlay.{line_rect, IsOverlaid, IsPut, IsWindow}
 use Rattle.write_back.specs.Pieces.{is_woven, lane_in, planes_by, planes_of, spot_place, spots_by, spots_of, IsLineSpot}
 
@@ -112,7 +112,7 @@ raw_lane Bip width bands band x n i less within below =
     r
 raw_lane Bsq width bands band x n i less within below = (let r : x + i * 1 < width = omega arith in r)
 
-pub lane_room : (w : Writer) (band x n : ℕ) → (cut_of w).by_columns ≡ false → band < band_total w → x + n ≤ width_of w → (i : ℕ) → i < n → (lane_of w band x).start + i * (lane_of w band x).stride < (cut_of w).spots
+pub lane_room : (w : Writer) (band x n : ℕ) → (cut_of w).by_columns ≡ false → band < band_total w → x + n ≤ column_total w → (i : ℕ) → i < n → (lane_of w band x).start + i * (lane_of w band x).stride < (cut_of w).spots
 lane_room (Raw h) band x n lines less within i below = raw_lane h.layout h.size.w h.bands band x n i less within below
 lane_room (Hgt side) band x n lines less within i below = (let r : x + i * 1 < side = omega arith in r)
 lane_room (Dted c) band x n lines less within i below = absurd (let clash : true ≡ false = lines in cc)
@@ -170,15 +170,15 @@ lane_put (Hgt side) band x y line old new lines less put = woven_put (Hgt side) 
 lane_put (Dted c) band x y line old new lines less put = absurd (let clash : true ≡ false = lines in cc)
 
 -- the blocks of a cut of lines are the lines, and those of columns the columns
-pub lines_cut : (w : Writer) → (cut_of w).by_columns ≡ false → (cut_of w).blocks ≡ height_of w
+pub lines_cut : (w : Writer) → (cut_of w).by_columns ≡ false → (cut_of w).blocks ≡ line_total w
 lines_cut (Raw h) lines = refl
 lines_cut (Hgt side) lines = refl
 lines_cut (Dted c) lines = absurd (let clash : true ≡ false = lines in cc)
 
 pub record AreColumnsCut (w : Writer) : Type 0 where
   pub bands : (cut_of w).bands ≡ band_total w
-  pub blocks : (cut_of w).blocks ≡ width_of w
-  pub spots : (cut_of w).spots ≡ height_of w
+  pub blocks : (cut_of w).blocks ≡ column_total w
+  pub spots : (cut_of w).spots ≡ line_total w
 
 pub columns_cut : (w : Writer) → (cut_of w).by_columns ≡ true → AreColumnsCut w
 columns_cut (Raw h) columns = absurd (let clash : false ≡ true = columns in cc)

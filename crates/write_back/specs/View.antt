@@ -10,7 +10,7 @@ use Rattle.write_back.specs.declared.fault.TargetFault.{TargetFault}
 use Rattle.write_back.specs.declared.forms.Writer.{Writer}
 use Rattle.write_back.specs.declared.forms.Writer.TheVariants.{Raw, Hgt, Dted}
 use Rattle.write_back.specs.declared.rows.GridForm.{GridForm}
-use Rattle.write_back.specs.Forms.{band_total, holds, most_calls, width_of, height_of, seen}
+use Rattle.write_back.specs.Forms.{band_total, holds, most_calls, column_total, line_total, seen}
 use Rattle.write_back.specs.Grids.{HasRows, grid_in}
 use Rattle.write_back.specs.Overlay.{IsOverlaid, WasMet, overlay}
 use Rattle.write_back.specs.State.{IsRight, IsSound, lines_met, block_total}
@@ -66,12 +66,12 @@ bands_of (Rows g) = 1
 
 -- how many columns an output has
 abbrev pub columns_of : Output → ℕ
-columns_of (Blocks w) = width_of w
+columns_of (Blocks w) = column_total w
 columns_of (Rows g) = g.size.w
 
 -- how many lines an output has
 abbrev pub rows_of : Output → ℕ
-rows_of (Blocks w) = height_of w
+rows_of (Blocks w) = line_total w
 rows_of (Rows g) = g.size.h
 
 -- a sample can be written

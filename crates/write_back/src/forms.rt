@@ -1,8 +1,8 @@
 // What differs between the outputs that are written through a pool of blocks.
 ghost use Rattle.std.specs.Prelude.{◌≡◌, ◌<◌, ◌≤◌, ◌+◌, ◌*◌, ◌^◌, ℕ, List, length, Some, OnOk};
 ghost use Rattle.outside.specs.Causes.{HasCause};
-ghost use Rattle.write_back.specs.Forms.{band_total, cut_of, height_of, holds, lane_of, most_calls, needed_of};
-ghost use Rattle.write_back.specs.Forms.{width_of, IsFormed};
+ghost use Rattle.write_back.specs.Forms.{band_total, cut_of, line_total, holds, lane_of, most_calls, needed_of};
+ghost use Rattle.write_back.specs.Forms.{column_total, IsFormed};
 ghost use Rattle.write_back.specs.Overlay.{held_in, line_key, IsBlockWritten, IsLine};
 ghost use Rattle.write_back.specs.Pieces.{most_spots};
 
@@ -94,7 +94,7 @@ impl Writer {
     // Where the pixels of a band from a column on stand in the block of a line.
     pub(crate) fn lane(&self, band: u32, x: u32) -> Lane
         requires band { band < band_total self.now }
-        requires column { x < width_of self.now }
+        requires column { x < column_total self.now }
         ensures lane { result ≡ lane_of self.now band x }
     {
         match self {
@@ -109,8 +109,8 @@ impl Writer {
 
     // The columns and the lines.
     pub(crate) fn size(&self) -> Size
-        ensures columns { result.w ≡ width_of self.now }
-        ensures rows { result.h ≡ height_of self.now }
+        ensures columns { result.w ≡ column_total self.now }
+        ensures rows { result.h ≡ line_total self.now }
     {
         match self {
             Writer::Raw(lines) => lines.head().size,
