@@ -33,7 +33,7 @@ use Rattle.band_blocks.specs.declared.key.PixelKey.{PixelKey}
 use Rattle.band_blocks.specs.Contents.{driver_calls, content_calls, calls_of, most_calls, sample_type_of}
 use Rattle.band_blocks.specs.Keys.{IsKeyOf, IsPixelKeyOf}
 use Rattle.band_blocks.specs.Open.{AreGood}
-use Rattle.band_blocks.specs.Samples.{HasPlaces, HasSample, IsDirect, IsOfType, place_of, width_of}
+use Rattle.band_blocks.specs.Samples.{HasPlaces, HasSample, IsDirect, IsOfType, place_of, bytes_per_sample}
 use Rattle.band_blocks.proofs.Corners.{number_below}
 use Rattle.band_blocks.proofs.Loads.{told_by, told_kind, some_one, driver_in, file_of, long_enough, calls_within}
 use Rattle.band_blocks.proofs.Opened.{good_found, some_file}
@@ -60,7 +60,7 @@ short_side driver side len is long =
     elim t.side_is [ inl small ↦ omega arith | inr large ↦ omega arith ]
 
 -- each sample ends within a file that is long enough
-pub sample_within : (driver : DriverHead) (band x y len : ℕ) → HasSample driver band x y → HasPlaces driver → IsLongEnough driver len → place_of driver band x y + width_of driver ≤ len
+pub sample_within : (driver : DriverHead) (band x y len : ℕ) → HasSample driver band x y → HasPlaces driver → IsLongEnough driver len → place_of driver band x y + bytes_per_sample driver ≤ len
 sample_within (Raw h) band x y len there places long = let e = ends_within h band x y (record { band = there.0; column = there.1; line = there.2 }) in omega arith
 sample_within (Dted h) band x y len there places long = let e = elevation_within h x y there.0 there.1 in omega arith
 sample_within (Hgt side) band x y len there places long = let t = tile_long len side long in let e = item_within side x y there.0 there.1 in let n = t.long in omega arith

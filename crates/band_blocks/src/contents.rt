@@ -10,7 +10,7 @@ ghost use Rattle.geotransform.specs.Types.{is_in};
 ghost use Rattle.lists_and_answers.specs.Places.{StandsAt};
 ghost use Rattle.dted_records.specs.Places.{record_of};
 ghost use Rattle.dted_records.specs.Records.{point_of};
-ghost use Rattle.band_blocks.specs.Samples.{HasPlaces, HasSample, place_of, width_of};
+ghost use Rattle.band_blocks.specs.Samples.{HasPlaces, HasSample, place_of, bytes_per_sample};
 ghost use Rattle.geotransform.specs.Limits.{most_side};
 
 use crate::grid::read_grid_row;
@@ -59,8 +59,8 @@ pub(crate) fn read_block<F: Folder>(
 }
 
 // The bytes of a sample.
-fn width_of(driver: &DriverHead) -> usize
-    ensures width { result ≡ width_of driver.now }
+fn bytes_per_sample(driver: &DriverHead) -> usize
+    ensures width { result ≡ bytes_per_sample driver.now }
     ensures few { result ≤ 8 }
 {
     match driver {
@@ -107,7 +107,7 @@ fn place_of(driver: &DriverHead, pixel: PixelKey) -> u64
 
 // The sample that these bytes give.
 fn sample_of(driver: &DriverHead, bytes: &[u8]) -> Sample
-    requires width { length bytes.now ≡ width_of driver.now }
+    requires width { length bytes.now ≡ bytes_per_sample driver.now }
     requires places { HasPlaces driver.now }
     ensures file { (file : List ℕ) (band x y : ℕ) → StandsAt file bytes.now (place_of driver.now band x y) →
         result ≡ sample_in driver.now file band x y }
@@ -142,7 +142,7 @@ pub(crate) fn read_sample<F: Folder>(
     ensures cause { FailsWith (F.faults folder.old) (F.faults folder.new) result }
 {
     let mut bytes = [0u8; 8];
-    let part = &mut bytes[..width_of(driver)];
+    let part = &mut bytes[..bytes_per_sample(driver)];
     folder.read_at(file, place_of(driver, pixel), part)?;
     Ok(sample_of(driver, part))
 }
