@@ -7,7 +7,7 @@ use Rattle.outside.specs.Names.{header_of}
 use Rattle.block_cache.specs.Entries.{PoolView}
 use Rattle.write_back.specs.declared.fault.CloseFault.{CloseFault}
 use Rattle.write_back.specs.declared.forms.Writer.{Writer}
-use Rattle.write_back.specs.Forms.{band_total, block_of, cut_of, plane_of, seen, spot_of, IsMet}
+use Rattle.write_back.specs.Forms.{band_total, block_of, cut_of, plane_of, seen, spot_of, TellsMet}
 use Rattle.write_back.proofs.Woven.{spot_is}
 use Rattle.write_back.specs.View.{Blocks, seen_in, shown_on}
 use Rattle.write_back.specs.Files.{HasSamples, HasHeader, ArePut, IsHeaderPut, files_with, header_file, header_state, published_by, published_of, with_files}
@@ -56,7 +56,7 @@ same_count bytes name None (Some text) told a b (Ok x) has = absurd (let clash :
 same_count bytes name (Some d) None told a b (Ok x) has = absurd (let clash : Some (bytes d, name d) ≡ None = has in cc)
 same_count bytes name header text told a b (Err e) has = refl
 
-empty_met : (w : Writer) (c : List ℕ) (k v : ℕ) → WasMet w [] c k v → IsMet w c v
+empty_met : (w : Writer) (c : List ℕ) (k v : ℕ) → WasMet w [] c k v → TellsMet w c v
 empty_met w c k v (inl met) = met
 empty_met w c k v (inr held) = absurd (let clash : None ≡ Some held.0 = held.1 in cc)
 
