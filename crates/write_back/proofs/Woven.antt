@@ -10,7 +10,7 @@ use Rattle.interleaved_raw.proofs.Apart.{apart}
 use Rattle.interleaved_raw.proofs.Order.{further, ends_within}
 use Rattle.write_back.specs.declared.forms.Writer.{Writer}
 use Rattle.write_back.specs.declared.forms.Writer.TheVariants.{Raw, Hgt, Dted}
-use Rattle.write_back.specs.Forms.{band_total, block_of, cut_of, line_total, lane_of, plane_of, seen, seen_by, spot_of, under, column_total, HasPixel, IsSpot}
+use Rattle.write_back.specs.Forms.{band_total, block_of, cut_of, line_total, lane_of, plane_of, pixel_sample, pixel_sample_by, spot_of, under, column_total, HasPixel, IsSpot}
 use Rattle.write_back.specs.Overlay.{line_rect, IsOverlaid, IsPut, IsWindow}
 use Rattle.write_back.specs.Pieces.{is_woven, lane_in, planes_by, planes_of, spot_place, spots_by, spots_of, IsLineSpot}
 
@@ -79,7 +79,7 @@ seen_place Bil h k x y = from_first Bil h k x y refl
 seen_place Bip h k x y = ap (λ m. m + (x * h.bands + k) * sample_len h.kind) (first_of h.skip y h.total_row h.bands (sample_len h.kind))
 seen_place Bsq h k x y = from_first Bsq h k x y refl
 
-pub seen_sample : (h : Head) (b : List ℕ) (k x y : ℕ) → seen (Raw h) (under (Raw h) b) k x y ≡ raw_at h b k x y
+pub seen_sample : (h : Head) (b : List ℕ) (k x y : ℕ) → pixel_sample (Raw h) (under (Raw h) b) k x y ≡ raw_at h b k x y
 seen_sample h b k x y = ap (λ p. sample_at h (drop p b)) (seen_place h.layout h k x y)
 
 -- a pixel stands in a block
@@ -136,7 +136,7 @@ lane_some w band x less = lane_by (cut_of w).woven (band_total w) band x less
 
 -- a run of a band's pixels is a window of one line
 woven_put : (w : Writer) (woven : Bool) (bands band x y : ℕ) (line : List ℤ) (old new : ℕ → ℕ → ℕ → ℤ) → ((k a b : ℕ) → HasPixel w k a b → IsSpot w (plane_of woven k) (spot_of false woven bands k a b) b) → ((k a b : ℕ) → HasPixel w k a b → k < bands) → band < bands
-    → IsPut w (lane_in woven bands band x) y line old new → IsOverlaid (HasPixel w) band (line_rect x y (length line)) line (seen_by false woven bands old) (seen_by false woven bands new)
+    → IsPut w (lane_in woven bands band x) y line old new → IsOverlaid (HasPixel w) band (line_rect x y (length line)) line (pixel_sample_by false woven bands old) (pixel_sample_by false woven bands new)
 woven_put w false bands band x y line old new spot within has_band put = record {
   inside = λ u v less one.
       let e : v ≡ 0 = omega arith in

@@ -10,7 +10,7 @@ use Rattle.write_back.specs.declared.fault.TargetFault.{TargetFault}
 use Rattle.write_back.specs.declared.forms.Writer.{Writer}
 use Rattle.write_back.specs.declared.forms.Writer.TheVariants.{Raw, Hgt, Dted}
 use Rattle.write_back.specs.declared.rows.GridForm.{GridForm}
-use Rattle.write_back.specs.Forms.{band_total, holds, most_calls, column_total, line_total, seen}
+use Rattle.write_back.specs.Forms.{band_total, holds, most_calls, column_total, line_total, pixel_sample}
 use Rattle.write_back.specs.Grids.{HasRows, grid_in}
 use Rattle.write_back.specs.Overlay.{IsOverlaid, WasMet, overlay}
 use Rattle.write_back.specs.State.{IsRight, IsSound, lines_met, block_total}
@@ -115,13 +115,13 @@ IsPooled (Blocks w) = Unit {0}
 IsPooled (Rows g) = ⊥
 
 -- the samples that a pool and a draft show
-abbrev pub seen_in : Writer → PoolView → Option (List ℕ) → ℕ → ℕ → ℕ → ℤ
-seen_in w pool None k x y = pos 0
-seen_in w pool (Some b) k x y = seen w (overlay w pool.entries b) k x y
+abbrev pub pixel_sample_in : Writer → PoolView → Option (List ℕ) → ℕ → ℕ → ℕ → ℤ
+pixel_sample_in w pool None k x y = pos 0
+pixel_sample_in w pool (Some b) k x y = pixel_sample w (overlay w pool.entries b) k x y
 
 -- the pixel that the pool and the draft of an output show
 abbrev pub shown_on : Output → PoolView → Option (List ℕ) → ℕ → ℕ → ℕ → ℤ
-shown_on (Blocks w) pool draft k x y = seen_in w pool draft k x y
+shown_on (Blocks w) pool draft k x y = pixel_sample_in w pool draft k x y
 shown_on (Rows g) pool draft k x y = grid_in g draft x y
 
 -- the pixel that a target shows
