@@ -32,8 +32,8 @@ pub record Seen : Type 0 where
   pub faults : ℕ
 
 -- what is seen of a folder, of these parts
-abbrev pub seen : Option Files → ℕ → ℕ → ℕ → Seen
-seen names writes reads faults = record { names = names; writes = writes; reads = reads; faults = faults }
+abbrev pub folder_seen : Option Files → ℕ → ℕ → ℕ → Seen
+folder_seen names writes reads faults = record { names = names; writes = writes; reads = reads; faults = faults }
 
 -- a refusal that says nothing of a name's kind or of a call of the folder, and of a file only what its form may lack
 abbrev pub IsPlain : WalkFault → Type 0

@@ -22,7 +22,8 @@ fn ends_kept(parts: &[&str]) -> bool
 // Takes one part more.
 #[tactic(auto, using(crate::proofs::PathParts::parts))]
 fn take_part<'a>(absolute: bool, parts: &mut Vec<&'a str>, part: &'a str) -> Result<(), AllocError>
-    ensures ok { OnOk result (dereferenced parts.new.items ≡ with_part absolute (dereferenced parts.old.items) part.now) }
+    ensures ok { OnOk result (dereferenced parts.new.items ≡
+        with_part absolute (dereferenced parts.old.items) part.now) }
 {
     if part.is_empty() || part == "." {
         return Ok(());
