@@ -185,7 +185,7 @@ pub record Goes (n : ℕ) (old new : State) : Type 0 where
   pub counted : new.sources + sources_among old.datasets ≡ old.sources + n + sources_among new.datasets
 
 -- nothing is open
-pub record IsWhole (st : State) : Type 0 where
+pub record IsWholeWalk (st : State) : Type 0 where
   pub linked : IsLinked st
   pub catalog : IsCatalog st.datasets
   pub closed : (id : ℕ) (x : Option Link) → slice_get st.links id ≡ Some x → (l : Link) × (x ≡ Some l)
