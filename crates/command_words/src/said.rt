@@ -1,7 +1,7 @@
 // What options say by their values.
 ghost use Rattle.std.specs.Prelude.{◌≡◌, ◌+◌, ◌<◌, ◌<ℤ◌, ◌≤◌, pos, length, map, slice_get, string_bytes, option_map};
 ghost use Rattle.std.specs.Prelude.{IfSome, IfOk};
-ghost use Rattle.translate_plan.specs.Options.{IsWhole};
+ghost use Rattle.translate_plan.specs.Options.{IsShortNumber};
 ghost use Rattle.lists_and_answers.specs.Answers.{Gives};
 ghost use Rattle.geotransform.specs.Decimal.{ticks_of};
 ghost use Rattle.command_words.specs.Values.{integer_of, side_of, nodata_of, beyond};
@@ -54,7 +54,7 @@ fn refused(spot: Spot, i: usize) -> WordFault
 fn integer_said(spot: Spot, values: &[String], i: usize) -> Result<i64, WordFault>
     requires within { spot.at + length values.now < spot.count }
     ensures value { result ≡ value_said integer_of spot (map string_bytes values.now) i }
-    ensures kept { IfOk result IsWhole }
+    ensures kept { IfOk result IsShortNumber }
 {
     match word_at(values, i) {
         None => Err(ends_early(spot)),

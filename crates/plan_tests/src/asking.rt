@@ -1,7 +1,7 @@
 // What words ask of a translation, and the heads of sources.
 ghost use Rattle.std.specs.Prelude.{◌≡◌, ◌<◌, ◌≤◌, All, IfOk, IfSome};
 ghost use Rattle.geotransform.specs.Decimal.{IsRead};
-ghost use Rattle.translate_plan.specs.Options.{IsDriver, IsWhole, IsView, IsOutSize, IsWord};
+ghost use Rattle.translate_plan.specs.Options.{IsDriver, IsShortNumber, IsView, IsOutSize, IsWord};
 
 use catalog::{Head, NodataWord, head_of};
 use esri_hdr::Layout;
@@ -115,7 +115,7 @@ fn driver_of(name: &Name) -> Driver
 
 // A number of up to nine digits.
 fn whole(word: Option<&str>) -> Option<i64>
-    ensures { IfSome result IsWhole }
+    ensures { IfSome result IsShortNumber }
 {
     let n = word?.parse::<i32>().ok()?;
     if n > -1_000_000_000 && n < 1_000_000_000 {

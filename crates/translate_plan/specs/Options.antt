@@ -51,13 +51,13 @@ driver_for exts.Grd = drivers.AaiGrid
 driver_for exts.Vrt = drivers.Vrt
 
 -- a number of up to nine digits
-abbrev pub IsWhole : ℤ → Type 0
-IsWhole n = unsigned_abs n < 10 ^ 9
+abbrev pub IsShortNumber : ℤ → Type 0
+IsShortNumber n = unsigned_abs n < 10 ^ 9
 
 -- pixels are whole numbers of up to nine digits, places are numbers that were read
 abbrev pub IsView : View → Type 0
 IsView views.Whole = Unit {0}
-IsView (views.Pixels x y w h) = IsWhole x × IsWhole y × IsWhole w × IsWhole h
+IsView (views.Pixels x y w h) = IsShortNumber x × IsShortNumber y × IsShortNumber w × IsShortNumber h
 IsView (views.Places ulx uly lrx lry) = IsRead ulx × IsRead uly × IsRead lrx × IsRead lry
 
 -- a number of up to nine digits
