@@ -12,7 +12,7 @@ ghost use Rattle.catalog.specs.Walk.{number_of, dataset_named, band_named, is_na
 ghost use Rattle.catalog.specs.Walk.{unless_no_samples, unless_wide, visit};
 ghost use Rattle.vrt_profile.specs.Value.{is_plain};
 ghost use Rattle.catalog.specs.Linked.{IsLinked, IsPath, IsLow, IsMosaicAt, HasBand, HasSource, met_of};
-ghost use Rattle.catalog.specs.Walking.{IsPlain, Meets, Visits, Passes, Names, Reaches, ReachesRows, folder_seen};
+ghost use Rattle.catalog.specs.Walking.{IsOrdinaryFault, Meets, Visits, Passes, Names, Reaches, ReachesRows, folder_seen};
 ghost use Rattle.catalog.specs.Walking.{IsWalkedUpTo, IsMetLow};
 
 use crate::driver::Content;
@@ -63,7 +63,7 @@ fn resolve_source(alloc: Global, met: &Met, at: SourceAt) -> Result<Wanted, Walk
         (resolved w.of.mosaic.dataset.head.name w.value) }
     ensures band { (w : HasSource met.now at.id at.band at.source) → IfOk result (λ r. r.band ≡ w.value.band) }
     ensures kept { (w : HasSource met.now at.id at.band at.source) → IfOk result (λ r. r.plain ≡ is_plain w.value) }
-    ensures plain { IfErr result IsPlain }
+    ensures plain { IfErr result IsOrdinaryFault }
 {
     let base = met.name(at.id);
     let source = met.band(at.id, at.band).sources.get(at.source);
@@ -86,7 +86,7 @@ fn resolve_source(alloc: Global, met: &Met, at: SourceAt) -> Result<Wanted, Walk
 fn check_band(met: &Met, member: u32, wanted: &Wanted) -> Result<(), WalkFault>
     requires number { number_of met.now.datasets wanted.now.name ≡ Some member }
     ensures told { Gives IsMemory (λ _. tt) result (unless_no_band met.now.datasets wanted.now.name wanted.now.band) }
-    ensures plain { IfErr result IsPlain }
+    ensures plain { IfErr result IsOrdinaryFault }
 {
     if wanted.band as usize > met.band_count(member) {
         return Err(WalkFault::SourceBand {
@@ -123,7 +123,7 @@ fn check_width(met: &Met, id: u32, member: u32, wanted: &Wanted) -> Result<(), W
     ensures told { (d : Known) → slice_get met.now.datasets id ≡ Some d →
         Gives IsMemory (λ _. tt) result (unless_wide met.now.datasets d.head.name wanted.now.name wanted.now.band
         wanted.now.plain) }
-    ensures plain { IfErr result IsPlain }
+    ensures plain { IfErr result IsOrdinaryFault }
 {
     if takes_samples(met, member, wanted) {
         return Ok(());
@@ -141,7 +141,7 @@ fn check_samples(met: &Met, id: u32, member: u32, wanted: &Wanted) -> Result<(),
     ensures told { (d : Known) → slice_get met.now.datasets id ≡ Some d →
         Gives IsMemory (λ _. tt) result (unless_no_samples met.now.datasets d.head.name wanted.now.name wanted.now.band
         wanted.now.plain) }
-    ensures plain { IfErr result IsPlain }
+    ensures plain { IfErr result IsOrdinaryFault }
 {
     check_band(met, member, wanted)?;
     check_width(met, id, member, wanted)
@@ -154,7 +154,7 @@ fn check_again(met: &Met, id: u32, room: u32, name: &Name) -> Result<(), WalkFau
     ensures told { (m : Files) (verify : Bool) (path : List (List ℕ)) → IsPath met.now path →
         Gives IsMemory (λ _. met_of met.now) result (visit m verify room path (met_of met.now) name.now) }
     ensures low { OnOk result (IsLow met.now id room) }
-    ensures plain { IfErr result IsPlain }
+    ensures plain { IfErr result IsOrdinaryFault }
 {
     match met.link(id) {
         None => Err(WalkFault::Cycle {
