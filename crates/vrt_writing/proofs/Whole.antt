@@ -290,14 +290,14 @@ skips (suc k) [] = refl
 skips (suc k) (c ∷ cs) = skips k cs
 
 -- a byte that is plain text, and how many bytes behind it belong to it
-abbrev pub IsPlain : List ℕ → ℕ × ℕ → Type 0
-IsPlain cs x = (x.0 < 128) × IsUtf8 (drop x.1 cs)
+abbrev pub IsPlainByte : List ℕ → ℕ × ℕ → Type 0
+IsPlainByte cs x = (x.0 < 128) × IsUtf8 (drop x.1 cs)
 
-entity_case : (front cs : List ℕ) (b : ℕ) (o : Option (ℕ × ℕ)) (x : ℕ × ℕ) (t : Bool) → begins front cs ≡ t → b < 128 → AllAscii front → IsUtf8 cs → (o ≡ Some x → IsPlain cs x) → cond t (Some (b, length front)) o ≡ Some x → IsPlain cs x
-entity_case front cs b o x true e less a h more some = let same : (b, length front) ≡ x = cc in subst (IsPlain cs) same (less, begins_utf8 front cs e a h)
+entity_case : (front cs : List ℕ) (b : ℕ) (o : Option (ℕ × ℕ)) (x : ℕ × ℕ) (t : Bool) → begins front cs ≡ t → b < 128 → AllAscii front → IsUtf8 cs → (o ≡ Some x → IsPlainByte cs x) → cond t (Some (b, length front)) o ≡ Some x → IsPlainByte cs x
+entity_case front cs b o x true e less a h more some = let same : (b, length front) ≡ x = cc in subst (IsPlainByte cs) same (less, begins_utf8 front cs e a h)
 entity_case front cs b o x false e less a h more some = more some
 
-entity_utf8 : (cs : List ℕ) (x : ℕ × ℕ) → entity_at cs ≡ Some x → IsUtf8 cs → IsPlain cs x
+entity_utf8 : (cs : List ℕ) (x : ℕ × ℕ) → entity_at cs ≡ Some x → IsUtf8 cs → IsPlainByte cs x
 entity_utf8 cs x e h =
     entity_case (108 ∷ 116 ∷ 59 ∷ []) cs 60 _ x _ refl (omega arith) (omega arith, (omega arith, (omega arith, tt))) h
     (entity_case (103 ∷ 116 ∷ 59 ∷ []) cs 62 _ x _ refl (omega arith) (omega arith, (omega arith, (omega arith, tt))) h
@@ -306,11 +306,11 @@ entity_utf8 cs x e h =
     (entity_case (97 ∷ 112 ∷ 111 ∷ 115 ∷ 59 ∷ []) cs 39 None x _ refl (omega arith) (omega arith, (omega arith, (omega arith, (omega arith, (omega arith, tt))))) h
     (λ none. absurd cc))))) e
 
-and_case : (c : ℕ) (cs : List ℕ) (o : Option (ℕ × ℕ)) → entity_at cs ≡ o → c < 128 → IsUtf8 cs → IsPlain cs (option_case o (c, 0) (λ e. e))
+and_case : (c : ℕ) (cs : List ℕ) (o : Option (ℕ × ℕ)) → entity_at cs ≡ o → c < 128 → IsUtf8 cs → IsPlainByte cs (option_case o (c, 0) (λ e. e))
 and_case c cs None e less h = (less, h)
 and_case c cs (Some x) e less h = entity_utf8 cs x e h
 
-plain_case : (c : ℕ) (cs : List ℕ) (b : Bool) → c < 128 → IsUtf8 cs → IsPlain cs (cond b (option_case (entity_at cs) (c, 0) (λ e. e)) (c, 0))
+plain_case : (c : ℕ) (cs : List ℕ) (b : Bool) → c < 128 → IsUtf8 cs → IsPlainByte cs (cond b (option_case (entity_at cs) (c, 0) (λ e. e)) (c, 0))
 plain_case c cs true less h = and_case c cs (entity_at cs) refl less h
 plain_case c cs false less h = (less, h)
 
