@@ -12,7 +12,8 @@ ghost use Rattle.catalog.specs.Walk.{number_of, dataset_named, band_named, is_na
 ghost use Rattle.catalog.specs.Walk.{unless_no_samples, unless_wide, visit};
 ghost use Rattle.vrt_profile.specs.Value.{is_plain};
 ghost use Rattle.catalog.specs.Linked.{IsLinked, IsPath, IsLow, IsMosaicAt, HasBand, HasSource, met_of};
-ghost use Rattle.catalog.specs.Walking.{IsOrdinaryFault, Meets, Visits, Passes, Names, Reaches, ReachesRows, folder_seen};
+ghost use Rattle.catalog.specs.Walking.{IsOrdinaryFault, Meets, Visits, Passes, Names, Reaches, ReachesRows};
+ghost use Rattle.catalog.specs.Walking.{folder_seen};
 ghost use Rattle.catalog.specs.Walking.{IsWalkedUpTo, IsMetLow};
 
 use crate::driver::Content;
