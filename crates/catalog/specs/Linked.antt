@@ -110,8 +110,8 @@ abbrev pub pushed : State → Dataset → Option Link → State
 pushed st d link = record { datasets = st.datasets ++ d ∷ []; links = st.links ++ link ∷ []; sources = st.sources }
 
 -- the dataset of a number was met whole
-abbrev pub closed : State → ℕ → Link → State
-closed st id link = record { datasets = st.datasets; links = set st.links id (Some link); sources = st.sources }
+abbrev pub met_whole : State → ℕ → Link → State
+met_whole st id link = record { datasets = st.datasets; links = set st.links id (Some link); sources = st.sources }
 
 -- the state with one source more
 abbrev pub one_counted : State → State

@@ -10,7 +10,7 @@ ghost use Rattle.catalog.specs.Drivers.{Dataset as Known};
 ghost use Rattle.catalog.specs.Walking.{IsOrdinaryFault};
 ghost use Rattle.catalog.specs.Dataset.{band_count, band_at, most_datasets, most_nestings};
 ghost use Rattle.catalog.specs.Walk.{is_narrow_band, number_of, one_more_source};
-ghost use Rattle.catalog.specs.Linked.{State, IsLinked, IsHigh, IsDeep, Grows, HasBand, IsMosaicAt, pushed, closed};
+ghost use Rattle.catalog.specs.Linked.{State, IsLinked, IsHigh, IsDeep, Grows, HasBand, IsMosaicAt, pushed, met_whole};
 ghost use Rattle.catalog.specs.Linked.{one_counted, cut_to, height_at, most, first_above};
 
 use crate::dataset::Dataset;
@@ -217,7 +217,7 @@ impl Met {
         requires known { id < length self.old.links }
         requires rows { All (λ row. All (λ id. id < length self.old.links) row) members }
         requires low { most self.old.links (flattened members) < most_nestings }
-        ensures closed { self.new ≡ closed self.old id
+        ensures closed { self.new ≡ met_whole self.old id
             (record { height = suc (most self.old.links (flattened members)); members = members }) }
     {
         let height = self.highest(members.as_slice()) + 1;
