@@ -12,7 +12,7 @@ use Rattle.command_words.specs.declared.spoken.Spot.{Spot}
 use Rattle.command_words.specs.declared.spoken.WordFault.{WordFault}
 use Rattle.command_words.specs.Options.{option_of, value_count}
 use Rattle.command_words.specs.Said.{option_said}
-use Rattle.command_words.specs.Uses.{Use, cut, taken_by, said_by, behind_use, judged, with_said, spoken_of, spoken_in}
+use Rattle.command_words.specs.Uses.{Use, uses_from, taken_by, said_by, behind_use, judged, with_said, spoken_of, spoken_in}
 use Rattle.command_words.specs.Words.{IsMemory}
 
 -- one use more
@@ -69,7 +69,7 @@ next_word f words i word d less is = ap (map f) (drop_more words i d less) ∙ a
 pub record Told (tool : Tool) (count before taken at : ℕ) (all : Spoken) (left words : List (List ℕ)) : Type 0 where
   pub uses : List (ℕ × Said)
   pub said_is : all ≡ spoken_of uses
-  pub same : judged tool count before uses (cut tool at taken left) ≡ judged tool count 0 [] (cut tool 1 0 words)
+  pub same : judged tool count before uses (uses_from tool at taken left) ≡ judged tool count 0 [] (uses_from tool 1 0 words)
 
 pub told_none : (tool : Tool) (count : ℕ) (all : Spoken) (words : List (List ℕ)) → all ≡ spoken_of [] → Told tool count 0 0 1 all words words
 told_none tool count all words is = record { uses = []; said_is = is; same = refl }
@@ -83,7 +83,7 @@ module _ (tool : Tool) (count before at : ℕ) (all : Spoken) (word : List ℕ) 
   this = use_at tool at word left
 
   abbrev rest : Result Said WordFault → List (ℕ × Said) → Result (List (ℕ × Said)) WordFault
-  rest r uses = r >>= (λ s. judged tool count (behind_use before (option_of tool word)) ((at, s) ∷ uses) (cut tool (at + 1) (taken_by (option_of tool word)) left))
+  rest r uses = r >>= (λ s. judged tool count (behind_use before (option_of tool word)) ((at, s) ∷ uses) (uses_from tool (at + 1) (taken_by (option_of tool word)) left))
 
   -- a use that fits
   pub told_more : (s : Said) (next : Spoken) → Told tool count before zero at all (word ∷ left) words → said_by (option_of tool word) tool count before this ≡ Ok s → next ≡ with_said at s all → Told tool count (behind_use before (option_of tool word)) (taken_by (option_of tool word)) (at + 1) next left words
@@ -97,7 +97,7 @@ module _ (tool : Tool) (count before at : ℕ) (all : Spoken) (word : List ℕ) 
   pub told_refused : (f : WordFault) → Told tool count before zero at all (word ∷ left) words → said_by (option_of tool word) tool count before this ≡ Err f → spoken_in tool count words ≡ Err f
   unfolding spoken_in
   told_refused f t is =
-      let all_refused : judged tool count 0 [] (cut tool 1 0 words) ≡ Err f = sym t.same ∙ ap (λ (r : Result Said WordFault). rest r t.uses) is in
+      let all_refused : judged tool count 0 [] (uses_from tool 1 0 words) ≡ Err f = sym t.same ∙ ap (λ (r : Result Said WordFault). rest r t.uses) is in
       ap (λ (r : Result (List (ℕ × Said)) WordFault). r >>= (λ (uses : List (ℕ × Said)). Ok (spoken_of uses))) all_refused
 
   -- the same where so many values are left

@@ -44,16 +44,16 @@ taken_by None = 0
 taken_by (Some option) = value_count option
 
 -- the uses among words from this number on, where so many first ones are values of the option before
-abbrev pub cut : Tool → ℕ → ℕ → List (List ℕ) → List Use
-cut tool at taken [] = []
-cut tool at zero (word ∷ words) = record {
+abbrev pub uses_from : Tool → ℕ → ℕ → List (List ℕ) → List Use
+uses_from tool at taken [] = []
+uses_from tool at zero (word ∷ words) = record {
   at = at;
   word = word;
   option = option_of tool word;
   values = take (taken_by (option_of tool word)) words;
-} ∷ cut
+} ∷ uses_from
     tool (at + 1) (taken_by (option_of tool word)) words
-cut tool at (suc taken) (word ∷ words) = cut tool (at + 1) taken words
+uses_from tool at (suc taken) (word ∷ words) = uses_from tool (at + 1) taken words
 
 -- whether a word that begins with a dash may stand without an option
 abbrev pub may_be_negative : Tool → List ℕ → Bool
@@ -366,5 +366,5 @@ with_said at (said.Tile n) s = record s { tile = Some n }
 -- the same of the words behind the first, of all words so many
 unfoldable pub spoken_in : Tool → ℕ → List (List ℕ) → Result Spoken WordFault
 spoken_in tool count words = do
-  uses ← judged tool count 0 [] (cut tool 1 0 words)
+  uses ← judged tool count 0 [] (uses_from tool 1 0 words)
   Ok (spoken_of uses)
