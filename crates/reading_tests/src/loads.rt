@@ -9,7 +9,7 @@ use crate::fixtures::{
 use band_blocks::{Block, BlockKey, Counter, LoadFault, OpenFiles, block_at, load_block};
 use catalog::{Catalog, open_all};
 use geotransform::{Sample, read_whole};
-use outside::{CalmFolder, Folder, Name, Never, Tally};
+use outside::{CalmFolder, CountingFolder, Folder, Name, Never};
 use std::alloc::{AllocError, Global};
 use std::marker::Brand;
 use std::process::Abort;
@@ -190,7 +190,7 @@ fn reads_of_load<'a, R: Abort>(
 ) -> Option<u64> {
     let name = name_of(rt, alloc, name);
     let mut walked = calm_folder(rt, alloc, found);
-    let mut folder = Tally::new(calm_folder(rt, alloc, later));
+    let mut folder = CountingFolder::new(calm_folder(rt, alloc, later));
     if gives(alloc, &mut walked, &mut folder, &name, place, want) {
         return Some(folder.reads());
     }
@@ -524,7 +524,7 @@ fn seventeen<R: Abort>(rt: &R, alloc: Global, cat: &mut Catalog) -> CalmFolder {
 fn opened(
     alloc: Global,
     cat: &Catalog,
-    folder: &mut Tally<CalmFolder>,
+    folder: &mut CountingFolder<CalmFolder>,
     ids: &[u32],
 ) -> Result<Option<u64>, AllocError> {
     let before = folder.opens();
@@ -553,7 +553,12 @@ const TURNS: [Turn<'static>; 3] = [
 ];
 
 // Whether a turn opens as many files.
-fn opens_so(alloc: Global, cat: &Catalog, folder: &mut Tally<CalmFolder>, turn: &Turn<'_>) -> bool {
+fn opens_so(
+    alloc: Global,
+    cat: &Catalog,
+    folder: &mut CountingFolder<CalmFolder>,
+    turn: &Turn<'_>,
+) -> bool {
     let (ids, opens) = *turn;
     match opened(alloc, cat, folder, ids) {
         Ok(found) => found == Some(opens),
@@ -564,7 +569,7 @@ fn opens_so(alloc: Global, cat: &Catalog, folder: &mut Tally<CalmFolder>, turn: 
 // The first of these turns that opens another number of files.
 fn first_unopened<R: Abort>(rt: &R, alloc: Global, turns: &[Turn<'_>]) -> Option<usize> {
     let mut cat = Catalog::new(alloc);
-    let mut folder = Tally::new(seventeen(rt, alloc, &mut cat));
+    let mut folder = CountingFolder::new(seventeen(rt, alloc, &mut cat));
     for (at, turn) in turns.iter().enumerate() {
         if !opens_so(alloc, &cat, &mut folder, turn) {
             return Some(at);

@@ -1,6 +1,6 @@
 // Points and translations that are read through lines, and how many reads they take.
 use crate::trials::{FileOf, Part, folder_of, joined, none_wrong, said_of};
-use outside::{MemFolder, Tally};
+use outside::{CountingFolder, MemFolder};
 use std::alloc::Global;
 use std::process::Abort;
 use std::test::*;
@@ -69,7 +69,7 @@ fn mosaic<R: Abort>(rt: &R, alloc: Global) -> Vec<u8> {
 }
 
 // A folder with the column as raw data and as a grid, and the mosaic of it, which counts calls.
-fn tally<R: Abort>(rt: &R, alloc: Global) -> Tally<MemFolder> {
+fn counting_folder<R: Abort>(rt: &R, alloc: Global) -> CountingFolder<MemFolder> {
     let grid = grid(rt, alloc);
     let mosaic = mosaic(rt, alloc);
     let files: [FileOf<'_>; 4] = [
@@ -78,7 +78,7 @@ fn tally<R: Abort>(rt: &R, alloc: Global) -> Tally<MemFolder> {
         ("column.asc", &grid),
         ("column.vrt", &mosaic),
     ];
-    Tally::new(folder_of(rt, alloc, &files, &[]))
+    CountingFolder::new(folder_of(rt, alloc, &files, &[]))
 }
 
 // The words of a run, and its least and its most reads.
@@ -119,7 +119,7 @@ fn reads_so<R: Threads + Sync + Abort>(
     row: &Reads<'_>,
 ) -> bool {
     let (line, least, most) = *row;
-    let mut folder = tally(rt, alloc);
+    let mut folder = counting_folder(rt, alloc);
     let said = said_of(rt, alloc, &mut folder, (line, (points, 65_536)));
     let reads = folder.reads();
     said.prints(values) && least <= reads && reads <= most
