@@ -43,14 +43,14 @@ is_grid kinds.Ascii = true
 is_grid kinds.Vrt = false
 
 -- whether a dataset of this kind is cut into blocks of a shape
-abbrev pub is_cut_in : BlockShape → Kind → Bool
-is_cut_in Columns kind = is_cell kind
-is_cut_in Squares kind = is_mosaic kind
-is_cut_in Digits kind = is_grid kind
+abbrev pub is_cut_into : BlockShape → Kind → Bool
+is_cut_into Columns kind = is_cell kind
+is_cut_into Squares kind = is_mosaic kind
+is_cut_into Digits kind = is_grid kind
 
 -- some dataset is cut into such blocks
 abbrev pub has_blocks : BlockShape → List Dataset → Bool
-has_blocks shape cat = list_any (λ (d : Dataset). is_cut_in shape d.head.kind) cat
+has_blocks shape cat = list_any (λ (d : Dataset). is_cut_into shape d.head.kind) cat
 
 -- strips are as tall as they can be: the source is made of cells, or the output is one
 abbrev pub is_tall : List Dataset → Driver → Bool
