@@ -21,15 +21,15 @@ type Place = (u32, u32, u32);
 // What is done to shared lines: a block whose first sample is this one is offered, or a block is looked for, and the
 // first sample is shown, or nothing.
 #[derive(Clone, Copy)]
-enum Step {
+enum LineCall {
     Offer(Place, Sample),
     Look(Place, Option<Sample>),
 }
 
-use Step::{Look, Offer};
+use LineCall::{Look, Offer};
 
 // How many lines there are, and what is done to them.
-type Row<'a> = (u32, &'a [Step]);
+type Row<'a> = (u32, &'a [LineCall]);
 
 // The first dataset has one band of six lines, the second two of three.
 const ROWS: [Row<'static>; 7] = [
@@ -192,7 +192,7 @@ fn goes<S: Scene>(
     alloc: Global,
     cat: &Catalog,
     lines: &Lines<S>,
-    step: Step,
+    step: LineCall,
 ) -> Result<bool, AllocError>
     requires told { S.told ≡ None }
     requires cat { S.cat ≡ cat.now }
@@ -215,7 +215,7 @@ fn all_go<F: Folder, S: Scene>(
     cat: &Catalog,
     folder: &F,
     count: u32,
-    steps: &[Step],
+    steps: &[LineCall],
 ) -> Result<bool, AllocError>
     requires none { F.names folder.now ≡ None }
     requires told { S.told ≡ F.names folder.now }
