@@ -2,7 +2,8 @@
 ghost use Rattle.std.specs.Prelude.{◌≡◌, ◌<◌, ◌≤◌, ◌*◌, ◌/◌, Some, length, slice_get};
 ghost use Rattle.catalog.specs.Drivers.{Dataset};
 ghost use Rattle.strip_copies.specs.declared.height.BlockShape.TheVariants.{Squares};
-ghost use Rattle.strip_copies.specs.Heights.{fewest_read, has_blocks, is_cell, is_cut_into, is_grid, is_made, is_mosaic};
+ghost use Rattle.strip_copies.specs.Heights.{fewest_read, has_blocks, is_cell, is_cut_into, is_grid, is_made};
+ghost use Rattle.strip_copies.specs.Heights.{is_mosaic};
 ghost use Rattle.strip_copies.specs.Heights.{is_shared, is_tall, is_woven, lines_alone, lines_copied, lines_each};
 ghost use Rattle.strip_copies.specs.Heights.{lines_held, lines_near, most_lines, strip_height, most_samples};
 ghost use Rattle.catalog.specs.Dataset.{square_side};

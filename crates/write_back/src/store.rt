@@ -312,13 +312,13 @@ impl<F: Folder> Store<F> {
     {
         // This call is made for the proof: it says that a block's number fits.
         let _shape = self.writer.shape();
-        let lane = self.writer.lane(band, rect.x);
+        let places = self.writer.band_places(band, rect.x);
         for row in 0..rect.h {
             let line = nth_run(samples, row, rect.w);
             let spot = Spot {
-                band: lane.band,
-                x: lane.start,
-                stride: lane.stride,
+                band: places.band,
+                x: places.start,
+                stride: places.stride,
                 y: rect.y + row,
             };
             self.put(alloc, folder, spot, line, writes)?;
