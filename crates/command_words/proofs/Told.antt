@@ -8,7 +8,7 @@ use Rattle.command_words.specs.declared.spoken.MosaicSaid.TheVariants as mosaic
 use Rattle.command_words.specs.declared.spoken.Said.{Said}
 use Rattle.command_words.specs.declared.spoken.Said.TheVariants as said
 use Rattle.command_words.specs.declared.spoken.Spoken.{Spoken}
-use Rattle.command_words.specs.declared.spoken.Spot.{Spot}
+use Rattle.command_words.specs.declared.spoken.WordPlace.{WordPlace}
 use Rattle.command_words.specs.declared.spoken.WordFault.{WordFault}
 use Rattle.command_words.specs.Options.{option_of, value_count}
 use Rattle.command_words.specs.Said.{option_said}
@@ -56,10 +56,10 @@ abbrev pub use_at : Tool → ℕ → List ℕ → List (List ℕ) → Use
 use_at tool at word behind = record { at = at; word = word; option = option_of tool word; values = take (taken_by (option_of tool word)) behind }
 
 -- an option, and its values among the words behind it
-pub option_used : (tool : Tool) (spot : Spot) (before : ℕ) (word : List ℕ) (behind values : List (List ℕ)) (o : OptionWord) (r : Result Said WordFault) → option_of tool word ≡ Some o → values ≡ take (value_count o) behind → Gives IsMemory (λ s. s) r (option_said o spot values) → Gives IsMemory (λ s. s) r (said_by (option_of tool word) tool spot.count before (use_at tool spot.at word behind))
-option_used tool spot before word behind values o r named few is =
-    let told : Gives IsMemory (λ s. s) r (option_said o spot (take (value_count o) behind)) = subst (λ (vs : List (List ℕ)). Gives IsMemory (λ s. s) r (option_said o spot vs)) few is in
-    subst (λ (p : Option OptionWord). Gives IsMemory (λ s. s) r (said_by p tool spot.count before (record { at = spot.at; word = word; option = p; values = take (taken_by p) behind }))) (sym named) told
+pub option_used : (tool : Tool) (place : WordPlace) (before : ℕ) (word : List ℕ) (behind values : List (List ℕ)) (o : OptionWord) (r : Result Said WordFault) → option_of tool word ≡ Some o → values ≡ take (value_count o) behind → Gives IsMemory (λ s. s) r (option_said o place values) → Gives IsMemory (λ s. s) r (said_by (option_of tool word) tool place.count before (use_at tool place.at word behind))
+option_used tool place before word behind values o r named few is =
+    let told : Gives IsMemory (λ s. s) r (option_said o place (take (value_count o) behind)) = subst (λ (vs : List (List ℕ)). Gives IsMemory (λ s. s) r (option_said o place vs)) few is in
+    subst (λ (p : Option OptionWord). Gives IsMemory (λ s. s) r (said_by p tool place.count before (record { at = place.at; word = word; option = p; values = take (taken_by p) behind }))) (sym named) told
 
 -- the word in a place of a list stands before those behind it
 pub next_word : {X : Type 0} (f : X → List ℕ) (words : List X) (i : ℕ) (word d : X) → i < length words → word ≡ get_or words i d → map f (drop i words) ≡ f word ∷ map f (drop (i + 1) words)
