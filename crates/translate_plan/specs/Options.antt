@@ -13,7 +13,7 @@ use Rattle.translate_plan.specs.declared.options.View.{View}
 use Rattle.translate_plan.specs.declared.options.View.TheVariants as views
 use Rattle.translate_plan.specs.declared.options.OutSize.{OutSize}
 use Rattle.translate_plan.specs.declared.options.OutSize.TheVariants as sizes
-use Rattle.geotransform.specs.Limits.{most_bands}
+use Rattle.geotransform.specs.Limits.{most_bands, most_short_digits}
 
 -- the driver, the layout of raw data, the name and the bands of the output, counted from 1, the window, the size, the
 -- NODATA, the type, and whether the window may leave the raster in part or as a whole
@@ -52,7 +52,7 @@ driver_for exts.Vrt = drivers.Vrt
 
 -- a number of up to nine digits
 abbrev pub IsShortNumber : ℤ → Type 0
-IsShortNumber n = unsigned_abs n < 10 ^ 9
+IsShortNumber n = unsigned_abs n < 10 ^ most_short_digits
 
 -- pixels are whole numbers of up to nine digits, places are numbers that were read
 abbrev pub IsView : View → Type 0
@@ -62,8 +62,8 @@ IsView (views.Places ulx uly lrx lry) = IsRead ulx × IsRead uly × IsRead lrx �
 
 -- a number of up to nine digits
 abbrev pub IsOutSize : OutSize → Type 0
-IsOutSize (sizes.Count n) = n < 10 ^ 9
-IsOutSize (sizes.Percent n) = n < 10 ^ 9
+IsOutSize (sizes.Count n) = n < 10 ^ most_short_digits
+IsOutSize (sizes.Percent n) = n < 10 ^ most_short_digits
 
 -- a number of a type of 64 bits, with or without a sign
 abbrev pub IsWord : NodataWord → Type 0
