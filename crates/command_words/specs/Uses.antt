@@ -301,11 +301,15 @@ mosaic_of uses = record {
   strict = is_some (last strict uses);
 }
 
+-- How many blocks a pool holds where no use says it.
+abbrev pub usual_blocks : ℕ
+usual_blocks = 64
+
 -- what uses say in all: the last of each option, all bands, and the positional words
 unfoldable pub spoken_of : List (ℕ × Said) → Spoken
 spoken_of uses = record {
   verify = unwrap_or (last verification uses) false;
-  blocks = unwrap_or (last block_count uses) 64;
+  blocks = unwrap_or (last block_count uses) usual_blocks;
   workers = unwrap_or (last worker_count uses) 1;
   bands = bands_said uses;
   band_at = last band_place uses;
