@@ -1,7 +1,8 @@
 // What words ask of a translation, and the heads of sources.
 ghost use Rattle.std.specs.Prelude.{◌≡◌, ◌<◌, ◌≤◌, All, IfOk, IfSome};
 ghost use Rattle.geotransform.specs.Decimal.{IsRead};
-ghost use Rattle.translate_plan.specs.Options.{IsDriver, IsShortNumber, IsView, IsOutSize, IsWord};
+ghost use Rattle.translate_plan.specs.Options.{IsDriver, IsShortNumber, IsView, IsOutSize};
+ghost use Rattle.catalog.specs.Nodata.{IsNodataWord};
 
 use catalog::{Head, NodataWord, head_of};
 use esri_hdr::Layout;
@@ -198,7 +199,7 @@ fn outsize_of(ask: &str) -> Option<Option<(OutSize, OutSize)>>
 }
 
 fn number_of(word: &str) -> Option<NodataWord>
-    ensures { IfSome result IsWord }
+    ensures { IfSome result IsNodataWord }
 {
     if let Ok(n) = word.parse::<i64>() {
         return Some(NodataWord::Number(n as i128));
@@ -208,7 +209,7 @@ fn number_of(word: &str) -> Option<NodataWord>
 }
 
 fn nodata_of(ask: &str) -> Option<NodataWord>
-    ensures { IfSome result IsWord }
+    ensures { IfSome result IsNodataWord }
 {
     match word_behind(ask, " nodata ") {
         None => Some(NodataWord::Absent),
@@ -268,7 +269,7 @@ struct Settings {
 fn settings_of(ask: &str) -> Option<Settings>
     ensures view { IfSome result (λ s. IsView s.view) }
     ensures outsize { IfSome result (λ s. IfSome s.outsize (λ o. IsOutSize o.0 × IsOutSize o.1)) }
-    ensures nodata { IfSome result (λ s. IsWord s.nodata) }
+    ensures nodata { IfSome result (λ s. IsNodataWord s.nodata) }
 {
     let view = view_of(ask)?;
     let outsize = outsize_of(ask)?;

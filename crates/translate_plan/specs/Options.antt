@@ -1,12 +1,12 @@
 -- What a translation is asked for.
-use Rattle.std.specs.Prelude.{◌<◌, ◌≤◌, ◌≤ℤ◌, ◌^◌, ◌-◌, ℕ, ℤ, pos, neg_ℤ, Bool, List, All, Option, IfSome, unsigned_abs}
+use Rattle.std.specs.Prelude.{◌<◌, ◌≤◌, ◌^◌, ℕ, ℤ, Bool, List, All, Option, IfSome, unsigned_abs}
 use Rattle.geotransform.specs.Decimal.{IsRead}
 use Rattle.geotransform.specs.declared.types.PixelType.{PixelType}
 use Rattle.outside.specs.declared.name.Ext.{Ext}
 use Rattle.outside.specs.declared.name.Ext.TheVariants as exts
 use Rattle.esri_hdr.specs.declared.header_parts.Layout.{Layout}
+use Rattle.catalog.specs.Nodata.{IsNodataWord}
 use Rattle.catalog.specs.declared.nodata.NodataWord.{NodataWord}
-use Rattle.catalog.specs.declared.nodata.NodataWord.TheVariants as nodata
 use Rattle.translate_plan.specs.declared.options.Driver.{Driver}
 use Rattle.translate_plan.specs.declared.options.Driver.TheVariants as drivers
 use Rattle.translate_plan.specs.declared.options.View.{View}
@@ -65,16 +65,10 @@ abbrev pub IsOutSize : OutSize → Type 0
 IsOutSize (sizes.Count n) = n < 10 ^ most_short_digits
 IsOutSize (sizes.Percent n) = n < 10 ^ most_short_digits
 
--- a number of a type of 64 bits, with or without a sign
-abbrev pub IsWord : NodataWord → Type 0
-IsWord nodata.Absent = Unit {0}
-IsWord nodata.Remove = Unit {0}
-IsWord (nodata.Number n) = (neg_ℤ (pos (2 ^ 63)) ≤ℤ n) × (n ≤ℤ pos (2 ^ 64 - 1))
-
 -- the ranges in which the values of words are
 pub record IsOptions (o : Options) : Type 0 where
   pub driver : IsDriver o.driver
   pub bands : All (λ b. (0 < b) × (b ≤ most_bands)) o.bands
   pub view : IsView o.view
   pub outsize : IfSome o.outsize (λ s. IsOutSize s.0 × IsOutSize s.1)
-  pub nodata : IsWord o.nodata
+  pub nodata : IsNodataWord o.nodata
