@@ -40,7 +40,7 @@ const SAMPLES_NEAR: u32 = 65_536;
 const FILE_LINES: u32 = 32;
 
 /// The lines of a strip of so many columns, at most so many. It has 4,194,304 samples at most, or one line.
-pub fn strip_height(most: u32, width: u32) -> u32
+pub fn strip_lines(most: u32, width: u32) -> u32
     requires any { 1 ≤ most }
     requires some { 0 < width }
     requires most { width ≤ most_side }
@@ -277,6 +277,6 @@ pub fn strip_height(translation: &Translation, workers: WorkerCount, blocks: u32
 {
     let plan = &translation.plan;
     plan.rules();
-    let lines = strip_height(most_lines(translation, workers), plan.size.w).min(plan.size.h);
+    let lines = strip_lines(most_lines(translation, workers), plan.size.w).min(plan.size.h);
     lines.min(lines_held(translation, blocks))
 }

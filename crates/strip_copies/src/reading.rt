@@ -25,7 +25,7 @@ ghost use Rattle.band_blocks.specs.Blocks.{most_blocks};
 
 use crate::columns::Columns;
 use crate::direct::{hold_all, is_all_direct, is_direct};
-use crate::height::{lines_apart, most_lines, strip_height};
+use crate::height::{lines_apart, most_lines, strip_lines};
 use crate::holding::Holding;
 use crate::making::{Making, area, make_lines};
 use crate::shares::fewest_for;
@@ -61,7 +61,7 @@ fn room_height(most: u32, columns: u32, lines: u32) -> u32
     if columns == 0 {
         return 1;
     }
-    strip_height(most, columns).min(lines)
+    strip_lines(most, columns).min(lines)
 }
 
 // Whether a line that isn't shown lies between any two that are, in a source whose lines are read one by one then.
