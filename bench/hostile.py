@@ -226,7 +226,8 @@ def sources():
     document("the most sources, each with a NODATA", Text((SOURCES, 1), (nodata, MOST), (SOURCES_END, 1)))
     one_pair = front + b"0:0" + back
     document("the most sources, each with a table of one pair", Text((SOURCES, 1), (one_pair, MOST), (SOURCES_END, 1)))
-    zeros = (" with zeros of the greatest exponent", b"0e999"), (" with zeros of a great exponent in capitals", b"0E999")
+    small, capital = " with zeros of the greatest exponent", " with zeros of a great exponent in capitals"
+    zeros = (small, b"0e999"), (capital, b"0E999")
     for what, unit in ("", b"0"), *zeros:
         table = Text((b"{}:" + unit + b",", range(65_535)), (b"65535:" + unit, 1))
         lookup = front + b"".join(table.pieces()) + back
