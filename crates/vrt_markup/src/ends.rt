@@ -1,7 +1,7 @@
 // Tags of a name that is known.
 ghost use Rattle.std.specs.Prelude.{◌≡◌, ◌<◌, ◌++◌, ◌∷◌, length, IfSome};
 
-use crate::tokens::{byte_at, strip, two_at};
+use crate::tokens::{behind_name, byte_at, two_at};
 
 /// What stands behind the end tag of this name, where the text begins with it, without white space in it.
 #[inline(always)]
@@ -21,7 +21,7 @@ fn name_end<'a>(text: &'a [u8], name: &[u8]) -> Option<&'a [u8]>
     ensures whole { IfSome result (λ r. text.now ≡ name.now ++ 62 ∷ r.now) }
     ensures shorter { IfSome result (λ r. length r.now < length text.now) }
 {
-    let rest = strip(text, name)?;
+    let rest = behind_name(text, name)?;
     byte_at(rest, b'>')
 }
 

@@ -1,5 +1,5 @@
 // What items are made of: white space, names, entities, plain text and values between quotes.
-ghost use Rattle.std.specs.Prelude.{◌≡◌, ◌<◌, ◌≤◌, ◌+◌, length, true, IfSome, Some, None, [], ◌∷◌, drop, codes};
+ghost use Rattle.std.specs.Prelude.{◌≡◌, ◌<◌, ◌≤◌, ◌+◌, length, true, IfSome, Some, None, [], ◌∷◌, take, drop, codes};
 ghost use Rattle.std.specs.Option.{option_map};
 ghost use Rattle.std.specs.List.{prefix_len};
 ghost use Rattle.lists_and_answers.specs.Texts.{is_white};
@@ -306,17 +306,92 @@ pub(crate) fn value_at(text: &[u8]) -> Option<(&[u8], &[u8])>
     Some((value, rest))
 }
 
-/// Whether two texts are the same. Short ones are told as fronts are.
+// Whether the first bytes of two texts are the same, so many of each.
 #[inline(always)]
-#[tactic(auto, using(crate::proofs::Fronts::unlike, crate::proofs::Fronts::whole_front))]
+fn same_front(a: &[u8], b: &[u8], count: usize) -> bool
+    requires some { count ≤ length b.now }
+    ensures same { result ≡ begins (take count b.now) a.now }
+{
+    let (front, _) = b.split_at(count);
+    begins(a, front)
+}
+
+// Whether two texts are the same from a place on.
+#[inline(always)]
+fn same_back(a: &[u8], b: &[u8], from: usize) -> bool
+    requires long { from ≤ length a.now }
+    requires some { from ≤ length b.now }
+    ensures same { result ≡ begins (drop from b.now) (drop from a.now) }
+{
+    let (_, a) = a.split_at(from);
+    let (_, b) = b.split_at(from);
+    begins(a, b)
+}
+
+// Whether two texts of one length are the same, by so many of their first bytes and of their last ones, between which
+// none is left. A number of bytes that the compiler knows is compared at once.
+#[inline(always)]
+#[tactic(auto, using(crate::proofs::Windows::two_windows))]
+fn same_ends(a: &[u8], b: &[u8], count: usize) -> bool
+    requires even { length a.now ≡ length b.now }
+    requires some { count ≤ length b.now }
+    requires few { length b.now ≤ count + count }
+    ensures same { result ≡ is_equal a.now b.now }
+{
+    same_front(a, b, count) & same_back(a, b, b.len() - count)
+}
+
+// Whether two texts of one length are the same. Short ones, as names are, cost no call.
+#[inline(always)]
+#[tactic(auto, using(crate::proofs::Fronts::whole_front))]
+fn same_text(a: &[u8], b: &[u8]) -> bool
+    requires even { length a.now ≡ length b.now }
+    ensures same { result ≡ is_equal a.now b.now }
+{
+    let count = b.len();
+    if count > 16 {
+        return a == b;
+    }
+    if count >= 8 {
+        return same_ends(a, b, 8);
+    }
+    if count >= 4 {
+        return same_ends(a, b, 4);
+    }
+    if count >= 2 {
+        return same_ends(a, b, 2);
+    }
+    if count >= 1 {
+        return same_ends(a, b, 1);
+    }
+    begins(a, b)
+}
+
+/// Whether two texts are the same.
+#[inline(always)]
+#[tactic(auto, using(crate::proofs::Fronts::unlike))]
 pub fn is_equal(a: &[u8], b: &[u8]) -> bool
     ensures same { result ≡ is_equal a.now b.now }
 {
-    if b.len() > 8 {
-        return a == b;
-    }
     if a.len() != b.len() {
         return false;
     }
-    begins(a, b)
+    same_text(a, b)
+}
+
+/// What stands behind a name, where the text begins with it.
+#[inline(always)]
+#[tactic(auto, using(crate::proofs::Windows::short_front, crate::proofs::Windows::name_some, crate::proofs::Windows::name_none))]
+pub(crate) fn behind_name<'a>(text: &'a [u8], name: &[u8]) -> Option<&'a [u8]>
+    ensures rest { option_map (λ r. r.now) result ≡ strip name.now text.now }
+    ensures shorter { IfSome result (λ r. length r.now + length name.now ≤ length text.now) }
+{
+    if text.len() < name.len() {
+        return None;
+    }
+    let (front, rest) = text.split_at(name.len());
+    if !is_equal(front, name) {
+        return None;
+    }
+    Some(rest)
 }
