@@ -49,15 +49,22 @@ whole_of k m a b low front back =
 equal_whole : (a b : List ℕ) → a ≡ b → is_equal a b ≡ true
 equal_whole a b same = ap (λ t. is_equal t b) same ∙ equal_itself b
 
-pub two_windows : (a b : List ℕ) (k : ℕ) (p q : Bool) → p ≡ begins (take k b) a → q ≡ begins (drop (length b - k) b) (drop (length b - k) a) → length a ≡ length b → k ≤ length b → length b ≤ k + k → (p && q) ≡ is_equal a b
-two_windows a b k p q front back even some few =
+both_windows : (a b : List ℕ) (k : ℕ) → length a ≡ length b → k ≤ length b → length b ≤ k + k → (begins (take k b) a && begins (drop (length b - k) b) (drop (length b - k) a)) ≡ is_equal a b
+both_windows a b k even some few =
     let low : length b - k ≤ k = omega (arith, few) in
-    ap (λ x. x && q) front
-    ∙ ap (λ x. begins (take k b) a && x) back
-    ∙ both_ways (begins (take k b) a) (begins (drop (length b - k) b) (drop (length b - k) a)) (is_equal a b)
+    both_ways (begins (take k b) a) (begins (drop (length b - k) b) (drop (length b - k) a)) (is_equal a b)
         (same_taken k a b some)
         (same_left (length b - k) a b)
-        (λ f r. equal_whole a b (whole_of k (length b - k) a b low (front_of k a b some f) (back_of (length b - k) a b even r)))
+        (λ front back. equal_whole a b (whole_of k (length b - k) a b low (front_of k a b some front) (back_of (length b - k) a b even back)))
+
+-- by the first bytes, and then by the last ones
+pub other_front : (a b : List ℕ) (k : ℕ) → length a ≡ length b → k ≤ length b → length b ≤ k + k → begins (take k b) a ≡ false → false ≡ is_equal a b
+other_front a b k even some few front =
+    ap (λ x. x && begins (drop (length b - k) b) (drop (length b - k) a)) (sym front) ∙ both_windows a b k even some few
+
+pub same_ends : (a b : List ℕ) (k : ℕ) (q : Bool) → length a ≡ length b → k ≤ length b → length b ≤ k + k → begins (take k b) a ≡ true → q ≡ begins (drop (length b - k) b) (drop (length b - k) a) → q ≡ is_equal a b
+same_ends a b k q even some few front back =
+    back ∙ ap (λ x. x && begins (drop (length b - k) b) (drop (length b - k) a)) (sym front) ∙ both_windows a b k even some few
 
 -- a text that is shorter than a name doesn't begin with it
 pub short_front : (n t : List ℕ) → length t < length n → None ≡ strip n t

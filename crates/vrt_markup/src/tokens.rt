@@ -18,6 +18,7 @@ pub(crate) fn strip<'a>(text: &'a [u8], front: &[u8]) -> Option<&'a [u8]>
     text.strip_prefix(front)
 }
 
+#[inline(always)]
 fn begins(text: &[u8], front: &[u8]) -> bool
     ensures { result ≡ begins front.now text.now }
 {
@@ -331,14 +332,17 @@ fn same_back(a: &[u8], b: &[u8], from: usize) -> bool
 // Whether two texts of one length are the same, by so many of their first bytes and of their last ones, between which
 // none is left. A number of bytes that the compiler knows is compared at once.
 #[inline(always)]
-#[tactic(auto, using(crate::proofs::Windows::two_windows))]
+#[tactic(auto, using(crate::proofs::Windows::other_front, crate::proofs::Windows::same_ends))]
 fn same_ends(a: &[u8], b: &[u8], count: usize) -> bool
     requires even { length a.now ≡ length b.now }
     requires some { count ≤ length b.now }
     requires few { length b.now ≤ count + count }
     ensures same { result ≡ is_equal a.now b.now }
 {
-    same_front(a, b, count) & same_back(a, b, b.len() - count)
+    if !same_front(a, b, count) {
+        return false;
+    }
+    same_back(a, b, b.len() - count)
 }
 
 // Whether two texts of one length are the same. Short ones, as names are, cost no call.
