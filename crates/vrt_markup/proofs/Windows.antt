@@ -58,12 +58,12 @@ both_windows a b k even some few =
         (λ front back. equal_whole a b (whole_of k (length b - k) a b low (front_of k a b some front) (back_of (length b - k) a b even back)))
 
 -- by the first bytes, and then by the last ones
-pub other_front : (a b : List ℕ) (k : ℕ) → length a ≡ length b → k ≤ length b → length b ≤ k + k → begins (take k b) a ≡ false → false ≡ is_equal a b
-other_front a b k even some few front =
+pub first_window : (a b : List ℕ) (k : ℕ) → length a ≡ length b → k ≤ length b → length b ≤ k + k → begins (take k b) a ≡ false → false ≡ is_equal a b
+first_window a b k even some few front =
     ap (λ x. x && begins (drop (length b - k) b) (drop (length b - k) a)) (sym front) ∙ both_windows a b k even some few
 
-pub same_ends : (a b : List ℕ) (k : ℕ) (q : Bool) → length a ≡ length b → k ≤ length b → length b ≤ k + k → begins (take k b) a ≡ true → q ≡ begins (drop (length b - k) b) (drop (length b - k) a) → q ≡ is_equal a b
-same_ends a b k q even some few front back =
+pub last_window : (a b : List ℕ) (k : ℕ) (q : Bool) → length a ≡ length b → k ≤ length b → length b ≤ k + k → begins (take k b) a ≡ true → q ≡ begins (drop (length b - k) b) (drop (length b - k) a) → q ≡ is_equal a b
+last_window a b k q even some few front back =
     back ∙ ap (λ x. x && begins (drop (length b - k) b) (drop (length b - k) a)) (sym front) ∙ both_windows a b k even some few
 
 -- a text that is shorter than a name doesn't begin with it

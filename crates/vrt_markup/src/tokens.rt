@@ -332,7 +332,7 @@ fn same_back(a: &[u8], b: &[u8], from: usize) -> bool
 // Whether two texts of one length are the same, by so many of their first bytes and of their last ones, between which
 // none is left. A number of bytes that the compiler knows is compared at once.
 #[inline(always)]
-#[tactic(auto, using(crate::proofs::Windows::other_front, crate::proofs::Windows::same_ends))]
+#[tactic(auto, using(crate::proofs::Windows::first_window, crate::proofs::Windows::last_window))]
 fn same_ends(a: &[u8], b: &[u8], count: usize) -> bool
     requires even { length a.now ≡ length b.now }
     requires some { count ≤ length b.now }
