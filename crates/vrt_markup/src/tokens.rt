@@ -383,6 +383,14 @@ pub fn is_equal(a: &[u8], b: &[u8]) -> bool
     same_text(a, b)
 }
 
+// The same in a call, for texts of which neither is known before.
+#[inline(never)]
+fn are_same(a: &[u8], b: &[u8]) -> bool
+    ensures same { result ≡ is_equal a.now b.now }
+{
+    is_equal(a, b)
+}
+
 /// What stands behind a name, where the text begins with it.
 #[inline(always)]
 #[tactic(auto, using(crate::proofs::Windows::short_front, crate::proofs::Windows::name_some, crate::proofs::Windows::name_none))]
@@ -394,7 +402,7 @@ pub(crate) fn behind_name<'a>(text: &'a [u8], name: &[u8]) -> Option<&'a [u8]>
         return None;
     }
     let (front, rest) = text.split_at(name.len());
-    if !is_equal(front, name) {
+    if !are_same(front, name) {
         return None;
     }
     Some(rest)
