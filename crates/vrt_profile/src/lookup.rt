@@ -167,19 +167,16 @@ fn any_pair_behind(input: i64, text: &[u8]) -> (Option<LutPair>, Option<&[u8]>)
     (pair_with(input, output), more)
 }
 
-// The whole number in front, or a zero with an exponent, and what stands behind the comma behind it. `None` also where
+// The zero with an exponent in front, or the whole number, and what stands behind the comma behind it. `None` also where
 // the text is short.
 #[inline(always)]
 fn whole_or_zero(text: &[u8]) -> Option<(i64, &[u8])>
     ensures front { IfSome result (λ x. MicrosFront text.now x.0 (44 ∷ x.1.now)) }
     ensures shorter { IfSome result (λ x. length x.1.now < length text.now) }
 {
-    match whole_before(text, b',') {
-        Some(value) => Some(value),
-        None => {
-            let behind = zero_before(text)?;
-            Some((0, behind))
-        }
+    match zero_before(text) {
+        Some(behind) => Some((0, behind)),
+        None => whole_before(text, b','),
     }
 }
 
@@ -224,6 +221,7 @@ fn whole_pair(text: &[u8]) -> Option<(LutPair, &[u8])>
 
 // Adds the pairs of whole numbers in front, each with a comma behind it, as long as they rise and there is room: the
 // last one of them, and what stands behind them.
+#[inline(never)]
 fn push_whole_pairs<'a>(
     pairs: &mut Items<LutPair>,
     text: &'a [u8],
