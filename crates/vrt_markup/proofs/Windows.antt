@@ -1,11 +1,10 @@
 -- Texts of one length are the same where their first bytes are, and their last ones, if none is left between them.
 use Rattle.std.proofs.Common.{◌≡◌, ℕ, ◌+◌, ◌-◌, ◌<◌, ◌≤◌, Bool, true, false, cond, ◌&&◌, List, ◌++◌, length, take, drop, Some, None, refl, sym, ap, ◌∙◌, arith, take-take, take_all}
 use Rattle.std.specs.Cmp.Lexicographic.{same_text}
-use Rattle.std.proofs.Math.Seq.{take-length}
-use Rattle.std.proofs.lemmas.List.{take-append-drop, length-drop, length-take-le}
-use Rattle.vrt_markup.specs.Items.{begins, is_equal, strip}
+use Rattle.std.proofs.lemmas.List.{take-append-drop}
+use Rattle.vrt_markup.specs.Items.{is_equal, strip}
 use Rattle.vrt_markup.proofs.EndTags.{equal_itself}
-use Rattle.vrt_markup.proofs.Fronts.{unlike, whole_front}
+use Rattle.vrt_markup.proofs.Fronts.{unlike}
 
 -- a test that holds where two others do, and only there
 both_ways : (p q r : Bool) → (r ≡ true → p ≡ true) → (r ≡ true → q ≡ true) → (p ≡ true → q ≡ true → r ≡ true) → (p && q) ≡ r
@@ -15,28 +14,12 @@ both_ways true false false to_p to_q from = refl
 both_ways false q true to_p to_q from = to_p refl
 both_ways false q false to_p to_q from = refl
 
-begins_itself : (n : List ℕ) → begins n n ≡ true
-begins_itself n = ap (λ t. is_equal t n) (take-length n) ∙ equal_itself n
+equal_whole : (a b : List ℕ) → a ≡ b → is_equal a b ≡ true
+equal_whole a b same = ap (λ t. is_equal t b) same ∙ equal_itself b
 
 -- the same texts have the same parts
-same_taken : (k : ℕ) (a b : List ℕ) → k ≤ length b → is_equal a b ≡ true → begins (take k b) a ≡ true
-same_taken k a b some same =
-    ap (begins (take k b)) (same_text a b (sym same))
-    ∙ ap (λ n. is_equal (take n b) (take k b)) (length-take-le k b some)
-    ∙ equal_itself (take k b)
-
-same_left : (m : ℕ) (a b : List ℕ) → is_equal a b ≡ true → begins (drop m b) (drop m a) ≡ true
-same_left m a b same = ap (λ t. begins (drop m b) (drop m t)) (same_text a b (sym same)) ∙ begins_itself (drop m b)
-
--- what is the same in front, and behind
-front_of : (k : ℕ) (a b : List ℕ) → k ≤ length b → begins (take k b) a ≡ true → take k a ≡ take k b
-front_of k a b some same =
-    ap (λ n. take n a) (sym (length-take-le k b some)) ∙ same_text (take (length (take k b)) a) (take k b) (sym same)
-
-back_of : (m : ℕ) (a b : List ℕ) → length a ≡ length b → begins (drop m b) (drop m a) ≡ true → drop m a ≡ drop m b
-back_of m a b even same =
-    let long : length (drop m a) ≡ length (drop m b) = length-drop m a ∙ ap (λ n. n - m) even ∙ sym (length-drop m b) in
-    same_text (drop m a) (drop m b) (sym (sym (whole_front (drop m a) (drop m b) long) ∙ same))
+equal_part : (f : List ℕ → List ℕ) (a b : List ℕ) → is_equal a b ≡ true → is_equal (f a) (f b) ≡ true
+equal_part f a b same = equal_whole (f a) (f b) (ap f (same_text a b (sym same)))
 
 -- the whole, by a front and what is behind a part of it
 whole_of : (k m : ℕ) (a b : List ℕ) → m ≤ k → take k a ≡ take k b → drop m a ≡ drop m b → a ≡ b
@@ -46,25 +29,25 @@ whole_of k m a b low front back =
     ∙ ap (λ t. take m b ++ t) back
     ∙ take-append-drop m b
 
-equal_whole : (a b : List ℕ) → a ≡ b → is_equal a b ≡ true
-equal_whole a b same = ap (λ t. is_equal t b) same ∙ equal_itself b
-
-both_windows : (a b : List ℕ) (k : ℕ) → length a ≡ length b → k ≤ length b → length b ≤ k + k → (begins (take k b) a && begins (drop (length b - k) b) (drop (length b - k) a)) ≡ is_equal a b
-both_windows a b k even some few =
-    let low : length b - k ≤ k = omega (arith, few) in
-    both_ways (begins (take k b) a) (begins (drop (length b - k) b) (drop (length b - k) a)) (is_equal a b)
-        (same_taken k a b some)
-        (same_left (length b - k) a b)
-        (λ front back. equal_whole a b (whole_of k (length b - k) a b low (front_of k a b some front) (back_of (length b - k) a b even back)))
+both_windows : (a b : List ℕ) (k m : ℕ) → m ≤ k → (is_equal (take k a) (take k b) && is_equal (drop m a) (drop m b)) ≡ is_equal a b
+both_windows a b k m low =
+    both_ways (is_equal (take k a) (take k b)) (is_equal (drop m a) (drop m b)) (is_equal a b)
+        (equal_part (take k) a b)
+        (equal_part (drop m) a b)
+        (λ front back. equal_whole a b (whole_of k m a b low (same_text (take k a) (take k b) (sym front)) (same_text (drop m a) (drop m b) (sym back))))
 
 -- by the first bytes, and then by the last ones
-pub first_window : (a b : List ℕ) (k : ℕ) → length a ≡ length b → k ≤ length b → length b ≤ k + k → begins (take k b) a ≡ false → false ≡ is_equal a b
-first_window a b k even some few front =
-    ap (λ x. x && begins (drop (length b - k) b) (drop (length b - k) a)) (sym front) ∙ both_windows a b k even some few
+pub first_window : (a b : List ℕ) (k : ℕ) → is_equal (take k a) (take k b) ≡ false → false ≡ is_equal a b
+first_window a b k front =
+    ap (λ x. x && is_equal (drop k a) (drop k b)) (sym front) ∙ both_windows a b k k (omega arith)
 
-pub last_window : (a b : List ℕ) (k : ℕ) (q : Bool) → length a ≡ length b → k ≤ length b → length b ≤ k + k → begins (take k b) a ≡ true → q ≡ begins (drop (length b - k) b) (drop (length b - k) a) → q ≡ is_equal a b
-last_window a b k q even some few front back =
-    back ∙ ap (λ x. x && begins (drop (length b - k) b) (drop (length b - k) a)) (sym front) ∙ both_windows a b k even some few
+pub last_window : (a b : List ℕ) (k : ℕ) (q : Bool) → length a ≡ length b → length b ≤ k + k → is_equal (take k a) (take k b) ≡ true → q ≡ is_equal (drop (length a - k) a) (drop (length b - k) b) → q ≡ is_equal a b
+last_window a b k q even few front back =
+    let low : length b - k ≤ k = omega (arith, few) in
+    back
+    ∙ ap (λ n. is_equal (drop (n - k) a) (drop (length b - k) b)) even
+    ∙ ap (λ x. x && is_equal (drop (length b - k) a) (drop (length b - k) b)) (sym front)
+    ∙ both_windows a b k (length b - k) low
 
 -- a text that is shorter than a name doesn't begin with it
 pub short_front : (n t : List ℕ) → length t < length n → None ≡ strip n t

@@ -1,11 +1,12 @@
 // What items are made of: white space, names, entities, plain text and values between quotes.
-ghost use Rattle.std.specs.Prelude.{◌≡◌, ◌<◌, ◌≤◌, ◌+◌, length, true, IfSome, Some, None, [], ◌∷◌, take, drop, codes};
+ghost use Rattle.std.specs.Prelude.{◌≡◌, ◌<◌, ◌≤◌, ◌+◌, ◌-◌, length, true, IfSome, Some, None, [], ◌∷◌, take, drop};
+ghost use Rattle.std.specs.Prelude.{codes};
 ghost use Rattle.std.specs.Option.{option_map};
 ghost use Rattle.std.specs.List.{prefix_len};
 ghost use Rattle.lists_and_answers.specs.Texts.{is_white};
 ghost use Rattle.vrt_markup.specs.Items.{is_name, is_some, strip, trim_front, is_first, is_later, has_first, name_at};
 ghost use Rattle.vrt_markup.specs.Items.{byte_at, after_comment, entity_at, ends_at, plain_len, spaces_at, quote_at};
-ghost use Rattle.vrt_markup.specs.Items.{value_at, is_equal, begins};
+ghost use Rattle.vrt_markup.specs.Items.{value_at, is_equal};
 
 use lists_and_answers::is_white;
 
@@ -16,13 +17,6 @@ pub(crate) fn strip<'a>(text: &'a [u8], front: &[u8]) -> Option<&'a [u8]>
     ensures shorter { IfSome result (λ r. length r.now + length front.now ≤ length text.now) }
 {
     text.strip_prefix(front)
-}
-
-#[inline(always)]
-fn begins(text: &[u8], front: &[u8]) -> bool
-    ensures { result ≡ begins front.now text.now }
-{
-    strip(text, front).is_some()
 }
 
 #[inline(never)]
@@ -307,68 +301,75 @@ pub(crate) fn value_at(text: &[u8]) -> Option<(&[u8], &[u8])>
     Some((value, rest))
 }
 
-// Whether the first bytes of two texts are the same, so many of each.
+// Whether the first N bytes of two texts are the same.
 #[inline(always)]
-fn same_front(a: &[u8], b: &[u8], count: usize) -> bool
-    requires some { count ≤ length b.now }
-    ensures same { result ≡ begins (take count b.now) a.now }
+fn same_front<const N: usize>(a: &[u8], b: &[u8]) -> bool
+    requires long { N ≤ length a.now }
+    requires some { N ≤ length b.now }
+    ensures same { result ≡ is_equal (take N a.now) (take N b.now) }
 {
-    let (front, _) = b.split_at(count);
-    begins(a, front)
+    let Some((front, _)) = a.split_first_chunk::<N>() else {
+        return false;
+    };
+    let Some((other, _)) = b.split_first_chunk::<N>() else {
+        return false;
+    };
+    *front == *other
 }
 
-// Whether two texts are the same from a place on.
+// Whether the last N bytes of two texts are the same.
 #[inline(always)]
-fn same_back(a: &[u8], b: &[u8], from: usize) -> bool
-    requires long { from ≤ length a.now }
-    requires some { from ≤ length b.now }
-    ensures same { result ≡ begins (drop from b.now) (drop from a.now) }
+fn same_back<const N: usize>(a: &[u8], b: &[u8]) -> bool
+    requires long { N ≤ length a.now }
+    requires some { N ≤ length b.now }
+    ensures same { result ≡ is_equal (drop (length a.now - N) a.now) (drop (length b.now - N) b.now) }
 {
-    let (_, a) = a.split_at(from);
-    let (_, b) = b.split_at(from);
-    begins(a, b)
+    let Some((_, back)) = a.split_last_chunk::<N>() else {
+        return false;
+    };
+    let Some((_, other)) = b.split_last_chunk::<N>() else {
+        return false;
+    };
+    *back == *other
 }
 
-// Whether two texts of one length are the same, by so many of their first bytes and of their last ones, between which
-// none is left. A number of bytes that the compiler knows is compared at once.
+// Whether two texts of one length are the same, by their first N bytes and their last N ones, between which none is
+// left.
 #[inline(always)]
 #[tactic(auto, using(crate::proofs::Windows::first_window, crate::proofs::Windows::last_window))]
-fn same_ends(a: &[u8], b: &[u8], count: usize) -> bool
+fn same_ends<const N: usize>(a: &[u8], b: &[u8]) -> bool
     requires even { length a.now ≡ length b.now }
-    requires some { count ≤ length b.now }
-    requires few { length b.now ≤ count + count }
+    requires some { N ≤ length b.now }
+    requires few { length b.now ≤ N + N }
     ensures same { result ≡ is_equal a.now b.now }
 {
-    if !same_front(a, b, count) {
+    if !same_front::<N>(a, b) {
         return false;
     }
-    same_back(a, b, b.len() - count)
+    same_back::<N>(a, b)
 }
 
-// Whether two texts of one length are the same. Short ones, as names are, cost no call.
+// Whether two texts of one length are the same. Short ones, as names are, are compared by a few words of theirs, which
+// may overlap.
 #[inline(always)]
-#[tactic(auto, using(crate::proofs::Fronts::whole_front))]
 fn same_text(a: &[u8], b: &[u8]) -> bool
     requires even { length a.now ≡ length b.now }
     ensures same { result ≡ is_equal a.now b.now }
 {
     let count = b.len();
-    if count > 16 {
+    if count > 16 || count == 0 {
         return a == b;
     }
     if count >= 8 {
-        return same_ends(a, b, 8);
+        return same_ends::<8>(a, b);
     }
     if count >= 4 {
-        return same_ends(a, b, 4);
+        return same_ends::<4>(a, b);
     }
     if count >= 2 {
-        return same_ends(a, b, 2);
+        return same_ends::<2>(a, b);
     }
-    if count >= 1 {
-        return same_ends(a, b, 1);
-    }
-    begins(a, b)
+    same_ends::<1>(a, b)
 }
 
 /// Whether two texts are the same.
@@ -383,14 +384,6 @@ pub fn is_equal(a: &[u8], b: &[u8]) -> bool
     same_text(a, b)
 }
 
-// The same in a call, for texts of which neither is known before.
-#[inline(never)]
-fn are_same(a: &[u8], b: &[u8]) -> bool
-    ensures same { result ≡ is_equal a.now b.now }
-{
-    is_equal(a, b)
-}
-
 /// What stands behind a name, where the text begins with it.
 #[inline(always)]
 #[tactic(auto, using(crate::proofs::Windows::short_front, crate::proofs::Windows::name_some, crate::proofs::Windows::name_none))]
@@ -402,7 +395,7 @@ pub(crate) fn behind_name<'a>(text: &'a [u8], name: &[u8]) -> Option<&'a [u8]>
         return None;
     }
     let (front, rest) = text.split_at(name.len());
-    if !are_same(front, name) {
+    if !is_equal(front, name) {
         return None;
     }
     Some(rest)
