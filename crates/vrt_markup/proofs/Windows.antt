@@ -32,9 +32,9 @@ whole_of k m a b low front back =
 both_windows : (a b : List ℕ) (k m : ℕ) → m ≤ k → (is_equal (take k a) (take k b) && is_equal (drop m a) (drop m b)) ≡ is_equal a b
 both_windows a b k m low =
     both_ways (is_equal (take k a) (take k b)) (is_equal (drop m a) (drop m b)) (is_equal a b)
-        (equal_part (take k) a b)
-        (equal_part (drop m) a b)
-        (λ front back. equal_whole a b (whole_of k m a b low (same_text (take k a) (take k b) (sym front)) (same_text (drop m a) (drop m b) (sym back))))
+    (equal_part (take k) a b)
+    (equal_part (drop m) a b)
+    (λ front back. equal_whole a b (whole_of k m a b low (same_text (take k a) (take k b) (sym front)) (same_text (drop m a) (drop m b) (sym back))))
 
 -- by the first bytes, and then by the last ones
 pub first_window : (a b : List ℕ) (k : ℕ) → is_equal (take k a) (take k b) ≡ false → false ≡ is_equal a b
@@ -48,6 +48,13 @@ last_window a b k q even few front back =
     ∙ ap (λ n. is_equal (drop (n - k) a) (drop (length b - k) b)) even
     ∙ ap (λ x. x && is_equal (drop (length b - k) a) (drop (length b - k) b)) (sym front)
     ∙ both_windows a b k (length b - k) low
+
+-- the same of parts that are known
+pub taken_same : (a b front other : List ℕ) (k : ℕ) (same : Bool) → front ≡ take k a → other ≡ take k b → same ≡ is_equal front other → same ≡ is_equal (take k a) (take k b)
+taken_same a b front other k same one two is = is ∙ ap (λ t. is_equal t other) one ∙ ap (is_equal (take k a)) two
+
+pub left_same : (a b back other : List ℕ) (k : ℕ) (same : Bool) → back ≡ drop (length a - k) a → other ≡ drop (length b - k) b → same ≡ is_equal back other → same ≡ is_equal (drop (length a - k) a) (drop (length b - k) b)
+left_same a b back other k same one two is = is ∙ ap (λ t. is_equal t other) one ∙ ap (is_equal (drop (length a - k) a)) two
 
 -- a text that is shorter than a name doesn't begin with it
 pub short_front : (n t : List ℕ) → length t < length n → None ≡ strip n t

@@ -303,6 +303,7 @@ pub(crate) fn value_at(text: &[u8]) -> Option<(&[u8], &[u8])>
 
 // Whether the first N bytes of two texts are the same.
 #[inline(always)]
+#[tactic(auto, using(crate::proofs::Windows::taken_same))]
 fn same_front<const N: usize>(a: &[u8], b: &[u8]) -> bool
     requires long { N ≤ length a.now }
     requires some { N ≤ length b.now }
@@ -319,6 +320,7 @@ fn same_front<const N: usize>(a: &[u8], b: &[u8]) -> bool
 
 // Whether the last N bytes of two texts are the same.
 #[inline(always)]
+#[tactic(auto, using(crate::proofs::Windows::left_same))]
 fn same_back<const N: usize>(a: &[u8], b: &[u8]) -> bool
     requires long { N ≤ length a.now }
     requires some { N ≤ length b.now }

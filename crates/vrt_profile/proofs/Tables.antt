@@ -111,9 +111,9 @@ one_pair t pair is last =
     sym (table_last [] None t (first_piece t).0 pair whole found) ∙ ok_end (lut_of t)
 
 -- a table by its pairs of whole numbers in front, and by what stands behind them
-pub whole_table : (first mid : List LutPair) (last : Option LutPair) (t rest : List ℕ) (kept pairs : Result (List LutPair) VrtFault) → first ≡ [] → lut_behind mid last rest ≡ lut_behind first None t → kept ≡ lut_behind mid last rest → pairs ≡ kept → pairs ≡ lut_of t
+pub whole_table : (first mid : List LutPair) (last : Option LutPair) (t rest : List ℕ) (kept pairs : Result (List LutPair) VrtFault) → first ≡ [] → lut_behind mid last rest ≡ lut_behind first None t → kept ≡ lut_behind mid last rest → pairs ≡ kept → ◌≡◌ {A = Result (Result (List LutPair) VrtFault) VrtFault} (Ok pairs) (Ok (lut_of t))
 whole_table first mid last t rest kept pairs none front behind is =
-    is ∙ behind ∙ front ∙ ap (λ xs. lut_behind xs None t) none ∙ ok_end (lut_of t)
+    ap Ok (is ∙ behind ∙ front ∙ ap (λ xs. lut_behind xs None t) none ∙ ok_end (lut_of t))
 
 abbrev pub left_after : List LutPair → LutPair → List ℕ → Result (List LutPair) VrtFault
 left_after xs pair rest = Left (length xs) (Some pair) (pieces 44 rest) xs

@@ -272,10 +272,7 @@ fn push_pairs(
 }
 
 // The pairs, unless there is a fault.
-fn kept_pairs(
-    kept: Result<(), VrtFault>,
-    pairs: Items<LutPair>,
-) -> Result<Items<LutPair>, VrtFault>
+fn kept_pairs(kept: Result<(), VrtFault>, pairs: Items<LutPair>) -> Result<Items<LutPair>, VrtFault>
     ensures kept { result ≡ kept_of pairs kept }
 {
     match kept {

@@ -385,6 +385,7 @@ fn scaling_of(
 }
 
 // What the source of these parts makes of its pixels: what stands in a ComplexSource. Its table leaves the parts.
+#[tactic(auto, using(crate::proofs::Rules::complex_scaling))]
 fn scaling_from(
     alloc: Global,
     complex: bool,
