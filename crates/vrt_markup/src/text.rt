@@ -246,6 +246,10 @@ pub fn text_element<'a>(
             },
             behind,
         )),
-        None => text_nodes(alloc, total, depth + 1, tag.name, bytes),
+        None => {
+            // It has a place of its own, so that a text that is lent stays in registers.
+            let words = text_nodes(alloc, total, depth + 1, tag.name, bytes);
+            words
+        }
     }
 }
