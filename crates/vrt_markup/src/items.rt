@@ -202,8 +202,8 @@ fn named_front(text: &[u8]) -> Option<&[u8]>
     Some(rest)
 }
 
-/// The item in front of a text. A tag that ends behind its name has no attributes. Items that calls find have a place of
-/// their own, so that such a tag's item stays in registers.
+/// The item in front of a text. A tag that ends behind its name has no attributes. What calls find has a place of its
+/// own, so that the item of such a tag stays in registers.
 #[inline(always)]
 pub fn item_at(alloc: Global, text: &[u8]) -> Item
     ensures item { Finds result (item_at text.now) }

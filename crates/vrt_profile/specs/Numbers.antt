@@ -1,6 +1,7 @@
 -- The numbers of a document, each in a text.
-use Rattle.std.specs.Prelude.{ℕ, ℤ, pos, suc, ◌*◌, Bool, true, ◌&&◌, List, [], ◌∷◌, ◌++◌, length, take, map, codes, Option}
-use Rattle.std.specs.Prelude.{ok_or, Some, None, Result, Ok, Err, nat_lt, nat_le, int_lt, ◌==◌, if◌then◌else◌, unsigned_abs}
+use Rattle.std.specs.Prelude.{ℕ, ℤ, pos, suc, ◌*◌, Bool, true, ◌&&◌, List, [], ◌∷◌, ◌++◌, length, take, map, codes}
+use Rattle.std.specs.Prelude.{Option, Some, None, ok_or, Result, Ok, Err, nat_lt, nat_le, int_lt, ◌==◌}
+use Rattle.std.specs.Prelude.{if◌then◌else◌, unsigned_abs}
 use Rattle.std.specs.Char.{to_ascii_lowercase}
 use Rattle.lists_and_answers.specs.Answers.{◌>>=◌}
 use Rattle.geotransform.specs.Decimal.{places_of}

@@ -167,8 +167,8 @@ fn any_pair_behind(input: i64, text: &[u8]) -> (Option<LutPair>, Option<&[u8]>)
     (pair_with(input, output), more)
 }
 
-// The zero with an exponent in front, or the whole number, and what stands behind the comma behind it. `None` also where
-// the text is short.
+// The zero with an exponent in front, or the whole number, and what stands behind the comma behind it. `None` also
+// where the text is short.
 #[inline(always)]
 fn whole_or_zero(text: &[u8]) -> Option<(i64, &[u8])>
     ensures front { IfSome result (λ x. MicrosFront text.now x.0 (44 ∷ x.1.now)) }
