@@ -125,7 +125,11 @@ fn likely_item<'a>(alloc: Global, text: &'a [u8], name: &'a [u8]) -> Item<'a>
             };
             Item::Open(tag, rest)
         }
-        None => other_item(alloc, text),
+        None => {
+            // It has a place of its own, so that the item of the likely tag stays in registers.
+            let item = other_item(alloc, text);
+            item
+        }
     }
 }
 
