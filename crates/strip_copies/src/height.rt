@@ -107,9 +107,9 @@ fn has_blocks(cat: &Catalog, shape: BlockShape) -> bool
     false
 }
 
-// Whether strips are as tall as they can be: the walk met a DTED cell, or the output is one, whose columns would be
-// read or written again for every strip.
-fn is_tall(translation: &Translation) -> bool
+/// Whether strips are as tall as they can be: the walk met a DTED cell, or the output is one, whose columns would be
+/// read or written again for every strip.
+pub fn is_tall(translation: &Translation) -> bool
     ensures tall { result ≡ is_tall translation.now.cat translation.now.plan.driver }
 {
     let plan = &translation.plan;
@@ -182,8 +182,8 @@ fn lines_near(most: u32, width: u32) -> u32
     (SAMPLES_NEAR / width).max(1).min(most)
 }
 
-// The lines of a strip that one worker reads alone: but for those of digits, those that stay in the cache.
-fn lines_alone(translation: &Translation) -> u32
+/// The lines of a strip that one worker reads alone: but for those of digits, those that stay in the cache.
+pub fn lines_alone(translation: &Translation) -> u32
     ensures lines { result ≡ lines_alone translation.now.cat translation.now.plan.size.w }
     ensures some { 1 ≤ result }
 {
