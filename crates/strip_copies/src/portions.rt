@@ -21,7 +21,7 @@ pub struct Portions {
 
 // The fewest samples of an output for each worker, where workers make and pack lines beside each other: so many take
 // several times as long as a thread is started and joined.
-const FEWEST_PACKED: u64 = 262_144;
+const FEWEST_PACKED: u64 = 1_000_000;
 
 // The most samples of an output that is packed whole.
 const MOST_PACKED: u64 = 16_777_216;
@@ -83,10 +83,9 @@ fn most_rows(translation: &Translation, share: u32, workers: u32) -> u32
 {
     let plan = &translation.plan;
     plan.rules();
-    if is_made(&translation.cat) {
-        return share.min(lines_each(&translation.cat));
-    }
-    (share / 4).max(1).min(lines_shared(plan.size.h, workers))
+    let most = share.max(1);
+    let rounds = plan.size.h.div_ceil(most * workers);
+    plan.size.h.div_ceil(rounds * workers)
 }
 
 // Portions of a translation that reads lines or squares: all of them together have 4,194,304 samples at most.
@@ -100,14 +99,14 @@ fn line_portions(translation: &Translation, workers: u32) -> Option<Portions>
 {
     let plan = &translation.plan;
     let line = line_of(plan);
-    let share = lines_in(share_of(workers), line);
+    let share = lines_in(4 * share_of(workers), line);
     if share == 0 {
         return None;
     }
     let rows = most_rows(translation, share, workers);
     Some(Portions {
         rows,
-        step: lines_alone(translation).min(rows),
+        step: (65_536 / plan.size.w).max(1).min(128).min(rows),
         blocks: 1,
     })
 }
