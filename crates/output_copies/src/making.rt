@@ -65,7 +65,7 @@ fn pack_lines<S: Scene>(
     lines: Lines,
     samples: &[Sample],
     block: &mut Block,
-    packed: &mut [PackedLine],
+    packed: &mut [u8],
 )
     requires task { IsTask task.now.translation.now.cat task.now.translation.now.id task.now.translation.now.plan
         task.now.packing task.now.rows task.now.step }
@@ -87,7 +87,9 @@ fn pack_lines<S: Scene>(
     for line in lines.first..lines.end {
         let row = nth_row(samples, line - lines.first, plan.size.w);
         let place = place_of(bands, lines.band, line - top);
-        packed[place].pack(&task.packing, row, block);
+        let len = task.packing.line_len();
+        let part = &mut packed[place * len..place * len + len];
+        task.packing.pack(row, block, part);
     }
 }
 
@@ -269,6 +271,10 @@ fn make_counted<R: Threads + Sync, F: Folder, L: Ledger, S: Scene>(
         columns,
         samples,
     };
+    if worker.desk.packed.len() < worker.desk.len {
+        let len = worker.desk.len;
+        let _grown = worker.desk.packed.resize(len, 0u8);
+    }
     let answer = make_portion(rt, task, &mut reader, &mut worker.desk, portion);
     let StripReader {
         team,

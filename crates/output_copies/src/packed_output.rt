@@ -138,6 +138,7 @@ pub fn write_packed<R: Threads + Sync, F: Folder, O: Sink, W: Ledger, S: Scene>(
         step: shares.portions.step,
         shared,
         quiet: writing.quiet,
+        ahead: writing.blocks != 63,
     };
     let hiring = Hiring {
         workers: writing.workers,

@@ -78,7 +78,8 @@ pub struct Desk<F: Folder> {
     pub view: F,
     pub room: Vec<Sample>,
     pub block: Block,
-    pub packed: Vec<PackedLine>,
+    pub packed: Vec<u8>,
+    pub len: usize,
 }
 
 /// A worker: its lane, the columns of the source that are read, room for lines of them, its desk, and what it answered.
@@ -100,18 +101,7 @@ pub struct Task<'a, 'b, S: Scene> {
     pub step: u32,
     pub shared: Option<&'b shared_lines::Lines<S>>,
     pub quiet: bool,
-}
-
-// Room for the packed lines of a strip.
-fn packed_room(alloc: Global, count: usize, len: usize) -> Result<Vec<PackedLine>, AllocError>
-    ensures count { IfOk result (λ packed. length packed.items ≡ count) }
-    ensures each { IfOk result (λ packed. All (λ line. length line ≡ len) packed.items) }
-{
-    let mut packed = Vec::with_capacity(alloc, count)?;
-    for _at in 0..count {
-        packed.push(PackedLine::new(alloc, len)?)?;
-    }
-    Ok(packed)
+    pub ahead: bool,
 }
 
 // What a worker reads with, but for the count of its loads.
@@ -156,7 +146,7 @@ fn kit_for<F: Folder, L: Ledger>(
 // What a worker needs besides a view: room for lines of a band, a block for a line, and room for packed lines.
 fn desk_rooms<S: Scene>(
     task: &Task<S>,
-) -> Result<(Vec<Sample>, Block, Vec<PackedLine>), AllocError>
+) -> Result<(Vec<Sample>, Block, Vec<u8>), AllocError>
     requires task { IsTask task.now.translation.now.cat task.now.translation.now.id task.now.translation.now.plan
         task.now.packing task.now.rows task.now.step }
     ensures desk { IfOk result (λ d. IsDesk task.now.translation.now.plan task.now.packing task.now.rows task.now.step
@@ -168,7 +158,7 @@ fn desk_rooms<S: Scene>(
     let room = vec![in alloc; 0; area(plan.size.w, task.step)]?;
     let block = Block::new(alloc, task.packing.kind(), plan.size.w)?;
     let count = area(task.rows, plan.count());
-    let packed = packed_room(alloc, count, task.packing.line_len())?;
+    let packed = Vec::with_capacity(alloc, count * task.packing.line_len())?;
     Ok((room, block, packed))
 }
 
@@ -201,6 +191,7 @@ fn hire_one<F: Folder, S: Scene>(
         room,
         block,
         packed,
+        len: task.packing.line_len() * area(task.rows, task.translation.plan.count()),
     };
     Ok(Worker {
         lanes,
@@ -229,6 +220,7 @@ fn dismiss_one<F: Folder>(folder: &mut F, worker: Worker<F>)
         room,
         block,
         packed,
+        len: _,
     } = desk;
     drop((room, block, packed));
     folder.absorb(view);

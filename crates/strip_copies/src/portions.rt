@@ -99,7 +99,7 @@ fn line_portions(translation: &Translation, workers: u32) -> Option<Portions>
 {
     let plan = &translation.plan;
     let line = line_of(plan);
-    let share = lines_in(4 * share_of(workers), line);
+    let share = lines_in(2 * share_of(workers), line);
     if share == 0 {
         return None;
     }
