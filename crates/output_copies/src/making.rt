@@ -11,7 +11,8 @@ ghost use Rattle.output_copies.specs.Packed.{IsTask, IsWorker, MayAnswerByViews}
 ghost use Rattle.output_copies.specs.Parts.{ArePart, AreRead};
 
 use crate::parts::{area, nth_row, read_part};
-use crate::worker::{Desk, PackedLine, Task, Worker};
+use crate::packed::extent_of;
+use crate::worker::{Desk, Task, Worker};
 use band_blocks::Block;
 use error_lines::Fault;
 use geotransform::Sample;
@@ -22,8 +23,7 @@ use std::marker::Brand;
 use std::mem;
 use std::sync::ledger::{Blank, Ledger};
 use std::thread::{Threads, for_each_mut};
-use strip_copies::{Columns, Lines, StripReader};
-use translate_plan::Plan;
+use strip_copies::{Columns, Lines, Piece, StripReader, read_piece};
 
 /// Lines of an output from `top` up to `end`, which one worker makes.
 #[derive(Clone, Copy)]
@@ -33,7 +33,7 @@ pub struct Portion {
 }
 
 /// The lines that a worker makes, by its number: so many for each, from a line on, as far as there are any.
-pub fn portion_of(plan: &Plan, rows: u32, first: u32, at: usize) -> Portion
+pub fn portion_of(extent: u32, rows: u32, first: u32, at: usize) -> Portion
     requires few { at < most_workers }
     ensures top { result.top ≡ top_of plan.now.size.h rows first at }
     ensures end { result.end ≡ top_of plan.now.size.h rows first (at + 1) }
@@ -41,7 +41,7 @@ pub fn portion_of(plan: &Plan, rows: u32, first: u32, at: usize) -> Portion
     ensures within { result.end ≤ plan.now.size.h }
     ensures few { result.end ≤ result.top + rows }
 {
-    let height = u64::from(plan.size.h);
+    let height = u64::from(extent);
     let before = u64::from(first) + at as u64 * u64::from(rows);
     let top = before.min(height);
     let end = (before + u64::from(rows)).min(height);
@@ -234,6 +234,92 @@ fn make_portion<R: Threads + Sync, F: Folder, L: Ledger, S: Scene>(
     Ok(())
 }
 
+// EXPERIMENT
+fn make_pieces<R: Threads + Sync, F: Folder, L: Ledger, S: Scene>(
+    rt: &R,
+    task: &Task<S>,
+    reader: &mut StripReader<F, L>,
+    desk: &mut Desk<F>,
+    portion: Portion,
+) -> Result<(), Fault> {
+    let translation = task.translation;
+    let plan = &translation.plan;
+    plan.rules();
+    let len = task.packing.line_len();
+    let item = len / plan.size.w as usize;
+    let rows = portion.end - portion.top;
+    let bands = plan.count();
+    for band in 0..bands {
+        let mut left = 0;
+        while left < plan.size.w {
+            let right = left + 16.min(plan.size.w - left);
+            let wide = right - left;
+            let piece = Piece { band, first: portion.top, end: portion.end, left, right };
+            let count = area(wide, rows);
+            let part = &mut desk.room[..count];
+            read_piece(rt, translation, reader, &mut desk.view, task.shared, piece, part)?;
+            for row in 0..rows {
+                let place = place_of(bands, band, row);
+                let from = place * len + left as usize * item;
+                let bytes = &mut desk.packed[from..from + wide as usize * item];
+                task.packing.pack_part(nth_row(part, row, wide), &mut desk.block, bytes);
+            }
+            left = right;
+        }
+    }
+    Ok(())
+}
+
+// EXPERIMENT
+fn put_columns(part: &[Sample], wide: u32, rows: u32, line: u32, columns: &mut [Block]) {
+    for at in 0..columns.len() {
+        let mut run: [Sample; 64] = [0; 64];
+        for row in 0..rows as usize {
+            run[row] = part[row * wide as usize + at];
+        }
+        columns[at].write_run(line, &run[..rows as usize]);
+    }
+}
+
+// EXPERIMENT
+fn make_records<R: Threads + Sync, F: Folder, L: Ledger, S: Scene>(
+    rt: &R,
+    task: &Task<S>,
+    reader: &mut StripReader<F, L>,
+    desk: &mut Desk<F>,
+    portion: Portion,
+) -> Result<(), Fault> {
+    let translation = task.translation;
+    let plan = &translation.plan;
+    plan.rules();
+    let len = task.packing.line_len();
+    let wide = portion.end - portion.top;
+    let mut columns: Vec<Block> = Vec::new(translation.alloc);
+    for _at in 0..wide {
+        let block = Block::new(translation.alloc, task.packing.kind(), plan.size.h)?;
+        if let Err(failed) = columns.push(block) {
+            drop(failed);
+            return Err(Fault::Memory);
+        }
+    }
+    let mut line = 0;
+    while line < plan.size.h {
+        let end = line + 64.min(plan.size.h - line);
+        let rows = end - line;
+        let piece = Piece { band: 0, first: line, end, left: portion.top, right: portion.end };
+        let part = &mut desk.room[..area(wide, rows)];
+        read_piece(rt, translation, reader, &mut desk.view, task.shared, piece, part)?;
+        put_columns(part, wide, rows, line, columns.as_mut_slice());
+        line = end;
+    }
+    for at in 0..wide {
+        let from = at as usize * len;
+        let bytes = &mut desk.packed[from..from + len];
+        columns[at as usize].encode_record(portion.top + at, bytes);
+    }
+    Ok(())
+}
+
 // A worker makes its lines, with a count of loads that is dropped.
 fn make_counted<R: Threads + Sync, F: Folder, L: Ledger, S: Scene>(
     rt: &R,
@@ -275,7 +361,13 @@ fn make_counted<R: Threads + Sync, F: Folder, L: Ledger, S: Scene>(
         let len = worker.desk.len;
         let _grown = worker.desk.packed.resize(len, 0u8);
     }
-    let answer = make_portion(rt, task, &mut reader, &mut worker.desk, portion);
+    let answer = if task.packing.is_column() {
+        make_records(rt, task, &mut reader, &mut worker.desk, portion)
+    } else if task.pieces {
+        make_pieces(rt, task, &mut reader, &mut worker.desk, portion)
+    } else {
+        make_portion(rt, task, &mut reader, &mut worker.desk, portion)
+    };
     let StripReader {
         team,
         columns,
@@ -328,7 +420,7 @@ fn make_turn<R: Threads + Sync, F: Folder, S: Scene>(
         (top_of task.now.translation.now.plan.size.h task.now.rows first (at + 1)) worker.new }
     ensures ends { MayEnd S.told 0 (F.faults worker.new.desk.view) 0 0 worker.new.answer }
 {
-    let portion = portion_of(&task.translation.plan, task.rows, first, at);
+    let portion = portion_of(extent_of(task), task.rows, first, at);
     make_alone::<R, F, S>(rt, task, portion, worker);
 }
 

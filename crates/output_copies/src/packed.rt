@@ -9,10 +9,9 @@ ghost use Rattle.output_copies.specs.Copying.{spoken, IsFilled, MayEnd, TellsCha
 ghost use Rattle.output_copies.specs.Packed.{top_of, AreDone, AreMade, HasDone, IsLineOf, IsTask, IsWorker};
 ghost use Rattle.output_copies.specs.Packed.{MayAnswer};
 
-use crate::calls::at_once;
 use crate::making::{Portion, make_all, place_of, portion_of};
 use crate::progress::{Share, tell};
-use crate::worker::{PackedLine, Task, Worker, renew};
+use crate::worker::{Task, Worker, renew};
 use error_lines::Fault;
 use outside::{Counter, Folder, Sink};
 use shared_lines::Scene;
@@ -132,67 +131,142 @@ fn write_portion<F: Folder, W: Ledger, S: Scene>(
     Ok(())
 }
 
-// EXPERIMENT
-#[derive(Drop)]
-struct Making<'a, F: Folder> {
-    workers: &'a mut [Worker<F>],
+// Writes what a worker has made, or answers its refusal.
+fn write_made<F: Folder, W: Ledger, S: Scene>(
+    task: &Task<S>,
+    folder: &mut F,
+    target: &mut Target<F>,
+    portion: Portion,
+    worker: &mut Worker<F>,
+    writes: &mut Counter<W>,
+) -> Result<(), Fault>
+    requires task { IsTask task.now.translation.now.cat task.now.translation.now.id task.now.translation.now.plan
+        task.now.packing task.now.rows task.now.step }
+    requires order { portion.top ≤ portion.end }
+    requires few { portion.end ≤ portion.top + task.now.rows }
+    requires end { portion.end ≤ task.now.translation.now.plan.size.h }
+    requires told { S.told ≡ F.names folder.old }
+    requires done { HasDone F.Folder S.told S.cat task.now.translation.now.cat task.now.translation.now.id
+        task.now.translation.now.plan task.now.packing task.now.rows task.now.step portion.top portion.end worker.old }
+    requires filled { IsFilled (F.names folder.old) task.now.translation.now.cat task.now.translation.now.id
+        task.now.translation.now.plan target.old portion.top portion.top 0 }
+    requires empty { target.old.pool.entries ≡ [] }
+    ensures filled { OnOk result (IsFilled (F.names folder.new) task.now.translation.now.cat
+        task.now.translation.now.id task.now.translation.now.plan target.new portion.end portion.end 0) }
+    ensures empty { target.new.pool.entries ≡ [] }
+    ensures worker { IsWorker F.Folder S.told S.cat task.now.translation.now.cat task.now.translation.now.id
+        task.now.translation.now.plan task.now.packing task.now.rows task.now.step worker.new }
+    ensures name { target.new.name ≡ target.old.name }
+    ensures names { F.names folder.new ≡ F.names folder.old }
+    ensures later { F.faults folder.old ≤ F.faults folder.new }
+    ensures ends { (before : ℕ) → MayEnd S.told before (F.faults folder.old) 0 0 worker.old.answer →
+        MayEnd (F.names folder.old) before (F.faults folder.new) 0 0 result }
+    ensures changed { IfErr result (TellsChange task.now.translation.now.cat) }
+{
+    let answer = mem::replace(&mut worker.answer, Ok(()));
+    answer?;
+    write_portion(
+        task,
+        folder,
+        target,
+        portion,
+        worker.desk.packed.as_slice(),
+        writes,
+    )
 }
 
-#[derive(Drop)]
-struct Putting<'a, F: Folder, W: Ledger> {
-    folder: &'a mut F,
-    target: &'a mut Target<F>,
-    writes: &'a mut Counter<W>,
-    answer: &'a mut Result<(), Fault>,
-}
-
-fn put_all<F: Folder, W: Ledger, S: Scene>(
+// Writes what each worker has made of the lines from one on, in their order. The first refusal among them is answered.
+fn write_all<F: Folder, W: Ledger, S: Scene>(
     task: &Task<S>,
     folder: &mut F,
     target: &mut Target<F>,
     first: u32,
-    ready: &[Vec<u8>],
+    workers: &mut [Worker<F>],
     writes: &mut Counter<W>,
-) -> Result<(), Fault> {
-    for at in 0..ready.len() {
-        let portion = portion_of(&task.translation.plan, task.rows, first, at);
-        write_portion(task, folder, target, portion, ready[at].as_slice(), writes)?;
-    }
-    Ok(())
-}
-
-fn do_both<'a, 'b, R: Threads + Sync, F: Folder, W: Ledger, S: Scene>(
-    rt: &R,
-    task: &Task<S>,
-    first: u32,
-    next: u32,
-    ready: &[Vec<u8>],
-    making: &mut Making<'a, F>,
-    putting: &mut Putting<'b, F, W>,
-) {
-    let make = |half: &mut Making<F>| {
-        make_all::<R, F, S>(rt, task, next, half.workers);
-    };
-    let write = |half: &mut Putting<F, W>| {
-        let folder = &mut *half.folder;
-        let target = &mut *half.target;
-        let writes = &mut *half.writes;
-        *half.answer = put_all::<F, W, S>(task, folder, target, first, ready, writes);
-    };
-    at_once(rt, &make, making, &write, putting);
-}
-
-fn take_made<F: Folder>(workers: &mut [Worker<F>], ready: &mut [Vec<u8>]) -> Result<(), Fault> {
+) -> Result<(), Fault>
+    requires task { IsTask task.now.translation.now.cat task.now.translation.now.id task.now.translation.now.plan
+        task.now.packing task.now.rows task.now.step }
+    requires few { length workers.old ≤ most_workers }
+    requires first { first ≤ task.now.translation.now.plan.size.h }
+    requires told { S.told ≡ F.names folder.old }
+    requires done { AreDone F.Folder S.told S.cat task.now.translation.now.cat task.now.translation.now.id
+        task.now.translation.now.plan task.now.packing task.now.rows task.now.step first workers.old }
+    requires filled { IsFilled (F.names folder.old) task.now.translation.now.cat task.now.translation.now.id
+        task.now.translation.now.plan target.old first first 0 }
+    requires empty { target.old.pool.entries ≡ [] }
+    ensures filled { OnOk result (IsFilled (F.names folder.new) task.now.translation.now.cat
+        task.now.translation.now.id task.now.translation.now.plan target.new
+        (top_of task.now.translation.now.plan.size.h task.now.rows first (length workers.old))
+        (top_of task.now.translation.now.plan.size.h task.now.rows first (length workers.old)) 0) }
+    ensures empty { target.new.pool.entries ≡ [] }
+    ensures workers { All (IsWorker F.Folder S.told S.cat task.now.translation.now.cat task.now.translation.now.id
+        task.now.translation.now.plan task.now.packing task.now.rows task.now.step) workers.new }
+    ensures name { target.new.name ≡ target.old.name }
+    ensures names { F.names folder.new ≡ F.names folder.old }
+    ensures later { F.faults folder.old ≤ F.faults folder.new }
+    ensures ends { (before : ℕ) → before ≤ F.faults folder.old →
+        MayAnswer S.told before (F.faults folder.old) workers.old →
+        MayEnd (F.names folder.old) before (F.faults folder.new) 0 0 result }
+    ensures changed { IfErr result (TellsChange task.now.translation.now.cat) }
+{
     let count = workers.len();
     for at in 0..count {
-        let answer = mem::replace(&mut workers[at].answer, Ok(()));
-        answer?;
-        mem::swap(&mut workers[at].desk.packed, &mut ready[at]);
+        let portion = portion_of(extent_of(task), task.rows, first, at);
+        write_made(task, folder, target, portion, &mut workers[at], writes)?;
     }
     Ok(())
 }
 
-/// EXPERIMENT
+// Makes the next lines, so many for each worker, and writes them.
+fn copy_round<R: Threads + Sync, F: Folder, W: Ledger, S: Scene>(
+    rt: &R,
+    task: &Task<S>,
+    folder: &mut F,
+    target: &mut Target<F>,
+    first: u32,
+    workers: &mut [Worker<F>],
+    writes: &mut Counter<W>,
+) -> Result<(), Fault>
+    requires task { IsTask task.now.translation.now.cat task.now.translation.now.id task.now.translation.now.plan
+        task.now.packing task.now.rows task.now.step }
+    requires some { 0 < length workers.old }
+    requires few { length workers.old ≤ most_workers }
+    requires first { first ≤ task.now.translation.now.plan.size.h }
+    requires told { S.told ≡ F.names folder.old }
+    requires workers { All (IsWorker F.Folder S.told S.cat task.now.translation.now.cat task.now.translation.now.id
+        task.now.translation.now.plan task.now.packing task.now.rows task.now.step) workers.old }
+    requires filled { IsFilled (F.names folder.old) task.now.translation.now.cat task.now.translation.now.id
+        task.now.translation.now.plan target.old first first 0 }
+    requires empty { target.old.pool.entries ≡ [] }
+    ensures filled { OnOk result (IsFilled (F.names folder.new) task.now.translation.now.cat
+        task.now.translation.now.id task.now.translation.now.plan target.new
+        (top_of task.now.translation.now.plan.size.h task.now.rows first (length workers.old))
+        (top_of task.now.translation.now.plan.size.h task.now.rows first (length workers.old)) 0) }
+    ensures empty { target.new.pool.entries ≡ [] }
+    ensures workers { All (IsWorker F.Folder S.told S.cat task.now.translation.now.cat task.now.translation.now.id
+        task.now.translation.now.plan task.now.packing task.now.rows task.now.step) workers.new }
+    ensures name { target.new.name ≡ target.old.name }
+    ensures names { F.names folder.new ≡ F.names folder.old }
+    ensures ends { MayEnd (F.names folder.old) (F.faults folder.old) (F.faults folder.new) 0 0 result }
+    ensures changed { IfErr result (TellsChange task.now.translation.now.cat) }
+{
+    make_all::<R, F, S>(rt, task, first, workers);
+    renew(task, folder, first, workers)?;
+    write_all(task, folder, target, first, workers, writes)
+}
+
+// EXPERIMENT: how many blocks each band of an output has, lines or columns.
+pub fn extent_of<S: Scene>(task: &Task<S>) -> u32 {
+    let plan = &task.translation.plan;
+    plan.rules();
+    if task.packing.is_column() {
+        plan.size.w
+    } else {
+        plan.size.h
+    }
+}
+
+/// As `copy_all`, by workers that make and pack lines beside each other.
 pub fn copy_packed<R: Threads + Sync, F: Folder, O: Sink, W: Ledger, S: Scene>(
     rt: &R,
     task: &Task<S>,
@@ -201,46 +275,40 @@ pub fn copy_packed<R: Threads + Sync, F: Folder, O: Sink, W: Ledger, S: Scene>(
     out: &mut O,
     workers: &mut [Worker<F>],
     writes: &mut Counter<W>,
-) -> Result<(), Fault> {
+) -> Result<(), Fault>
+    requires task { IsTask task.now.translation.now.cat task.now.translation.now.id task.now.translation.now.plan
+        task.now.packing task.now.rows task.now.step }
+    requires some { 0 < length workers.old }
+    requires few { length workers.old ≤ most_workers }
+    requires told { S.told ≡ F.names folder.old }
+    requires workers { All (IsWorker F.Folder S.told S.cat task.now.translation.now.cat task.now.translation.now.id
+        task.now.translation.now.plan task.now.packing task.now.rows task.now.step) workers.old }
+    requires filled { IsFilled (F.names folder.old) task.now.translation.now.cat task.now.translation.now.id
+        task.now.translation.now.plan target.old 0 0 0 }
+    requires empty { target.old.pool.entries ≡ [] }
+    ensures filled { OnOk result (IsFilled (F.names folder.new) task.now.translation.now.cat
+        task.now.translation.now.id task.now.translation.now.plan target.new task.now.translation.now.plan.size.h
+        task.now.translation.now.plan.size.h 0) }
+    ensures name { target.new.name ≡ target.old.name }
+    ensures names { F.names folder.new ≡ F.names folder.old }
+    ensures ok { OnOk result (Gets (spoken task.now.quiet progress) (O.got out.old) (O.got out.new)) }
+    ensures err { OnErr result (GetsPart (spoken task.now.quiet progress) (O.got out.old) (O.got out.new)) }
+    ensures quiet { task.now.quiet ≡ true → out.new ≡ out.old }
+    ensures ends { MayEnd (F.names folder.old) (F.faults folder.old) (F.faults folder.new) (O.faults out.old)
+        (O.faults out.new) result }
+    ensures changed { IfErr result (TellsChange task.now.translation.now.cat) }
+{
     let plan = &task.translation.plan;
     plan.rules();
-    let height = plan.size.h;
+    let height = extent_of(task);
     let quiet = task.quiet;
     let count = workers.len();
-    let alloc = task.translation.alloc;
-    let mut ready: Vec<Vec<u8>> = Vec::new(alloc);
-    for at in 0..count {
-        let len = workers[at].desk.len;
-        let room: Vec<u8> = Vec::with_capacity(alloc, len)?;
-        if let Err(failed) = ready.push(room) {
-            drop(failed);
-            return Err(Fault::Memory);
-        }
-    }
     let mut told = tell(out, quiet, 0, Share { done: 0, height })?;
-    make_all::<R, F, S>(rt, task, 0, workers);
-    renew(task, folder, 0, workers)?;
-    take_made(workers, ready.as_mut_slice())?;
     let mut line = 0;
-    let mut next = portion_of(plan, task.rows, 0, count - 1).end;
-    while next < height {
-        let mut written = Ok(());
-        if task.ahead {
-            let mut making = Making { workers };
-            let mut putting = Putting { folder, target, writes, answer: &mut written };
-            do_both(rt, task, line, next, ready.as_slice(), &mut making, &mut putting);
-        } else {
-            written = put_all::<F, W, S>(task, folder, target, line, ready.as_slice(), writes);
-            make_all::<R, F, S>(rt, task, next, workers);
-        }
-        written?;
-        told = tell(out, quiet, told, Share { done: next, height })?;
-        renew(task, folder, next, workers)?;
-        take_made(workers, ready.as_mut_slice())?;
-        line = next;
-        next = portion_of(plan, task.rows, line, count - 1).end;
+    while line < height {
+        copy_round(rt, task, folder, target, line, workers, writes)?;
+        line = portion_of(height, task.rows, line, count - 1).end;
+        told = tell(out, quiet, told, Share { done: line, height })?;
     }
-    put_all::<F, W, S>(task, folder, target, line, ready.as_slice(), writes)?;
-    let _ = tell(out, quiet, told, Share { done: height, height })?;
     Ok(())
 }

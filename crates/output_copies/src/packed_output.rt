@@ -138,7 +138,8 @@ pub fn write_packed<R: Threads + Sync, F: Folder, O: Sink, W: Ledger, S: Scene>(
         step: shares.portions.step,
         shared,
         quiet: writing.quiet,
-        ahead: writing.blocks != 63,
+        pieces: shares.portions.pieces,
+        room: shares.portions.room,
     };
     let hiring = Hiring {
         workers: writing.workers,

@@ -101,7 +101,8 @@ pub struct Task<'a, 'b, S: Scene> {
     pub step: u32,
     pub shared: Option<&'b shared_lines::Lines<S>>,
     pub quiet: bool,
-    pub ahead: bool,
+    pub pieces: bool,
+    pub room: usize,
 }
 
 // What a worker reads with, but for the count of its loads.
@@ -155,7 +156,7 @@ fn desk_rooms<S: Scene>(
     let alloc = task.translation.alloc;
     let plan = &task.translation.plan;
     plan.rules();
-    let room = vec![in alloc; 0; area(plan.size.w, task.step)]?;
+    let room = vec![in alloc; 0; task.room]?;
     let block = Block::new(alloc, task.packing.kind(), plan.size.w)?;
     let count = area(task.rows, plan.count());
     let packed = Vec::with_capacity(alloc, count * task.packing.line_len())?;

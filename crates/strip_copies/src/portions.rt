@@ -17,6 +17,8 @@ pub struct Portions {
     pub rows: u32,
     pub step: u32,
     pub blocks: u32,
+    pub pieces: bool,
+    pub room: usize,
 }
 
 // The fewest samples of an output for each worker, where workers make and pack lines beside each other: so many take
@@ -104,10 +106,13 @@ fn line_portions(translation: &Translation, workers: u32) -> Option<Portions>
         return None;
     }
     let rows = most_rows(translation, share, workers);
+    let step = (65_536 / plan.size.w).max(1).min(128).min(rows);
     Some(Portions {
         rows,
-        step: (65_536 / plan.size.w).max(1).min(128).min(rows),
+        step,
         blocks: 1,
+        pieces: false,
+        room: step as usize * plan.size.w as usize,
     })
 }
 
@@ -136,8 +141,18 @@ fn cell_portions(translation: &Translation, workers: u32) -> Option<Portions>
     Some(Portions {
         rows,
         step: lines_alone(translation).min(rows),
-        blocks: columns,
+        blocks: 1,
+        pieces: true,
+        room: 16 * rows as usize,
     })
+}
+
+// EXPERIMENT
+fn is_tall_source(translation: &Translation) -> bool {
+    match translation.cat.head(translation.id).kind {
+        Kind::Dted => true,
+        Kind::Raw | Kind::Hgt | Kind::Ascii | Kind::Vrt => false,
+    }
 }
 
 /// How several workers share the lines of a translation whose output's blocks are lines; None where one worker is
@@ -157,7 +172,17 @@ pub fn portions(translation: &Translation, workers: WorkerCount) -> Option<Porti
         return None;
     }
     if let Driver::Dted { .. } = plan.driver {
-        return None;
+        if is_tall_source(translation) || samples_of(plan) > MOST_PACKED {
+            return None;
+        }
+        let rows = lines_shared(plan.size.w, count);
+        return Some(Portions {
+            rows,
+            step: 64,
+            blocks: 1,
+            pieces: false,
+            room: 64 * rows as usize,
+        });
     }
     match translation.cat.head(translation.id).kind {
         Kind::Dted => cell_portions(translation, count),

@@ -29,6 +29,7 @@ use crate::height::{height_of, lines_apart, most_lines};
 use crate::holding::Holding;
 use crate::making::{Making, area, make_lines};
 use crate::shares::fewest_for;
+use crate::shown_places::line_at;
 use crate::spans::{Reach, Run, run_from};
 use crate::translation::Translation;
 use band_blocks::LoadFault;
@@ -506,4 +507,50 @@ pub fn read_lines<R: Threads + Sync, F: Folder, L: Ledger, S: Scene>(
     let team = &mut reader.team;
     let samples = reader.samples.as_mut_slice();
     read_runs(rt, &shown, team, folder, lines, samples, out)
+}
+
+/// EXPERIMENT
+#[derive(Clone, Copy)]
+pub struct Piece {
+    pub band: u32,
+    pub first: u32,
+    pub end: u32,
+    pub left: u32,
+    pub right: u32,
+}
+
+/// EXPERIMENT: of a translation that is direct throughout
+pub fn read_piece<R: Threads + Sync, F: Folder, L: Ledger, S: Scene>(
+    rt: &R,
+    translation: &Translation,
+    reader: &mut StripReader<F, L>,
+    folder: &mut F,
+    shared: Option<&shared_lines::Lines<S>>,
+    piece: Piece,
+    out: &mut [Sample],
+) -> Result<(), LoadFault> {
+    let plan = &translation.plan;
+    plan.rules();
+    let Some(top) = line_at(plan, source_size(translation).h, piece.first) else {
+        unreachable!();
+    };
+    let window = Window {
+        dataset: translation.id,
+        band: plan.source(piece.band),
+        rect: Rect {
+            x: reader.columns.first + piece.left,
+            y: top,
+            w: piece.right - piece.left,
+            h: piece.end - piece.first,
+        },
+    };
+    let supply = Supply {
+        alloc: translation.alloc,
+        cat: &translation.cat,
+        shared,
+    };
+    reader.team.read_window_with(rt, &supply, folder, window, 0, out)?;
+    let kind = kind_of(translation, window.band);
+    hold_all(Holding::of(plan, piece.band), kind, out);
+    Ok(())
 }

@@ -19,6 +19,7 @@ use translate_plan::{Driver, Plan};
 pub(crate) enum LineForm {
     Lines(RawHead),
     Tile(u32),
+    Column(u32),
 }
 
 /// How lines of a band are packed into the bytes of an output, each of whose blocks is such a line. It may be shared
@@ -66,7 +67,10 @@ impl Packing {
             Driver::SrtmHgt => Some(Packing {
                 form: LineForm::Tile(plan.size.w),
             }),
-            Driver::Dted { .. } | Driver::AaiGrid | Driver::Vrt => None,
+            Driver::Dted { .. } => Some(Packing {
+                form: LineForm::Column(plan.size.h),
+            }),
+            Driver::AaiGrid | Driver::Vrt => None,
         }
     }
 
@@ -76,7 +80,7 @@ impl Packing {
     {
         match &self.form {
             LineForm::Lines(head) => head.kind,
-            LineForm::Tile(_) => PixelType::Int16,
+            LineForm::Tile(_) | LineForm::Column(_) => PixelType::Int16,
         }
     }
 
@@ -87,6 +91,7 @@ impl Packing {
         match &self.form {
             LineForm::Lines(head) => line_len(head) as usize * sample_len(head.kind),
             LineForm::Tile(side) => 2 * *side as usize,
+            LineForm::Column(points) => 12 + 2 * *points as usize,
         }
     }
 
@@ -105,6 +110,41 @@ impl Packing {
         match &self.form {
             LineForm::Lines(head) => encode_run(head, block, 0, line_len(head), bytes),
             LineForm::Tile(_) => block.encode_items(bytes),
+            LineForm::Column(_) => unreachable!(),
+        }
+    }
+
+    /// EXPERIMENT
+    pub fn is_column(&self) -> bool {
+        match &self.form {
+            LineForm::Column(_) => true,
+            LineForm::Lines(_) | LineForm::Tile(_) => false,
+        }
+    }
+
+    /// EXPERIMENT
+    pub fn pack_part(&self, samples: &[Sample], block: &mut Block, bytes: &mut [u8]) {
+        block.write_run(0, samples);
+        let count = samples.len() as u32;
+        match &self.form {
+            LineForm::Lines(head) => encode_run(head, block, 0, count, bytes),
+            LineForm::Tile(_) => {
+                let head = RawHead {
+                    size: geotransform::Size { w: 1, h: 1 },
+                    bands: 1,
+                    kind: PixelType::Int16,
+                    big: true,
+                    layout: esri_hdr::Layout::Bsq,
+                    skip: 0,
+                    band_row: 2,
+                    total_row: 2,
+                    gap: 0,
+                    nodata: None,
+                    geo: None,
+                };
+                encode_run(&head, block, 0, count, bytes);
+            }
+            LineForm::Column(_) => unreachable!(),
         }
     }
 }

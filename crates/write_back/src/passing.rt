@@ -111,7 +111,10 @@ impl Writer {
                 put_line(folder, draft, &head, Row { band, y }, bytes)
             }
             Writer::Hgt(tile) => put_row(folder, draft, tile.side(), y, bytes),
-            Writer::Dted(_) => unreachable!(),
+            Writer::Dted(cell) => {
+                let head = cell.head();
+                put_bytes(folder, draft, head.record_at(y), bytes)
+            }
         }
     }
 }
