@@ -11,6 +11,7 @@ ghost use Rattle.output_copies.specs.Packed.{IsTask, IsWorker, MayAnswerByViews}
 ghost use Rattle.output_copies.specs.Parts.{ArePart, AreRead};
 
 use crate::parts::{area, nth_row, read_part};
+use crate::calls::at_once;
 use crate::packed::extent_of;
 use crate::worker::{Desk, Task, Worker};
 use band_blocks::Block;
@@ -22,7 +23,7 @@ use shared_lines::Scene;
 use std::marker::Brand;
 use std::mem;
 use std::sync::ledger::{Blank, Ledger};
-use std::thread::{Threads, for_each_mut};
+use std::thread::Threads;
 use strip_copies::{Columns, Lines, Piece, StripReader, read_piece};
 
 /// Lines of an output from `top` up to `end`, which one worker makes.
@@ -441,22 +442,34 @@ pub fn make_all<R: Threads + Sync, F: Folder, S: Scene>(
         task.now.translation.now.plan task.now.packing task.now.rows task.now.step first workers.new }
     ensures ends { MayAnswerByViews S.told F.Folder workers.new }
 {
-    let count = workers.len();
-    let make = |at: usize, worker: &mut Worker<F>|
-        requires { IsSync R.row × IsSend S.row × IsSync S.row × IsSend F.row × IsSend F.File.row × IsSend F.Draft.row ×
-            (at < count) × (count ≤ most_workers) × IsTask task.now.translation.now.cat task.now.translation.now.id
-            task.now.translation.now.plan task.now.packing task.now.rows task.now.step × IsWorker F.Folder S.told S.cat
-            task.now.translation.now.cat task.now.translation.now.id task.now.translation.now.plan task.now.packing
-            task.now.rows task.now.step worker.old }
-        ensures { HasDone F.Folder S.told S.cat task.entry.now.translation.now.cat task.entry.now.translation.now.id
-            task.entry.now.translation.now.plan task.entry.now.packing task.entry.now.rows task.entry.now.step
-            (top_of task.entry.now.translation.now.plan.size.h task.entry.now.rows first at)
-            (top_of task.entry.now.translation.now.plan.size.h task.entry.now.rows first (at + 1)) worker.new ×
-            MayEnd S.told 0 (F.faults worker.new.desk.view) 0 0 worker.new.answer }
-    {
-        // The clauses name it.
-        let _count = count;
-        make_turn::<R, F, S>(rt, task, first, at, worker);
+    make_each::<R, F, S>(rt, task, first, 0, workers);
+}
+
+#[derive(Drop)]
+struct Some1<'a, F: Folder> {
+    workers: &'a mut [Worker<F>],
+}
+
+// EXPERIMENT: each thread is made by the calling one.
+fn make_each<R: Threads + Sync, F: Folder, S: Scene>(
+    rt: &R,
+    task: &Task<S>,
+    first: u32,
+    at: usize,
+    workers: &mut [Worker<F>],
+) {
+    if workers.len() == 1 {
+        make_turn::<R, F, S>(rt, task, first, at, &mut workers[0]);
+        return;
+    }
+    let (one, others) = workers.split_at_mut(1);
+    let mut front = Some1 { workers: one };
+    let mut back = Some1 { workers: others };
+    let make_one = |half: &mut Some1<F>| {
+        make_turn::<R, F, S>(rt, task, first, at, &mut half.workers[0]);
     };
-    for_each_mut(rt, workers, count, &make);
+    let make_others = |half: &mut Some1<F>| {
+        make_each::<R, F, S>(rt, task, first, at + 1, half.workers);
+    };
+    at_once(rt, &make_one, &mut front, &make_others, &mut back);
 }
