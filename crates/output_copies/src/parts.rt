@@ -1,5 +1,5 @@
 // Parts of an output: lines of a band, which are read and then written.
-ghost use Rattle.std.specs.Prelude.{◌≡◌, ◌+◌, ◌-◌, ◌*◌, length, IfErr, OnOk};
+ghost use Rattle.std.specs.Prelude.{◌≡◌, ◌≤◌, ◌+◌, ◌-◌, ◌*◌, length, take, drop, IfErr, OnOk};
 ghost use Rattle.lane_teams.specs.Ready.{AreLanesReady};
 ghost use Rattle.strip_copies.specs.Copies.{IsRoomFor, IsTranslation};
 ghost use Rattle.output_copies.specs.Copying.{IsFilled, MayEnd, TellsChange};
@@ -19,6 +19,17 @@ pub fn area(columns: u32, lines: u32) -> usize
     ensures area { result ≡ columns * lines }
 {
     columns as usize * lines as usize
+}
+
+/// A row of so many samples, which stands behind n others.
+pub fn nth_row(samples: &[Sample], n: u32, width: u32) -> &[Sample]
+    requires within { n * width + width ≤ length samples.now }
+    ensures row { result.now ≡ take width (drop (n * width) samples.now) }
+    ensures len { length result.now ≡ width }
+{
+    let width = width as usize;
+    let from = n as usize * width;
+    &samples[from..from + width]
 }
 
 /// Reads lines of a band into so many samples.

@@ -47,8 +47,9 @@ fn folder<R: Abort>(rt: &R, alloc: Global) -> MemFolder {
     folder_of(rt, alloc, &files, &[])
 }
 
-// A raster in which these bytes come so often that each of two workers reads half of each of its two strips, and the
-// second strip is read while the first one is written; and a mosaic of it.
+// A raster in which these bytes come so often that each of two workers makes half of its lines; where the output's lines
+// hold all bands pixel by pixel, each reads half of each of two strips, and the second strip is read while the first one
+// is written. And a mosaic of it.
 const TIMES: usize = 16_384;
 
 const WIDE: &[u8] = b"NROWS 128\nNCOLS 32768\n";
@@ -68,14 +69,16 @@ fn wide_folder<R: Abort>(rt: &R, alloc: Global, bytes: &[u8]) -> MemFolder {
 
 const BESIDE: Row<'static> = ("gdal_translate -q --workers 2 wide.bil out.bil", 0, "", "");
 
+const WOVEN: Row<'static> = ("gdal_translate -q --workers 2 wide.bil out.bip", 0, "", "");
+
 // Whether two workers, each of which waits for the other to read, copy the lines.
-fn is_copied<R: Threads + Sync + Abort>(rt: &R, alloc: Global) -> bool {
+fn is_copied<R: Threads + Sync + Abort>(rt: &R, alloc: Global, row: &Row<'_>, name: &str) -> bool {
     let bytes = joined(rt, alloc, &[(samples(), TIMES)]);
     let folder = wide_folder(rt, alloc, bytes.as_slice());
     let mut gate = Gate::new(alloc, folder).expect(rt, "memory");
-    let said = says_in(rt, alloc, &mut gate, &BESIDE);
+    let said = says_in(rt, alloc, &mut gate, row);
     let folder = gate.into_inner();
-    said && has(rt, alloc, &folder, ("out.bil", bytes.as_slice()))
+    said && has(rt, alloc, &folder, (name, bytes.as_slice()))
 }
 
 // Few lines, which one of two workers reads through the folder itself, so that nobody waits.
@@ -94,8 +97,13 @@ fn few_lines_over_a_gate(rt: HostRuntime) {
 }
 
 #[test]
+fn two_workers_make_lines_beside_each_other(rt: HostRuntime) {
+    assert!(rt; is_copied(&rt, rt.alloc(), &BESIDE, "out.bil"));
+}
+
+#[test]
 fn two_workers_read_beside_each_other(rt: HostRuntime) {
-    assert!(rt; is_copied(&rt, rt.alloc()));
+    assert!(rt; is_copied(&rt, rt.alloc(), &WOVEN, "out.bip"));
 }
 
 // The wide lines by some workers, and the same through the mosaic.
@@ -173,8 +181,7 @@ fn some_workers_over_a_cell(rt: HostRuntime) {
     assert!(rt; are_tiles_again(&rt, rt.alloc()));
 }
 
-// Lines of which a strip of sixty-four has two million samples: two workers read it beside each other, and the last
-// line is read while those before it are written.
+// Lines that two workers make beside each other: thirty-three are made by the one, thirty-two by the other.
 const LONG: &[u8] = b"NROWS 65\nNCOLS 32768\n";
 
 const LONG_TIMES: usize = 8_320;
@@ -192,7 +199,7 @@ BANDGAPBYTES   0
 PIXELTYPE      UNSIGNEDINT
 ";
 
-// Each line is written, and of the sixty-four of a strip a worker reads thirty-two or more.
+// Each line is written, and a worker reads thirty-two or more of them.
 static LONG_TURN: [Turn; 1] = [(0, Failer::Folder, (97, 256))];
 
 // The first work of which a call's failing isn't met.

@@ -106,9 +106,9 @@ fn has_blocks(cat: &Catalog, shape: BlockShape) -> bool
     false
 }
 
-// Whether strips are as tall as they can be: the walk met a DTED cell, or the output is one, whose columns would be
-// read or written again for every strip.
-fn is_tall(translation: &Translation) -> bool
+/// Whether strips are as tall as they can be: the walk met a DTED cell, or the output is one, whose columns would be
+/// read or written again for every strip.
+pub fn is_tall(translation: &Translation) -> bool
     ensures tall { result ≡ is_tall translation.now.cat translation.now.plan.driver }
 {
     let plan = &translation.plan;
@@ -120,9 +120,9 @@ fn is_tall(translation: &Translation) -> bool
     }
 }
 
-// The lines of a strip that each of several workers reads: as many as a square of a mosaic has, so that it isn't made
-// again for each of its lines, and 32 of a file of lines.
-fn lines_each(cat: &Catalog) -> u32
+/// The lines of a strip that each of several workers reads: as many as a square of a mosaic has, so that it isn't made
+/// again for each of its lines, and 32 of a file of lines.
+pub fn lines_each(cat: &Catalog) -> u32
     ensures lines { result ≡ lines_each cat.now }
     ensures some { 1 ≤ result }
     ensures few { result ≤ square_side }
@@ -134,8 +134,8 @@ fn lines_each(cat: &Catalog) -> u32
     }
 }
 
-// Whether samples are made of others, or of digits: those of a file of bytes are copied.
-fn is_made(cat: &Catalog) -> bool
+/// Whether samples are made of others, or of digits: those of a file of bytes are copied.
+pub fn is_made(cat: &Catalog) -> bool
     ensures made { result ≡ is_made cat.now }
 {
     has_blocks(cat, BlockShape::Squares) || has_blocks(cat, BlockShape::Digits)
@@ -152,8 +152,8 @@ fn fewest_read(cat: &Catalog) -> usize
     }
 }
 
-// The most samples of a strip for each of so many workers.
-fn share_of(workers: u32) -> usize
+/// The most samples of a strip for each of so many workers.
+pub fn share_of(workers: u32) -> usize
     requires some { 1 ≤ workers }
     ensures share { result ≡ most_samples / workers }
 {
@@ -180,8 +180,8 @@ fn lines_near(width: u32) -> u32
     (SAMPLES_NEAR / width).max(1).min(FILE_LINES)
 }
 
-// The lines of a strip that one worker reads alone: of a file of bytes those that stay in the cache.
-fn lines_alone(translation: &Translation) -> u32
+/// The lines of a strip that one worker reads alone: of a file of bytes those that stay in the cache.
+pub fn lines_alone(translation: &Translation) -> u32
     ensures lines { result ≡ lines_alone translation.now.cat translation.now.plan.size.w }
     ensures some { 1 ≤ result }
 {

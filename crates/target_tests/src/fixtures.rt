@@ -215,8 +215,8 @@ pub fn has_all(alloc: Global, folder: &MemFolder, files: &[File]) -> Result<bool
     Ok(true)
 }
 
-// Whether the extension of the name is one of the plan's form.
-fn is_named_for(plan: &Plan, name: &Name) -> bool
+/// Whether the extension of the name is one of the plan's form.
+pub fn is_named_for(plan: &Plan, name: &Name) -> bool
     ensures named { result ≡ true → IsNamedFor plan.now name.now }
     ensures files { result ≡ true → plan.now.driver ≢ Vrt }
 {

@@ -1,5 +1,5 @@
-// Tests of `write_back`, by its public calls alone: windows through pools of each capacity, the files that are
-// published, and calls of the folder that fail.
+// Tests of `write_back`, by its public calls alone: windows through pools of each capacity, lines past them, the files
+// that are published, and calls of the folder that fail.
 #![tactic(auto)]
 
 #[cfg(test)]
@@ -12,6 +12,8 @@ mod failing;
 mod fixtures;
 #[cfg(test)]
 mod grids;
+#[cfg(test)]
+mod lines;
 #[cfg(test)]
 mod outputs;
 #[cfg(test)]

@@ -2,6 +2,10 @@
 use Rattle.std.specs.Prelude.{ℕ, List, [], Option}
 use Rattle.outside.specs.declared.folder.Folder.{Ghosts}
 use Rattle.block_cache.specs.Entries.{pool_view}
+use Rattle.write_back.specs.declared.forms.Writer.{Writer}
+use Rattle.write_back.specs.declared.forms.Writer.TheVariants as writers
+use Rattle.write_back.specs.declared.packing.LineForm.{LineForm}
+use Rattle.write_back.specs.declared.packing.LineForm.TheVariants as forms
 use Rattle.write_back.specs.declared.sheet.Kind.{Kind}
 use Rattle.write_back.specs.declared.sheet.Kind.TheVariants as kinds
 use Rattle.write_back.specs.declared.store.Store.{Store}
@@ -37,3 +41,8 @@ sheet_of bytes len name (kinds.Rows r) = record {
   name = name r.draft;
   lines = r.lines;
 }
+
+-- lines are packed for what writes them
+abbrev pub writer_by : LineForm → Writer
+writer_by (forms.Lines h) = writers.Raw h
+writer_by (forms.Tile side) = writers.Hgt side

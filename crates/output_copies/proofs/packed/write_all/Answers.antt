@@ -1,0 +1,82 @@
+use Rattle.std.proofs.Common.{◌≡◌, ◌∙◌, ◌+◌, ◌≤◌, ◌<◌, [], ap, arith, refl, sym, subst, length, get_or, ℕ, Err, Ok, Option, Result}
+use Rattle.std.specs.Prelude.{slice_set}
+use Rattle.outside.specs.Outside.{Files}
+use Rattle.output_copies.specs.declared.worker.Worker.{Worker}
+use Rattle.output_copies.specs.Copying.{IsFilled, MayEnd, TellsChange}
+use Rattle.output_copies.specs.Packed.{top_of, HasDone, IsWorker}
+use Rattle.output_copies.proofs.Changes.{handed_on}
+use Rattle.output_copies.proofs.Ends.{ends_after, ends_later, ends_ok, ends_so, err_is}
+use Rattle.output_copies.proofs.Hands.{AreWritten, top_first, written_more, written_ready}
+use Rattle.output_copies.proofs.packed.write_all.Goals as goal
+
+pub loop-at-init : goal.loop-at-init
+loop-at-init g c =
+    let t = c.args.task.now.translation.now in
+    record {
+      filled = subst (λ (n : ℕ). IsFilled (g.F.Folder.names c.args.folder.now) t.cat t.id t.plan c.args.target.now n n 0) (sym (top_first t.plan.size.h c.args.task.now.rows c.args.first c.requires.first)) c.requires.filled;
+      empty = c.requires.empty;
+      written = record { count = refl; ready = λ i d early less. absurd (omega arith); rest = λ i d behind. refl };
+      name = refl;
+      names = refl;
+      later = omega arith;
+    }
+
+-- UNCHECKED: what the call gets is `get_or workers at`, and a `slice_set` is put back
+pub write_made-requires-clause-done : goal.write_made-requires-clause-done
+write_made-requires-clause-done g c κs within =
+    let so_far = c.loop-at.invariant in
+    rw (c.portion_of-portion.ensures.top, c.portion_of-portion.ensures.end, so_far.written.rest c.loop-at.at _ (omega arith)) (c.requires.done c.loop-at.at _ (omega (arith, so_far.written.count, c.loop-at-test.true)))
+
+-- the worker's answer is what it was, and may end the translation since a count before
+pub returns-in_err-write_made-clause-ends : goal.returns-in_err-write_made-clause-ends
+returns-in_err-write_made-clause-ends g c = λ before early answers.
+    let so_far = c.loop-at.invariant in
+    let told = g.F.Folder.names c.args.folder.now in
+    let x = c.in_err-write_made.field-0.0 in
+    let answer = ends_later g.S.Scene.told before (g.F.Folder.faults c.args.folder.now) (g.F.Folder.faults c.loop-at.folder) 0 0 (get_or c.args.workers.now c.loop-at.at _).answer so_far.later (answers c.loop-at.at _ (omega (arith, so_far.written.count, c.loop-at-test.true))) in
+    ends_so told before (g.F.Folder.faults c.write_made.new.folder) 0 0 x c.from_residual.result (err_is c.from_residual.result x c.from_residual.ensures)
+    (subst (λ (o : Option Files). MayEnd o before (g.F.Folder.faults c.write_made.new.folder) 0 0 (Err x)) so_far.names
+    (c.in_err-write_made.ensures.ends before (rw (so_far.written.rest c.loop-at.at _ (omega arith)) answer)))
+
+pub returns-clause-ends : goal.returns-clause-ends
+returns-clause-ends g c = λ before early answers. ends_ok tt (g.F.Folder.names c.args.folder.now) before (g.F.Folder.faults c.loop-at.folder) 0 0 (omega (arith, early, c.loop-at.invariant.later)) (omega arith)
+
+pub returns-clause-workers : goal.returns-clause-workers
+returns-clause-workers g c =
+    let t = c.args.task.now.translation.now in
+    written_ready g.F.Folder g.S.Scene.told g.S.Scene.cat t.cat t.id t.plan c.args.task.now.packing c.args.task.now.rows c.args.task.now.step c.args.first c.loop-at.at c.args.workers.now c.loop-at.workers c.requires.done c.loop-at.invariant.written
+
+pub returns-in_err-write_made-clause-workers : goal.returns-in_err-write_made-clause-workers
+returns-in_err-write_made-clause-workers g c =
+    let t = c.args.task.now.translation.now in
+    written_ready g.F.Folder g.S.Scene.told g.S.Scene.cat t.cat t.id t.plan c.args.task.now.packing c.args.task.now.rows c.args.task.now.step c.args.first (c.loop-at.at + 1) c.args.workers.now (slice_set c.loop-at.workers c.loop-at.at c.write_made.new.worker) c.requires.done
+    (written_more g.F.Folder g.S.Scene.told g.S.Scene.cat t.cat t.id t.plan c.args.task.now.packing c.args.task.now.rows c.args.task.now.step c.loop-at.at c.args.workers.now c.loop-at.workers c.write_made.new.worker c.loop-at-test.true c.write_made.ensures.worker c.loop-at.invariant.written)
+
+pub loop-at-preserved : goal.loop-at-preserved
+loop-at-preserved g c =
+    let t = c.args.task.now.translation.now in
+    let so_far = c.loop-at.invariant in
+    let o = c.in_ok-write_made.ensures in
+    record {
+      filled = subst (λ (n : Option Files). IsFilled n t.cat t.id t.plan c.write_made.new.target (top_of t.plan.size.h c.args.task.now.rows c.args.first (c.loop-at.at + 1)) (top_of t.plan.size.h c.args.task.now.rows c.args.first (c.loop-at.at + 1)) 0) (o.names ∙ so_far.names)
+          (subst (λ (n : ℕ). IsFilled (g.F.Folder.names c.write_made.new.folder) t.cat t.id t.plan c.write_made.new.target n n 0) c.portion_of-portion.ensures.end o.filled);
+      empty = o.empty;
+      written = written_more g.F.Folder g.S.Scene.told g.S.Scene.cat t.cat t.id t.plan c.args.task.now.packing c.args.task.now.rows c.args.task.now.step c.loop-at.at c.args.workers.now c.loop-at.workers c.write_made.new.worker c.loop-at-test.true o.worker so_far.written;
+      name = o.name ∙ so_far.name;
+      names = o.names ∙ so_far.names;
+      later = omega (arith, so_far.later, o.later);
+    }
+
+pub returns-clause-filled : goal.returns-clause-filled
+returns-clause-filled g c =
+    let t = c.args.task.now.translation.now in
+    let so_far = c.loop-at.invariant in
+    let all : c.loop-at.at ≡ length c.args.workers.now = omega (arith, so_far.written.count, c.len-count.ensures, c.loop-at-test.false, c.loop-at.auto.at-end) in
+    subst (λ (o : Option Files). IsFilled o t.cat t.id t.plan c.loop-at.target (top_of t.plan.size.h c.args.task.now.rows c.args.first (length c.args.workers.now)) (top_of t.plan.size.h c.args.task.now.rows c.args.first (length c.args.workers.now)) 0) (sym so_far.names)
+    (subst (λ (n : ℕ). IsFilled (g.F.Folder.names c.args.folder.now) t.cat t.id t.plan c.loop-at.target (top_of t.plan.size.h c.args.task.now.rows c.args.first n) (top_of t.plan.size.h c.args.task.now.rows c.args.first n) 0) all so_far.filled)
+
+pub returns-in_err-write_made-clause-changed : goal.returns-in_err-write_made-clause-changed
+returns-in_err-write_made-clause-changed g c =
+    let cat = c.args.task.now.translation.now.cat in
+    let x = c.in_err-write_made.field-0.0 in
+    handed_on (TellsChange cat) x c.from_residual.result c.from_residual.ensures c.in_err-write_made.ensures.changed

@@ -1,0 +1,35 @@
+use Rattle.std.proofs.Common.{◌≡◌, ◌∙◌, ◌≤◌, ap, refl, sym, subst, arith, ℕ, Err, Ok, Option, Result}
+use Rattle.std.specs.Prelude.{IfErr}
+use Rattle.outside.specs.Outside.{Files}
+use Rattle.error_lines.specs.declared.faults.Fault.{Fault}
+use Rattle.output_copies.specs.Copying.{MayEnd, TellsChange}
+use Rattle.output_copies.specs.Packed.{AreMade}
+use Rattle.output_copies.proofs.Changes.{handed_on}
+use Rattle.output_copies.proofs.Ends.{ends_after, ends_so, err_is}
+use Rattle.output_copies.proofs.packed.write_made.Goals as goal
+
+-- UNCHECKED: by the name of the first `?`: `answer` is what the worker answered, which stands in `c.replace-answer`
+pub write_portion-requires-clause-made : goal.write_portion-requires-clause-made
+write_portion-requires-clause-made g c κs within =
+    let t = c.args.task.now.translation.now in
+    subst (λ (o : Option Files). AreMade o t.cat t.id t.plan c.args.task.now.packing c.args.portion.top c.args.worker.now.desk.packed.items c.args.portion.end c.args.portion.end 0) c.requires.told
+    (c.requires.done.made (sym c.replace-answer.ensures.value ∙ c.in_ok-answer.was))
+
+pub returns-in_err-answer-clause-ends : goal.returns-in_err-answer-clause-ends
+returns-in_err-answer-clause-ends g c = λ before ends.
+    let told = g.F.Folder.names c.args.folder.now in
+    let x = c.in_err-answer.field-0.0 in
+    ends_so told before (g.F.Folder.faults c.args.folder.now) 0 0 x c.from_residual.result (err_is c.from_residual.result x c.from_residual.ensures)
+    (subst (λ (o : Option Files). MayEnd o before (g.F.Folder.faults c.args.folder.now) 0 0 (Err x)) c.requires.told
+    (subst (λ (r : Result (Unit {0}) Fault). MayEnd g.S.Scene.told before (g.F.Folder.faults c.args.folder.now) 0 0 r) (sym c.replace-answer.ensures.value ∙ c.in_err-answer.was) ends))
+
+pub returns-in_err-answer-clause-changed : goal.returns-in_err-answer-clause-changed
+returns-in_err-answer-clause-changed g c =
+    let cat = c.args.task.now.translation.now.cat in
+    let x = c.in_err-answer.field-0.0 in
+    handed_on (TellsChange cat) x c.from_residual.result c.from_residual.ensures (subst (λ (r : Result (Unit {0}) Fault). IfErr r (TellsChange cat)) (sym c.replace-answer.ensures.value ∙ c.in_err-answer.was) c.requires.done.changed)
+
+pub returns-clause-ends : goal.returns-clause-ends
+returns-clause-ends g c = λ before ends.
+    let told = g.F.Folder.names c.args.folder.now in
+    ends_after told told before (g.F.Folder.faults c.args.folder.now) (g.F.Folder.faults c.write_portion.new.folder) 0 0 0 c.write_portion.result refl ends.cause.folder_later (omega arith) c.write_portion.ensures.ends

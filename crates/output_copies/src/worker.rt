@@ -1,0 +1,341 @@
+// Workers that make packed lines of an output beside each other.
+ghost use Rattle.std.specs.Prelude.{◌≡◌, ◌<◌, ◌≤◌, IfErr, IfOk, OnOk, length};
+ghost use Rattle.std.specs.List.{All};
+ghost use Rattle.outside.specs.Causes.{Rose};
+ghost use Rattle.outside.specs.Reading.{WhereTold};
+ghost use Rattle.catalog.specs.Walk.{IsWalked};
+ghost use Rattle.band_blocks.specs.Blocks.{most_blocks};
+ghost use Rattle.lane_teams.specs.Ready.{AreLanesFresh};
+ghost use Rattle.strip_copies.specs.Copies.{IsRoomFor, IsTranslation};
+ghost use Rattle.write_back.specs.Forms.{cut_of, AreHeld};
+ghost use Rattle.write_back.specs.Packed.{block_len, in_bytes};
+ghost use Rattle.output_copies.specs.Packed.{AreDone, IsDesk, IsTask, IsWorker, MayAnswer, MayAnswerByViews};
+
+use crate::parts::area;
+use band_blocks::Block;
+use error_lines::Fault;
+use geotransform::Sample;
+use lane_teams::{Team, WorkerCount};
+use nearest_window::Lane;
+use outside::Folder;
+use shared_lines::Scene;
+use std::alloc::{AllocError, AllocFailed, Global};
+use std::marker::{Brand, Model};
+use std::mem;
+use std::sync::ledger::{Blank, Ledger};
+use strip_copies::{Columns, StripReader, Translation};
+use write_back::Packing;
+
+/// The bytes of a line of a band of an output.
+#[derive(Drop)]
+pub struct PackedLine {
+    bytes: Vec<u8>,
+}
+
+impl Model for PackedLine {
+    ghost use Rattle.std.specs.Prelude.{ℕ, List, vec_items};
+
+    ghost Value = { List ℕ };
+
+    ghost view = { λ line. vec_items line.bytes };
+}
+
+impl PackedLine {
+    // Room for so many bytes.
+    fn new(alloc: Global, len: usize) -> Result<PackedLine, AllocError>
+        ensures len { IfOk result (λ line. length line ≡ len) }
+    {
+        let bytes = vec![in alloc; 0u8; len]?;
+        Ok(PackedLine { bytes })
+    }
+
+    /// Packs a line's samples, through a block.
+    pub fn pack(&mut self, packing: &Packing, samples: &[Sample], block: &mut Block)
+        requires kind { block.old.kind ≡ (cut_of packing.now).kind }
+        requires count { length block.old.samples ≡ (cut_of packing.now).spots }
+        requires size { length samples.now ≡ (cut_of packing.now).spots }
+        requires range { AreHeld packing.now samples.now }
+        requires bytes { length self.old ≡ block_len packing.now }
+        ensures packed { in_bytes packing.now self.new ≡ samples.now }
+        ensures len { length self.new ≡ length self.old }
+        ensures kind { block.new.kind ≡ block.old.kind }
+        ensures count { length block.new.samples ≡ length block.old.samples }
+    {
+        packing.pack(samples, block, &mut self.bytes);
+    }
+
+    /// The bytes.
+    pub fn bytes(&self) -> &[u8]
+        ensures bytes { result.now ≡ self.now }
+    {
+        self.bytes.as_slice()
+    }
+}
+
+/// Where a worker makes lines: its view of the folder, room for lines of a band that are read at once, a block through
+/// which they are packed, and the packed lines of a strip, of each line those of its bands.
+pub struct Desk<F: Folder> {
+    pub view: F,
+    pub room: Vec<Sample>,
+    pub block: Block,
+    pub packed: Vec<PackedLine>,
+}
+
+/// A worker: its lane, the columns of the source that are read, room for lines of them, its desk, and what it answered.
+pub struct Worker<F: Folder> {
+    pub lanes: Vec<Lane<F>>,
+    pub columns: Columns,
+    pub samples: Vec<Sample>,
+    pub desk: Desk<F>,
+    pub answer: Result<(), Fault>,
+}
+
+/// What workers make: lines of a translation's output, packed so; how many lines each of them makes at a time, and how
+/// many of these it reads at once; the lines that their lanes share, if there are any; and whether nothing is told.
+#[derive(Drop)]
+pub struct Task<'a, 'b, S: Scene> {
+    pub translation: &'a Translation,
+    pub packing: Packing,
+    pub rows: u32,
+    pub step: u32,
+    pub shared: Option<&'b shared_lines::Lines<S>>,
+    pub quiet: bool,
+}
+
+// Room for the packed lines of a strip.
+fn packed_room(alloc: Global, count: usize, len: usize) -> Result<Vec<PackedLine>, AllocError>
+    ensures count { IfOk result (λ packed. length packed.items ≡ count) }
+    ensures each { IfOk result (λ packed. All (λ line. length line ≡ len) packed.items) }
+{
+    let mut packed = Vec::with_capacity(alloc, count)?;
+    for _at in 0..count {
+        packed.push(PackedLine::new(alloc, len)?)?;
+    }
+    Ok(packed)
+}
+
+// What a worker reads with, but for the count of its loads.
+#[derive(Drop)]
+struct Kit<F: Folder> {
+    lanes: Vec<Lane<F>>,
+    columns: Columns,
+    samples: Vec<Sample>,
+}
+
+// A lane, and room for what it reads. Nobody counts its loads.
+fn kit_for<F: Folder, L: Ledger>(
+    translation: &Translation,
+    blocks: u32,
+    blank: Blank,
+) -> Result<Kit<F>, AllocError>
+    requires translation { IsTranslation translation.now.cat translation.now.id translation.now.plan }
+    requires some { 1 ≤ blocks }
+    requires few { blocks ≤ most_blocks }
+    requires name { blank.name ≡ L.name }
+    requires parts { blank.parts ≡ L.parts }
+    requires shares { 0 < blank.parts }
+    ensures fresh { IfOk result (λ kit. AreLanesFresh F.Folder kit.lanes.items) }
+    ensures room { IfOk result (λ kit. IsRoomFor translation.now.cat translation.now.id translation.now.plan kit.columns
+        kit.samples.items) }
+{
+    let reader: StripReader<F, L> =
+        StripReader::new(translation, WorkerCount::USUAL, blocks, blank)?;
+    let StripReader {
+        team,
+        columns,
+        samples,
+    } = reader;
+    let Team { lanes, loads: _ } = team;
+    Ok(Kit {
+        lanes,
+        columns,
+        samples,
+    })
+}
+
+// What a worker needs besides a view: room for lines of a band, a block for a line, and room for packed lines.
+fn desk_rooms<S: Scene>(
+    task: &Task<S>,
+) -> Result<(Vec<Sample>, Block, Vec<PackedLine>), AllocError>
+    requires task { IsTask task.now.translation.now.cat task.now.translation.now.id task.now.translation.now.plan
+        task.now.packing task.now.rows task.now.step }
+    ensures desk { IfOk result (λ d. IsDesk task.now.translation.now.plan task.now.packing task.now.rows task.now.step
+        d.0.items d.1 d.2.items) }
+{
+    let alloc = task.translation.alloc;
+    let plan = &task.translation.plan;
+    plan.rules();
+    let room = vec![in alloc; 0; area(plan.size.w, task.step)]?;
+    let block = Block::new(alloc, task.packing.kind(), plan.size.w)?;
+    let count = area(task.rows, plan.count());
+    let packed = packed_room(alloc, count, task.packing.line_len())?;
+    Ok((room, block, packed))
+}
+
+// A worker with a view of the folder.
+fn hire_one<F: Folder, S: Scene>(
+    task: &Task<S>,
+    folder: &F,
+    blocks: u32,
+) -> Result<Worker<F>, AllocError>
+    requires task { IsTask task.now.translation.now.cat task.now.translation.now.id task.now.translation.now.plan
+        task.now.packing task.now.rows task.now.step }
+    requires walked { WhereTold F.Folder folder.now (λ m. IsWalked m task.now.translation.now.cat) }
+    requires told { S.told ≡ F.names folder.now }
+    requires scene { S.cat ≡ task.now.translation.now.cat }
+    requires some { 1 ≤ blocks }
+    requires few { blocks ≤ most_blocks }
+    ensures worker { IfOk result (IsWorker F.Folder S.told S.cat task.now.translation.now.cat
+        task.now.translation.now.id task.now.translation.now.plan task.now.packing task.now.rows task.now.step) }
+{
+    let kit = kit_for::<F, Brand>(task.translation, blocks, Blank::new(1))?;
+    let (room, block, packed) = desk_rooms(task)?;
+    let view = folder.fork()?;
+    let Kit {
+        lanes,
+        columns,
+        samples,
+    } = kit;
+    let desk = Desk {
+        view,
+        room,
+        block,
+        packed,
+    };
+    Ok(Worker {
+        lanes,
+        columns,
+        samples,
+        desk,
+        answer: Ok(()),
+    })
+}
+
+// Ends a worker's view, behind its lines.
+fn dismiss_one<F: Folder>(folder: &mut F, worker: Worker<F>)
+    ensures names { F.names folder.new ≡ F.names folder.old }
+    ensures later { F.faults folder.old ≤ F.faults folder.new }
+{
+    let Worker {
+        lanes,
+        columns,
+        samples,
+        desk,
+        answer,
+    } = worker;
+    drop((lanes, columns, samples, answer));
+    let Desk {
+        view,
+        room,
+        block,
+        packed,
+    } = desk;
+    drop((room, block, packed));
+    folder.absorb(view);
+}
+
+/// Ends the views of all workers.
+pub fn dismiss<F: Folder>(folder: &mut F, workers: Vec<Worker<F>>)
+    ensures names { F.names folder.new ≡ F.names folder.old }
+    ensures later { F.faults folder.old ≤ F.faults folder.new }
+{
+    let mut workers = workers;
+    while let Some(worker) = workers.pop() {
+        dismiss_one(folder, worker);
+    }
+    workers.destroy_empty();
+}
+
+// Ends a worker's view, and gives it another one. Where memory is refused, it keeps its own.
+fn renew_one<F: Folder, S: Scene>(
+    task: &Task<S>,
+    folder: &mut F,
+    worker: &mut Worker<F>,
+) -> Result<(), Fault>
+    requires told { S.told ≡ F.names folder.old }
+    requires worker { IsWorker F.Folder S.told S.cat task.now.translation.now.cat task.now.translation.now.id
+        task.now.translation.now.plan task.now.packing task.now.rows task.now.step worker.old }
+    ensures worker { IsWorker F.Folder S.told S.cat task.now.translation.now.cat task.now.translation.now.id
+        task.now.translation.now.plan task.now.packing task.now.rows task.now.step worker.new }
+    ensures packed { worker.new.desk.packed ≡ worker.old.desk.packed }
+    ensures answer { worker.new.answer ≡ worker.old.answer }
+    ensures names { F.names folder.new ≡ F.names folder.old }
+    ensures later { F.faults folder.old ≤ F.faults folder.new }
+    ensures rose { OnOk result (1 ≤ F.faults worker.old.desk.view → Rose (F.faults folder.old) (F.faults folder.new)) }
+    ensures memory { IfErr result (λ f. f ≡ Fault.Memory) }
+{
+    // The clauses name it.
+    let _ = task;
+    let Ok(view) = folder.fork() else {
+        return Err(Fault::Memory);
+    };
+    let used = mem::replace(&mut worker.desk.view, view);
+    folder.absorb(used);
+    Ok(())
+}
+
+/// Ends the views of all workers, which have made their lines of those from one on, and gives them others.
+pub fn renew<F: Folder, S: Scene>(
+    task: &Task<S>,
+    folder: &mut F,
+    first: u32,
+    workers: &mut [Worker<F>],
+) -> Result<(), Fault>
+    requires told { S.told ≡ F.names folder.old }
+    requires done { AreDone F.Folder S.told S.cat task.now.translation.now.cat task.now.translation.now.id
+        task.now.translation.now.plan task.now.packing task.now.rows task.now.step first workers.old }
+    requires views { MayAnswerByViews S.told F.Folder workers.old }
+    ensures done { AreDone F.Folder S.told S.cat task.now.translation.now.cat task.now.translation.now.id
+        task.now.translation.now.plan task.now.packing task.now.rows task.now.step first workers.new }
+    ensures answers { OnOk result (MayAnswer S.told (F.faults folder.old) (F.faults folder.new) workers.new) }
+    ensures names { F.names folder.new ≡ F.names folder.old }
+    ensures later { F.faults folder.old ≤ F.faults folder.new }
+    ensures memory { IfErr result (λ f. f ≡ Fault.Memory) }
+{
+    // The clauses name it.
+    let _ = first;
+    let count = workers.len();
+    for at in 0..count {
+        renew_one(task, folder, &mut workers[at])?;
+    }
+    Ok(())
+}
+
+/// So many workers, each with a view of the folder and with a lane that holds so many blocks. Where memory is refused
+/// there is none.
+pub fn hire<F: Folder, S: Scene>(
+    task: &Task<S>,
+    folder: &mut F,
+    count: u32,
+    blocks: u32,
+) -> Result<Vec<Worker<F>>, Fault>
+    requires task { IsTask task.now.translation.now.cat task.now.translation.now.id task.now.translation.now.plan
+        task.now.packing task.now.rows task.now.step }
+    requires walked { WhereTold F.Folder folder.old (λ m. IsWalked m task.now.translation.now.cat) }
+    requires told { S.told ≡ F.names folder.old }
+    requires scene { S.cat ≡ task.now.translation.now.cat }
+    requires some { 1 ≤ blocks }
+    requires few { blocks ≤ most_blocks }
+    ensures count { IfOk result (λ workers. length workers.items ≡ count) }
+    ensures workers { IfOk result (λ workers. All (IsWorker F.Folder S.told S.cat task.now.translation.now.cat
+        task.now.translation.now.id task.now.translation.now.plan task.now.packing task.now.rows task.now.step)
+        workers.items) }
+    ensures names { F.names folder.new ≡ F.names folder.old }
+    ensures later { F.faults folder.old ≤ F.faults folder.new }
+    ensures memory { IfErr result (λ f. f ≡ Fault.Memory) }
+{
+    let mut workers = Vec::new(task.translation.alloc);
+    for _at in 0..count {
+        let Ok(worker) = hire_one(task, folder, blocks) else {
+            dismiss(folder, workers);
+            return Err(Fault::Memory);
+        };
+        if let Err(failed) = workers.push(worker) {
+            let AllocFailed { value } = failed;
+            dismiss_one(folder, value);
+            dismiss(folder, workers);
+            return Err(Fault::Memory);
+        }
+    }
+    Ok(workers)
+}

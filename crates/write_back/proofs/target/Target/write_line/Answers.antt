@@ -1,0 +1,38 @@
+use Rattle.std.proofs.Common.{◌≡◌, ◌<◌, [], ap, subst, sym, length}
+use Rattle.write_back.specs.View.{TargetView, Meets, Shows, columns_of, calls_of, lines_after, sheet_in, target_of}
+use Rattle.write_back.specs.Files.{header_state, IsTarget}
+use Rattle.write_back.specs.Overlay.{line_rect}
+use Rattle.write_back.specs.Packed.{line_in, line_len, AreLined}
+use Rattle.write_back.proofs.Past.{one_tick, target_past}
+use Rattle.write_back.proofs.Runs.{on_ok}
+use Rattle.write_back.proofs.Windowed.{shows_after}
+use Rattle.write_back.proofs.target.Target.write_line.Goals as goal
+
+pub put_past-done-requires-clause-lined : goal.put_past-done-requires-clause-lined
+put_past-done-requires-clause-lined g c κs within = subst (λ (t : TargetView). AreLined t.output) (sym c.self.view_is) c.requires.lined
+
+pub put_past-done-requires-clause-bytes : goal.put_past-done-requires-clause-bytes
+put_past-done-requires-clause-bytes g c κs within = subst (λ (t : TargetView). length c.args.bytes.now ≡ line_len t.output) (sym c.self.view_is) c.requires.bytes
+
+pub returns-clause-target : goal.returns-clause-target
+returns-clause-target g c =
+    let header = header_state g.F.Folder.draft_bytes g.F.Folder.draft_name c.self.inside.header in
+    let was = subst (λ f. IsTarget (g.F.Folder.names c.args.folder.now) (target_of c.self.inside.sheet header f)) c.in_default.is (subst (IsTarget (g.F.Folder.names c.args.folder.now)) (sym c.self.view_is) c.requires.target) in
+    target_past c.args.band (line_rect 0 c.args.y (columns_of c.self.inside.sheet.output)) (line_in c.self.inside.sheet.output c.args.bytes.now) _ _ _ _ _ _ _ _ c.self.inside.sheet c.put_past-done.new.self header c.put_past-done.result _ was c.put_past-done.ensures.kept c.put_past-done.ensures.put c.err.ensures.value
+
+pub returns-clause-overlay : goal.returns-clause-overlay
+returns-clause-overlay g c =
+    let header = header_state g.F.Folder.draft_bytes g.F.Folder.draft_name c.self.inside.header in
+    on_ok c.put_past-done.result _ _ (λ put. subst (λ (t : TargetView). Shows (g.F.Folder.names c.args.folder.now) c.args.band (line_rect 0 c.args.y (columns_of t.output)) (line_in t.output c.args.bytes.now) t (target_of c.put_past-done.new.self header c.err.result)) c.self.view_is
+    (shows_after c.args.band (line_rect 0 c.args.y (columns_of c.self.inside.sheet.output)) (line_in c.self.inside.sheet.output c.args.bytes.now) _ _ c.self.inside.sheet c.put_past-done.new.self header c.self.inside.fault c.err.result c.put_past-done.ensures.kept.output put)) c.put_past-done.ensures.put
+
+pub returns-clause-met : goal.returns-clause-met
+returns-clause-met g c = on_ok c.put_past-done.result _ _ (λ put some. subst (λ (t : TargetView). Meets t.output (line_rect 0 c.args.y (columns_of t.output)) (sheet_in t) c.put_past-done.new.self) c.self.view_is (put.met some)) c.put_past-done.ensures.put
+
+pub returns-clause-lines : goal.returns-clause-lines
+returns-clause-lines g c = on_ok c.put_past-done.result _ _ (λ put. subst (λ (t : TargetView). c.put_past-done.new.self.lines ≡ lines_after t.output t.lines (line_rect 0 c.args.y (columns_of t.output))) c.self.view_is put.lines) c.put_past-done.ensures.put
+
+pub returns-clause-calls : goal.returns-clause-calls
+returns-clause-calls g c =
+    let kept = c.put_past-done.ensures.kept in
+    one_tick (calls_of c.args.self.now.output) _ _ _ _ kept.one (rw (ap (λ (t : TargetView). calls_of t.output) (sym c.self.view_is)) kept.calls)
