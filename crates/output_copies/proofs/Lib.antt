@@ -1,5 +1,6 @@
 pub mod Alike
 mod Beside
+mod Calls
 pub mod Changes
 pub mod Copied
 pub mod Ends

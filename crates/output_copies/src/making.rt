@@ -10,6 +10,7 @@ ghost use Rattle.output_copies.specs.Packed.{place_in, top_of, AreDone, AreMade,
 ghost use Rattle.output_copies.specs.Packed.{IsTask, IsWorker, MayAnswerByViews};
 ghost use Rattle.output_copies.specs.Parts.{ArePart, AreRead};
 
+use crate::calls::each_at_once;
 use crate::parts::{area, nth_row, read_part};
 use crate::worker::{Desk, PackedLine, Task, Worker};
 use band_blocks::Block;
@@ -21,7 +22,7 @@ use shared_lines::Scene;
 use std::marker::Brand;
 use std::mem;
 use std::sync::ledger::{Blank, Ledger};
-use std::thread::{Threads, for_each_mut};
+use std::thread::Threads;
 use strip_copies::{Columns, Lines, StripReader};
 use translate_plan::Plan;
 
@@ -360,5 +361,5 @@ pub fn make_all<R: Threads + Sync, F: Folder, S: Scene>(
         let _count = count;
         make_turn::<R, F, S>(rt, task, first, at, worker);
     };
-    for_each_mut(rt, workers, count, &make);
+    each_at_once(rt, &make, 0, workers);
 }

@@ -147,15 +147,7 @@ pub fn write_packed<R: Threads + Sync, F: Folder, O: Sink, W: Ledger, S: Scene>(
     let plan = &translation.plan;
     let alloc = translation.alloc;
     let mut target = Target::create(alloc, folder, plan, writing.name, writing.blocks)?;
-    match copy_hired(
-        rt,
-        &task,
-        folder,
-        &mut target,
-        out,
-        hiring,
-        &mut writes,
-    ) {
+    match copy_hired(rt, &task, folder, &mut target, out, hiring, &mut writes) {
         Ok(()) => publish(translation, folder, target, &mut writes),
         Err(fault) => {
             target.give_up(folder);

@@ -138,8 +138,12 @@ fn kit_for<F: Folder, L: Ledger>(
     ensures room { IfOk result (λ kit. IsRoomFor translation.now.cat translation.now.id translation.now.plan kit.columns
         kit.samples.items) }
 {
-    let reader: StripReader<F, L> =
-        StripReader::new(translation, WorkerCount::USUAL, blocks, blank)?;
+    let reader: StripReader<F, L> = StripReader::new(
+        translation,
+        WorkerCount::USUAL,
+        blocks,
+        blank,
+    )?;
     let StripReader {
         team,
         columns,
@@ -154,9 +158,7 @@ fn kit_for<F: Folder, L: Ledger>(
 }
 
 // What a worker needs besides a view: room for lines of a band, a block for a line, and room for packed lines.
-fn desk_rooms<S: Scene>(
-    task: &Task<S>,
-) -> Result<(Vec<Sample>, Block, Vec<PackedLine>), AllocError>
+fn desk_rooms<S: Scene>(task: &Task<S>) -> Result<(Vec<Sample>, Block, Vec<PackedLine>), AllocError>
     requires task { IsTask task.now.translation.now.cat task.now.translation.now.id task.now.translation.now.plan
         task.now.packing task.now.rows task.now.step }
     ensures desk { IfOk result (λ d. IsDesk task.now.translation.now.plan task.now.packing task.now.rows task.now.step

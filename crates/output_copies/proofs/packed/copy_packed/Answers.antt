@@ -122,6 +122,7 @@ returns-in_err-told-2-clause-changed g c =
     let cat = c.args.task.now.translation.now.cat in
     let x = c.in_err-told-2.field-0.0 in
     handed_on (TellsChange cat) x c.from_residual-in_err-told-2.result c.from_residual-in_err-told-2.ensures (out_tells cat x c.in_err-told-2.ensures.faults)
+
 -- UNCHECKED: the name of this goal
 pub loop-line-smaller : goal.loop-line-smaller
 loop-line-smaller g c =
