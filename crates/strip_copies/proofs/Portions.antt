@@ -1,6 +1,6 @@
 -- Products and quotients of the lines that several workers share.
 use Rattle.std.proofs.Common.{◌≡◌, ℕ, ◌+◌, ◌*◌, ◌/◌, ◌%◌, ◌<◌, ◌≤◌, ap, min, inl, inr, arith}
-use Rattle.std.proofs.Math.Nat.{div-le_self, div-mul-le_self, mul-le-mul, mul-le-mul_right, mul_comm}
+use Rattle.std.proofs.Math.Nat.{add-mul, div-le_self, div-mul-le_self, mod-lt, mul-le-mul, mul-le-mul_right, mul_comm}
 use Rattle.std.proofs.lemmas.Bool.{cases_lt}
 use Rattle.std.proofs.lemmas.Nat.{div-add-mod'}
 
@@ -35,11 +35,42 @@ ceil_few h k workers =
     let less : h / k * 1 ≤ h / k * k = mul-le-mul same workers in
     omega (arith, whole, less)
 
--- lines that have so many samples
-pub quotient_few : (samples line : ℕ) → samples ≤ 4194304 → samples / line ≤ 4194304
-quotient_few samples line few = omega (arith, few, div-le_self samples line)
+-- so often that all lines are made, and no more often
+pub ceil_covers : (h k : ℕ) → 1 ≤ k → h ≤ (h / k + min 1 (h % k)) * k
+ceil_covers h k some =
+    let whole : h / k * k + h % k ≡ h = div-add-mod' h k in
+    let rest : h % k < k = mod-lt h some in
+    elim (cases_lt 0 (h % k)) [
+      | inl more ↦
+          let times : (h / k + 1) * k ≤ (h / k + min 1 (h % k)) * k = mul-le-mul_right k (omega (arith, more)) in
+          let one : (h / k + 1) * k ≡ h / k * k + 1 * k = add-mul (h / k) 1 k in
+          omega (arith, whole, rest, times, one)
+      | inr none ↦
+          let times : h / k * k ≤ (h / k + min 1 (h % k)) * k = mul-le-mul_right k (omega arith) in
+          omega (arith, whole, none, times)
+    ]
 
-pub quotient_fits : (samples line : ℕ) → samples ≤ 4194304 → samples / line * line ≤ 4194304
+pub ceil_least : (h k m : ℕ) → 1 ≤ k → h ≤ m * k → h / k + min 1 (h % k) ≤ m
+ceil_least h k m some fits =
+    let whole : h / k * k + h % k ≡ h = div-add-mod' h k in
+    elim (cases_lt m (h / k + min 1 (h % k))) [
+      | inl less ↦ elim (cases_lt 0 (h % k)) [
+        | inl more ↦
+            let times : m * k ≤ h / k * k = mul-le-mul_right k (omega (arith, less)) in
+            absurd (omega (arith, whole, fits, times, more))
+        | inr none ↦
+            let times : (m + 1) * k ≤ h / k * k = mul-le-mul_right k (omega (arith, less, none)) in
+            let one : (m + 1) * k ≡ m * k + 1 * k = add-mul m 1 k in
+            absurd (omega (arith, whole, fits, times, one, some))
+      ]
+      | inr within ↦ omega (arith, within)
+    ]
+
+-- lines that have so many samples
+pub quotient_few : (samples line : ℕ) → samples / line ≤ samples
+quotient_few samples line = div-le_self samples line
+
+pub quotient_fits : (samples line : ℕ) → samples ≤ 16777216 → samples / line * line ≤ 16777216
 quotient_fits samples line few = omega (arith, few, div-mul-le_self samples line)
 
 -- fewer lines have fewer samples

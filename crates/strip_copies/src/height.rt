@@ -120,9 +120,9 @@ pub fn is_tall(translation: &Translation) -> bool
     }
 }
 
-/// The lines of a strip that each of several workers reads: as many as a square of a mosaic has, so that it isn't made
-/// again for each of its lines, and 32 of a file of lines.
-pub fn lines_each(cat: &Catalog) -> u32
+// The lines of a strip that each of several workers reads: as many as a square of a mosaic has, so that it isn't made
+// again for each of its lines, and 32 of a file of lines.
+fn lines_each(cat: &Catalog) -> u32
     ensures lines { result ≡ lines_each cat.now }
     ensures some { 1 ≤ result }
     ensures few { result ≤ square_side }
@@ -134,8 +134,8 @@ pub fn lines_each(cat: &Catalog) -> u32
     }
 }
 
-/// Whether samples are made of others, or of digits: those of a file of bytes are copied.
-pub fn is_made(cat: &Catalog) -> bool
+// Whether samples are made of others, or of digits: those of a file of bytes are copied.
+fn is_made(cat: &Catalog) -> bool
     ensures made { result ≡ is_made cat.now }
 {
     has_blocks(cat, BlockShape::Squares) || has_blocks(cat, BlockShape::Digits)
@@ -152,8 +152,8 @@ fn fewest_read(cat: &Catalog) -> usize
     }
 }
 
-/// The most samples of a strip for each of so many workers.
-pub fn share_of(workers: u32) -> usize
+// The most samples of a strip for each of so many workers.
+fn share_of(workers: u32) -> usize
     requires some { 1 ≤ workers }
     ensures share { result ≡ most_samples / workers }
 {
@@ -171,16 +171,17 @@ fn is_shared(translation: &Translation, workers: WorkerCount) -> bool
 }
 
 // The lines of so many columns whose samples stay in a processor's cache: 65,536 samples, which are 1 MiB; at least one
-// line, and at most 32.
-fn lines_near(width: u32) -> u32
+// line, and at most so many.
+fn lines_near(most: u32, width: u32) -> u32
     requires some { 0 < width }
-    ensures lines { result ≡ lines_near width }
+    requires lines { 1 ≤ most }
+    ensures lines { result ≡ lines_near most width }
     ensures any { 1 ≤ result }
 {
-    (SAMPLES_NEAR / width).max(1).min(FILE_LINES)
+    (SAMPLES_NEAR / width).max(1).min(most)
 }
 
-/// The lines of a strip that one worker reads alone: of a file of bytes those that stay in the cache.
+/// The lines of a strip that one worker reads alone: but for those of digits, those that stay in the cache.
 pub fn lines_alone(translation: &Translation) -> u32
     ensures lines { result ≡ lines_alone translation.now.cat translation.now.plan.size.w }
     ensures some { 1 ≤ result }
@@ -188,10 +189,11 @@ pub fn lines_alone(translation: &Translation) -> u32
     let plan = &translation.plan;
     plan.rules();
     let cat = &translation.cat;
-    if is_made(cat) {
-        lines_each(cat)
+    let each = lines_each(cat);
+    if has_blocks(cat, BlockShape::Digits) {
+        each
     } else {
-        lines_near(plan.size.w)
+        lines_near(each, plan.size.w)
     }
 }
 

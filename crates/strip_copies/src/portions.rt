@@ -2,9 +2,9 @@
 ghost use Rattle.std.specs.Prelude.{◌≡◌, ◌≤◌, ◌*◌, IfSome, length};
 ghost use Rattle.band_blocks.specs.Blocks.{most_blocks};
 ghost use Rattle.strip_copies.specs.Copies.{IsTranslation};
-ghost use Rattle.strip_copies.specs.Heights.{most_packed, most_samples};
+ghost use Rattle.strip_copies.specs.Heights.{most_packed};
 
-use crate::height::{is_made, is_tall, lines_alone, lines_each, share_of};
+use crate::height::{is_tall, lines_alone};
 use crate::translation::Translation;
 use catalog::Kind;
 use lane_teams::WorkerCount;
@@ -19,9 +19,12 @@ pub struct Portions {
     pub blocks: u32,
 }
 
-// The fewest samples of an output for each worker, where workers make and pack lines beside each other: so many take
-// several times as long as a thread is started and joined.
-const FEWEST_PACKED: u64 = 262_144;
+// The fewest samples of an output for each worker, where workers make and pack lines beside each other: so many take as
+// long as a thread may be late by a tick of the system's clock, which is 4 ms.
+const FEWEST_PACKED: u64 = 1_000_000;
+
+// The most samples that all workers pack before they are written, but for a line of each.
+const MOST_ROUND: u32 = 8_388_608;
 
 // The most samples of an output that is packed whole.
 const MOST_PACKED: u64 = 16_777_216;
@@ -65,31 +68,41 @@ fn lines_shared(height: u32, workers: u32) -> u32
 }
 
 // The most lines that have so many samples, where each has so many.
-fn lines_in(samples: usize, line: u64) -> u32
-    requires few { samples ≤ most_samples }
+fn lines_in(samples: u32, line: u64) -> u32
+    requires few { samples ≤ most_packed }
     requires some { 1 ≤ line }
-    ensures bound { result * line ≤ most_samples }
+    ensures bound { result * line ≤ most_packed }
+    ensures few { result ≤ samples }
 {
-    (samples as u64 / line) as u32
+    (u64::from(samples) / line) as u32
 }
 
-// The most lines of a portion, by the lines that a worker's share of the memory holds: of a mosaic those of a square,
-// so that none is made twice; of a file a quarter, so that the packed lines of all workers take little fresh room.
-fn most_rows(translation: &Translation, share: u32, workers: u32) -> u32
-    requires some { 1 ≤ share }
+// How many times so many workers make lines, so many of them at most, until all are made.
+fn rounds_of(height: u32, most: u32, workers: u32) -> u32
+    requires some { 1 ≤ height }
+    requires lines { 1 ≤ most }
     requires workers { 1 ≤ workers }
     ensures some { 1 ≤ result }
-    ensures few { result ≤ share }
+    ensures all { height ≤ result * (most * workers) }
+    ensures few { result ≤ height }
 {
-    let plan = &translation.plan;
-    plan.rules();
-    if is_made(&translation.cat) {
-        return share.min(lines_each(&translation.cat));
-    }
-    (share / 4).max(1).min(lines_shared(plan.size.h, workers))
+    u64::from(height).div_ceil(u64::from(most) * u64::from(workers)) as u32
 }
 
-// Portions of a translation that reads lines or squares: all of them together have 4,194,304 samples at most.
+// How many lines each of so many workers makes at a time, at most so many: as few times as can be, and about as many
+// each time.
+fn rows_of(height: u32, most: u32, workers: u32) -> u32
+    requires some { 1 ≤ height }
+    requires lines { 1 ≤ most }
+    requires workers { 1 ≤ workers }
+    ensures some { 1 ≤ result }
+    ensures few { result ≤ most }
+{
+    let rounds = rounds_of(height, most, workers);
+    u64::from(height).div_ceil(u64::from(rounds) * u64::from(workers)) as u32
+}
+
+// Portions of a translation that reads lines or squares: all of them together have 8,388,608 samples at most.
 fn line_portions(translation: &Translation, workers: u32) -> Option<Portions>
     requires workers { 1 ≤ workers }
     ensures rows { IfSome result (λ s. 1 ≤ s.rows) }
@@ -99,12 +112,13 @@ fn line_portions(translation: &Translation, workers: u32) -> Option<Portions>
         most_packed) }
 {
     let plan = &translation.plan;
+    plan.rules();
     let line = line_of(plan);
-    let share = lines_in(share_of(workers), line);
-    if share == 0 {
+    let most = lines_in(MOST_ROUND / workers, line);
+    if most == 0 {
         return None;
     }
-    let rows = most_rows(translation, share, workers);
+    let rows = rows_of(plan.size.h, most, workers);
     Some(Portions {
         rows,
         step: lines_alone(translation).min(rows),
