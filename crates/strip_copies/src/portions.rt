@@ -24,7 +24,7 @@ pub struct Portions {
 const FEWEST_PACKED: u64 = 1_000_000;
 
 // The most samples that all workers pack before they are written, but for a line of each.
-const MOST_ROUND: u32 = 4_194_304;
+const MOST_ROUND: u32 = 8_388_608;
 
 // The most samples of an output that is packed whole.
 const MOST_PACKED: u64 = 16_777_216;
@@ -102,7 +102,7 @@ fn rows_of(height: u32, most: u32, workers: u32) -> u32
     u64::from(height).div_ceil(u64::from(rounds) * u64::from(workers)) as u32
 }
 
-// Portions of a translation that reads lines or squares: all of them together have 4,194,304 samples at most.
+// Portions of a translation that reads lines or squares: all of them together have 8,388,608 samples at most.
 fn line_portions(translation: &Translation, workers: u32) -> Option<Portions>
     requires workers { 1 ≤ workers }
     ensures rows { IfSome result (λ s. 1 ≤ s.rows) }

@@ -6,7 +6,7 @@ use Rattle.strip_copies.proofs.Portions.{fewer_fit}
 use Rattle.strip_copies.proofs.portions.line_portions.Goals as goal
 
 pub lines_in-requires-clause-few : goal.lines_in-requires-clause-few
-lines_in-requires-clause-few c = omega (arith, div-le_self 4194304 c.args.workers)
+lines_in-requires-clause-few c = omega (arith, div-le_self 8388608 c.args.workers)
 
 pub returns-clause-bound : goal.returns-clause-bound
 returns-clause-bound c =
