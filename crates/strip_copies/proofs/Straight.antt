@@ -15,7 +15,7 @@ use Rattle.strip_copies.specs.declared.columns.Columns.{Columns}
 use Rattle.strip_copies.specs.declared.holding.Holding.{Holding}
 use Rattle.strip_copies.specs.declared.spans.Run.{Run}
 use Rattle.strip_copies.specs.Copies.{IsDirect}
-use Rattle.strip_copies.specs.Rows.{column_at, nearest, strip_rect, AreColumns, AreSamples, IsHolding, IsSample, IsStrip}
+use Rattle.strip_copies.specs.Rows.{column_at, nearest, piece_rect, strip_rect, AreColumns, AreIn, AreSamples, IsHolding, IsSample, IsStrip}
 use Rattle.strip_copies.proofs.Samples.{held_sample}
 
 -- of as many lines as there are, each shows itself
@@ -70,3 +70,23 @@ direct_samples told name p source k h holding c run columns direct raw out strip
     ap (λ l. get_or l at (pos 0)) (strip m holding.band t holding.at)
     ∙ get_or-row_by_row (pixel_of_name m name holding.band.source) (strip_rect c run.span) at (pos 0) (omega (arith, less, long, wide))
     ∙ ap (λ n. pixel_of_name m name holding.band.source (c.first + at % n) (run.span.top + at / n)) direct.wide))
+
+-- UNCHECKED: the same of some columns of the part
+pub piece_samples : (told : Option Files) (name : List ℕ) (p : Planned) (source : Size) (k : ℕ) (h : Holding) → IsHolding p k h → (c : Columns) (run : Run) (left wide : ℕ) → left + wide ≤ p.size.w → AreColumns p source.w c → IsDirect p source.h c run
+    → (raw out : List ℤ) → IsStrip told name p k (piece_rect c run.span left wide) raw → length raw ≡ wide * run.span.height
+    → ((i : ℕ) → i < length raw → get_or out i (pos 0) ≡ nearest h.least h.most (get_or raw i (pos 0))) → AreIn told name p source k left wide run.first (length raw) out
+piece_samples told name p source k h holding c run left wide within_it columns direct raw out strip long made at less =
+    let some = wide_of at wide run.span.height (omega (arith, less, long)) in
+    let turned : wide * run.span.height ≡ run.span.height * wide = mul_comm wide run.span.height in
+    let column : at % wide < wide = mod-lt at some in
+    let line : at / wide < run.span.height = (div-lt_iff_lt-mul some).1 (omega (arith, less, long, turned)) in
+    let i = left + at % wide in
+    let inside : i < p.size.w = omega (arith, column, within_it) in
+    let x : within source.w (shown_column p i) ≡ Some (c.first + i) = columns.each i inside ∙ ap (column_at c.first c.count) (direct.own i inside) ∙ column_is c i (omega (arith, inside, direct.wide)) in
+    let there : c.first + left + at % wide ≡ c.first + i = omega arith in
+    subst (IsSample told name p source k i (run.first + at / wide)) (sym (made at less))
+    (held_sample told name p source k i (run.first + at / wide) (c.first + i) (run.span.top + at / wide) h holding (get_or raw at (pos 0)) x (direct.lines (at / wide) line)
+    (λ m t.
+    ap (λ l. get_or l at (pos 0)) (strip m holding.band t holding.at)
+    ∙ get_or-row_by_row (pixel_of_name m name holding.band.source) (piece_rect c run.span left wide) at (pos 0) (omega (arith, less, long))
+    ∙ ap (λ n. pixel_of_name m name holding.band.source n (run.span.top + at / wide)) there))

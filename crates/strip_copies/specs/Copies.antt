@@ -10,7 +10,7 @@ use Rattle.translate_plan.specs.declared.band.OutBand.{OutBand}
 use Rattle.translate_plan.specs.Plan.{Planned, shown_line}
 use Rattle.strip_copies.specs.declared.columns.Columns.{Columns}
 use Rattle.strip_copies.specs.declared.spans.Run.{Run}
-use Rattle.strip_copies.specs.Rows.{AreColumns, AreShownIn, AreSamples}
+use Rattle.strip_copies.specs.Rows.{AreColumns, AreIn, AreShownIn, AreSamples}
 
 -- the catalog has the dataset of this number, which has the bands that the plan shows
 pub record IsTranslation (cat : List Dataset) (id : ℕ) (p : Planned) : Type 0 where
@@ -50,3 +50,8 @@ lines_rect size from to = record { x = 0; y = from; w = size.w; h = to - from }
 abbrev pub AreOf : Option Files → List Dataset → ℕ → Planned → ℕ → ℕ → ℕ → List ℤ → Type 0
 AreOf told cat id p k from n samples = (d : Dataset) → slice_get cat id ≡ Some d →
     AreSamples told d.head.name p d.head.size k from n samples
+
+-- the same of so many columns from `left` on
+abbrev pub AreInOf : Option Files → List Dataset → ℕ → Planned → ℕ → ℕ → ℕ → ℕ → ℕ → List ℤ → Type 0
+AreInOf told cat id p k left wide from n samples = (d : Dataset) → slice_get cat id ≡ Some d →
+    AreIn told d.head.name p d.head.size k left wide from n samples

@@ -88,6 +88,11 @@ abbrev pub AreSamples : Option Files → List ℕ → Planned → Size → ℕ �
 AreSamples told name p source k from n samples = (at : ℕ) → at < n →
     IsSample told name p source k (at % p.size.w) (from + at / p.size.w) (get_or samples at (pos 0))
 
+-- the first n samples of so many columns from `left` on, in the lines of a band of the output from one on, row by row
+abbrev pub AreIn : Option Files → List ℕ → Planned → Size → ℕ → ℕ → ℕ → ℕ → ℕ → List ℤ → Type 0
+AreIn told name p source k left wide from n samples = (at : ℕ) → at < n →
+    IsSample told name p source k (left + at % wide) (from + at / wide) (get_or samples at (pos 0))
+
 -- a row of a band of the output
 abbrev pub IsRow : Option Files → List ℕ → Planned → Size → ℕ → ℕ → List ℤ → Type 0
 IsRow told name p source k j row = (i : ℕ) → i < p.size.w → IsSample told name p source k i j (get_or row i (pos 0))
@@ -95,6 +100,10 @@ IsRow told name p source k j row = (i : ℕ) → i < p.size.w → IsSample told 
 -- the columns that are read, in the lines of a span
 abbrev pub strip_rect : Columns → Span → Rect
 strip_rect c s = record { x = c.first; y = s.top; w = c.count; h = s.height }
+
+-- so many of them from one on
+abbrev pub piece_rect : Columns → Span → ℕ → ℕ → Rect
+piece_rect c s left wide = record { x = c.first + left; y = s.top; w = wide; h = s.height }
 
 -- the samples of the source's band that a band of the output shows, in a rectangle, as far as the folder tells its
 -- files

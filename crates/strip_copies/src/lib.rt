@@ -19,5 +19,6 @@ pub use columns::Columns;
 pub use height::{shares_blocks, strip_height};
 pub use laws::plans_are_translations;
 pub use portions::{Portions, portions};
-pub use reading::{Lines, StripReader, read_lines};
+pub use reading::{Lines, Piece, StripReader, direct_run, read_lines, read_piece};
+pub use spans::Run;
 pub use translation::Translation;

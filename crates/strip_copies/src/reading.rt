@@ -1,6 +1,6 @@
 // Lines of a translation's output, read by a team of lanes.
-ghost use Rattle.std.specs.Prelude.{◌≡◌, ◌<◌, ◌≤◌, ◌+◌, ◌-◌, ◌*◌, All, IfErr, IfOk, OnOk, length, map, option_map};
-ghost use Rattle.std.specs.Prelude.{slice_get, false, true, Some};
+ghost use Rattle.std.specs.Prelude.{◌≡◌, ◌<◌, ◌≤◌, ◌+◌, ◌-◌, ◌*◌, All, IfErr, IfOk, IfSome, OnOk, length, map};
+ghost use Rattle.std.specs.Prelude.{option_map, slice_get, false, true, Some};
 ghost use Rattle.geotransform.specs.Geo.{IsRaster};
 ghost use Rattle.outside.specs.Causes.{HasCause};
 ghost use Rattle.outside.specs.Reading.{WhereTold};
@@ -17,8 +17,8 @@ ghost use Rattle.lane_teams.specs.Ready.{AreLanesFresh, AreLanesReady};
 ghost use Rattle.lane_teams.specs.Turns.{OnlyReadByViews};
 ghost use Rattle.translate_plan.specs.Plan.{out_pixel};
 ghost use Rattle.translate_plan.specs.declared.band.OutBand.{OutBand};
-ghost use Rattle.strip_copies.specs.Copies.{lines_rect, AreOf, IsDirect, IsPart, IsRoomFor, IsTranslation};
-ghost use Rattle.strip_copies.specs.Rows.{strip_rect, AreColumns, AreShownIn, IsHeldIn, IsMaking};
+ghost use Rattle.strip_copies.specs.Copies.{lines_rect, AreInOf, AreOf, IsDirect, IsPart, IsRoomFor, IsTranslation};
+ghost use Rattle.strip_copies.specs.Rows.{piece_rect, strip_rect, AreColumns, AreShownIn, IsHeldIn, IsMaking};
 ghost use Rattle.geotransform.specs.Limits.{most_side};
 ghost use Rattle.strip_copies.specs.Heights.{most_samples};
 ghost use Rattle.band_blocks.specs.Blocks.{most_blocks};
@@ -506,4 +506,114 @@ pub fn read_lines<R: Threads + Sync, F: Folder, L: Ledger, S: Scene>(
     let team = &mut reader.team;
     let samples = reader.samples.as_mut_slice();
     read_runs(rt, &shown, team, folder, lines, samples, out)
+}
+
+/// Samples of a band of an output: of the lines of a run those in the columns from `left` up to `right`.
+#[derive(Clone, Copy)]
+pub struct Piece {
+    pub run: Run,
+    pub left: u32,
+    pub right: u32,
+}
+
+/// The run of all these lines, where their samples are the pixels of their part of the source, one for one.
+pub fn direct_run(translation: &Translation, columns: &Columns, lines: Lines) -> Option<Run>
+    requires translation { IsTranslation translation.now.cat translation.now.id translation.now.plan }
+    requires columns { length columns.now.places.items ≡ translation.now.plan.size.w }
+    requires order { lines.first < lines.end }
+    requires end { lines.end ≤ translation.now.plan.size.h }
+    ensures band { IfSome result (λ run. run.band ≡ lines.band) }
+    ensures first { IfSome result (λ run. run.first ≡ lines.first) }
+    ensures end { IfSome result (λ run. run.end ≡ lines.end) }
+    ensures lines { (d : Dataset) → slice_get translation.now.cat translation.now.id ≡ Some d →
+        IfSome result (λ run. AreShownIn translation.now.plan d.head.size.h run.first run.end run.span) }
+    ensures direct { (d : Dataset) → slice_get translation.now.cat translation.now.id ≡ Some d →
+        IfSome result (IsDirect translation.now.plan d.head.size.h columns.now) }
+{
+    let plan = &translation.plan;
+    let height = source_size(translation).h;
+    let whole = Reach {
+        rows: MOST_SIDE,
+        apart: 0,
+    };
+    let run = run_from(plan, height, whole, lines.band, lines.first, lines.end);
+    if run.end == lines.end && is_direct(plan, columns, height, run) {
+        Some(run)
+    } else {
+        None
+    }
+}
+
+// The window of the source that is read for a piece.
+fn piece_window(translation: &Translation, columns: &Columns, piece: Piece) -> Window
+    requires translation { IsTranslation translation.now.cat translation.now.id translation.now.plan }
+    requires part { IsPart translation.now.cat translation.now.id translation.now.plan columns.now piece.run }
+    requires wide { columns.now.count ≡ translation.now.plan.size.w }
+    requires order { piece.left < piece.right }
+    requires end { piece.right ≤ translation.now.plan.size.w }
+    ensures window { IsWindow translation.now.cat result }
+    ensures dataset { result.dataset ≡ translation.now.id }
+    ensures band { (b : OutBand) → slice_get translation.now.plan.bands piece.run.band ≡ Some b →
+        result.band ≡ b.source }
+    ensures rect { result.rect ≡ piece_rect columns.now piece.run.span piece.left (piece.right - piece.left) }
+{
+    let plan = &translation.plan;
+    Window {
+        dataset: translation.id,
+        band: plan.source(piece.run.band),
+        rect: Rect {
+            x: columns.first + piece.left,
+            y: piece.run.span.top,
+            w: piece.right - piece.left,
+            h: piece.run.span.height,
+        },
+    }
+}
+
+/// Fills `out` with the samples of a piece, row by row, whose run is direct: as `read_lines`, but for the columns that
+/// are read. After a refusal `out` is unknown.
+pub fn read_piece<R: Threads + Sync, F: Folder, L: Ledger, S: Scene>(
+    rt: &R,
+    translation: &Translation,
+    reader: &mut StripReader<F, L>,
+    folder: &mut F,
+    shared: Option<&shared_lines::Lines<S>>,
+    piece: Piece,
+    out: &mut [Sample],
+) -> Result<(), LoadFault>
+    requires ready { AreLanesReady F.Folder S.told S.cat folder.old translation.now.cat reader.old.team.lanes.items }
+    requires translation { IsTranslation translation.now.cat translation.now.id translation.now.plan }
+    requires part { IsPart translation.now.cat translation.now.id translation.now.plan reader.old.columns piece.run }
+    requires direct { (d : Dataset) → slice_get translation.now.cat translation.now.id ≡ Some d →
+        IsDirect translation.now.plan d.head.size.h reader.old.columns piece.run }
+    requires order { piece.left < piece.right }
+    requires end { piece.right ≤ translation.now.plan.size.w }
+    requires room { length out.old ≡ (piece.run.end - piece.run.first) * (piece.right - piece.left) }
+    ensures samples { OnOk result (AreInOf (F.names folder.old) translation.now.cat translation.now.id
+        translation.now.plan piece.run.band piece.left (piece.right - piece.left) piece.run.first (length out.old)
+        out.new) }
+    ensures ready { AreLanesReady F.Folder S.told S.cat folder.new translation.now.cat reader.new.team.lanes.items }
+    ensures lanes { length reader.new.team.lanes.items ≡ length reader.old.team.lanes.items }
+    ensures capacity { map room_of reader.new.team.lanes.items ≡ map room_of reader.old.team.lanes.items }
+    ensures columns { reader.new.columns ≡ reader.old.columns }
+    ensures room { reader.new.samples ≡ reader.old.samples }
+    ensures only_read { OnlyReadByViews F.Folder folder.old folder.new }
+    ensures cause { HasCause LoadFault.FolderFault (F.faults folder.old) (F.faults folder.new) result }
+    ensures changed { IfErr result (TellsChangeIn translation.now.cat) }
+    ensures never { WhereTold F.Folder folder.old (λ _. IfErr result IsUnchanged) }
+{
+    let window = piece_window(translation, &reader.columns, piece);
+    let supply = Supply {
+        alloc: translation.alloc,
+        cat: &translation.cat,
+        shared,
+    };
+    let fewest = fewest_for(translation);
+    reader
+        .team
+        .read_window_with(rt, &supply, folder, window, fewest, out)?;
+    let making = making_of(translation, &reader.columns, piece.run.band);
+    let kind = kind_of(translation, window.band);
+    hold_all(making.holding, kind, out);
+    Ok(())
 }
