@@ -172,16 +172,17 @@ fn is_shared(translation: &Translation, workers: WorkerCount) -> bool
 }
 
 // The lines of so many columns whose samples stay in a processor's cache: 65,536 samples, which are 1 MiB; at least one
-// line, and at most 32.
-fn lines_near(width: u32) -> u32
+// line, and at most so many.
+fn lines_near(most: u32, width: u32) -> u32
     requires some { 0 < width }
-    ensures lines { result ≡ lines_near width }
+    requires lines { 1 ≤ most }
+    ensures lines { result ≡ lines_near most width }
     ensures any { 1 ≤ result }
 {
-    (SAMPLES_NEAR / width).max(1).min(FILE_LINES)
+    (SAMPLES_NEAR / width).max(1).min(most)
 }
 
-// The lines of a strip that one worker reads alone: of a file of bytes those that stay in the cache.
+// The lines of a strip that one worker reads alone: but for those of digits, those that stay in the cache.
 fn lines_alone(translation: &Translation) -> u32
     ensures lines { result ≡ lines_alone translation.now.cat translation.now.plan.size.w }
     ensures some { 1 ≤ result }
@@ -189,10 +190,11 @@ fn lines_alone(translation: &Translation) -> u32
     let plan = &translation.plan;
     plan.rules();
     let cat = &translation.cat;
-    if is_made(cat) {
-        lines_each(cat)
+    let each = lines_each(cat);
+    if has_blocks(cat, BlockShape::Digits) {
+        each
     } else {
-        lines_near(plan.size.w)
+        lines_near(each, plan.size.w)
     }
 }
 
